@@ -1,0 +1,9 @@
+pub mod Arithmetic
+pub mod Atom
+pub mod Comparison
+pub mod Connective
+pub mod Fit
+pub mod Formula
+pub mod Invariant
+pub mod Plain
+pub mod Term

@@ -1,0 +1,128 @@
+//! Formulas: the clauses of a class invariant, over the attributes of one object.
+#![tactic(auto, unfolding(crate::specs::Plain::plain_term, crate::specs::Plain::plain_formula))]
+
+ghost use Rattle.std.specs.Prelude.{◌≡◌, ◌↔◌, IfOk, IsTrue, All, map};
+ghost use Rattle.sc_formula.specs.Atom.{kinds_of};
+ghost use Rattle.sc_formula.specs.Fit.{IsFit};
+ghost use Rattle.sc_formula.specs.Formula.{Connected, Not, truth_of};
+ghost use Rattle.sc_formula.specs.Invariant.{Meets};
+ghost use Rattle.sc_formula.specs.Plain.{plain_formula};
+
+use crate::atom::Atom;
+use crate::comparison::Comparison;
+use crate::connective::Connective;
+use crate::term::Term;
+use std::alloc::{AllocError, Global};
+
+/// A truth value made from the attributes of one object.
+#[derive(Debug, PartialEq, Eq, Drop)]
+pub enum Formula {
+    /// `True` or `False`.
+    Constant(bool),
+    /// The BOOLEAN attribute of this number.
+    Attribute(u8),
+    /// `= Void` of the reference attribute of this number.
+    IsVoid(u8),
+    /// `/= Void` of the reference attribute of this number.
+    NotVoid(u8),
+    /// `not`
+    Not(Box<Formula>),
+    /// A comparison of two integers.
+    Compared(Term, Comparison, Term),
+    /// An operator on two truth values.
+    Connected(Box<Formula>, Connective, Box<Formula>),
+}
+
+impl Formula {
+    /// `not operand`.
+    pub fn not(alloc: Global, operand: Formula) -> Result<Formula, AllocError>
+        ensures { IfOk result (λ formula. plain_formula formula ≡ Not (plain_formula operand)) }
+    {
+        Ok(Formula::Not(Box::new(alloc, operand)?))
+    }
+
+    /// `left connective right`.
+    pub fn connected(
+        alloc: Global,
+        left: Formula,
+        connective: Connective,
+        right: Formula,
+    ) -> Result<Formula, AllocError>
+        ensures { IfOk result (λ formula.
+            plain_formula formula ≡ Connected (plain_formula left) connective (plain_formula right)) }
+    {
+        let left = Box::new(alloc, left)?;
+        let right = Box::new(alloc, right)?;
+        Ok(Formula::Connected(left, connective, right))
+    }
+}
+
+impl Clone for Formula {
+    ghost is_clone = { λ formula clone. plain_formula clone ≡ plain_formula formula };
+
+    fn clone(&self) -> Result<Formula, AllocError> {
+        match self {
+            Formula::Constant(value) => Ok(Formula::Constant(*value)),
+            Formula::Attribute(number) => Ok(Formula::Attribute(*number)),
+            Formula::IsVoid(number) => Ok(Formula::IsVoid(*number)),
+            Formula::NotVoid(number) => Ok(Formula::NotVoid(*number)),
+            Formula::Not(operand) => Formula::not(*Box::allocator(operand), (**operand).clone()?),
+            Formula::Compared(left, comparison, right) => {
+                Ok(Formula::Compared(left.clone()?, *comparison, right.clone()?))
+            }
+            Formula::Connected(left, connective, right) => {
+                let alloc = *Box::allocator(left);
+                Formula::connected(alloc, (**left).clone()?, *connective, (**right).clone()?)
+            }
+        }
+    }
+}
+
+/// The truth of a formula, or None where it overflows or divides by zero.
+///
+/// Each attribute that the formula names has an atom of its kind. No memory is taken but a stack frame for
+/// each level of the formula: a parsed clause has at most 64, and some thousands fit into a megabyte.
+pub fn eval(formula: &Formula, atoms: &[Atom]) -> Option<bool>
+    requires { IsFit (plain_formula formula.now) (kinds_of atoms.now) }
+    ensures { result ≡ truth_of (plain_formula formula.now) atoms.now }
+{
+    match formula {
+        Formula::Constant(value) => Some(*value),
+        Formula::Attribute(number) => match atoms[usize::from(*number)] {
+            Atom::Boolean(value) => Some(value),
+            _ => unreachable!(),
+        },
+        Formula::IsVoid(number) => match atoms[usize::from(*number)] {
+            Atom::Reference { is_void } => Some(is_void),
+            _ => unreachable!(),
+        },
+        Formula::NotVoid(number) => match atoms[usize::from(*number)] {
+            Atom::Reference { is_void } => Some(!is_void),
+            _ => unreachable!(),
+        },
+        Formula::Not(operand) => Some(!eval(operand, atoms)?),
+        Formula::Compared(left, comparison, right) => {
+            Some(comparison.holds(left.value(atoms)?, right.value(atoms)?))
+        }
+        Formula::Connected(left, connective, right) => {
+            let left = eval(left, atoms)?;
+            match connective.decision(left) {
+                Some(truth) => Some(truth),
+                None => Some(connective.apply(left, eval(right, atoms)?)),
+            }
+        }
+    }
+}
+
+/// Whether an object meets its class invariant: each clause is true.
+pub fn meets(clauses: &[Formula], atoms: &[Atom]) -> bool
+    requires { All (λ clause. IsFit (plain_formula clause) (kinds_of atoms.now)) clauses.now }
+    ensures { IsTrue result ↔ Meets (map plain_formula clauses.now) atoms.now }
+{
+    clauses
+        .iter()
+        .all(|clause| eval(clause, atoms) == Some(true))
+}
+
+#[cfg(test)]
+mod tests;

@@ -1,0 +1,114 @@
+//! Formulas as they stand in the text of a class.
+ghost use Rattle.std.specs.Prelude.{[], IfOk};
+ghost use Rattle.sc_formula.specs.Fit.{IsFit};
+ghost use Rattle.sc_formula.specs.Plain.{plain_formula};
+
+use super::*;
+use crate::arithmetic::ArithmeticOperator;
+use std::alloc::{AllocError, Global};
+use std::test::Fail;
+
+/// `left operator right = third`, over no attributes.
+fn equation(
+    alloc: Global,
+    left: i64,
+    operator: ArithmeticOperator,
+    right: i64,
+    third: i64,
+) -> Result<Formula, AllocError>
+    ensures { IfOk result (λ formula. IsFit (plain_formula formula) []) }
+{
+    let left = Term::arithmetic(alloc, Term::Integer(left), operator, Term::Integer(right))?;
+    Ok(Formula::Compared(left, Comparison::Equal, Term::Integer(third)))
+}
+
+/// `left connective (1 // 0 = 1)`.
+fn before_zero_divisor(
+    alloc: Global,
+    left: bool,
+    connective: Connective,
+) -> Result<Formula, AllocError>
+    ensures { IfOk result (λ formula. IsFit (plain_formula formula) []) }
+{
+    let right = equation(alloc, 1, ArithmeticOperator::Quotient, 0, 1)?;
+    Formula::connected(alloc, Formula::Constant(left), connective, right)
+}
+
+/// `not` this many times before `True`.
+fn nested(alloc: Global, depth: u32) -> Result<Formula, AllocError>
+    ensures { IfOk result (λ formula. IsFit (plain_formula formula) []) }
+{
+    let mut formula = Formula::Constant(true);
+    for _ in 0..depth {
+        formula = Formula::not(alloc, formula)?;
+    }
+    Ok(formula)
+}
+
+#[test]
+fn equations(rt: HostRuntime) -> Result<(), Fail> {
+    for (left, operator, right, third, want) in [
+        (-7, ArithmeticOperator::Quotient, 2, -3, Some(true)),
+        (-7, ArithmeticOperator::Remainder, 2, -1, Some(true)),
+        (9223372036854775807, ArithmeticOperator::Plus, 1, 0, None),
+        (1, ArithmeticOperator::Quotient, 0, 1, None),
+        (
+            -9223372036854775807,
+            ArithmeticOperator::Minus,
+            1,
+            i64::MIN,
+            Some(true),
+        ),
+        (i64::MIN, ArithmeticOperator::Quotient, -1, 0, None),
+    ] {
+        let formula = equation(rt.alloc(), left, operator, right, third)?;
+        assert_eq!(rt; eval(&formula, &[]), want, "at {formula:?}");
+    }
+    Ok(())
+}
+
+#[test]
+fn sides_that_cannot_matter(rt: HostRuntime) -> Result<(), Fail> {
+    for (left, connective, want) in [
+        (false, Connective::AndThen, Some(false)),
+        (true, Connective::AndThen, None),
+        (false, Connective::And, None),
+        (true, Connective::OrElse, Some(true)),
+        (false, Connective::OrElse, None),
+        (true, Connective::Or, None),
+        (false, Connective::Implies, Some(true)),
+        (true, Connective::Implies, None),
+        (true, Connective::Xor, None),
+        (false, Connective::Equal, None),
+    ] {
+        let formula = before_zero_divisor(rt.alloc(), left, connective)?;
+        assert_eq!(rt; eval(&formula, &[]), want, "at {formula:?}");
+    }
+    Ok(())
+}
+
+#[test]
+fn attributes(rt: HostRuntime) -> Result<(), Fail> {
+    let atoms = [
+        Atom::Integer(7),
+        Atom::Boolean(true),
+        Atom::Reference { is_void: false },
+    ];
+    let below_eight = Formula::Compared(Term::Attribute(0), Comparison::Less, Term::Integer(8));
+    let negated = Formula::not(rt.alloc(), Formula::Attribute(1))?;
+    assert_eq!(rt; eval(&Formula::IsVoid(2), &atoms), Some(false));
+    assert_eq!(rt; eval(&Formula::NotVoid(2), &atoms), Some(true));
+    assert_eq!(rt; eval(&negated, &atoms), Some(false));
+    assert!(rt; meets(&[below_eight.clone()?, Formula::NotVoid(2)], &atoms));
+    assert!(rt; !meets(&[below_eight, negated], &atoms));
+    Ok(())
+}
+
+#[test]
+fn deep_formulas(rt: HostRuntime) -> Result<(), Fail> {
+    for (depth, want) in [(64, true), (3_000, true), (3_001, false)] {
+        let formula = nested(rt.alloc(), depth)?;
+        assert_eq!(rt; eval(&formula, &[]), Some(want), "at depth {depth}");
+    }
+    Ok(())
+}

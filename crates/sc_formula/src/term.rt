@@ -1,0 +1,100 @@
+//! Terms: integers made from the attributes of one object.
+#![tactic(auto, unfolding(crate::specs::Plain::plain_term))]
+
+ghost use Rattle.std.specs.Prelude.{◌≡◌, IfOk};
+ghost use Rattle.sc_formula.specs.Atom.{kinds_of};
+ghost use Rattle.sc_formula.specs.Fit.{IsFitTerm};
+ghost use Rattle.sc_formula.specs.Plain.{plain_term};
+ghost use Rattle.sc_formula.specs.Term.{Arithmetic, Identity, Opposite, value_of};
+
+use crate::arithmetic::{self, ArithmeticOperator};
+use crate::atom::Atom;
+use std::alloc::{AllocError, Global};
+
+/// An integer made from the attributes of one object.
+#[derive(Debug, PartialEq, Eq, Drop)]
+pub enum Term {
+    /// A number of the text.
+    Integer(i64),
+    /// The INTEGER attribute of this number.
+    Attribute(u8),
+    /// `+`, which changes nothing.
+    Identity(Box<Term>),
+    /// `-`
+    Opposite(Box<Term>),
+    /// An operator on two integers.
+    Arithmetic(Box<Term>, ArithmeticOperator, Box<Term>),
+}
+
+impl Term {
+    /// `+ operand`.
+    pub fn identity(alloc: Global, operand: Term) -> Result<Term, AllocError>
+        ensures { IfOk result (λ term. plain_term term ≡ Identity (plain_term operand)) }
+    {
+        Ok(Term::Identity(Box::new(alloc, operand)?))
+    }
+
+    /// `- operand`.
+    pub fn opposite(alloc: Global, operand: Term) -> Result<Term, AllocError>
+        ensures { IfOk result (λ term. plain_term term ≡ Opposite (plain_term operand)) }
+    {
+        Ok(Term::Opposite(Box::new(alloc, operand)?))
+    }
+
+    /// `left operator right`.
+    pub fn arithmetic(
+        alloc: Global,
+        left: Term,
+        operator: ArithmeticOperator,
+        right: Term,
+    ) -> Result<Term, AllocError>
+        ensures { IfOk result (λ term.
+            plain_term term ≡ Arithmetic (plain_term left) operator (plain_term right)) }
+    {
+        let left = Box::new(alloc, left)?;
+        let right = Box::new(alloc, right)?;
+        Ok(Term::Arithmetic(left, operator, right))
+    }
+
+    /// The value of the term, or None where it overflows or divides by zero.
+    pub fn value(&self, atoms: &[Atom]) -> Option<i64>
+        requires { IsFitTerm (plain_term self.now) (kinds_of atoms.now) }
+        ensures { result ≡ value_of (plain_term self.now) atoms.now }
+    {
+        match self {
+            Term::Integer(value) => Some(*value),
+            Term::Attribute(number) => match atoms[usize::from(*number)] {
+                Atom::Integer(value) => Some(value),
+                _ => unreachable!(),
+            },
+            Term::Identity(operand) => operand.value(atoms),
+            Term::Opposite(operand) => arithmetic::opposite(operand.value(atoms)?).ok(),
+            Term::Arithmetic(left, operator, right) => {
+                operator.apply(left.value(atoms)?, right.value(atoms)?).ok()
+            }
+        }
+    }
+}
+
+impl Clone for Term {
+    ghost is_clone = { λ term clone. plain_term clone ≡ plain_term term };
+
+    fn clone(&self) -> Result<Term, AllocError> {
+        match self {
+            Term::Integer(value) => Ok(Term::Integer(*value)),
+            Term::Attribute(number) => Ok(Term::Attribute(*number)),
+            Term::Identity(operand) => Term::identity(
+                *Box::allocator(operand),
+                (**operand).clone()?,
+            ),
+            Term::Opposite(operand) => Term::opposite(
+                *Box::allocator(operand),
+                (**operand).clone()?,
+            ),
+            Term::Arithmetic(left, operator, right) => {
+                let alloc = *Box::allocator(left);
+                Term::arithmetic(alloc, (**left).clone()?, *operator, (**right).clone()?)
+            }
+        }
+    }
+}
