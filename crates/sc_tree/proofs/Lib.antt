@@ -1,0 +1,13 @@
+pub mod ViewLemmas
+pub mod Combining
+pub mod Looks
+pub mod Follows
+pub mod SoundExpressions
+pub mod CompleteExpressions
+pub mod Lists
+pub mod SoundInstructions
+pub mod CompleteInstructions
+pub mod SoundClasses
+pub mod CompleteClasses
+pub mod Whole
+pub mod Depths

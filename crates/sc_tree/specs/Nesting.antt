@@ -1,0 +1,99 @@
+-- How deep each token stands, by the constructs around it: a construct's own tokens stand where the
+-- construct does, and what it holds stands one deeper. This looks at how the tokens were put together and
+-- at none of the numbers of the grammar.
+use Rattle.std.specs.Prelude.{ℕ, suc, max, List, [], ◌∷◌, ◌++◌, map}
+use Rattle.sc_text.specs.Kind.{Kind}
+use Rattle.sc_tree.specs.Plain.{Expr, Instr, Instrs, Branches, Feature, Clause, Class}
+use Rattle.sc_tree.specs.Grammar as grammar
+use Rattle.sc_tree.specs.Grammar.{spelling, IsPrimary, IsExpr, IsInstr, IsInstrs, IsBranches, IsElse, IsClause, IsClauses, IsNames, IsType, IsFeature, IsSemicolons, IsFeatures, IsSections, IsCreators, IsInvariant, IsClass, IsClasses, IsSystem}
+
+-- what a construct holds
+abbrev pub inside : List ℕ → List ℕ
+inside depths = map suc depths
+
+-- tokens with no construct around them
+abbrev pub outside : List Kind → List ℕ
+outside c = map (λ _. 0) c
+
+-- the greatest of some depths, and 0 where there is none
+abbrev pub greatest : List ℕ → ℕ
+greatest [] = 0
+greatest (n ∷ ns) = max n (greatest ns)
+
+-- ---- expressions
+
+unfoldable mutual
+  pub primary_depths : {t : Expr} {c : List Kind} {h : ℕ} → IsPrimary t c h → List ℕ
+  primary_depths (grammar.integer n) = 0 ∷ []
+  primary_depths grammar.true_constant = 0 ∷ []
+  primary_depths grammar.false_constant = 0 ∷ []
+  primary_depths (grammar.name x) = 0 ∷ []
+  primary_depths (grammar.parenthesized d) = 0 ∷ (inside (expr_depths d) ++ 0 ∷ [])
+
+  pub expr_depths : {k : ℕ} {t : Expr} {c : List Kind} {h : ℕ} → IsExpr k t c h → List ℕ
+  expr_depths (grammar.primary d) = primary_depths d
+  expr_depths (grammar.prefixed op d) = 0 ∷ inside (expr_depths d)
+  expr_depths (grammar.tighter d) = expr_depths d
+  expr_depths (grammar.left op g d e) = inside (expr_depths d) ++ (outside (spelling op) ++ inside (expr_depths e))
+  expr_depths (grammar.alone op g d e) = inside (expr_depths d) ++ (outside (spelling op) ++ inside (expr_depths e))
+
+-- ---- instructions
+
+unfoldable mutual
+  pub instr_depths : {i : Instr} {c : List Kind} {h : ℕ} → IsInstr i c h → List ℕ
+  instr_depths (grammar.assign x d) = 0 ∷ 0 ∷ expr_depths d
+  instr_depths (grammar.print d) = 0 ∷ 0 ∷ (inside (expr_depths d) ++ 0 ∷ [])
+  instr_depths (grammar.print_text s) = 0 ∷ 0 ∷ (inside (0 ∷ []) ++ 0 ∷ [])
+  instr_depths (grammar.call x) = 0 ∷ []
+  instr_depths (grammar.conditional d body branches other) =
+      0 ∷ (inside (expr_depths d) ++ 0 ∷ (inside (instrs_depths body) ++ (branches_depths branches ++ (other_depths other ++ 0 ∷ []))))
+
+  pub instrs_depths : {is : Instrs} {c : List Kind} {h : ℕ} → IsInstrs is c h → List ℕ
+  instrs_depths grammar.no_instr = []
+  instrs_depths (grammar.semicolon_instrs d) = 0 ∷ instrs_depths d
+  instrs_depths (grammar.instr d ds) = instr_depths d ++ instrs_depths ds
+
+  -- `elseif` and its `then` are the `if`'s own tokens, and so is `else`.
+  pub branches_depths : {bs : Branches} {c : List Kind} {h : ℕ} → IsBranches bs c h → List ℕ
+  branches_depths grammar.no_branch = []
+  branches_depths (grammar.branch d body bs) = 0 ∷ (inside (expr_depths d) ++ 0 ∷ (inside (instrs_depths body) ++ branches_depths bs))
+
+  pub other_depths : {is : Instrs} {c : List Kind} {h : ℕ} → IsElse is c h → List ℕ
+  other_depths grammar.no_else = []
+  other_depths (grammar.otherwise d) = 0 ∷ inside (instrs_depths d)
+
+-- ---- assertions
+
+unfoldable pub clause_depths : {x : Clause} {c : List Kind} {h : ℕ} → IsClause x c h → List ℕ
+clause_depths (grammar.untagged d) = expr_depths d
+clause_depths (grammar.tagged x d) = 0 ∷ 0 ∷ expr_depths d
+
+unfoldable pub clauses_depths : {xs : List Clause} {c : List Kind} {h : ℕ} → IsClauses xs c h → List ℕ
+clauses_depths grammar.no_clause = []
+clauses_depths (grammar.semicolon_clauses d) = 0 ∷ clauses_depths d
+clauses_depths (grammar.clause d g ds) = clause_depths d ++ clauses_depths ds
+
+-- ---- classes
+
+unfoldable pub feature_depths : {fs : List Feature} {c : List Kind} {h : ℕ} → IsFeature fs c h → List ℕ
+feature_depths (grammar.attributes {c} {ct} names type) = outside c ++ 0 ∷ outside ct
+feature_depths (grammar.routine x body) = 0 ∷ 0 ∷ (instrs_depths body ++ 0 ∷ [])
+
+unfoldable pub features_depths : {fs : List Feature} {c : List Kind} {h : ℕ} → IsFeatures fs c h → List ℕ
+features_depths grammar.no_feature = []
+features_depths (grammar.feature {s} d semicolons ds) = feature_depths d ++ (outside s ++ features_depths ds)
+
+unfoldable pub sections_depths : {fs : List Feature} {c : List Kind} {h : ℕ} → IsSections fs c h → List ℕ
+sections_depths grammar.no_section = []
+sections_depths (grammar.section d ds) = 0 ∷ (features_depths d ++ sections_depths ds)
+
+unfoldable pub invariant_depths : {xs : List Clause} {c : List Kind} {h : ℕ} → IsInvariant xs c h → List ℕ
+invariant_depths grammar.no_invariant = []
+invariant_depths (grammar.invariant d) = 0 ∷ clauses_depths d
+
+unfoldable pub class_depths : {x : Class} {c : List Kind} {h : ℕ} → IsClass x c h → List ℕ
+class_depths (grammar.class x {cn} dn df di) = 0 ∷ 0 ∷ (outside cn ++ (sections_depths df ++ (invariant_depths di ++ 0 ∷ [])))
+
+unfoldable pub classes_depths : {xs : List Class} {c : List Kind} {h : ℕ} → IsClasses xs c h → List ℕ
+classes_depths grammar.no_class = []
+classes_depths (grammar.another d ds) = class_depths d ++ classes_depths ds
