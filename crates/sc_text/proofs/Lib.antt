@@ -1,0 +1,7 @@
+pub mod Classes
+pub mod Complete
+pub mod Integers
+pub mod Scanning
+pub mod Sound
+pub mod Strings
+pub mod Whole

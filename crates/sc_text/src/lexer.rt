@@ -1,0 +1,208 @@
+// A text's tokens, one after the other.
+
+ghost use Rattle.std.specs.Prelude.{◌≡◌, ◌≤◌, ◌<◌, ◌+◌, ◌↔◌, false, List, [], drop, length, map, slice_index, string_bytes, IfErr, IfOk, IsErrOf, IsSome, IsTrue, MatchResult};
+ghost use Rattle.std.specs.Char.{to_ascii_lowercase};
+ghost use Rattle.std.specs.List.{list_all};
+ghost use Rattle.sc_text.specs.Characters.{is_name_part, quote};
+ghost use Rattle.sc_text.specs.Spelling.{IsRefused, Lexeme, Spells, StandInOrder, lexemes_of};
+ghost use Rattle.sc_text.specs.Reading as spec;
+ghost use Rattle.sc_text.specs.Reading.{Gives, GivesMarks};
+
+use crate::characters::{escape, is_white_space};
+use crate::fault::LexFault;
+use crate::scan::{
+    closing_quote, comment_length, integer_length, name_length, number, unmarked_length,
+};
+use crate::symbols::{long_symbol, short_symbol};
+use crate::token::{Span, Token, TokenKind};
+use crate::words::reserved;
+use std::alloc::{AllocError, Global};
+
+/// The greatest number of bytes of a text.
+const LONGEST: usize = 1_048_576;
+
+/// What stands at one place of a text, with the number of its bytes.
+#[derive(Drop)]
+enum Piece {
+    /// White space or a comment.
+    Gap { length: usize },
+    Token { kind: TokenKind, length: usize },
+}
+
+/// The tokens of a text, in order.
+///
+/// The fault that comes first in the text is answered: `SourceTooLong` at once, and `OutOfMemory`
+/// where a growth was refused.
+pub fn lex(alloc: Global, text: &str) -> Result<Vec<Token>, LexFault>
+    ensures spelled { IfOk result (λ v. Spells text.now (lexemes_of v.items)) }
+    ensures slices { IfOk result (λ v. StandInOrder text.now 0 (lexemes_of v.items)) }
+    ensures refused { IfErr result (IsRefused text.now) }
+    ensures too_long { IsErrOf result LexFault.SourceTooLong ↔ (1048576 < length text.now) }
+
+    // A text that spells some tokens is answered with these, unless memory ran out.
+    ensures complete { (ts : List Lexeme) → length text.now ≤ 1048576 → Spells text.now ts
+        → MatchResult result (λ v. lexemes_of v.items ≡ ts) (λ e. e ≡ LexFault.OutOfMemory) }
+{
+    if text.len() > LONGEST {
+        return Err(LexFault::SourceTooLong);
+    }
+    let mut tokens = Vec::new(alloc);
+    let mut place = 0;
+    while place < text.len() {
+        match piece_at(alloc, text, place)? {
+            Piece::Gap { length } => place += length,
+            Piece::Token { kind, length } => {
+                let end = place + length;
+                let span = Span { start: place, end };
+                tokens.push(Token { kind, span })?;
+                place = end;
+            }
+        }
+    }
+    Ok(tokens)
+}
+
+/// What stands at this place of the text.
+#[tactic(auto, unfolding(crate::specs::Reading::front))]
+fn piece_at(alloc: Global, text: &str, place: usize) -> Result<Piece, LexFault>
+    requires { place < length text.now }
+    ensures { Gives (spec.front place (drop place text.now)) result }
+{
+    let rest = &text.as_bytes()[place..];
+    let first = rest[0];
+    if is_white_space(first) {
+        Ok(Piece::Gap { length: 1 })
+    } else if first.is_ascii_alphabetic() {
+        word(alloc, rest)
+    } else if first.is_ascii_digit() {
+        integer(rest, place)
+    } else if first == b'"' {
+        manifest_string(alloc, text, place)
+    } else {
+        symbol(rest, place)
+    }
+}
+
+/// The name or the reserved word at the front of the text.
+#[tactic(auto, unfolding(crate::specs::Reading::word))]
+fn word(alloc: Global, text: &[u8]) -> Result<Piece, LexFault>
+    ensures { Gives (spec.word text.now) result }
+{
+    let length = name_length(text);
+    let word = &text[..length];
+    let kind = match reserved(word) {
+        Some(terminal) => TokenKind::Terminal(terminal),
+        None => TokenKind::Name(lower_case(alloc, word)?),
+    };
+    Ok(Piece::Token { kind, length })
+}
+
+fn lower_case(alloc: Global, word: &[u8]) -> Result<String, AllocError>
+    requires { IsTrue (list_all is_name_part word.now) }
+    ensures { IfOk result (λ s. string_bytes s ≡ map to_ascii_lowercase word.now) }
+{
+    let mut lower = String::with_capacity(alloc, word.len())?;
+    for byte in word {
+        lower.push(char::from(byte.to_ascii_lowercase()))?;
+    }
+    Ok(lower)
+}
+
+/// The integer at the front of the text, which stands at this place.
+#[tactic(auto, unfolding(crate::specs::Reading::integer))]
+fn integer(text: &[u8], place: usize) -> Result<Piece, LexFault>
+    ensures { Gives (spec.integer place text.now) result }
+{
+    let length = integer_length(text);
+    match number(&text[..length]) {
+        Some(value) => Ok(Piece::Token {
+            kind: TokenKind::Integer(value),
+            length,
+        }),
+        None => Err(LexFault::IntegerTooLarge { place }),
+    }
+}
+
+/// The manifest string that the quote at this place opens.
+#[tactic(auto, unfolding(crate::specs::Reading::manifest_string))]
+fn manifest_string(alloc: Global, text: &str, place: usize) -> Result<Piece, LexFault>
+    requires within { place < length text.now }
+    requires opens { slice_index text.now place ≡ quote }
+    ensures { Gives (spec.manifest_string place (drop (place + 1) text.now)) result }
+{
+    let (_, rest) = text.split_at(place + 1);
+    let Some(length) = closing_quote(rest.as_bytes()) else {
+        return Err(LexFault::UnclosedString { place });
+    };
+    let (body, _) = rest.split_at(length);
+    let value = marks_read(alloc, body, place + 1)?;
+    Ok(Piece::Token {
+        kind: TokenKind::ManifestString(value),
+        length: length + 2,
+    })
+}
+
+/// The text between the quotes of a manifest string, with its marks read. It begins at this place.
+fn marks_read(alloc: Global, text: &str, place: usize) -> Result<String, LexFault>
+    requires { place + length text.now ≤ usize.MAX }
+    ensures { GivesMarks (spec.marks_read false [] place text.now) result }
+{
+    let mut value = String::with_capacity(alloc, text.len())?;
+    let mut rest = text;
+    let mut at = place;
+    while !rest.is_empty() {
+        let length = unmarked_length(rest.as_bytes());
+        if length > 0 {
+            let (unmarked, after) = rest.split_at(length);
+            value.push_str(unmarked)?;
+            rest = after;
+            at += length;
+        } else {
+            let Some(character) = mark(rest.as_bytes()) else {
+                return Err(LexFault::BadEscape { place: at });
+            };
+            value.push(char::from(character))?;
+            let (_, after) = rest.split_at(2);
+            rest = after;
+            at += 2;
+        }
+    }
+    Ok(value)
+}
+
+/// The character that the mark at the front of the text stands for.
+fn mark(text: &[u8]) -> Option<u8>
+    ensures value { result ≡ spec.mark_ahead text.now }
+    ensures ascii { IsSome result → (1 < length text.now) × (slice_index text.now 1 < 128) }
+{
+    match text {
+        [_, byte, ..] => escape(*byte),
+        _ => None,
+    }
+}
+
+/// The comment or the symbol at the front of the text, which stands at this place.
+#[tactic(auto, unfolding(crate::specs::Reading::symbol))]
+fn symbol(text: &[u8], place: usize) -> Result<Piece, LexFault>
+    requires { 0 < length text.now }
+    ensures { Gives (spec.symbol place text.now) result }
+{
+    let first = text[0];
+    let second = if text.len() > 1 { text[1] } else { 0 };
+    if first == b'-' && second == b'-' {
+        return Ok(Piece::Gap {
+            length: 2 + comment_length(&text[2..]),
+        });
+    }
+    let (terminal, length) = match long_symbol(first, second) {
+        Some(terminal) => (terminal, 2),
+        None => match short_symbol(first) {
+            Some(terminal) => (terminal, 1),
+            None => return Err(LexFault::BadCharacter { place }),
+        },
+    };
+    Ok(Piece::Token {
+        kind: TokenKind::Terminal(terminal),
+        length,
+    })
+}

@@ -1,0 +1,20 @@
+//! Tokens of Eiffel source text: names, integers, manifest strings, reserved words and symbols, each
+//! with the place where it stands (ECMA-367, 8.32). `lex` gives the tokens that a text spells, or the
+//! first fault in it. What it means for a text to spell tokens stands in `specs/Spelling`.
+#![tactic(auto)]
+
+mod characters;
+mod fault;
+mod laws;
+mod lexer;
+mod scan;
+mod symbols;
+#[cfg(test)]
+mod tests;
+mod token;
+mod words;
+
+pub use fault::LexFault;
+pub use laws::{no_spelling_of_faults, one_fault, one_spelling};
+pub use lexer::lex;
+pub use token::{Span, Terminal, Token, TokenKind};
