@@ -1,0 +1,4 @@
+pub mod Faults
+pub mod Turns
+pub mod Lists
+pub mod Verdict

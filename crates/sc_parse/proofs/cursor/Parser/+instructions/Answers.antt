@@ -1,0 +1,44 @@
+use Rattle.std.proofs.Common.{ap, sym, ◌∙◌, max, suc, arith}
+use Rattle.std.proofs.lemmas.Grind.{common_steps}
+use Rattle.sc_tree.proofs.ViewLemmas.{bare_instr-if, bare_instrs-none, bare_instrs-push, bare_branches-none, bare_branches-push}
+use Rattle.sc_tree.specs.Bare.{bare_instrs, bare_branches}
+use Rattle.sc_tree.specs.Reading.{guarded, conditional}
+use Rattle.sc_tree.specs.View.{instrs_of, branches_of}
+use Rattle.sc_parse.specs.Reads.{ahead, instrs_in, branches_in}
+use Rattle.sc_parse.proofs.Turns.{instrs_begin, instrs_end, instrs_more, branches_begin, branches_more}
+use Rattle.sc_parse.proofs.cursor.Parser.+instructions.Goals as goal
+
+pub instructions-loop-turn-init : goal.instructions-loop-turn-init
+instructions-loop-turn-init t c = (0, instrs_begin _ _ _ _ c.skip_semicolons.ensures (ap (λ (is : _). bare_instrs (instrs_of is)) c.new-found.ensures.items ∙ bare_instrs-none))
+
+pub instructions-loop-turn-preserved : goal.instructions-loop-turn-preserved
+instructions-loop-turn-preserved t c = (
+  max c.loop-turn.invariant.0 c.in_ok-instr.ensures.0,
+  instrs_more c.args.room _ c.loop-turn._turn (instrs_in c.loop-turn.found) c.loop-turn.invariant.0 (ahead c.loop-turn.self) _ _ _ _ _ _ c.loop-turn-test.true c.begins_instruction.ensures c.if-not-begins_instruction.false
+      c.in_ok-instr.ensures.1 (ap (λ (is : _). bare_instrs (instrs_of is)) c.in_ok-push.ensures.items ∙ bare_instrs-push _ _) c.skip_semicolons-in-loop-turn.ensures
+      ∙ c.loop-turn.invariant.1,
+)
+
+pub instructions-returns : goal.instructions-returns
+instructions-returns t c =
+    (c.loop-turn.invariant.0, sym c.loop-turn.invariant.1 ∙ instrs_end c.args.room _ c.loop-turn._turn (instrs_in c.loop-turn.found) c.loop-turn.invariant.0 (ahead c.loop-turn.self) c.loop-turn-test.false)
+
+pub branches-loop-turn-init : goal.branches-loop-turn-init
+branches-loop-turn-init t c = (0, branches_begin _ _ _ (ap (λ (bs : _). bare_branches (branches_of bs)) c.new-found.ensures.items ∙ bare_branches-none))
+
+pub branches-loop-turn-preserved : goal.branches-loop-turn-preserved
+branches-loop-turn-preserved t c = (
+  max c.loop-turn.invariant.0 c.in_ok-branch.ensures.0,
+  branches_more c.args.room _ c.loop-turn._turn (branches_in c.loop-turn.found) c.loop-turn.invariant.0 (ahead c.loop-turn.self) _ _ _ _ _ _ c.loop-turn-test.true c.sees.ensures c.if-not-sees.false c.take.ensures.past
+      c.in_ok-branch.ensures.1 (ap (λ (bs : _). bare_branches (branches_of bs)) c.in_ok-push.ensures.items ∙ bare_branches-push _ _)
+      ∙ c.loop-turn.invariant.1,
+)
+
+pub guarded-returns : goal.guarded-returns
+unfolding guarded
+guarded-returns t c = (max c.in_ok-condition.field-0-1 c.in_ok-body.ensures.0, grind (arith, common_steps))
+
+pub conditional-returns : goal.conditional-returns
+unfolding conditional
+conditional-returns t c =
+    (suc (max c.in_ok-condition.ensures.0 (max c.in_ok-branches.ensures.0 c.in_ok-other.ensures.0)), grind (arith, common_steps, bare_instr-if))

@@ -1,0 +1,25 @@
+use Rattle.std.proofs.Common.{ap, sym, ◌∙◌, map}
+use Rattle.std.proofs.lemmas.Result.{err_from_is_err_and}
+use Rattle.sc_tree.specs.Bare.{bare_feature}
+use Rattle.sc_tree.specs.View.{feature_of}
+use Rattle.sc_parse.specs.Reads.{ahead, features_in}
+use Rattle.sc_parse.proofs.Faults.{Fails-along}
+use Rattle.sc_parse.proofs.Lists.{sections_begin, sections_fail, sections_more}
+use Rattle.sc_parse.proofs.cursor.Parser.sections.Goals as goal
+
+pub loop-turn-init : goal.loop-turn-init
+loop-turn-init c = (0, sections_begin _ _ _ (ap (λ (fs : _). map bare_feature (map feature_of fs)) c.new-found.ensures.items))
+
+pub returns-in_err-found : goal.returns-in_err-found
+returns-in_err-found c =
+    let q = c.loop-turn.invariant in
+    let p = err_from_is_err_and c.from_residual.result c.from_residual.ensures.1 in
+    rw (p.1, p.2)
+    (Fails-along _ _ c.in_err-found.field-0.0 (sym q.1)
+    (sections_fail c.args.room _ c.loop-turn._turn (features_in c.loop-turn.found) q.0 (ahead c.loop-turn.self) _ _ c.in_err-found.field-0.0 c.loop-turn-test.true c.sees.ensures c.if-not-sees.false c.take.ensures.past (c.in_err-found.ensures q.0)))
+
+pub loop-turn-preserved : goal.loop-turn-preserved
+loop-turn-preserved c =
+    let q = c.loop-turn.invariant in
+    let r = c.in_ok-found.ensures q.0 in
+    (r.0, sections_more c.args.room _ c.loop-turn._turn (features_in c.loop-turn.found) q.0 (ahead c.loop-turn.self) _ _ _ _ _ c.loop-turn-test.true c.sees.ensures c.if-not-sees.false c.take.ensures.past r.1 ∙ q.1)

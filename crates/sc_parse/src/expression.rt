@@ -1,0 +1,214 @@
+// Expressions (ECMA-367, 8.28).
+
+ghost use Rattle.std.specs.Prelude.{◌≡◌, ◌≤◌, ◌<◌, max, IfOk, length};
+ghost use Rattle.sc_tree.specs.Grammar as grammar;
+ghost use Rattle.sc_tree.specs.Reading as spec;
+ghost use Rattle.sc_tree.specs.View.{expr_of};
+ghost use Rattle.sc_parse.specs.Reads.{ahead, expr_in, span_in, Reads};
+
+use crate::cursor::Parser;
+use crate::fault::ParseFault;
+use sc_text::{Span, Terminal, Token, TokenKind};
+use sc_tree::{Expr, Name, UnaryOperator};
+
+/// The class of a whole expression.
+pub const TOP: u8 = 6;
+
+/// Whether the operators just above the class group to the left; the relations stand alone.
+fn is_grouped(class: u8) -> bool
+    ensures { result ≡ grammar.groups class }
+{
+    class != 2
+}
+
+/// The larger of two nestings.
+pub fn deeper(a: u8, b: u8) -> u8
+    ensures { result ≡ max a b }
+{
+    if a < b { b } else { a }
+}
+
+/// Where an expression stands.
+#[tactic(auto, unfolding(sc_tree::specs::View::expr_of))]
+pub fn span_of(expr: &Expr) -> Span
+    ensures { result ≡ span_in (expr_of expr.now) }
+{
+    match expr {
+        Expr::Integer(span, _) => *span,
+        Expr::Boolean(span, _) => *span,
+        Expr::Call(name) => name.span,
+        Expr::Unary(span, _, _) => *span,
+        Expr::Binary(span, _, _, _) => *span,
+    }
+}
+
+impl<'a> Parser<'a> {
+    /// An expression of the class whose tokens have at most `room` constructs around them, with the
+    /// greatest number of constructs around one of them.
+    #[cycle(expression)]
+    #[tactic(auto, using(crate::proofs::Turns::expr_zero, crate::proofs::Turns::expr_suc))]
+    pub fn expr(&mut self, class: u8, room: u8) -> Result<(Expr, u8), ParseFault>
+        ensures read { Reads expr_in (spec.expr room class (ahead self.old)) result (ahead self.new) }
+        ensures high { IfOk result (λ p. p.1 ≤ room) }
+    {
+        if class == 0 {
+            return self.operand(room);
+        }
+        let (left, height) = self.expr(class - 1, room)?;
+        self.operators(class - 1, room, left, height)
+    }
+
+    /// An expression inside the construct that the last token opened.
+    #[cycle(expression)]
+    #[tactic(auto, using(crate::proofs::Turns::nested_none, crate::proofs::Turns::nested_some))]
+    pub fn nested(&mut self, class: u8, room: u8) -> Result<(Expr, u8), ParseFault>
+        ensures read { Reads expr_in (spec.nested room class (ahead self.old)) result (ahead self.new) }
+        ensures high { IfOk result (λ p. p.1 < room) }
+    {
+        if room == 0 {
+            return Err(ParseFault::TooDeep {
+                place: self.last.start,
+            });
+        }
+        self.expr(class, room - 1)
+    }
+
+    /// The first operand with the operators just above the class that follow it, and their right
+    /// operands.
+    #[cycle(expression)]
+    #[tactic(auto, using(crate::proofs::Turns::turns_of, crate::proofs::Turns::operators_end, crate::proofs::Turns::operators_turn), unfolding(sc_tree::specs::View::expr_of, sc_tree::specs::Bare::bare_expr))]
+    fn operators(
+        &mut self,
+        class: u8,
+        room: u8,
+        first: Expr,
+        first_height: u8,
+    ) -> Result<(Expr, u8), ParseFault>
+        requires { first_height ≤ room }
+        ensures read { Reads expr_in (spec.operators (spec.nested room) room class (length (ahead self.old)) (expr_in first) first_height (ahead self.old)) result (ahead self.new) }
+        ensures high { IfOk result (λ p. p.1 ≤ room) }
+    {
+        let mut left = first;
+        let mut height = first_height;
+        for _turn in 0..self.rest.len() {
+            let Some(operator) = self.operator(class) else {
+                return Ok((left, height));
+            };
+            if room <= height {
+                return Err(ParseFault::TooDeep {
+                    place: self.next_start(),
+                });
+            }
+            self.take_operator(operator);
+            let (right, right_height) = self.nested(class, room)?;
+            let span = Span {
+                start: span_of(&left).start,
+                end: span_of(&right).end,
+            };
+            left = Expr::Binary(
+                span,
+                operator,
+                Box::new(self.alloc, left)?,
+                Box::new(self.alloc, right)?,
+            );
+            height = deeper(height, right_height) + 1;
+            if !is_grouped(class) {
+                return Ok((left, height));
+            }
+        }
+        Ok((left, height))
+    }
+
+    #[cycle(expression)]
+    #[tactic(auto, unfolding(sc_tree::specs::Reading::operand))]
+    fn operand(&mut self, room: u8) -> Result<(Expr, u8), ParseFault>
+        ensures read { Reads expr_in (spec.operand (spec.nested room) (ahead self.old)) result (ahead self.new) }
+        ensures high { IfOk result (λ p. p.1 ≤ room) }
+    {
+        match self.prefix() {
+            Some(operator) => {
+                self.take();
+                self.prefixed(operator, room)
+            }
+            None => self.primary(room),
+        }
+    }
+
+    /// The operand of this operator, which was just read.
+    #[cycle(expression)]
+    #[tactic(auto, unfolding(sc_tree::specs::Reading::prefixed, sc_tree::specs::View::expr_of, sc_tree::specs::Bare::bare_expr))]
+    fn prefixed(&mut self, operator: UnaryOperator, room: u8) -> Result<(Expr, u8), ParseFault>
+        ensures read { Reads expr_in (spec.prefixed (spec.nested room) operator (ahead self.old)) result (ahead self.new) }
+        ensures high { IfOk result (λ p. p.1 ≤ room) }
+    {
+        let start = self.last.start;
+        let (operand, height) = self.nested(0, room)?;
+        let span = Span {
+            start,
+            end: span_of(&operand).end,
+        };
+        let operand = Box::new(self.alloc, operand)?;
+        Ok((Expr::Unary(span, operator, operand), height + 1))
+    }
+
+    #[cycle(expression)]
+    #[tactic(auto, unfolding(sc_tree::specs::Reading::primary, sc_tree::specs::View::expr_of, sc_tree::specs::Bare::bare_expr))]
+    fn primary(&mut self, room: u8) -> Result<(Expr, u8), ParseFault>
+        ensures read { Reads expr_in (spec.primary (spec.nested room) (ahead self.old)) result (ahead self.new) }
+        ensures high { IfOk result (λ p. p.1 ≤ room) }
+    {
+        if self.sees(Terminal::True) {
+            self.take();
+            return Ok((Expr::Boolean(self.last, true), 0));
+        }
+        if self.sees(Terminal::False) {
+            self.take();
+            return Ok((Expr::Boolean(self.last, false), 0));
+        }
+        if self.sees(Terminal::OpenParenthesis) {
+            self.take();
+            return self.parenthesized(room);
+        }
+        self.atom()
+    }
+
+    /// What stands in parentheses, the first of which was just read.
+    #[cycle(expression)]
+    #[tactic(auto, unfolding(sc_tree::specs::Reading::parenthesized))]
+    fn parenthesized(&mut self, room: u8) -> Result<(Expr, u8), ParseFault>
+        ensures read { Reads expr_in (spec.parenthesized (spec.nested room) (ahead self.old)) result (ahead self.new) }
+        ensures high { IfOk result (λ p. p.1 ≤ room) }
+    {
+        let (inner, height) = self.nested(TOP, room)?;
+        self.expect(Terminal::CloseParenthesis)?;
+        Ok((inner, height + 1))
+    }
+
+    /// A name or an integer.
+    #[tactic(auto, unfolding(sc_tree::specs::View::expr_of, sc_tree::specs::Bare::bare_expr))]
+    fn atom(&mut self) -> Result<(Expr, u8), ParseFault>
+        ensures read { Reads expr_in (spec.atom (ahead self.old)) result (ahead self.new) }
+        ensures high { IfOk result (λ p. p.1 ≡ 0) }
+    {
+        match self.take() {
+            Some(
+                Token {
+                    kind: TokenKind::Integer(value),
+                    span,
+                },
+            ) => Ok((Expr::Integer(*span, *value), 0)),
+            Some(
+                Token {
+                    kind: TokenKind::Name(text),
+                    span,
+                },
+            ) => {
+                let text = text.clone()?;
+                Ok((Expr::Call(Name { text, span: *span }), 0))
+            }
+            _ => Err(ParseFault::NotInGrammar {
+                place: self.last.start,
+            }),
+        }
+    }
+}

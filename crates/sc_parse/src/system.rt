@@ -1,0 +1,55 @@
+// Systems of classes (ECMA-367, 8.3).
+
+ghost use Rattle.std.specs.Prelude.{ℕ, ◌≤◌};
+ghost use Rattle.sc_text.specs.Kind.{kinds_of};
+ghost use Rattle.sc_tree.specs.Grammar.{IsSystem};
+ghost use Rattle.sc_tree.specs.Plain as plain;
+ghost use Rattle.sc_tree.specs.Reading as spec;
+ghost use Rattle.sc_parse.specs.Parses.{Parses, IsParsedTo};
+ghost use Rattle.sc_parse.specs.Reads.{ParsesAs};
+
+use crate::cursor::Parser;
+use crate::fault::ParseFault;
+use sc_text::Token;
+use sc_tree::System;
+use std::alloc::Global;
+
+#[cfg(test)]
+mod search;
+#[cfg(test)]
+mod tests;
+
+/// How many constructs may stand around a token: parentheses, operators whose operand it lies in and
+/// `if`s, counted from the routine's body or the clause.
+pub const MAX_NESTING: u8 = 64;
+
+/// The system that the tokens spell, where its nesting is at most `room`.
+#[tactic(auto, unfolding(sc_tree::specs::Reading::system, sc_tree::specs::View::system_of))]
+fn parse_within(alloc: Global, tokens: &[Token], room: u8) -> Result<System, ParseFault>
+    ensures { ParsesAs (spec.system room (kinds_of tokens.now)) result }
+{
+    let mut parser = Parser::new(alloc, tokens);
+    let classes = parser.classes(room)?;
+    if parser.is_done() {
+        Ok(System { classes })
+    } else {
+        Err(ParseFault::NotInGrammar {
+            place: parser.next_start(),
+        })
+    }
+}
+
+/// The system that the tokens spell. The place of each part goes from its first token to its last,
+/// parentheses around an expression left aside: that of `(a + b) * c` begins at `a`.
+///
+/// # Errors
+///
+/// `NotInGrammar` where the tokens spell no system, `TooDeep` where they spell none of nesting at most
+/// [`MAX_NESTING`], and `OutOfMemory`. At fault is the first token that no system of this nesting has
+/// there, after the tokens before it; the fault is `TooDeep` if one of greater nesting has.
+pub fn parse(alloc: Global, tokens: &[Token]) -> Result<System, ParseFault>
+    ensures answer { Parses (kinds_of tokens.now) result }
+    ensures found { (t : plain.System) (h : ℕ) → h ≤ 64 → IsSystem t (kinds_of tokens.now) h → IsParsedTo t result }
+{
+    parse_within(alloc, tokens, MAX_NESTING)
+}
