@@ -1,0 +1,88 @@
+-- What the check and the run of a source text come to.
+use Rattle.std.specs.Prelude.{ℕ, ◌≡◌, ◌≤◌, ◌⊎◌, Bool, false, List, map, length, Option, Some, None, slice_get, replicate}
+use Rattle.std.specs.Option.{option_map}
+use Rattle.sc_text.specs.Kind.{Kind}
+use Rattle.sc_text.specs.Spelling.{Lexeme, Spells, IsRefused}
+use Rattle.sc_tree.specs.Plain.{System}
+use Rattle.sc_tree.specs.Bare.{bare_system}
+use Rattle.sc_tree.specs.Grammar.{IsSystem}
+use Rattle.sc_parse.specs.Parses.{Refuses}
+use Rattle.sc_parse.specs.declared.fault.ParseFault.{ParseFault}
+use Rattle.sc_text.specs.declared.token.Span.{Span}
+use Rattle.sc_model.specs.declared.status.Status.{Status}
+use Rattle.sc_model.specs.Lookup.{Root}
+use Rattle.sc_model.specs.World.{World, opening, run, has_turn_at}
+use Rattle.sc_model.specs.Report.{report, status_of}
+use Rattle.scoop.specs.declared.rules.rule.Rule.{Rule}
+use Rattle.scoop.specs.Rules.{Fails, IsWellFormed}
+use Rattle.scoop.specs.declared.refusal.Rejection.{Rejection}
+use Rattle.scoop.specs.declared.refusal.Rejection.TheVariants as rejection
+
+-- the kinds of the tokens that a text spells
+abbrev pub kinds : List Lexeme → List Kind
+kinds ts = map (λ t. t.kind) ts
+
+-- The text spells tokens that spell the tree, in no more than 1,048,576 bytes and nested at most 64 deep. The tree is one
+-- without places.
+pub record IsSpelled (text : List ℕ) (tree : System) : Type 0 where
+  pub tokens : List Lexeme
+  pub nesting : ℕ
+  pub spelled : Spells text tokens
+  pub short : length text ≤ 1048576
+  pub shallow : nesting ≤ 64
+  pub grammar : IsSystem tree (kinds tokens) nesting
+
+-- The text spells a system in which no rule fails.
+pub record IsAccepted (text : List ℕ) (root : Root) : Type 0 where
+  pub system : System
+  pub spelled : IsSpelled text (bare_system system)
+  pub well_formed : IsWellFormed system root
+
+-- The text spells a tree that is well formed wherever its parts stand.
+pub record MustBeAccepted (text : List ℕ) (root : Root) : Type 0 where
+  pub tree : System
+  pub spelled : IsSpelled text tree
+  pub well_formed : (system : System) → bare_system system ≡ tree → IsWellFormed system root
+
+-- ---- refusals
+
+-- The text spells tokens, and they spell no system, or none that is shallow, as the fault says.
+pub record IsNoSystem (text : List ℕ) (fault : ParseFault) : Type 0 where
+  pub tokens : List Lexeme
+  pub spelled : Spells text tokens
+  pub refuses : Refuses (kinds tokens) fault
+
+-- The text spells a system in which the rule fails at the place.
+pub record HasFailing (text : List ℕ) (root : Root) (rule : Rule) (place : Option Span) : Type 0 where
+  pub system : System
+  pub spelled : IsSpelled text (bare_system system)
+  pub fails : Fails system root rule place
+
+-- A refusal is true of the text.
+abbrev pub IsRefusedFor : List ℕ → Root → Rejection → Type 0
+IsRefusedFor text root (rejection.Text fault) = IsRefused text fault
+IsRefusedFor text root (rejection.Grammar fault) = IsNoSystem text fault
+IsRefusedFor text root (rejection.Rules fault) = HasFailing text root fault.rule fault.place
+IsRefusedFor text root rejection.OutOfMemory = Unit {0}
+
+-- ---- runs
+
+-- the world after so many turns of handler 0
+abbrev pub world_after : System → Root → ℕ → World
+world_after system root turns = run system (replicate turns 0) (opening root)
+
+-- The report and the status are those of the world after some turns of handler 0, of which there are at most so many, and
+-- fewer only where handler 0 has nothing to do any more.
+pub record IsRun (system : System) (root : Root) (limit : ℕ) (text : List ℕ) (status : Option Status) : Type 0 where
+  pub turns : ℕ
+  pub within : turns ≤ limit
+  pub ended : (turns ≡ limit) ⊎ (has_turn_at 0 (world_after system root turns) ≡ false)
+  pub report_is : text ≡ report (world_after system root turns)
+  pub status_is : status ≡ option_map status_of (slice_get (world_after system root turns) 0)
+
+-- The text spells a system in which no rule fails, and the report and the status are those of its run.
+pub record IsRunOf (text : List ℕ) (root : Root) (limit : ℕ) (output : List ℕ) (status : Option Status) : Type 0 where
+  pub system : System
+  pub spelled : IsSpelled text (bare_system system)
+  pub well_formed : IsWellFormed system root
+  pub is_run : IsRun system root limit output status

@@ -1,0 +1,152 @@
+-- Judging, as a function: the first rule that fails and its place, or what a part gives.
+use Rattle.std.specs.Prelude.{ℕ, Bool, true, false, List, [], ◌∷◌, ◌++◌, ◌&&◌, ◌||◌, length, Option, Some, None, Result, Ok, Err, not, nat_le, is_some}
+use Rattle.std.specs.List.{list_all}
+use Rattle.sc_text.specs.declared.token.Span.{Span}
+use Rattle.sc_tree.specs.declared.expression.UnaryOperator.{UnaryOperator}
+use Rattle.sc_tree.specs.declared.expression.BinaryOperator.{BinaryOperator}
+use Rattle.sc_tree.specs.Plain.{System, Class, Feature, FeatureKind, Attribute, Routine, Clause, Name, Expr, Integer, Boolean, Call, Unary, Binary, Instr, Assign, Print, PrintText, CallRoutine, If, Instrs, no_instrs, instr_then, Branches, no_branches, branch_then}
+use Rattle.sc_model.specs.Lookup.{Root}
+use Rattle.scoop.specs.declared.rules.types.ValueType.{ValueType}
+use Rattle.scoop.specs.declared.rules.types.ValueType.TheVariants as type
+use Rattle.scoop.specs.declared.rules.names.Role.{Role}
+use Rattle.scoop.specs.declared.rules.names.Role.TheVariants.{Value, Instruction, Assigned, Creator}
+use Rattle.scoop.specs.declared.rules.rule.Rule.{Rule}
+use Rattle.scoop.specs.declared.rules.rule.Rule.TheVariants.{DuplicateClass, DuplicateFeature, NoRoot, Limit, UnknownName, AssignType, NotBoolean, OperatorType, InvariantForm}
+use Rattle.scoop.specs.declared.rules.fault.CheckFault.{CheckFault}
+use Rattle.scoop.specs.Typing.{span_of, type_named, conforms, meaning_of, type_of_meaning, unary_type, binary_type}
+use Rattle.scoop.specs.Rules.{name_fault, is_formula, clause_place}
+use Rattle.scoop.specs.ClassRules.{is_built_in, is_print, is_listed, class_names, feature_names, has_root, limit}
+
+abbrev pub Judged : Type 0 → Type 0
+Judged A = Result A CheckFault
+
+infixl 10 ◌>>=◌
+abbrev pub ◌>>=◌ : {A B : Type 0} → Judged A → (A → Judged B) → Judged B
+(Ok x) >>= f = f x
+(Err e) >>= f = Err e
+
+abbrev pub fault : Rule → Option Span → CheckFault
+fault r p = record { rule = r; place = p }
+
+-- the rule fails unless the test holds
+abbrev pub required : Bool → Rule → Option Span → Judged (Unit {0})
+required true r p = Ok tt
+required false r p = Err (fault r p)
+
+-- this rule fails, if any
+abbrev pub accepted : Option Rule → Span → Judged (Unit {0})
+accepted None p = Ok tt
+accepted (Some r) p = Err (fault r (Some p))
+
+-- each of them, in order
+abbrev pub judge_each : {A : Type 0} → (A → Judged (Unit {0})) → List A → Judged (Unit {0})
+judge_each judge [] = Ok tt
+judge_each judge (x ∷ xs) = judge x >>= λ u. judge_each judge xs
+
+-- the result's type, which an operator has whose operands are of types that it takes
+abbrev pub operation : Option ValueType → Span → Judged (Option ValueType)
+operation None p = Err (fault OperatorType (Some p))
+operation (Some T) p = Ok (Some T)
+
+abbrev pub judge_unary : Span → UnaryOperator → Option ValueType → Judged (Option ValueType)
+judge_unary p op None = Ok None
+judge_unary p op (Some A) = operation (unary_type op A) p
+
+abbrev pub judge_binary : Span → BinaryOperator → Option ValueType → Option ValueType → Judged (Option ValueType)
+judge_binary p op (Some A) (Some B) = operation (binary_type op A B) p
+judge_binary p op None _ = Ok None
+judge_binary p op (Some A) None = Ok None
+
+abbrev pub judge_name : Class → Role → Name → Judged (Unit {0})
+judge_name c role n = accepted (name_fault role (meaning_of c n.text)) n.span
+
+-- the expression's type, if it has one
+unfoldable pub judge_expr : Class → Expr → Judged (Option ValueType)
+judge_expr c (Integer s n) = Ok (Some type.Integer)
+judge_expr c (Boolean s b) = Ok (Some type.Boolean)
+judge_expr c (Call n) = judge_name c Value n >>= λ u. Ok (type_of_meaning (meaning_of c n.text))
+judge_expr c (Unary s op a) = judge_expr c a >>= λ A. judge_unary s op A
+judge_expr c (Binary s op a b) = judge_expr c a >>= λ A. judge_expr c b >>= λ B. judge_binary s op A B
+
+-- what has a type conforms to the other, where there is one
+abbrev pub conforming : Option ValueType → Option ValueType → Rule → Span → Judged (Unit {0})
+conforming (Some A) (Some T) r p = required (conforms A T) r (Some p)
+conforming None _ r p = Ok tt
+conforming (Some A) None r p = Ok tt
+
+abbrev pub judge_condition : Class → Expr → Judged (Unit {0})
+judge_condition c e = judge_expr c e >>= λ A. conforming A (Some type.Boolean) NotBoolean (span_of e)
+
+unfoldable mutual
+  pub judge_instr : Class → Instr → Judged (Unit {0})
+  judge_instr c (Assign s n e) =
+      judge_name c Assigned n >>= λ u.
+      judge_expr c e >>= λ A.
+      conforming A (type_of_meaning (meaning_of c n.text)) AssignType (span_of e)
+  judge_instr c (Print s e) = judge_expr c e >>= λ A. Ok tt
+  judge_instr c (PrintText s t) = Ok tt
+  judge_instr c (CallRoutine n) = judge_name c Instruction n
+  judge_instr c (If s e body branches other) =
+      judge_condition c e >>= λ u.
+      judge_instrs c body >>= λ u.
+      judge_branches c branches >>= λ u.
+      judge_instrs c other
+
+  pub judge_instrs : Class → Instrs → Judged (Unit {0})
+  judge_instrs c no_instrs = Ok tt
+  judge_instrs c (instr_then i is) = judge_instr c i >>= λ u. judge_instrs c is
+
+  pub judge_branches : Class → Branches → Judged (Unit {0})
+  judge_branches c no_branches = Ok tt
+  judge_branches c (branch_then e body bs) = judge_condition c e >>= λ u. judge_instrs c body >>= λ u. judge_branches c bs
+
+abbrev pub judge_kind : Class → FeatureKind → Judged (Unit {0})
+judge_kind c (Attribute t) = required (is_some (type_named t.class.text)) UnknownName (Some t.class.span)
+judge_kind c (Routine body) = judge_instrs c body
+
+abbrev pub judge_feature : Class → Feature → Judged (Unit {0})
+judge_feature c f = judge_kind c f.kind
+
+abbrev pub judge_clause : Class → Clause → Judged (Unit {0})
+judge_clause c k =
+    judge_condition c k.condition >>= λ u.
+    required (is_formula c k.condition) InvariantForm (Some (clause_place k.tag k.condition))
+
+unfoldable pub judge_class : Class → Judged (Unit {0})
+judge_class c =
+    judge_each (judge_name c Creator) c.creators >>= λ u.
+    judge_each (judge_feature c) c.features >>= λ u.
+    judge_each (judge_clause c) c.invariant
+
+-- each name, behind the earlier ones, is neither reserved nor like one before it
+abbrev pub judge_names : (List ℕ → Bool) → Rule → List Name → List Name → Judged (Unit {0})
+judge_names is_reserved r earlier [] = Ok tt
+judge_names is_reserved r earlier (n ∷ later) =
+    required (not (is_reserved n.text || is_listed n.text earlier)) r (Some n.span) >>= λ u.
+    judge_names is_reserved r (earlier ++ n ∷ []) later
+
+abbrev pub judge_class_names : List Class → Judged (Unit {0})
+judge_class_names cs = judge_names is_built_in DuplicateClass [] (class_names cs)
+
+abbrev pub judge_names_in : List Feature → Judged (Unit {0})
+judge_names_in fs = judge_names is_print DuplicateFeature [] (feature_names fs)
+
+abbrev pub judge_feature_names : Class → Judged (Unit {0})
+judge_feature_names c = judge_names_in c.features
+
+-- at most `limit` classes, and as many features in each
+abbrev pub is_small : System → Bool
+is_small s = nat_le (length s.classes) limit && list_all (λ c. nat_le (length c.features) limit) s.classes
+
+unfoldable pub judge_system : System → Root → Judged (Unit {0})
+judge_system s root =
+    judge_class_names s.classes >>= λ u.
+    judge_each judge_feature_names s.classes >>= λ u.
+    required (has_root s root) NoRoot None >>= λ u.
+    required (is_small s) Limit None >>= λ u.
+    judge_each judge_class s.classes
+
+-- whether it is refused and how, whatever else it gives
+abbrev pub outcome : {A : Type 0} → Judged A → Judged (Unit {0})
+outcome (Ok x) = Ok tt
+outcome (Err e) = Err e

@@ -1,0 +1,44 @@
+//! `scoop`: checks and runs systems of SCOOP classes.
+//!
+//! A command line names the files of a system. `scoop check` says whether the system is well formed,
+//! and `scoop run` plays it from its root procedure and prints the report of the run.
+#![tactic(auto)]
+
+mod execution;
+mod files;
+mod refusal;
+mod root;
+mod rules;
+mod serve;
+mod source;
+mod words;
+mod world;
+
+use files::SystemFiles;
+use serve::Fault;
+use std::io::ErrorKind;
+use std::process::ExitCode;
+
+fn main(rt: HostRuntime) -> ExitCode {
+    let files = SystemFiles::new(&rt);
+    let status = match command_line(&rt) {
+        Ok(words) => serve::serve(
+            &rt,
+            words.as_slice(),
+            &files,
+            &mut rt.stdout(),
+            &mut rt.stderr(),
+        ),
+        Err(fault) => serve::end_with(&fault, &mut rt.stderr()),
+    };
+    ExitCode::from(status)
+}
+
+/// The words of the command line, of which the first is the program's name.
+fn command_line(rt: &HostRuntime) -> Result<Vec<String>, Fault<'static>> {
+    match std::env::args(rt) {
+        Ok(words) => Ok(words.collect(rt.alloc())?),
+        Err(error) if error.kind() == ErrorKind::OutOfMemory => Err(Fault::OutOfMemory),
+        Err(_) => Err(Fault::NotText),
+    }
+}

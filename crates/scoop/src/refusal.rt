@@ -1,0 +1,149 @@
+// Refusals of a source text, and the line that tells one.
+
+ghost use Rattle.std.specs.Prelude.{◌≡◌, IfOk, string_bytes};
+ghost use Rattle.std.specs.Option.{option_and_then, option_map};
+ghost use Rattle.scoop.specs.Source.{place_of};
+ghost use Rattle.scoop.specs.Refusal as spec;
+
+use crate::rules::fault::CheckFault;
+use crate::source::{Place, Source};
+use sc_parse::ParseFault;
+use sc_text::LexFault;
+use std::alloc::{AllocError, Global};
+
+/// Why a source text is no system that can run.
+#[derive(Debug, Drop)]
+pub enum Rejection {
+    /// It spells no tokens.
+    Text(LexFault),
+    /// Its tokens spell no system, or none that is nested at most 64 deep.
+    Grammar(ParseFault),
+    /// A rule fails in its system.
+    Rules(CheckFault),
+    OutOfMemory,
+}
+
+/// How a refusal is told: its code, its name, and the offset of the byte where it stands, if there is one.
+#[derive(Clone, Copy, Debug, PartialEq, Eq)]
+pub struct Refusal {
+    pub code: &'static str,
+    pub name: &'static str,
+    pub offset: Option<usize>,
+}
+
+impl Refusal {
+    fn new(code: &'static str, name: &'static str, offset: Option<usize>) -> Self
+        ensures { spec.seen result ≡ record { code = code.entry.now; name = name.entry.now; offset = offset } }
+    {
+        Refusal { code, name, offset }
+    }
+
+    /// The line that tells the refusal, `refused CODE Name FILE:LINE:COLUMN`, without a place where
+    /// there is none.
+    pub fn line(&self, alloc: Global, source: &Source) -> Result<String, AllocError>
+        ensures { IfOk result (λ line. string_bytes line ≡ spec.refusal_line self.now.code.now
+            self.now.name.now (option_and_then (place_of source.now) self.now.offset)) }
+    {
+        let code = self.code;
+        let name = self.name;
+        match self.offset.and_then(|offset| source.place_of(offset)) {
+            Some(Place { file, line, column }) => {
+                format!(in alloc; "refused {code} {name} {file}:{line}:{column}\n")
+            }
+            None => format!(in alloc; "refused {code} {name}\n"),
+        }
+    }
+}
+
+impl Rejection {
+    /// How it is told. Want of memory is no refusal.
+    pub fn refusal(&self) -> Option<Refusal>
+        ensures { option_map spec.seen result ≡ spec.told self.now }
+    {
+        match self {
+            Rejection::Text(fault) => text_refusal(fault),
+            Rejection::Grammar(fault) => grammar_refusal(*fault),
+            Rejection::Rules(fault) => Some(rules_refusal(*fault)),
+            Rejection::OutOfMemory => None,
+        }
+    }
+}
+
+fn text_refusal(fault: &LexFault) -> Option<Refusal>
+    ensures { option_map spec.seen result ≡ spec.told_of_text fault.now }
+{
+    match fault {
+        LexFault::BadCharacter { place } => Some(Refusal::new("L1", "BadCharacter", Some(*place))),
+        LexFault::UnclosedString { place } => Some(Refusal::new(
+            "L2",
+            "UnclosedString",
+            Some(*place),
+        )),
+        LexFault::BadEscape { place } => Some(Refusal::new("L3", "BadEscape", Some(*place))),
+        LexFault::IntegerTooLarge { place } => Some(Refusal::new(
+            "L4",
+            "IntegerTooLarge",
+            Some(*place),
+        )),
+        LexFault::SourceTooLong => Some(Refusal::new("L5", "SourceTooLong", None)),
+        LexFault::OutOfMemory => None,
+    }
+}
+
+fn grammar_refusal(fault: ParseFault) -> Option<Refusal>
+    ensures { option_map spec.seen result ≡ spec.told_of_tokens fault }
+{
+    match fault {
+        ParseFault::NotInGrammar { place } => Some(Refusal::new("P1", "NotInGrammar", Some(place))),
+        ParseFault::TooDeep { place } => Some(Refusal::new("P2", "TooDeep", Some(place))),
+        ParseFault::OutOfMemory => None,
+    }
+}
+
+fn rules_refusal(fault: CheckFault) -> Refusal
+    ensures { spec.seen result ≡ spec.told_of_system fault }
+{
+    let offset = match fault.place {
+        Some(span) => Some(span.start),
+        None => None,
+    };
+    Refusal::new(fault.rule.code(), fault.rule.name(), offset)
+}
+
+impl From<AllocError> for Rejection {
+    ghost from_gives = { λ _ rejection. rejection ≡ spec.out_of_memory };
+
+    fn from(_error: AllocError) -> Rejection {
+        Rejection::OutOfMemory
+    }
+}
+
+impl From<LexFault> for Rejection {
+    ghost from_gives = { λ fault rejection. rejection ≡ spec.of_text fault };
+
+    fn from(fault: LexFault) -> Rejection {
+        match fault {
+            LexFault::OutOfMemory => Rejection::OutOfMemory,
+            _ => Rejection::Text(fault),
+        }
+    }
+}
+
+impl From<ParseFault> for Rejection {
+    ghost from_gives = { λ fault rejection. rejection ≡ spec.of_tokens fault };
+
+    fn from(fault: ParseFault) -> Rejection {
+        match fault {
+            ParseFault::OutOfMemory => Rejection::OutOfMemory,
+            _ => Rejection::Grammar(fault),
+        }
+    }
+}
+
+impl From<CheckFault> for Rejection {
+    ghost from_gives = { λ fault rejection. rejection ≡ spec.of_system fault };
+
+    fn from(fault: CheckFault) -> Rejection {
+        Rejection::Rules(fault)
+    }
+}

@@ -1,0 +1,116 @@
+// The words of the command line.
+
+use super::call;
+use crate::files::fake::FakeFile;
+use std::test::Fail;
+
+const TEXT: &str = "class APPLICATION create make feature make do print (\"here\") end end";
+
+const REPORT: &str = "handler 0 free refused 0 output 4\nhere\nstopped idle\n";
+
+#[test]
+fn takes_options_in_any_place(rt: HostRuntime) -> Result<(), Fail> {
+    let files = [
+        FakeFile::new("a.e", TEXT),
+        FakeFile::new("b.e", ""),
+        FakeFile::new("--turns", ""),
+    ];
+    let cases: [(&[&str], &str); 8] = [
+        (&["scoop", "check", "a.e"], "ok\n"),
+        (
+            &["scoop", "check", "a.e", "--root", "Application.MAKE", "b.e"],
+            "ok\n",
+        ),
+        (&["scoop", "run", "a.e"], REPORT),
+        (&["scoop", "run", "a.e", "--turns=10000000"], REPORT),
+        (&["scoop", "run", "a.e", "--turns", "+5", "b.e"], REPORT),
+        (
+            &[
+                "scoop",
+                "run",
+                "--turns",
+                "05",
+                "--root",
+                "application.make",
+                "a.e",
+            ],
+            REPORT,
+        ),
+        (&["scoop", "run", "--", "a.e", "--turns"], REPORT),
+        (
+            &["scoop", "run", "--turns", "1", "a.e"],
+            "handler 0 busy refused 0 output 0\n\nstopped limit\n",
+        ),
+    ];
+    for (words, wanted) in cases {
+        let outcome = call(&rt, words, &files)?;
+        assert_eq!(rt; outcome.err.as_str(), "", "for {words:?}");
+        assert_eq!(rt; outcome.out.as_str(), wanted, "for {words:?}");
+    }
+    Ok(())
+}
+
+#[test]
+fn refuses_other_words(rt: HostRuntime) -> Result<(), Fail> {
+    let files = [FakeFile::new("a.e", TEXT)];
+    let cases: [&[&str]; 14] = [
+        &["scoop"],
+        &["scoop", "a.e"],
+        &["scoop", "run"],
+        &["scoop", "check", "--root", "A.f"],
+        &["scoop", "check", "--turns", "1", "a.e"],
+        &["scoop", "run", "--turns", "0", "a.e"],
+        &["scoop", "run", "--turns", "10000001", "a.e"],
+        &["scoop", "run", "--turns", "-1", "a.e"],
+        &["scoop", "run", "--turns", "1e3", "a.e"],
+        &["scoop", "run", "--turns", "", "a.e"],
+        &["scoop", "run", "--turns", "1", "--turns", "1", "a.e"],
+        &["scoop", "run", "a.e", "--turns"],
+        &["scoop", "run", "--fast", "a.e"],
+        // Other faults of the words come before a bad root.
+        &["scoop", "run", "--root", "A", "--turns", "0", "a.e"],
+    ];
+    for words in cases {
+        let outcome = call(&rt, words, &files)?;
+        assert_eq!(rt; outcome.status, 2, "for {words:?}");
+        assert_eq!(rt; outcome.out.as_str(), "", "for {words:?}");
+        assert!(rt;
+            outcome.err.as_str().contains("Usage: ") || outcome.err.as_str().starts_with("error: ")
+        );
+    }
+    Ok(())
+}
+
+#[test]
+fn tells_a_bad_root(rt: HostRuntime) -> Result<(), Fail> {
+    let roots = [
+        "", "A", "A.", ".f", "A.f.g", "A..f", "A .f", " A.f", "A.f ", "A.f\n", "A.f--", "A:f",
+        "A.1", "1A.f", "_A.f", "A.class", "class.f", "A.\u{e9}", "A-B.f",
+    ];
+    for root in roots {
+        // The root is at fault before the file, which isn't there.
+        let outcome = call(&rt, &["scoop", "check", "--root", root, "a.e"], &[])?;
+        assert_eq!(rt; outcome.err.as_str(), "bad root\n", "for {root}");
+        assert_eq!(rt; outcome.out.as_str(), "", "for {root}");
+        assert_eq!(rt; outcome.status, 2, "for {root}");
+    }
+    Ok(())
+}
+
+#[test]
+fn helps(rt: HostRuntime) -> Result<(), Fail> {
+    let cases: [(&[&str], &str); 5] = [
+        (&["scoop", "--help"], "Usage: scoop <COMMAND>"),
+        (&["scoop", "run", "--help"], "--turns <N>"),
+        (&["scoop", "check", "--help"], "[default: APPLICATION.make]"),
+        (&["scoop", "help", "run"], "stopped limit"),
+        (&["scoop", "--version"], "scoop 0.1.0\n"),
+    ];
+    for (words, wanted) in cases {
+        let outcome = call(&rt, words, &[])?;
+        assert!(rt; outcome.out.as_str().contains(wanted), "for {words:?}");
+        assert_eq!(rt; outcome.err.as_str(), "", "for {words:?}");
+        assert_eq!(rt; outcome.status, 0, "for {words:?}");
+    }
+    Ok(())
+}
