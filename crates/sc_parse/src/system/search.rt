@@ -8,12 +8,19 @@ use std::alloc::Global;
 use std::test::Fail;
 
 /// Sources whose beginnings are looked at.
-const SOURCES: [&str; 5] = [
+const SOURCES: [&str; 12] = [
     "class a create f , g feature x , y : integer ; z : boolean f do end invariant t : x ; ( y ) end class",
     "class a feature f do if x then g elseif not y then else h end ; x := 1 + 2 * 3",
     "class a feature f do print ( ( 1 ) ) ; print ( \"s\" ) print if x then if",
     "class a invariant y < z or else",
     "class a invariant - ( 1 )",
+    "class a feature x : integer feature f do x := ( 1 ) * 3 end end",
+    "class a create f feature f do end end",
+    "class a feature f do ; ; x ; print ( 1 ) ; end end",
+    "class a feature f do if x and then y then end ; x := y or else not z end end",
+    "class a invariant ; t : x ; ; u : not y end class",
+    "class a feature f do x := - 1 implies y xor z",
+    "class a feature integer : integer g do print := 1 end",
 ];
 
 /// The words that are tried after each beginning.
