@@ -1,16 +1,14 @@
 -- From a text to its system.
-use Rattle.std.proofs.Common.{◌≡◌, ℕ, ◌<◌, ◌≤◌, List, [], ◌∷◌, Option, Some, None, Result, Ok, Err, IfErr, IsErrAnd, MatchResult, length, map, refl, ap, sym, ◌∙◌, subst, arith}
+use Rattle.std.proofs.Common.{◌≡◌, ℕ, ◌<◌, ◌≤◌, List, [], ◌∷◌, Result, Ok, Err, IfErr, IsErrAnd, MatchResult, length, refl, ap, sym, ◌∙◌, subst, arith}
 use Rattle.sc_text.specs.Kind.{Kind, kinds_of}
 use Rattle.sc_text.specs.declared.token.Token.{Token}
-use Rattle.sc_text.specs.Spelling.{Lexeme, Spells, lexemes_of, lexeme_of}
+use Rattle.sc_text.specs.Spelling.{Spells, lexemes_of, lexeme_of}
 use Rattle.sc_tree.specs.Plain.{System}
 use Rattle.sc_tree.specs.Grammar.{IsSystem}
 use Rattle.sc_parse.specs.Parses.{Refuses}
 use Rattle.sc_parse.specs.declared.fault.ParseFault.{ParseFault}
 use Rattle.sc_parse.specs.declared.fault.ParseFault.TheVariants as parsing
 use Rattle.sc_model.specs.Lookup.{Root}
-use Rattle.scoop.specs.declared.refusal.Rejection.{Rejection}
-use Rattle.scoop.specs.declared.refusal.Rejection.TheVariants as rejection
 use Rattle.scoop.specs.Refusal.{of_tokens}
 use Rattle.scoop.specs.Execution.{kinds, IsSpelled, IsRefusedFor}
 

@@ -1,21 +1,16 @@
 -- Turns of handler 0, one after the other.
-use Rattle.std.proofs.Common.{◌≡◌, ℕ, suc, ◌+◌, ◌<◌, ◌≤◌, ◌⊎◌, inl, inr, List, [], ◌∷◌, ◌++◌, Option, Some, None, Bool, true, false, length, map, replicate, slice_get, refl, ap, sym, ◌∙◌, subst, arith, find, cond}
-use Rattle.std.specs.Prelude.{Any, bytes_eq}
+use Rattle.std.proofs.Common.{◌≡◌, ℕ, ◌+◌, ◌≤◌, ◌⊎◌, List, [], ◌∷◌, Option, Bool, true, false, replicate, slice_get, refl, ap, ◌∙◌, subst}
 use Rattle.std.specs.Option.{option_map}
-use Rattle.std.proofs.lemmas.List.{replicate-append-replicate, length-map}
-use Rattle.sc_tree.specs.Plain.{Class, System}
+use Rattle.std.proofs.lemmas.List.{replicate-append-replicate}
+use Rattle.sc_tree.specs.Plain.{System}
 use Rattle.sc_model.specs.declared.status.Status.{Status}
-use Rattle.sc_model.specs.Lookup.{Root, class_named}
-use Rattle.sc_model.specs.Handler.{Handler, Request, Frame, Create, has_turn, has_turn_with}
-use Rattle.sc_model.specs.Turn.{turn, turn_with, take}
-use Rattle.sc_model.specs.World.{World, opening, run, step, has_turn_at}
+use Rattle.sc_model.specs.Lookup.{Root}
+use Rattle.sc_model.specs.Handler.{Handler, Request, Frame, has_turn_with}
+use Rattle.sc_model.specs.Turn.{turn_with, take}
+use Rattle.sc_model.specs.World.{World, opening, run, has_turn_at}
 use Rattle.sc_model.specs.Report.{report, status_of}
-use Rattle.scoop.specs.declared.rules.rule.Rule.TheVariants.{Limit}
-use Rattle.scoop.specs.declared.world.Turned.{Turned}
-use Rattle.scoop.specs.declared.world.Turned.TheVariants.{Moved, Nothing}
+use Rattle.scoop.specs.declared.world.Turned.TheVariants.{Nothing}
 use Rattle.scoop.specs.Kept.{Kept, opened, after_run, turned_of}
-use Rattle.scoop.specs.ClassRules.{ClassRuleFails, many_features}
-use Rattle.scoop.specs.Rules.{Fails, class_rule, IsWellFormed}
 use Rattle.scoop.specs.Execution.{IsRun}
 use Rattle.scoop.proofs.Worlds.{after_run-append}
 

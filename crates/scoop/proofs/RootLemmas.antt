@@ -1,14 +1,12 @@
 -- Names, as the tokens of a text.
-use Rattle.std.proofs.Common.{◌≡◌, ℕ, ◌+◌, ◌≤◌, ◌<◌, ◌==◌, ◌&&◌, List, [], ◌∷◌, ◌++◌, Option, Some, None, Bool, true, false, length, map, take, drop, refl, sym, ap, subst, arith, append-nil, zero-add, ◌∙◌, if◌then◌else◌, IsTrue, IsFalse, slice_range, get_or, Bor, MatchOption, lit<, zero, suc}
+use Rattle.std.proofs.Common.{◌≡◌, ℕ, ◌+◌, ◌≤◌, ◌<◌, ◌==◌, ◌&&◌, List, [], ◌∷◌, ◌++◌, Option, Some, None, Bool, true, false, length, map, drop, refl, ap, subst, arith, append-nil, zero-add, ◌∙◌, if◌then◌else◌, slice_range, get_or, Bor, MatchOption, lit<, zero, suc}
 use Rattle.std.specs.Char.{to_ascii_lowercase}
 use Rattle.std.proofs.lemmas.List.{length-append}
 use Rattle.std.proofs.lemmas.Grind.{common_steps}
 use Rattle.std.proofs.lemmas.Bool.{eqb-true}
 use Rattle.std.proofs.lemmas.Bool.Decides.{nat_tests}
-use Rattle.sc_text.specs.declared.token.Span.{Span}
 use Rattle.sc_text.specs.Kind.{Kind, NAME, INTEGER, STRING, TERMINAL}
 use Rattle.sc_text.specs.Spelling.{IsWord, IsToken, name, Lexeme, Spells, BeginsWith, here, token, StandInOrder}
-use Rattle.sc_text.specs.Words.{reserved}
 use Rattle.std.proofs.lemmas.List.Sums.{AllPass-from_list_all}
 use Rattle.std.proofs.lemmas.Str.Pattern.{IsSplitOnceResult, split_after}
 use Rattle.sc_text.specs.Characters.{is_letter, is_name_part}

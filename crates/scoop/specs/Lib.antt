@@ -1,3 +1,4 @@
+pub mod Answer
 pub mod BindingView
 pub mod ClassRules
 pub mod Execution

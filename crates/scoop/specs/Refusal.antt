@@ -1,6 +1,5 @@
 -- How a refusal is told.
 use Rattle.std.specs.Prelude.{ℕ, List, [], ◌∷◌, ◌++◌, Option, Some, None, codes, decimal}
-use Rattle.std.specs.Option.{option_map}
 use Rattle.sc_text.specs.declared.token.Span.{Span}
 use Rattle.sc_text.specs.declared.fault.LexFault.{LexFault}
 use Rattle.sc_text.specs.declared.fault.LexFault.TheVariants as lexing

@@ -1,5 +1,9 @@
 // One call of the program, from its words to its status.
 
+ghost use Rattle.std.specs.Prelude.{◌≡◌, IfOk};
+ghost use Rattle.scoop.specs.Answer as spec;
+ghost use Rattle.scoop.specs.Answer.{IsAnswerTo};
+
 use crate::execution::{check_text, run_text};
 use crate::files::{Files, read_text};
 use crate::refusal::Rejection;
@@ -147,7 +151,9 @@ fn read_source<'a, F: Files>(
 }
 
 /// Checks the system of a source text, and runs it where that is asked for.
-fn examine(alloc: Global, command: &Command, text: &str) -> Result<Answer, Rejection> {
+fn examine(alloc: Global, command: &Command, text: &str) -> Result<Answer, Rejection>
+    ensures { IfOk result (λ answer. IsAnswerTo command.now text.now answer.text.items answer.exit) }
+{
     match command {
         Command::Check(options) => {
             check_text(alloc, text, &options.root)?;
@@ -167,7 +173,9 @@ fn examine(alloc: Global, command: &Command, text: &str) -> Result<Answer, Rejec
 }
 
 /// What the program ends with where the handlers are left like that.
-fn exit_of(status: Option<Status>) -> Exit {
+fn exit_of(status: Option<Status>) -> Exit
+    ensures { result ≡ spec.exit_of status }
+{
     match status {
         Some(Status::Failed(_)) => Exit::Failed,
         Some(Status::Busy | Status::Waiting) => Exit::Unfinished,

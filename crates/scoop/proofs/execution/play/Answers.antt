@@ -1,10 +1,8 @@
-use Rattle.std.proofs.Common.{◌≡◌, ◌∙◌, ◌+◌, ◌≤◌, ◌∷◌, [], false, rules, inl, inr, length, refl, sym, ap, arith}
-use Rattle.std.proofs.lemmas.List.{length-map}
+use Rattle.std.proofs.Common.{◌≡◌, ◌∙◌, ◌∷◌, [], false, rules, inl, inr, ap, arith}
 use Rattle.sc_model.specs.World.{has_turn_at}
 use Rattle.scoop.specs.declared.world.Turned.TheVariants.{Nothing}
-use Rattle.sc_tree.specs.View.{system_of, class_of}
-use Rattle.scoop.specs.RootView.{root_at}
-use Rattle.scoop.specs.Kept.{opened, after_run}
+use Rattle.sc_tree.specs.View.{class_of}
+use Rattle.scoop.specs.Kept.{after_run}
 use Rattle.scoop.proofs.PlayLemmas.{kept-stands, one-more, nothing-due, run-told}
 use Rattle.scoop.proofs.execution.play.Goals as goal
 use Rattle.scoop.proofs.execution.play.Goals.{else-loop-test, then-loop-test+in_ok-turn+then-eq}

@@ -1,4 +1,4 @@
-use Rattle.std.proofs.Common.{◌≡◌, ap}
+use Rattle.std.proofs.Common.{ap}
 use Rattle.scoop.specs.Execution.{IsRefusedFor}
 use Rattle.scoop.specs.Refusal.{of_tokens, out_of_memory}
 use Rattle.scoop.proofs.ExecutionLemmas.{tree-spelled, tokens-refused, tree-found, err-is, only-err-is}

@@ -1,4 +1,4 @@
-use Rattle.std.proofs.Common.{◌≡◌, ap, string_bytes}
+use Rattle.std.proofs.Common.{ap, string_bytes}
 use Rattle.scoop.specs.declared.files.TheConstants.{READ_LIMIT}
 use Rattle.scoop.proofs.FileLemmas.{read-whole}
 use Rattle.scoop.proofs.files.read_text.Goals as goal

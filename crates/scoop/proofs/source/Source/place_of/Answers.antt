@@ -1,4 +1,4 @@
-use Rattle.std.proofs.Common.{◌≡◌, ◌∙◌, ◌+◌, ◌-◌, length, refl}
+use Rattle.std.proofs.Common.{◌∙◌, ◌+◌, ◌-◌, length, refl}
 use Rattle.scoop.proofs.SourceLemmas.{files-next}
 use Rattle.scoop.proofs.source.Source.place_of.Goals as goal
 
