@@ -1,5 +1,5 @@
 -- Reading in steps: what holds of an answer, and how much room an answer needs.
-use Rattle.std.proofs.Common.{◌≡◌, ℕ, ◌≤◌, ◌<◌, max, Bool, true, false, List, ◌++◌, Result, Ok, Err, refl, ap, sym, ◌∙◌, append_assoc, arith, rules}
+use Rattle.std.proofs.Common.{◌∷◌, ◌≡◌, ℕ, ◌≤◌, ◌<◌, max, Bool, true, false, List, ◌++◌, Result, Ok, Err, refl, ap, sym, ◌∙◌, append_assoc, arith, rules}
 use Rattle.std.specs.Prelude.{nat_le, if◌then◌else◌}
 use Rattle.sc_text.specs.Kind.{Kind}
 use Rattle.sc_tree.specs.Reading.{Fault, Deep, Read, ◌>>=◌}
@@ -67,6 +67,13 @@ pub record Added {A : Type 0} (join : A → A → A) (Is : A → List Kind → �
 -- two stretches of tokens, one after the other
 pub through : (ts c r d rest : List Kind) → ts ≡ c ++ r → r ≡ d ++ rest → ts ≡ (c ++ d) ++ rest
 through ts c r d rest e q = e ∙ ap (λ (r : List Kind). c ++ r) q ∙ sym (append_assoc c d rest)
+
+-- one stretch of tokens behind a word and before another, as it is read
+pub behind_word : (c cs r : List Kind) (k : Kind) → (c ++ k ∷ cs) ++ r ≡ c ++ k ∷ (cs ++ r)
+behind_word c cs r k = append_assoc c (k ∷ cs) r
+
+pub between : (c s cs r : List Kind) → (c ++ (s ++ cs)) ++ r ≡ c ++ (s ++ (cs ++ r))
+between c s cs r = simp append_assoc
 
 -- ---- how much room is needed
 

@@ -1,422 +1,224 @@
--- Reading gives each tree that tokens spell, where what follows doesn't go on with it: assertions, features and classes.
-use Rattle.std.proofs.Common.{◌≡◌, ℕ, zero, suc, ◌+◌, ◌≤◌, max, true, false, List, [], ◌∷◌, ◌++◌, length, Option, Some, None, Ok, refl, ap, sym, ◌∙◌, subst, append_assoc, append-nil, length-append, arith}
-use Rattle.std.specs.Prelude.{map}
-use Rattle.sc_text.specs.Kind.{Kind, NAME, INTEGER, STRING, TERMINAL}
-use Rattle.sc_text.specs.declared.token.Terminal.{Terminal}
+-- Reading gives each tree that tokens spell, where what follows doesn't go on with it: classes.
+use Rattle.std.proofs.Common.{◌≡◌, ℕ, zero, suc, ◌≤◌, max, Bool, true, false, List, [], ◌∷◌, ◌++◌, length, Option, Ok, refl, ap, sym, ◌∙◌, subst, append_assoc, append-nil, length-append, arith}
+use Rattle.std.specs.Prelude.{not, ◌||◌}
+use Rattle.sc_text.specs.Kind.{Kind, NAME, TERMINAL}
 use Rattle.sc_text.specs.declared.token.Terminal.TheVariants as terminal
-use Rattle.sc_tree.specs.declared.expression.BinaryOperator.{BinaryOperator}
-use Rattle.sc_tree.specs.declared.expression.BinaryOperator.TheVariants as binary
-use Rattle.sc_tree.specs.Plain.{Name, Expr, Instrs, DeclaredType, Feature, Clause, Class}
+use Rattle.sc_tree.specs.Plain.{Name, Feature, Parent, ClassMark, Clause, Class}
 use Rattle.sc_tree.specs.Bare.{named}
 use Rattle.sc_tree.specs.Grammar as grammar
-use Rattle.sc_tree.specs.Grammar.{top, prefix_of, spelling, is_basic, goes_on, attribute_of, routine_of, class_of, IsPrimary, IsExpr, IsClause, IsClauses, IsNames, IsType, IsFeature, IsSemicolons, IsFeatures, IsSections, IsCreators, IsInvariant, IsClass, IsClasses}
-use Rattle.sc_tree.specs.Reading.{Read, ◌>>=◌, same_terminal, sees, expect, skip_semicolons, name, name_ahead, begins_expr, tag_ahead, past_tag, expr, instrs, clause, clauses_from, clauses, more_names, names, declared_type, routine, attributes, feature, features_from, sections_from, sections, creators, invariant, class, classes_from}
-use Rattle.sc_tree.proofs.Combining.{Comes, fits, both, surely, lastly, along, needs, same_reads, nested_max, grown, where_false, choose_true, choose_false}
-use Rattle.sc_tree.proofs.Looks.{expect_self, sees_self, no_second}
-use Rattle.sc_tree.proofs.Lists.{skip_one, skip_none, skip_all, skip_shorter}
-use Rattle.sc_tree.proofs.Follows.{Apart, apart_sees, apart_goes_on, begins_apart, expr_begins}
-use Rattle.sc_tree.proofs.CompleteExpressions.{complete_expr}
-use Rattle.sc_tree.proofs.CompleteInstructions.{complete_body, end_ends}
+use Rattle.sc_tree.specs.Grammar.{IsInstrs, declared_as, attribute_of, routine_of, class_of, heads_class, ends_class, exported_to, none_name, IsNames, IsOptional, IsType, IsDeclaration, IsDeclarations, IsFormals, IsLocalList, IsLocals, IsResultType, IsFeature, IsSemicolons, IsFeatures, IsExports, IsSections, IsFree, IsNote, IsMark, IsParent, IsParentList, IsParents, IsCreators, IsAssertion, IsClass, IsClasses}
+use Rattle.sc_tree.specs.Reading.{Read, ◌>>=◌, is_terminal, same_terminal, sees, expect, skip, name_ahead, names, assertion, past_free, past_note, mark, parent, parents_from, parents, creators, is_done, sections, class_marked, class, classes_from}
+use Rattle.sc_tree.proofs.Combining.{between, Comes, fits, both, surely, lastly, along, needs, grown, bind_ok, choose_true, choose_false}
+use Rattle.sc_tree.proofs.Looks.{expect_self, sees_self}
+use Rattle.sc_tree.proofs.Lists.{some_tokens}
+use Rattle.sc_tree.proofs.CompleteTypes.{complete_names}
+use Rattle.sc_tree.proofs.CompleteAssertions.{ClausesEnd, complete_assertion}
+use Rattle.sc_tree.proofs.Order.{Behind, behind, class_ends_clauses, class_rank, later, named_unseen, unnamed, unseen}
+use Rattle.sc_tree.proofs.CompleteDeclarations.{optional_shorter, optional_unseen, skip_optional}
+use Rattle.sc_tree.proofs.CompleteFeatures.{SectionsEnd, complete_sections}
 
--- ---- clauses
+-- ---- notes and marks
 
-operator_no_colon : (op : BinaryOperator) (r : List Kind) → sees terminal.Colon (spelling op ++ r) ≡ false
+free_read : (stops : Kind → Bool) (t : Kind) (r : List Kind) → stops t ≡ true → {c : List Kind} → IsFree stops c → past_free stops (c ++ t ∷ r) ≡ t ∷ r
+free_read stops t r e grammar.no_token = choose_true _ _ _ e
+free_read stops t r e (grammar.token k n d) = choose_false _ _ _ n ∙ free_read stops t r e d
+
+note_read : (stops : Kind → Bool) (t : Kind) (r : List Kind) → stops t ≡ true → (is_terminal terminal.Note t || is_terminal terminal.Indexing t) ≡ false → {c : List Kind} → IsNote stops c → past_note stops (c ++ t ∷ r) ≡ t ∷ r
 unfolding same_terminal
-operator_no_colon binary.Times r = refl
-operator_no_colon binary.Quotient r = refl
-operator_no_colon binary.Remainder r = refl
-operator_no_colon binary.Plus r = refl
-operator_no_colon binary.Minus r = refl
-operator_no_colon binary.Equal r = refl
-operator_no_colon binary.NotEqual r = refl
-operator_no_colon binary.Less r = refl
-operator_no_colon binary.Greater r = refl
-operator_no_colon binary.LessEqual r = refl
-operator_no_colon binary.GreaterEqual r = refl
-operator_no_colon binary.And r = refl
-operator_no_colon binary.AndThen r = refl
-operator_no_colon binary.Or r = refl
-operator_no_colon binary.OrElse r = refl
-operator_no_colon binary.Xor r = refl
-operator_no_colon binary.Implies r = refl
+note_read stops t r e n grammar.no_note = choose_false _ _ _ n
+note_read stops t r e n (grammar.note d) = free_read stops t r e d
+note_read stops t r e n (grammar.indexing d) = free_read stops t r e d
 
-primary_untagged : {t : Expr} {c : List Kind} {h : ℕ} → IsPrimary t c h → (r : List Kind) → sees terminal.Colon r ≡ false → tag_ahead (c ++ r) ≡ None
-primary_untagged (grammar.integer n) r e = refl
-primary_untagged grammar.true_constant r e = refl
-primary_untagged grammar.false_constant r e = refl
-primary_untagged (grammar.name x) r e = choose_false _ _ _ e
-primary_untagged (grammar.parenthesized d) r e = refl
-
--- An expression doesn't look like a tag.
-expr_untagged : {k : ℕ} {t : Expr} {c : List Kind} {h : ℕ} → IsExpr k t c h → (r : List Kind) → sees terminal.Colon r ≡ false → tag_ahead (c ++ r) ≡ None
-expr_untagged (grammar.primary d) r e = primary_untagged d r e
-expr_untagged (grammar.prefixed op d) r e = refl
-expr_untagged (grammar.tighter d) r e = expr_untagged d r e
-expr_untagged (grammar.left op g {a} {b} {ca} {cb} da db) r e =
-    rw (append_assoc ca (spelling op ++ cb) r) (expr_untagged da ((spelling op ++ cb) ++ r) (ap (sees terminal.Colon) (append_assoc (spelling op) cb r) ∙ operator_no_colon op (cb ++ r)))
-expr_untagged (grammar.alone op g {a} {b} {ca} {cb} da db) r e =
-    rw (append_assoc ca (spelling op ++ cb) r) (expr_untagged da ((spelling op ++ cb) ++ r) (ap (sees terminal.Colon) (append_assoc (spelling op) cb r) ∙ operator_no_colon op (cb ++ r)))
-
--- a clause, where its tag is known
-abbrev clause_with : ℕ → List Kind → Option Name → Read Clause
-clause_with n ts o = expr n top (past_tag o ts) >>= λ t. Ok (record { tag = o; condition = t.0 }, t.1, t.2)
-
-complete_clause : {x : Clause} {c : List Kind} {h : ℕ} → IsClause x c h → (r : List Kind) → Apart r → (n : ℕ) → Comes n h (x, h, r) (clause n (c ++ r))
-unfolding clause
-complete_clause (grammar.untagged {t} {c} {h} d) r a n =
-    along n h h (record { tag = None; condition = t }, h, r) _ _ _ refl refl (ap (clause_with n (c ++ r)) (expr_untagged d r (apart_sees terminal.Colon r refl a))) (lastly n h (t, h, r) _ _ _ (complete_expr d r a n) refl)
-complete_clause (grammar.tagged x {t} {c} {h} d) r a n =
-    along n h h (record { tag = Some (named x); condition = t }, h, r) _ _ _ refl refl (ap (clause_with n (NAME x ∷ TERMINAL terminal.Colon ∷ (c ++ r))) (tag_seen (c ++ r))) (lastly n h (t, h, r) _ _ _ (complete_expr d r a n) refl)
-  where
-    tag_seen : (r : List Kind) → tag_ahead (NAME x ∷ TERMINAL terminal.Colon ∷ r) ≡ Some (named x)
-    tag_seen r = choose_true _ _ _ (sees_self terminal.Colon r)
-
-clause_begins : {x : Clause} {c : List Kind} {h : ℕ} → IsClause x c h → (r : List Kind) → begins_expr (c ++ r) ≡ true
-clause_begins (grammar.untagged d) r = expr_begins d r
-clause_begins (grammar.tagged x d) r = refl
-
-long_by : (c : List Kind) → begins_expr (c ++ []) ≡ true → 1 ≤ length c
-long_by [] e = cc
-long_by (k ∷ c) e = omega arith
-
-clause_long : {x : Clause} {c : List Kind} {h : ℕ} → IsClause x c h → 1 ≤ length c
-clause_long {x} {c} d = long_by c (clause_begins d [])
-
--- No clause begins here, and nothing goes on with one.
-record ClausesEnd (r : List Kind) : Type 0 where
-  pub begins : begins_expr r ≡ false
-  pub semicolon : sees terminal.Semicolon r ≡ false
-  pub apart : Apart r
-
-goes_on_after : (c r : List Kind) → begins_expr c ≡ true → goes_on c ≡ false → goes_on (c ++ r) ≡ false
-goes_on_after [] r b e = cc
-goes_on_after (NAME x ∷ c) r b e = e
-goes_on_after (INTEGER n ∷ c) r b e = e
-goes_on_after (STRING s ∷ c) r b e = e
-goes_on_after (TERMINAL m ∷ c) r b e = e
-
-clauses_apart : {xs : List Clause} {c : List Kind} {h : ℕ} → IsClauses xs c h → goes_on c ≡ false → (r : List Kind) → Apart r → Apart (c ++ r)
-clauses_apart grammar.no_clause g r a = a
-clauses_apart (grammar.semicolon_clauses d) g r a = refl
-clauses_apart (grammar.clause {x} {xs} {c} {cs} d g' ds) g r a =
-    begins_apart ((c ++ cs) ++ r) (rw (append_assoc c cs r) (clause_begins d (cs ++ r))) (goes_on_after (c ++ cs) r (clause_begins d cs) g)
-
-ClausesRead : List Clause → List Kind → ℕ → Type 0
-ClausesRead xs c h = (r : List Kind) → ClausesEnd r → (n f : ℕ) (found : List Clause) (high : ℕ) → length (skip_semicolons (c ++ r)) ≤ f → high ≤ n →
-    Comes n h (found ++ xs, max high h, r) (clauses_from n f found high (skip_semicolons (c ++ r)))
-
-clauses_stay : (n f : ℕ) (found : List Clause) (high : ℕ) (r : List Kind) → begins_expr r ≡ false → clauses_from n f found high r ≡ Ok (found, high, r)
-unfolding clauses_from
-clauses_stay n zero found high r e = refl
-clauses_stay n (suc f) found high r e = choose_false _ _ _ e
-
-no_clause_step : ClausesRead [] [] 0
-unfolding ClausesRead
-no_clause_step r e n f found high len l =
-    let w : high ≡ max high 0 = omega arith in
-    fits (omega arith) (ap (clauses_from n f found high) (skip_none r e.semicolon) ∙ clauses_stay n f found high r e.begins ∙ ap (λ (s : List Clause). Ok (s, high, r)) (sym (append-nil found)) ∙ ap (λ (m : ℕ). Ok (found ++ [], m, r)) w)
-
-semicolon_step : (xs : List Clause) (c : List Kind) (h : ℕ) → ClausesRead xs c h → ClausesRead xs (TERMINAL terminal.Semicolon ∷ c) h
-unfolding ClausesRead
-semicolon_step xs c h all r e n f found high len l =
-    rw (skip_one (c ++ r)) (all r e n f found high (subst (λ (ts : List Kind). length ts ≤ f) (skip_one (c ++ r)) len) l)
-
--- one clause, and the rest of them
-clause_step : (n f : ℕ) (found : List Clause) (high h hs : ℕ) (x : Clause) (xs : List Clause) (ts r' r : List Kind) → begins_expr ts ≡ true → Apart r' → high ≤ n → Comes n h (x, h, r') (clause n ts) →
-    (max high h ≤ n → Comes n hs ((found ++ x ∷ []) ++ xs, max (max high h) hs, r) (clauses_from n f (found ++ x ∷ []) (max high h) (skip_semicolons r'))) →
-    Comes n (max h hs) (found ++ x ∷ xs, max high (max h hs), r) (clauses_from n (suc f) found high ts)
-unfolding clauses_from
-clause_step n f found high h hs x xs ts r' r b a l d more =
-    grown n high h h hs hs (max h hs) x _ _ r' r _ _ _ (choose_true _ _ _ b) (append_assoc found (x ∷ []) xs) refl d (λ p. where_false _ _ _ _ _ _ (apart_goes_on r' a) (more (omega arith)))
-
-clause_at : (n h hs : ℕ) (x : Clause) (xs : List Clause) (c cs r : List Kind) → begins_expr (c ++ (cs ++ r)) ≡ true → Apart (cs ++ r) → 1 ≤ length c → Comes n h (x, h, cs ++ r) (clause n (c ++ (cs ++ r))) →
-    ((f : ℕ) (found : List Clause) (high : ℕ) → length (skip_semicolons (cs ++ r)) ≤ f → high ≤ n → Comes n hs (found ++ xs, max high hs, r) (clauses_from n f found high (skip_semicolons (cs ++ r)))) →
-    (f : ℕ) (found : List Clause) (high : ℕ) → length (c ++ (cs ++ r)) ≤ f → high ≤ n → Comes n (max h hs) (found ++ x ∷ xs, max high (max h hs), r) (clauses_from n f found high (c ++ (cs ++ r)))
-clause_at n h hs x xs c cs r b a k d more zero found high len l = let e = length-append c (cs ++ r) in absurd (omega arith)
-clause_at n h hs x xs c cs r b a k d more (suc f) found high len l =
-    let e = length-append c (cs ++ r) in
-    let s = skip_shorter (cs ++ r) in
-    clause_step n f found high h hs x xs _ (cs ++ r) r b a l d (λ m. more f (found ++ x ∷ []) (max high h) (omega arith) m)
-
-some_clause_step : (h hs : ℕ) (x : Clause) (xs : List Clause) (c cs : List Kind) → IsClause x c h → goes_on cs ≡ false → IsClauses xs cs hs → ClausesRead xs cs hs → ClausesRead (x ∷ xs) (c ++ cs) (max h hs)
-unfolding ClausesRead
-some_clause_step h hs x xs c cs d g ds more r e n f found high len l =
-    rw same (clause_at n h hs x xs c cs r (clause_begins d (cs ++ r)) (clauses_apart ds g r e.apart) (clause_long d) (complete_clause d (cs ++ r) (clauses_apart ds g r e.apart) n) (more r e n) f found high
-    (subst (λ (ts : List Kind). length ts ≤ f) same len) l)
-  where
-    same : skip_semicolons ((c ++ cs) ++ r) ≡ c ++ (cs ++ r)
-    same = ap skip_semicolons (append_assoc c cs r) ∙ skip_none (c ++ (cs ++ r)) (no_second terminal.Semicolon (c ++ (cs ++ r)) (clause_begins d (cs ++ r)) refl)
-
-complete_clauses_from : {xs : List Clause} {c : List Kind} {h : ℕ} → IsClauses xs c h → ClausesRead xs c h
-complete_clauses_from grammar.no_clause = no_clause_step
-complete_clauses_from (grammar.semicolon_clauses {xs} {c} {h} d) = semicolon_step xs c h (complete_clauses_from d)
-complete_clauses_from (grammar.clause {x} {xs} {c} {cs} {h} {hs} d g ds) = some_clause_step h hs x xs c cs d g ds (complete_clauses_from ds)
-
-complete_clauses : {xs : List Clause} {c : List Kind} {h : ℕ} → IsClauses xs c h → (r : List Kind) → ClausesEnd r → (n : ℕ) → Comes n h (xs, h, r) (clauses n (c ++ r))
-unfolding clauses ClausesRead
-complete_clauses {xs} {c} {h} d r e n =
-    let w : max 0 h ≡ h = omega arith in
-    needs n h h (max 0 h) h xs r _ refl w (complete_clauses_from d r e n (length (skip_semicolons (c ++ r))) [] 0 (omega arith) (omega arith))
-
--- ---- names and types
-
--- names as they are read: a first one, and what follows it
-data NamesRead : List Name → List Kind → Type 0 where
-  names_read : (x : List ℕ) (more : List Name) (c : List Kind) → ((r : List Kind) → sees terminal.Do (c ++ TERMINAL terminal.Colon ∷ r) ≡ false) →
-      ((f : ℕ) (found : List Name) (r : List Kind) → length c ≤ f → sees terminal.Comma r ≡ false → more_names f found (c ++ r) ≡ Ok (found ++ more, r)) → NamesRead (named x ∷ more) (NAME x ∷ c)
-
-names_stay : (f : ℕ) (found : List Name) (r : List Kind) → sees terminal.Comma r ≡ false → more_names f found r ≡ Ok (found ++ [], r)
-unfolding more_names
-names_stay zero found r e = ap (λ (found : List Name). Ok (found, r)) (sym (append-nil found))
-names_stay (suc f) found r e = choose_false _ _ _ e ∙ ap (λ (found : List Name). Ok (found, r)) (sym (append-nil found))
-
-name_step : (f : ℕ) (found : List Name) (y : List ℕ) (more : List Name) (c r : List Kind) → more_names f (found ++ named y ∷ []) (c ++ r) ≡ Ok ((found ++ named y ∷ []) ++ more, r) →
-    more_names (suc f) found (TERMINAL terminal.Comma ∷ NAME y ∷ (c ++ r)) ≡ Ok (found ++ named y ∷ more, r)
-unfolding more_names same_terminal
-name_step f found y more c r e = e ∙ ap (λ (xs : List Name). Ok (xs, r)) (append_assoc found (named y ∷ []) more)
-
-comma_no_do : (r : List Kind) → sees terminal.Do (TERMINAL terminal.Comma ∷ r) ≡ false
+marked_read : {m : Option ClassMark} {cn cm : List Kind} → IsNote heads_class cn → IsMark m cm → (r : List Kind) → past_note heads_class (cn ++ (cm ++ TERMINAL terminal.Class ∷ r)) ≡ cm ++ TERMINAL terminal.Class ∷ r
 unfolding same_terminal
-comma_no_do r = refl
+marked_read d grammar.no_mark r = note_read heads_class (TERMINAL terminal.Class) r refl refl d
+marked_read d grammar.deferred r = note_read heads_class (TERMINAL terminal.Deferred) (TERMINAL terminal.Class ∷ r) refl refl d
+marked_read d grammar.expanded r = note_read heads_class (TERMINAL terminal.Expanded) (TERMINAL terminal.Class ∷ r) refl refl d
+marked_read d grammar.frozen r = note_read heads_class (TERMINAL terminal.Frozen) (TERMINAL terminal.Class ∷ r) refl refl d
 
-colon_no_comma : (r : List Kind) → sees terminal.Comma (TERMINAL terminal.Colon ∷ r) ≡ false
+ended_read : {c : List Kind} → IsNote ends_class c → (r : List Kind) → past_note ends_class (c ++ TERMINAL terminal.End ∷ r) ≡ TERMINAL terminal.End ∷ r
 unfolding same_terminal
-colon_no_comma r = refl
+ended_read d r = note_read ends_class (TERMINAL terminal.End) r refl refl d
 
-colon_no_do : (r : List Kind) → sees terminal.Do (TERMINAL terminal.Colon ∷ r) ≡ false
+mark_seen : {m : Option ClassMark} {c : List Kind} → IsMark m c → (r : List Kind) → mark (c ++ TERMINAL terminal.Class ∷ r) ≡ (m, TERMINAL terminal.Class ∷ r)
+unfolding mark same_terminal
+mark_seen grammar.no_mark r = refl
+mark_seen grammar.deferred r = refl
+mark_seen grammar.expanded r = refl
+mark_seen grammar.frozen r = refl
+
+-- ---- parents
+
+parent_named : {p : Parent} {c : List Kind} → IsParent p c → (r : List Kind) → name_ahead (c ++ r) ≡ true
+parent_named (grammar.plain_parent x) r = refl
+parent_named (grammar.redefining x d) r = refl
+
+parent_long : {p : Parent} {c : List Kind} → IsParent p c → 1 ≤ length c
+parent_long {p} {c} d = some_tokens name_ahead c refl (parent_named d [])
+
+plain_parent_read : (x : List ℕ) (r : List Kind) → sees terminal.Redefine r ≡ false → parent (NAME x ∷ r) ≡ Ok (record { name = named x; redefined = [] }, r)
+unfolding parent
+plain_parent_read x r e = choose_false _ _ _ e
+
+redefining_read : (x : List ℕ) (ns : List Name) (ts r : List Kind) → names ts ≡ Ok (ns, TERMINAL terminal.End ∷ r) → parent (NAME x ∷ TERMINAL terminal.Redefine ∷ ts) ≡ Ok (record { name = named x; redefined = ns }, r)
+unfolding parent
+redefining_read x ns ts r e =
+    choose_true _ _ _ (sees_self terminal.Redefine ts) ∙ bind_ok (names ts) (ns, TERMINAL terminal.End ∷ r) (λ ns. expect terminal.End ns.1 >>= λ rest. Ok (record { name = named x; redefined = ns.0 }, rest)) e
+    ∙ bind_ok (expect terminal.End (TERMINAL terminal.End ∷ r)) r (λ rest. Ok (record { name = named x; redefined = ns }, rest)) (expect_self terminal.End r)
+
+end_no_comma : (r : List Kind) → sees terminal.Comma (TERMINAL terminal.End ∷ r) ≡ false
 unfolding same_terminal
-colon_no_do r = refl
+end_no_comma r = refl
 
-names_are_read : {xs : List Name} {c : List Kind} → IsNames xs c → NamesRead xs c
-names_are_read (grammar.one_name x) = names_read x [] [] colon_no_do (λ f found r l e. names_stay f found r e)
-names_are_read (grammar.more_names x d) = go (names_are_read d)
-  where
-    go : {xs : List Name} {c : List Kind} → NamesRead xs c → NamesRead (named x ∷ xs) (NAME x ∷ TERMINAL terminal.Comma ∷ c)
-    go (names_read y more c no_do all) =
-        names_read x (named y ∷ more) (TERMINAL terminal.Comma ∷ NAME y ∷ c) (λ r. comma_no_do (NAME y ∷ (c ++ TERMINAL terminal.Colon ∷ r))) at
-      where
-        at : (f : ℕ) (found : List Name) (r : List Kind) → suc (suc (length c)) ≤ f → sees terminal.Comma r ≡ false → more_names f found (TERMINAL terminal.Comma ∷ NAME y ∷ (c ++ r)) ≡ Ok (found ++ named y ∷ more, r)
-        at zero found r l e = absurd (omega arith)
-        at (suc f) found r l e = name_step f found y more c r (all f (found ++ named y ∷ []) r (omega arith) e)
+complete_parent : {p : Parent} {c : List Kind} → IsParent p c → (r : List Kind) → sees terminal.Redefine r ≡ false → parent (c ++ r) ≡ Ok (p, r)
+complete_parent (grammar.plain_parent x) r e = plain_parent_read x r e
+complete_parent (grammar.redefining x {ns} {c} d) r e =
+    ap (λ (ts : List Kind). parent (NAME x ∷ TERMINAL terminal.Redefine ∷ ts)) (append_assoc c (TERMINAL terminal.End ∷ []) r)
+    ∙ redefining_read x ns (c ++ TERMINAL terminal.End ∷ r) r (complete_names d (TERMINAL terminal.End ∷ r) (end_no_comma r))
 
-complete_names : {xs : List Name} {c : List Kind} → IsNames xs c → (r : List Kind) → sees terminal.Comma r ≡ false → names (c ++ r) ≡ Ok (xs, r)
-unfolding names
-complete_names d r e = go (names_are_read d)
-  where
-    go : {xs : List Name} {c : List Kind} → NamesRead xs c → (name (c ++ r) >>= λ x. more_names (length x.1) (x.0 ∷ []) x.1) ≡ Ok (xs, r)
-    go (names_read x more c no_do all) = all (length (c ++ r)) (named x ∷ []) r (shorter (length-append c r)) e
-      where
-        shorter : length (c ++ r) ≡ length c + length r → length c ≤ length (c ++ r)
-        shorter e = omega arith
-
-complete_type : {t : DeclaredType} {c : List Kind} → IsType t c → (r : List Kind) → declared_type (c ++ r) ≡ Ok (t, r)
-unfolding declared_type
-complete_type (grammar.basic x b) r = choose_true _ _ _ b
-
--- ---- features
-
-attributes_step : (n : ℕ) (xs : List Name) (t : DeclaredType) (c ct r : List Kind) → NamesRead xs c → declared_type (ct ++ r) ≡ Ok (t, r) →
-    Comes n 0 (map (attribute_of t) xs, 0, r) (feature n (c ++ TERMINAL terminal.Colon ∷ (ct ++ r)))
-unfolding feature attributes
-attributes_step n _ t _ ct r (names_read x more c no_do all) d =
-    where_false _ _ _ _ _ _ (no_do (ct ++ r))
-    (surely n 0 (named x ∷ more, TERMINAL terminal.Colon ∷ (ct ++ r)) _ _ _ (all (length (c ++ TERMINAL terminal.Colon ∷ (ct ++ r))) (named x ∷ []) (TERMINAL terminal.Colon ∷ (ct ++ r)) (shorter (length-append c (TERMINAL terminal.Colon ∷ (ct ++ r)))) (colon_no_comma (ct ++ r)))
-    (surely n 0 (ct ++ r) _ _ _ (expect_self terminal.Colon (ct ++ r)) (surely n 0 (t, r) _ _ _ d (fits (omega arith) refl))))
-  where
-    shorter : length (c ++ TERMINAL terminal.Colon ∷ (ct ++ r)) ≡ length c + suc (length (ct ++ r)) → length c ≤ length (c ++ TERMINAL terminal.Colon ∷ (ct ++ r))
-    shorter e = omega arith
-
-routine_step : (n h : ℕ) (x : List ℕ) (body : Instrs) (c r : List Kind) → Comes n h (body, h, TERMINAL terminal.End ∷ r) (instrs n c) → Comes n h (routine_of (named x) body ∷ [], h, r) (feature n (NAME x ∷ TERMINAL terminal.Do ∷ c))
-unfolding feature routine same_terminal expect
-routine_step n h x body c r d = lastly n h (body, h, TERMINAL terminal.End ∷ r) _ _ _ d refl
-
-complete_feature : {fs : List Feature} {c : List Kind} {h : ℕ} → IsFeature fs c h → (r : List Kind) (n : ℕ) → Comes n h (fs, h, r) (feature n (c ++ r))
-complete_feature (grammar.attributes {xs} {t} {c} {ct} d dt) r n = rw (append_assoc c (TERMINAL terminal.Colon ∷ ct) r) (attributes_step n xs t c ct r (names_are_read d) (complete_type dt r))
-complete_feature (grammar.routine x {body} {c} {h} d) r n = rw (append_assoc c (TERMINAL terminal.End ∷ []) r) (routine_step n h x body _ r (complete_body d (TERMINAL terminal.End ∷ r) (end_ends r) n))
-
-feature_named : {fs : List Feature} {c : List Kind} {h : ℕ} → IsFeature fs c h → (r : List Kind) → name_ahead (c ++ r) ≡ true
-feature_named (grammar.attributes (grammar.one_name x) dt) r = refl
-feature_named (grammar.attributes (grammar.more_names x d) dt) r = refl
-feature_named (grammar.routine x d) r = refl
-
-feature_long : {fs : List Feature} {c : List Kind} {h : ℕ} → IsFeature fs c h → 1 ≤ length c
-feature_long (grammar.attributes (grammar.one_name x) dt) = omega arith
-feature_long (grammar.attributes (grammar.more_names x d) dt) = omega arith
-feature_long (grammar.routine x d) = omega arith
-
-named_no_semicolon : (ts : List Kind) → name_ahead ts ≡ true → sees terminal.Semicolon ts ≡ false
-named_no_semicolon [] e = refl
-named_no_semicolon (NAME x ∷ r) e = refl
-named_no_semicolon (INTEGER n ∷ r) e = refl
-named_no_semicolon (STRING s ∷ r) e = refl
-named_no_semicolon (TERMINAL m ∷ r) e = cc
-
-features_no_semicolon : {fs : List Feature} {c : List Kind} {h : ℕ} → IsFeatures fs c h → (r : List Kind) → sees terminal.Semicolon r ≡ false → sees terminal.Semicolon (c ++ r) ≡ false
-features_no_semicolon grammar.no_feature r e = e
-features_no_semicolon (grammar.feature {fs} {gs} {c} {s} {cs} d ds dg) r e = named_no_semicolon _ (rw (append_assoc c (s ++ cs) r) (feature_named d ((s ++ cs) ++ r)))
-
--- No feature begins here.
-record FeaturesEnd (r : List Kind) : Type 0 where
-  pub name : name_ahead r ≡ false
-  pub semicolon : sees terminal.Semicolon r ≡ false
-
-FeaturesRead : List Feature → List Kind → ℕ → Type 0
-FeaturesRead fs c h = (r : List Kind) → FeaturesEnd r → (n f : ℕ) (found : List Feature) (high : ℕ) → length (c ++ r) ≤ f → high ≤ n → Comes n h (found ++ fs, max high h, r) (features_from n f found high (c ++ r))
-
-features_stay : (n f : ℕ) (found : List Feature) (high : ℕ) (r : List Kind) → name_ahead r ≡ false → features_from n f found high r ≡ Ok (found, high, r)
-unfolding features_from
-features_stay n zero found high r e = refl
-features_stay n (suc f) found high r e = choose_false _ _ _ e
-
-no_feature_step : FeaturesRead [] [] 0
-unfolding FeaturesRead
-no_feature_step r e n f found high len l =
-    let w : high ≡ max high 0 = omega arith in
-    fits (omega arith) (features_stay n f found high r e.name ∙ ap (λ (s : List Feature). Ok (s, high, r)) (sym (append-nil found)) ∙ ap (λ (m : ℕ). Ok (found ++ [], m, r)) w)
-
--- one feature, or the attributes of one type, and the rest of them
-feature_step : (n f : ℕ) (found : List Feature) (high h hs : ℕ) (fs gs : List Feature) (ts r' r'' r : List Kind) → name_ahead ts ≡ true → skip_semicolons r' ≡ r'' → high ≤ n → Comes n h (fs, h, r') (feature n ts) →
-    (max high h ≤ n → Comes n hs ((found ++ fs) ++ gs, max (max high h) hs, r) (features_from n f (found ++ fs) (max high h) r'')) →
-    Comes n (max h hs) (found ++ (fs ++ gs), max high (max h hs), r) (features_from n (suc f) found high ts)
-unfolding features_from
-feature_step n f found high h hs fs gs ts r' r'' r b k l d more =
-    grown n high h h hs hs (max h hs) fs _ _ r' r _ _ _ (choose_true _ _ _ b) (append_assoc found fs gs) refl d (λ p. rw k (more (omega arith)))
-
-feature_at : (n h hs : ℕ) (fs gs : List Feature) (c s cs r : List Kind) → IsFeature fs c h → IsSemicolons s → sees terminal.Semicolon (cs ++ r) ≡ false →
-    ((f : ℕ) (found : List Feature) (high : ℕ) → length (cs ++ r) ≤ f → high ≤ n → Comes n hs (found ++ gs, max high hs, r) (features_from n f found high (cs ++ r))) →
-    (f : ℕ) (found : List Feature) (high : ℕ) → length (c ++ (s ++ (cs ++ r))) ≤ f → high ≤ n → Comes n (max h hs) (found ++ (fs ++ gs), max high (max h hs), r) (features_from n f found high (c ++ (s ++ (cs ++ r))))
-feature_at n h hs fs gs c s cs r d ds k more zero found high len l = let e = length-append c (s ++ (cs ++ r)) in let m = feature_long d in absurd (omega arith)
-feature_at n h hs fs gs c s cs r d ds k more (suc f) found high len l =
-    let e = length-append c (s ++ (cs ++ r)) in
-    let e' = length-append s (cs ++ r) in
-    let m = feature_long d in
-    feature_step n f found high h hs fs gs _ (s ++ (cs ++ r)) (cs ++ r) r (feature_named d (s ++ (cs ++ r))) (skip_all ds (cs ++ r) ∙ skip_none (cs ++ r) k) l (complete_feature d (s ++ (cs ++ r)) n)
-    (λ p. more f (found ++ fs) (max high h) (omega arith) p)
-
-features_respelled : (c s cs r : List Kind) → (c ++ (s ++ cs)) ++ r ≡ c ++ (s ++ (cs ++ r))
-features_respelled c s cs r = simp append_assoc
-
-some_feature_step : (h hs : ℕ) (fs gs : List Feature) (c s cs : List Kind) → IsFeature fs c h → IsSemicolons s → IsFeatures gs cs hs → FeaturesRead gs cs hs → FeaturesRead (fs ++ gs) (c ++ (s ++ cs)) (max h hs)
-unfolding FeaturesRead
-some_feature_step h hs fs gs c s cs d ds dg more r e n f found high len l =
-    rw (features_respelled c s cs r) (feature_at n h hs fs gs c s cs r d ds (features_no_semicolon dg r e.semicolon) (more r e n) f found high (subst (λ (ts : List Kind). length ts ≤ f) (features_respelled c s cs r) len) l)
-
-complete_features : {fs : List Feature} {c : List Kind} {h : ℕ} → IsFeatures fs c h → FeaturesRead fs c h
-complete_features grammar.no_feature = no_feature_step
-complete_features (grammar.feature {fs} {gs} {c} {s} {cs} {h} {hs} d ds dg) = some_feature_step h hs fs gs c s cs d ds dg (complete_features dg)
-
--- ---- `feature` and what stands under it
-
--- No feature begins here, nor does `feature` stand here.
-record SectionsEnd (r : List Kind) : Type 0 where
-  pub features : FeaturesEnd r
-  pub section : sees terminal.Feature r ≡ false
-
-SectionsRead : List Feature → List Kind → ℕ → Type 0
-SectionsRead fs c h = (r : List Kind) → SectionsEnd r → (n f : ℕ) (found : List Feature) (high : ℕ) → length (c ++ r) ≤ f → high ≤ n → Comes n h (found ++ fs, max high h, r) (sections_from n f found high (c ++ r))
-
-sections_stay : (n f : ℕ) (found : List Feature) (high : ℕ) (r : List Kind) → sees terminal.Feature r ≡ false → sections_from n f found high r ≡ Ok (found, high, r)
-unfolding sections_from
-sections_stay n zero found high r e = refl
-sections_stay n (suc f) found high r e = choose_false _ _ _ e
-
-no_section_step : SectionsRead [] [] 0
-unfolding SectionsRead
-no_section_step r e n f found high len l =
-    let w : high ≡ max high 0 = omega arith in
-    fits (omega arith) (sections_stay n f found high r e.section ∙ ap (λ (s : List Feature). Ok (s, high, r)) (sym (append-nil found)) ∙ ap (λ (m : ℕ). Ok (found ++ [], m, r)) w)
-
-sections_end : {fs : List Feature} {c : List Kind} {h : ℕ} → IsSections fs c h → (r : List Kind) → SectionsEnd r → FeaturesEnd (c ++ r)
+semicolon_no_redefine : {s : List Kind} → IsOptional terminal.Semicolon s → (r : List Kind) → sees terminal.Redefine r ≡ false → sees terminal.Redefine (s ++ r) ≡ false
 unfolding same_terminal
-sections_end grammar.no_section r e = e.features
-sections_end (grammar.section d ds) r e = record { name = refl; semicolon = refl }
+semicolon_no_redefine o r e = optional_unseen o terminal.Redefine r refl e
 
-section_step : (n f : ℕ) (found : List Feature) (high h hs : ℕ) (fs gs : List Feature) (ts r' r : List Kind) → high ≤ n →
-    Comes n h (found ++ fs, max high h, r') (features_from n (length ts) found high ts) →
-    (max high h ≤ n → Comes n hs ((found ++ fs) ++ gs, max (max high h) hs, r) (sections_from n f (found ++ fs) (max high h) r')) →
-    Comes n (max h hs) (found ++ (fs ++ gs), max high (max h hs), r) (sections_from n (suc f) found high (TERMINAL terminal.Feature ∷ ts))
-unfolding sections_from same_terminal
-section_step n f found high h hs fs gs ts r' r l d more =
-    along n (max h hs) (max h hs) ((found ++ fs) ++ gs, max (max high h) hs, r) (found ++ (fs ++ gs), max high (max h hs), r) _ _ refl
-    (same_reads ((found ++ fs) ++ gs) (found ++ (fs ++ gs)) (max (max high h) hs) (max high (max h hs)) r (append_assoc found fs gs) (nested_max high h hs)) refl
-    (both n h hs (found ++ fs, max high h, r') ((found ++ fs) ++ gs, max (max high h) hs, r) _ _ d (λ p. more (omega arith)))
+parents_stay : (f : ℕ) (found : List Parent) (r : List Kind) → name_ahead r ≡ false → parents_from f found r ≡ Ok (found, r)
+unfolding parents_from
+parents_stay zero found r e = refl
+parents_stay (suc f) found r e = choose_false _ _ _ e
 
-section_at : (n h hs : ℕ) (fs gs : List Feature) (c cs r : List Kind) →
-    ((f : ℕ) (found : List Feature) (high : ℕ) → length (c ++ (cs ++ r)) ≤ f → high ≤ n → Comes n h (found ++ fs, max high h, cs ++ r) (features_from n f found high (c ++ (cs ++ r)))) →
-    ((f : ℕ) (found : List Feature) (high : ℕ) → length (cs ++ r) ≤ f → high ≤ n → Comes n hs (found ++ gs, max high hs, r) (sections_from n f found high (cs ++ r))) →
-    (f : ℕ) (found : List Feature) (high : ℕ) → suc (length (c ++ (cs ++ r))) ≤ f → high ≤ n →
-    Comes n (max h hs) (found ++ (fs ++ gs), max high (max h hs), r) (sections_from n f found high (TERMINAL terminal.Feature ∷ (c ++ (cs ++ r))))
-section_at n h hs fs gs c cs r d more zero found high len l = absurd (omega arith)
-section_at n h hs fs gs c cs r d more (suc f) found high len l =
-    let e = length-append c (cs ++ r) in
-    section_step n f found high h hs fs gs _ (cs ++ r) r l (d (length (c ++ (cs ++ r))) found high (omega arith) l) (λ p. more f (found ++ fs) (max high h) (omega arith) p)
+parent_go : (f : ℕ) (found : List Parent) (p : Parent) (ts r' r : List Kind) → name_ahead ts ≡ true → parent ts ≡ Ok (p, r') → skip terminal.Semicolon r' ≡ r → parents_from (suc f) found ts ≡ parents_from f (found ++ p ∷ []) r
+unfolding parents_from
+parent_go f found p ts r' r b e k = choose_true _ _ _ b ∙ bind_ok (parent ts) (p, r') (λ p. parents_from f (found ++ p.0 ∷ []) (skip terminal.Semicolon p.1)) e ∙ ap (parents_from f (found ++ p ∷ [])) k
 
-some_section_step : (h hs : ℕ) (fs gs : List Feature) (c cs : List Kind) → FeaturesRead fs c h → IsSections gs cs hs → SectionsRead gs cs hs → SectionsRead (fs ++ gs) (TERMINAL terminal.Feature ∷ (c ++ cs)) (max h hs)
-unfolding FeaturesRead SectionsRead
-some_section_step h hs fs gs c cs all ds more r e n f found high len l =
-    rw (append_assoc c cs r) (section_at n h hs fs gs c cs r (all (cs ++ r) (sections_end ds r e) n) (more r e n) f found high (subst (λ (ts : List Kind). suc (length ts) ≤ f) (append_assoc c cs r) len) l)
+parent_list_named : {ps : List Parent} {c : List Kind} → IsParentList ps c → (r : List Kind) → name_ahead (c ++ r) ≡ true
+parent_list_named (grammar.one_parent {p} {c} {s} d o) r = rw (append_assoc c s r) (parent_named d (s ++ r))
+parent_list_named (grammar.more_parents {p} {ps} {c} {s} {cs} d o more) r = rw (append_assoc c (s ++ cs) r) (parent_named d ((s ++ cs) ++ r))
 
-complete_sections_from : {fs : List Feature} {c : List Kind} {h : ℕ} → IsSections fs c h → SectionsRead fs c h
-complete_sections_from grammar.no_section = no_section_step
-complete_sections_from (grammar.section {fs} {gs} {c} {cs} {h} {hs} d ds) = some_section_step h hs fs gs c cs (complete_features d) ds (complete_sections_from ds)
+parent_list_read : {ps : List Parent} {c : List Kind} → IsParentList ps c → (f : ℕ) (found : List Parent) (r : List Kind) → length (c ++ r) ≤ f → Behind class_rank 1 r → parents_from f found (c ++ r) ≡ Ok (found ++ ps, r)
+parent_list_read (grammar.one_parent {p} {c} {s} d o) zero found r len b = let l = parent_long d in let w = length-append (c ++ s) r in let v = length-append c s in absurd (omega arith)
+parent_list_read (grammar.one_parent {p} {c} {s} d o) (suc f) found r len b =
+    ap (parents_from (suc f) found) (append_assoc c s r)
+    ∙ parent_go f found p (c ++ (s ++ r)) (s ++ r) r (parent_named d (s ++ r)) (complete_parent d (s ++ r) (semicolon_no_redefine o r (unseen b terminal.Redefine (omega arith)))) (skip_optional o r (unseen b terminal.Semicolon (omega arith)))
+    ∙ parents_stay f (found ++ p ∷ []) r (unnamed b)
+parent_list_read (grammar.more_parents {p} {ps} {c} {s} {cs} d o more) zero found r len b = let l = parent_long d in let w = length-append (c ++ (s ++ cs)) r in let v = length-append c (s ++ cs) in absurd (omega arith)
+parent_list_read (grammar.more_parents {p} {ps} {c} {s} {cs} d o more) (suc f) found r len b =
+    let q = between c s cs r in
+    let l = parent_long d in
+    let w = length-append c (s ++ (cs ++ r)) in
+    let u = optional_shorter o (cs ++ r) in
+    let len' : length (c ++ (s ++ (cs ++ r))) ≤ suc f = subst (λ (ts : List Kind). length ts ≤ suc f) q len in
+    let k = parent_list_named more r in
+    ap (parents_from (suc f) found) q
+    ∙ parent_go f found p (c ++ (s ++ (cs ++ r))) (s ++ (cs ++ r)) (cs ++ r) (parent_named d (s ++ (cs ++ r))) (complete_parent d (s ++ (cs ++ r)) (semicolon_no_redefine o (cs ++ r) (named_unseen terminal.Redefine (cs ++ r) k)))
+    (skip_optional o (cs ++ r) (named_unseen terminal.Semicolon (cs ++ r) k))
+    ∙ parent_list_read more f (found ++ p ∷ []) r (omega (arith, l, w, u, len')) b ∙ ap (λ (xs : List Parent). Ok (xs, r)) (append_assoc found (p ∷ []) ps)
 
-complete_sections : {fs : List Feature} {c : List Kind} {h : ℕ} → IsSections fs c h → (r : List Kind) → SectionsEnd r → (n : ℕ) → Comes n h (fs, h, r) (sections n (c ++ r))
-unfolding sections SectionsRead
-complete_sections {fs} {c} {h} d r e n =
-    let w : max 0 h ≡ h = omega arith in
-    needs n h h (max 0 h) h fs r _ refl w (complete_sections_from d r e n (length (c ++ r)) [] 0 (omega arith) (omega arith))
+-- parents, where the first of them is known
+parents_go : (p : Parent) (ts r' r : List Kind) → parent ts ≡ Ok (p, r') → skip terminal.Semicolon r' ≡ r → parents (TERMINAL terminal.Inherit ∷ ts) ≡ parents_from (length r') (p ∷ []) r
+unfolding parents
+parents_go p ts r' r e k =
+    choose_true _ _ _ (sees_self terminal.Inherit ts) ∙ bind_ok (parent ts) (p, r') (λ p. parents_from (length p.1) (p.0 ∷ []) (skip terminal.Semicolon p.1)) e ∙ ap (parents_from (length r') (p ∷ [])) k
+
+no_parents_read : (r : List Kind) → sees terminal.Inherit r ≡ false → parents r ≡ Ok ([], r)
+unfolding parents
+no_parents_read r e = choose_false _ _ _ e
+
+complete_parents : {ps : List Parent} {c : List Kind} → IsParents ps c → (r : List Kind) → Behind class_rank 1 r → parents (c ++ r) ≡ Ok (ps, r)
+complete_parents grammar.no_parents r b = no_parents_read r (unseen b terminal.Inherit (omega arith))
+complete_parents (grammar.parents (grammar.one_parent {p} {c} {s} d o)) r b =
+    ap (λ (ts : List Kind). parents (TERMINAL terminal.Inherit ∷ ts)) (append_assoc c s r)
+    ∙ parents_go p (c ++ (s ++ r)) (s ++ r) r (complete_parent d (s ++ r) (semicolon_no_redefine o r (unseen b terminal.Redefine (omega arith)))) (skip_optional o r (unseen b terminal.Semicolon (omega arith))) ∙ parents_stay (length (s ++ r)) (p ∷ []) r (unnamed b)
+complete_parents (grammar.parents (grammar.more_parents {p} {ps} {c} {s} {cs} d o more)) r b =
+    let k = parent_list_named more r in
+    ap (λ (ts : List Kind). parents (TERMINAL terminal.Inherit ∷ ts)) (between c s cs r)
+    ∙ parents_go p (c ++ (s ++ (cs ++ r))) (s ++ (cs ++ r)) (cs ++ r) (complete_parent d (s ++ (cs ++ r)) (semicolon_no_redefine o (cs ++ r) (named_unseen terminal.Redefine (cs ++ r) k))) (skip_optional o (cs ++ r) (named_unseen terminal.Semicolon (cs ++ r) k))
+    ∙ parent_list_read more (length (s ++ (cs ++ r))) (p ∷ []) r (optional_shorter o (cs ++ r)) b
 
 -- ---- classes
 
-complete_creators : {xs : List Name} {c : List Kind} → IsCreators xs c → (n : ℕ) (r : List Kind) → sees terminal.Create r ≡ false → sees terminal.Comma r ≡ false → creators n (c ++ r) ≡ Ok (xs, r)
-unfolding creators same_terminal
-complete_creators grammar.no_creator n r e k = choose_false _ _ _ e
-complete_creators (grammar.creators d) n r e k = complete_names d r k
+complete_creators : {xs : List Name} {c : List Kind} → IsCreators xs c → (r : List Kind) → Behind class_rank 2 r → creators (c ++ r) ≡ Ok (xs, r)
+unfolding creators
+complete_creators grammar.no_creator r b = choose_false _ _ _ (unseen b terminal.Create (omega arith))
+complete_creators (grammar.creators {xs} {c} d) r b = choose_true _ _ _ (sees_self terminal.Create (c ++ r)) ∙ complete_names d r (unseen b terminal.Comma (omega arith))
 
-end_of_clauses : (r : List Kind) → ClausesEnd (TERMINAL terminal.End ∷ r)
-unfolding same_terminal
-end_of_clauses r = record { begins = refl; semicolon = refl; apart = refl }
+note_behind : {c : List Kind} → IsNote ends_class c → (r : List Kind) → Behind class_rank 4 (c ++ TERMINAL terminal.End ∷ r)
+note_behind grammar.no_note r = behind terminal.End r (omega arith)
+note_behind (grammar.note {c} d) r = behind terminal.Note (c ++ TERMINAL terminal.End ∷ r) (omega arith)
+note_behind (grammar.indexing {c} d) r = behind terminal.Indexing (c ++ TERMINAL terminal.End ∷ r) (omega arith)
 
-complete_invariant : {xs : List Clause} {c : List Kind} {h : ℕ} → IsInvariant xs c h → (n : ℕ) (r : List Kind) → Comes n h (xs, h, TERMINAL terminal.End ∷ r) (invariant n (c ++ TERMINAL terminal.End ∷ r))
-unfolding invariant same_terminal
-complete_invariant grammar.no_invariant n r = fits (omega arith) refl
-complete_invariant (grammar.invariant d) n r = complete_clauses d (TERMINAL terminal.End ∷ r) (end_of_clauses r) n
+invariant_behind : {xs : List Clause} {c : List Kind} {h : ℕ} → IsAssertion terminal.Invariant xs c h → (r : List Kind) → Behind class_rank 4 r → Behind class_rank 3 (c ++ r)
+invariant_behind grammar.no_assertion r b = later 3 (omega arith) b
+invariant_behind (grammar.assertion {xs} {c} d) r b = behind terminal.Invariant (c ++ r) (omega arith)
 
--- What stands behind the creation procedures begins with `feature`, `invariant` or `end`.
-behind_creators : {fs : List Feature} {is : List Clause} {cf ci : List Kind} {hf hi : ℕ} → IsSections fs cf hf → IsInvariant is ci hi → (m : Terminal) → same_terminal terminal.Feature m ≡ false → same_terminal terminal.Invariant m ≡ false → same_terminal terminal.End m ≡ false →
-    (r : List Kind) → sees m (cf ++ (ci ++ TERMINAL terminal.End ∷ r)) ≡ false
-behind_creators grammar.no_section grammar.no_invariant m f i e r = e
-behind_creators grammar.no_section (grammar.invariant d) m f i e r = i
-behind_creators (grammar.section d ds) di m f i e r = f
+sections_behind : {fs : List Feature} {c : List Kind} {h : ℕ} → IsSections fs c h → (r : List Kind) → Behind class_rank 3 r → Behind class_rank 2 (c ++ r)
+sections_behind grammar.no_section r b = later 2 (omega arith) b
+sections_behind (grammar.section {ce} {c} {cs} de d ds) r b = behind terminal.Feature ((ce ++ (c ++ cs)) ++ r) (omega arith)
 
-behind_sections : {is : List Clause} {c : List Kind} {h : ℕ} → IsInvariant is c h → (r : List Kind) → SectionsEnd (c ++ TERMINAL terminal.End ∷ r)
-unfolding same_terminal
-behind_sections grammar.no_invariant r = record { features = record { name = refl; semicolon = refl }; section = refl }
-behind_sections (grammar.invariant d) r = record { features = record { name = refl; semicolon = refl }; section = refl }
+creators_behind : {xs : List Name} {c : List Kind} → IsCreators xs c → (r : List Kind) → Behind class_rank 2 r → Behind class_rank 1 (c ++ r)
+creators_behind grammar.no_creator r b = later 1 (omega arith) b
+creators_behind (grammar.creators {xs} {c} d) r b = behind terminal.Create (c ++ r) (omega arith)
 
-class_step : (n hf hi : ℕ) (x : List ℕ) (ns : List Name) (fs : List Feature) (is : List Clause) (ts r1 r2 r : List Kind) → creators n ts ≡ Ok (ns, r1) → Comes n hf (fs, hf, r2) (sections n r1) →
-    Comes n hi (is, hi, TERMINAL terminal.End ∷ r) (invariant n r2) → Comes n (max hf hi) (class_of (named x) ns fs is, max hf hi, r) (class n (TERMINAL terminal.Class ∷ NAME x ∷ ts))
-unfolding class same_terminal expect
-class_step n hf hi x ns fs is ts r1 r2 r e df di =
-    surely n (max hf hi) (ns, r1) _ _ _ e (both n hf hi (fs, hf, r2) _ _ _ df λ p. lastly n hi (is, hi, TERMINAL terminal.End ∷ r) _ _ _ di refl)
+invariant_ends : {ts : List Kind} → Behind class_rank 4 ts → ClausesEnd ts
+invariant_ends (behind m r h) = class_ends_clauses m r h
 
-class_respelled : (cn cf ci r : List Kind) (k : Kind) → (cn ++ (cf ++ (ci ++ k ∷ []))) ++ r ≡ cn ++ (cf ++ (ci ++ k ∷ r))
-class_respelled cn cf ci r k = simp append_assoc
+sections_end_behind : {ts : List Kind} → Behind class_rank 3 ts → SectionsEnd ts
+sections_end_behind {ts} b =
+    record {
+      features = record { name = unnamed b; semicolon = unseen b terminal.Semicolon (omega arith); routine = none _ _ _ _ (unseen b terminal.Is (omega arith)) (unseen b terminal.Require (omega arith)) (unseen b terminal.Local (omega arith)) (unseen b terminal.Do (omega arith)) };
+      section = unseen b terminal.Feature (omega arith);
+      brace = unseen b terminal.OpenBrace (omega arith);
+    }
+  where
+    none : (p q r s : Bool) → p ≡ false → q ≡ false → r ≡ false → s ≡ false → (p || q || r || s) ≡ false
+    none true q r s e f g h = cc
+    none false true r s e f g h = cc
+    none false false true s e f g h = cc
+    none false false false s e f g h = h
+
+-- what is left of a class behind its invariant
+abbrev then_end : ℕ → Option ClassMark → List ℕ → List Parent → List Name → List Feature → ℕ → List Clause × ℕ × List Kind → Read Class
+then_end n m x ps ns fs hf is = expect terminal.End (past_note ends_class is.2) >>= λ rest. Ok (class_of m (named x) ps ns fs is.0, max hf is.1, rest)
+
+-- the parts of a class, each read
+class_step : (n hf hi : ℕ) (m : Option ClassMark) (x : List ℕ) (ps : List Parent) (ns : List Name) (fs : List Feature) (is : List Clause) (ts r0 r1 r2 r3 r : List Kind) →
+    parents ts ≡ Ok (ps, r0) → creators r0 ≡ Ok (ns, r1) → Comes n hf (fs, hf, r2) (sections n r1) → Comes n hi (is, hi, r3) (assertion n terminal.Invariant r2) → past_note ends_class r3 ≡ TERMINAL terminal.End ∷ r →
+    Comes n (max hf hi) (class_of m (named x) ps ns fs is, max hf hi, r) (class_marked n m (TERMINAL terminal.Class ∷ NAME x ∷ ts))
+unfolding class_marked same_terminal expect
+class_step n hf hi m x ps ns fs is ts r0 r1 r2 r3 r dp dn df di e =
+    surely n (max hf hi) (ps, r0) _ _ _ dp (surely n (max hf hi) (ns, r1) _ _ _ dn
+    (both n hf hi (fs, hf, r2) _ _ _ df λ p. lastly n hi (is, hi, r3) _ _ (then_end n m x ps ns fs hf) di (ap (λ (ts : List Kind). expect terminal.End ts >>= λ rest. Ok (class_of m (named x) ps ns fs is, max hf hi, rest)) e ∙ bind_ok _ r (λ rest. Ok (class_of m (named x) ps ns fs is, max hf hi, rest)) (expect_self terminal.End r))))
+
+class_respelled : (cn cm cp cc cf ci ce r : List Kind) (j k l : Kind) →
+    (cn ++ (cm ++ j ∷ k ∷ (cp ++ (cc ++ (cf ++ (ci ++ (ce ++ l ∷ []))))))) ++ r ≡ cn ++ (cm ++ j ∷ k ∷ (cp ++ (cc ++ (cf ++ (ci ++ (ce ++ l ∷ r))))))
+class_respelled cn cm cp cc cf ci ce r j k l = simp append_assoc
+
+-- a class, where its note and its mark are known
+class_by : (n : ℕ) (m : Option ClassMark) (ts ts' r : List Kind) → past_note heads_class ts ≡ ts' → mark ts' ≡ (m, r) → class n ts ≡ class_marked n m r
+unfolding class
+class_by n m ts ts' r e d = ap (λ (ts : List Kind). class_marked n (mark ts).0 (mark ts).1) e ∙ ap (λ (x : Option ClassMark × List Kind). class_marked n x.0 x.1) d
 
 complete_class : {x : Class} {c : List Kind} {h : ℕ} → IsClass x c h → (n : ℕ) (r : List Kind) → Comes n h (x, h, r) (class n (c ++ r))
-unfolding same_terminal
-complete_class (grammar.class x {ns} {fs} {is} {cn} {cf} {ci} {hf} {hi} dn df di) n r =
-    rw (class_respelled cn cf ci r (TERMINAL terminal.End))
-    (class_step n hf hi x ns fs is _ (cf ++ (ci ++ TERMINAL terminal.End ∷ r)) (ci ++ TERMINAL terminal.End ∷ r) r
-    (complete_creators dn n (cf ++ (ci ++ TERMINAL terminal.End ∷ r)) (behind_creators df di terminal.Create refl refl refl r) (behind_creators df di terminal.Comma refl refl refl r))
-    (complete_sections df (ci ++ TERMINAL terminal.End ∷ r) (behind_sections di r) n) (complete_invariant di n r))
+complete_class (grammar.class x {m} {ps} {ns} {fs} {is} {cn} {cm} {cp} {cc = cs} {cf} {ci} {ce} {hf} {hi} dn dm dp dc df di de) n r =
+    let r3 : List Kind = ce ++ TERMINAL terminal.End ∷ r in
+    let be = note_behind de r in
+    let bi = invariant_behind di r3 be in
+    let bf = sections_behind df (ci ++ r3) bi in
+    let bc = creators_behind dc (cf ++ (ci ++ r3)) bf in
+    let tail : List Kind = NAME x ∷ (cp ++ (cs ++ (cf ++ (ci ++ r3)))) in
+    rw (class_respelled cn cm cp cs cf ci ce r (TERMINAL terminal.Class) (NAME x) (TERMINAL terminal.End))
+    (along n _ _ _ _ _ _ refl refl (class_by n m _ (cm ++ TERMINAL terminal.Class ∷ tail) (TERMINAL terminal.Class ∷ tail) (marked_read dn dm tail) (mark_seen dm tail))
+    (class_step n hf hi m x ps ns fs is _ (cs ++ (cf ++ (ci ++ r3))) (cf ++ (ci ++ r3)) (ci ++ r3) r3 r (complete_parents dp (cs ++ (cf ++ (ci ++ r3))) bc) (complete_creators dc (cf ++ (ci ++ r3)) bf)
+    (complete_sections df (ci ++ r3) (sections_end_behind bi) n) (complete_assertion di r3 (invariant_ends be) (unseen be terminal.Invariant (omega arith)) n) (ended_read de r)))
+
+class_begins : {x : Class} {c : List Kind} {h : ℕ} → IsClass x c h → (r : List Kind) → is_done (c ++ r) ≡ false
+class_begins (grammar.class x grammar.no_note grammar.no_mark dp dc df di de) r = refl
+class_begins (grammar.class x grammar.no_note grammar.deferred dp dc df di de) r = refl
+class_begins (grammar.class x grammar.no_note grammar.expanded dp dc df di de) r = refl
+class_begins (grammar.class x grammar.no_note grammar.frozen dp dc df di de) r = refl
+class_begins (grammar.class x (grammar.note d) dm dp dc df di de) r = refl
+class_begins (grammar.class x (grammar.indexing d) dm dp dc df di de) r = refl
 
 class_long : {x : Class} {c : List Kind} {h : ℕ} → IsClass x c h → 1 ≤ length c
-class_long (grammar.class x dn df di) = omega arith
-
-class_begins : {x : Class} {c : List Kind} {h : ℕ} → IsClass x c h → (r : List Kind) → sees terminal.Class (c ++ r) ≡ true
-unfolding same_terminal
-class_begins (grammar.class x dn df di) r = refl
+class_long {x} {c} d = some_tokens (λ ts. not (is_done ts)) c refl (ap not (class_begins d []))
 
 -- classes up to the end of the tokens
 ClassesRead : List Class → List Kind → ℕ → Type 0
@@ -433,12 +235,12 @@ no_class_step n f found high len l =
     let w : high ≡ max high 0 = omega arith in
     fits (omega arith) (classes_stay n f found high ∙ ap (λ (s : List Class). Ok (s, high, [])) (sym (append-nil found)) ∙ ap (λ (m : ℕ). Ok (found ++ [], m, [])) w)
 
-another_step : (n f : ℕ) (found : List Class) (high h hs : ℕ) (x : Class) (xs : List Class) (ts r' : List Kind) → sees terminal.Class ts ≡ true → high ≤ n → Comes n h (x, h, r') (class n ts) →
+another_step : (n f : ℕ) (found : List Class) (high h hs : ℕ) (x : Class) (xs : List Class) (ts r' : List Kind) → is_done ts ≡ false → high ≤ n → Comes n h (x, h, r') (class n ts) →
     (max high h ≤ n → Comes n hs ((found ++ x ∷ []) ++ xs, max (max high h) hs, []) (classes_from n f (found ++ x ∷ []) (max high h) r')) →
     Comes n (max h hs) (found ++ x ∷ xs, max high (max h hs), []) (classes_from n (suc f) found high ts)
 unfolding classes_from
 another_step n f found high h hs x xs ts r' b l d more =
-    grown n high h h hs hs (max h hs) x _ _ r' [] _ _ _ (choose_true _ _ _ b) (append_assoc found (x ∷ []) xs) refl d (λ p. more (omega arith))
+    grown n high h h hs hs (max h hs) x _ _ r' [] _ _ _ (choose_false _ _ _ b) (append_assoc found (x ∷ []) xs) refl d (λ p. more (omega arith))
 
 some_class_step : (h hs : ℕ) (x : Class) (xs : List Class) (c cs : List Kind) → IsClass x c h → ClassesRead xs cs hs → ClassesRead (x ∷ xs) (c ++ cs) (max h hs)
 unfolding ClassesRead

@@ -1,19 +1,21 @@
 -- Reading gives each tree that tokens spell, where what follows doesn't go on with it: instructions.
-use Rattle.std.proofs.Common.{◌≡◌, ℕ, zero, suc, ◌+◌, ◌≤◌, ◌<◌, max, Bool, true, false, List, [], ◌∷◌, ◌++◌, length, Option, None, Ok, refl, ap, sym, ◌∙◌, subst, append_assoc, length-append, arith}
-use Rattle.std.specs.Prelude.{◌&&◌, ◌==◌}
+use Rattle.std.proofs.Common.{◌≡◌, ℕ, zero, suc, ◌+◌, ◌≤◌, ◌<◌, max, Bool, true, false, List, [], ◌∷◌, ◌++◌, length, Some, None, Ok, Err, refl, ap, sym, ◌∙◌, subst, append_assoc, length-append, arith}
+use Rattle.std.specs.Prelude.{◌&&◌, ◌||◌, ◌==◌, if◌then◌else◌}
 use Rattle.sc_text.specs.Kind.{Kind, NAME, INTEGER, STRING, TERMINAL}
+use Rattle.sc_text.specs.declared.token.Span.{Span}
 use Rattle.sc_text.specs.declared.token.Terminal.{Terminal}
 use Rattle.sc_text.specs.declared.token.Terminal.TheVariants as terminal
-use Rattle.sc_tree.specs.Plain.{Expr, Instr, Assign, Print, PrintText, CallRoutine, If, Instrs, no_instrs, instr_then, Branches, no_branches, branch_then}
+use Rattle.sc_tree.specs.Plain.{Name, Expr, Call, Target, Exprs, Variable, Clause, Head, Instr, Assign, PrintText, CallRoutine, Create, If, Loop, Check, Block, Instrs, no_instrs, instr_then, Branches, no_branches, branch_then}
 use Rattle.sc_tree.specs.Bare.{nowhere, named}
 use Rattle.sc_tree.specs.Grammar as grammar
-use Rattle.sc_tree.specs.Grammar.{top, print_name, IsExpr, IsInstr, IsInstrs, IsBranches, IsElse}
-use Rattle.sc_tree.specs.Reading.{same_terminal, sees, expect, skip_semicolons, text_ahead, begins_instr, begins_expr, is_print, expr, nested, instrs_push, branches_push, assignment, printed, printing, named_instr, guarded, branches, other, conditional, instr, instrs_from, body, instrs, nested_instrs}
-use Rattle.sc_tree.proofs.Combining.{Comes, fits, deep, both, surely, lastly, along, needs, grown, choose_true, choose_false}
-use Rattle.sc_tree.proofs.Looks.{expect_self, sees_self}
-use Rattle.sc_tree.proofs.Lists.{instrs_joined, instrs_joined-push, instrs_joined-none, branches_joined, branches_joined-push, branches_joined-none, skip_one, skip_none, skip_shorter}
-use Rattle.sc_tree.proofs.Follows.{connects, Apart, apart_sees, expr_begins}
-use Rattle.sc_tree.proofs.CompleteExpressions.{complete_expr, complete_nested}
+use Rattle.sc_tree.specs.Grammar.{top, print_name, around, IsExpr, IsChain, IsActuals, IsExprs, IsClauses, IsVariable, IsHead, IsHeads, IsInstr, IsInstrs, IsBranches, IsElse}
+use Rattle.sc_tree.specs.Reading.{Deep, Read, ◌>>=◌, past, same_terminal, sees, expect, skip_semicolons, name, name_ahead, sees_word, text_ahead, begins_instr, begins_instr_by, begins_expr, actuals, chain, expr, nested, nested_clauses, instrs_push, branches_push, variable, assigns, prints, nested_chain, assignment, printing, routine_call, creation, guarded, branches, other, conditional, iteration, checked, checking, head, more_heads, heads, block, instr, instrs_from, body, instrs, nested_instrs}
+use Rattle.sc_tree.proofs.Combining.{behind_word, Comes, fits, deep, both, surely, lastly, along, needs, grown, where_true, where_false, choose_true, choose_false, not_both}
+use Rattle.sc_tree.proofs.Looks.{expect_self, sees_self, sees_is}
+use Rattle.sc_tree.proofs.Lists.{some_tokens, instrs_joined, instrs_joined-push, instrs_joined-none, branches_joined, branches_joined-push, branches_joined-none, skip_one, skip_none, skip_shorter}
+use Rattle.sc_tree.proofs.Follows.{connects, Apart, apart_sees, apart_unlinked, ChainFirst, name_first, current_first, result_first, chain_first, exprs_begin}
+use Rattle.sc_tree.proofs.CompleteExpressions.{dot_no_actuals, complete_actuals, complete_chain, complete_expr, complete_nested, as_unlinked}
+use Rattle.sc_tree.proofs.CompleteAssertions.{ClausesEnd, clauses_end_by, clause_begins, complete_nested_clauses}
 
 -- ---- what may follow
 
@@ -23,7 +25,7 @@ pub record Ends (r : List Kind) : Type 0 where
   pub semicolon : sees terminal.Semicolon r ≡ false
   pub apart : Apart r
 
-pub ends_by : (m : Terminal) (r : List Kind) → same_terminal m terminal.If ≡ false → same_terminal m terminal.Semicolon ≡ false → connects m ≡ false → Ends (TERMINAL m ∷ r)
+pub ends_by : (m : Terminal) (r : List Kind) → begins_instr_by m ≡ false → same_terminal m terminal.Semicolon ≡ false → connects m ≡ false → Ends (TERMINAL m ∷ r)
 ends_by m r i s c = record { begins = i; semicolon = s; apart = c }
 
 pub end_ends : (r : List Kind) → Ends (TERMINAL terminal.End ∷ r)
@@ -37,6 +39,10 @@ else_ends r = ends_by terminal.Else r refl refl refl
 elseif_ends : (r : List Kind) → Ends (TERMINAL terminal.Elseif ∷ r)
 unfolding same_terminal
 elseif_ends r = ends_by terminal.Elseif r refl refl refl
+
+until_ends : (r : List Kind) → Ends (TERMINAL terminal.Until ∷ r)
+unfolding same_terminal
+until_ends r = ends_by terminal.Until r refl refl refl
 
 other_ends : {is : Instrs} {c : List Kind} {h : ℕ} → IsElse is c h → (r : List Kind) → Ends (c ++ TERMINAL terminal.End ∷ r)
 other_ends grammar.no_else r = end_ends r
@@ -53,42 +59,63 @@ branches_end (grammar.branch {t} {body} {bs} {c} {cb} {cs} d db dbs) r e = elsei
 
 -- ---- what stands first
 
-instr_begins : {i : Instr} {c : List Kind} {h : ℕ} → IsInstr i c h → (r : List Kind) → begins_instr (c ++ r) ≡ true
-unfolding same_terminal
-instr_begins (grammar.assign x d) r = refl
-instr_begins (grammar.print d) r = refl
+begins_instr_apart : (m : Terminal) → begins_instr_by m ≡ true → connects m ≡ false
+begins_instr_apart terminal.Result b = refl
+begins_instr_apart terminal.Current b = refl
+begins_instr_apart terminal.Create b = refl
+begins_instr_apart terminal.If b = refl
+begins_instr_apart terminal.From b = refl
+begins_instr_apart terminal.Check b = refl
+begins_instr_apart terminal.Separate b = refl
+begins_instr_apart _ b = cc
+
+-- where an instruction begins, no other token stands
+no_instr_token : (m : Terminal) (ts : List Kind) → begins_instr ts ≡ true → begins_instr_by m ≡ false → sees m ts ≡ false
+no_instr_token m ts b n = go (sees m ts) refl
+  where
+    go : (t : Bool) → sees m ts ≡ t → t ≡ false
+    go true e = absurd (not_both b (ap begins_instr (sees_is m ts e) ∙ n))
+    go false e = refl
+
+begun_apart : (ts : List Kind) → begins_instr ts ≡ true → Apart ts
+begun_apart [] b = cc
+begun_apart (NAME x ∷ r) b = tt
+begun_apart (INTEGER n ∷ r) b = cc
+begun_apart (STRING s ∷ r) b = cc
+begun_apart (TERMINAL m ∷ r) b = begins_instr_apart m b
+
+chain_begins_instr : (ts : List Kind) → ChainFirst ts → begins_instr ts ≡ true
+chain_begins_instr _ (name_first x r) = refl
+chain_begins_instr _ (current_first r) = refl
+chain_begins_instr _ (result_first r) = refl
+
+pub instr_begins : {i : Instr} {c : List Kind} {h : ℕ} → IsInstr i c h → (r : List Kind) → begins_instr (c ++ r) ≡ true
+instr_begins (grammar.assign (grammar.named_variable x) d) r = refl
+instr_begins (grammar.assign grammar.result_variable d) r = refl
 instr_begins (grammar.print_text s) r = refl
-instr_begins (grammar.call x) r = refl
+instr_begins (grammar.call {c} d) r = chain_begins_instr (c ++ r) (chain_first d r)
+instr_begins (grammar.create dv) r = refl
+instr_begins (grammar.create_by dv x d) r = refl
 instr_begins (grammar.conditional d db dbs de) r = refl
+instr_begins (grammar.loop di d db) r = refl
+instr_begins (grammar.check d) r = refl
+instr_begins (grammar.block d db) r = refl
 
 instr_no_semicolon : {i : Instr} {c : List Kind} {h : ℕ} → IsInstr i c h → (r : List Kind) → sees terminal.Semicolon (c ++ r) ≡ false
-unfolding same_terminal
-instr_no_semicolon (grammar.assign x d) r = refl
-instr_no_semicolon (grammar.print d) r = refl
-instr_no_semicolon (grammar.print_text s) r = refl
-instr_no_semicolon (grammar.call x) r = refl
-instr_no_semicolon (grammar.conditional d db dbs de) r = refl
+instr_no_semicolon {i} {c} d r = no_instr_token terminal.Semicolon (c ++ r) (instr_begins d r) refl
 
 instr_apart : {i : Instr} {c : List Kind} {h : ℕ} → IsInstr i c h → (r : List Kind) → Apart (c ++ r)
-instr_apart (grammar.assign x d) r = tt
-instr_apart (grammar.print d) r = tt
-instr_apart (grammar.print_text s) r = tt
-instr_apart (grammar.call x) r = tt
-instr_apart (grammar.conditional d db dbs de) r = refl
+instr_apart {i} {c} d r = begun_apart (c ++ r) (instr_begins d r)
 
 instr_long : {i : Instr} {c : List Kind} {h : ℕ} → IsInstr i c h → 1 ≤ length c
-instr_long (grammar.assign x d) = omega arith
-instr_long (grammar.print d) = omega arith
-instr_long (grammar.print_text s) = omega arith
-instr_long (grammar.call x) = omega arith
-instr_long (grammar.conditional d db dbs de) = omega arith
+instr_long {i} {c} d = some_tokens begins_instr c refl (instr_begins d [])
 
 instrs_apart : {is : Instrs} {c : List Kind} {h : ℕ} → IsInstrs is c h → (r : List Kind) → Apart r → Apart (c ++ r)
 instrs_apart grammar.no_instr r a = a
 instrs_apart (grammar.semicolon_instrs d) r a = refl
 instrs_apart (grammar.instr {i} {is} {c} {cs} d ds) r a = rw (append_assoc c cs r) (instr_apart d (cs ++ r))
 
-begins_no_text : (ts : List Kind) → begins_expr ts ≡ true → text_ahead ts ≡ None
+begins_no_text : (ts : List Kind) → begins_expr ts ≡ true → text_ahead ts ≡ false
 begins_no_text [] b = refl
 begins_no_text (NAME x ∷ r) b = refl
 begins_no_text (INTEGER n ∷ r) b = refl
@@ -113,32 +140,94 @@ nested_instrs_comes need x ts all (suc n) = go (all n)
 
 -- ---- simple instructions
 
-assign_step : (n h : ℕ) (x : List ℕ) (t : Expr) (c r : List Kind) → Comes n h (t, h, r) (expr n top c) → Comes n h (Assign nowhere (named x) t, h, r) (instr n (nested_instrs n) (NAME x ∷ TERMINAL terminal.Becomes ∷ c))
-unfolding instr named_instr assignment same_terminal
-assign_step n h x t c r d = lastly n h (t, h, r) _ _ _ d refl
-
-print_step : (n h : ℕ) (t : Expr) (c r : List Kind) → begins_expr c ≡ true → Comes n (suc h) (t, h, TERMINAL terminal.CloseParenthesis ∷ r) (nested n top c) →
-    Comes n (suc h) (Print nowhere t, suc h, r) (instr n (nested_instrs n) (NAME print_name ∷ TERMINAL terminal.OpenParenthesis ∷ c))
-unfolding instr named_instr printing same_terminal expect
-print_step n h t c r b d =
-    along n _ _ (Print nowhere t, suc h, r) _ _ _ refl refl (ap (λ (o : Option (List ℕ)). printed n (nested_instrs n) o c) (begins_no_text c b)) (lastly n (suc h) (t, h, TERMINAL terminal.CloseParenthesis ∷ r) _ _ _ d refl)
+assign_step : (n h : ℕ) {v : Variable} {cv : List Kind} → IsVariable v cv → (t : Expr) (c r : List Kind) → Comes n h (t, h, r) (expr n top c) →
+    Comes n h (Assign nowhere v t, h, r) (instr n (nested_instrs n) (cv ++ TERMINAL terminal.Becomes ∷ c))
+unfolding instr assignment variable same_terminal expect
+assign_step n h (grammar.named_variable x) t c r d = lastly n h (t, h, r) _ _ _ d refl
+assign_step n h grammar.result_variable t c r d = lastly n h (t, h, r) _ _ _ d refl
 
 positive : (n : ℕ) → (suc n == 0) ≡ false
 positive n = grind arith
 
 print_text_step : (n : ℕ) (s : List ℕ) (r : List Kind) → Comes n 1 (PrintText nowhere s, 1, r) (instr n (nested_instrs n) (NAME print_name ∷ TERMINAL terminal.OpenParenthesis ∷ STRING s ∷ TERMINAL terminal.CloseParenthesis ∷ r))
-unfolding instr named_instr printing same_terminal expect
+unfolding instr printing same_terminal expect
 print_text_step zero s r = deep (omega arith) refl
 print_text_step (suc n) s r = fits (omega arith) (choose_false _ _ _ (positive n))
 
-call_step : (n : ℕ) (x : List ℕ) (r : List Kind) → Apart r → Comes n 0 (CallRoutine (named x), 0, r) (instr n (nested_instrs n) (NAME x ∷ r))
-unfolding instr named_instr
-call_step n x r a =
-    fits (omega arith) (choose_false _ _ _ (apart_sees terminal.Becomes r refl a) ∙ choose_false _ _ _ (neither (is_print (named x)) _ (apart_sees terminal.OpenParenthesis r refl a)))
+-- ---- calls
+
+dot_no_becomes : (r : List Kind) → sees terminal.Becomes (TERMINAL terminal.Dot ∷ r) ≡ false
+unfolding same_terminal
+dot_no_becomes r = refl
+
+actuals_no_becomes : {es : Exprs} {c : List Kind} {h : ℕ} → IsActuals es c h → (r : List Kind) → sees terminal.Becomes r ≡ false → sees terminal.Becomes (c ++ r) ≡ false
+unfolding same_terminal
+actuals_no_becomes grammar.no_actuals r e = e
+actuals_no_becomes (grammar.actuals d) r e = refl
+
+chain_no_becomes : {t : Expr} {c : List Kind} {h : ℕ} → IsChain t c h → (r : List Kind) → sees terminal.Becomes r ≡ false → sees terminal.Becomes (past (c ++ r)) ≡ false
+chain_no_becomes grammar.current r e = e
+chain_no_becomes grammar.result r e = e
+chain_no_becomes (grammar.unqualified x d) r e = actuals_no_becomes d r e
+chain_no_becomes (grammar.qualified {t} {ct} d x {es} {c} da) r e =
+    rw (append_assoc ct (TERMINAL terminal.Dot ∷ NAME x ∷ c) r) (chain_no_becomes d ((TERMINAL terminal.Dot ∷ NAME x ∷ c) ++ r) (dot_no_becomes (NAME x ∷ (c ++ r))))
+
+-- no string stands in parentheses behind the first token
+data NoText (ts : List Kind) : Type 0 where
+  not_open : sees terminal.OpenParenthesis (past ts) ≡ false → NoText ts
+  not_text : text_ahead (past (past ts)) ≡ false → NoText ts
+
+chain_no_text : {t : Expr} {c : List Kind} {h : ℕ} → IsChain t c h → (r : List Kind) → sees terminal.OpenParenthesis r ≡ false → NoText (c ++ r)
+chain_no_text grammar.current r e = not_open e
+chain_no_text grammar.result r e = not_open e
+chain_no_text (grammar.unqualified x grammar.no_actuals) r e = not_open e
+chain_no_text (grammar.unqualified x (grammar.actuals {es} {c} d)) r e =
+    not_text (begins_no_text _ (rw (append_assoc c (TERMINAL terminal.CloseParenthesis ∷ []) r) (exprs_begin d ((TERMINAL terminal.CloseParenthesis ∷ []) ++ r))))
+chain_no_text (grammar.qualified {t} {ct} d x {es} {c} da) r e =
+    rw (append_assoc ct (TERMINAL terminal.Dot ∷ NAME x ∷ c) r) (chain_no_text d ((TERMINAL terminal.Dot ∷ NAME x ∷ c) ++ r) (dot_no_actuals (NAME x ∷ (c ++ r))))
+
+and_false : (p q : Bool) → q ≡ false → (p && q) ≡ false
+and_false true q e = e
+and_false false q e = refl
+
+no_prints : (ts : List Kind) → NoText ts → prints ts ≡ false
+no_prints ts (not_open e) = ap (λ (b : Bool). b && text_ahead (past (past ts))) (and_false (sees_word print_name ts) _ e)
+no_prints ts (not_text e) = and_false (sees_word print_name ts && sees terminal.OpenParenthesis (past ts)) _ e
+
+call_step : (n h : ℕ) (s : Span) (t : Target) (x : Name) (es : Exprs) (ts r : List Kind) → ChainFirst ts → assigns ts ≡ false → prints ts ≡ false → Comes n h (Call s t x es, h, r) (chain (nested n) n ts) →
+    Comes n h (CallRoutine s t x es, h, r) (instr n (nested_instrs n) ts)
+unfolding instr routine_call same_terminal
+call_step n h s t x es _ r (name_first y ts) a p d = where_false _ _ _ _ _ _ a (where_false _ _ _ _ _ _ p (lastly n h (Call s t x es, h, r) _ _ _ d refl))
+call_step n h s t x es _ r (current_first ts) a p d = lastly n h (Call s t x es, h, r) _ _ _ d refl
+call_step n h s t x es _ r (result_first ts) a p d = where_false _ _ _ _ _ _ a (lastly n h (Call s t x es, h, r) _ _ _ d refl)
+
+-- ---- creations
+
+create_step : (n : ℕ) {v : Variable} {cv : List Kind} → IsVariable v cv → (r : List Kind) → sees terminal.Dot r ≡ false → Comes n 0 (Create nowhere v None, 0, r) (instr n (nested_instrs n) (TERMINAL terminal.Create ∷ (cv ++ r)))
+unfolding instr creation variable same_terminal
+create_step n (grammar.named_variable x) r e = fits (omega arith) (choose_false _ _ _ e)
+create_step n grammar.result_variable r e = fits (omega arith) (choose_false _ _ _ e)
+
+-- what follows a creation's dot, where there is room for it
+abbrev creation_by : ℕ → Variable → List Kind → Read Instr
+creation_by n v ts =
+    if n == 0 then Err Deep
+    else (name ts >>= λ x. actuals (nested n) x.1 >>= λ es. Ok (Create nowhere v (Some (record { name = x.0; actuals = es.0 })), max 1 es.1, es.2))
+
+creation_by_step : (n h : ℕ) (v : Variable) (x : List ℕ) (es : Exprs) (ts r : List Kind) → Comes n h (es, h, r) (actuals (nested n) ts) →
+    Comes n (max 1 h) (Create nowhere v (Some (record { name = named x; actuals = es })), max 1 h, r) (creation_by n v (NAME x ∷ ts))
+creation_by_step zero h v x es ts r d = deep (omega arith) refl
+creation_by_step (suc n) h v x es ts r d = where_false _ _ _ _ _ _ (positive n) (with_room (lastly (suc n) h (es, h, r) _ _ _ d refl))
   where
-    neither : (p q : Bool) → q ≡ false → (p && q) ≡ false
-    neither true q e = e
-    neither false q e = refl
+    with_room : {y : Instr × ℕ × List Kind} {a : Read Instr} → Comes (suc n) h y a → Comes (suc n) (max 1 h) y a
+    with_room (fits p e) = fits (omega arith) e
+    with_room (deep p e) = deep (omega arith) e
+
+create_by_step : (n h : ℕ) {v : Variable} {cv : List Kind} → IsVariable v cv → (x : List ℕ) (es : Exprs) (ts r : List Kind) → Comes n h (es, h, r) (actuals (nested n) ts) →
+    Comes n (max 1 h) (Create nowhere v (Some (record { name = named x; actuals = es })), max 1 h, r) (instr n (nested_instrs n) (TERMINAL terminal.Create ∷ (cv ++ TERMINAL terminal.Dot ∷ NAME x ∷ ts)))
+unfolding instr creation variable same_terminal
+create_by_step n h (grammar.named_variable y) x es ts r d = creation_by_step n h _ x es ts r d
+create_by_step n h grammar.result_variable x es ts r d = creation_by_step n h _ x es ts r d
 
 -- ---- if
 
@@ -188,7 +277,8 @@ branch_at n h hb hs t b bs c cb cs r d more zero found high len l = absurd (omeg
 branch_at n h hb hs t b bs c cb cs r d more (suc f) found high len l =
     branch_step n f found high (max h hb) hs t b bs _ (cs ++ r) r l d (λ m. more f (branches_push found t b) (max high (max h hb)) (shorter (length-append c (TERMINAL terminal.Then ∷ (cb ++ (cs ++ r)))) (length-append cb (cs ++ r)) len) m)
   where
-    shorter : length (c ++ TERMINAL terminal.Then ∷ (cb ++ (cs ++ r))) ≡ length c + suc (length (cb ++ (cs ++ r))) → length (cb ++ (cs ++ r)) ≡ length cb + length (cs ++ r) → suc (length (c ++ TERMINAL terminal.Then ∷ (cb ++ (cs ++ r)))) ≤ suc f → length (cs ++ r) ≤ f
+    shorter : length (c ++ TERMINAL terminal.Then ∷ (cb ++ (cs ++ r))) ≡ length c + suc (length (cb ++ (cs ++ r))) → length (cb ++ (cs ++ r)) ≡ length cb + length (cs ++ r) →
+        suc (length (c ++ TERMINAL terminal.Then ∷ (cb ++ (cs ++ r)))) ≤ suc f → length (cs ++ r) ≤ f
     shorter e k m = omega arith
 
 no_else_step : (n : ℕ) (r : List Kind) → 0 < n → Comes n 1 (no_instrs, 0, TERMINAL terminal.End ∷ r) (other n (nested_instrs n) (TERMINAL terminal.End ∷ r))
@@ -271,17 +361,173 @@ body_of is c h all r e n = let w : max 0 h ≡ h = omega arith in needs n h h (m
 inside_of : (is : Instrs) (c : List Kind) (h : ℕ) → InstrsRead is c h → (r : List Kind) → Ends r → (n : ℕ) → Comes n (suc h) (is, h, r) (nested_instrs n (c ++ r))
 inside_of is c h all r e n = nested_instrs_comes h (is, h, r) (c ++ r) (body_of is c h all r e) n
 
+-- ---- loops
+
+one_stands : (p q : Bool) → p ≡ true → (p || q) ≡ true
+one_stands true q e = refl
+one_stands false q e = cc
+
+other_stands : (p q : Bool) → q ≡ true → (p || q) ≡ true
+other_stands true q e = refl
+other_stands false q e = e
+
+loop_step : (n hi h hb : ℕ) (is b : Instrs) (t : Expr) (ts r1 r2 r : List Kind) → Comes n (suc hi) (is, hi, TERMINAL terminal.Until ∷ r1) (nested_instrs n ts) → Comes n (suc h) (t, h, TERMINAL terminal.Loop ∷ r2) (nested n top r1) →
+    Comes n (suc hb) (b, hb, TERMINAL terminal.End ∷ r) (nested_instrs n r2) → Comes n (suc (max hi (max h hb))) (Loop nowhere is t b, suc (max hi (max h hb)), r) (instr n (nested_instrs n) (TERMINAL terminal.From ∷ ts))
+unfolding instr iteration same_terminal expect
+loop_step n hi h hb is b t ts r1 r2 r i d db =
+    let w : max (suc hi) (max (suc h) (suc hb)) ≡ suc (max hi (max h hb)) = omega arith in
+    needs n _ _ _ _ (Loop nowhere is t b) r _ w refl
+    (both n (suc hi) (max (suc h) (suc hb)) (is, hi, TERMINAL terminal.Until ∷ r1) _ _ _ i λ p.
+    both n (suc h) (suc hb) (t, h, TERMINAL terminal.Loop ∷ r2) _ _ _ d λ q. lastly n (suc hb) (b, hb, TERMINAL terminal.End ∷ r) _ _ _ db refl)
+
+loop_respelled : (ci c cb r : List Kind) (s t u : Kind) → (ci ++ s ∷ (c ++ t ∷ (cb ++ u ∷ []))) ++ r ≡ ci ++ s ∷ (c ++ t ∷ (cb ++ u ∷ r))
+loop_respelled ci c cb r s t u = simp append_assoc
+
+-- ---- checks
+
+clauses_end : (r : List Kind) → ClausesEnd (TERMINAL terminal.End ∷ r)
+unfolding same_terminal
+clauses_end r = clauses_end_by terminal.End r refl refl refl
+
+checked_none : (n : ℕ) (r : List Kind) → Comes n 0 ([], 0, TERMINAL terminal.End ∷ r) (checked n (nested_instrs n) (TERMINAL terminal.End ∷ r))
+unfolding checked same_terminal
+checked_none n r = fits (omega arith) refl
+
+checked_some : (n h : ℕ) (xs : List Clause) (ts r : List Kind) → (begins_expr ts || sees terminal.Semicolon ts) ≡ true → Comes n (suc h) (xs, h, r) (nested_clauses n ts) → Comes n (suc h) (xs, suc h, r) (checked n (nested_instrs n) ts)
+unfolding checked
+checked_some n h xs ts r b d = where_true _ _ _ _ _ _ b (lastly n (suc h) (xs, h, r) _ _ _ d refl)
+
+around_long : (c : List Kind) (h : ℕ) → 1 ≤ length c → around c h ≡ suc h
+around_long [] h l = absurd (omega arith)
+around_long (k ∷ c) h l = refl
+
+complete_checked : {xs : List Clause} {c : List Kind} {h : ℕ} → IsClauses xs c h → (r : List Kind) (n : ℕ) → Comes n (around c h) (xs, around c h, TERMINAL terminal.End ∷ r) (checked n (nested_instrs n) (c ++ TERMINAL terminal.End ∷ r))
+complete_checked grammar.no_clause r n = checked_none n r
+complete_checked (grammar.semicolon_clauses {xs} {c} {h} d) r n =
+    checked_some n h xs _ (TERMINAL terminal.End ∷ r) (other_stands false _ (sees_self terminal.Semicolon (c ++ TERMINAL terminal.End ∷ r))) (complete_nested_clauses (grammar.semicolon_clauses d) (TERMINAL terminal.End ∷ r) (clauses_end r) n)
+complete_checked (grammar.clause {x} {xs} {c} {cs} {h} {hs} d g ds) r n =
+    let b : begins_expr ((c ++ cs) ++ TERMINAL terminal.End ∷ r) ≡ true = ap begins_expr (append_assoc c cs (TERMINAL terminal.End ∷ r)) ∙ clause_begins d (cs ++ TERMINAL terminal.End ∷ r) in
+    let l : 1 ≤ length (c ++ cs) = some_tokens begins_expr (c ++ cs) refl (ap begins_expr (append_assoc c cs []) ∙ clause_begins d (cs ++ [])) in
+    let w = sym (around_long (c ++ cs) (max h hs) l) in
+    needs n _ _ _ _ (x ∷ xs) (TERMINAL terminal.End ∷ r) _ w w
+    (checked_some n (max h hs) (x ∷ xs) _ (TERMINAL terminal.End ∷ r) (one_stands _ _ b) (complete_nested_clauses (grammar.clause d g ds) (TERMINAL terminal.End ∷ r) (clauses_end r) n))
+
+check_step : (n g : ℕ) (xs : List Clause) (ts r : List Kind) → Comes n g (xs, g, TERMINAL terminal.End ∷ r) (checked n (nested_instrs n) ts) → Comes n g (Check nowhere xs, g, r) (instr n (nested_instrs n) (TERMINAL terminal.Check ∷ ts))
+unfolding instr checking same_terminal expect
+check_step n g xs ts r d = lastly n g (xs, g, TERMINAL terminal.End ∷ r) _ _ _ d refl
+
+-- ---- separate blocks
+
+complete_nested_chain : {t : Expr} {c : List Kind} {h : ℕ} → IsChain t c h → (r : List Kind) (n : ℕ) → Comes n (suc h) (t, h, TERMINAL terminal.As ∷ r) (nested_chain n (c ++ TERMINAL terminal.As ∷ r))
+unfolding nested_chain
+complete_nested_chain d r zero = deep (omega arith) refl
+complete_nested_chain {t} {c} {h} d r (suc n) = go (complete_chain d (TERMINAL terminal.As ∷ r) (as_unlinked r) n)
+  where
+    go : Comes n h (t, h, TERMINAL terminal.As ∷ r) (chain (nested n) n (c ++ TERMINAL terminal.As ∷ r)) → Comes (suc n) (suc h) (t, h, TERMINAL terminal.As ∷ r) (chain (nested n) n (c ++ TERMINAL terminal.As ∷ r))
+    go (fits p q) = fits (omega arith) q
+    go (deep p q) = deep (omega arith) q
+
+head_step : (n h : ℕ) (t : Expr) (x : List ℕ) (ts r : List Kind) → Comes n (suc h) (t, h, TERMINAL terminal.As ∷ NAME x ∷ r) (nested_chain n ts) → Comes n (suc h) (record { value = t; name = named x }, h, r) (head n (nested_instrs n) ts)
+unfolding head same_terminal expect
+head_step n h t x ts r d = lastly n (suc h) (t, h, TERMINAL terminal.As ∷ NAME x ∷ r) _ _ _ d refl
+
+head_respelled : (c r : List Kind) (j k : Kind) → (c ++ j ∷ k ∷ []) ++ r ≡ c ++ j ∷ k ∷ r
+head_respelled c r j k = simp append_assoc
+
+complete_head : {x : Head} {c : List Kind} {h : ℕ} → IsHead x c h → (r : List Kind) (n : ℕ) → Comes n (suc h) (x, h, r) (head n (nested_instrs n) (c ++ r))
+complete_head (grammar.head {t} {c} {h} d x) r n = rw (head_respelled c r (TERMINAL terminal.As) (NAME x)) (head_step n h t x _ r (complete_nested_chain d (NAME x ∷ r) n))
+
+HeadsRead : List Head → List Kind → ℕ → Type 0
+HeadsRead xs c h = (r : List Kind) → sees terminal.Comma r ≡ false → (n f : ℕ) (found : List Head) (high : ℕ) → length (c ++ r) ≤ f → high < n →
+    Comes n (suc h) (found ++ xs, max high h, r) (more_heads n (nested_instrs n) (suc f) found high (TERMINAL terminal.Comma ∷ (c ++ r)))
+
+heads_stay : (n f : ℕ) (found : List Head) (high : ℕ) (r : List Kind) → sees terminal.Comma r ≡ false → more_heads n (nested_instrs n) f found high r ≡ Ok (found, high, r)
+unfolding more_heads
+heads_stay n zero found high r e = refl
+heads_stay n (suc f) found high r e = choose_false _ _ _ e
+
+-- a head behind a comma
+comma_read : (n f : ℕ) (found : List Head) (high : ℕ) (ts : List Kind) →
+    more_heads n (nested_instrs n) (suc f) found high (TERMINAL terminal.Comma ∷ ts) ≡ (head n (nested_instrs n) ts >>= λ x. more_heads n (nested_instrs n) f (found ++ x.0 ∷ []) (max high x.1) x.2)
+unfolding more_heads
+comma_read n f found high ts = choose_true _ _ _ (sees_self terminal.Comma ts)
+
+last_head_step : (n f h : ℕ) (found : List Head) (high : ℕ) (x : Head) (ts r : List Kind) → sees terminal.Comma r ≡ false → Comes n (suc h) (x, h, r) (head n (nested_instrs n) ts) →
+    Comes n (suc h) (found ++ x ∷ [], max high h, r) (more_heads n (nested_instrs n) (suc f) found high (TERMINAL terminal.Comma ∷ ts))
+last_head_step n f h found high x ts r e d =
+    along n (suc h) (suc h) (found ++ x ∷ [], max high h, r) (found ++ x ∷ [], max high h, r) _ _ refl refl (comma_read n f found high ts)
+    (lastly n (suc h) (x, h, r) _ _ _ d (heads_stay n f (found ++ x ∷ []) (max high h) r e))
+
+more_head_at : (n h hs : ℕ) (x : Head) (xs : List Head) (c cs r : List Kind) → Comes n (suc h) (x, h, TERMINAL terminal.Comma ∷ (cs ++ r)) (head n (nested_instrs n) (c ++ TERMINAL terminal.Comma ∷ (cs ++ r))) →
+    ((f : ℕ) (found : List Head) (high : ℕ) → length (cs ++ r) ≤ f → high < n → Comes n (suc hs) (found ++ xs, max high hs, r) (more_heads n (nested_instrs n) (suc f) found high (TERMINAL terminal.Comma ∷ (cs ++ r)))) →
+    (f : ℕ) (found : List Head) (high : ℕ) → length (c ++ TERMINAL terminal.Comma ∷ (cs ++ r)) ≤ f → high < n →
+    Comes n (suc (max h hs)) (found ++ x ∷ xs, max high (max h hs), r) (more_heads n (nested_instrs n) (suc f) found high (TERMINAL terminal.Comma ∷ (c ++ TERMINAL terminal.Comma ∷ (cs ++ r))))
+more_head_at n h hs x xs c cs r d more zero found high len l = let e = length-append c (TERMINAL terminal.Comma ∷ (cs ++ r)) in absurd (omega arith)
+more_head_at n h hs x xs c cs r d more (suc f) found high len l =
+    let e = length-append c (TERMINAL terminal.Comma ∷ (cs ++ r)) in
+    let v : max (suc h) (suc hs) ≡ suc (max h hs) = omega arith in
+    grown n high (suc h) h (suc hs) hs (suc (max h hs)) x _ _ (TERMINAL terminal.Comma ∷ (cs ++ r)) r _ _ _ (comma_read n (suc f) found high (c ++ TERMINAL terminal.Comma ∷ (cs ++ r))) (append_assoc found (x ∷ []) xs) v d
+    (λ p. more f (found ++ x ∷ []) (max high h) (omega arith) (omega arith))
+
+behind_comma : {xs : List Head} {c : List Kind} {h : ℕ} → IsHeads xs c h → HeadsRead xs c h
+unfolding HeadsRead
+behind_comma (grammar.one_head {x} {c} {h} d) = λ r e n f found high len l. last_head_step n f h found high x (c ++ r) r e (complete_head d r n)
+behind_comma (grammar.more_heads {x} {xs} {c} {cs} {h} {hs} d ds) = λ r e n f found high len l.
+    rw (behind_word c cs r (TERMINAL terminal.Comma))
+    (more_head_at n h hs x xs c cs r (complete_head d (TERMINAL terminal.Comma ∷ (cs ++ r)) n) (behind_comma ds r e n) f found high
+    (subst (λ (ts : List Kind). length ts ≤ f) (behind_word c cs r (TERMINAL terminal.Comma)) len) l)
+
+abbrev then_heads : ℕ → Head × ℕ × List Kind → Read (List Head)
+then_heads n x = more_heads n (nested_instrs n) (length x.2) (x.0 ∷ []) x.1 x.2
+
+complete_heads : {xs : List Head} {c : List Kind} {h : ℕ} → IsHeads xs c h → (r : List Kind) → sees terminal.Comma r ≡ false → (n : ℕ) → Comes n (suc h) (xs, h, r) (heads n (nested_instrs n) (c ++ r))
+unfolding heads HeadsRead
+complete_heads (grammar.one_head {x} {c} {h} d) r e n = lastly n (suc h) (x, h, r) _ _ (then_heads n) (complete_head d r n) (heads_stay n (length r) (x ∷ []) h r e)
+complete_heads (grammar.more_heads {x} {xs} {c} {cs} {h} {hs} d ds) r e n =
+    let v : max (suc h) (suc hs) ≡ suc (max h hs) = omega arith in
+    rw (behind_word c cs r (TERMINAL terminal.Comma))
+    (needs n _ _ _ _ (x ∷ xs) r _ v refl
+    (both n (suc h) (suc hs) (x, h, TERMINAL terminal.Comma ∷ (cs ++ r)) (x ∷ xs, max h hs, r) _ (then_heads n) (complete_head d (TERMINAL terminal.Comma ∷ (cs ++ r)) n)
+    (λ p. behind_comma ds r e n (length (cs ++ r)) (x ∷ []) h (omega arith) (omega arith))))
+
+do_no_comma : (r : List Kind) → sees terminal.Comma (TERMINAL terminal.Do ∷ r) ≡ false
+unfolding same_terminal
+do_no_comma r = refl
+
+block_step : (n h hb : ℕ) (xs : List Head) (b : Instrs) (ts r1 r : List Kind) → Comes n (suc h) (xs, h, TERMINAL terminal.Do ∷ r1) (heads n (nested_instrs n) ts) → Comes n (suc hb) (b, hb, TERMINAL terminal.End ∷ r) (nested_instrs n r1) →
+    Comes n (suc (max h hb)) (Block nowhere xs b, suc (max h hb), r) (instr n (nested_instrs n) (TERMINAL terminal.Separate ∷ ts))
+unfolding instr block same_terminal expect
+block_step n h hb xs b ts r1 r d db =
+    let v : max (suc h) (suc hb) ≡ suc (max h hb) = omega arith in
+    needs n _ _ _ _ (Block nowhere xs b) r _ v refl (both n (suc h) (suc hb) (xs, h, TERMINAL terminal.Do ∷ r1) _ _ _ d λ p. lastly n (suc hb) (b, hb, TERMINAL terminal.End ∷ r) _ _ _ db refl)
+
+block_respelled : (c cb r : List Kind) (s t : Kind) → (c ++ s ∷ (cb ++ t ∷ [])) ++ r ≡ c ++ s ∷ (cb ++ t ∷ r)
+block_respelled c cb r s t = simp append_assoc
+
 -- ---- the law
 
 mutual
   unfolding BranchesRead
 
   pub complete_instr : {i : Instr} {c : List Kind} {h : ℕ} → IsInstr i c h → (r : List Kind) → Apart r → (n : ℕ) → Comes n h (i, h, r) (instr n (nested_instrs n) (c ++ r))
-  complete_instr (grammar.assign x {t} {c} {h} d) r a n = assign_step n h x t (c ++ r) r (complete_expr d r a n)
-  complete_instr (grammar.print {t} {c} {h} d) r a n =
-      rw (append_assoc c (TERMINAL terminal.CloseParenthesis ∷ []) r) (print_step n h t _ r (expr_begins d _) (complete_nested d (TERMINAL terminal.CloseParenthesis ∷ r) refl n))
+  complete_instr (grammar.assign {v} {t} {cv} {c} {h} dv d) r a n = rw (behind_word cv c r (TERMINAL terminal.Becomes)) (assign_step n h dv t (c ++ r) r (complete_expr d r a n))
   complete_instr (grammar.print_text s) r a n = print_text_step n s r
-  complete_instr (grammar.call x) r a n = call_step n x r a
+  complete_instr (grammar.call {s} {t} {x} {es} {c} {h} d) r a n =
+      call_step n h s t x es (c ++ r) r (chain_first d r) (and_false (name_ahead (c ++ r) || sees terminal.Result (c ++ r)) _ (chain_no_becomes d r (apart_sees terminal.Becomes r refl a)))
+      (no_prints (c ++ r) (chain_no_text d r (apart_sees terminal.OpenParenthesis r refl a))) (complete_chain d r (apart_unlinked r a) n)
+  complete_instr (grammar.create dv) r a n = create_step n dv r (apart_sees terminal.Dot r refl a)
+  complete_instr (grammar.create_by {v} {cv} dv x {es} {c} {h} d) r a n =
+      rw (append_assoc cv (TERMINAL terminal.Dot ∷ NAME x ∷ c) r) (create_by_step n h dv x es (c ++ r) r (complete_actuals d r (apart_sees terminal.OpenParenthesis r refl a) n))
+  complete_instr (grammar.loop {initial = is} {body = b} {t} {ci} {c} {cb} {hi} {h} {hb} di d db) r a n =
+      rw (loop_respelled ci c cb r (TERMINAL terminal.Until) (TERMINAL terminal.Loop) (TERMINAL terminal.End))
+      (loop_step n hi h hb is b t _ (c ++ TERMINAL terminal.Loop ∷ (cb ++ TERMINAL terminal.End ∷ r)) (cb ++ TERMINAL terminal.End ∷ r) r
+      (inside_of is ci hi (complete_instrs di) (TERMINAL terminal.Until ∷ (c ++ TERMINAL terminal.Loop ∷ (cb ++ TERMINAL terminal.End ∷ r))) (until_ends (c ++ TERMINAL terminal.Loop ∷ (cb ++ TERMINAL terminal.End ∷ r))) n) (complete_nested d (TERMINAL terminal.Loop ∷ (cb ++ TERMINAL terminal.End ∷ r)) refl n)
+      (inside_of b cb hb (complete_instrs db) (TERMINAL terminal.End ∷ r) (end_ends r) n))
+  complete_instr (grammar.check {xs} {c} {h} d) r a n = rw (append_assoc c (TERMINAL terminal.End ∷ []) r) (check_step n (around c h) xs (c ++ TERMINAL terminal.End ∷ r) r (complete_checked d r n))
+  complete_instr (grammar.block {xs} {body = b} {c} {cb} {h} {hb} d db) r a n =
+      rw (block_respelled c cb r (TERMINAL terminal.Do) (TERMINAL terminal.End))
+      (block_step n h hb xs b _ (cb ++ TERMINAL terminal.End ∷ r) r (complete_heads d (TERMINAL terminal.Do ∷ (cb ++ TERMINAL terminal.End ∷ r)) (do_no_comma (cb ++ TERMINAL terminal.End ∷ r)) n)
+      (inside_of b cb hb (complete_instrs db) (TERMINAL terminal.End ∷ r) (end_ends r) n))
   complete_instr (grammar.conditional {t} {body = b} {other = o} {bs} {c} {cb} {cs} {co} {h} {hb} {hs} {ho} d db dbs de) r a n =
       rw (if_respelled c cb cs co r (TERMINAL terminal.Then) (TERMINAL terminal.End))
       (conditional_step n (max h hb) hs ho t b o bs _ (cs ++ (co ++ TERMINAL terminal.End ∷ r)) (co ++ TERMINAL terminal.End ∷ r) r

@@ -1,13 +1,15 @@
 -- Each token has its depth, and the greatest of them is the grammar's nesting.
+use Rattle.sc_tree.proofs.Lists.{some_tokens}
 use Rattle.std.proofs.Common.{◌≡◌, ℕ, suc, ◌≤◌, max, true, List, [], ◌∷◌, ◌++◌, length, refl, ap, sym, ◌∙◌, length-append, arith}
 use Rattle.std.proofs.lemmas.List.{length-map}
 use Rattle.sc_text.specs.Kind.{Kind}
-use Rattle.sc_tree.specs.Plain.{Expr, Instr, Instrs, Branches, Feature, Clause, Class}
+use Rattle.sc_text.specs.declared.token.Terminal.{Terminal}
+use Rattle.sc_tree.specs.Plain.{Name, Expr, Exprs, Variable, Clause, Head, Instr, Instrs, Branches, Feature, Class}
 use Rattle.sc_tree.specs.Grammar as grammar
-use Rattle.sc_tree.specs.Grammar.{spelling, IsPrimary, IsExpr, IsInstr, IsInstrs, IsBranches, IsElse, IsClause, IsClauses, IsFeature, IsFeatures, IsSections, IsInvariant, IsClass, IsClasses}
+use Rattle.sc_tree.specs.Grammar.{spelling, around, IsPrimary, IsChain, IsActuals, IsExprs, IsExpr, IsClause, IsClauses, IsAssertion, IsVariable, IsHead, IsHeads, IsInstr, IsInstrs, IsBranches, IsElse, IsFeature, IsFeatures, IsSections, IsClass, IsClasses}
 use Rattle.sc_tree.specs.Reading.{begins_expr}
-use Rattle.sc_tree.specs.Nesting.{inside, outside, greatest, primary_depths, expr_depths, instr_depths, instrs_depths, branches_depths, other_depths, clause_depths, clauses_depths, feature_depths, features_depths, sections_depths, invariant_depths, class_depths, classes_depths}
-use Rattle.sc_tree.proofs.Follows.{expr_begins}
+use Rattle.sc_tree.specs.Nesting.{inside, outside, greatest, primary_depths, chain_depths, actuals_depths, exprs_depths, expr_depths, clause_depths, clauses_depths, assertion_depths, head_depths, heads_depths, instr_depths, instrs_depths, branches_depths, other_depths, feature_depths, features_depths, sections_depths, class_depths, classes_depths}
+use Rattle.sc_tree.proofs.Follows.{chain_first, first_begins, expr_begins, exprs_begin}
 
 -- ---- as many depths as tokens
 
@@ -33,8 +35,24 @@ mutual
   primary_sized (grammar.integer n) = refl
   primary_sized grammar.true_constant = refl
   primary_sized grammar.false_constant = refl
-  primary_sized (grammar.name x) = refl
+  primary_sized grammar.void = refl
   primary_sized (grammar.parenthesized {t} {c} d) = ap suc (beside _ (0 ∷ []) c (_ ∷ []) (within _ c (expr_sized d)) refl)
+  primary_sized (grammar.chain d) = chain_sized d
+  primary_sized (grammar.object_test {co} {c} dt d x) = ap suc (beside (outside co) _ co _ (apart co) (beside _ (0 ∷ 0 ∷ []) c (_ ∷ _ ∷ []) (chain_sized d) refl))
+
+  chain_sized : {t : Expr} {c : List Kind} {h : ℕ} (d : IsChain t c h) → Sized (chain_depths d) c
+  chain_sized grammar.current = refl
+  chain_sized grammar.result = refl
+  chain_sized (grammar.unqualified x d) = ap suc (actuals_sized d)
+  chain_sized (grammar.qualified {ct} d x da) = beside _ _ ct _ (within _ ct (chain_sized d)) (ap suc (ap suc (actuals_sized da)))
+
+  actuals_sized : {es : Exprs} {c : List Kind} {h : ℕ} (d : IsActuals es c h) → Sized (actuals_depths d) c
+  actuals_sized grammar.no_actuals = refl
+  actuals_sized (grammar.actuals {es} {c} d) = ap suc (beside _ (0 ∷ []) c (_ ∷ []) (within _ c (exprs_sized d)) refl)
+
+  exprs_sized : {es : Exprs} {c : List Kind} {h : ℕ} (d : IsExprs es c h) → Sized (exprs_depths d) c
+  exprs_sized (grammar.one_expr d) = expr_sized d
+  exprs_sized (grammar.more_exprs {c} {cs} d ds) = beside _ _ c _ (expr_sized d) (ap suc (exprs_sized ds))
 
   expr_sized : {k : ℕ} {t : Expr} {c : List Kind} {h : ℕ} (d : IsExpr k t c h) → Sized (expr_depths d) c
   expr_sized (grammar.primary d) = primary_sized d
@@ -62,16 +80,20 @@ greatest-inside_some : (ns : List ℕ) → 1 ≤ length ns → greatest (inside 
 greatest-inside_some [] l = absurd (omega arith)
 greatest-inside_some (n ∷ ns) l = let e = greatest-inside n ns in omega (arith, e)
 
-some_tokens : (c : List Kind) → begins_expr (c ++ []) ≡ true → 1 ≤ length c
-some_tokens [] e = cc
-some_tokens (k ∷ c) e = omega arith
+-- where there are tokens, they stand one deeper in a construct
+held_some : (ns : List ℕ) (c : List Kind) (h : ℕ) → Sized ns c → begins_expr (c ++ []) ≡ true → h ≡ greatest ns → greatest (inside ns) ≡ suc h
+held_some ns c h s b e =
+    let l : 1 ≤ length c = some_tokens begins_expr c refl b in
+    greatest-inside_some ns (omega (arith, l, s)) ∙ ap suc (sym e)
 
--- an expression's tokens stand one deeper in a construct
 held : {k : ℕ} {t : Expr} {c : List Kind} {h : ℕ} (d : IsExpr k t c h) → h ≡ greatest (expr_depths d) → greatest (inside (expr_depths d)) ≡ suc h
-held {k} {t} {c} {h} d e =
-    let l : 1 ≤ length c = some_tokens c (expr_begins d []) in
-    let s : length (expr_depths d) ≡ length c = expr_sized d in
-    greatest-inside_some (expr_depths d) (omega (arith, l, s)) ∙ ap suc (sym e)
+held {k} {t} {c} {h} d e = held_some (expr_depths d) c h (expr_sized d) (expr_begins d []) e
+
+held_chain : {t : Expr} {c : List Kind} {h : ℕ} (d : IsChain t c h) → h ≡ greatest (chain_depths d) → greatest (inside (chain_depths d)) ≡ suc h
+held_chain {t} {c} {h} d e = held_some (chain_depths d) c h (chain_sized d) (first_begins (c ++ []) (chain_first d [])) e
+
+held_exprs : {es : Exprs} {c : List Kind} {h : ℕ} (d : IsExprs es c h) → h ≡ greatest (exprs_depths d) → greatest (inside (exprs_depths d)) ≡ suc h
+held_exprs {es} {c} {h} d e = held_some (exprs_depths d) c h (exprs_sized d) (exprs_begin d []) e
 
 joined_depths : (ns ms : List ℕ) (c : List Kind) (a b : ℕ) → greatest ns ≡ suc a → greatest ms ≡ suc b → suc (max a b) ≡ greatest (ns ++ (outside c ++ ms))
 joined_depths ns ms c a b e f =
@@ -84,6 +106,31 @@ joined_depths ns ms c a b e f =
 closed_depths : (ns : List ℕ) (a : ℕ) → greatest ns ≡ suc a → suc a ≡ greatest (0 ∷ (ns ++ 0 ∷ []))
 closed_depths ns a e = let p = greatest-append ns (0 ∷ []) in omega (arith, p, e)
 
+side_by_side : (ns ms : List ℕ) (a b : ℕ) → a ≡ greatest ns → b ≡ greatest ms → max a b ≡ greatest (ns ++ ms)
+side_by_side ns ms a b e f = let p = greatest-append ns ms in omega (arith, p, e, f)
+
+own_first : (ns : List ℕ) (h : ℕ) → h ≡ greatest ns → h ≡ greatest (0 ∷ ns)
+own_first ns h e = omega (arith, e)
+
+own_last : (ns : List ℕ) (h : ℕ) → h ≡ greatest ns → h ≡ greatest (ns ++ 0 ∷ [])
+own_last ns h e = let p = greatest-append ns (0 ∷ []) in omega (arith, p, e)
+
+-- tokens with nothing around them change no greatest depth
+outside_first : (c : List Kind) (ns : List ℕ) (h : ℕ) → h ≡ greatest ns → h ≡ greatest (outside c ++ ns)
+outside_first c ns h e = let p = greatest-append (outside c) ns in let q = greatest-outside c in omega (arith, p, q, e)
+
+-- `a, b`
+listed_depths : (ns ms : List ℕ) (a b : ℕ) → a ≡ greatest ns → b ≡ greatest ms → max a b ≡ greatest (ns ++ 0 ∷ ms)
+listed_depths ns ms a b e f = side_by_side ns (0 ∷ ms) a b e (own_first ms b f)
+
+-- `a.x ..`
+dotted_depths : (ns ms : List ℕ) (a b : ℕ) → greatest ns ≡ suc a → b ≡ greatest ms → max (suc a) b ≡ greatest (ns ++ 0 ∷ 0 ∷ ms)
+dotted_depths ns ms a b e f = side_by_side ns (0 ∷ 0 ∷ ms) (suc a) b (sym e) (own_first (0 ∷ ms) b (own_first ms b f))
+
+-- `a as x`
+named_depths : (ns : List ℕ) (a : ℕ) → a ≡ greatest ns → a ≡ greatest (ns ++ 0 ∷ 0 ∷ [])
+named_depths ns a e = let p = greatest-append ns (0 ∷ 0 ∷ []) in omega (arith, p, e)
+
 mutual
   unfolding primary_depths
 
@@ -91,8 +138,25 @@ mutual
   primary_greatest (grammar.integer n) = refl
   primary_greatest grammar.true_constant = refl
   primary_greatest grammar.false_constant = refl
-  primary_greatest (grammar.name x) = refl
+  primary_greatest grammar.void = refl
   primary_greatest (grammar.parenthesized {t} {c} {h} d) = closed_depths _ h (held d (expr_greatest d))
+  primary_greatest (grammar.chain d) = chain_greatest d
+  primary_greatest (grammar.object_test {co} {h} dt d x) =
+      own_first (outside co ++ (chain_depths d ++ 0 ∷ 0 ∷ [])) h (outside_first co (chain_depths d ++ 0 ∷ 0 ∷ []) h (named_depths (chain_depths d) h (chain_greatest d)))
+
+  chain_greatest : {t : Expr} {c : List Kind} {h : ℕ} (d : IsChain t c h) → h ≡ greatest (chain_depths d)
+  chain_greatest grammar.current = refl
+  chain_greatest grammar.result = refl
+  chain_greatest (grammar.unqualified x {h} d) = own_first (actuals_depths d) h (actuals_greatest d)
+  chain_greatest (grammar.qualified {ht} d x {h} da) = dotted_depths _ (actuals_depths da) ht h (held_chain d (chain_greatest d)) (actuals_greatest da)
+
+  actuals_greatest : {es : Exprs} {c : List Kind} {h : ℕ} (d : IsActuals es c h) → h ≡ greatest (actuals_depths d)
+  actuals_greatest grammar.no_actuals = refl
+  actuals_greatest (grammar.actuals {es} {c} {h} d) = closed_depths _ h (held_exprs d (exprs_greatest d))
+
+  exprs_greatest : {es : Exprs} {c : List Kind} {h : ℕ} (d : IsExprs es c h) → h ≡ greatest (exprs_depths d)
+  exprs_greatest (grammar.one_expr d) = expr_greatest d
+  exprs_greatest (grammar.more_exprs {h} {hs} d ds) = listed_depths (expr_depths d) (exprs_depths ds) h hs (expr_greatest d) (exprs_greatest ds)
 
   expr_greatest : {k : ℕ} {t : Expr} {c : List Kind} {h : ℕ} (d : IsExpr k t c h) → h ≡ greatest (expr_depths d)
   expr_greatest (grammar.primary d) = primary_greatest d
@@ -101,18 +165,80 @@ mutual
   expr_greatest (grammar.left op g {a} {b} {ca} {cb} {ha} {hb} d e) = joined_depths _ _ (spelling op) ha hb (held d (expr_greatest d)) (held e (expr_greatest e))
   expr_greatest (grammar.alone op g {a} {b} {ca} {cb} {ha} {hb} d e) = joined_depths _ _ (spelling op) ha hb (held d (expr_greatest d)) (held e (expr_greatest e))
 
+-- ---- assertions
+
+clause_sized : {x : Clause} {c : List Kind} {h : ℕ} (d : IsClause x c h) → Sized (clause_depths d) c
+unfolding clause_depths
+clause_sized (grammar.untagged d) = expr_sized d
+clause_sized (grammar.tagged x d) = ap suc (ap suc (expr_sized d))
+
+clause_greatest : {x : Clause} {c : List Kind} {h : ℕ} (d : IsClause x c h) → h ≡ greatest (clause_depths d)
+unfolding clause_depths
+clause_greatest (grammar.untagged d) = expr_greatest d
+clause_greatest (grammar.tagged x {t} {c} {h} d) = own_first (0 ∷ expr_depths d) h (own_first (expr_depths d) h (expr_greatest d))
+
+clauses_sized : {xs : List Clause} {c : List Kind} {h : ℕ} (d : IsClauses xs c h) → Sized (clauses_depths d) c
+unfolding clauses_depths
+clauses_sized grammar.no_clause = refl
+clauses_sized (grammar.semicolon_clauses d) = ap suc (clauses_sized d)
+clauses_sized (grammar.clause {x} {xs} {c} {cs} d g ds) = beside _ _ c cs (clause_sized d) (clauses_sized ds)
+
+clauses_greatest : {xs : List Clause} {c : List Kind} {h : ℕ} (d : IsClauses xs c h) → h ≡ greatest (clauses_depths d)
+unfolding clauses_depths
+clauses_greatest grammar.no_clause = refl
+clauses_greatest (grammar.semicolon_clauses {xs} {c} {h} d) = own_first (clauses_depths d) h (clauses_greatest d)
+clauses_greatest (grammar.clause {h} {hs} d g ds) = side_by_side (clause_depths d) (clauses_depths ds) h hs (clause_greatest d) (clauses_greatest ds)
+
+assertion_sized : {m : Terminal} {xs : List Clause} {c : List Kind} {h : ℕ} (d : IsAssertion m xs c h) → Sized (assertion_depths d) c
+unfolding assertion_depths
+assertion_sized grammar.no_assertion = refl
+assertion_sized (grammar.assertion d) = ap suc (clauses_sized d)
+
+assertion_greatest : {m : Terminal} {xs : List Clause} {c : List Kind} {h : ℕ} (d : IsAssertion m xs c h) → h ≡ greatest (assertion_depths d)
+unfolding assertion_depths
+assertion_greatest grammar.no_assertion = refl
+assertion_greatest (grammar.assertion {xs} {c} {h} d) = own_first (clauses_depths d) h (clauses_greatest d)
+
 -- ---- instructions
+
+head_sized : {x : Head} {c : List Kind} {h : ℕ} (d : IsHead x c h) → Sized (head_depths d) c
+unfolding head_depths
+head_sized (grammar.head {c} d x) = beside _ (0 ∷ 0 ∷ []) c (_ ∷ _ ∷ []) (chain_sized d) refl
+
+heads_sized : {xs : List Head} {c : List Kind} {h : ℕ} (d : IsHeads xs c h) → Sized (heads_depths d) c
+unfolding heads_depths
+heads_sized (grammar.one_head d) = head_sized d
+heads_sized (grammar.more_heads {c} d ds) = beside _ _ c _ (head_sized d) (ap suc (heads_sized ds))
+
+head_greatest : {x : Head} {c : List Kind} {h : ℕ} (d : IsHead x c h) → h ≡ greatest (head_depths d)
+unfolding head_depths
+head_greatest (grammar.head {h} d x) = named_depths (chain_depths d) h (chain_greatest d)
+
+heads_greatest : {xs : List Head} {c : List Kind} {h : ℕ} (d : IsHeads xs c h) → h ≡ greatest (heads_depths d)
+unfolding heads_depths
+heads_greatest (grammar.one_head d) = head_greatest d
+heads_greatest (grammar.more_heads {h} {hs} d ds) = listed_depths (head_depths d) (heads_depths ds) h hs (head_greatest d) (heads_greatest ds)
+
+heads_long : {xs : List Head} {c : List Kind} {h : ℕ} (d : IsHeads xs c h) → 1 ≤ length (heads_depths d)
+unfolding heads_depths head_depths
+heads_long (grammar.one_head (grammar.head d x)) = let e = length-append (chain_depths d) (0 ∷ 0 ∷ []) in omega (arith, e)
+heads_long (grammar.more_heads d ds) = let e = length-append (head_depths d) (0 ∷ heads_depths ds) in omega (arith, e)
 
 mutual
   unfolding instr_depths
 
   instr_sized : {i : Instr} {c : List Kind} {h : ℕ} (d : IsInstr i c h) → Sized (instr_depths d) c
-  instr_sized (grammar.assign x d) = ap suc (ap suc (expr_sized d))
-  instr_sized (grammar.print {t} {c} d) = ap suc (ap suc (beside _ (0 ∷ []) c (_ ∷ []) (within _ c (expr_sized d)) refl))
+  instr_sized (grammar.assign {cv} dv d) = beside (outside cv) _ cv _ (apart cv) (ap suc (expr_sized d))
   instr_sized (grammar.print_text s) = refl
-  instr_sized (grammar.call x) = refl
+  instr_sized (grammar.call d) = chain_sized d
+  instr_sized (grammar.create {cv} dv) = ap suc (apart cv)
+  instr_sized (grammar.create_by {cv} dv x d) = ap suc (beside _ _ cv _ (within (outside cv) cv (apart cv)) (ap suc (ap suc (actuals_sized d))))
   instr_sized (grammar.conditional {c} {cb} {cs} {co} d body bs other) =
       ap suc (beside _ _ c _ (within _ c (expr_sized d)) (ap suc (beside _ _ cb _ (within _ cb (instrs_sized body)) (beside _ _ cs _ (branches_sized bs) (beside _ (0 ∷ []) co (_ ∷ []) (other_sized other) refl)))))
+  instr_sized (grammar.loop {ci} {c} {cb} di d db) =
+      ap suc (beside _ _ ci _ (within _ ci (instrs_sized di)) (ap suc (beside _ _ c _ (within _ c (expr_sized d)) (ap suc (beside _ (0 ∷ []) cb (_ ∷ []) (within _ cb (instrs_sized db)) refl)))))
+  instr_sized (grammar.check {xs} {c} d) = ap suc (beside _ (0 ∷ []) c (_ ∷ []) (within _ c (clauses_sized d)) refl)
+  instr_sized (grammar.block {c} {cb} d db) = ap suc (beside _ _ c _ (within _ c (heads_sized d)) (ap suc (beside _ (0 ∷ []) cb (_ ∷ []) (within _ cb (instrs_sized db)) refl)))
 
   instrs_sized : {is : Instrs} {c : List Kind} {h : ℕ} (d : IsInstrs is c h) → Sized (instrs_depths d) c
   instrs_sized grammar.no_instr = refl
@@ -150,25 +276,48 @@ branch_depths n cs body more h hb hs e f s =
 held_instrs : (n : ℕ) (ns : List ℕ) (h : ℕ) → h ≡ greatest ns → max (suc n) (greatest (inside ns)) ≡ suc (max n h)
 held_instrs n ns h e = let p = greatest-inside n ns in omega (arith, p, e)
 
-side_by_side : (ns ms : List ℕ) (a b : ℕ) → a ≡ greatest ns → b ≡ greatest ms → max a b ≡ greatest (ns ++ ms)
-side_by_side ns ms a b e f = let p = greatest-append ns ms in omega (arith, p, e, f)
+-- `create v.x ..`
+created_depths : {v : Variable} {cv : List Kind} → IsVariable v cv → (ns : List ℕ) (h : ℕ) → h ≡ greatest ns → max 1 h ≡ greatest (0 ∷ (inside (outside cv) ++ 0 ∷ 0 ∷ ns))
+created_depths (grammar.named_variable x) ns h e = omega (arith, e)
+created_depths grammar.result_variable ns h e = omega (arith, e)
 
-own_first : (ns : List ℕ) (h : ℕ) → h ≡ greatest ns → h ≡ greatest (0 ∷ ns)
-own_first ns h e = omega (arith, e)
+-- `from is until c loop body end`
+looped_depths : (is cs body : List ℕ) (hi h hb : ℕ) → greatest cs ≡ suc h → max (suc h) (greatest is) ≡ suc (max h hi) → max (suc h) (greatest body) ≡ suc (max h hb) →
+    suc (max hi (max h hb)) ≡ greatest (0 ∷ (is ++ 0 ∷ (cs ++ 0 ∷ (body ++ 0 ∷ []))))
+looped_depths is cs body hi h hb e f g =
+    let p = greatest-append is (0 ∷ (cs ++ 0 ∷ (body ++ 0 ∷ []))) in
+    let q = greatest-append cs (0 ∷ (body ++ 0 ∷ [])) in
+    let r = greatest-append body (0 ∷ []) in
+    omega (arith, p, q, r, e, f, g)
 
-own_last : (ns : List ℕ) (h : ℕ) → h ≡ greatest ns → h ≡ greatest (ns ++ 0 ∷ [])
-own_last ns h e = let p = greatest-append ns (0 ∷ []) in omega (arith, p, e)
+-- `check .. end`
+checked_depths : (ns : List ℕ) (c : List Kind) (h : ℕ) → Sized ns c → h ≡ greatest ns → around c h ≡ greatest (0 ∷ (inside ns ++ 0 ∷ []))
+checked_depths [] [] h s e = refl
+checked_depths [] (k ∷ c) h s e = absurd (omega (arith, s))
+checked_depths (n ∷ ns) [] h s e = absurd (omega (arith, s))
+checked_depths (n ∷ ns) (k ∷ c) h s e = closed_depths (inside (n ∷ ns)) h (greatest-inside_some (n ∷ ns) (omega arith) ∙ ap suc (sym e))
+
+-- `separate heads do body end`
+block_depths : (hs body : List ℕ) (h hb : ℕ) → greatest hs ≡ suc h → max (suc h) (greatest body) ≡ suc (max h hb) → suc (max h hb) ≡ greatest (0 ∷ (hs ++ 0 ∷ (body ++ 0 ∷ [])))
+block_depths hs body h hb e f =
+    let p = greatest-append hs (0 ∷ (body ++ 0 ∷ [])) in
+    let q = greatest-append body (0 ∷ []) in
+    omega (arith, p, q, e, f)
 
 mutual
   unfolding instr_depths
 
   instr_greatest : {i : Instr} {c : List Kind} {h : ℕ} (d : IsInstr i c h) → h ≡ greatest (instr_depths d)
-  instr_greatest (grammar.assign x {t} {c} {h} d) = own_first (0 ∷ expr_depths d) h (own_first (expr_depths d) h (expr_greatest d))
-  instr_greatest (grammar.print {t} {c} {h} d) = own_first (0 ∷ (inside (expr_depths d) ++ 0 ∷ [])) (suc h) (closed_depths (inside (expr_depths d)) h (held d (expr_greatest d)))
+  instr_greatest (grammar.assign {cv} {h} dv d) = outside_first cv (0 ∷ expr_depths d) h (own_first (expr_depths d) h (expr_greatest d))
   instr_greatest (grammar.print_text s) = refl
-  instr_greatest (grammar.call x) = refl
+  instr_greatest (grammar.call d) = chain_greatest d
+  instr_greatest (grammar.create {cv} dv) = own_first (outside cv) 0 (sym (greatest-outside cv))
+  instr_greatest (grammar.create_by dv x {h} d) = created_depths dv (actuals_depths d) h (actuals_greatest d)
   instr_greatest (grammar.conditional {h} {hb} {hs} {ho} d body bs other) =
       chosen_depths _ _ _ _ h hb hs ho (held d (expr_greatest d)) (held_instrs h _ hb (instrs_greatest body)) (branches_greatest bs) (other_greatest other)
+  instr_greatest (grammar.loop {hi} {h} {hb} di d db) = looped_depths _ _ _ hi h hb (held d (expr_greatest d)) (held_instrs h _ hi (instrs_greatest di)) (held_instrs h _ hb (instrs_greatest db))
+  instr_greatest (grammar.check {xs} {c} {h} d) = checked_depths (clauses_depths d) c h (clauses_sized d) (clauses_greatest d)
+  instr_greatest (grammar.block {h} {hb} d db) = block_depths _ _ h hb (greatest-inside_some (heads_depths d) (heads_long d) ∙ ap suc (sym (heads_greatest d))) (held_instrs h _ hb (instrs_greatest db))
 
   instrs_greatest : {is : Instrs} {c : List Kind} {h : ℕ} (d : IsInstrs is c h) → h ≡ greatest (instrs_depths d)
   instrs_greatest grammar.no_instr = refl
@@ -184,53 +333,33 @@ mutual
   other_greatest grammar.no_else n = omega arith
   other_greatest (grammar.otherwise {is} {c} {h} d) n = let e = held_instrs n _ h (instrs_greatest d) in omega (arith, e)
 
--- ---- assertions
-
-clause_sized : {x : Clause} {c : List Kind} {h : ℕ} (d : IsClause x c h) → Sized (clause_depths d) c
-unfolding clause_depths
-clause_sized (grammar.untagged d) = expr_sized d
-clause_sized (grammar.tagged x d) = ap suc (ap suc (expr_sized d))
-
-clause_greatest : {x : Clause} {c : List Kind} {h : ℕ} (d : IsClause x c h) → h ≡ greatest (clause_depths d)
-unfolding clause_depths
-clause_greatest (grammar.untagged d) = expr_greatest d
-clause_greatest (grammar.tagged x {t} {c} {h} d) = own_first (0 ∷ expr_depths d) h (own_first (expr_depths d) h (expr_greatest d))
-
-clauses_sized : {xs : List Clause} {c : List Kind} {h : ℕ} (d : IsClauses xs c h) → Sized (clauses_depths d) c
-unfolding clauses_depths
-clauses_sized grammar.no_clause = refl
-clauses_sized (grammar.semicolon_clauses d) = ap suc (clauses_sized d)
-clauses_sized (grammar.clause {x} {xs} {c} {cs} d g ds) = beside _ _ c cs (clause_sized d) (clauses_sized ds)
-
-clauses_greatest : {xs : List Clause} {c : List Kind} {h : ℕ} (d : IsClauses xs c h) → h ≡ greatest (clauses_depths d)
-unfolding clauses_depths
-clauses_greatest grammar.no_clause = refl
-clauses_greatest (grammar.semicolon_clauses {xs} {c} {h} d) = own_first (clauses_depths d) h (clauses_greatest d)
-clauses_greatest (grammar.clause {h} {hs} d g ds) = side_by_side (clause_depths d) (clauses_depths ds) h hs (clause_greatest d) (clauses_greatest ds)
-
 -- ---- classes
 
--- tokens with nothing around them change no greatest depth
-outside_first : (c : List Kind) (ns : List ℕ) (h : ℕ) → h ≡ greatest ns → h ≡ greatest (outside c ++ ns)
-outside_first c ns h e = let p = greatest-append (outside c) ns in let q = greatest-outside c in omega (arith, p, q, e)
-
-feature_sized : {fs : List Feature} {c : List Kind} {h : ℕ} (d : IsFeature fs c h) → Sized (feature_depths d) c
+feature_sized : {es : List Name} {fs : List Feature} {c : List Kind} {h : ℕ} (d : IsFeature es fs c h) → Sized (feature_depths d) c
 unfolding feature_depths
 feature_sized (grammar.attributes {c} {ct} d dt) = beside (outside c) (0 ∷ outside ct) c (_ ∷ ct) (apart c) (ap suc (apart ct))
-feature_sized (grammar.routine x {body} {c} d) = ap suc (ap suc (beside _ (0 ∷ []) c (_ ∷ []) (instrs_sized d) refl))
+feature_sized (grammar.routine x {cf} {ct} {ci} {cr} {cl} {cb} {ce} df dt di dr dl db de) =
+    ap suc (beside (outside cf) _ cf _ (apart cf) (beside (outside ct) _ ct _ (apart ct) (beside (outside ci) _ ci _ (apart ci) (beside _ _ cr _ (assertion_sized dr)
+    (beside (outside cl) _ cl _ (apart cl) (ap suc (beside _ _ cb _ (instrs_sized db) (beside _ (0 ∷ []) ce (_ ∷ []) (assertion_sized de) refl))))))))
 
-feature_greatest : {fs : List Feature} {c : List Kind} {h : ℕ} (d : IsFeature fs c h) → h ≡ greatest (feature_depths d)
+feature_greatest : {es : List Name} {fs : List Feature} {c : List Kind} {h : ℕ} (d : IsFeature es fs c h) → h ≡ greatest (feature_depths d)
 unfolding feature_depths
 feature_greatest (grammar.attributes {c} {ct} d dt) = outside_first c (0 ∷ outside ct) 0 (own_first (outside ct) 0 (sym (greatest-outside ct)))
-feature_greatest (grammar.routine x {body} {c} {h} d) =
-    own_first (0 ∷ (instrs_depths d ++ 0 ∷ [])) h (own_first (instrs_depths d ++ 0 ∷ []) h (own_last (instrs_depths d) h (instrs_greatest d)))
+feature_greatest (grammar.routine x {cf} {ct} {ci} {cr} {cl} {cb} {ce} {hr} {hb} {he} df dt di dr dl db de) =
+    let ensured = assertion_depths de ++ 0 ∷ [] in
+    let bodied = instrs_depths db ++ ensured in
+    let required = assertion_depths dr ++ (outside cl ++ 0 ∷ bodied) in
+    let h = max hr (max hb he) in
+    own_first (outside cf ++ (outside ct ++ (outside ci ++ required))) h (outside_first cf (outside ct ++ (outside ci ++ required)) h (outside_first ct (outside ci ++ required) h (outside_first ci required h
+    (side_by_side (assertion_depths dr) (outside cl ++ 0 ∷ bodied) hr (max hb he) (assertion_greatest dr)
+    (outside_first cl (0 ∷ bodied) (max hb he) (own_first bodied (max hb he) (side_by_side (instrs_depths db) ensured hb he (instrs_greatest db) (own_last (assertion_depths de) he (assertion_greatest de)))))))))
 
-features_sized : {fs : List Feature} {c : List Kind} {h : ℕ} (d : IsFeatures fs c h) → Sized (features_depths d) c
+features_sized : {es : List Name} {fs : List Feature} {c : List Kind} {h : ℕ} (d : IsFeatures es fs c h) → Sized (features_depths d) c
 unfolding features_depths
 features_sized grammar.no_feature = refl
 features_sized (grammar.feature {c} {s} {cs} d semicolons ds) = beside _ _ c (s ++ cs) (feature_sized d) (beside (outside s) _ s cs (apart s) (features_sized ds))
 
-features_greatest : {fs : List Feature} {c : List Kind} {h : ℕ} (d : IsFeatures fs c h) → h ≡ greatest (features_depths d)
+features_greatest : {es : List Name} {fs : List Feature} {c : List Kind} {h : ℕ} (d : IsFeatures es fs c h) → h ≡ greatest (features_depths d)
 unfolding features_depths
 features_greatest grammar.no_feature = refl
 features_greatest (grammar.feature {s} {h} {hs} d semicolons ds) =
@@ -239,35 +368,33 @@ features_greatest (grammar.feature {s} {h} {hs} d semicolons ds) =
 sections_sized : {fs : List Feature} {c : List Kind} {h : ℕ} (d : IsSections fs c h) → Sized (sections_depths d) c
 unfolding sections_depths
 sections_sized grammar.no_section = refl
-sections_sized (grammar.section {c} {cs} d ds) = ap suc (beside _ _ c cs (features_sized d) (sections_sized ds))
+sections_sized (grammar.section {ce} {c} {cs} de d ds) = ap suc (beside (outside ce) _ ce _ (apart ce) (beside _ _ c cs (features_sized d) (sections_sized ds)))
 
 sections_greatest : {fs : List Feature} {c : List Kind} {h : ℕ} (d : IsSections fs c h) → h ≡ greatest (sections_depths d)
 unfolding sections_depths
 sections_greatest grammar.no_section = refl
-sections_greatest (grammar.section {h} {hs} d ds) =
-    own_first (features_depths d ++ sections_depths ds) (max h hs) (side_by_side (features_depths d) (sections_depths ds) h hs (features_greatest d) (sections_greatest ds))
-
-invariant_sized : {xs : List Clause} {c : List Kind} {h : ℕ} (d : IsInvariant xs c h) → Sized (invariant_depths d) c
-unfolding invariant_depths
-invariant_sized grammar.no_invariant = refl
-invariant_sized (grammar.invariant d) = ap suc (clauses_sized d)
-
-invariant_greatest : {xs : List Clause} {c : List Kind} {h : ℕ} (d : IsInvariant xs c h) → h ≡ greatest (invariant_depths d)
-unfolding invariant_depths
-invariant_greatest grammar.no_invariant = refl
-invariant_greatest (grammar.invariant {xs} {c} {h} d) = own_first (clauses_depths d) h (clauses_greatest d)
+sections_greatest (grammar.section {ce} {h} {hs} de d ds) =
+    own_first (outside ce ++ (features_depths d ++ sections_depths ds)) (max h hs) (outside_first ce (features_depths d ++ sections_depths ds) (max h hs)
+    (side_by_side (features_depths d) (sections_depths ds) h hs (features_greatest d) (sections_greatest ds)))
 
 class_sized : {x : Class} {c : List Kind} {h : ℕ} (d : IsClass x c h) → Sized (class_depths d) c
 unfolding class_depths
-class_sized (grammar.class x {cn} {cf} {ci} dn df di) = ap suc (ap suc (beside (outside cn) _ cn _ (apart cn) (beside _ _ cf _ (sections_sized df) (beside _ (0 ∷ []) ci (_ ∷ []) (invariant_sized di) refl))))
+class_sized (grammar.class x {cn} {cm} {cp} {cc = cs} {cf} {ci} {ce} dn dm dp dc df di de) =
+    beside (outside cn) _ cn _ (apart cn) (beside (outside cm) _ cm _ (apart cm) (ap suc (ap suc (beside (outside cp) _ cp _ (apart cp) (beside (outside cs) _ cs _ (apart cs)
+    (beside _ _ cf _ (sections_sized df) (beside _ _ ci _ (assertion_sized di) (beside (outside ce) (0 ∷ []) ce (_ ∷ []) (apart ce) refl))))))))
 
 class_greatest : {x : Class} {c : List Kind} {h : ℕ} (d : IsClass x c h) → h ≡ greatest (class_depths d)
 unfolding class_depths
-class_greatest (grammar.class x {cn} {cf} {ci} {hf} {hi} dn df di) =
-    own_first (0 ∷ (outside cn ++ (sections_depths df ++ (invariant_depths di ++ 0 ∷ [])))) (max hf hi)
-    (own_first (outside cn ++ (sections_depths df ++ (invariant_depths di ++ 0 ∷ []))) (max hf hi)
-    (outside_first cn (sections_depths df ++ (invariant_depths di ++ 0 ∷ [])) (max hf hi)
-    (side_by_side (sections_depths df) (invariant_depths di ++ 0 ∷ []) hf hi (sections_greatest df) (own_last (invariant_depths di) hi (invariant_greatest di)))))
+class_greatest (grammar.class x {cn} {cm} {cp} {cc = cs} {cf} {ci} {ce} {hf} {hi} dn dm dp dc df di de) =
+    let ended = outside ce ++ 0 ∷ [] in
+    let held = assertion_depths di ++ ended in
+    let featured = sections_depths df ++ held in
+    let h = max hf hi in
+    let last : 0 ≡ greatest ended = outside_first ce (0 ∷ []) 0 refl in
+    let w : max hi 0 ≡ hi = omega arith in
+    outside_first cn (outside cm ++ 0 ∷ 0 ∷ (outside cp ++ (outside cs ++ featured))) h (outside_first cm (0 ∷ 0 ∷ (outside cp ++ (outside cs ++ featured))) h
+    (own_first (0 ∷ (outside cp ++ (outside cs ++ featured))) h (own_first (outside cp ++ (outside cs ++ featured)) h (outside_first cp (outside cs ++ featured) h (outside_first cs featured h
+    (side_by_side (sections_depths df) held hf hi (sections_greatest df) (sym w ∙ side_by_side (assertion_depths di) ended hi 0 (assertion_greatest di) last)))))))
 
 pub classes_sized : {xs : List Class} {c : List Kind} {h : ℕ} (d : IsClasses xs c h) → length (classes_depths d) ≡ length c
 unfolding classes_depths

@@ -2,12 +2,25 @@
 use Rattle.std.proofs.Common.{◌≡◌, ℕ, suc, ◌≤◌, max, Bool, true, false, List, [], ◌∷◌, ◌++◌, length, refl, ap, sym, ◌∙◌, subst, arith}
 use Rattle.std.specs.Prelude.{if◌then◌else◌}
 use Rattle.sc_text.specs.Kind.{Kind, TERMINAL}
+use Rattle.sc_text.specs.declared.token.Terminal.{Terminal}
 use Rattle.sc_text.specs.declared.token.Terminal.TheVariants as terminal
-use Rattle.sc_tree.specs.Plain.{Expr, Instr, Instrs, no_instrs, instr_then, Branches, no_branches, branch_then}
-use Rattle.sc_tree.specs.Grammar.{IsSemicolons, no_semicolon, one_more}
-use Rattle.sc_tree.specs.Reading.{is_terminal, sees, skip_semicolons, instrs_push, branches_push}
-use Rattle.sc_tree.proofs.Combining.{Spelled, Added}
+use Rattle.sc_tree.specs.Plain.{Expr, Exprs, no_exprs, expr_then, Instr, Instrs, no_instrs, instr_then, Branches, no_branches, branch_then}
+use Rattle.sc_tree.specs.Grammar.{IsOptional, absent, present, IsSemicolons, no_semicolon, one_more}
+use Rattle.sc_tree.specs.Reading.{past, is_terminal, sees, skip, skip_semicolons, exprs_push, instrs_push, branches_push}
+use Rattle.sc_tree.proofs.Combining.{not_both, Spelled, Added}
 use Rattle.sc_tree.proofs.Looks.{sees_is, sees_self}
+
+abbrev pub exprs_joined : Exprs → Exprs → Exprs
+exprs_joined no_exprs us = us
+exprs_joined (expr_then t es) us = expr_then t (exprs_joined es us)
+
+pub exprs_joined-push : (es : Exprs) (t : Expr) (us : Exprs) → exprs_joined (exprs_push es t) us ≡ exprs_joined es (expr_then t us)
+exprs_joined-push no_exprs t us = refl
+exprs_joined-push (expr_then u es) t us = ap (expr_then u) (exprs_joined-push es t us)
+
+pub exprs_joined-none : (es : Exprs) → exprs_joined es no_exprs ≡ es
+exprs_joined-none no_exprs = refl
+exprs_joined-none (expr_then u es) = ap (expr_then u) (exprs_joined-none es)
 
 abbrev pub instrs_joined : Instrs → Instrs → Instrs
 instrs_joined no_instrs js = js
@@ -32,6 +45,11 @@ branches_joined-push (branch_then u b bs) t body cs = ap (branch_then u b) (bran
 pub branches_joined-none : (bs : Branches) → branches_joined bs no_branches ≡ bs
 branches_joined-none no_branches = refl
 branches_joined-none (branch_then u b bs) = ap (branch_then u b) (branches_joined-none bs)
+
+-- where the tokens pass a test that no tokens fail, there are some
+pub some_tokens : (test : List Kind → Bool) (c : List Kind) → test [] ≡ false → test (c ++ []) ≡ true → 1 ≤ length c
+some_tokens test [] e t = absurd (not_both t e)
+some_tokens test (k ∷ c) e t = omega arith
 
 -- a derivation, told of equal trees and numbers
 pub told : {A : Type 0} (Is : A → List Kind → ℕ → Type 0) (x y : A) (c : List Kind) (g h : ℕ) → x ≡ y → g ≡ h → Is x c g → Is y c h
@@ -61,6 +79,20 @@ unskipped Is more (t ∷ ts) c r e d = go (is_terminal terminal.Semicolon t) ref
     go true q e inside = let u = inside e in
         record { tokens = TERMINAL terminal.Semicolon ∷ u.tokens; same = sees_is terminal.Semicolon (t ∷ ts) q ∙ ap (λ (ts : List Kind). TERMINAL terminal.Semicolon ∷ ts) u.same; is = more u.tokens u.is }
     go false q e inside = record { tokens = c; same = e; is = d }
+
+-- one token, if it stands there
+pub one_token : (Is : List Kind → Type 0) (m : Terminal) (ts : List Kind) → sees m ts ≡ true → Is (TERMINAL m ∷ []) → Unskipped Is ts (past ts)
+one_token Is m ts e d = record { tokens = TERMINAL m ∷ []; same = sees_is m ts e; is = d }
+
+pub no_tokens : (Is : List Kind → Type 0) (ts : List Kind) → Is [] → Unskipped Is ts ts
+no_tokens Is ts d = record { tokens = []; same = refl; is = d }
+
+pub skipped_one : (m : Terminal) (ts : List Kind) → Unskipped (IsOptional m) ts (skip m ts)
+skipped_one m ts = go (sees m ts) refl
+  where
+    go : (b : Bool) → sees m ts ≡ b → Unskipped (IsOptional m) ts (if b then past ts else ts)
+    go true e = one_token (IsOptional m) m ts e present
+    go false e = no_tokens (IsOptional m) ts absent
 
 -- the semicolons that are skipped
 pub skipped : (ts : List Kind) → Unskipped IsSemicolons ts (skip_semicolons ts)

@@ -1,6 +1,7 @@
 -- What each look at the next token says of the tokens.
-use Rattle.std.proofs.Common.{◌≡◌, ℕ, Bool, true, false, List, [], ◌∷◌, ◌++◌, ◌<◌, Option, Some, None, Ok, Err, refl, ap, sym, ◌∙◌, subst, arith, rules}
+use Rattle.std.proofs.Common.{◌≡◌, ℕ, ℤ, Bool, true, false, List, [], ◌∷◌, ◌++◌, ◌<◌, Option, Some, None, Ok, Err, refl, ap, sym, ◌∙◌, subst, arith, rules}
 use Rattle.std.specs.Prelude.{◌==◌, if◌then◌else◌}
+use Rattle.std.proofs.lemmas.Slice.Eq.{bytes_eq-Decides}
 use denote.Enum.Bare.{same_true, true_same}
 use Rattle.sc_text.specs.contracts.token.Terminal.{the_type}
 use Rattle.sc_text.specs.Kind.{Kind, NAME, INTEGER, STRING, TERMINAL}
@@ -13,10 +14,10 @@ use Rattle.sc_tree.specs.declared.expression.BinaryOperator.TheVariants as binar
 use Rattle.sc_tree.specs.Plain.{Name}
 use Rattle.sc_tree.specs.Bare.{named}
 use Rattle.sc_tree.specs.Grammar.{under, prefix_of, spelling}
-use Rattle.sc_tree.specs.Reading.{Wrong, past, same_terminal, sees, begins_expr, begins_expr_by, expect, name, prefix_by, prefix_ahead, operator_by, completed, option_completed, operator_at, above, operator_ahead, past_operator}
+use Rattle.sc_tree.specs.Reading.{Wrong, past, same_terminal, sees, begins_expr, begins_expr_by, expect, name, text, sees_word, expect_word, integer_ahead, prefix_by, prefix_ahead, operator_by, completed, option_completed, operator_at, above, operator_ahead, past_operator}
 use Rattle.sc_tree.proofs.Combining.{Holds, holds, nothing, choose_true, choose_false, not_both}
 
-same_is : (a b : Terminal) → same_terminal a b ≡ true → a ≡ b
+pub same_is : (a b : Terminal) → same_terminal a b ≡ true → a ≡ b
 unfolding same_terminal
 same_is a b e = same_true the_type (search rules) a b e
 
@@ -57,13 +58,51 @@ name_holds (INTEGER n ∷ r) = nothing
 name_holds (STRING s ∷ r) = nothing
 name_holds (TERMINAL m ∷ r) = nothing
 
+-- what a first name is
+pub first_name : (ts : List Kind) (x : Name × List Kind) → NameFirst ts x → (y : List ℕ) × (ts ≡ NAME y ∷ x.1) × (x.0 ≡ named y)
+first_name ts _ (name_first y r e) = (y, e, refl)
+
+-- a string and what follows it
+pub data TextFirst (ts : List Kind) : List ℕ × List Kind → Type 0 where
+  text_first : (s : List ℕ) (r : List Kind) → ts ≡ STRING s ∷ r → TextFirst ts (s, r)
+
+pub text_holds : (ts : List Kind) → Holds (TextFirst ts) (text ts)
+text_holds [] = nothing
+text_holds (NAME x ∷ r) = nothing
+text_holds (INTEGER n ∷ r) = nothing
+text_holds (STRING s ∷ r) = holds (text_first s r refl)
+text_holds (TERMINAL m ∷ r) = nothing
+
+pub sees_word_is : (w : List ℕ) (ts : List Kind) → sees_word w ts ≡ true → ts ≡ NAME w ∷ past ts
+sees_word_is w [] e = cc
+sees_word_is w (NAME x ∷ r) e = ap (λ (x : List ℕ). NAME x ∷ r) ((bytes_eq-Decides x w).0 e)
+sees_word_is w (INTEGER n ∷ r) e = cc
+sees_word_is w (STRING s ∷ r) e = cc
+sees_word_is w (TERMINAL m ∷ r) e = cc
+
+pub expect_word_holds : (w : List ℕ) (ts : List Kind) → Holds (λ r. ts ≡ NAME w ∷ r) (expect_word w ts)
+unfolding expect_word
+expect_word_holds w ts = go (sees_word w ts) refl
+  where
+    go : (b : Bool) → sees_word w ts ≡ b → Holds (λ r. ts ≡ NAME w ∷ r) (if b then Ok (past ts) else Err Wrong)
+    go true e = holds (sees_word_is w ts e)
+    go false e = nothing
+
 some_same : {A : Type 0} (a b : A) → Some a ≡ Some b → a ≡ b
 some_same a b e = cc
+
+pub integer_is : (ts : List Kind) (n : ℤ) → integer_ahead ts ≡ Some n → ts ≡ INTEGER n ∷ past ts
+integer_is [] n e = cc
+integer_is (NAME x ∷ r) n e = cc
+integer_is (INTEGER m ∷ r) n e = ap (λ (m : ℤ). INTEGER m ∷ r) (some_same m n e)
+integer_is (STRING s ∷ r) n e = cc
+integer_is (TERMINAL m ∷ r) n e = cc
 
 -- ---- operators
 
 prefix_is_by : (m : Terminal) (op : UnaryOperator) → prefix_by m ≡ Some op → m ≡ prefix_of op
 prefix_is_by terminal.Not op e = ap prefix_of (some_same unary.Not op e)
+prefix_is_by terminal.Old op e = ap prefix_of (some_same unary.Old op e)
 prefix_is_by terminal.Plus op e = ap prefix_of (some_same unary.Plus op e)
 prefix_is_by terminal.Minus op e = ap prefix_of (some_same unary.Minus op e)
 prefix_is_by _ op e = cc

@@ -1,175 +1,215 @@
--- What reading gives, the tokens spell: assertions, features and classes.
-use Rattle.std.proofs.Common.{◌≡◌, ℕ, zero, suc, max, Bool, true, false, List, [], ◌∷◌, ◌++◌, length, Option, Some, None, Ok, Err, refl, ap, sym, ◌∙◌, subst, append_assoc, append-nil, arith}
-use Rattle.std.specs.Prelude.{if◌then◌else◌, map}
-use Rattle.sc_text.specs.Kind.{Kind, NAME, INTEGER, STRING, TERMINAL}
+-- What reading gives, the tokens spell: features and classes.
+use Rattle.std.proofs.Common.{length-append, ◌≡◌, ℕ, zero, suc, ◌≤◌, max, Bool, true, false, List, [], ◌∷◌, ◌++◌, length, Option, Some, None, refl, ap, sym, ◌∙◌, subst, append_assoc, append-nil, length-append, arith, ◌⊎◌, inl, inr}
+use Rattle.std.specs.Prelude.{if◌then◌else◌, ◌||◌, map}
+use Rattle.std.proofs.lemmas.List.{length-map}
+use Rattle.sc_text.specs.Kind.{Kind, NAME, TERMINAL}
 use Rattle.sc_text.specs.declared.token.Terminal.TheVariants as terminal
-use Rattle.sc_tree.specs.Plain.{Name, Feature, Clause, Class}
+use Rattle.sc_tree.specs.Plain.{Name, DeclaredType, Declaration, Feature, Parent, ClassMark, Class}
 use Rattle.sc_tree.specs.Bare.{named}
 use Rattle.sc_tree.specs.Grammar as grammar
-use Rattle.sc_tree.specs.Grammar.{top, is_basic, goes_on, attribute_of, routine_of, class_of, IsClause, IsClauses, IsNames, IsType, IsFeature, IsSemicolons, IsFeatures, IsSections, IsCreators, IsInvariant, IsClass, IsClasses}
-use Rattle.sc_tree.specs.Reading.{Wrong, ◌>>=◌, past, sees, skip_semicolons, name_ahead, begins_expr, tag_ahead, past_tag, expr, clause, clauses_from, clauses, more_names, names, declared_type, routine, attributes, feature, features_from, sections_from, sections, creators, invariant, class, classes_from}
-use Rattle.sc_tree.proofs.Combining.{Holds, holds, nothing, holds_then, holds_if, holds_also, Begins, Added, through}
-use Rattle.sc_tree.proofs.Looks.{sees_is, expect_holds, NameFirst, name_first, name_holds}
-use Rattle.sc_tree.proofs.Lists.{told, all_added, unskipped, skipped}
-use Rattle.sc_tree.proofs.SoundExpressions.{Sound, sound_expr}
+use Rattle.sc_tree.specs.Grammar.{declared_as, attribute_of, routine_of, class_of, heads_class, ends_class, exported_to, none_name, IsNames, IsOptional, IsType, IsDeclaration, IsDeclarations, IsFormals, IsLocalList, IsLocals, IsResultType, IsFeature, IsFeatures, IsExports, IsSections, IsFree, IsNote, IsMark, IsParent, IsParentList, IsParents, IsCreators, IsAssertion, IsClass, IsClasses}
+use Rattle.sc_tree.specs.Reading.{◌>>=◌, past, sees, skip, skip_semicolons, name_ahead, declaration, more_declarations, formals, locals_from, locals, result_type, begins_routine, export_list, exports, past_free, past_note, mark, parent, parents_from, parents, creators, is_done, routine, attribute_or_routine, attributes, feature, features_from, sections_from, sections, class_marked, class, classes_from}
+use Rattle.sc_tree.proofs.Combining.{Holds, holds, holds_then, holds_if, holds_also, Spelled, Begins, Added, through}
+use Rattle.sc_tree.proofs.Looks.{sees_is, expect_holds, NameFirst, name_first, name_holds, first_name}
+use Rattle.sc_tree.proofs.Lists.{told, all_added, Unskipped, one_token, no_tokens, skipped, skipped_one}
+use Rattle.sc_tree.proofs.SoundTypes.{sound_more_names, sound_names, sound_type, either}
+use Rattle.sc_tree.proofs.SoundExpressions.{Sound}
+use Rattle.sc_tree.proofs.SoundAssertions.{sound_assertion}
 use Rattle.sc_tree.proofs.SoundInstructions.{sound_instrs}
 
--- ---- assertions
+-- ---- formals and locals
 
--- a tag stands first
-data TagFirst (ts : List Kind) : Name → Type 0 where
-  tag_first : (x : List ℕ) → ts ≡ NAME x ∷ TERMINAL terminal.Colon ∷ past (past ts) → TagFirst ts (named x)
-
-tag_is : (ts : List Kind) (n : Name) → tag_ahead ts ≡ Some n → TagFirst ts n
-tag_is [] n e = cc
-tag_is (NAME x ∷ r) n e = go (sees terminal.Colon r) refl e
-  where
-    some_same : (m n : Name) → Some m ≡ Some n → m ≡ n
-    some_same m n e = cc
-
-    go : (b : Bool) → sees terminal.Colon r ≡ b → (if b then Some (named x) else None) ≡ Some n → TagFirst (NAME x ∷ r) n
-    go true s e = subst (TagFirst (NAME x ∷ r)) (some_same (named x) n e) (tag_first x (ap (λ (r : List Kind). NAME x ∷ r) (sees_is terminal.Colon r s)))
-    go false s e = cc
-tag_is (INTEGER i ∷ r) n e = cc
-tag_is (STRING s ∷ r) n e = cc
-tag_is (TERMINAL m ∷ r) n e = cc
-
-clause_by : (room : ℕ) (ts : List Kind) (o : Option Name) → tag_ahead ts ≡ o →
-    Sound IsClause ts (expr room top (past_tag o ts) >>= λ t. Ok (record { tag = o; condition = t.0 }, t.1, t.2))
-clause_by room ts None e = holds_then _ (sound_expr room top ts) λ t s. holds (record { tokens = s.tokens; same = s.same; is = grammar.untagged s.is })
-clause_by room ts (Some n) e = by_tag n (tag_is ts n e)
-  where
-    by_tag : (n : Name) → TagFirst ts n → Sound IsClause ts (expr room top (past (past ts)) >>= λ t. Ok (record { tag = Some n; condition = t.0 }, t.1, t.2))
-    by_tag _ (tag_first x q) =
-        holds_then _ (sound_expr room top (past (past ts))) λ t s.
-        holds (record { tokens = NAME x ∷ TERMINAL terminal.Colon ∷ s.tokens; same = through ts (NAME x ∷ TERMINAL terminal.Colon ∷ []) (past (past ts)) s.tokens t.2 q s.same; is = grammar.tagged x s.is })
-
-sound_clause : (room : ℕ) (ts : List Kind) → Sound IsClause ts (clause room ts)
-unfolding clause
-sound_clause room ts = clause_by room ts (tag_ahead ts) refl
-
-goes_on_before : (c r : List Kind) → goes_on (c ++ r) ≡ false → goes_on c ≡ false
-goes_on_before [] r e = refl
-goes_on_before (NAME x ∷ c) r e = e
-goes_on_before (INTEGER n ∷ c) r e = e
-goes_on_before (STRING s ∷ c) r e = e
-goes_on_before (TERMINAL m ∷ c) r e = e
-
-no_clause_added : (found : List Clause) (high : ℕ) (ts : List Kind) → Added ◌++◌ IsClauses found high ts (found, high, ts)
-no_clause_added found high ts = record { more = []; tokens = []; nesting = 0; same = refl; is = grammar.no_clause; joined = sym (append-nil found); highest = omega arith }
-
-sound_clauses_from : (room f : ℕ) (found : List Clause) (high : ℕ) (ts : List Kind) → Holds (Added ◌++◌ IsClauses found high ts) (clauses_from room f found high ts)
-unfolding clauses_from
-sound_clauses_from room zero found high ts = holds (no_clause_added found high ts)
-sound_clauses_from room (suc f) found high ts =
-    holds_if (begins_expr ts) _ _
-    (λ b. holds_then _ (sound_clause room ts) λ x s. holds_if (goes_on x.2) _ _ (λ _. nothing) λ g.
-    holds_also (sound_clauses_from room f (found ++ x.0 ∷ []) (max high x.1) (skip_semicolons x.2)) λ y a.
-    let u = unskipped (λ c. IsClauses a.more c a.nesting) (λ c d. grammar.semicolon_clauses d) x.2 a.tokens y.2 a.same a.is in
-    record {
-      more = x.0 ∷ a.more;
-      tokens = s.tokens ++ u.tokens;
-      nesting = max x.1 a.nesting;
-      same = through ts s.tokens x.2 u.tokens y.2 s.same u.same;
-      is = grammar.clause s.is (goes_on_before u.tokens y.2 (ap goes_on (sym u.same) ∙ g)) u.is;
-      joined = a.joined ∙ append_assoc found (x.0 ∷ []) a.more;
-      highest = omega (arith, a.highest);
+sound_declaration : (ts : List Kind) → Holds (Begins IsDeclaration ts) (declaration ts)
+unfolding declaration
+sound_declaration ts =
+    holds_then _ (sound_names ts) λ ns sn. holds_then _ (expect_holds terminal.Colon ns.1) λ r q. holds_then _ (sound_type r) λ t st.
+    holds (record {
+      tokens = sn.tokens ++ TERMINAL terminal.Colon ∷ st.tokens;
+      same = through ts sn.tokens ns.1 (TERMINAL terminal.Colon ∷ st.tokens) t.1 sn.same (through ns.1 (TERMINAL terminal.Colon ∷ []) r st.tokens t.1 q st.same);
+      is = grammar.declaration sn.is st.is;
     })
-    (λ _. holds (no_clause_added found high ts))
 
-sound_clauses : (room : ℕ) (ts : List Kind) → Sound IsClauses ts (clauses room ts)
-unfolding clauses
-sound_clauses room ts =
-    holds_also (sound_clauses_from room (length (skip_semicolons ts)) [] 0 (skip_semicolons ts)) λ x a.
-    let s = all_added ◌++◌ IsClauses [] (λ xs. refl) (skip_semicolons ts) x a in
-    let u = unskipped (λ c. IsClauses x.0 c x.1) (λ c d. grammar.semicolon_clauses d) ts s.tokens x.2 s.same s.is in
-    record { tokens = u.tokens; same = u.same; is = u.is }
-
--- ---- names and types
-
--- names after a first one, and their commas
-record NamesAfter (found : List Name) (ts : List Kind) (x : List Name × List Kind) : Type 0 where
-  pub more : List Name
+-- declarations behind a first one
+record DeclarationsAfter (found : List Declaration) (ts : List Kind) (x : List Declaration × List Kind) : Type 0 where
+  pub more : List Declaration
   pub tokens : List Kind
   pub same : ts ≡ tokens ++ x.1
-  pub is : (y : List ℕ) → IsNames (named y ∷ more) (NAME y ∷ tokens)
+  pub is : (ds : List Declaration) (c : List Kind) → IsDeclaration ds c → IsDeclarations (ds ++ more) (c ++ tokens)
   pub joined : x.0 ≡ found ++ more
 
-no_name_after : (found : List Name) (ts : List Kind) → NamesAfter found ts (found, ts)
-no_name_after found ts = record { more = []; tokens = []; same = refl; is = λ y. grammar.one_name y; joined = sym (append-nil found) }
+one_alone : (ds : List Declaration) (c : List Kind) → IsDeclaration ds c → IsDeclarations (ds ++ []) (c ++ [])
+one_alone ds c d =
+    subst (λ (ds : List Declaration). IsDeclarations ds (c ++ [])) (sym (append-nil ds)) (subst (λ (c : List Kind). IsDeclarations ds c) (sym (append-nil c)) (grammar.one_declaration d))
 
-name_after : (found : List Name) (ts : List Kind) (x : Name × List Kind) (y : List Name × List Kind) → ts ≡ TERMINAL terminal.Comma ∷ past ts → NameFirst (past ts) x → NamesAfter (found ++ x.0 ∷ []) x.1 y → NamesAfter found ts y
-name_after found ts _ y e (name_first x r q) a =
+none_after : (found : List Declaration) (ts : List Kind) → DeclarationsAfter found ts (found, ts)
+none_after found ts = record { more = []; tokens = []; same = refl; is = one_alone; joined = sym (append-nil found) }
+
+sound_more_declarations : (f : ℕ) (found : List Declaration) (ts : List Kind) → Holds (DeclarationsAfter found ts) (more_declarations f found ts)
+unfolding more_declarations
+sound_more_declarations zero found ts = holds (none_after found ts)
+sound_more_declarations (suc f) found ts =
+    holds_if (sees terminal.Semicolon ts || name_ahead ts) _ _
+    (λ b. holds_then _ (sound_declaration (skip terminal.Semicolon ts)) λ d s. holds_also (sound_more_declarations f (found ++ d.0) d.1) λ y a.
+    let o = skipped_one terminal.Semicolon ts in
     record {
-      more = named x ∷ a.more;
-      tokens = TERMINAL terminal.Comma ∷ NAME x ∷ a.tokens;
-      same = through ts (TERMINAL terminal.Comma ∷ NAME x ∷ []) r a.tokens y.1 (e ∙ ap (λ (r : List Kind). TERMINAL terminal.Comma ∷ r) q) a.same;
-      is = λ z. grammar.more_names z (a.is x);
-      joined = a.joined ∙ append_assoc found (named x ∷ []) a.more;
-    }
+      more = d.0 ++ a.more;
+      tokens = o.tokens ++ (s.tokens ++ a.tokens);
+      same = through ts o.tokens (skip terminal.Semicolon ts) (s.tokens ++ a.tokens) y.1 o.same (through (skip terminal.Semicolon ts) s.tokens d.1 a.tokens y.1 s.same a.same);
+      is = λ ds c e. grammar.more_declarations e o.is (a.is d.0 s.tokens s.is);
+      joined = a.joined ∙ append_assoc found d.0 a.more;
+    })
+    (λ _. holds (none_after found ts))
 
-sound_more_names : (f : ℕ) (found : List Name) (ts : List Kind) → Holds (NamesAfter found ts) (more_names f found ts)
-unfolding more_names
-sound_more_names zero found ts = holds (no_name_after found ts)
-sound_more_names (suc f) found ts =
-    holds_if (sees terminal.Comma ts) _ _
-    (λ b. holds_then _ (name_holds (past ts)) λ x n. holds_also (sound_more_names f (found ++ x.0 ∷ []) x.1) λ y a. name_after found ts x y (sees_is terminal.Comma ts b) n a)
-    (λ _. holds (no_name_after found ts))
+sound_formals : (ts : List Kind) → Holds (Begins IsFormals ts) (formals ts)
+unfolding formals
+sound_formals ts =
+    holds_if (sees terminal.OpenParenthesis ts) _ _
+    (λ b. holds_then _ (sound_declaration (past ts)) λ d s. holds_then _ (sound_more_declarations (length d.1) d.0 d.1) λ ds a. holds_then _ (expect_holds terminal.CloseParenthesis ds.1) λ rest q.
+    holds (record {
+      tokens = TERMINAL terminal.OpenParenthesis ∷ ((s.tokens ++ a.tokens) ++ TERMINAL terminal.CloseParenthesis ∷ []);
+      same = through ts (TERMINAL terminal.OpenParenthesis ∷ []) (past ts) ((s.tokens ++ a.tokens) ++ TERMINAL terminal.CloseParenthesis ∷ []) rest (sees_is terminal.OpenParenthesis ts b)
+          (through (past ts) (s.tokens ++ a.tokens) ds.1 (TERMINAL terminal.CloseParenthesis ∷ []) rest (through (past ts) s.tokens d.1 a.tokens ds.1 s.same a.same) q);
+      is = grammar.formals (subst (λ (ds : List Declaration). IsDeclarations ds (s.tokens ++ a.tokens)) (sym a.joined) (a.is d.0 s.tokens s.is));
+    }))
+    (λ _. holds (record { tokens = []; same = refl; is = grammar.no_formals }))
 
-names_begin : (ts : List Kind) (x : Name × List Kind) (y : List Name × List Kind) → NameFirst ts x → NamesAfter (x.0 ∷ []) x.1 y → Begins IsNames ts y
-names_begin ts _ y (name_first x r q) a =
-    record { tokens = NAME x ∷ a.tokens; same = through ts (NAME x ∷ []) r a.tokens y.1 q a.same; is = subst (λ (xs : List Name). IsNames xs (NAME x ∷ a.tokens)) (sym a.joined) (a.is x) }
+-- what was added to what had been found, where nothing is nested
+record Found {A : Type 0} (Is : List A → List Kind → Type 0) (found : List A) (ts : List Kind) (x : List A × List Kind) : Type 0 where
+  pub more : List A
+  pub tokens : List Kind
+  pub same : ts ≡ tokens ++ x.1
+  pub is : Is more tokens
+  pub joined : x.0 ≡ found ++ more
 
-sound_names : (ts : List Kind) → Holds (Begins IsNames ts) (names ts)
-unfolding names
-sound_names ts = holds_then _ (name_holds ts) λ x n. holds_also (sound_more_names (length x.1) (x.0 ∷ []) x.1) λ y a. names_begin ts x y n a
+no_local_found : (found : List Declaration) (ts : List Kind) → Found IsLocalList found ts (found, ts)
+no_local_found found ts = record { more = []; tokens = []; same = refl; is = grammar.no_local; joined = sym (append-nil found) }
 
-sound_type : (ts : List Kind) → Holds (Begins IsType ts) (declared_type ts)
-unfolding declared_type
-sound_type ts = holds_then _ (name_holds ts) λ x n. by_name x n
-  where
-    by_name : (x : Name × List Kind) → NameFirst ts x → Holds (Begins IsType ts) (if is_basic x.0.text then Ok (record { class = x.0 }, x.1) else Err Wrong)
-    by_name _ (name_first x r q) = holds_if (is_basic x) _ _ (λ b. holds (record { tokens = NAME x ∷ []; same = q; is = grammar.basic x b })) (λ _. nothing)
+sound_locals_from : (f : ℕ) (found : List Declaration) (ts : List Kind) → Holds (Found IsLocalList found ts) (locals_from f found ts)
+unfolding locals_from
+sound_locals_from zero found ts = holds (no_local_found found ts)
+sound_locals_from (suc f) found ts =
+    holds_if (name_ahead ts) _ _
+    (λ b. holds_then _ (sound_declaration ts) λ d s. holds_also (sound_locals_from f (found ++ d.0) (skip terminal.Semicolon d.1)) λ y a.
+    let o = skipped_one terminal.Semicolon d.1 in
+    record {
+      more = d.0 ++ a.more;
+      tokens = s.tokens ++ (o.tokens ++ a.tokens);
+      same = through ts s.tokens d.1 (o.tokens ++ a.tokens) y.1 s.same (through d.1 o.tokens (skip terminal.Semicolon d.1) a.tokens y.1 o.same a.same);
+      is = grammar.another_local s.is o.is a.is;
+      joined = a.joined ∙ append_assoc found d.0 a.more;
+    })
+    (λ _. holds (no_local_found found ts))
+
+sound_locals : (ts : List Kind) → Holds (Begins IsLocals ts) (locals ts)
+unfolding locals
+sound_locals ts =
+    holds_if (sees terminal.Local ts) _ _
+    (λ b. holds_also (sound_locals_from (length (past ts)) [] (past ts)) λ y a.
+    record {
+      tokens = TERMINAL terminal.Local ∷ a.tokens;
+      same = through ts (TERMINAL terminal.Local ∷ []) (past ts) a.tokens y.1 (sees_is terminal.Local ts b) a.same;
+      is = grammar.locals (subst (λ (ds : List Declaration). IsLocalList ds a.tokens) (sym a.joined) a.is);
+    })
+    (λ _. holds (record { tokens = []; same = refl; is = grammar.no_locals }))
+
+sound_result_type : (ts : List Kind) → Holds (Begins IsResultType ts) (result_type ts)
+unfolding result_type
+sound_result_type ts =
+    holds_if (sees terminal.Colon ts) _ _
+    (λ b. holds_then _ (sound_type (past ts)) λ t s.
+    holds (record { tokens = TERMINAL terminal.Colon ∷ s.tokens; same = through ts (TERMINAL terminal.Colon ∷ []) (past ts) s.tokens t.1 (sees_is terminal.Colon ts b) s.same; is = grammar.result_type s.is }))
+    (λ _. holds (record { tokens = []; same = refl; is = grammar.no_result }))
+
+names_some : {xs : List Name} {c : List Kind} → IsNames xs c → 1 ≤ length xs
+names_some (grammar.one_name x) = omega arith
+names_some (grammar.more_names x d) = omega arith
+
+declaration_some : {ds : List Declaration} {c : List Kind} → IsDeclaration ds c → 1 ≤ length ds
+declaration_some (grammar.declaration {xs} {t} dn dt) = let e = length-map xs (declared_as t) in let l = names_some dn in omega (arith, e, l)
+
+declarations_some : {ds : List Declaration} {c : List Kind} → IsDeclarations ds c → 1 ≤ length ds
+declarations_some (grammar.one_declaration d) = declaration_some d
+declarations_some (grammar.more_declarations {ds} {es} d o more) = let e = length-append ds es in let l = declaration_some d in omega (arith, e, l)
+
+-- A list of formals that stands there has one.
+formals_none : {ds : List Declaration} {c : List Kind} → IsFormals ds c → ds ≡ [] → c ≡ []
+formals_none grammar.no_formals e = refl
+formals_none (grammar.formals d) e = let l = declarations_some d in let w = ap length e in absurd (omega (arith, l, w))
 
 -- ---- features
 
-sound_routine : (room : ℕ) (x : List ℕ) (ts r : List Kind) → ts ≡ NAME x ∷ TERMINAL terminal.Do ∷ r → Sound IsFeature ts (routine room (named x) r)
+sound_routine : (room : ℕ) (es : List Name) (x : List ℕ) (fs : List Declaration) (o : Option DeclaredType) (cf ct ts0 ts : List Kind) → IsFormals fs cf → IsResultType o ct → ts0 ≡ NAME x ∷ (cf ++ (ct ++ ts)) →
+    Sound (IsFeature es) ts0 (routine room es (named x) fs o ts)
 unfolding routine
-sound_routine room x ts r e =
-    holds_then _ (sound_instrs room r) λ b s. holds_then _ (expect_holds terminal.End b.2) λ rest q.
+sound_routine room es x fs o cf ct ts0 ts df dt e =
+    let i = skipped_one terminal.Is ts in
+    holds_then _ (sound_assertion room terminal.Require (skip terminal.Is ts)) λ pre sr. holds_then _ (sound_locals pre.2) λ ls sl. holds_then _ (expect_holds terminal.Do ls.1) λ r q.
+    holds_then _ (sound_instrs room r) λ b sb. holds_then _ (sound_assertion room terminal.Ensure b.2) λ post se. holds_then _ (expect_holds terminal.End post.2) λ rest p.
+    let rest_same = through ts i.tokens (skip terminal.Is ts) (sr.tokens ++ (sl.tokens ++ TERMINAL terminal.Do ∷ (sb.tokens ++ (se.tokens ++ TERMINAL terminal.End ∷ [])))) rest i.same
+    (through (skip terminal.Is ts) sr.tokens pre.2 (sl.tokens ++ TERMINAL terminal.Do ∷ (sb.tokens ++ (se.tokens ++ TERMINAL terminal.End ∷ []))) rest sr.same
+    (through pre.2 sl.tokens ls.1 (TERMINAL terminal.Do ∷ (sb.tokens ++ (se.tokens ++ TERMINAL terminal.End ∷ []))) rest sl.same
+    (through ls.1 (TERMINAL terminal.Do ∷ []) r (sb.tokens ++ (se.tokens ++ TERMINAL terminal.End ∷ [])) rest q
+    (through r sb.tokens b.2 (se.tokens ++ TERMINAL terminal.End ∷ []) rest sb.same (through b.2 se.tokens post.2 (TERMINAL terminal.End ∷ []) rest se.same p))))) in
     holds (record {
-      tokens = NAME x ∷ TERMINAL terminal.Do ∷ (s.tokens ++ TERMINAL terminal.End ∷ []);
-      same = through ts (NAME x ∷ TERMINAL terminal.Do ∷ []) r (s.tokens ++ TERMINAL terminal.End ∷ []) rest e (through r s.tokens b.2 (TERMINAL terminal.End ∷ []) rest s.same q);
-      is = grammar.routine x s.is;
+      tokens = NAME x ∷ (cf ++ (ct ++ (i.tokens ++ (sr.tokens ++ (sl.tokens ++ TERMINAL terminal.Do ∷ (sb.tokens ++ (se.tokens ++ TERMINAL terminal.End ∷ [])))))));
+      same = through ts0 (NAME x ∷ []) (cf ++ (ct ++ ts)) (cf ++ (ct ++ (i.tokens ++ (sr.tokens ++ (sl.tokens ++ TERMINAL terminal.Do ∷ (sb.tokens ++ (se.tokens ++ TERMINAL terminal.End ∷ []))))))) rest e
+          (through (cf ++ (ct ++ ts)) cf (ct ++ ts) (ct ++ (i.tokens ++ (sr.tokens ++ (sl.tokens ++ TERMINAL terminal.Do ∷ (sb.tokens ++ (se.tokens ++ TERMINAL terminal.End ∷ [])))))) rest refl
+          (through (ct ++ ts) ct ts (i.tokens ++ (sr.tokens ++ (sl.tokens ++ TERMINAL terminal.Do ∷ (sb.tokens ++ (se.tokens ++ TERMINAL terminal.End ∷ []))))) rest refl rest_same));
+      is = grammar.routine x df dt i.is sr.is sl.is sb.is se.is;
     })
 
-sound_attributes : (room : ℕ) (x : List ℕ) (ts r : List Kind) → ts ≡ NAME x ∷ r → Sound IsFeature ts (attributes room (named x) r)
+-- an attribute alone in its declaration
+lone_attribute : (es : List Name) (x : List ℕ) (t : DeclaredType) (cf c ts0 ts : List Kind) → cf ≡ [] → IsType t c → ts0 ≡ NAME x ∷ (cf ++ (TERMINAL terminal.Colon ∷ (c ++ ts))) → Spelled (IsFeature es) ts0 (attribute_of es t (named x) ∷ [], 0, ts)
+lone_attribute es x t cf c ts0 ts n d e =
+    record { tokens = NAME x ∷ TERMINAL terminal.Colon ∷ c; same = e ∙ ap (λ (cf : List Kind). NAME x ∷ (cf ++ (TERMINAL terminal.Colon ∷ (c ++ ts)))) n; is = grammar.attributes (grammar.one_name x) d }
+
+sound_attribute_or_routine : (room : ℕ) (es : List Name) (x : List ℕ) (fs : List Declaration) (o : Option DeclaredType) (cf ct ts0 ts : List Kind) → IsFormals fs cf → IsResultType o ct → ts0 ≡ NAME x ∷ (cf ++ (ct ++ ts)) →
+    Sound (IsFeature es) ts0 (attribute_or_routine room es (named x) fs o ts)
+sound_attribute_or_routine room es x fs None cf ct ts0 ts df dt e = sound_routine room es x fs None cf ct ts0 ts df dt e
+sound_attribute_or_routine room es x [] (Some t) cf ct ts0 ts df dt e =
+    holds_if (begins_routine ts) _ _ (λ _. sound_routine room es x [] (Some t) cf ct ts0 ts df dt e) (λ _. holds (of_type dt e))
+  where
+    some_same : (t u : DeclaredType) → Some t ≡ Some u → t ≡ u
+    some_same t u e = cc
+
+    at : {o : Option DeclaredType} {ct : List Kind} → IsResultType o ct → o ≡ Some t → ts0 ≡ NAME x ∷ (cf ++ (ct ++ ts)) → Spelled (IsFeature es) ts0 (attribute_of es t (named x) ∷ [], 0, ts)
+    at grammar.no_result q e = cc
+    at (grammar.result_type {t = u} {c} d) q e = lone_attribute es x t cf c ts0 ts (formals_none df refl) (subst (λ (t : DeclaredType). IsType t c) (some_same u t q) d) e
+
+    of_type : IsResultType (Some t) ct → ts0 ≡ NAME x ∷ (cf ++ (ct ++ ts)) → Spelled (IsFeature es) ts0 (attribute_of es t (named x) ∷ [], 0, ts)
+    of_type d e = at d refl e
+sound_attribute_or_routine room es x (f ∷ fs) (Some t) cf ct ts0 ts df dt e = sound_routine room es x (f ∷ fs) (Some t) cf ct ts0 ts df dt e
+
+sound_attributes : (room : ℕ) (es : List Name) (x : List ℕ) (ts r : List Kind) → ts ≡ NAME x ∷ r → Sound (IsFeature es) ts (attributes room es (named x) r)
 unfolding attributes
-sound_attributes room x ts r e =
+sound_attributes room es x ts r e =
     holds_then _ (sound_more_names (length r) (named x ∷ []) r) λ ns a. holds_then _ (expect_holds terminal.Colon ns.1) λ s q. holds_then _ (sound_type s) λ t d.
     holds (record {
       tokens = NAME x ∷ (a.tokens ++ TERMINAL terminal.Colon ∷ d.tokens);
       same = through ts (NAME x ∷ []) r (a.tokens ++ TERMINAL terminal.Colon ∷ d.tokens) t.1 e (through r a.tokens ns.1 (TERMINAL terminal.Colon ∷ d.tokens) t.1 a.same (through ns.1 (TERMINAL terminal.Colon ∷ []) s d.tokens t.1 q d.same));
-      is = subst (λ (xs : List Name). IsFeature (map (attribute_of t.0) xs) (NAME x ∷ (a.tokens ++ TERMINAL terminal.Colon ∷ d.tokens)) 0) (sym a.joined) (grammar.attributes (a.is x) d.is);
+      is = subst (λ (xs : List Name). IsFeature es (map (attribute_of es t.0) xs) (NAME x ∷ (a.tokens ++ TERMINAL terminal.Colon ∷ d.tokens)) 0) (sym a.joined) (grammar.attributes (a.is x) d.is);
     })
 
-sound_feature : (room : ℕ) (ts : List Kind) → Sound IsFeature ts (feature room ts)
+sound_feature : (room : ℕ) (es : List Name) (ts : List Kind) → Sound (IsFeature es) ts (feature room es ts)
 unfolding feature
-sound_feature room ts = holds_then _ (name_holds ts) λ x n. by_name x n
+sound_feature room es ts = holds_then _ (name_holds ts) λ x n. by_name x n
   where
-    by_name : (x : Name × List Kind) → NameFirst ts x → Sound IsFeature ts (if sees terminal.Do x.1 then routine room x.0 (past x.1) else attributes room x.0 x.1)
+    by_name : (x : Name × List Kind) → NameFirst ts x →
+        Sound (IsFeature es) ts (if sees terminal.Comma x.1 then attributes room es x.0 x.1 else (formals x.1 >>= λ fs. result_type fs.1 >>= λ t. attribute_or_routine room es x.0 fs.0 t.0 t.1))
     by_name _ (name_first x r q) =
-        holds_if (sees terminal.Do r) _ _ (λ b. sound_routine room x ts (past r) (q ∙ ap (λ (r : List Kind). NAME x ∷ r) (sees_is terminal.Do r b))) (λ _. sound_attributes room x ts r q)
+        holds_if (sees terminal.Comma r) _ _ (λ b. sound_attributes room es x ts r q) λ _.
+        holds_then _ (sound_formals r) λ fs sf. holds_then _ (sound_result_type fs.1) λ t st.
+        sound_attribute_or_routine room es x fs.0 t.0 sf.tokens st.tokens ts t.1 sf.is st.is (q ∙ ap (λ (r : List Kind). NAME x ∷ r) (sf.same ∙ ap (λ (r : List Kind). sf.tokens ++ r) st.same))
 
-no_feature_added : (found : List Feature) (high : ℕ) (ts : List Kind) → Added ◌++◌ IsFeatures found high ts (found, high, ts)
-no_feature_added found high ts = record { more = []; tokens = []; nesting = 0; same = refl; is = grammar.no_feature; joined = sym (append-nil found); highest = omega arith }
+no_feature_added : (es : List Name) (found : List Feature) (high : ℕ) (ts : List Kind) → Added ◌++◌ (IsFeatures es) found high ts (found, high, ts)
+no_feature_added es found high ts = record { more = []; tokens = []; nesting = 0; same = refl; is = grammar.no_feature; joined = sym (append-nil found); highest = omega arith }
 
-sound_features_from : (room f : ℕ) (found : List Feature) (high : ℕ) (ts : List Kind) → Holds (Added ◌++◌ IsFeatures found high ts) (features_from room f found high ts)
+sound_features_from : (room : ℕ) (es : List Name) (f : ℕ) (found : List Feature) (high : ℕ) (ts : List Kind) → Holds (Added ◌++◌ (IsFeatures es) found high ts) (features_from room es f found high ts)
 unfolding features_from
-sound_features_from room zero found high ts = holds (no_feature_added found high ts)
-sound_features_from room (suc f) found high ts =
+sound_features_from room es zero found high ts = holds (no_feature_added es found high ts)
+sound_features_from room es (suc f) found high ts =
     holds_if (name_ahead ts) _ _
-    (λ b. holds_then _ (sound_feature room ts) λ x s. holds_also (sound_features_from room f (found ++ x.0) (max high x.1) (skip_semicolons x.2)) λ y a.
+    (λ b. holds_then _ (sound_feature room es ts) λ x s. holds_also (sound_features_from room es f (found ++ x.0) (max high x.1) (skip_semicolons x.2)) λ y a.
     let u = skipped x.2 in
     record {
       more = x.0 ++ a.more;
@@ -180,7 +220,23 @@ sound_features_from room (suc f) found high ts =
       joined = a.joined ∙ append_assoc found x.0 a.more;
       highest = omega (arith, a.highest);
     })
-    (λ _. holds (no_feature_added found high ts))
+    (λ _. holds (no_feature_added es found high ts))
+
+sound_export_list : (ts r : List Kind) → ts ≡ TERMINAL terminal.OpenBrace ∷ r → Holds (Begins IsExports ts) (export_list r)
+unfolding export_list
+sound_export_list ts r e =
+    holds_if (sees terminal.CloseBrace r) _ _
+    (λ b. holds (record { tokens = TERMINAL terminal.OpenBrace ∷ TERMINAL terminal.CloseBrace ∷ []; same = e ∙ ap (λ (r : List Kind). TERMINAL terminal.OpenBrace ∷ r) (sees_is terminal.CloseBrace r b); is = grammar.empty_exports })) λ _.
+    holds_then _ (sound_names r) λ ns s. holds_then _ (expect_holds terminal.CloseBrace ns.1) λ rest q.
+    holds (record {
+      tokens = TERMINAL terminal.OpenBrace ∷ (s.tokens ++ TERMINAL terminal.CloseBrace ∷ []);
+      same = through ts (TERMINAL terminal.OpenBrace ∷ []) r (s.tokens ++ TERMINAL terminal.CloseBrace ∷ []) rest e (through r s.tokens ns.1 (TERMINAL terminal.CloseBrace ∷ []) rest s.same q);
+      is = grammar.exports s.is;
+    })
+
+sound_exports : (ts : List Kind) → Holds (Begins IsExports ts) (exports ts)
+unfolding exports
+sound_exports ts = holds_if (sees terminal.OpenBrace ts) _ _ (λ b. sound_export_list ts (past ts) (sees_is terminal.OpenBrace ts b)) (λ _. holds (record { tokens = []; same = refl; is = grammar.no_exports }))
 
 no_section_added : (found : List Feature) (high : ℕ) (ts : List Kind) → Added ◌++◌ IsSections found high ts (found, high, ts)
 no_section_added found high ts = record { more = []; tokens = []; nesting = 0; same = refl; is = grammar.no_section; joined = sym (append-nil found); highest = omega arith }
@@ -190,13 +246,14 @@ unfolding sections_from
 sound_sections_from room zero found high ts = holds (no_section_added found high ts)
 sound_sections_from room (suc f) found high ts =
     holds_if (sees terminal.Feature ts) _ _
-    (λ b. holds_then _ (sound_features_from room (length (past ts)) found high (past ts)) λ x s. holds_also (sound_sections_from room f x.0 x.1 x.2) λ y a.
+    (λ b. holds_then _ (sound_exports (past ts)) λ es e. holds_then _ (sound_features_from room es.0 (length es.1) found high es.1) λ x s. holds_also (sound_sections_from room f x.0 x.1 x.2) λ y a.
     record {
       more = s.more ++ a.more;
-      tokens = TERMINAL terminal.Feature ∷ (s.tokens ++ a.tokens);
+      tokens = TERMINAL terminal.Feature ∷ (e.tokens ++ (s.tokens ++ a.tokens));
       nesting = max s.nesting a.nesting;
-      same = through ts (TERMINAL terminal.Feature ∷ []) (past ts) (s.tokens ++ a.tokens) y.2 (sees_is terminal.Feature ts b) (through (past ts) s.tokens x.2 a.tokens y.2 s.same a.same);
-      is = grammar.section s.is a.is;
+      same = through ts (TERMINAL terminal.Feature ∷ []) (past ts) (e.tokens ++ (s.tokens ++ a.tokens)) y.2 (sees_is terminal.Feature ts b)
+          (through (past ts) e.tokens es.1 (s.tokens ++ a.tokens) y.2 e.same (through es.1 s.tokens x.2 a.tokens y.2 s.same a.same));
+      is = grammar.section e.is s.is a.is;
       joined = a.joined ∙ ap (λ (found : List Feature). found ++ a.more) s.joined ∙ append_assoc found s.more a.more;
       highest = omega (arith, a.highest, s.highest);
     })
@@ -208,39 +265,137 @@ sound_sections room ts = holds_also (sound_sections_from room (length ts) [] 0 t
 
 -- ---- classes
 
-sound_creators : (room : ℕ) (ts : List Kind) → Holds (Begins IsCreators ts) (creators room ts)
+free_is : (stops : Kind → Bool) (ts : List Kind) → Unskipped (IsFree stops) ts (past_free stops ts)
+free_is stops [] = no_tokens (IsFree stops) [] grammar.no_token
+free_is stops (t ∷ ts) = go (stops t) refl (free_is stops ts)
+  where
+    go : (b : Bool) → stops t ≡ b → Unskipped (IsFree stops) ts (past_free stops ts) → Unskipped (IsFree stops) (t ∷ ts) (if b then t ∷ ts else past_free stops ts)
+    go true e u = no_tokens (IsFree stops) (t ∷ ts) grammar.no_token
+    go false e u = record { tokens = t ∷ u.tokens; same = ap (λ (ts : List Kind). t ∷ ts) u.same; is = grammar.token t e u.is }
+
+note_is : (stops : Kind → Bool) (ts : List Kind) → Unskipped (IsNote stops) ts (past_note stops ts)
+note_is stops ts = go (sees terminal.Note ts || sees terminal.Indexing ts) refl
+  where
+    u : Unskipped (IsFree stops) (past ts) (past_free stops (past ts))
+    u = free_is stops (past ts)
+
+    begun : (sees terminal.Note ts ≡ true) ⊎ (sees terminal.Indexing ts ≡ true) → Unskipped (IsNote stops) ts (past_free stops (past ts))
+    begun (inl e) = record { tokens = TERMINAL terminal.Note ∷ u.tokens; same = sees_is terminal.Note ts e ∙ ap (λ (ts : List Kind). TERMINAL terminal.Note ∷ ts) u.same; is = grammar.note u.is }
+    begun (inr e) = record { tokens = TERMINAL terminal.Indexing ∷ u.tokens; same = sees_is terminal.Indexing ts e ∙ ap (λ (ts : List Kind). TERMINAL terminal.Indexing ∷ ts) u.same; is = grammar.indexing u.is }
+
+    go : (b : Bool) → (sees terminal.Note ts || sees terminal.Indexing ts) ≡ b → Unskipped (IsNote stops) ts (if b then past_free stops (past ts) else ts)
+    go true e = begun (either _ _ e)
+    go false e = no_tokens (IsNote stops) ts grammar.no_note
+
+abbrev MarkedClass : List Kind → Option ClassMark × List Kind → Type 0
+MarkedClass ts x = Unskipped (IsMark x.0) ts x.1
+
+marked_class_if : (ts : List Kind) (b : Bool) (x y : Option ClassMark × List Kind) → (b ≡ true → MarkedClass ts x) → (b ≡ false → MarkedClass ts y) → MarkedClass ts (if b then x else y)
+marked_class_if ts true x y p q = p refl
+marked_class_if ts false x y p q = q refl
+
+mark_is : (ts : List Kind) → MarkedClass ts (mark ts)
+unfolding mark
+mark_is ts =
+    marked_class_if ts (sees terminal.Deferred ts) _ _ (λ e. one_token (IsMark _) terminal.Deferred ts e grammar.deferred) λ _.
+    marked_class_if ts (sees terminal.Expanded ts) _ _ (λ e. one_token (IsMark _) terminal.Expanded ts e grammar.expanded) λ _.
+    marked_class_if ts (sees terminal.Frozen ts) _ _ (λ e. one_token (IsMark _) terminal.Frozen ts e grammar.frozen) λ _. no_tokens (IsMark None) ts grammar.no_mark
+
+abbrev parent_of : Name → List Name → Parent
+parent_of x ns = record { name = x; redefined = ns }
+
+sound_parent : (ts : List Kind) → Holds (Begins IsParent ts) (parent ts)
+unfolding parent
+sound_parent ts =
+    holds_then _ (name_holds ts) λ x n.
+    let y = first_name ts x n in
+    holds_if (sees terminal.Redefine x.1) _ _
+    (λ b. holds_then _ (sound_names (past x.1)) λ ns s. holds_then _ (expect_holds terminal.End ns.1) λ rest q.
+    holds (record {
+      tokens = NAME y.0 ∷ TERMINAL terminal.Redefine ∷ (s.tokens ++ TERMINAL terminal.End ∷ []);
+      same = through ts (NAME y.0 ∷ []) x.1 (TERMINAL terminal.Redefine ∷ (s.tokens ++ TERMINAL terminal.End ∷ [])) rest y.1
+          (through x.1 (TERMINAL terminal.Redefine ∷ []) (past x.1) (s.tokens ++ TERMINAL terminal.End ∷ []) rest (sees_is terminal.Redefine x.1 b) (through (past x.1) s.tokens ns.1 (TERMINAL terminal.End ∷ []) rest s.same q));
+      is = subst (λ (n : Name). IsParent (parent_of n ns.0) (NAME y.0 ∷ TERMINAL terminal.Redefine ∷ (s.tokens ++ TERMINAL terminal.End ∷ []))) (sym y.2) (grammar.redefining y.0 s.is);
+    }))
+    (λ _. holds (record { tokens = NAME y.0 ∷ []; same = y.1; is = subst (λ (n : Name). IsParent (parent_of n []) (NAME y.0 ∷ [])) (sym y.2) (grammar.plain_parent y.0) }))
+
+-- parents behind a first one and its semicolon
+record ParentsAfter (found : List Parent) (ts : List Kind) (x : List Parent × List Kind) : Type 0 where
+  pub more : List Parent
+  pub tokens : List Kind
+  pub same : ts ≡ tokens ++ x.1
+  pub is : (p : Parent) (c s : List Kind) → IsParent p c → IsOptional terminal.Semicolon s → IsParentList (p ∷ more) (c ++ (s ++ tokens))
+  pub joined : x.0 ≡ found ++ more
+
+one_parent_alone : (p : Parent) (c s : List Kind) → IsParent p c → IsOptional terminal.Semicolon s → IsParentList (p ∷ []) (c ++ (s ++ []))
+one_parent_alone p c s d o = subst (λ (s' : List Kind). IsParentList (p ∷ []) (c ++ s')) (sym (append-nil s)) (grammar.one_parent d o)
+
+no_parent_after : (found : List Parent) (ts : List Kind) → ParentsAfter found ts (found, ts)
+no_parent_after found ts = record { more = []; tokens = []; same = refl; is = one_parent_alone; joined = sym (append-nil found) }
+
+sound_parents_from : (f : ℕ) (found : List Parent) (ts : List Kind) → Holds (ParentsAfter found ts) (parents_from f found ts)
+unfolding parents_from
+sound_parents_from zero found ts = holds (no_parent_after found ts)
+sound_parents_from (suc f) found ts =
+    holds_if (name_ahead ts) _ _
+    (λ b. holds_then _ (sound_parent ts) λ p sp. holds_also (sound_parents_from f (found ++ p.0 ∷ []) (skip terminal.Semicolon p.1)) λ y a.
+    let o = skipped_one terminal.Semicolon p.1 in
+    record {
+      more = p.0 ∷ a.more;
+      tokens = sp.tokens ++ (o.tokens ++ a.tokens);
+      same = through ts sp.tokens p.1 (o.tokens ++ a.tokens) y.1 sp.same (through p.1 o.tokens (skip terminal.Semicolon p.1) a.tokens y.1 o.same a.same);
+      is = λ q c s d e. grammar.more_parents d e (a.is p.0 sp.tokens o.tokens sp.is o.is);
+      joined = a.joined ∙ append_assoc found (p.0 ∷ []) a.more;
+    })
+    (λ _. holds (no_parent_after found ts))
+
+sound_parents : (ts : List Kind) → Holds (Begins IsParents ts) (parents ts)
+unfolding parents
+sound_parents ts =
+    holds_if (sees terminal.Inherit ts) _ _
+    (λ b. holds_then _ (sound_parent (past ts)) λ p sp. holds_also (sound_parents_from (length p.1) (p.0 ∷ []) (skip terminal.Semicolon p.1)) λ y a.
+    let o = skipped_one terminal.Semicolon p.1 in
+    record {
+      tokens = TERMINAL terminal.Inherit ∷ (sp.tokens ++ (o.tokens ++ a.tokens));
+      same = through ts (TERMINAL terminal.Inherit ∷ []) (past ts) (sp.tokens ++ (o.tokens ++ a.tokens)) y.1 (sees_is terminal.Inherit ts b)
+          (through (past ts) sp.tokens p.1 (o.tokens ++ a.tokens) y.1 sp.same (through p.1 o.tokens (skip terminal.Semicolon p.1) a.tokens y.1 o.same a.same));
+      is = grammar.parents (subst (λ (ps : List Parent). IsParentList ps (sp.tokens ++ (o.tokens ++ a.tokens))) (sym a.joined) (a.is p.0 sp.tokens o.tokens sp.is o.is));
+    })
+    (λ _. holds (record { tokens = []; same = refl; is = grammar.no_parents }))
+
+sound_creators : (ts : List Kind) → Holds (Begins IsCreators ts) (creators ts)
 unfolding creators
-sound_creators room ts =
+sound_creators ts =
     holds_if (sees terminal.Create ts) _ _
     (λ b. holds_also (sound_names (past ts)) λ x s.
     record { tokens = TERMINAL terminal.Create ∷ s.tokens; same = through ts (TERMINAL terminal.Create ∷ []) (past ts) s.tokens x.1 (sees_is terminal.Create ts b) s.same; is = grammar.creators s.is })
     (λ _. holds (record { tokens = []; same = refl; is = grammar.no_creator }))
 
-sound_invariant : (room : ℕ) (ts : List Kind) → Sound IsInvariant ts (invariant room ts)
-unfolding invariant
-sound_invariant room ts =
-    holds_if (sees terminal.Invariant ts) _ _
-    (λ b. holds_also (sound_clauses room (past ts)) λ x s.
-    record { tokens = TERMINAL terminal.Invariant ∷ s.tokens; same = through ts (TERMINAL terminal.Invariant ∷ []) (past ts) s.tokens x.2 (sees_is terminal.Invariant ts b) s.same; is = grammar.invariant s.is })
-    (λ _. holds (record { tokens = []; same = refl; is = grammar.no_invariant }))
-
--- what a first name is
-first_name : (ts : List Kind) (x : Name × List Kind) → NameFirst ts x → (y : List ℕ) × (ts ≡ NAME y ∷ x.1) × (x.0 ≡ named y)
-first_name ts _ (name_first y r e) = (y, e, refl)
+sound_class_marked : (room : ℕ) (m : Option ClassMark) (cn cm ts0 ts : List Kind) → IsNote heads_class cn → IsMark m cm → ts0 ≡ cn ++ (cm ++ ts) → Sound IsClass ts0 (class_marked room m ts)
+unfolding class_marked
+sound_class_marked room m cn cm ts0 ts dn dm e =
+    holds_then _ (expect_holds terminal.Class ts) λ r q. holds_then _ (name_holds r) λ x n. holds_then _ (sound_parents x.1) λ ps sp. holds_then _ (sound_creators ps.1) λ ns sn.
+    holds_then _ (sound_sections room ns.1) λ fs sf. holds_then _ (sound_assertion room terminal.Invariant fs.2) λ is si. holds_then _ (expect_holds terminal.End (past_note ends_class is.2)) λ rest d.
+    let y = first_name r x n in
+    let u = note_is ends_class is.2 in
+    let tail_same = through ts (TERMINAL terminal.Class ∷ NAME y.0 ∷ []) x.1 (sp.tokens ++ (sn.tokens ++ (sf.tokens ++ (si.tokens ++ (u.tokens ++ TERMINAL terminal.End ∷ []))))) rest (q ∙ ap (λ (r : List Kind). TERMINAL terminal.Class ∷ r) y.1)
+    (through x.1 sp.tokens ps.1 (sn.tokens ++ (sf.tokens ++ (si.tokens ++ (u.tokens ++ TERMINAL terminal.End ∷ [])))) rest sp.same
+    (through ps.1 sn.tokens ns.1 (sf.tokens ++ (si.tokens ++ (u.tokens ++ TERMINAL terminal.End ∷ []))) rest sn.same
+    (through ns.1 sf.tokens fs.2 (si.tokens ++ (u.tokens ++ TERMINAL terminal.End ∷ [])) rest sf.same
+    (through fs.2 si.tokens is.2 (u.tokens ++ TERMINAL terminal.End ∷ []) rest si.same (through is.2 u.tokens (past_note ends_class is.2) (TERMINAL terminal.End ∷ []) rest u.same d))))) in
+    holds (record {
+      tokens = cn ++ (cm ++ TERMINAL terminal.Class ∷ NAME y.0 ∷ (sp.tokens ++ (sn.tokens ++ (sf.tokens ++ (si.tokens ++ (u.tokens ++ TERMINAL terminal.End ∷ []))))));
+      same = through ts0 cn (cm ++ ts) (cm ++ TERMINAL terminal.Class ∷ NAME y.0 ∷ (sp.tokens ++ (sn.tokens ++ (sf.tokens ++ (si.tokens ++ (u.tokens ++ TERMINAL terminal.End ∷ [])))))) rest e
+          (through (cm ++ ts) cm ts (TERMINAL terminal.Class ∷ NAME y.0 ∷ (sp.tokens ++ (sn.tokens ++ (sf.tokens ++ (si.tokens ++ (u.tokens ++ TERMINAL terminal.End ∷ [])))))) rest refl tail_same);
+      is = told IsClass _ _ _ _ _ (ap (λ (n : Name). class_of m n ps.0 ns.0 fs.0 is.0) (sym y.2)) refl (grammar.class y.0 dn dm sp.is sn.is sf.is si.is u.is);
+    })
 
 sound_class : (room : ℕ) (ts : List Kind) → Sound IsClass ts (class room ts)
 unfolding class
 sound_class room ts =
-    holds_then _ (expect_holds terminal.Class ts) λ r q. holds_then _ (name_holds r) λ x n. holds_then _ (sound_creators room x.1) λ ns sn.
-    holds_then _ (sound_sections room ns.1) λ fs sf. holds_then _ (sound_invariant room fs.2) λ is si. holds_then _ (expect_holds terminal.End is.2) λ rest d.
-    let y = first_name r x n in
-    holds (record {
-      tokens = TERMINAL terminal.Class ∷ NAME y.0 ∷ (sn.tokens ++ (sf.tokens ++ (si.tokens ++ TERMINAL terminal.End ∷ [])));
-      same = through ts (TERMINAL terminal.Class ∷ NAME y.0 ∷ []) x.1 (sn.tokens ++ (sf.tokens ++ (si.tokens ++ TERMINAL terminal.End ∷ []))) rest (q ∙ ap (λ (r : List Kind). TERMINAL terminal.Class ∷ r) y.1)
-          (through x.1 sn.tokens ns.1 (sf.tokens ++ (si.tokens ++ TERMINAL terminal.End ∷ [])) rest sn.same
-          (through ns.1 sf.tokens fs.2 (si.tokens ++ TERMINAL terminal.End ∷ []) rest sf.same (through fs.2 si.tokens is.2 (TERMINAL terminal.End ∷ []) rest si.same d)));
-      is = told IsClass _ _ _ _ _ (ap (λ (n : Name). class_of n ns.0 fs.0 is.0) (sym y.2)) refl (grammar.class y.0 sn.is sf.is si.is);
-    })
+    let u = note_is heads_class ts in
+    let m = mark_is (past_note heads_class ts) in
+    sound_class_marked room (mark (past_note heads_class ts)).0 u.tokens m.tokens ts (mark (past_note heads_class ts)).1 u.is m.is (u.same ∙ ap (λ (r : List Kind). u.tokens ++ r) m.same)
 
 no_class_added : (found : List Class) (high : ℕ) (ts : List Kind) → Added ◌++◌ IsClasses found high ts (found, high, ts)
 no_class_added found high ts = record { more = []; tokens = []; nesting = 0; same = refl; is = grammar.no_class; joined = sym (append-nil found); highest = omega arith }
@@ -249,8 +404,8 @@ sound_classes_from : (room f : ℕ) (found : List Class) (high : ℕ) (ts : List
 unfolding classes_from
 sound_classes_from room zero found high ts = holds (no_class_added found high ts)
 sound_classes_from room (suc f) found high ts =
-    holds_if (sees terminal.Class ts) _ _
-    (λ b. holds_then _ (sound_class room ts) λ x s. holds_also (sound_classes_from room f (found ++ x.0 ∷ []) (max high x.1) x.2) λ y a.
+    holds_if (is_done ts) _ _ (λ _. holds (no_class_added found high ts)) λ _.
+    holds_then _ (sound_class room ts) λ x s. holds_also (sound_classes_from room f (found ++ x.0 ∷ []) (max high x.1) x.2) λ y a.
     record {
       more = x.0 ∷ a.more;
       tokens = s.tokens ++ a.tokens;
@@ -259,8 +414,7 @@ sound_classes_from room (suc f) found high ts =
       is = grammar.another s.is a.is;
       joined = a.joined ∙ append_assoc found (x.0 ∷ []) a.more;
       highest = omega (arith, a.highest);
-    })
-    (λ _. holds (no_class_added found high ts))
+    }
 
 pub sound_classes : (room : ℕ) (ts : List Kind) → Sound IsClasses ts (classes_from room (length ts) [] 0 ts)
 sound_classes room ts = holds_also (sound_classes_from room (length ts) [] 0 ts) λ x a. all_added ◌++◌ IsClasses [] (λ xs. refl) ts x a

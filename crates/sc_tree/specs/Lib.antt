@@ -2,6 +2,9 @@ pub mod Plain
 pub mod View
 pub mod Bare
 pub mod Grammar
+pub mod Canonical
+pub mod CanonicalLaws
+pub mod Printer
 pub mod Reading
 pub mod Nesting
 pub mod Laws

@@ -9,20 +9,74 @@ pub record Name : Type 0 where
   pub text : List ℕ
   pub span : Span
 
-pub data Expr : Type 0 where
-  Integer : Span → ℤ → Expr
-  Boolean : Span → Bool → Expr
-  Call : Name → Expr
-  Unary : Span → UnaryOperator → Expr → Expr
-  Binary : Span → BinaryOperator → Expr → Expr → Expr
+-- what a type says of the handler of its objects
+pub data HandlerTag : Type 0 where
+  Own : HandlerTag
+  Separate : HandlerTag
+  HandlerOf : Name → HandlerTag
+
+pub record DeclaredType : Type 0 where
+  pub span : Span
+  pub is_detachable : Bool
+  pub tag : HandlerTag
+  pub class : Name
+
+-- a formal argument or a local
+pub record Declaration : Type 0 where
+  pub name : Name
+  pub declared_type : DeclaredType
+
+mutual
+  pub data Expr : Type 0 where
+    Integer : Span → ℤ → Expr
+    Boolean : Span → Bool → Expr
+    Void : Span → Expr
+    Current : Span → Expr
+    Result : Span → Expr
+    Call : Span → Target → Name → Exprs → Expr
+    Unary : Span → UnaryOperator → Expr → Expr
+    Binary : Span → BinaryOperator → Expr → Expr → Expr
+    ObjectTest : Span → Option DeclaredType → Expr → Name → Expr
+
+  -- what stands before the dot of a call, where there is one
+  pub data Target : Type 0 where
+    no_target : Target
+    target : Expr → Target
+
+  -- expressions one after the other
+  pub data Exprs : Type 0 where
+    no_exprs : Exprs
+    expr_then : Expr → Exprs → Exprs
+
+-- what an assignment or a creation changes
+pub data Variable : Type 0 where
+  Named : Name → Variable
+  ResultVariable : Span → Variable
+
+-- the call that an object is created by
+pub record CreationCall : Type 0 where
+  pub name : Name
+  pub actuals : Exprs
+
+pub record Clause : Type 0 where
+  pub tag : Option Name
+  pub condition : Expr
+
+-- what a separate block reserves, and the name that it has there
+pub record Head : Type 0 where
+  pub value : Expr
+  pub name : Name
 
 mutual
   pub data Instr : Type 0 where
-    Assign : Span → Name → Expr → Instr
-    Print : Span → Expr → Instr
+    Assign : Span → Variable → Expr → Instr
     PrintText : Span → List ℕ → Instr
-    CallRoutine : Name → Instr
+    CallRoutine : Span → Target → Name → Exprs → Instr
+    Create : Span → Variable → Option CreationCall → Instr
     If : Span → Expr → Instrs → Branches → Instrs → Instr
+    Loop : Span → Instrs → Expr → Instrs → Instr
+    Check : Span → List Clause → Instr
+    Block : Span → List Head → Instrs → Instr
 
   -- instructions one after the other
   pub data Instrs : Type 0 where
@@ -34,25 +88,33 @@ mutual
     no_branches : Branches
     branch_then : Expr → Instrs → Branches → Branches
 
--- a type, which is named by its class
-pub record DeclaredType : Type 0 where
-  pub class : Name
-
 pub data FeatureKind : Type 0 where
   Attribute : DeclaredType → FeatureKind
-  Routine : Instrs → FeatureKind
+  -- its formals, result type, precondition, locals, body and postcondition
+  Routine : List Declaration → Option DeclaredType → List Clause → List Declaration → Instrs → List Clause → FeatureKind
 
+-- A feature with the classes that it is exported to: all of them where none is named.
 pub record Feature : Type 0 where
+  pub exports : List Name
   pub name : Name
   pub kind : FeatureKind
 
-pub record Clause : Type 0 where
-  pub tag : Option Name
-  pub condition : Expr
+-- a class that another inherits from, and the features that are redefined
+pub record Parent : Type 0 where
+  pub name : Name
+  pub redefined : List Name
+
+-- a word before `class`
+pub data ClassMark : Type 0 where
+  Deferred : Span → ClassMark
+  Expanded : Span → ClassMark
+  Frozen : Span → ClassMark
 
 pub record Class : Type 0 where
   pub span : Span
+  pub mark : Option ClassMark
   pub name : Name
+  pub parents : List Parent
   pub creators : List Name
   pub features : List Feature
   pub invariant : List Clause

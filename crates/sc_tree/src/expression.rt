@@ -1,5 +1,6 @@
-// Names and expressions (ECMA-367, 8.28).
+// Names and expressions (ECMA-367, 8.23 and 8.28).
 
+use crate::declaration::DeclaredType;
 use sc_text::Span;
 
 /// A name and where it stands, in lower case.
@@ -13,6 +14,7 @@ pub struct Name {
 #[derive(Clone, Copy, Debug, PartialEq, Eq)]
 pub enum UnaryOperator {
     Not,
+    Old,
     Plus,
     Minus,
 }
@@ -39,15 +41,31 @@ pub enum BinaryOperator {
     Implies,
 }
 
+/// A call of a feature, with its target and its actual arguments. With no target it is of the current
+/// object, or its name is that of a formal argument, a local, an object test or a block's head.
+#[cycle(expressions)]
+#[derive(Debug, Drop, PartialEq)]
+pub struct Call {
+    pub span: Span,
+    pub target: Option<Box<Expr>>,
+    pub name: Name,
+    pub actuals: Vec<Expr>,
+}
+
 /// An expression. Parentheses leave nothing in the tree: the place of `(a + b) * c` begins at `a`.
+#[cycle(expressions)]
 #[derive(Debug, Drop, PartialEq)]
 pub enum Expr {
     /// An integer's value, which is not negative.
     Integer(Span, i64),
-    /// `True` or `False`.
+    /// `True` or `False`
     Boolean(Span, bool),
-    /// A name alone.
-    Call(Name),
+    Void(Span),
+    Current(Span),
+    Result(Span),
+    Call(Call),
     Unary(Span, UnaryOperator, Box<Expr>),
     Binary(Span, BinaryOperator, Box<Expr>, Box<Expr>),
+    /// `attached {type} expression as name`
+    ObjectTest(Span, Option<DeclaredType>, Box<Expr>, Name),
 }

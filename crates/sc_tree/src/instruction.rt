@@ -1,22 +1,56 @@
-// Instructions (ECMA-367, 8.17 and 8.22).
+// Instructions (ECMA-367, 8.17, 8.20, 8.22 and 8.23) and assertion clauses (8.9).
 
-use crate::expression::{Expr, Name};
+use crate::expression::{Call, Expr, Name};
 use sc_text::Span;
+
+/// What an assignment or a creation changes.
+#[derive(Debug, Drop, PartialEq)]
+pub enum Variable {
+    Named(Name),
+    Result(Span),
+}
+
+/// The call that an object is created by.
+#[derive(Debug, Drop, PartialEq)]
+pub struct CreationCall {
+    pub name: Name,
+    pub actuals: Vec<Expr>,
+}
+
+/// An assertion clause, with its tag where it has one.
+#[derive(Debug, Drop, PartialEq)]
+pub struct Clause {
+    pub tag: Option<Name>,
+    pub condition: Expr,
+}
+
+/// A head of a separate block: what is reserved, and the name that it has in the block.
+#[derive(Debug, Drop, PartialEq)]
+pub struct Head {
+    pub value: Expr,
+    pub name: Name,
+}
 
 /// An instruction.
 #[cycle(instructions)]
 #[derive(Debug, Drop, PartialEq)]
 pub enum Instr {
-    /// `name := value`
-    Assign(Span, Name, Expr),
-    /// `print` of an expression
-    Print(Span, Expr),
+    /// `variable := value`
+    Assign(Span, Variable, Expr),
     /// `print` of a manifest string, whose marks are read
     PrintText(Span, String),
-    /// A call of a routine of the current object, by its name alone.
-    Call(Name),
+    /// A call of a procedure, as `print` of an expression is.
+    Call(Call),
+    /// `create variable`, with the call that follows it
+    Create(Span, Variable, Option<CreationCall>),
     /// `if`, with its condition and what stands under `then`, the `elseif`s, and what stands under `else`
     If(Span, Expr, Vec<Instr>, Vec<Branch>, Vec<Instr>),
+    /// A loop: what stands under `from`, the condition to leave it, and what stands under `loop`
+    Loop(Span, Vec<Instr>, Expr, Vec<Instr>),
+    /// `check`, with its clauses
+    Check(Span, Vec<Clause>),
+    /// A separate block: its heads and its body
+    Block(Span, Vec<Head>, Vec<Instr>),
 }
 
 /// An `elseif` and what stands under it.

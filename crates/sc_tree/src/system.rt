@@ -1,7 +1,8 @@
-// Systems, classes and features (ECMA-367, 8.4 and 8.5).
+// Systems, classes and features (ECMA-367, 8.4 to 8.6).
 
-use crate::expression::{Expr, Name};
-use crate::instruction::Instr;
+use crate::declaration::{Declaration, DeclaredType};
+use crate::expression::Name;
+use crate::instruction::{Clause, Instr};
 use sc_text::Span;
 
 /// The classes of a source text, in order.
@@ -10,20 +11,40 @@ pub struct System {
     pub classes: Vec<Class>,
 }
 
-/// A class: the procedures that create its objects, its features and the clauses of its invariant, in
-/// the order of the text.
+/// A word before `class`, and where it stands.
+#[derive(Debug, Drop, PartialEq)]
+pub enum ClassMark {
+    Deferred(Span),
+    Expanded(Span),
+    Frozen(Span),
+}
+
+/// A class: its mark, its parents, the procedures that create its objects, its features and the clauses
+/// of its invariant, in the order of the text.
 #[derive(Debug, Drop, PartialEq)]
 pub struct Class {
     pub span: Span,
+    pub mark: Option<ClassMark>,
     pub name: Name,
+    pub parents: Vec<Parent>,
     pub creators: Vec<Name>,
     pub features: Vec<Feature>,
     pub invariant: Vec<Clause>,
 }
 
+/// A class that another inherits from, and the names of the features that it redefines.
+#[derive(Debug, Drop, PartialEq)]
+pub struct Parent {
+    pub name: Name,
+    pub redefined: Vec<Name>,
+}
+
 /// A feature. Of `a, b: INTEGER` each name is a feature of its own.
 #[derive(Debug, Drop, PartialEq)]
 pub struct Feature {
+    /// The classes that it is exported to: to all where none stands here. `{ANY}` leaves none here, and
+    /// `{}` leaves `NONE`.
+    pub exports: Vec<Name>,
     pub name: Name,
     pub kind: FeatureKind,
 }
@@ -35,21 +56,13 @@ pub enum FeatureKind {
     Routine(Routine),
 }
 
-/// The type that a feature is declared with: the name of its class.
-#[derive(Debug, Drop, PartialEq)]
-pub struct DeclaredType {
-    pub class: Name,
-}
-
-/// A routine's body.
+/// A routine: a function where it has a result type, else a procedure.
 #[derive(Debug, Drop, PartialEq)]
 pub struct Routine {
+    pub formals: Vec<Declaration>,
+    pub result_type: Option<DeclaredType>,
+    pub precondition: Vec<Clause>,
+    pub locals: Vec<Declaration>,
     pub body: Vec<Instr>,
-}
-
-/// An assertion clause, with its tag where it has one.
-#[derive(Debug, Drop, PartialEq)]
-pub struct Clause {
-    pub tag: Option<Name>,
-    pub condition: Expr,
+    pub postcondition: Vec<Clause>,
 }

@@ -1,0 +1,19 @@
+use Rattle.std.proofs.Common.{ap, ◌∙◌, map, arith}
+use Rattle.sc_tree.specs.Canonical.Classes.{section_line, further_feature_lines}
+use Rattle.sc_tree.specs.Printer.{output_of, put_line, put_lines}
+use Rattle.sc_tree.specs.View.{name_of, feature_of}
+use Rattle.sc_tree.proofs.PrintingClasses.{features_more, features_done}
+use Rattle.sc_tree.proofs.print.Printer.features.Goals as goal
+
+pub loop-feature-preserved : goal.loop-feature-preserved
+loop-feature-preserved c =
+    features_more c.loop-feature.before.now _ c.loop-feature.feature-index c.feature-item.result _ _ _ (omega arith) c.feature-item.is
+    (c.in_ok-further_feature.ensures
+    ∙ ap (λ es. put_lines (output_of c.loop-feature.self) (further_feature_lines (map name_of es) (feature_of c.feature-item.result))) c.deref-in-loop-feature.ensures.value)
+    c.loop-feature.invariant
+
+pub returns : goal.returns
+returns c =
+    features_done c.args.features.now c.first-item.result c.loop-feature.feature-index c.loop-feature.before.now.exports.items _ _ _ _ c.in-len1-up.len_at_least c.first-item.is (omega arith)
+    (c.in_ok-section.ensures ∙ ap (λ es. put_line (output_of c.args.self.now) (section_line (map name_of es))) c.deref.ensures.value)
+    c.in_ok-feature.ensures c.loop-feature.invariant

@@ -1,0 +1,10 @@
+use Rattle.std.proofs.Common.{◌≡◌, drop, map}
+use Rattle.sc_tree.specs.Canonical.Classes.{further_features_lines}
+use Rattle.sc_tree.specs.Printer.{output_of, put_lines}
+use Rattle.sc_tree.specs.View.{feature_of, name_of}
+use Rattle.sc_tree.proofs.print.Printer.features.Given as goal
+
+abbrev pub invariant-loop-feature : goal.invariant-loop-feature
+invariant-loop-feature l =
+    put_lines (output_of l.self) (further_features_lines (map name_of l.before.exports.items) (map feature_of (drop l.feature-index l.rest)))
+    ≡ put_lines (output_of l.initial.self) (further_features_lines (map name_of l.initial.before.exports.items) (map feature_of l.rest))

@@ -1,0 +1,32 @@
+// Types, and the entities that are declared with them (ECMA-367, 8.8 and 8.11).
+
+use crate::expression::Name;
+use sc_text::Span;
+
+/// What a type says of the handler of its objects.
+#[derive(Debug, Drop, PartialEq)]
+pub enum HandlerTag {
+    /// Nothing: they are objects of the current object's own handler.
+    Own,
+    /// `separate`: they may be any handler's.
+    Separate,
+    /// `separate <x.handler>`: they are of the handler of what this name stands for.
+    HandlerOf(Name),
+}
+
+/// The type that something is declared with.
+#[derive(Debug, Drop, PartialEq)]
+pub struct DeclaredType {
+    pub span: Span,
+    /// Whether it stands for `Void` too; a type with no mark is attached.
+    pub is_detachable: bool,
+    pub tag: HandlerTag,
+    pub class: Name,
+}
+
+/// A formal argument or a local. Of `a, b: INTEGER` each name is one of its own.
+#[derive(Debug, Drop, PartialEq)]
+pub struct Declaration {
+    pub name: Name,
+    pub declared_type: DeclaredType,
+}

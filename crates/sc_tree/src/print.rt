@@ -1,0 +1,202 @@
+// Canonical text, token by token and line by line.
+
+ghost use Rattle.std.specs.Prelude.{◌≡◌, ◌+◌, ◌∷◌, ◌++◌, [], false, true, length, map, not, replicate, string_bytes, IfOk, OnOk};
+ghost use Rattle.std.specs.Char.{to_ascii_uppercase};
+ghost use Rattle.sc_text.specs.Characters.{tab};
+ghost use Rattle.sc_text.specs.Kind.{INTEGER, NAME, STRING};
+ghost use Rattle.sc_tree.specs.Canonical.{canonical_text};
+ghost use Rattle.sc_tree.specs.Canonical.Layout.{ClassName, HandlerOfName, Token, line, manifest, marked, word};
+ghost use Rattle.sc_tree.specs.Printer.{begin, end, gap, output_of, put, put_lines};
+ghost use Rattle.sc_tree.specs.View.{system_of};
+
+mod classes;
+mod expressions;
+mod instructions;
+mod laws;
+mod operators;
+#[cfg(test)]
+mod tests;
+mod words;
+
+use crate::expression::Name;
+use crate::print::words::{closes, opens, terminal_text};
+use crate::system::System;
+pub use laws::{canonical_text_spells, canonical_text_stays, canonical_tokens_spell};
+use sc_text::Terminal;
+use std::alloc::{AllocError, Global};
+
+/// The canonical text of a system: the one that stands for all that spell it, whatever their layout, comments,
+/// notes and parentheses. Its error says that memory ran out.
+#[tactic(auto, unfolding(crate::specs::Canonical::canonical_text, crate::specs::View::system_of))]
+pub fn print_system(alloc: Global, system: &System) -> Result<Vec<u8>, AllocError>
+    ensures { IfOk result (λ text. text.items ≡ canonical_text (system_of system.now)) }
+{
+    let mut printer = Printer {
+        alloc,
+        text: Vec::new(alloc),
+        is_apart: false,
+    };
+    printer.classes(&system.classes)?;
+    Ok(printer.text)
+}
+
+/// Writes canonical text.
+#[derive(Drop)]
+struct Printer {
+    alloc: Global,
+    text: Vec<u8>,
+    /// Whether a space stands before the line's next token, if that doesn't stand close.
+    is_apart: bool,
+}
+
+impl Printer {
+    /// The space before a token, where one stands.
+    fn gap(&mut self, is_close: bool) -> Result<(), AllocError>
+        ensures text { OnOk result (self.new.text.items ≡ self.old.text.items ++ gap self.old.is_apart is_close) }
+        ensures same { self.new.is_apart ≡ self.old.is_apart }
+    {
+        if self.is_apart && !is_close {
+            self.text.push(b' ')?;
+        }
+        Ok(())
+    }
+
+    /// A reserved word or a special symbol.
+    #[tactic(auto, unfolding(crate::specs::Printer::put, crate::specs::Canonical::Layout::text_of_part, crate::specs::Canonical::Layout::opens, crate::specs::Canonical::Layout::closes))]
+    fn word(&mut self, terminal: Terminal) -> Result<(), AllocError>
+        ensures { OnOk result (output_of self.new ≡ put (output_of self.old) (word terminal)) }
+    {
+        self.gap(closes(terminal))?;
+        self.text.extend_from_slice(terminal_text(terminal))?;
+        self.is_apart = !opens(terminal);
+        Ok(())
+    }
+
+    /// A token that stands apart from those around it, where they allow it.
+    fn token(&mut self, text: &[u8]) -> Result<(), AllocError>
+        ensures text { OnOk result (self.new.text.items ≡ self.old.text.items ++ (gap self.old.is_apart false ++ text.now)) }
+        ensures apart { OnOk result (self.new.is_apart ≡ true) }
+    {
+        self.gap(false)?;
+        self.text.extend_from_slice(text)?;
+        self.is_apart = true;
+        Ok(())
+    }
+
+    #[tactic(auto, unfolding(crate::specs::Printer::put, crate::specs::Canonical::Layout::text_of_part, crate::specs::Canonical::Layout::opens, crate::specs::Canonical::Layout::closes))]
+    fn identifier(&mut self, text: &[u8]) -> Result<(), AllocError>
+        ensures { OnOk result (output_of self.new ≡ put (output_of self.old) (Token (NAME text.now))) }
+    {
+        self.token(text)
+    }
+
+    fn name(&mut self, name: &Name) -> Result<(), AllocError>
+        ensures { OnOk result (output_of self.new ≡ put (output_of self.old) (Token (NAME (string_bytes name.now.text)))) }
+    {
+        self.identifier(name.text.as_bytes())
+    }
+
+    fn upper_case(&mut self, text: &[u8]) -> Result<(), AllocError>
+        ensures text { OnOk result (self.new.text.items ≡ self.old.text.items ++ map to_ascii_uppercase text.now) }
+        ensures same { self.new.is_apart ≡ self.old.is_apart }
+    {
+        for byte in text {
+            self.text.push(byte.to_ascii_uppercase())?;
+        }
+        Ok(())
+    }
+
+    /// The name of a class, in upper case.
+    #[tactic(auto, unfolding(crate::specs::Printer::put, crate::specs::Canonical::Layout::text_of_part, crate::specs::Canonical::Layout::opens, crate::specs::Canonical::Layout::closes))]
+    fn class_name(&mut self, name: &Name) -> Result<(), AllocError>
+        ensures { OnOk result (output_of self.new ≡ put (output_of self.old) (ClassName (string_bytes name.now.text))) }
+    {
+        self.gap(false)?;
+        self.upper_case(name.text.as_bytes())?;
+        self.is_apart = true;
+        Ok(())
+    }
+
+    /// `<x.handler>`
+    #[tactic(auto, unfolding(crate::specs::Printer::put, crate::specs::Canonical::Layout::text_of_part, crate::specs::Canonical::Layout::opens, crate::specs::Canonical::Layout::closes))]
+    fn handler_of(&mut self, name: &Name) -> Result<(), AllocError>
+        ensures { OnOk result (output_of self.new ≡ put (output_of self.old) (HandlerOfName (string_bytes name.now.text))) }
+    {
+        self.token(b"<")?;
+        self.text.extend_from_slice(name.text.as_bytes())?;
+        self.text.extend_from_slice(b".handler>")?;
+        Ok(())
+    }
+
+    #[tactic(auto, unfolding(crate::specs::Printer::put, crate::specs::Canonical::Layout::text_of_part, crate::specs::Canonical::Layout::opens, crate::specs::Canonical::Layout::closes))]
+    fn integer(&mut self, value: i64) -> Result<(), AllocError>
+        ensures { OnOk result (output_of self.new ≡ put (output_of self.old) (Token (INTEGER value))) }
+    {
+        let digits = value.to_string(self.alloc)?;
+        self.token(digits.as_bytes())
+    }
+
+    /// A character of a manifest string, with a mark where it can't stand in one.
+    fn marked(&mut self, byte: u8) -> Result<(), AllocError>
+        ensures text { OnOk result (self.new.text.items ≡ self.old.text.items ++ marked byte) }
+        ensures same { self.new.is_apart ≡ self.old.is_apart }
+    {
+        match byte {
+            b'\n' => self.text.extend_from_slice(b"%N")?,
+            b'\t' => self.text.extend_from_slice(b"%T")?,
+            b'%' => self.text.extend_from_slice(b"%%")?,
+            b'"' => self.text.extend_from_slice(b"%\"")?,
+            _ => self.text.push(byte)?,
+        }
+        Ok(())
+    }
+
+    fn manifest(&mut self, text: &[u8]) -> Result<(), AllocError>
+        ensures text { OnOk result (self.new.text.items ≡ self.old.text.items ++ manifest text.now) }
+        ensures same { self.new.is_apart ≡ self.old.is_apart }
+    {
+        for byte in text {
+            self.marked(*byte)?;
+        }
+        Ok(())
+    }
+
+    #[tactic(auto, unfolding(crate::specs::Printer::put, crate::specs::Canonical::Layout::text_of_part, crate::specs::Canonical::Layout::opens, crate::specs::Canonical::Layout::closes))]
+    fn manifest_string(&mut self, text: &String) -> Result<(), AllocError>
+        ensures { OnOk result (output_of self.new ≡ put (output_of self.old) (Token (STRING (string_bytes text.now)))) }
+    {
+        self.token(b"\"")?;
+        self.manifest(text.as_bytes())?;
+        self.text.push(b'"')?;
+        Ok(())
+    }
+
+    #[tactic(auto, unfolding(crate::specs::Printer::begin))]
+    fn begin_line(&mut self, indent: usize) -> Result<(), AllocError>
+        ensures { OnOk result (output_of self.new ≡ begin (output_of self.old) indent) }
+    {
+        for _ in 0..indent {
+            self.text.push(b'\t')?;
+        }
+        self.is_apart = false;
+        Ok(())
+    }
+
+    #[tactic(auto, unfolding(crate::specs::Printer::end))]
+    fn end_line(&mut self) -> Result<(), AllocError>
+        ensures { OnOk result (output_of self.new ≡ end (output_of self.old)) }
+    {
+        self.text.push(b'\n')?;
+        self.is_apart = false;
+        Ok(())
+    }
+
+    /// A line of one word.
+    fn word_line(&mut self, indent: usize, terminal: Terminal) -> Result<(), AllocError>
+        ensures { OnOk result (output_of self.new ≡ put_lines (output_of self.old) (line indent (word terminal ∷ []) ∷ [])) }
+    {
+        self.begin_line(indent)?;
+        self.word(terminal)?;
+        self.end_line()
+    }
+}
