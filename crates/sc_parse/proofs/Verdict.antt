@@ -2,9 +2,9 @@
 use Rattle.std.proofs.Common.{◌≡◌, ℕ, ◌≤◌, List, Result, Ok, Err, refl, sym, ◌∙◌, arith}
 use Rattle.sc_text.specs.Kind.{Kind}
 use Rattle.sc_tree.specs.declared.system.System.{System}
-use Rattle.sc_tree.specs.Grammar.{IsSystem}
+use Rattle.sc_tree.specs.Grammar.Classes.{IsSystem}
 use Rattle.sc_tree.specs.Plain as plain
-use Rattle.sc_tree.specs.Reading.{system}
+use Rattle.sc_tree.specs.Reading.Classes.{system}
 use Rattle.sc_tree.proofs.Whole.{Answers, answers, answers_deep, complete_system, system_ok, system_wrong, system_deep}
 use Rattle.sc_parse.specs.declared.fault.ParseFault.{ParseFault}
 use Rattle.sc_parse.specs.declared.fault.ParseFault.TheVariants as fault

@@ -5,7 +5,7 @@ use Rattle.sc_tree.specs.declared.system.System.{System}
 use Rattle.sc_tree.specs.Plain as plain
 use Rattle.sc_tree.specs.Bare.{bare_system}
 use Rattle.sc_tree.specs.View.{system_of}
-use Rattle.sc_tree.specs.Grammar.{IsSystem}
+use Rattle.sc_tree.specs.Grammar.Classes.{IsSystem}
 use Rattle.sc_parse.specs.declared.fault.ParseFault.{ParseFault}
 use Rattle.sc_parse.specs.declared.fault.ParseFault.TheVariants as fault
 

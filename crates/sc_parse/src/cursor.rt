@@ -1,80 +1,14 @@
-// The tokens that are still to be read, and the looks at the next of them.
+// The tokens that are still to be read, and how they are read one by one.
 
-ghost use Rattle.std.specs.Prelude.{◌≡◌, ◌∷◌, [], Ok, Err, Some, None, IfOk, MatchOption, MatchResult, string_bytes};
+ghost use Rattle.std.specs.Prelude.{◌≡◌, ◌∷◌, [], Ok, Err, MatchOption, MatchResult};
 ghost use Rattle.sc_text.specs.Kind.{kind_of, kinds_of};
-ghost use Rattle.sc_tree.specs.Grammar as grammar;
-ghost use Rattle.sc_tree.specs.Reading as spec;
+ghost use Rattle.sc_tree.specs.Reading.Looks as spec;
 
 use crate::fault::ParseFault;
+use crate::look::{begins_with, is_word};
 use sc_text::{Span, Terminal, Token, TokenKind};
-use sc_tree::{BinaryOperator, Name, UnaryOperator};
-use std::alloc::{AllocError, Global};
-
-/// The class below the operator's own. Operators of one class bind equally, those of a lower one
-/// tighter.
-fn class_under(operator: BinaryOperator) -> u8
-    ensures { result ≡ grammar.under operator }
-{
-    match operator {
-        BinaryOperator::Times => 0,
-        BinaryOperator::Quotient => 0,
-        BinaryOperator::Remainder => 0,
-        BinaryOperator::Plus => 1,
-        BinaryOperator::Minus => 1,
-        BinaryOperator::Equal => 2,
-        BinaryOperator::NotEqual => 2,
-        BinaryOperator::Less => 2,
-        BinaryOperator::Greater => 2,
-        BinaryOperator::LessEqual => 2,
-        BinaryOperator::GreaterEqual => 2,
-        BinaryOperator::And => 3,
-        BinaryOperator::AndThen => 3,
-        BinaryOperator::Or => 4,
-        BinaryOperator::OrElse => 4,
-        BinaryOperator::Xor => 4,
-        BinaryOperator::Implies => 5,
-    }
-}
-
-/// The operator between two operands that a terminal is, with no second word.
-fn operator_of(terminal: Terminal) -> Option<BinaryOperator>
-    ensures { result ≡ spec.operator_by terminal }
-{
-    match terminal {
-        Terminal::Times => Some(BinaryOperator::Times),
-        Terminal::Quotient => Some(BinaryOperator::Quotient),
-        Terminal::Remainder => Some(BinaryOperator::Remainder),
-        Terminal::Plus => Some(BinaryOperator::Plus),
-        Terminal::Minus => Some(BinaryOperator::Minus),
-        Terminal::Equal => Some(BinaryOperator::Equal),
-        Terminal::NotEqual => Some(BinaryOperator::NotEqual),
-        Terminal::Less => Some(BinaryOperator::Less),
-        Terminal::Greater => Some(BinaryOperator::Greater),
-        Terminal::LessEqual => Some(BinaryOperator::LessEqual),
-        Terminal::GreaterEqual => Some(BinaryOperator::GreaterEqual),
-        Terminal::And => Some(BinaryOperator::And),
-        Terminal::Or => Some(BinaryOperator::Or),
-        Terminal::Xor => Some(BinaryOperator::Xor),
-        Terminal::Implies => Some(BinaryOperator::Implies),
-        _ => None,
-    }
-}
-
-/// Whether the first of the tokens is this terminal.
-#[tactic(auto, unfolding(sc_tree::specs::Reading::same_terminal))]
-fn begins_with(tokens: &[Token], terminal: Terminal) -> bool
-    ensures { result ≡ spec.sees terminal (kinds_of tokens.now) }
-{
-    match tokens.first() {
-        Some(
-            Token {
-                kind: TokenKind::Terminal(next),
-                ..
-            },
-        ) => *next == terminal,
-        _ => false,
-    }
-}
+use sc_tree::Name;
+use std::alloc::Global;
 
 /// The tokens that are still to be read, and where the one before them stands.
 #[derive(Drop)]
@@ -86,8 +20,9 @@ pub struct Parser<'a> {
 }
 
 impl<'a> Parser<'a> {
-    ghost use Rattle.sc_parse.specs.Reads.{ahead, place_ahead, is_done, name_in, tag_in, Fails, Takes};
+    ghost use Rattle.sc_parse.specs.Reads.{ahead, name_in, text_in, Fails, Takes};
 
+    /// The parser of these tokens.
     pub fn new(alloc: Global, tokens: &'a [Token]) -> Parser<'a>
         ensures { ahead result ≡ kinds_of tokens.now }
     {
@@ -99,9 +34,7 @@ impl<'a> Parser<'a> {
     }
 
     /// Where the next token begins, or the last ends where none is left.
-    pub fn next_start(&self) -> usize
-        ensures { result ≡ place_ahead self.now }
-    {
+    pub fn next_start(&self) -> usize {
         match self.rest.first() {
             Some(token) => token.span.start,
             None => self.last.end,
@@ -109,9 +42,7 @@ impl<'a> Parser<'a> {
     }
 
     /// From where something began to the end of the last token.
-    pub fn span_from(&self, start: usize) -> Span
-        ensures { result ≡ record { start = start; end = self.now.last.end } }
-    {
+    pub fn span_from(&self, start: usize) -> Span {
         Span {
             start,
             end: self.last.end,
@@ -136,15 +67,6 @@ impl<'a> Parser<'a> {
         }
     }
 
-    pub fn is_done(&self) -> bool
-        ensures { result ≡ is_done (ahead self.now) }
-    {
-        match self.rest.first() {
-            Some(_) => false,
-            None => true,
-        }
-    }
-
     /// Whether the next token is this terminal.
     pub fn sees(&self, terminal: Terminal) -> bool
         ensures { result ≡ spec.sees terminal (ahead self.now) }
@@ -153,7 +75,7 @@ impl<'a> Parser<'a> {
     }
 
     /// Reads this terminal.
-    #[tactic(auto, unfolding(sc_tree::specs::Reading::expect))]
+    #[tactic(auto, unfolding(sc_tree::specs::Reading::Looks::expect))]
     pub fn expect(&mut self, terminal: Terminal) -> Result<(), ParseFault>
         ensures { MatchResult result (λ _. spec.expect terminal (ahead self.old) ≡ Ok (ahead self.new)) (Fails (spec.expect terminal (ahead self.old))) }
     {
@@ -167,8 +89,32 @@ impl<'a> Parser<'a> {
         }
     }
 
+    /// Reads the name that is spelled so.
+    #[tactic(auto, unfolding(sc_tree::specs::Reading::Looks::expect_word))]
+    pub fn expect_word(&mut self, word: &str) -> Result<(), ParseFault>
+        ensures { MatchResult result (λ _. spec.expect_word word.now (ahead self.old) ≡ Ok (ahead self.new)) (Fails (spec.expect_word word.now (ahead self.old))) }
+    {
+        if is_word(self.rest, word) {
+            self.take();
+            Ok(())
+        } else {
+            Err(ParseFault::NotInGrammar {
+                place: self.next_start(),
+            })
+        }
+    }
+
+    /// Reads this terminal, if it is the next token.
+    pub fn skip(&mut self, terminal: Terminal)
+        ensures { ahead self.new ≡ spec.skip terminal (ahead self.old) }
+    {
+        if self.sees(terminal) {
+            self.take();
+        }
+    }
+
     /// Reads the semicolons ahead.
-    #[tactic(auto, unfolding(sc_tree::specs::Reading::same_terminal))]
+    #[tactic(auto, unfolding(sc_tree::specs::Reading::Looks::same_terminal))]
     pub fn skip_semicolons(&mut self)
         ensures { ahead self.new ≡ spec.skip_semicolons (ahead self.old) }
     {
@@ -197,171 +143,23 @@ impl<'a> Parser<'a> {
         }
     }
 
-    /// Whether the next token is a name.
-    pub fn sees_name(&self) -> bool
-        ensures { result ≡ spec.name_ahead (ahead self.now) }
+    /// Reads a manifest string.
+    pub fn text(&mut self) -> Result<String, ParseFault>
+        ensures { Takes text_in (spec.text (ahead self.old)) result (ahead self.new) }
     {
-        match self.rest.first() {
-            Some(
-                Token {
-                    kind: TokenKind::Name(_),
-                    ..
-                },
-            ) => true,
-            _ => false,
-        }
-    }
-
-    /// The string that the next token is.
-    pub fn text(&self) -> Option<&'a String>
-        ensures { MatchOption result (spec.text_ahead (ahead self.now) ≡ None) (λ s. spec.text_ahead (ahead self.now) ≡ Some (string_bytes s.now)) }
-    {
-        match self.rest.first() {
+        match self.take() {
             Some(
                 Token {
                     kind: TokenKind::ManifestString(text),
                     ..
                 },
-            ) => Some(text),
-            _ => None,
-        }
-    }
-
-    /// The operator before an operand that the next token is.
-    pub fn prefix(&self) -> Option<UnaryOperator>
-        ensures { result ≡ spec.prefix_ahead (ahead self.now) }
-    {
-        match self.rest.first() {
-            Some(
-                Token {
-                    kind: TokenKind::Terminal(terminal),
-                    ..
-                },
-            ) => match terminal {
-                Terminal::Not => Some(UnaryOperator::Not),
-                Terminal::Plus => Some(UnaryOperator::Plus),
-                Terminal::Minus => Some(UnaryOperator::Minus),
-                _ => None,
-            },
-            _ => None,
-        }
-    }
-
-    /// The operator between two operands that the next tokens are.
-    fn any_operator(&self) -> Option<BinaryOperator>
-        ensures { result ≡ spec.operator_at (ahead self.now) }
-    {
-        let (first, rest) = self.rest.split_first()?;
-        let TokenKind::Terminal(terminal) = first.kind else {
-            return None;
-        };
-        match operator_of(terminal) {
-            Some(BinaryOperator::And) if begins_with(rest, Terminal::Then) => {
-                Some(BinaryOperator::AndThen)
-            }
-            Some(BinaryOperator::Or) if begins_with(rest, Terminal::Else) => {
-                Some(BinaryOperator::OrElse)
-            }
-            operator => operator,
-        }
-    }
-
-    /// The operator ahead, if it is one just above the class.
-    pub fn operator(&self, class: u8) -> Option<BinaryOperator>
-        ensures { result ≡ spec.operator_ahead class (ahead self.now) }
-    {
-        let operator = self.any_operator()?;
-        if class_under(operator) == class {
-            Some(operator)
-        } else {
-            None
-        }
-    }
-
-    /// Reads the operator ahead.
-    pub fn take_operator(&mut self, operator: BinaryOperator)
-        ensures { ahead self.new ≡ spec.past_operator operator (ahead self.old) }
-    {
-        self.take();
-        match operator {
-            BinaryOperator::AndThen => {
-                self.take();
-            }
-            BinaryOperator::OrElse => {
-                self.take();
-            }
-            _ => (),
-        }
-    }
-
-    /// Whether an instruction begins here.
-    pub fn begins_instruction(&self) -> bool
-        ensures { result ≡ spec.begins_instr (ahead self.now) }
-    {
-        self.sees_name() || self.sees(Terminal::If)
-    }
-
-    /// Whether an expression begins here.
-    pub fn begins_expression(&self) -> bool
-        ensures { result ≡ spec.begins_expr (ahead self.now) }
-    {
-        match self.rest.first() {
-            None => false,
-            Some(token) => match token.kind {
-                TokenKind::Name(_) => true,
-                TokenKind::Integer(_) => true,
-                TokenKind::ManifestString(_) => false,
-                TokenKind::Terminal(terminal) => matches!(
-                    terminal,
-                    Terminal::True
-                        | Terminal::False
-                        | Terminal::OpenParenthesis
-                        | Terminal::Not
-                        | Terminal::Plus
-                        | Terminal::Minus
-                ),
-            },
-        }
-    }
-
-    /// Whether the next token would go on with an expression before it, and might begin one.
-    pub fn goes_on(&self) -> bool
-        ensures { result ≡ grammar.goes_on (ahead self.now) }
-    {
-        match self.rest.first() {
-            Some(
-                Token {
-                    kind: TokenKind::Terminal(terminal),
-                    ..
-                },
-            ) => matches!(
-                terminal,
-                Terminal::OpenParenthesis | Terminal::Plus | Terminal::Minus
-            ),
-            _ => false,
-        }
-    }
-
-    /// Reads a clause's tag, if it has one.
-    pub fn tag(&mut self) -> Result<Option<Name>, AllocError>
-        ensures { IfOk result (λ tag. (spec.tag_ahead (ahead self.old) ≡ tag_in tag) × (ahead self.new ≡ spec.past_tag (tag_in tag) (ahead self.old))) }
-    {
-        match self.rest.split_first() {
-            Some(
-                (
-                    Token {
-                        kind: TokenKind::Name(text),
-                        span,
-                    },
-                    rest,
-                ),
-            ) if begins_with(rest, Terminal::Colon) => {
+            ) => {
                 let text = text.clone()?;
-                self.take();
-                self.take();
-                Ok(Some(Name { text, span: *span }))
+                Ok(text)
             }
-            _ => Ok(None),
+            _ => Err(ParseFault::NotInGrammar {
+                place: self.last.start,
+            }),
         }
     }
 }

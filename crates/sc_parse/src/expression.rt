@@ -1,25 +1,18 @@
 // Expressions (ECMA-367, 8.28).
 
 ghost use Rattle.std.specs.Prelude.{◌≡◌, ◌≤◌, ◌<◌, max, IfOk, length};
-ghost use Rattle.sc_tree.specs.Grammar as grammar;
-ghost use Rattle.sc_tree.specs.Reading as spec;
+ghost use Rattle.sc_tree.specs.Reading.Expressions as spec;
 ghost use Rattle.sc_tree.specs.View.{expr_of};
 ghost use Rattle.sc_parse.specs.Reads.{ahead, expr_in, span_in, Reads};
 
 use crate::cursor::Parser;
 use crate::fault::ParseFault;
-use sc_text::{Span, Terminal, Token, TokenKind};
-use sc_tree::{Expr, Name, UnaryOperator};
+use crate::operator::is_grouped;
+use sc_text::{Span, Terminal};
+use sc_tree::Expr;
 
 /// The class of a whole expression.
 pub const TOP: u8 = 6;
-
-/// Whether the operators just above the class group to the left; the relations stand alone.
-fn is_grouped(class: u8) -> bool
-    ensures { result ≡ grammar.groups class }
-{
-    class != 2
-}
 
 /// The larger of two nestings.
 pub fn deeper(a: u8, b: u8) -> u8
@@ -36,9 +29,13 @@ pub fn span_of(expr: &Expr) -> Span
     match expr {
         Expr::Integer(span, _) => *span,
         Expr::Boolean(span, _) => *span,
-        Expr::Call(name) => name.span,
+        Expr::Void(span) => *span,
+        Expr::Current(span) => *span,
+        Expr::Result(span) => *span,
+        Expr::Call(call) => call.span,
         Expr::Unary(span, _, _) => *span,
         Expr::Binary(span, _, _, _) => *span,
+        Expr::ObjectTest(span, _, _, _) => *span,
     }
 }
 
@@ -73,8 +70,7 @@ impl<'a> Parser<'a> {
         self.expr(class, room - 1)
     }
 
-    /// The first operand with the operators just above the class that follow it, and their right
-    /// operands.
+    /// The first operand with the operators just above the class that follow it, and their right operands.
     #[cycle(expression)]
     #[tactic(auto, using(crate::proofs::Turns::turns_of, crate::proofs::Turns::operators_end, crate::proofs::Turns::operators_turn), unfolding(sc_tree::specs::View::expr_of, sc_tree::specs::Bare::bare_expr))]
     fn operators(
@@ -119,28 +115,17 @@ impl<'a> Parser<'a> {
         Ok((left, height))
     }
 
+    /// A primary expression, or an operator with the operand behind it.
     #[cycle(expression)]
-    #[tactic(auto, unfolding(sc_tree::specs::Reading::operand))]
+    #[tactic(auto, unfolding(sc_tree::specs::Reading::Expressions::operand, sc_tree::specs::Reading::Expressions::prefixed, sc_tree::specs::View::expr_of, sc_tree::specs::Bare::bare_expr))]
     fn operand(&mut self, room: u8) -> Result<(Expr, u8), ParseFault>
-        ensures read { Reads expr_in (spec.operand (spec.nested room) (ahead self.old)) result (ahead self.new) }
+        ensures read { Reads expr_in (spec.operand (spec.nested room) room (ahead self.old)) result (ahead self.new) }
         ensures high { IfOk result (λ p. p.1 ≤ room) }
     {
-        match self.prefix() {
-            Some(operator) => {
-                self.take();
-                self.prefixed(operator, room)
-            }
-            None => self.primary(room),
-        }
-    }
-
-    /// The operand of this operator, which was just read.
-    #[cycle(expression)]
-    #[tactic(auto, unfolding(sc_tree::specs::Reading::prefixed, sc_tree::specs::View::expr_of, sc_tree::specs::Bare::bare_expr))]
-    fn prefixed(&mut self, operator: UnaryOperator, room: u8) -> Result<(Expr, u8), ParseFault>
-        ensures read { Reads expr_in (spec.prefixed (spec.nested room) operator (ahead self.old)) result (ahead self.new) }
-        ensures high { IfOk result (λ p. p.1 ≤ room) }
-    {
+        let Some(operator) = self.prefix() else {
+            return self.primary(room);
+        };
+        self.take();
         let start = self.last.start;
         let (operand, height) = self.nested(0, room)?;
         let span = Span {
@@ -151,10 +136,11 @@ impl<'a> Parser<'a> {
         Ok((Expr::Unary(span, operator, operand), height + 1))
     }
 
+    /// A constant, an expression in parentheses, an object test or a chain of calls.
     #[cycle(expression)]
-    #[tactic(auto, unfolding(sc_tree::specs::Reading::primary, sc_tree::specs::View::expr_of, sc_tree::specs::Bare::bare_expr))]
+    #[tactic(auto, unfolding(sc_tree::specs::Reading::Expressions::primary, sc_tree::specs::Reading::Expressions::parenthesized, sc_tree::specs::View::expr_of, sc_tree::specs::Bare::bare_expr))]
     fn primary(&mut self, room: u8) -> Result<(Expr, u8), ParseFault>
-        ensures read { Reads expr_in (spec.primary (spec.nested room) (ahead self.old)) result (ahead self.new) }
+        ensures read { Reads expr_in (spec.primary (spec.nested room) room (ahead self.old)) result (ahead self.new) }
         ensures high { IfOk result (λ p. p.1 ≤ room) }
     {
         if self.sees(Terminal::True) {
@@ -165,50 +151,26 @@ impl<'a> Parser<'a> {
             self.take();
             return Ok((Expr::Boolean(self.last, false), 0));
         }
+        if self.sees(Terminal::Void) {
+            self.take();
+            return Ok((Expr::Void(self.last), 0));
+        }
         if self.sees(Terminal::OpenParenthesis) {
             self.take();
-            return self.parenthesized(room);
+            let (inner, height) = self.nested(TOP, room)?;
+            self.expect(Terminal::CloseParenthesis)?;
+            return Ok((inner, height + 1));
         }
-        self.atom()
-    }
-
-    /// What stands in parentheses, the first of which was just read.
-    #[cycle(expression)]
-    #[tactic(auto, unfolding(sc_tree::specs::Reading::parenthesized))]
-    fn parenthesized(&mut self, room: u8) -> Result<(Expr, u8), ParseFault>
-        ensures read { Reads expr_in (spec.parenthesized (spec.nested room) (ahead self.old)) result (ahead self.new) }
-        ensures high { IfOk result (λ p. p.1 ≤ room) }
-    {
-        let (inner, height) = self.nested(TOP, room)?;
-        self.expect(Terminal::CloseParenthesis)?;
-        Ok((inner, height + 1))
-    }
-
-    /// A name or an integer.
-    #[tactic(auto, unfolding(sc_tree::specs::View::expr_of, sc_tree::specs::Bare::bare_expr))]
-    fn atom(&mut self) -> Result<(Expr, u8), ParseFault>
-        ensures read { Reads expr_in (spec.atom (ahead self.old)) result (ahead self.new) }
-        ensures high { IfOk result (λ p. p.1 ≡ 0) }
-    {
-        match self.take() {
-            Some(
-                Token {
-                    kind: TokenKind::Integer(value),
-                    span,
-                },
-            ) => Ok((Expr::Integer(*span, *value), 0)),
-            Some(
-                Token {
-                    kind: TokenKind::Name(text),
-                    span,
-                },
-            ) => {
-                let text = text.clone()?;
-                Ok((Expr::Call(Name { text, span: *span }), 0))
+        if self.sees(Terminal::Attached) {
+            self.take();
+            return self.object_test(room);
+        }
+        match self.integer() {
+            Some(value) => {
+                self.take();
+                Ok((Expr::Integer(self.last, value), 0))
             }
-            _ => Err(ParseFault::NotInGrammar {
-                place: self.last.start,
-            }),
+            None => self.chain(room),
         }
     }
 }

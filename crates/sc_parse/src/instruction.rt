@@ -1,22 +1,16 @@
-// Instructions (ECMA-367, 8.17 and 8.22).
+// Instructions (ECMA-367, 8.9, 8.17, 8.20, 8.22 and 8.23), and separate blocks.
 
-ghost use Rattle.std.specs.Prelude.{◌≡◌, ◌<◌, IsTrue, string_bytes, length};
+ghost use Rattle.std.specs.Prelude.{◌≡◌, length};
 ghost use Rattle.sc_tree.specs.Plain.{no_branches};
-ghost use Rattle.sc_tree.specs.Reading as spec;
-ghost use Rattle.sc_parse.specs.Reads.{ahead, name_in, instr_in, instrs_in, branch_in, branches_in, Gives};
+ghost use Rattle.sc_tree.specs.Reading.Instructions as spec;
+ghost use Rattle.sc_tree.specs.Reading.Looks.{past};
+ghost use Rattle.sc_parse.specs.Reads.{ahead, variable_in, clauses_in, expr_in, head_in, heads_in, instr_in, instrs_in, branch_in, branches_in, Gives, Reads, Takes};
 
 use crate::cursor::Parser;
 use crate::expression::{TOP, span_of};
 use crate::fault::ParseFault;
 use sc_text::{Span, Terminal};
-use sc_tree::{Branch, Instr, Name};
-
-/// Whether a name is that of the routine that prints.
-fn is_print(name: &Name) -> bool
-    ensures { result ≡ spec.is_print (name_in name.now) }
-{
-    name.text.as_str() == "print"
-}
+use sc_tree::{Branch, Clause, CreationCall, Expr, Head, Instr, Variable};
 
 impl<'a> Parser<'a> {
     /// Instructions whose tokens have at most `room` constructs around them.
@@ -38,7 +32,7 @@ impl<'a> Parser<'a> {
         Ok(found)
     }
 
-    /// Instructions inside the `if` whose part the last token began.
+    /// Instructions inside the construct whose part the last token began.
     #[cycle(instructions)]
     #[tactic(auto, using(crate::proofs::Turns::inside_none, crate::proofs::Turns::inside_some))]
     fn instructions_inside(&mut self, room: u8) -> Result<Vec<Instr>, ParseFault>
@@ -52,8 +46,9 @@ impl<'a> Parser<'a> {
         self.instructions(room - 1)
     }
 
+    /// The instruction that begins here.
     #[cycle(instructions)]
-    #[tactic(auto, unfolding(sc_tree::specs::Reading::instr))]
+    #[tactic(auto, unfolding(sc_tree::specs::Reading::Instructions::instr))]
     fn instruction(&mut self, room: u8) -> Result<Instr, ParseFault>
         ensures { Gives instr_in (spec.instr room (spec.nested_instrs room) (ahead self.old)) result (ahead self.new) }
     {
@@ -61,63 +56,117 @@ impl<'a> Parser<'a> {
             self.take();
             return self.conditional(room);
         }
+        if self.sees(Terminal::From) {
+            self.take();
+            return self.iteration(room);
+        }
+        if self.sees(Terminal::Check) {
+            self.take();
+            return self.checking(room);
+        }
+        if self.sees(Terminal::Create) {
+            self.take();
+            return self.creation(room);
+        }
+        if self.sees(Terminal::Separate) {
+            self.take();
+            return self.block(room);
+        }
+        if self.assigns() {
+            return self.assignment(room);
+        }
+        if self.prints() {
+            return self.printing(room);
+        }
+        self.routine_call(room)
+    }
+
+    /// What an assignment or a creation changes.
+    #[tactic(auto, unfolding(sc_tree::specs::Reading::Instructions::variable))]
+    fn variable(&mut self) -> Result<Variable, ParseFault>
+        ensures { Takes variable_in (spec.variable (ahead self.old)) result (ahead self.new) }
+    {
+        if self.sees(Terminal::Result) {
+            self.take();
+            return Ok(Variable::Result(self.last));
+        }
         let name = self.name()?;
-        self.named_instruction(name, room)
+        Ok(Variable::Named(name))
     }
 
-    /// What begins with this name: an assignment to it, a `print`, or a call of the routine.
-    #[tactic(auto, unfolding(sc_tree::specs::Reading::named_instr, sc_tree::specs::View::instr_of, sc_tree::specs::Bare::bare_instr))]
-    fn named_instruction(&mut self, name: Name, room: u8) -> Result<Instr, ParseFault>
-        ensures { Gives instr_in (spec.named_instr room (spec.nested_instrs room) (name_in name) (ahead self.old)) result (ahead self.new) }
+    /// A variable, and the value that it is assigned.
+    #[tactic(auto, unfolding(sc_tree::specs::Reading::Instructions::assignment))]
+    fn assignment(&mut self, room: u8) -> Result<Instr, ParseFault>
+        ensures { Gives instr_in (spec.assignment room (spec.nested_instrs room) (ahead self.old)) result (ahead self.new) }
     {
-        if self.sees(Terminal::Becomes) {
-            self.take();
-            return self.assignment(name, room);
-        }
-        if is_print(&name) && self.sees(Terminal::OpenParenthesis) {
-            self.take();
-            return self.printing(name.span.start, room);
-        }
-        Ok(Instr::Call(name))
-    }
-
-    /// What follows the name and `:=` of an assignment.
-    #[tactic(auto, unfolding(sc_tree::specs::Reading::assignment, sc_tree::specs::View::instr_of, sc_tree::specs::Bare::bare_instr))]
-    fn assignment(&mut self, name: Name, room: u8) -> Result<Instr, ParseFault>
-        ensures { Gives instr_in (spec.assignment room (spec.nested_instrs room) (name_in name) (ahead self.old)) result (ahead self.new) }
-    {
+        let start = self.next_start();
+        let variable = self.variable()?;
+        self.expect(Terminal::Becomes)?;
         let (value, _) = self.expr(TOP, room)?;
         let span = Span {
-            start: name.span.start,
+            start,
             end: span_of(&value).end,
         };
-        Ok(Instr::Assign(span, name, value))
+        Ok(Instr::Assign(span, variable, value))
     }
 
-    /// What follows `print (`, up to the closing parenthesis.
-    #[tactic(auto, unfolding(sc_tree::specs::Reading::printing, sc_tree::specs::View::instr_of, sc_tree::specs::Bare::bare_instr))]
-    fn printing(&mut self, start: usize, room: u8) -> Result<Instr, ParseFault>
-        ensures { Gives instr_in (spec.printing room (spec.nested_instrs room) (ahead self.old)) result (ahead self.new) }
+    /// `print` of a manifest string.
+    #[tactic(auto, unfolding(sc_tree::specs::Reading::Instructions::printing))]
+    fn printing(&mut self, room: u8) -> Result<Instr, ParseFault>
+        ensures { Gives instr_in (spec.printing room (spec.nested_instrs room) (past (past (ahead self.old)))) result (ahead self.new) }
     {
-        let Some(text) = self.text() else {
-            let (value, _) = self.nested(TOP, room)?;
-            self.expect(Terminal::CloseParenthesis)?;
-            return Ok(Instr::Print(self.span_from(start), value));
-        };
+        let start = self.next_start();
+        self.take();
+        self.take();
         if room == 0 {
             return Err(ParseFault::TooDeep {
                 place: self.last.start,
             });
         }
-        let text = text.clone()?;
-        self.take();
+        let text = self.text()?;
         self.expect(Terminal::CloseParenthesis)?;
         Ok(Instr::PrintText(self.span_from(start), text))
     }
 
+    /// A chain of calls that ends in a call.
+    #[tactic(auto, unfolding(sc_tree::specs::Reading::Instructions::routine_call))]
+    fn routine_call(&mut self, room: u8) -> Result<Instr, ParseFault>
+        ensures { Gives instr_in (spec.routine_call room (spec.nested_instrs room) (ahead self.old)) result (ahead self.new) }
+    {
+        let (chain, _) = self.chain(room)?;
+        match chain {
+            Expr::Call(call) => Ok(Instr::Call(call)),
+            _ => Err(ParseFault::NotInGrammar {
+                place: self.next_start(),
+            }),
+        }
+    }
+
+    /// What follows `create`.
+    #[tactic(auto, unfolding(sc_tree::specs::Reading::Instructions::creation))]
+    fn creation(&mut self, room: u8) -> Result<Instr, ParseFault>
+        ensures { Gives instr_in (spec.creation room (spec.nested_instrs room) (ahead self.old)) result (ahead self.new) }
+    {
+        let start = self.last.start;
+        let variable = self.variable()?;
+        if !self.sees(Terminal::Dot) {
+            return Ok(Instr::Create(self.span_from(start), variable, None));
+        }
+        if room == 0 {
+            return Err(ParseFault::TooDeep {
+                place: self.next_start(),
+            });
+        }
+        self.take();
+        let name = self.name()?;
+        let (actuals, _) = self.actuals(room)?;
+        let call = CreationCall { name, actuals };
+        Ok(Instr::Create(self.span_from(start), variable, Some(call)))
+    }
+
     /// A condition and what stands under it.
     #[cycle(instructions)]
-    #[tactic(auto, unfolding(sc_tree::specs::Reading::guarded))]
+    #[tactic(auto, unfolding(sc_tree::specs::Reading::Instructions::guarded))]
     fn guarded(&mut self, room: u8) -> Result<Branch, ParseFault>
         ensures { Gives branch_in (spec.guarded room (spec.nested_instrs room) (ahead self.old)) result (ahead self.new) }
     {
@@ -147,7 +196,7 @@ impl<'a> Parser<'a> {
 
     /// What stands under `else`, if it is there.
     #[cycle(instructions)]
-    #[tactic(auto, unfolding(sc_tree::specs::Reading::other, sc_tree::specs::Bare::bare_instr))]
+    #[tactic(auto, unfolding(sc_tree::specs::Reading::Instructions::other, sc_tree::specs::Bare::bare_instr))]
     fn other(&mut self, room: u8) -> Result<Vec<Instr>, ParseFault>
         ensures { Gives instrs_in (spec.other room (spec.nested_instrs room) (ahead self.old)) result (ahead self.new) }
     {
@@ -160,7 +209,7 @@ impl<'a> Parser<'a> {
 
     /// What follows `if`, up to its `end`.
     #[cycle(instructions)]
-    #[tactic(auto, unfolding(sc_tree::specs::Reading::conditional))]
+    #[tactic(auto, unfolding(sc_tree::specs::Reading::Instructions::conditional))]
     fn conditional(&mut self, room: u8) -> Result<Instr, ParseFault>
         ensures { Gives instr_in (spec.conditional room (spec.nested_instrs room) (ahead self.old)) result (ahead self.new) }
     {
@@ -171,5 +220,106 @@ impl<'a> Parser<'a> {
         self.expect(Terminal::End)?;
         let span = self.span_from(start);
         Ok(Instr::If(span, condition, body, branches, other))
+    }
+
+    /// What follows `from`, up to its `end`.
+    #[cycle(instructions)]
+    #[tactic(auto, unfolding(sc_tree::specs::Reading::Instructions::iteration))]
+    fn iteration(&mut self, room: u8) -> Result<Instr, ParseFault>
+        ensures { Gives instr_in (spec.iteration room (spec.nested_instrs room) (ahead self.old)) result (ahead self.new) }
+    {
+        let start = self.last.start;
+        let initial = self.instructions_inside(room)?;
+        self.expect(Terminal::Until)?;
+        let (condition, _) = self.nested(TOP, room)?;
+        self.expect(Terminal::Loop)?;
+        let body = self.instructions_inside(room)?;
+        self.expect(Terminal::End)?;
+        let span = self.span_from(start);
+        Ok(Instr::Loop(span, initial, condition, body))
+    }
+
+    /// The clauses of a `check`.
+    #[tactic(auto, using(crate::proofs::Turns::clauses_none, crate::proofs::Turns::clauses_some), unfolding(sc_tree::specs::Reading::Instructions::checked))]
+    fn checked(&mut self, room: u8) -> Result<Vec<Clause>, ParseFault>
+        ensures { Gives clauses_in (spec.checked room (spec.nested_instrs room) (ahead self.old)) result (ahead self.new) }
+    {
+        if !self.begins_expression() && !self.sees(Terminal::Semicolon) {
+            return Ok(Vec::new(self.alloc));
+        }
+        if room == 0 {
+            return Err(ParseFault::TooDeep {
+                place: self.next_start(),
+            });
+        }
+        self.clauses(room - 1)
+    }
+
+    /// What follows `check`, up to its `end`.
+    #[tactic(auto, unfolding(sc_tree::specs::Reading::Instructions::checking))]
+    fn checking(&mut self, room: u8) -> Result<Instr, ParseFault>
+        ensures { Gives instr_in (spec.checking room (spec.nested_instrs room) (ahead self.old)) result (ahead self.new) }
+    {
+        let start = self.last.start;
+        let clauses = self.checked(room)?;
+        self.expect(Terminal::End)?;
+        Ok(Instr::Check(self.span_from(start), clauses))
+    }
+
+    /// A chain of calls inside the block that the last token opened.
+    #[tactic(auto, using(crate::proofs::Turns::chain_none, crate::proofs::Turns::chain_some))]
+    fn nested_chain(&mut self, room: u8) -> Result<(Expr, u8), ParseFault>
+        ensures { Reads expr_in (spec.nested_chain room (ahead self.old)) result (ahead self.new) }
+    {
+        if room == 0 {
+            return Err(ParseFault::TooDeep {
+                place: self.last.start,
+            });
+        }
+        self.chain(room - 1)
+    }
+
+    /// What a block reserves, with its name there.
+    #[tactic(auto, unfolding(sc_tree::specs::Reading::Instructions::head))]
+    fn head(&mut self, room: u8) -> Result<Head, ParseFault>
+        ensures { Gives head_in (spec.head room (spec.nested_instrs room) (ahead self.old)) result (ahead self.new) }
+    {
+        let (value, _) = self.nested_chain(room)?;
+        self.expect(Terminal::As)?;
+        let name = self.name()?;
+        Ok(Head { value, name })
+    }
+
+    /// A block's heads, with a comma between each two.
+    #[tactic(auto, using(crate::proofs::Turns::heads_is, crate::proofs::Turns::heads_begin, crate::proofs::Turns::heads_end, crate::proofs::Turns::heads_turn))]
+    fn heads(&mut self, room: u8) -> Result<Vec<Head>, ParseFault>
+        ensures { Gives heads_in (spec.heads room (spec.nested_instrs room) (ahead self.old)) result (ahead self.new) }
+    {
+        let mut found = Vec::new(self.alloc);
+        let first = self.head(room)?;
+        found.push(first)?;
+        for _turn in 0..self.rest.len() {
+            if !self.sees(Terminal::Comma) {
+                return Ok(found);
+            }
+            self.take();
+            let head = self.head(room)?;
+            found.push(head)?;
+        }
+        Ok(found)
+    }
+
+    /// What follows `separate`, up to its `end`.
+    #[cycle(instructions)]
+    #[tactic(auto, unfolding(sc_tree::specs::Reading::Instructions::block))]
+    fn block(&mut self, room: u8) -> Result<Instr, ParseFault>
+        ensures { Gives instr_in (spec.block room (spec.nested_instrs room) (ahead self.old)) result (ahead self.new) }
+    {
+        let start = self.last.start;
+        let heads = self.heads(room)?;
+        self.expect(Terminal::Do)?;
+        let body = self.instructions_inside(room)?;
+        self.expect(Terminal::End)?;
+        Ok(Instr::Block(self.span_from(start), heads, body))
     }
 }

@@ -4,12 +4,19 @@
 //! [`MAX_NESTING`]; a [`ParseFault`] says why there is none, and where that shows first.
 #![tactic(auto)]
 
+mod assertion;
+mod chain;
 mod class;
 mod cursor;
+mod declaration;
 mod expression;
 mod fault;
+mod feature;
 mod instruction;
+mod look;
+mod operator;
 mod system;
+mod types;
 
 pub use fault::ParseFault;
 pub use system::{MAX_NESTING, parse};

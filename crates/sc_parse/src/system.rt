@@ -2,9 +2,9 @@
 
 ghost use Rattle.std.specs.Prelude.{ℕ, ◌≤◌};
 ghost use Rattle.sc_text.specs.Kind.{kinds_of};
-ghost use Rattle.sc_tree.specs.Grammar.{IsSystem};
+ghost use Rattle.sc_tree.specs.Grammar.Classes.{IsSystem};
 ghost use Rattle.sc_tree.specs.Plain as plain;
-ghost use Rattle.sc_tree.specs.Reading as spec;
+ghost use Rattle.sc_tree.specs.Reading.Classes as spec;
 ghost use Rattle.sc_parse.specs.Parses.{Parses, IsParsedTo};
 ghost use Rattle.sc_parse.specs.Reads.{ParsesAs};
 
@@ -15,16 +15,19 @@ use sc_tree::System;
 use std::alloc::Global;
 
 #[cfg(test)]
-mod search;
+mod grammar;
+#[cfg(test)]
+mod rows;
 #[cfg(test)]
 mod tests;
 
-/// How many constructs may stand around a token: parentheses, operators whose operand it lies in and
-/// `if`s, counted from the routine's body or the clause.
+/// How many constructs may stand around a token, counted from the routine's body or the clause: pairs of
+/// parentheses, lists of actuals, operators whose operand it lies in, dots whose target it lies in, `if`s,
+/// loops, `check`s and separate blocks.
 pub const MAX_NESTING: u8 = 64;
 
 /// The system that the tokens spell, where its nesting is at most `room`.
-#[tactic(auto, unfolding(sc_tree::specs::Reading::system, sc_tree::specs::View::system_of))]
+#[tactic(auto, unfolding(sc_tree::specs::Reading::Classes::system, sc_tree::specs::View::system_of))]
 fn parse_within(alloc: Global, tokens: &[Token], room: u8) -> Result<System, ParseFault>
     ensures { ParsesAs (spec.system room (kinds_of tokens.now)) result }
 {

@@ -1,259 +1,55 @@
-// Rows: which tree comes of which words, where each node stands, and which fault stands where.
+// Which tokens are parsed, and which fault stands where, against a plain recogniser of the written grammar.
 
 use crate::fault::ParseFault;
-use crate::system::parse;
-use sc_text::{Span, Terminal, Token, TokenKind};
-use sc_tree::{Class, Expr, FeatureKind, Instr, System};
+use crate::system::grammar::{ENDLESS, Fit, Grammar, Item, Set};
+use crate::system::{parse, parse_within};
+use sc_text::{Token, lex};
+use sc_tree::System;
 use std::alloc::Global;
-use std::fmt::Write;
 use std::test::Fail;
 
-const TERMINALS: [(&str, Terminal); 34] = [
-    ("and", Terminal::And),
-    ("class", Terminal::Class),
-    ("create", Terminal::Create),
-    ("do", Terminal::Do),
-    ("else", Terminal::Else),
-    ("elseif", Terminal::Elseif),
-    ("end", Terminal::End),
-    ("false", Terminal::False),
-    ("feature", Terminal::Feature),
-    ("if", Terminal::If),
-    ("implies", Terminal::Implies),
-    ("invariant", Terminal::Invariant),
-    ("not", Terminal::Not),
-    ("or", Terminal::Or),
-    ("then", Terminal::Then),
-    ("true", Terminal::True),
-    ("xor", Terminal::Xor),
-    (":=", Terminal::Becomes),
-    ("/=", Terminal::NotEqual),
-    ("<=", Terminal::LessEqual),
-    (">=", Terminal::GreaterEqual),
-    ("//", Terminal::Quotient),
-    ("\\\\", Terminal::Remainder),
-    (",", Terminal::Comma),
-    (":", Terminal::Colon),
-    (";", Terminal::Semicolon),
-    ("(", Terminal::OpenParenthesis),
-    (")", Terminal::CloseParenthesis),
-    ("=", Terminal::Equal),
-    ("<", Terminal::Less),
-    (">", Terminal::Greater),
-    ("+", Terminal::Plus),
-    ("-", Terminal::Minus),
-    ("*", Terminal::Times),
+/// Sources of every construct, a space between each two tokens.
+const SOURCES: [&str; 14] = [
+    "note a : b ; end indexing c class a note d class e end class b end",
+    "deferred class a inherit b ; c redefine f , g end d ; create make , other feature end frozen class b inherit c end",
+    "class a feature { } x , y : integer ; ; z : detachable separate b feature { any , b } u : ? separate < x . handler > b v : ! b end",
+    "class a feature f ( a , b : integer ; c : separate b d : attached e ) : boolean is require t : a < b ; c /= void local x : a ; y , z : b do ensure result end end",
+    "class a feature f local do g ; x := 1 result := x ; print ( \"s\" ) print ( x , 2 ) print := 1 g ( x . y ( 1 ) . z , 2 ) . h ( 3 ) current . f . g result . h ( x ) end end",
+    "class a feature f do create x create x . make ( 1 , y . z ) ; create result create result . g end end",
+    "class a feature f do if x then g elseif not y then ; h ; else if z then end end end end",
+    "class a feature f do from x := 1 until x > 3 loop x := x + 1 end from until true loop end end end",
+    "class a feature f do check end check ; end check t : x ; y end check x y : z end end end",
+    "class a feature f do separate x as y do y . g end separate a . b ( 1 ) as c , current as d do separate c as e do end end end end",
+    "class a feature f : a do if attached x . y as z and then attached { detachable separate b } result as w then end x := old y + - 2 end end",
+    "class a invariant x = 1 t : ( y ) ; ( z ) = - 1 or else not a implies b xor c and d ; e ( 1 ) f end",
+    "class a invariant a * b + c // d - e \\\\ 2 <= f and then g >= 1 or h indexing x ; y end class b feature f , g : c end",
+    "class a feature feature f is do end ; ; g require ; h do ensure end x : integer end",
 ];
 
-fn kind_of(alloc: Global, word: &str) -> Result<TokenKind, Fail> {
-    for (spelling, terminal) in &TERMINALS {
-        if *spelling == word {
-            return Ok(TokenKind::Terminal(*terminal));
-        }
+/// The words that are tried at each place.
+const WORDS: &str =
+    "x handler print 1 \"s\" := /= <= \\\\ . , : ; ( ) { } ? ! = < > + - * and as attached check \
+    class create current deferred detachable do else elseif end ensure false feature from if \
+    implies indexing inherit invariant is local loop not note old or redefine require result \
+    separate then until void";
+
+fn words_of(alloc: Global, text: &'static str) -> Result<Vec<&'static str>, Fail> {
+    let mut words = Vec::new(alloc);
+    for word in text.split(' ') {
+        words.push(word)?;
     }
-    match word.parse::<i64>() {
-        Ok(value) => Ok(TokenKind::Integer(value)),
-        Err(_) => {
-            let text = String::from_str(alloc, word)?;
-            if word.starts_with('"') {
-                Ok(TokenKind::ManifestString(text))
-            } else {
-                Ok(TokenKind::Name(text))
-            }
-        }
-    }
+    Ok(words)
 }
 
-/// Adds the tokens of words with a space between each two, of which the first begins at `start`.
-pub fn add_words(
-    alloc: Global,
-    tokens: &mut Vec<Token>,
-    start: usize,
-    words: &str,
-) -> Result<(), Fail> {
-    let mut start = start;
-    for word in words.split(' ') {
-        let end = start.saturating_add(word.len());
-        if !word.is_empty() {
-            tokens.push(Token {
-                kind: kind_of(alloc, word)?,
-                span: Span { start, end },
-            })?;
-        }
-        start = end.saturating_add(1);
+/// Where the first token stands that no system has there, or the end where only more is wanted.
+fn place_of(tokens: &[Token], index: usize) -> usize {
+    match tokens.get(index) {
+        Some(token) => token.span.start,
+        None => match tokens.last() {
+            Some(token) => token.span.end,
+            None => 0,
+        },
     }
-    Ok(())
-}
-
-fn tokens_of(alloc: Global, source: &str) -> Result<Vec<Token>, Fail> {
-    let mut tokens = Vec::new(alloc);
-    add_words(alloc, &mut tokens, 0, source)?;
-    Ok(tokens)
-}
-
-pub fn repeated(alloc: Global, count: usize, words: &str) -> Result<String, Fail> {
-    let mut text = String::new(alloc);
-    for _time in 0..count {
-        text.push_str(words)?;
-    }
-    Ok(text)
-}
-
-fn put(out: &mut String, source: &str, span: Span) -> Result<(), Fail> {
-    let part = source.get(span.start..span.end).ok_or("no such place")?;
-    write!(out, "<{part}>")?;
-    Ok(())
-}
-
-/// Each node with its operator, the text where it stands and its parts.
-fn put_expr(out: &mut String, source: &str, expr: &Expr) -> Result<(), Fail> {
-    match expr {
-        Expr::Integer(span, value) => {
-            write!(out, "{value}")?;
-            put(out, source, *span)
-        }
-        Expr::Boolean(span, value) => {
-            write!(out, "{value}")?;
-            put(out, source, *span)
-        }
-        Expr::Call(name) => put(out, source, name.span),
-        Expr::Unary(span, operator, operand) => {
-            write!(out, "{operator:?}")?;
-            put(out, source, *span)?;
-            out.push_str("(")?;
-            put_expr(out, source, operand)?;
-            out.push_str(")")?;
-            Ok(())
-        }
-        Expr::Binary(span, operator, left, right) => {
-            write!(out, "{operator:?}")?;
-            put(out, source, *span)?;
-            out.push_str("(")?;
-            put_expr(out, source, left)?;
-            out.push_str(" ")?;
-            put_expr(out, source, right)?;
-            out.push_str(")")?;
-            Ok(())
-        }
-    }
-}
-
-#[cycle(outline)]
-fn put_instr(out: &mut String, source: &str, instr: &Instr) -> Result<(), Fail> {
-    match instr {
-        Instr::Assign(span, name, value) => {
-            put(out, source, *span)?;
-            put(out, source, name.span)?;
-            put_expr(out, source, value)
-        }
-        Instr::Print(span, value) => {
-            put(out, source, *span)?;
-            put_expr(out, source, value)
-        }
-        Instr::PrintText(span, text) => {
-            put(out, source, *span)?;
-            write!(out, "{text}")?;
-            Ok(())
-        }
-        Instr::Call(name) => put(out, source, name.span),
-        Instr::If(span, condition, body, branches, other) => {
-            put(out, source, *span)?;
-            put_expr(out, source, condition)?;
-            put_instrs(out, source, body)?;
-            for branch in branches {
-                put_expr(out, source, &branch.condition)?;
-                put_instrs(out, source, &branch.body)?;
-            }
-            put_instrs(out, source, other)
-        }
-    }
-}
-
-#[cycle(outline)]
-fn put_instrs(out: &mut String, source: &str, instrs: &[Instr]) -> Result<(), Fail> {
-    for instr in instrs {
-        out.push_str(" ")?;
-        put_instr(out, source, instr)?;
-    }
-    out.push_str(";")?;
-    Ok(())
-}
-
-fn put_class(out: &mut String, source: &str, class: &Class) -> Result<(), Fail> {
-    put(out, source, class.span)?;
-    put(out, source, class.name.span)?;
-    for creator in &class.creators {
-        put(out, source, creator.span)?;
-    }
-    for feature in &class.features {
-        out.push_str(" ")?;
-        put(out, source, feature.name.span)?;
-        match &feature.kind {
-            FeatureKind::Attribute(declared) => put(out, source, declared.class.span)?,
-            FeatureKind::Routine(routine) => put_instrs(out, source, &routine.body)?,
-        }
-    }
-    for clause in &class.invariant {
-        out.push_str(" ")?;
-        if let Some(tag) = &clause.tag {
-            put(out, source, tag.span)?;
-        }
-        put_expr(out, source, &clause.condition)?;
-    }
-    Ok(())
-}
-
-/// The tree, each node with the text where it stands.
-fn outline(alloc: Global, source: &str) -> Result<String, Fail> {
-    let tokens = tokens_of(alloc, source)?;
-    let system = parse(alloc, &tokens)?;
-    let mut out = String::new(alloc);
-    for class in &system.classes {
-        put_class(&mut out, source, class)?;
-    }
-    Ok(out)
-}
-
-#[test]
-fn nodes_stand_where_their_words_do(rt: HostRuntime) -> Result<(), Fail> {
-    let rows = [
-        ("", ""),
-        (
-            "class a end class b feature end",
-            "<class a end><a><class b feature end><b>",
-        ),
-        (
-            "class a create f , g feature x , y : integer ; z : boolean feature f do end g do x end end",
-            "<class a create f , g feature x , y : integer ; z : boolean feature f do end g do x end end><a><f><g> \
-             <x><integer> <y><integer> <z><boolean> <f>; <g> <x>;",
-        ),
-        (
-            "class a invariant ; ( a + b ) * c ; ( 1 ) t : not ( a ) ; - 2 true = ( false ) end",
-            "<class a invariant ; ( a + b ) * c ; ( 1 ) t : not ( a ) ; - 2 true = ( false ) end><a> \
-             Times<a + b ) * c>(Plus<a + b>(<a> <b>) <c>) 1<1> <t>Not<not ( a>(<a>) Minus<- 2>(2<2>) Equal<true = ( false>(true<true> false<false>)",
-        ),
-        (
-            "class a invariant a - b - c < 1 and then d or else e implies f end",
-            "<class a invariant a - b - c < 1 and then d or else e implies f end><a> \
-             Implies<a - b - c < 1 and then d or else e implies f>(OrElse<a - b - c < 1 and then d or else e>(\
-             AndThen<a - b - c < 1 and then d>(Less<a - b - c < 1>(Minus<a - b - c>(Minus<a - b>(<a> <b>) <c>) 1<1>) \
-             <d>) <e>) <f>)",
-        ),
-        (
-            "class a feature f do ; x := ( 1 ) print ( x ) ; print ( \"t\" ) print end end",
-            "<class a feature f do ; x := ( 1 ) print ( x ) ; print ( \"t\" ) print end end><a> <f> \
-             <x := ( 1><x>1<1> <print ( x )><x> <print ( \"t\" )>\"t\" <print>;",
-        ),
-        (
-            "class a feature f do if x then g elseif y then h else end end end",
-            "<class a feature f do if x then g elseif y then h else end end end><a> <f> \
-             <if x then g elseif y then h else end><x> <g>;<y> <h>;;;",
-        ),
-    ];
-    for (source, expected) in rows {
-        assert_eq!(rt; outline(rt.alloc(), source)?.as_str(), expected);
-    }
-    Ok(())
 }
 
 /// Why the answer is a fault, if it is one, unless memory ran out.
@@ -265,53 +61,170 @@ pub fn fault_of(answer: Result<System, ParseFault>) -> Result<Option<ParseFault>
     }
 }
 
-fn outside(place: usize) -> Option<ParseFault> {
-    Some(ParseFault::NotInGrammar { place })
+/// A source with its tokens, and what may follow the first of them.
+#[derive(Drop)]
+struct Chart {
+    /// What may stand before each token, and behind the last.
+    items: Vec<Vec<Item>>,
+    /// The same with all that follows from it, before each token.
+    sets: Vec<Set>,
+    room: u8,
 }
 
-fn too_deep(place: usize) -> Option<ParseFault> {
-    Some(ParseFault::TooDeep { place })
+impl Chart {
+    fn new(alloc: Global, grammar: &Grammar, fits: &[Fit], room: u8) -> Result<Chart, Fail> {
+        let mut chart = Chart {
+            items: Vec::new(alloc),
+            sets: Vec::new(alloc),
+            room,
+        };
+        let mut items = grammar.first(room)?;
+        for fit in fits {
+            chart.items.push(items.to_vec(alloc)?)?;
+            grammar.complete(&mut chart.sets, items, Some(fit))?;
+            let set = chart.sets.last().ok_or("no set")?;
+            items = grammar.after(set, fit)?;
+        }
+        chart.items.push(items)?;
+        Ok(chart)
+    }
+
+    /// The index of the first token that no system of this nesting has there: none where the tokens are a
+    /// system. The first tokens up to `start` are those of the chart.
+    fn fault_index(
+        &mut self,
+        alloc: Global,
+        grammar: &Grammar,
+        start: usize,
+        tokens: &[Token],
+        source: &str,
+    ) -> Result<Option<usize>, Fail> {
+        let fault = self.items.iter().position(|items| items.is_empty());
+        if let Some(after) = fault
+            && after <= start
+        {
+            return Ok(Some(after.saturating_sub(1)));
+        }
+        self.sets.truncate(start);
+        let mut items = match self.items.get(start) {
+            Some(items) => items.to_vec(alloc)?,
+            None => Vec::new(alloc),
+        };
+        for index in start..tokens.len() {
+            let Some(token) = tokens.get(index) else {
+                break;
+            };
+            let fit = grammar.fit(token, source)?;
+            grammar.complete(&mut self.sets, items, Some(&fit))?;
+            let set = self.sets.last().ok_or("no set")?;
+            items = grammar.after(set, &fit)?;
+            if items.is_empty() {
+                return Ok(Some(index));
+            }
+        }
+        grammar.complete(&mut self.sets, items, None)?;
+        let is_whole = self.sets.last().is_some_and(|set| grammar.is_whole(set));
+        Ok(if is_whole { None } else { Some(tokens.len()) })
+    }
+}
+
+fn expected(tokens: &[Token], any: Option<usize>, shallow: Option<usize>) -> Option<ParseFault> {
+    let wrong = any.unwrap_or(usize::MAX);
+    let deep = shallow?;
+    Some(if deep < wrong {
+        ParseFault::TooDeep {
+            place: place_of(tokens, deep),
+        }
+    } else {
+        ParseFault::NotInGrammar {
+            place: place_of(tokens, wrong),
+        }
+    })
+}
+
+/// A number below the bound, from a fixed sequence.
+fn drawn(seed: &mut u64, bound: usize) -> usize {
+    *seed = seed
+        .wrapping_mul(6364136223846793005)
+        .wrapping_add(1442695040888963407);
+    if bound == 0 {
+        0
+    } else {
+        ((*seed >> 33) as usize) % bound
+    }
+}
+
+/// The words, edited at a place: the word there deleted, doubled, swapped with the next, replaced, or with
+/// another before it, or all words up to there.
+fn edited(
+    alloc: Global,
+    words: &[&'static str],
+    others: &[&'static str],
+    place: usize,
+    edit: usize,
+    seed: &mut u64,
+) -> Result<String, Fail> {
+    let other = others.get(drawn(seed, others.len())).copied().unwrap_or("");
+    let here = words.get(place).copied().unwrap_or("");
+    let next = words.get(place.saturating_add(1)).copied().unwrap_or("");
+    let (instead, skipped): ([&str; 2], usize) = match edit {
+        0 => (["", ""], 1),
+        1 => ([here, here], 1),
+        2 => ([next, here], 2),
+        3 => (["", ""], words.len()),
+        4 => ([other, ""], words.len()),
+        5 => ([other, ""], 1),
+        6 => ([other, ""], 0),
+        _ => ([here, other], 1),
+    };
+    let behind = place.saturating_add(skipped);
+    let mut text = String::new(alloc);
+    for (index, word) in words.iter().enumerate() {
+        if index == place {
+            for word in instead {
+                text.push_str(word)?;
+                text.push_str(" ")?;
+            }
+        }
+        if index < place || index >= behind {
+            text.push_str(word)?;
+            text.push_str(" ")?;
+        }
+    }
+    Ok(text)
 }
 
 #[test]
-fn nesting_is_limited(rt: HostRuntime) -> Result<(), Fail> {
+fn edited_sources_are_told_as_the_written_grammar_says(rt: HostRuntime) -> Result<(), Fail> {
     let alloc = rt.alloc();
-    // How often, what stands before, in the middle and after, and where it is too deep.
-    let rows = [
-        (64, "( ", "1", " )", None),
-        (65, "( ", "1", " )", too_deep(154)),
-        (10000, "( ", "", "", too_deep(154)),
-        (64, "", "1", " + 1", None),
-        (65, "", "1", " + 1", too_deep(284)),
-        (64, "not ", "x", "", None),
-        (65, "not ", "x", "", too_deep(282)),
-        (65, "", "x", " or else x", too_deep(668)),
-    ];
-    for (count, before, middle, after, expected) in rows {
-        let before = repeated(alloc, count, before)?;
-        let after = repeated(alloc, count, after)?;
-        let source = format!(in alloc;
-            "class a feature f do n := {before}{middle}{after} end end"
-        )?;
-        let tokens = tokens_of(alloc, &source)?;
-        assert_eq!(rt; fault_of(parse(alloc, &tokens))?, expected, "{middle}");
-    }
-    // Inside 64 `if`s, after which place 661 comes.
-    let ifs = repeated(alloc, 64, "if x then ")?;
-    let rows = [
-        ("print ", outside(666)),
-        ("x := x ; y ; print ", outside(679)),
-        ("x := ( ", too_deep(666)),
-        ("x := x + ", too_deep(668)),
-        ("print ( ", too_deep(667)),
-        ("if ", too_deep(661)),
-        ("end or ", outside(665)),
-        ("x := x := ", outside(668)),
-    ];
-    for (inner, expected) in rows {
-        let source = format!(in alloc; "class a feature f do {ifs}{inner}")?;
-        let tokens = tokens_of(alloc, &source)?;
-        assert_eq!(rt; fault_of(parse(alloc, &tokens))?, expected, "{inner}");
+    let grammar = Grammar::written(alloc)?;
+    let others = words_of(alloc, WORDS)?;
+    let mut seed: u64 = 1;
+    for source in SOURCES {
+        let tokens = lex(alloc, source)?;
+        let words = words_of(alloc, source)?;
+        assert_eq!(rt; words.len(), tokens.len(), "{source}");
+        let mut fits = Vec::new(alloc);
+        for token in &tokens {
+            fits.push(grammar.fit(token, source)?)?;
+        }
+        let mut any = Chart::new(alloc, &grammar, &fits, ENDLESS)?;
+        let mut shallow = Chart::new(alloc, &grammar, &fits, 2)?;
+        assert!(rt; fault_of(parse(alloc, &tokens))?.is_none(), "{source}");
+        for place in (0..words.len()).rev() {
+            for time in 0..4 {
+                // First the beginning up to there.
+                let edit = if time == 0 { 3 } else { drawn(&mut seed, 9) };
+                let text = edited(alloc, &words, &others, place, edit, &mut seed)?;
+                let tokens = lex(alloc, &text)?;
+                let wrong = any.fault_index(alloc, &grammar, place, &tokens, &text)?;
+                let fault = fault_of(parse(alloc, &tokens))?;
+                assert_eq!(rt; fault, expected(&tokens, wrong, wrong), "{text}");
+                let deep = shallow.fault_index(alloc, &grammar, place, &tokens, &text)?;
+                let fault = fault_of(parse_within(alloc, &tokens, 2))?;
+                assert_eq!(rt; fault, expected(&tokens, wrong, deep), "{text}");
+            }
+        }
     }
     Ok(())
 }

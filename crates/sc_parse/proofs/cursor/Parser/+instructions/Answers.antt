@@ -1,11 +1,12 @@
 use Rattle.std.proofs.Common.{ap, sym, ◌∙◌, max, suc, arith}
 use Rattle.std.proofs.lemmas.Grind.{common_steps}
-use Rattle.sc_tree.proofs.ViewLemmas.{bare_instr-if, bare_instrs-none, bare_instrs-push, bare_branches-none, bare_branches-push}
+use Rattle.sc_tree.proofs.ViewLemmas.{bare_instr-if, bare_instr-loop, bare_instr-block, bare_instrs-none, bare_instrs-push, bare_branches-none, bare_branches-push}
 use Rattle.sc_tree.specs.Bare.{bare_instrs, bare_branches}
-use Rattle.sc_tree.specs.Reading.{guarded, conditional}
+use Rattle.sc_tree.specs.Reading.Instructions.{guarded, conditional, nested_instrs}
 use Rattle.sc_tree.specs.View.{instrs_of, branches_of}
 use Rattle.sc_parse.specs.Reads.{ahead, instrs_in, branches_in}
 use Rattle.sc_parse.proofs.Turns.{instrs_begin, instrs_end, instrs_more, branches_begin, branches_more}
+use Rattle.sc_parse.proofs.Steps.{iteration_is, block_is}
 use Rattle.sc_parse.proofs.cursor.Parser.+instructions.Goals as goal
 
 pub instructions-loop-turn-init : goal.instructions-loop-turn-init
@@ -42,3 +43,16 @@ pub conditional-returns : goal.conditional-returns
 unfolding conditional
 conditional-returns t c =
     (suc (max c.in_ok-condition.ensures.0 (max c.in_ok-branches.ensures.0 c.in_ok-other.ensures.0)), grind (arith, common_steps, bare_instr-if))
+
+pub iteration-returns : goal.iteration-returns
+iteration-returns t c = (
+  suc (max c.in_ok-initial.ensures.0 (max c.in_ok-condition.field-0-1 c.in_ok-body.ensures.0)),
+  iteration_is c.args.room (nested_instrs c.args.room) (ahead c.args.self.now) _ _ _ _ _ _ _ _ _ _ _ _ _ c.in_ok-initial.ensures.1 c.in_ok-expect.ensures c.in_ok-condition.ensures.read c.in_ok-expect-2.ensures
+      c.in_ok-body.ensures.1 c.in_ok-expect-3.ensures (bare_instr-loop _ _ _ _),
+)
+
+pub block-returns : goal.block-returns
+block-returns t c = (
+  suc (max c.in_ok-heads.ensures.0 c.in_ok-body.ensures.0),
+  block_is c.args.room (nested_instrs c.args.room) (ahead c.args.self.now) _ _ _ _ _ _ _ _ _ c.in_ok-heads.ensures.1 c.in_ok-expect.ensures c.in_ok-body.ensures.1 c.in_ok-expect-2.ensures (bare_instr-block _ _ _),
+)

@@ -1,6 +1,6 @@
 use Rattle.std.proofs.Common.{◌≡◌, ◌+◌, ◌-◌, ◌*◌, ℕ, length}
 use Rattle.sc_tree.specs.Plain.{no_branches}
-use Rattle.sc_tree.specs.Reading as spec
+use Rattle.sc_tree.specs.Reading.Instructions as spec
 use Rattle.sc_parse.specs.Reads.{ahead, instrs_in, branches_in}
 use Rattle.sc_parse.proofs.cursor.Parser.+instructions.Given as goal
 
@@ -12,6 +12,12 @@ decreases-guarded l = l.room * 16 + 1
 
 abbrev pub decreases-other : goal.decreases-other
 decreases-other l = l.room * 16 + 1
+
+abbrev pub decreases-iteration : goal.decreases-iteration
+decreases-iteration l = l.room * 16 + 1
+
+abbrev pub decreases-block : goal.decreases-block
+decreases-block l = l.room * 16 + 1
 
 abbrev pub decreases-branches : goal.decreases-branches
 decreases-branches l = l.room * 16 + 2

@@ -10,7 +10,8 @@ pub loop-turn-preserved : goal.loop-turn-preserved
 loop-turn-preserved c =
     let q = c.loop-turn.invariant in (
       max q.0 c.in_ok-class.ensures.0,
-      classes_more c.args.room _ c.loop-turn._turn (classes_in c.loop-turn.found) q.0 (ahead c.loop-turn.self) _ _ _ _ _ c.loop-turn-test.true c.sees.ensures c.if-not-sees.false
+      classes_more c.args.room _ c.loop-turn._turn (classes_in c.loop-turn.found) q.0 (ahead c.loop-turn.self) _ _ _ _ _
+          c.loop-turn-test.true c.is_done.ensures c.if-is_done.false
           c.in_ok-class.ensures.1 (ap (λ (xs : _). map bare_class (map class_of xs)) c.in_ok-push.ensures.items ∙ mapped-push bare_class class_of _ _)
           ∙ q.1,
     )

@@ -8,6 +8,7 @@ use Rattle.sc_parse.proofs.cursor.Parser.more_names.Goals as goal
 
 pub loop-turn-preserved : goal.loop-turn-preserved
 loop-turn-preserved c =
-    more_names_more _ c.loop-turn._turn (names_in c.loop-turn.names) (ahead c.loop-turn.self) _ _ _ _ _ c.loop-turn-test.true c.sees.ensures c.if-not-sees.false c.take.ensures.past c.in_ok-name.ensures
+    more_names_more _ c.loop-turn._turn (names_in c.loop-turn.names) (ahead c.loop-turn.self) _ _ _ _ _
+    c.loop-turn-test.true c.sees.ensures c.if-not-sees.false c.take.ensures.past c.in_ok-name.ensures
     (ap (λ (ns : _). map bare_name (map name_of ns)) c.in_ok-push-2.ensures.items ∙ mapped-push bare_name name_of _ _)
     ∙ c.loop-turn.invariant

@@ -1,5 +1,5 @@
 use Rattle.std.proofs.Common.{◌≡◌, length}
-use Rattle.sc_tree.specs.Reading as spec
+use Rattle.sc_tree.specs.Reading.Looks as spec
 use Rattle.sc_parse.specs.Reads.{ahead}
 use Rattle.sc_parse.proofs.cursor.Parser.skip_semicolons.Given as goal
 

@@ -1,0 +1,28 @@
+use Rattle.std.proofs.Common.{◌≡◌, Bool, true, false, ◌||◌, ap, sym, ◌∙◌, map}
+use Rattle.sc_text.specs.declared.token.Terminal.TheVariants as terminal
+use Rattle.sc_tree.specs.Bare.{bare_declaration}
+use Rattle.sc_tree.specs.Reading.Looks.{sees, name_ahead}
+use Rattle.sc_tree.specs.View.{declaration_of}
+use Rattle.sc_parse.specs.Reads.{ahead, declarations_in}
+use Rattle.sc_parse.proofs.Lists.{declarations_more, mapped-append}
+use Rattle.sc_parse.proofs.cursor.Parser.more_declarations.Goals as goal
+use Rattle.sc_parse.proofs.cursor.Parser.more_declarations.Goals.{then-sees, else-sees}
+
+by_first : (a b s v : Bool) → s ≡ a → s ≡ true → v ≡ s → v ≡ a || b
+by_first a b s v e t w = rw (sym e ∙ t) (w ∙ t)
+
+by_second : (a b s n v : Bool) → s ≡ a → s ≡ false → n ≡ b → v ≡ n → v ≡ a || b
+by_second a b s n v e f u w = rw (sym e ∙ f) (w ∙ u)
+
+pub loop-turn-preserved : goal.loop-turn-preserved
+loop-turn-preserved c =
+    let ts = ahead c.loop-turn.self in
+    let seen : c.if-sees.value ≡ sees terminal.Semicolon ts || name_ahead ts =
+    elim c.if-sees.branch [
+      | then-sees w ↦ by_first _ (name_ahead ts) c.sees.result _ c.sees.ensures w.if-sees.true w.value-is
+      | else-sees w ↦ by_second _ _ c.sees.result w.sees_name.result _ c.sees.ensures w.if-sees.false w.sees_name.ensures w.value-is
+    ] in
+    declarations_more _ c.loop-turn._turn (declarations_in c.loop-turn.found) ts _ _ _ _ _
+    c.loop-turn-test.true seen c.if-not-sees_name.false c.skip.ensures c.in_ok-declarations.ensures
+    (ap (λ (ds : _). map bare_declaration (map declaration_of ds)) c.in_ok-append.ensures.items ∙ mapped-append bare_declaration declaration_of _ _)
+    ∙ c.loop-turn.invariant

@@ -1,0 +1,29 @@
+use Rattle.std.proofs.Common.{◌≡◌, ℕ, max, List, [], ◌∷◌, Ok, ◌∙◌}
+use Rattle.sc_text.specs.Kind.{Kind}
+use Rattle.sc_tree.specs.declared.system.FeatureKind.TheVariants as kind
+use Rattle.sc_tree.specs.declared.system.Routine.{Routine}
+use Rattle.sc_tree.specs.Plain as plain
+use Rattle.sc_tree.specs.Reading.Classes as spec
+use Rattle.sc_tree.specs.View.{kind_of}
+use Rattle.sc_tree.proofs.Combining.{bind_ok}
+use Rattle.sc_parse.specs.Reads.{ahead, clauses_in, declarations_in, instrs_in, type_if_any_in, feature_with, opening_ahead, closing_ahead}
+use Rattle.sc_parse.proofs.Parts.{routine_is, routine_with, after_opening}
+use Rattle.sc_parse.proofs.cursor.Parser.routine.Goals as goal
+
+routine_read : (room : ℕ) (es : List plain.Name) (x : plain.Name) (r : Routine) (ts body rest : List Kind) (g h : ℕ) (fs : List plain.Feature) →
+    opening_ahead room ts ≡ Ok ((clauses_in r.precondition, declarations_in r.locals), g, body) →
+    closing_ahead room body ≡ Ok ((instrs_in r.body, clauses_in r.postcondition), h, rest) → fs ≡ feature_with es x (kind.Routine r) ∷ [] →
+    spec.routine room es x (declarations_in r.formals) (type_if_any_in r.result_type) ts ≡ Ok (fs, max g h, rest)
+unfolding kind_of
+routine_read room es x r ts body rest g h fs o d e =
+    let formals = declarations_in r.formals in
+    let result = type_if_any_in r.result_type in
+    rw e
+    (routine_is room es x formals result ts ∙ bind_ok _ _ (after_opening room es x formals result) o
+    ∙ bind_ok _ _ (routine_with es x formals result ((clauses_in r.precondition, declarations_in r.locals), g, body)) d)
+
+pub returns : goal.returns
+returns c = (
+  max c.in_ok-precondition.ensures.0 c.in_ok-body.ensures.0,
+  routine_read c.args.room _ _ _ (ahead c.args.self.now) _ _ _ _ _ c.in_ok-precondition.ensures.1 c.in_ok-body.ensures.1 c.in_ok-features.ensures,
+)

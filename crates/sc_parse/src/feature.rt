@@ -1,0 +1,236 @@
+// Features, and whom they are exported to (ECMA-367, 8.5 to 8.7).
+
+ghost use Rattle.std.specs.Prelude.{◌≡◌, ◌∷◌, ℕ, [], IfOk, length, map};
+ghost use Rattle.sc_tree.specs.Grammar.Classes as grammar;
+ghost use Rattle.sc_tree.specs.Reading.Classes as spec;
+ghost use Rattle.sc_parse.specs.Reads.{ahead, bare_names, opening_in, opening_ahead, closing_in, closing_ahead, feature_with, declarations_in, features_in, name_in, names_in, type_in, type_if_any_in, Gives, Takes};
+
+use crate::cursor::Parser;
+use crate::fault::ParseFault;
+use crate::types::{copied_names, copied_type};
+use sc_text::Terminal;
+use sc_tree::{Clause, Declaration, DeclaredType, Feature, FeatureKind, Instr, Name, Routine};
+use std::alloc::{AllocError, Global};
+
+/// The classes that a feature is exported to by this list; `ANY` alone is the same as no list.
+fn exported_to(alloc: Global, names: Vec<Name>) -> Vec<Name>
+    ensures { names_in result ≡ grammar.exported_to (names_in names) }
+{
+    match names.as_slice() {
+        [name] if name.text.as_str() == "any" => Vec::new(alloc),
+        _ => names,
+    }
+}
+
+/// Each name as an attribute of the type.
+fn attributes_of(
+    alloc: Global,
+    exports: &[Name],
+    names: Vec<Name>,
+    declared: &DeclaredType,
+) -> Result<Vec<Feature>, AllocError>
+    ensures { IfOk result (λ features. features_in features ≡ map (grammar.attribute_of (bare_names exports.now) (type_in declared.now)) (names_in names)) }
+{
+    let mut features = Vec::new(alloc);
+    for name in names {
+        let exports = copied_names(alloc, exports)?;
+        let kind = FeatureKind::Attribute(copied_type(declared)?);
+        features.push(Feature {
+            exports,
+            name,
+            kind,
+        })?;
+    }
+    Ok(features)
+}
+
+/// One feature, exported to the classes.
+fn one_feature(
+    alloc: Global,
+    exports: &[Name],
+    name: Name,
+    kind: FeatureKind,
+) -> Result<Vec<Feature>, AllocError>
+    ensures { IfOk result (λ features. features_in features ≡ feature_with (bare_names exports.now) (name_in name) kind ∷ []) }
+{
+    let exports = copied_names(alloc, exports)?;
+    let mut features = Vec::new(alloc);
+    features.push(Feature {
+        exports,
+        name,
+        kind,
+    })?;
+    Ok(features)
+}
+
+impl<'a> Parser<'a> {
+    /// The classes in braces that features are exported to, if they are there.
+    #[tactic(auto, unfolding(sc_tree::specs::Reading::Classes::exports))]
+    fn exports(&mut self) -> Result<Vec<Name>, ParseFault>
+        ensures { Takes names_in (spec.exports (ahead self.old)) result (ahead self.new) }
+    {
+        if !self.sees(Terminal::OpenBrace) {
+            return Ok(Vec::new(self.alloc));
+        }
+        self.take();
+        self.export_list()
+    }
+
+    /// What follows the brace that opens an export list. An empty one is the same as `{NONE}`.
+    #[tactic(auto, unfolding(sc_tree::specs::Reading::Classes::export_list))]
+    fn export_list(&mut self) -> Result<Vec<Name>, ParseFault>
+        ensures { Takes names_in (spec.export_list (ahead self.old)) result (ahead self.new) }
+    {
+        let start = self.last.start;
+        if self.sees(Terminal::CloseBrace) {
+            self.take();
+            let text = String::from_str(self.alloc, "none")?;
+            let span = self.span_from(start);
+            let mut names = Vec::new(self.alloc);
+            names.push(Name { text, span })?;
+            return Ok(names);
+        }
+        let names = self.names()?;
+        self.expect(Terminal::CloseBrace)?;
+        Ok(exported_to(self.alloc, names))
+    }
+
+    /// What stands before a routine's body: its precondition and its locals.
+    fn opening(&mut self, room: u8) -> Result<(Vec<Clause>, Vec<Declaration>), ParseFault>
+        ensures { Gives opening_in (opening_ahead room (ahead self.old)) result (ahead self.new) }
+    {
+        self.skip(Terminal::Is);
+        let precondition = self.assertion(Terminal::Require, room)?;
+        let locals = self.locals()?;
+        self.expect(Terminal::Do)?;
+        Ok((precondition, locals))
+    }
+
+    /// A routine's body and its postcondition, up to its `end`.
+    fn closing(&mut self, room: u8) -> Result<(Vec<Instr>, Vec<Clause>), ParseFault>
+        ensures { Gives closing_in (closing_ahead room (ahead self.old)) result (ahead self.new) }
+    {
+        let body = self.instructions(room)?;
+        let postcondition = self.assertion(Terminal::Ensure, room)?;
+        self.expect(Terminal::End)?;
+        Ok((body, postcondition))
+    }
+
+    /// What follows the formals and the result type of a routine.
+    #[tactic(auto, using(crate::proofs::Parts::routine_is))]
+    fn routine(
+        &mut self,
+        exports: &[Name],
+        name: Name,
+        formals: Vec<Declaration>,
+        result_type: Option<DeclaredType>,
+        room: u8,
+    ) -> Result<Vec<Feature>, ParseFault>
+        ensures { Gives features_in (spec.routine room (bare_names exports.now) (name_in name) (declarations_in formals) (type_if_any_in result_type) (ahead self.old)) result (ahead self.new) }
+    {
+        let (precondition, locals) = self.opening(room)?;
+        let (body, postcondition) = self.closing(room)?;
+        let routine = Routine {
+            formals,
+            result_type,
+            precondition,
+            locals,
+            body,
+            postcondition,
+        };
+        let features = one_feature(self.alloc, exports, name, FeatureKind::Routine(routine))?;
+        Ok(features)
+    }
+
+    /// What follows the name, the formals and the result type of a feature.
+    fn attribute_or_routine(
+        &mut self,
+        exports: &[Name],
+        name: Name,
+        formals: Vec<Declaration>,
+        result_type: Option<DeclaredType>,
+        room: u8,
+    ) -> Result<Vec<Feature>, ParseFault>
+        ensures { Gives features_in (spec.attribute_or_routine room (bare_names exports.now) (name_in name) (declarations_in formals) (type_if_any_in result_type) (ahead self.old)) result (ahead self.new) }
+    {
+        let is_attribute = formals.is_empty() && !self.begins_routine();
+        match result_type {
+            Some(declared) if is_attribute => {
+                let kind = FeatureKind::Attribute(declared);
+                let features = one_feature(self.alloc, exports, name, kind)?;
+                Ok(features)
+            }
+            result_type => self.routine(exports, name, formals, result_type, room),
+        }
+    }
+
+    /// What follows the first name of attributes.
+    #[tactic(auto, unfolding(sc_tree::specs::Reading::Classes::attributes))]
+    fn attributes(
+        &mut self,
+        exports: &[Name],
+        first: Name,
+        room: u8,
+    ) -> Result<Vec<Feature>, ParseFault>
+        ensures { Gives features_in (spec.attributes room (bare_names exports.now) (name_in first) (ahead self.old)) result (ahead self.new) }
+    {
+        let names = self.more_names(first)?;
+        self.expect(Terminal::Colon)?;
+        let declared = self.declared_type()?;
+        let features = attributes_of(self.alloc, exports, names, &declared)?;
+        Ok(features)
+    }
+
+    /// A routine, or attributes of one type.
+    #[tactic(auto, unfolding(sc_tree::specs::Reading::Classes::feature))]
+    fn feature(&mut self, exports: &[Name], room: u8) -> Result<Vec<Feature>, ParseFault>
+        ensures { Gives features_in (spec.feature room (bare_names exports.now) (ahead self.old)) result (ahead self.new) }
+    {
+        let name = self.name()?;
+        if self.sees(Terminal::Comma) {
+            return self.attributes(exports, name, room);
+        }
+        let formals = self.formals()?;
+        let result_type = self.result_type()?;
+        self.attribute_or_routine(exports, name, formals, result_type, room)
+    }
+
+    /// The features that stand under one `feature`, after those that were found.
+    #[tactic(auto, using(crate::proofs::Lists::features_begin, crate::proofs::Lists::features_end, crate::proofs::Lists::features_turn))]
+    fn section(
+        &mut self,
+        exports: &[Name],
+        earlier: Vec<Feature>,
+        room: u8,
+    ) -> Result<Vec<Feature>, ParseFault>
+        ensures { (high : ℕ) → Gives features_in (spec.features_from room (bare_names exports.now) (length (ahead self.old)) (features_in earlier) high (ahead self.old)) result (ahead self.new) }
+    {
+        let mut found = earlier;
+        for _turn in 0..self.rest.len() {
+            if !self.sees_name() {
+                return Ok(found);
+            }
+            let mut features = self.feature(exports, room)?;
+            found.append(&mut features)?;
+            self.skip_semicolons();
+        }
+        Ok(found)
+    }
+
+    /// The features that stand under each `feature`.
+    #[tactic(auto, using(crate::proofs::Lists::sections_begin, crate::proofs::Lists::sections_end, crate::proofs::Lists::sections_turn))]
+    pub fn sections(&mut self, room: u8) -> Result<Vec<Feature>, ParseFault>
+        ensures { Gives features_in (spec.sections room (ahead self.old)) result (ahead self.new) }
+    {
+        let mut found = Vec::new(self.alloc);
+        for _turn in 0..self.rest.len() {
+            if !self.sees(Terminal::Feature) {
+                return Ok(found);
+            }
+            self.take();
+            let exports = self.exports()?;
+            found = self.section(&exports, found, room)?;
+        }
+        Ok(found)
+    }
+}

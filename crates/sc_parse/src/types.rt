@@ -1,0 +1,165 @@
+// Names, and the types that entities are declared with (ECMA-367, 8.8 and 8.11).
+
+ghost use Rattle.std.specs.Prelude.{◌≡◌, ◌∷◌, [], IfOk, length};
+ghost use Rattle.sc_tree.specs.Reading.Types as spec;
+ghost use Rattle.sc_parse.specs.Reads.{ahead, bare_names, name_in, names_in, handler_tag_in, type_in, type_if_any_in, Takes};
+
+use crate::cursor::Parser;
+use crate::fault::ParseFault;
+use sc_text::Terminal;
+use sc_tree::{DeclaredType, HandlerTag, Name};
+use std::alloc::{AllocError, Global};
+
+/// The same name once more, its place included.
+pub fn copied_name(name: &Name) -> Result<Name, AllocError>
+    ensures { IfOk result (λ copy. name_in copy ≡ name_in name.now) }
+{
+    let text = name.text.clone()?;
+    Ok(Name {
+        text,
+        span: name.span,
+    })
+}
+
+/// The same names once more, in the same order.
+pub fn copied_names(alloc: Global, names: &[Name]) -> Result<Vec<Name>, AllocError>
+    ensures { IfOk result (λ copies. names_in copies ≡ bare_names names.now) }
+{
+    let mut copies = Vec::new(alloc);
+    for name in names {
+        let copy = copied_name(name)?;
+        copies.push(copy)?;
+    }
+    Ok(copies)
+}
+
+/// The same tag once more.
+fn copied_tag(tag: &HandlerTag) -> Result<HandlerTag, AllocError>
+    ensures { IfOk result (λ copy. handler_tag_in copy ≡ handler_tag_in tag.now) }
+{
+    match tag {
+        HandlerTag::Own => Ok(HandlerTag::Own),
+        HandlerTag::Separate => Ok(HandlerTag::Separate),
+        HandlerTag::HandlerOf(name) => {
+            let name = copied_name(name)?;
+            Ok(HandlerTag::HandlerOf(name))
+        }
+    }
+}
+
+/// The same type once more, its place included.
+pub fn copied_type(declared: &DeclaredType) -> Result<DeclaredType, AllocError>
+    ensures { IfOk result (λ copy. type_in copy ≡ type_in declared.now) }
+{
+    let tag = copied_tag(&declared.tag)?;
+    let class = copied_name(&declared.class)?;
+    Ok(DeclaredType {
+        span: declared.span,
+        is_detachable: declared.is_detachable,
+        tag,
+        class,
+    })
+}
+
+impl<'a> Parser<'a> {
+    /// Names with a comma between each two.
+    #[tactic(auto, unfolding(sc_tree::specs::Reading::Types::names))]
+    pub fn names(&mut self) -> Result<Vec<Name>, ParseFault>
+        ensures { Takes names_in (spec.names (ahead self.old)) result (ahead self.new) }
+    {
+        let first = self.name()?;
+        self.more_names(first)
+    }
+
+    /// The first name and those that follow it, with a comma before each.
+    #[tactic(auto, using(crate::proofs::Lists::more_names_begin, crate::proofs::Lists::more_names_end, crate::proofs::Lists::more_names_turn))]
+    pub fn more_names(&mut self, first: Name) -> Result<Vec<Name>, ParseFault>
+        ensures { Takes names_in (spec.more_names (length (ahead self.old)) (name_in first ∷ []) (ahead self.old)) result (ahead self.new) }
+    {
+        let mut names = Vec::new(self.alloc);
+        names.push(first)?;
+        for _turn in 0..self.rest.len() {
+            if !self.sees(Terminal::Comma) {
+                return Ok(names);
+            }
+            self.take();
+            let name = self.name()?;
+            names.push(name)?;
+        }
+        Ok(names)
+    }
+
+    /// Reads a type's mark, if it has one: whether the type is detachable.
+    #[tactic(auto, unfolding(sc_tree::specs::Reading::Types::attachment))]
+    fn attachment(&mut self) -> bool
+        ensures { spec.attachment (ahead self.old) ≡ (result, ahead self.new) }
+    {
+        if self.sees(Terminal::Detachable) || self.sees(Terminal::Question) {
+            self.take();
+            return true;
+        }
+        if self.sees(Terminal::Attached) || self.sees(Terminal::Exclamation) {
+            self.take();
+        }
+        false
+    }
+
+    /// What a type says of handlers, from `separate` on.
+    #[tactic(auto, unfolding(sc_tree::specs::Reading::Types::handler_tag))]
+    fn handler_tag(&mut self) -> Result<HandlerTag, ParseFault>
+        ensures { Takes handler_tag_in (spec.handler_tag (ahead self.old)) result (ahead self.new) }
+    {
+        if !self.sees(Terminal::Separate) {
+            return Ok(HandlerTag::Own);
+        }
+        self.take();
+        self.handler_of()
+    }
+
+    /// What follows `separate`: a handler, if one is named.
+    #[tactic(auto, unfolding(sc_tree::specs::Reading::Types::handler_of))]
+    fn handler_of(&mut self) -> Result<HandlerTag, ParseFault>
+        ensures { Takes handler_tag_in (spec.handler_of (ahead self.old)) result (ahead self.new) }
+    {
+        if !self.sees(Terminal::Less) {
+            return Ok(HandlerTag::Separate);
+        }
+        self.take();
+        let name = self.name()?;
+        self.expect(Terminal::Dot)?;
+        self.expect_word("handler")?;
+        self.expect(Terminal::Greater)?;
+        Ok(HandlerTag::HandlerOf(name))
+    }
+
+    /// A type, from its mark to its class.
+    #[tactic(auto, unfolding(sc_tree::specs::Reading::Types::declared_type))]
+    pub fn declared_type(&mut self) -> Result<DeclaredType, ParseFault>
+        ensures { Takes type_in (spec.declared_type (ahead self.old)) result (ahead self.new) }
+    {
+        let start = self.next_start();
+        let is_detachable = self.attachment();
+        let tag = self.handler_tag()?;
+        let class = self.name()?;
+        Ok(DeclaredType {
+            span: self.span_from(start),
+            is_detachable,
+            tag,
+            class,
+        })
+    }
+
+    /// The type in braces that an object test asks for, if it is there.
+    #[tactic(auto, unfolding(sc_tree::specs::Reading::Types::tested_type))]
+    pub fn tested_type(&mut self) -> Result<Option<DeclaredType>, ParseFault>
+        ensures { Takes type_if_any_in (spec.tested_type (ahead self.old)) result (ahead self.new) }
+    {
+        if !self.sees(Terminal::OpenBrace) {
+            return Ok(None);
+        }
+        self.take();
+        let declared = self.declared_type()?;
+        self.expect(Terminal::CloseBrace)?;
+        Ok(Some(declared))
+    }
+}
