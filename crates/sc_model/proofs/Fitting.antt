@@ -12,8 +12,8 @@ use Rattle.sc_formula.specs.Fit.{IsFit, IsFitTerm}
 use Rattle.sc_formula.specs.Formula.{PlainFormula}
 use Rattle.sc_formula.specs.Term.{PlainTerm}
 use Rattle.sc_tree.specs.declared.expression.UnaryOperator.{UnaryOperator}
-use Rattle.sc_tree.specs.declared.expression.UnaryOperator.TheVariants.{Not, Plus, Minus}
-use Rattle.sc_tree.specs.Plain.{Expr, Integer, Boolean, Call, Unary, Binary, Clause}
+use Rattle.sc_tree.specs.declared.expression.UnaryOperator.TheVariants.{Not, Old, Plus, Minus}
+use Rattle.sc_tree.specs.Plain.{Expr, Integer, Boolean, Void, Current, Result, Call, no_target, target, no_exprs, expr_then, Unary, Binary, ObjectTest, Clause}
 use Rattle.sc_model.specs.declared.value.Value.{Value}
 use Rattle.sc_model.specs.declared.value.Value.TheVariants as value
 use Rattle.sc_model.specs.Value.{atom_of}
@@ -82,6 +82,7 @@ unary_term_fits k Plus (Some t) h = h
 unary_term_fits k Minus None h = tt
 unary_term_fits k Minus (Some t) h = h
 unary_term_fits k Not o h = tt
+unary_term_fits k Old o h = tt
 
 arithmetic_fits : (k : List AtomKind) (op : Option ArithmeticOperator) (l r : Option PlainTerm) → FitTerm k l → FitTerm k r → FitTerm k (arithmetic_term op l r)
 unfolding FitTerm
@@ -94,7 +95,13 @@ term_fits : (attributes : List Binding) (e : Expr) → FitTerm (kinds attributes
 unfolding FitTerm
 term_fits attributes (Integer s z) = tt
 term_fits attributes (Boolean s b) = tt
-term_fits attributes (Call n) = integer_found (kinds attributes) (attribute_named n.text attributes) (attribute_found n.text attributes)
+term_fits attributes (Void s) = tt
+term_fits attributes (Current s) = tt
+term_fits attributes (Result s) = tt
+term_fits attributes (Call s no_target n (expr_then e es)) = tt
+term_fits attributes (Call s (target a) n es) = tt
+term_fits attributes (ObjectTest s t a n) = tt
+term_fits attributes (Call s no_target n no_exprs) = integer_found (kinds attributes) (attribute_named n.text attributes) (attribute_found n.text attributes)
 term_fits attributes (Unary s op a) = unary_term_fits (kinds attributes) op (term_of attributes a) (term_fits attributes a)
 term_fits attributes (Binary s op a b) =
     arithmetic_fits (kinds attributes) (arithmetic_of op) (term_of attributes a) (term_of attributes b) (term_fits attributes a) (term_fits attributes b)
@@ -105,6 +112,7 @@ unary_formula_fits k Not None h = tt
 unary_formula_fits k Not (Some f) h = h
 unary_formula_fits k Plus o h = tt
 unary_formula_fits k Minus o h = tt
+unary_formula_fits k Old o h = tt
 
 comparison_fits : (k : List AtomKind) (op : Option Comparison) (l r : Option PlainTerm) → FitTerm k l → FitTerm k r → FitFormula k (comparison_formula op l r)
 unfolding FitTerm FitFormula
@@ -129,7 +137,13 @@ formula_fits : (attributes : List Binding) (e : Expr) → FitFormula (kinds attr
 unfolding FitFormula
 formula_fits attributes (Integer s z) = tt
 formula_fits attributes (Boolean s b) = tt
-formula_fits attributes (Call n) = boolean_found (kinds attributes) (attribute_named n.text attributes) (attribute_found n.text attributes)
+formula_fits attributes (Void s) = tt
+formula_fits attributes (Current s) = tt
+formula_fits attributes (Result s) = tt
+formula_fits attributes (Call s no_target n (expr_then e es)) = tt
+formula_fits attributes (Call s (target a) n es) = tt
+formula_fits attributes (ObjectTest s t a n) = tt
+formula_fits attributes (Call s no_target n no_exprs) = boolean_found (kinds attributes) (attribute_named n.text attributes) (attribute_found n.text attributes)
 formula_fits attributes (Unary s op a) = unary_formula_fits (kinds attributes) op (formula_of attributes a) (formula_fits attributes a)
 formula_fits attributes (Binary s op a b) =
     or_fits (kinds attributes)

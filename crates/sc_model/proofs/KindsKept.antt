@@ -1,6 +1,6 @@
 -- Silent steps keep the kinds of the attributes.
 use Rattle.std.proofs.Common.{◌≡◌, ℕ, ℤ, zero, suc, List, [], ◌∷◌, Option, Some, None, Ok, Err, Bool, true, false, refl, ap, subst}
-use Rattle.std.specs.Prelude.{bytes_eq, if◌then◌else◌}
+use Rattle.std.specs.Prelude.{codes, bytes_eq, if◌then◌else◌}
 use Rattle.std.specs.Option.{option_map, option_or}
 use Rattle.sc_formula.specs.declared.arithmetic.ArithmeticFault.TheVariants as fault
 use Rattle.sc_formula.specs.declared.arithmetic.ArithmeticOperator.{ArithmeticOperator}
@@ -13,13 +13,14 @@ use Rattle.sc_tree.specs.declared.expression.UnaryOperator.{UnaryOperator}
 use Rattle.sc_tree.specs.declared.expression.UnaryOperator.TheVariants as unary
 use Rattle.sc_tree.specs.declared.expression.BinaryOperator.{BinaryOperator}
 use Rattle.sc_tree.specs.Plain as tree
-use Rattle.sc_tree.specs.Plain.{Instrs, no_instrs, instr_then, Branches, no_branches, branch_then}
+use Rattle.sc_tree.specs.Plain.{Instr, Instrs, no_instrs, instr_then, Branches, no_branches, branch_then}
+use Rattle.sc_model.specs.declared.cause.Cause.TheVariants as cause
 use Rattle.sc_model.specs.declared.value.Value.{Value}
 use Rattle.sc_model.specs.declared.value.Value.TheVariants.{Integer, Boolean, Void}
 use Rattle.sc_model.specs.Value.{atom_of, same_kind}
 use Rattle.sc_model.specs.Object.{Binding, value_named, assigned, atoms_of}
 use Rattle.sc_model.specs.Operators.{arithmetic_of, comparison_of, connective_of}
-use Rattle.sc_model.specs.Step.{Task, Do, Eval, ApplyUnary, EvalRight, ApplyBinary, AssignTo, Print, PrintText, Choose, CallRoutine, Point, Step, Goes, Does, gives_found, evaluate, gives_outcome, apply_unary, apply_to_integers, apply_to_booleans, apply_binary, decided_by, eval_right, assign, print, choose_other, choose, apply_to_last, perform_on, perform, step_at, step}
+use Rattle.sc_model.specs.Step.{Task, Do, Eval, ApplyUnary, EvalRight, ApplyBinary, AssignTo, Print, PrintText, Choose, CallRoutine, Point, Step, Goes, Does, fails, gives_found, begin_call, begin, evaluate, gives_outcome, apply_unary, apply_to_integers, apply_to_booleans, apply_binary, decided_by, eval_right, assign, print, choose_other, choose, apply_to_last, perform_on, perform, step_at, step}
 use Rattle.sc_model.specs.Moves.{then_go, first_visible, moves}
 use Rattle.sc_model.specs.Size.{size}
 
@@ -78,11 +79,40 @@ unfolding Keeps
 found_keeps k None p h = h
 found_keeps k (Some v) p h = h
 
+call_keeps : (k : List AtomKind) (name : List ℕ) (e : tree.Expr) (p : Point) → kinds p.attributes ≡ k → Keeps k (begin_call name e p)
+unfolding Keeps
+call_keeps k name e p h =
+    elim (bytes_eq name (codes "print")) as (λ b. Keeps k (if b then Goes (record p { tasks = Eval e ∷ Print ∷ p.tasks }) else fails cause.BadCode p)) [
+      | true ↦ h
+      | false ↦ h
+    ]
+
+begin_keeps : (k : List AtomKind) (i : Instr) (p : Point) → kinds p.attributes ≡ k → Keeps k (begin i p)
+unfolding Keeps
+begin_keeps k (tree.Assign s (tree.Named n) e) p h = h
+begin_keeps k (tree.Assign s (tree.ResultVariable r) e) p h = h
+begin_keeps k (tree.PrintText s t) p h = h
+begin_keeps k (tree.CallRoutine s tree.no_target n tree.no_exprs) p h = h
+begin_keeps k (tree.CallRoutine s tree.no_target n (tree.expr_then e tree.no_exprs)) p h = call_keeps k n.text e p h
+begin_keeps k (tree.CallRoutine s tree.no_target n (tree.expr_then e (tree.expr_then f es))) p h = h
+begin_keeps k (tree.CallRoutine s (tree.target a) n es) p h = h
+begin_keeps k (tree.Create s v c) p h = h
+begin_keeps k (tree.If s e body elseifs other) p h = h
+begin_keeps k (tree.Loop s initial e body) p h = h
+begin_keeps k (tree.Check s cs) p h = h
+begin_keeps k (tree.Block s hs body) p h = h
+
 evaluate_keeps : (k : List AtomKind) (e : tree.Expr) (p : Point) → kinds p.attributes ≡ k → Keeps k (evaluate e p)
 unfolding Keeps
 evaluate_keeps k (tree.Integer s z) p h = h
 evaluate_keeps k (tree.Boolean s b) p h = h
-evaluate_keeps k (tree.Call n) p h = found_keeps k (option_or (value_named n.text p.environment) (value_named n.text p.attributes)) p h
+evaluate_keeps k (tree.Void s) p h = h
+evaluate_keeps k (tree.Current s) p h = h
+evaluate_keeps k (tree.Result s) p h = h
+evaluate_keeps k (tree.Call s tree.no_target n (tree.expr_then e es)) p h = h
+evaluate_keeps k (tree.Call s (tree.target a) n es) p h = h
+evaluate_keeps k (tree.ObjectTest s t a n) p h = h
+evaluate_keeps k (tree.Call s tree.no_target n tree.no_exprs) p h = found_keeps k (option_or (value_named n.text p.environment) (value_named n.text p.attributes)) p h
 evaluate_keeps k (tree.Unary s op a) p h = h
 evaluate_keeps k (tree.Binary s op a b) p h = h
 
@@ -103,6 +133,7 @@ unary_keeps k unary.Plus (Boolean b) p h = h
 unary_keeps k unary.Plus Void p h = h
 unary_keeps k unary.Minus (Boolean b) p h = h
 unary_keeps k unary.Minus Void p h = h
+unary_keeps k unary.Old v p h = h
 
 integers_keeps : (k : List AtomKind) (o : Option ArithmeticOperator) (c : Option Comparison) (a b : ℤ) (p : Point) → kinds p.attributes ≡ k → Keeps k (apply_to_integers o c a b p)
 unfolding Keeps
@@ -170,7 +201,7 @@ on_keeps k (CallRoutine n) v p h = h
 perform_keeps : (k : List AtomKind) (t : Task) (vs : List Value) (p : Point) → kinds p.attributes ≡ k → Keeps k (perform t vs p)
 unfolding Keeps
 perform_keeps k (Do no_instrs) vs p h = h
-perform_keeps k (Do (instr_then i is)) vs p h = h
+perform_keeps k (Do (instr_then i is)) vs p h = begin_keeps k i (record p { values = vs; tasks = Do is ∷ p.tasks }) h
 perform_keeps k (Eval e) vs p h = evaluate_keeps k e (record p { values = vs }) h
 perform_keeps k (PrintText t) vs p h = h
 perform_keeps k (CallRoutine n) vs p h = h

@@ -1,5 +1,6 @@
 -- The silent steps end, and the bound on them is never met.
 use Rattle.std.proofs.Common.{◌≡◌, ℕ, ℤ, zero, suc, ◌+◌, ◌<◌, ◌≤◌, List, [], ◌∷◌, Option, Some, None, Ok, Err, Bool, true, false, refl, ap, ◌∙◌, subst, arith}
+use Rattle.std.specs.Prelude.{codes, bytes_eq, if◌then◌else◌}
 use Rattle.std.specs.Option.{option_or}
 use Rattle.sc_formula.specs.declared.arithmetic.ArithmeticFault.TheVariants as fault
 use Rattle.sc_formula.specs.declared.arithmetic.ArithmeticOperator.{ArithmeticOperator}
@@ -11,11 +12,12 @@ use Rattle.sc_tree.specs.declared.expression.UnaryOperator.TheVariants as unary
 use Rattle.sc_tree.specs.declared.expression.BinaryOperator.{BinaryOperator}
 use Rattle.sc_tree.specs.Plain as tree
 use Rattle.sc_tree.specs.Plain.{Instr, Instrs, no_instrs, instr_then, Branches, no_branches, branch_then}
+use Rattle.sc_model.specs.declared.cause.Cause.TheVariants as cause
 use Rattle.sc_model.specs.declared.value.Value.{Value}
 use Rattle.sc_model.specs.declared.value.Value.TheVariants.{Integer, Boolean, Void}
 use Rattle.sc_model.specs.Object.{Binding, value_named, assigned}
 use Rattle.sc_model.specs.Operators.{arithmetic_of, comparison_of, connective_of}
-use Rattle.sc_model.specs.Step.{Task, Do, Eval, ApplyUnary, EvalRight, ApplyBinary, AssignTo, Print, PrintText, Choose, CallRoutine, Point, Step, Goes, Does, gives, gives_found, begin, evaluate, gives_outcome, apply_unary, apply_to_integers, apply_to_booleans, apply_binary, decided_by, eval_right, assign, print, choose_other, choose, apply_to_last, perform_on, perform, step_at, step}
+use Rattle.sc_model.specs.Step.{Task, Do, Eval, ApplyUnary, EvalRight, ApplyBinary, AssignTo, Print, PrintText, Choose, CallRoutine, Point, Step, Goes, Does, fails, gives, gives_found, begin_call, begin, evaluate, gives_outcome, apply_unary, apply_to_integers, apply_to_booleans, apply_binary, decided_by, eval_right, assign, print, choose_other, choose, apply_to_last, perform_on, perform, step_at, step}
 use Rattle.sc_model.specs.Size.{expr_size, instr_size, instrs_size, branches_size, task_size, size}
 use Rattle.sc_model.specs.Moves.{then_go, first_visible, moves, IsVisible}
 
@@ -24,12 +26,28 @@ pub Smaller : ℕ → Step → Type 0
 Smaller n (Goes p) = size p.tasks < n
 Smaller n (Does a p) = Unit {0}
 
-begin_smaller : (i : Instr) (k : List Task) → size (begin i k) < instr_size i + size k
-begin_smaller (tree.Assign s n e) k = omega arith
-begin_smaller (tree.Print s e) k = omega arith
-begin_smaller (tree.PrintText s t) k = omega arith
-begin_smaller (tree.CallRoutine n) k = omega arith
-begin_smaller (tree.If s e body elseifs other) k = omega arith
+call_smaller : (name : List ℕ) (e : tree.Expr) (p : Point) → Smaller (expr_size e + 2 + size p.tasks) (begin_call name e p)
+unfolding Smaller
+call_smaller name e p =
+    elim (bytes_eq name (codes "print")) as (λ b. Smaller (expr_size e + 2 + size p.tasks) (if b then Goes (record p { tasks = Eval e ∷ Print ∷ p.tasks }) else fails cause.BadCode p)) [
+      | true ↦ omega arith
+      | false ↦ tt
+    ]
+
+begin_smaller : (i : Instr) (p : Point) → Smaller (instr_size i + size p.tasks) (begin i p)
+unfolding Smaller
+begin_smaller (tree.Assign s (tree.Named n) e) p = omega arith
+begin_smaller (tree.Assign s (tree.ResultVariable r) e) p = tt
+begin_smaller (tree.PrintText s t) p = omega arith
+begin_smaller (tree.CallRoutine s tree.no_target n tree.no_exprs) p = omega arith
+begin_smaller (tree.CallRoutine s tree.no_target n (tree.expr_then e tree.no_exprs)) p = call_smaller n.text e p
+begin_smaller (tree.CallRoutine s tree.no_target n (tree.expr_then e (tree.expr_then f es))) p = tt
+begin_smaller (tree.CallRoutine s (tree.target a) n es) p = tt
+begin_smaller (tree.Create s v c) p = tt
+begin_smaller (tree.If s e body elseifs other) p = omega arith
+begin_smaller (tree.Loop s initial e body) p = tt
+begin_smaller (tree.Check s cs) p = tt
+begin_smaller (tree.Block s hs body) p = tt
 
 gives_smaller : (n : ℕ) (v : Value) (p : Point) → size p.tasks < n → Smaller n (gives v p)
 unfolding Smaller
@@ -44,7 +62,13 @@ evaluate_smaller : (e : tree.Expr) (p : Point) → Smaller (expr_size e + size p
 unfolding Smaller
 evaluate_smaller (tree.Integer s z) p = omega arith
 evaluate_smaller (tree.Boolean s b) p = omega arith
-evaluate_smaller (tree.Call n) p = found_smaller _ (option_or (value_named n.text p.environment) (value_named n.text p.attributes)) p (omega arith)
+evaluate_smaller (tree.Void s) p = tt
+evaluate_smaller (tree.Current s) p = tt
+evaluate_smaller (tree.Result s) p = tt
+evaluate_smaller (tree.Call s tree.no_target n (tree.expr_then e es)) p = tt
+evaluate_smaller (tree.Call s (tree.target a) n es) p = tt
+evaluate_smaller (tree.ObjectTest s t a n) p = tt
+evaluate_smaller (tree.Call s tree.no_target n tree.no_exprs) p = found_smaller _ (option_or (value_named n.text p.environment) (value_named n.text p.attributes)) p (omega arith)
 evaluate_smaller (tree.Unary s op a) p = omega arith
 evaluate_smaller (tree.Binary s op a b) p = omega arith
 
@@ -65,6 +89,7 @@ unary_smaller n unary.Plus (Boolean b) p h = tt
 unary_smaller n unary.Plus Void p h = tt
 unary_smaller n unary.Minus (Boolean b) p h = tt
 unary_smaller n unary.Minus Void p h = tt
+unary_smaller n unary.Old v p h = tt
 
 integers_smaller : (n : ℕ) (o : Option ArithmeticOperator) (c : Option Comparison) (a b : ℤ) (p : Point) → size p.tasks < n → Smaller n (apply_to_integers o c a b p)
 unfolding Smaller
@@ -103,12 +128,9 @@ print_smaller n (Integer z) p = tt
 print_smaller n (Boolean b) p = tt
 print_smaller n Void p = tt
 
-positive_instr : (i : Instr) → 0 < instr_size i
-positive_instr i = omega (arith, begin_smaller i [])
-
 positive_instrs : (is : Instrs) → 0 < instrs_size is
 positive_instrs no_instrs = omega arith
-positive_instrs (instr_then i is) = omega (arith, positive_instr i)
+positive_instrs (instr_then i is) = omega (arith, positive_instrs is)
 
 other_smaller : (n : ℕ) (bs : Branches) (other : Instrs) (p : Point) → branches_size bs + instrs_size other + size p.tasks ≤ n → Smaller n (choose_other bs other p)
 unfolding Smaller
@@ -144,7 +166,9 @@ on_smaller (CallRoutine n) v p = tt
 perform_smaller : (t : Task) (vs : List Value) (p : Point) → Smaller (task_size t + size p.tasks) (perform t vs p)
 unfolding Smaller
 perform_smaller (Do no_instrs) vs p = omega arith
-perform_smaller (Do (instr_then i is)) vs p = omega (arith, begin_smaller i (Do is ∷ p.tasks))
+perform_smaller (Do (instr_then i is)) vs p =
+    let q : Point = record p { values = vs; tasks = Do is ∷ p.tasks } in
+    subst (λ n. Smaller n (begin i q)) (omega arith) (begin_smaller i q)
 perform_smaller (Eval e) vs p = evaluate_smaller e (record p { values = vs })
 perform_smaller (PrintText t) vs p = tt
 perform_smaller (CallRoutine n) vs p = tt

@@ -13,7 +13,7 @@ use Rattle.sc_formula.specs.Term as term
 use Rattle.sc_formula.specs.Invariant.{Meets}
 use Rattle.sc_tree.specs.declared.expression.UnaryOperator.{UnaryOperator}
 use Rattle.sc_tree.specs.declared.expression.UnaryOperator.TheVariants.{Not, Plus, Minus}
-use Rattle.sc_tree.specs.Plain.{Expr, Integer, Boolean, Call, Unary, Binary, Clause, Class, System}
+use Rattle.sc_tree.specs.Plain.{Expr, Integer, Boolean, Call, no_target, no_exprs, Unary, Binary, Clause, Class, System}
 use Rattle.sc_model.specs.declared.value.Value.{Value}
 use Rattle.sc_model.specs.declared.value.Value.TheVariants as value
 use Rattle.sc_model.specs.Lookup.{class_named}
@@ -41,19 +41,19 @@ boolean_numbered number other = None
 abbrev pub unary_term : UnaryOperator → Option PlainTerm → Option PlainTerm
 unary_term Plus operand = option_map term.Identity operand
 unary_term Minus operand = option_map term.Opposite operand
-unary_term Not operand = None
+unary_term other operand = None
 
 abbrev pub arithmetic_term : Option ArithmeticOperator → Option PlainTerm → Option PlainTerm → Option PlainTerm
 arithmetic_term (Some operator) (Some left) (Some right) = Some (term.Arithmetic left operator right)
 arithmetic_term operator left right = None
 
--- an expression as a term over these attributes, where it is one
+-- An expression as a term over these attributes, where it is one. What is not run yet is none.
 abbrev pub term_of : List Binding → Expr → Option PlainTerm
 term_of attributes (Integer span z) = Some (term.Integer z)
-term_of attributes (Boolean span b) = None
-term_of attributes (Call name) = option_and_then (λ found. integer_numbered found.0 found.1) (attribute_named name.text attributes)
+term_of attributes (Call span no_target name no_exprs) = option_and_then (λ found. integer_numbered found.0 found.1) (attribute_named name.text attributes)
 term_of attributes (Unary span operator operand) = unary_term operator (term_of attributes operand)
 term_of attributes (Binary span operator left right) = arithmetic_term (arithmetic_of operator) (term_of attributes left) (term_of attributes right)
+term_of attributes other = None
 
 abbrev pub unary_formula : UnaryOperator → Option PlainFormula → Option PlainFormula
 unary_formula Not operand = option_map formula.Not operand
@@ -67,16 +67,16 @@ abbrev pub connective_formula : Option Connective → Option PlainFormula → Op
 connective_formula (Some operator) (Some left) (Some right) = Some (formula.Connected left operator right)
 connective_formula operator left right = None
 
--- an expression as a formula over these attributes, where it is one
+-- An expression as a formula over these attributes, where it is one. What is not run yet is none.
 abbrev pub formula_of : List Binding → Expr → Option PlainFormula
-formula_of attributes (Integer span z) = None
 formula_of attributes (Boolean span b) = Some (formula.Constant b)
-formula_of attributes (Call name) = option_and_then (λ found. boolean_numbered found.0 found.1) (attribute_named name.text attributes)
+formula_of attributes (Call span no_target name no_exprs) = option_and_then (λ found. boolean_numbered found.0 found.1) (attribute_named name.text attributes)
 formula_of attributes (Unary span operator operand) = unary_formula operator (formula_of attributes operand)
 formula_of attributes (Binary span operator left right) =
     option_or
     (comparison_formula (comparison_of operator) (term_of attributes left) (term_of attributes right))
     (connective_formula (connective_of operator) (formula_of attributes left) (formula_of attributes right))
+formula_of attributes other = None
 
 abbrev pub with_clause : Option PlainFormula → Option (List PlainFormula) → Option (List PlainFormula)
 with_clause (Some clause) (Some others) = Some (clause ∷ others)

@@ -3,9 +3,9 @@ use Rattle.std.specs.Prelude.{ℕ, ◌-◌, ◌==◌, List, [], ◌∷◌, Optio
 use Rattle.std.specs.List.{filter_map}
 use Rattle.std.specs.Option.{option_map}
 use Rattle.sc_formula.specs.declared.atom.Atom.{Atom}
-use Rattle.sc_tree.specs.Plain.{Class, Feature, FeatureKind, Attribute, Routine}
+use Rattle.sc_tree.specs.Plain.{Class, Feature, FeatureKind, Attribute}
 use Rattle.sc_model.specs.declared.value.Value.{Value}
-use Rattle.sc_model.specs.Value.{atom_of, same_kind, default_of}
+use Rattle.sc_model.specs.Value.{atom_of, same_kind, default_with}
 
 -- an entity's name, in lower case, with its value
 pub record Binding : Type 0 where
@@ -31,8 +31,8 @@ assigned name value (binding ∷ others) =
 
 -- an attribute with its default; a routine is none
 abbrev pub fresh_attribute : List ℕ → FeatureKind → Option Binding
-fresh_attribute name (Attribute type) = Some (record { name = name; value = default_of type.class.text })
-fresh_attribute name (Routine body) = None
+fresh_attribute name (Attribute type) = Some (record { name = name; value = default_with type.is_detachable type.tag type.class.text })
+fresh_attribute name routine = None
 
 abbrev pub fresh_attributes : List Feature → List Binding
 fresh_attributes features = filter_map (λ feature. fresh_attribute feature.name.text feature.kind) features

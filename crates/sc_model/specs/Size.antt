@@ -1,23 +1,20 @@
 -- The size of what is left to do, which each silent step makes smaller.
 use Rattle.std.specs.Prelude.{ℕ, ◌+◌, List, [], ◌∷◌}
-use Rattle.sc_tree.specs.Plain.{Expr, Integer, Boolean, Call, Unary, Binary, Instr, Assign, Print, PrintText, CallRoutine, If, Instrs, no_instrs, instr_then, Branches, no_branches, branch_then}
+use Rattle.sc_tree.specs.Plain.{Expr, Unary, Binary, no_target, no_exprs, expr_then, Instr, Assign, CallRoutine, If, Instrs, no_instrs, instr_then, Branches, no_branches, branch_then}
 use Rattle.sc_model.specs.Step.{Task}
 use Rattle.sc_model.specs.Step as step
 
 abbrev pub expr_size : Expr → ℕ
-expr_size (Integer span z) = 1
-expr_size (Boolean span b) = 1
-expr_size (Call name) = 1
 expr_size (Unary span operator operand) = expr_size operand + 2
 expr_size (Binary span operator left right) = expr_size left + expr_size right + 4
+expr_size other = 1
 
 abbrev mutual
   pub instr_size : Instr → ℕ
-  instr_size (Assign span name value) = expr_size value + 2
-  instr_size (Print span value) = expr_size value + 2
-  instr_size (PrintText span text) = 2
-  instr_size (CallRoutine name) = 2
+  instr_size (Assign span variable value) = expr_size value + 2
+  instr_size (CallRoutine span no_target name (expr_then value no_exprs)) = expr_size value + 2
   instr_size (If span condition body branches other) = expr_size condition + instrs_size body + branches_size branches + instrs_size other + 2
+  instr_size other = 2
 
   pub instrs_size : Instrs → ℕ
   instrs_size no_instrs = 1

@@ -1,5 +1,5 @@
 -- The steps of a routine. Each looks at one task and the values that it takes, and goes on silently or shows what it does.
-use Rattle.std.specs.Prelude.{ℕ, ℤ, Bool, true, false, not, List, [], ◌∷◌, Option, Some, None, Ok, Err, codes}
+use Rattle.std.specs.Prelude.{ℕ, ℤ, Bool, true, false, not, List, [], ◌∷◌, Option, Some, None, Ok, Err, codes, bytes_eq, if◌then◌else◌}
 use Rattle.std.specs.Fmt.{signed_decimal}
 use Rattle.std.specs.Option.{option_and_then, option_or}
 use Rattle.sc_formula.specs.declared.arithmetic.ArithmeticFault.TheVariants as fault
@@ -65,21 +65,32 @@ abbrev pub gives_found : Option Value → Point → Step
 gives_found None point = fails cause.BadCode point
 gives_found (Some value) point = gives value point
 
--- an instruction begins: its tasks
-abbrev pub begin : Instr → List Task → List Task
-begin (tree.Assign span name value) rest = Eval value ∷ AssignTo name.text ∷ rest
-begin (tree.Print span value) rest = Eval value ∷ Print ∷ rest
-begin (tree.PrintText span text) rest = PrintText text ∷ rest
-begin (tree.CallRoutine name) rest = CallRoutine name.text ∷ rest
-begin (tree.If span condition body branches other) rest = Eval condition ∷ Choose body branches other ∷ rest
+-- A call with one actual begins: its tasks. Only `print` is run yet, and any other fails.
+abbrev pub begin_call : List ℕ → tree.Expr → Point → Step
+begin_call name actual point =
+    if bytes_eq name (codes "print")
+    then Goes (record point { tasks = Eval actual ∷ Print ∷ point.tasks })
+    else fails cause.BadCode point
 
--- An expression begins. A name is that of an entity of the routine, or else of an attribute of Current.
+-- An instruction begins: its tasks. What is not run yet fails.
+abbrev pub begin : Instr → Point → Step
+begin (tree.Assign span (tree.Named name) value) point = Goes (record point { tasks = Eval value ∷ AssignTo name.text ∷ point.tasks })
+begin (tree.PrintText span text) point = Goes (record point { tasks = PrintText text ∷ point.tasks })
+begin (tree.CallRoutine span tree.no_target name tree.no_exprs) point = Goes (record point { tasks = CallRoutine name.text ∷ point.tasks })
+begin (tree.CallRoutine span tree.no_target name (tree.expr_then actual tree.no_exprs)) point = begin_call name.text actual point
+begin (tree.If span condition body branches other) point = Goes (record point { tasks = Eval condition ∷ Choose body branches other ∷ point.tasks })
+begin other point = fails cause.BadCode point
+
+-- An expression begins. A name is that of an entity of the routine, or else of an attribute of Current. What is not run
+-- yet fails.
 abbrev pub evaluate : tree.Expr → Point → Step
 evaluate (tree.Integer span z) point = gives (Integer z) point
 evaluate (tree.Boolean span b) point = gives (Boolean b) point
-evaluate (tree.Call name) point = gives_found (option_or (value_named name.text point.environment) (value_named name.text point.attributes)) point
+evaluate (tree.Call span tree.no_target name tree.no_exprs) point =
+    gives_found (option_or (value_named name.text point.environment) (value_named name.text point.attributes)) point
 evaluate (tree.Unary span operator operand) point = Goes (record point { tasks = Eval operand ∷ ApplyUnary operator ∷ point.tasks })
 evaluate (tree.Binary span operator left right) point = Goes (record point { tasks = Eval left ∷ EvalRight operator right ∷ point.tasks })
+evaluate other point = fails cause.BadCode point
 
 -- what an operation on integers comes to
 abbrev pub gives_outcome : Outcome → Point → Step
@@ -160,8 +171,7 @@ perform_on task value point = fails cause.BadCode point
 -- A task with the values; `point` has what is left behind it. Where a value is missing no case fits.
 abbrev pub perform : Task → List Value → Point → Step
 perform (Do no_instrs) values point = Goes (record point { values = values })
-perform (Do (instr_then instruction others)) values point =
-    Goes (record point { values = values; tasks = begin instruction (Do others ∷ point.tasks) })
+perform (Do (instr_then instruction others)) values point = begin instruction (record point { values = values; tasks = Do others ∷ point.tasks })
 perform (Eval expression) values point = evaluate expression (record point { values = values })
 perform (PrintText text) values point = Does (Prints text) (record point { values = values })
 perform (CallRoutine name) values point = Does (Enters name) (record point { values = values })

@@ -1,7 +1,7 @@
 -- The turn of one handler.
 use Rattle.std.specs.Prelude.{ℕ, ◌+◌, Bool, false, nat_lt, List, [], ◌∷◌, ◌++◌, length, Option, Some, None, if◌then◌else◌}
 use Rattle.std.specs.Option.{option_and_then}
-use Rattle.sc_tree.specs.Plain.{Class, Feature, FeatureKind, Attribute, Routine, Instrs, System}
+use Rattle.sc_tree.specs.Plain.{Class, Feature, FeatureKind, Routine, Instrs, System}
 use Rattle.sc_model.specs.declared.cause.Cause.{Cause}
 use Rattle.sc_model.specs.declared.cause.Cause.TheVariants as cause
 use Rattle.sc_model.specs.declared.frame_kind.FrameKind.{FrameKind}
@@ -17,9 +17,10 @@ use Rattle.sc_model.specs.Handler.{Frame, Request, Create, Handler}
 abbrev pub fail : Cause → Handler → Handler
 fail why handler = record handler { stack = []; failure = Some why; queue = [] }
 
+-- A routine's body. A routine with formals, a result, locals or contracts is not run yet.
 abbrev pub body_of : FeatureKind → Option Instrs
-body_of (Attribute type) = None
-body_of (Routine body) = Some body
+body_of (Routine [] None [] [] body []) = Some body
+body_of other = None
 
 -- the body of the routine of the name
 abbrev pub body_named : List ℕ → List Feature → Option Instrs

@@ -2,6 +2,7 @@
 use Rattle.std.specs.Prelude.{ℕ, pos, Bool, true, false, List, codes, bytes_eq, if◌then◌else◌}
 use Rattle.sc_formula.specs.declared.atom.Atom.{Atom}
 use Rattle.sc_formula.specs.declared.atom.Atom.TheVariants as atom
+use Rattle.sc_tree.specs.Plain.{HandlerTag, Own}
 use Rattle.sc_model.specs.declared.value.Value.{Value}
 use Rattle.sc_model.specs.declared.value.Value.TheVariants.{Integer, Boolean, Void}
 
@@ -24,3 +25,8 @@ default_of class =
     if bytes_eq class (codes "integer") then Integer (pos 0)
     else if bytes_eq class (codes "boolean") then Boolean false
     else Void
+
+-- The default of the entities of a type. A detachable type, or one of another handler, is not run yet.
+abbrev pub default_with : (is_detachable : Bool) → HandlerTag → (class : List ℕ) → Value
+default_with false Own class = default_of class
+default_with is_detachable tag class = Void

@@ -1,7 +1,8 @@
 //! The machine on trees: what a system does, turn by turn.
 //!
 //! Its definitions stand in `specs/`: objects and the clauses that they meet, the steps of a routine, the turn of a
-//! handler, and the run of a world. The values that they speak of are types of this crate.
+//! handler, and the run of a world. The values that they speak of are types of this crate. The tree is that of the whole
+//! grammar; what of it isn't run yet fails at its step.
 #![tactic(auto)]
 
 mod cause;
