@@ -1,19 +1,28 @@
 -- The features and the clauses of a class, one after the other.
 use Rattle.std.proofs.Common.{◌≡◌, ℕ, suc, ◌+◌, ◌<◌, ◌≤◌, List, [], ◌∷◌, ◌++◌, Option, Some, None, Bool, true, false, length, map, drop, get_or, cond, drop-cons, append_assoc, refl, sym, ap, ◌∙◌, arith}
 use Rattle.std.specs.Prelude.{find, bytes_eq, string_bytes, if◌then◌else◌}
+use Rattle.std.proofs.lemmas.Bool.Decides.{nat_tests}
+use Rattle.std.proofs.lemmas.List.{nil_from_length}
+use Rattle.std.specs.Prelude.{vec_len, is_some, ◌==◌}
+use Rattle.std.specs.declared.vec.Vec.{Vec}
+use Rattle.std.specs.declared.alloc.Global.{Global}
 use Rattle.std.specs.List.{cons_option}
 use Rattle.std.specs.Option.{option_map, option_and_then}
 use Rattle.sc_formula.specs.declared.formula.Formula.{Formula}
 use Rattle.sc_formula.specs.Formula.{PlainFormula}
 use Rattle.sc_formula.specs.Plain.{plain_formula}
+use Rattle.sc_tree.specs.declared.declaration.DeclaredType.{DeclaredType}
+use Rattle.sc_tree.specs.declared.declaration.Declaration.{Declaration}
 use Rattle.sc_tree.specs.declared.system.Feature.{Feature}
-use Rattle.sc_tree.specs.declared.system.Clause.{Clause}
+use Rattle.sc_tree.specs.declared.system.FeatureKind.TheVariants as kind
+use Rattle.sc_tree.specs.declared.system.Routine.{Routine}
+use Rattle.sc_tree.specs.declared.instruction.Clause.{Clause}
 use Rattle.sc_tree.specs.Plain as plain
-use Rattle.sc_tree.specs.View.{expr_of, feature_of, clause_of}
+use Rattle.sc_tree.specs.View.{expr_of, instrs_of, type_if_any, declaration_of, kind_of, feature_of, clause_of}
 use Rattle.sc_model.specs.Object.{Binding, fresh_attribute, fresh_attributes}
 use Rattle.sc_model.specs.Invariant.{formula_of, with_clause, clauses_of}
 use Rattle.sc_model.specs.Turn.{body_of, body_named}
-use Rattle.scoop.proofs.Views.{feature_name, clause_condition}
+use Rattle.scoop.proofs.Views.{feature_name, kind_of-routine, clause_condition}
 
 dropped : {A : Type 0} (xs : List A) (i : ℕ) (x : A) → i < length xs → x ≡ get_or xs i x → drop i xs ≡ x ∷ drop (i + 1) xs
 dropped xs i x l e =
@@ -60,3 +69,53 @@ length_cons (Some x) xs = omega arith
 pub length_fresh : (fs : List plain.Feature) → length (fresh_attributes fs) ≤ length fs
 length_fresh [] = omega arith
 length_fresh (f ∷ fs) = omega (arith, length_fresh fs, length_cons (fresh_attribute f.name.text f.kind) (fresh_attributes fs))
+
+-- ---- a routine's body
+
+-- the body of a routine with these parts
+abbrev body_with : List Declaration → Option DeclaredType → List Clause → List Declaration → plain.Instrs → List Clause → Option plain.Instrs
+body_with formals result pre locals body post =
+    body_of (plain.Routine (map declaration_of formals) (type_if_any result) (map clause_of pre) (map declaration_of locals) body (map clause_of post))
+
+no_items : {A : Type 0} (v : Vec A Global) → (vec_len v == 0) ≡ true → v.items ≡ []
+no_items v e = let none : vec_len v ≡ 0 = grind (arith, nat_tests) in nil_from_length v.items (omega (arith, none, v.ok.0))
+
+is_zero : {A : Type 0} (v : Vec A Global) → v.items ≡ [] → (vec_len v == 0) ≡ true
+is_zero v e = let none : length v.items ≡ 0 = ap length e in grind (arith, nat_tests, v.ok.0)
+
+-- a test that comes out one way and not the other
+pub clash : (r t : Bool) → r ≡ t → r ≡ false → t ≡ true → ⊥
+clash r t e f g = cc
+
+no_result : (t : Option DeclaredType) → is_some t ≡ false → t ≡ None
+no_result None e = refl
+no_result (Some t) e = cc
+
+all_missing : (fs ls : List Declaration) (t : Option DeclaredType) (pre post : List Clause) (b : plain.Instrs) → fs ≡ [] → t ≡ None → pre ≡ [] → ls ≡ [] → post ≡ [] →
+    Some b ≡ body_with fs t pre ls b post
+all_missing fs ls t pre post b e f g h i = rw (e, f, g, h, i) refl
+
+-- a routine without formals, result, locals and contracts
+pub body_plain : (r : Routine) → (vec_len r.formals == 0) ≡ true → is_some r.result_type ≡ false → (vec_len r.precondition == 0) ≡ true → (vec_len r.locals == 0) ≡ true →
+    (vec_len r.postcondition == 0) ≡ true → Some (instrs_of r.body.items) ≡ body_of (kind_of (kind.Routine r))
+body_plain r e f g h i =
+    all_missing r.formals.items r.locals.items r.result_type r.precondition.items r.postcondition.items (instrs_of r.body.items)
+    (no_items r.formals e) (no_result r.result_type f) (no_items r.precondition g) (no_items r.locals h) (no_items r.postcondition i)
+    ∙ ap body_of (sym (kind_of-routine r))
+
+some_there : (fs ls : List Declaration) (t : Option DeclaredType) (pre post : List Clause) (b : plain.Instrs) → (fs ≡ [] → t ≡ None → pre ≡ [] → ls ≡ [] → post ≡ [] → ⊥) →
+    None ≡ body_with fs t pre ls b post
+some_there (x ∷ fs) ls t pre post b f = refl
+some_there [] ls (Some t) pre post b f = refl
+some_there [] ls None (x ∷ pre) post b f = refl
+some_there [] (x ∷ ls) None [] post b f = refl
+some_there [] [] None [] (x ∷ post) b f = refl
+some_there [] [] None [] [] b f = absurd (f refl refl refl refl refl)
+
+-- a routine that has some of them
+pub body_other : (r : Routine) → ((vec_len r.formals == 0) ≡ true → is_some r.result_type ≡ false → (vec_len r.precondition == 0) ≡ true → (vec_len r.locals == 0) ≡ true →
+    (vec_len r.postcondition == 0) ≡ true → ⊥) → None ≡ body_of (kind_of (kind.Routine r))
+body_other r f =
+    some_there r.formals.items r.locals.items r.result_type r.precondition.items r.postcondition.items (instrs_of r.body.items)
+    (λ a b c d e. f (is_zero r.formals a) (ap is_some b) (is_zero r.precondition c) (is_zero r.locals d) (is_zero r.postcondition e))
+    ∙ ap body_of (sym (kind_of-routine r))

@@ -4,13 +4,19 @@ use Rattle.sc_text.specs.Kind.{Kind, kinds_of}
 use Rattle.sc_text.specs.declared.token.Token.{Token}
 use Rattle.sc_text.specs.Spelling.{Spells, lexemes_of, lexeme_of}
 use Rattle.sc_tree.specs.Plain.{System}
-use Rattle.sc_tree.specs.Grammar.{IsSystem}
+use Rattle.sc_tree.specs.Grammar.Classes.{IsSystem}
+use Rattle.sc_tree.specs.Bare.{bare_system}
+use Rattle.sc_tree.specs.Canonical.{canonical_text}
+use Rattle.sc_tree.specs.Canonical.Layout.{text_of_lines}
+use Rattle.sc_tree.proofs.CanonicalPlaces.{classes-bare}
 use Rattle.sc_parse.specs.Parses.{Refuses}
 use Rattle.sc_parse.specs.declared.fault.ParseFault.{ParseFault}
 use Rattle.sc_parse.specs.declared.fault.ParseFault.TheVariants as parsing
 use Rattle.sc_model.specs.Lookup.{Root}
+use Rattle.scoop.specs.declared.refusal.Rejection.{Rejection}
+use Rattle.scoop.specs.declared.refusal.Rejection.TheVariants as rejection
 use Rattle.scoop.specs.Refusal.{of_tokens}
-use Rattle.scoop.specs.Execution.{kinds, IsSpelled, IsRefusedFor}
+use Rattle.scoop.specs.Execution.{kinds, IsSpelled, IsRefusedFor, IsUnreadable}
 
 -- the kinds of tokens, with their places or without
 pub kinds-lexemes_of : (ts : List Token) → kinds (lexemes_of ts) ≡ kinds_of ts
@@ -31,13 +37,21 @@ tree-spelled text ts tree nesting spelled short shallow grammar =
     }
 
 -- tokens of a text that are refused
-pub tokens-refused : (text : List ℕ) (root : Root) (ts : List Token) (fault : ParseFault) → Spells text (lexemes_of ts) →
-    Refuses (kinds_of ts) fault → IsRefusedFor text root (of_tokens fault)
-tokens-refused text root ts (parsing.NotInGrammar place) spelled refuses =
+pub tokens-refused : (text : List ℕ) (ts : List Token) (fault : ParseFault) → Spells text (lexemes_of ts) →
+    Refuses (kinds_of ts) fault → IsUnreadable text (of_tokens fault)
+tokens-refused text ts (parsing.NotInGrammar place) spelled refuses =
     record { tokens = lexemes_of ts; spelled = spelled; refuses = rw (kinds-lexemes_of ts) refuses }
-tokens-refused text root ts (parsing.TooDeep place) spelled refuses =
+tokens-refused text ts (parsing.TooDeep place) spelled refuses =
     record { tokens = lexemes_of ts; spelled = spelled; refuses = rw (kinds-lexemes_of ts) refuses }
-tokens-refused text root ts parsing.OutOfMemory spelled refuses = tt
+tokens-refused text ts parsing.OutOfMemory spelled refuses = tt
+
+-- what can't be read is refused
+pub unreadable-refused : (text : List ℕ) (root : Root) (e : Rejection) → IsUnreadable text e → IsRefusedFor text root e
+unreadable-refused text root (rejection.Text fault) is = is
+unreadable-refused text root (rejection.Grammar fault) is = is
+unreadable-refused text root rejection.NotYet is = absurd is
+unreadable-refused text root (rejection.Rules fault) is = absurd is
+unreadable-refused text root rejection.OutOfMemory is = is
 
 -- a tree that a text spells is spelled by the tokens that are found
 pub tree-found : (text : List ℕ) (ts : List Token) (tree : System) (is : IsSpelled text tree) → lexemes_of ts ≡ is.tokens →
@@ -55,3 +69,8 @@ pub only-err-is : {T E : Type 0} (P : T → Type 0) (r : Result T E) (x y : E) �
     MatchResult r P (λ e. e ≡ y)
 only-err-is P (Ok t) x y is same = absurd is
 only-err-is P (Err e) x y is same = is ∙ same
+
+-- places are no part of canonical text
+pub canonical-bare : (s : System) → canonical_text (bare_system s) ≡ canonical_text s
+unfolding canonical_text
+canonical-bare s = ap text_of_lines (classes-bare s.classes)

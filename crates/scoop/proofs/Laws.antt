@@ -118,7 +118,7 @@ not_small_by_features s a = and_false (nat_le (length s.classes) limit) _ (one_t
 -- ---- a system
 
 abbrev judge_limits : System → Judged (Unit {0})
-judge_limits s = required (is_small s) Limit None >>= λ u. judge_each judge_class s.classes
+judge_limits s = required (is_small s) Limit None >>= λ u. judge_each (judge_class s.classes) s.classes
 
 abbrev judge_root : System → Root → Judged (Unit {0})
 judge_root s root = required (has_root s root) NoRoot None >>= λ u. judge_limits s
@@ -132,7 +132,7 @@ limits_refused s root e =
     stops_behind (judge_class_names s.classes) (λ u. judge_features s root)
     (λ u. stops_behind (judge_each judge_feature_names s.classes) (λ u. judge_root s root)
     (λ u. stops_behind (required (has_root s root) NoRoot None) (λ u. judge_limits s)
-    (λ u. stops (required (is_small s) Limit None) (λ u. judge_each judge_class s.classes) (unmet (is_small s) Limit None e))))
+    (λ u. stops (required (is_small s) Limit None) (λ u. judge_each (judge_class s.classes) s.classes) (unmet (is_small s) Limit None e))))
 
 class_rule_refused : {s : System} {root : Root} {r : Rule} {p : Option Span} → ClassRuleFails s root r p → Refused (judge_system s root)
 unfolding judge_system
@@ -148,14 +148,14 @@ class_rule_refused {s} {root} (no_root e) =
 class_rule_refused {s} {root} (many_classes l) = limits_refused s root (not_small_by_classes s l)
 class_rule_refused {s} {root} (many_features a) = limits_refused s root (not_small_by_features s a)
 
-class_text_refused : (s : System) (root : Root) (r : Rule) (p : Span) → Any (λ c. ClassFails c r p) s.classes → Refused (judge_system s root)
+class_text_refused : (s : System) (root : Root) (r : Rule) (p : Span) → Any (λ c. ClassFails s.classes c r p) s.classes → Refused (judge_system s root)
 unfolding judge_system
 class_text_refused s root r p f =
     stops_behind (judge_class_names s.classes) (λ u. judge_features s root)
     (λ u. stops_behind (judge_each judge_feature_names s.classes) (λ u. judge_root s root)
     (λ u. stops_behind (required (has_root s root) NoRoot None) (λ u. judge_limits s)
-    (λ u. stops_behind (required (is_small s) Limit None) (λ u. judge_each judge_class s.classes)
-    (λ u. any_refused judge_class s.classes (λ c. class_refused) f))))
+    (λ u. stops_behind (required (is_small s) Limit None) (λ u. judge_each (judge_class s.classes) s.classes)
+    (λ u. any_refused (judge_class s.classes) s.classes (λ c. class_refused) f))))
 
 -- where a rule fails, the system is refused
 pub system_refused : {s : System} {root : Root} {r : Rule} {p : Option Span} → Fails s root r p → Refused (judge_system s root)
@@ -196,9 +196,9 @@ tells_system s root =
     (tells_each (λ c. Repeats is_print [] (feature_names c.features) DuplicateFeature) judge_feature_names
     (λ c. tells_names is_print DuplicateFeature [] (feature_names c.features)) s.classes))
     (λ u. tells_then (λ u. judge_limits s) (tells_root s root (has_root s root) refl)
-    (λ u. tells_then (λ u. judge_each judge_class s.classes) (tells_limits s root (is_small s) refl)
-    (λ u. tells_more (in_text (λ r p. Any (λ c. ClassFails c r p) s.classes) (λ r p f. in_class f))
-    (tells_each ClassFails judge_class tells_class s.classes)))))
+    (λ u. tells_then (λ u. judge_each (judge_class s.classes) s.classes) (tells_limits s root (is_small s) refl)
+    (λ u. tells_more (in_text (λ r p. Any (λ c. ClassFails s.classes c r p) s.classes) (λ r p f. in_class f))
+    (tells_each (ClassFails s.classes) (judge_class s.classes) (tells_class s.classes) s.classes)))))
 
 pub well_formed : (s : System) (root : Root) → judge_system s root ≡ Ok tt → IsWellFormed s root
 well_formed s root e r p f = subst Refused e (system_refused f)

@@ -1,9 +1,12 @@
 pub mod Bodies
+pub mod Calls
 pub mod Complete
 pub mod ExecutionLemmas
 pub mod FileLemmas
+pub mod Forms
 pub mod Found
 pub mod Fresh
+pub mod Known
 pub mod Laws
 pub mod Lists
 pub mod Mapped
@@ -19,5 +22,6 @@ pub mod Stack
 pub mod Starts
 pub mod Steps
 pub mod Turns
+pub mod UnrunCalls
 pub mod Views
 pub mod Worlds

@@ -1,10 +1,10 @@
 -- The type that judging gives the expression has, and the rule that it answers fails at its place.
-use Rattle.std.proofs.Common.{◌≡◌, false, Option, Some, None, Ok, Err, refl}
-use Rattle.std.specs.Prelude.{is_some}
+use Rattle.std.proofs.Common.{◌≡◌, Bool, true, false, if◌then◌else◌, Option, Some, None, Ok, Err, refl}
+use Rattle.std.specs.Prelude.{not, List}
 use Rattle.sc_text.specs.declared.token.Span.{Span}
 use Rattle.sc_tree.specs.declared.expression.UnaryOperator.{UnaryOperator}
 use Rattle.sc_tree.specs.declared.expression.BinaryOperator.{BinaryOperator}
-use Rattle.sc_tree.specs.Plain.{Class, FeatureKind, Attribute, Routine, Clause, Name, Expr, Integer, Boolean, Call, Unary, Binary, Instr, Assign, Print, PrintText, CallRoutine, If, Instrs, no_instrs, instr_then, Branches, no_branches, branch_then}
+use Rattle.sc_tree.specs.Plain.{Class, FeatureKind, Attribute, Routine, Clause, Name, Expr, Integer, Boolean, Call, Unary, Binary, Target, no_target, Exprs, no_exprs, expr_then, Named, Instr, Assign, CallRoutine, If, Instrs, no_instrs, instr_then, Branches, no_branches, branch_then}
 use Rattle.scoop.specs.declared.rules.types.ValueType.{ValueType}
 use Rattle.scoop.specs.declared.rules.types.ValueType.TheVariants as type
 use Rattle.scoop.specs.declared.rules.names.Meaning.{Meaning}
@@ -14,9 +14,10 @@ use Rattle.scoop.specs.declared.rules.names.Role.TheVariants.{Value, Instruction
 use Rattle.scoop.specs.declared.rules.rule.Rule.{Rule}
 use Rattle.scoop.specs.declared.rules.rule.Rule.TheVariants.{UnknownName, AssignType, NotBoolean, OperatorType, InvariantForm}
 use Rattle.scoop.specs.declared.rules.fault.CheckFault.{CheckFault}
-use Rattle.scoop.specs.Typing.{HasType, integer, boolean, attribute, unary, binary, span_of, type_named, conforms, meaning_of, type_of_meaning, unary_type, binary_type}
-use Rattle.scoop.specs.Rules.{name_fault, NameFails, name, ExprFails, value, in_operand, operand, in_left, in_right, operands, ConditionFails, in_condition, condition, InstrFails, left, in_source, source, in_printed, call, if_condition, in_then, in_elseif, in_else, InstrsFail, in_first, in_others, BranchesFail, branch_condition, in_branch, in_later_branch, FeatureFails, declared, in_body, is_formula, clause_place, ClauseFails, in_clause, form, ClassFails, in_creators, in_features, in_invariant}
-use Rattle.scoop.specs.Judging.{Judged, ◌>>=◌, required, accepted, judge_each, operation, judge_unary, judge_binary, judge_name, judge_expr, conforming, judge_condition, judge_instr, judge_instrs, judge_branches, judge_kind, judge_feature, judge_clause, judge_class}
+use Rattle.scoop.specs.Typing.{HasType, integer, boolean, attribute, unary, binary, span_of, is_plain_routine, is_old, conforms, meaning_of, type_of_meaning, unary_type, binary_type}
+use Rattle.scoop.specs.ClassRules.{is_print}
+use Rattle.scoop.specs.Rules.{name_fault, NameFails, name, ExprFails, value, in_operand, operand, in_left, in_right, operands, ConditionFails, in_condition, condition, InstrFails, left, in_source, source, in_printed, call, if_condition, in_then, in_elseif, in_else, InstrsFail, in_first, in_others, BranchesFail, branch_condition, in_branch, in_later_branch, names_nothing, FeatureFails, declared, in_body, is_formula, clause_place, ClauseFails, in_clause, form, ClassFails, in_creators, in_features, in_invariant}
+use Rattle.scoop.specs.Judging.{Judged, ◌>>=◌, required, accepted, judge_each, operation, judge_unary, judge_binary, judge_name, judge_value, judge_expr, judge_printed, judge_call, conforming, judge_condition, judge_instr, judge_instrs, judge_branches, judge_kind, judge_feature, judge_clause, judge_class}
 use Rattle.scoop.proofs.Refusals.{Tells, passes, tells, tells_then, At, tells_at, tells_required, tells_accepted, tells_each}
 
 -- what judging an expression tells: its type, if it has one, or a rule that fails in it
@@ -28,23 +29,34 @@ pub data Told (c : Class) (e : Expr) : Judged (Option ValueType) → Type 0 wher
 pub tells_name : (c : Class) (role : Role) (n : Name) → Tells (At (NameFails c role n)) (judge_name c role n)
 tells_name c role n = tells_accepted (NameFails c role n) (name_fault role (meaning_of c n.text)) n.span (λ r e. name e)
 
-named : (c : Class) (n : Name) (m : Meaning) → meaning_of c n.text ≡ m →
+named : (c : Class) (s : Span) (n : Name) (m : Meaning) → meaning_of c n.text ≡ m →
     Tells (At (NameFails c Value n)) (accepted (name_fault Value m) n.span) →
-    Told c (Call n) (accepted (name_fault Value m) n.span >>= λ u. Ok (type_of_meaning m))
-named c n meaning.Unknown e (tells t) = fails (record { span = t.span; is = t.is; fails = value t.fails })
-named c n (meaning.Attribute None) e t = has_none
-named c n (meaning.Attribute (Some A)) e t = has (attribute e)
-named c n meaning.Procedure e (tells t) = fails (record { span = t.span; is = t.is; fails = value t.fails })
-named c n meaning.Print e (tells t) = fails (record { span = t.span; is = t.is; fails = value t.fails })
+    Told c (Call s no_target n no_exprs) (accepted (name_fault Value m) n.span >>= λ u. Ok (type_of_meaning m))
+named c s n meaning.Unknown e (tells t) = fails (record { span = t.span; is = t.is; fails = value t.fails })
+named c s n (meaning.Attribute None) e t = has_none
+named c s n (meaning.Attribute (Some A)) e t = has (attribute e)
+named c s n meaning.Procedure e (tells t) = fails (record { span = t.span; is = t.is; fails = value t.fails })
+named c s n meaning.Print e (tells t) = fails (record { span = t.span; is = t.is; fails = value t.fails })
+named c s n meaning.Other e t = has_none
+
+told_value : (c : Class) (s : Span) (t : Target) (n : Name) (es : Exprs) → Told c (Call s t n es) (judge_value c t n es)
+told_value c s no_target n no_exprs = named c s n (meaning_of c n.text) refl (tells_name c Value n)
+told_value c s t n es = has_none
 
 operated : (c : Class) (e : Expr) (o : Option ValueType) (s : Span) → (o ≡ None → ExprFails c e OperatorType s) →
     ((B : ValueType) → o ≡ Some B → HasType c e B) → Told c e (operation o s)
 operated c e None s f t = fails (record { span = s; is = refl; fails = f refl })
 operated c e (Some B) s f t = has (t B refl)
 
+-- where the operand has a type
+told_typed : (c : Class) (s : Span) (op : UnaryOperator) (a : Expr) (A : ValueType) (b : Bool) → is_old op ≡ b → HasType c a A →
+    Told c (Unary s op a) (if b then Ok None else operation (unary_type op A) s)
+told_typed c s op a A true i d = has_none
+told_typed c s op a A false i d = operated c (Unary s op a) (unary_type op A) s (λ e. operand i d e) (λ B e. unary d e)
+
 told_unary : (c : Class) (s : Span) (op : UnaryOperator) (a : Expr) (j : Judged (Option ValueType)) → Told c a j →
     Told c (Unary s op a) (j >>= judge_unary s op)
-told_unary c s op a j (has {A} d) = operated c (Unary s op a) (unary_type op A) s (λ e. operand d e) (λ B e. unary d e)
+told_unary c s op a j (has {A} d) = told_typed c s op a A (is_old op) refl d
 told_unary c s op a j has_none = has_none
 told_unary c s op a j (fails f) = fails (record { span = f.span; is = f.is; fails = in_operand f.fails })
 
@@ -71,9 +83,10 @@ pub told : (c : Class) (e : Expr) → Told c e (judge_expr c e)
 unfolding judge_expr
 told c (Integer s n) = has integer
 told c (Boolean s b) = has boolean
-told c (Call n) = named c n (meaning_of c n.text) refl (tells_name c Value n)
+told c (Call s t n es) = told_value c s t n es
 told c (Unary s op a) = told_unary c s op a (judge_expr c a) (told c a)
 told c (Binary s op a b) = told_binary c s op a b (judge_expr c a) (judge_expr c b) (told c a) (told c b)
+told c other = has_none
 
 -- an expression that is to conform to a type, where it and the type are there
 tells_conforming : (c : Class) (e : Expr) (P : Rule → Span → Type 0) (t : Option ValueType) (r : Rule) (p : Span)
@@ -96,24 +109,33 @@ tells_expr c e j (has d) = passes
 tells_expr c e j has_none = passes
 tells_expr c e j (fails f) = tells f
 
+tells_call : (c : Class) (s : Span) (t : Target) (n : Name) (es : Exprs) → Tells (At (InstrFails c (CallRoutine s t n es))) (judge_call c t n es)
+tells_call c s no_target n no_exprs = tells_at (λ r p f. call f) (tells_name c Instruction n)
+tells_call c s no_target n (expr_then e no_exprs) = tells_printed (is_print n.text) refl
+  where
+    tells_printed : (b : Bool) → is_print n.text ≡ b →
+        Tells (At (InstrFails c (CallRoutine s no_target n (expr_then e no_exprs)))) (judge_printed c (if b then Some e else None))
+    tells_printed true i = tells_then (λ A. Ok tt) (tells_at (λ r p f. in_printed i f) (tells_expr c e (judge_expr c e) (told c e))) (λ A. passes)
+    tells_printed false i = passes
+tells_call c s t n es = passes
+
 mutual
   unfolding judge_instr
 
   pub tells_instr : (c : Class) (i : Instr) → Tells (At (InstrFails c i)) (judge_instr c i)
-  tells_instr c (Assign s n e) =
+  tells_instr c (Assign s (Named n) e) =
       tells_then (λ u. judge_expr c e >>= λ A. conforming A (type_of_meaning (meaning_of c n.text)) AssignType (span_of e))
       (tells_at (λ r p f. left f) (tells_name c Assigned n))
-      (λ u. tells_conforming c e (InstrFails c (Assign s n e)) (type_of_meaning (meaning_of c n.text)) AssignType (span_of e)
+      (λ u. tells_conforming c e (InstrFails c (Assign s (Named n) e)) (type_of_meaning (meaning_of c n.text)) AssignType (span_of e)
       (judge_expr c e) (told c e) (λ r p f. in_source f) (λ A T i d g. source i d g))
-  tells_instr c (Print s e) = tells_then (λ A. Ok tt) (tells_at (λ r p f. in_printed f) (tells_expr c e (judge_expr c e) (told c e))) (λ A. passes)
-  tells_instr c (PrintText s t) = passes
-  tells_instr c (CallRoutine n) = tells_at (λ r p f. call f) (tells_name c Instruction n)
+  tells_instr c (CallRoutine s t n es) = tells_call c s t n es
   tells_instr c (If s e body branches other) =
       tells_then (λ u. judge_instrs c body >>= λ u. judge_branches c branches >>= λ u. judge_instrs c other)
       (tells_at (λ r p f. if_condition f) (tells_condition c e))
       (λ u. tells_then (λ u. judge_branches c branches >>= λ u. judge_instrs c other) (tells_at (λ r p f. in_then f) (tells_instrs c body))
       (λ u. tells_then (λ u. judge_instrs c other) (tells_at (λ r p f. in_elseif f) (tells_branches c branches))
       (λ u. tells_at (λ r p f. in_else f) (tells_instrs c other))))
+  tells_instr c other = passes
 
   pub tells_instrs : (c : Class) (is : Instrs) → Tells (At (InstrsFail c is)) (judge_instrs c is)
   tells_instrs c no_instrs = passes
@@ -127,14 +149,19 @@ mutual
       (λ u. tells_then (λ u. judge_branches c bs) (tells_at (λ r p f. in_branch f) (tells_instrs c body))
       (λ u. tells_at (λ r p f. in_later_branch f) (tells_branches c bs)))
 
-no_type : (o : Option ValueType) → is_some o ≡ false → o ≡ None
-no_type None e = refl
-no_type (Some A) e = cc
+holds : (b : Bool) → not b ≡ false → b ≡ true
+holds true e = refl
+holds false e = cc
 
-pub tells_kind : (c : Class) (k : FeatureKind) → Tells (At (FeatureFails c k)) (judge_kind c k)
-tells_kind c (Attribute t) = tells_required (FeatureFails c (Attribute t)) (is_some (type_named t.class.text)) UnknownName
-    t.class.span (λ e. declared (no_type (type_named t.class.text) e))
-tells_kind c (Routine body) = tells_at (λ r p f. in_body f) (tells_instrs c body)
+pub tells_kind : (cs : List Class) (c : Class) (k : FeatureKind) → Tells (At (FeatureFails cs c k)) (judge_kind cs c k)
+tells_kind cs c (Attribute t) = tells_required (FeatureFails cs c (Attribute t)) (not (names_nothing cs t)) UnknownName
+    t.class.span (λ e. declared (holds (names_nothing cs t) e))
+tells_kind cs c (Routine formals result pre locals body post) = tells_body (is_plain_routine formals result pre locals post) refl
+  where
+    tells_body : (b : Bool) → is_plain_routine formals result pre locals post ≡ b →
+        Tells (At (FeatureFails cs c (Routine formals result pre locals body post))) (if b then judge_instrs c body else Ok tt)
+    tells_body true e = tells_at (λ r p f. in_body e f) (tells_instrs c body)
+    tells_body false e = passes
 
 pub tells_clause : (c : Class) (k : Clause) → Tells (At (ClauseFails c k)) (judge_clause c k)
 tells_clause c k =
@@ -142,11 +169,11 @@ tells_clause c k =
     (tells_at (λ r p f. in_clause f) (tells_condition c k.condition))
     (λ u. tells_required (ClauseFails c k) (is_formula c k.condition) InvariantForm (clause_place k.tag k.condition) (λ e. form e))
 
-pub tells_class : (c : Class) → Tells (At (ClassFails c)) (judge_class c)
+pub tells_class : (cs : List Class) (c : Class) → Tells (At (ClassFails cs c)) (judge_class cs c)
 unfolding judge_class
-tells_class c =
-    tells_then (λ u. judge_each (judge_feature c) c.features >>= λ u. judge_each (judge_clause c) c.invariant)
+tells_class cs c =
+    tells_then (λ u. judge_each (judge_feature cs c) c.features >>= λ u. judge_each (judge_clause c) c.invariant)
     (tells_at (λ r p f. in_creators f) (tells_each (NameFails c Creator) (judge_name c Creator) (tells_name c Creator) c.creators))
     (λ u. tells_then (λ u. judge_each (judge_clause c) c.invariant) (tells_at (λ r p f. in_features f)
-    (tells_each (λ g. FeatureFails c g.kind) (judge_feature c) (λ g. tells_kind c g.kind) c.features))
+    (tells_each (λ g. FeatureFails cs c g.kind) (judge_feature cs c) (λ g. tells_kind cs c g.kind) c.features))
     (λ u. tells_at (λ r p f. in_invariant f) (tells_each (ClauseFails c) (judge_clause c) (tells_clause c) c.invariant)))

@@ -27,11 +27,11 @@ use Rattle.scoop.proofs.Refusals.{bind_ok}
 pub bind_err : {A B : Type 0} {m : Judged A} (f : A → Judged B) (e : CheckFault) → m ≡ Err e → (m >>= f) ≡ Err e
 bind_err f e i = ap (λ j. j >>= f) i
 
-drop_end : {A : Type 0} (xs : List A) (k : ℕ) → length xs ≤ k → drop k xs ≡ []
+pub drop_end : {A : Type 0} (xs : List A) (k : ℕ) → length xs ≤ k → drop k xs ≡ []
 drop_end xs k l = grind (arith, common_steps)
 
 -- at the element x of xs, whose index is k
-at : {A : Type 0} (xs : List A) (k : ℕ) (x : A) → k < length xs → x ≡ get_or xs k x → drop k xs ≡ x ∷ drop (k + 1) xs
+pub at : {A : Type 0} (xs : List A) (k : ℕ) (x : A) → k < length xs → x ≡ get_or xs k x → drop k xs ≡ x ∷ drop (k + 1) xs
 at xs k x l g = drop_more xs k x l ∙ ap (λ y. y ∷ drop (k + 1) xs) (sym g)
 
 -- ---- instructions, from the one at an index on
@@ -220,7 +220,7 @@ judge_system-is : (s : System) (root : Root) (xs ys zs : List tree.Class) (b : B
     ys ≡ s.classes.items → zs ≡ s.classes.items → b ≡ has_root (system_of s) root → m ≡ is_small (system_of s) →
     judge_system (system_of s) root
     ≡ (judge_class_names (map class_of xs) >>= λ u. judge_each judge_feature_names (map class_of ys) >>= λ u. required b NoRoot
-    None >>= λ u. required m Limit None >>= λ u. judge_each judge_class (map class_of zs))
+    None >>= λ u. required m Limit None >>= λ u. judge_each (judge_class (map class_of zs)) (map class_of zs))
 unfolding judge_system system_of
 judge_system-is s root xs ys zs b m x y z i j = rw (x, y, z, i, j) refl
 
@@ -241,7 +241,7 @@ module _ (s : System) (root : Root) (xs ys zs : List tree.Class) (b m : Bool) (x
   of_limits = required m Limit None
 
   abbrev of_texts : Judged (Unit {0})
-  of_texts = judge_each judge_class (map class_of zs)
+  of_texts = judge_each (judge_class (map class_of zs)) (map class_of zs)
 
   abbrev is_five : judge_system (system_of s) root ≡ (of_classes >>= λ u. of_features >>= λ u. of_root >>= λ u. of_limits >>= λ u. of_texts)
   is_five = judge_system-is s root xs ys zs b m x y z i j

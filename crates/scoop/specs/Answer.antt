@@ -6,7 +6,7 @@ use Rattle.scoop.specs.declared.serve.Exit.{Exit}
 use Rattle.scoop.specs.declared.serve.Exit.TheVariants.{Done, Failed, Unfinished}
 use Rattle.scoop.specs.declared.words.Command.{Command}
 use Rattle.scoop.specs.declared.words.Command.TheVariants as command
-use Rattle.scoop.specs.Execution.{IsAccepted, IsRunOf}
+use Rattle.scoop.specs.Execution.{IsAccepted, IsPrinted, IsRunOf}
 use Rattle.scoop.specs.RootView.{root_of}
 
 -- what the program ends with where handler 0 stands so
@@ -17,9 +17,10 @@ exit_of (Some status.Waiting) = Unfinished
 exit_of (Some status.Free) = Done
 exit_of None = Done
 
--- Where the text isn't refused: `ok`, or the report of its run.
+-- Where the text isn't refused: `ok`, the report of its run, or its canonical text.
 abbrev pub IsAnswerTo : Command → List ℕ → List ℕ → Exit → Type 0
 IsAnswerTo (command.Check options) text output exit =
     IsAccepted text (root_of options.root) × (output ≡ codes "ok\n") × (exit ≡ Done)
 IsAnswerTo (command.Run options) text output exit =
     (how : Option Status) × IsRunOf text (root_of options.root) options.turns output how × (exit ≡ exit_of how)
+IsAnswerTo command.Print text output exit = IsPrinted text output × (exit ≡ Done)

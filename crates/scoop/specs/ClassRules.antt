@@ -47,7 +47,7 @@ is_routine (Some f) = is_routine_kind f.kind
   where
     is_routine_kind : FeatureKind → Bool
     is_routine_kind (Attribute t) = false
-    is_routine_kind (Routine body) = true
+    is_routine_kind (Routine formals result pre locals body post) = true
 
 -- the class creates its objects by the procedure of this name: one of its `create` list, and a routine
 abbrev pub creates_by : Class → List ℕ → Bool

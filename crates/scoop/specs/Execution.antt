@@ -1,11 +1,12 @@
--- What the check and the run of a source text come to.
-use Rattle.std.specs.Prelude.{ℕ, ◌≡◌, ◌≤◌, ◌⊎◌, false, List, map, length, Option, slice_get, replicate}
+-- What the check, the run and the printing of a source text come to.
+use Rattle.std.specs.Prelude.{ℕ, ◌≡◌, ◌≤◌, ◌⊎◌, true, false, List, map, length, Option, slice_get, replicate}
 use Rattle.std.specs.Option.{option_map}
 use Rattle.sc_text.specs.Kind.{Kind}
 use Rattle.sc_text.specs.Spelling.{Lexeme, Spells, IsRefused}
 use Rattle.sc_tree.specs.Plain.{System}
 use Rattle.sc_tree.specs.Bare.{bare_system}
-use Rattle.sc_tree.specs.Grammar.{IsSystem}
+use Rattle.sc_tree.specs.Grammar.Classes.{IsSystem}
+use Rattle.sc_tree.specs.Canonical.{canonical_text}
 use Rattle.sc_parse.specs.Parses.{Refuses}
 use Rattle.sc_parse.specs.declared.fault.ParseFault.{ParseFault}
 use Rattle.sc_text.specs.declared.token.Span.{Span}
@@ -14,6 +15,7 @@ use Rattle.sc_model.specs.Lookup.{Root}
 use Rattle.sc_model.specs.World.{World, opening, run, has_turn_at}
 use Rattle.sc_model.specs.Report.{report, status_of}
 use Rattle.scoop.specs.declared.rules.rule.Rule.{Rule}
+use Rattle.scoop.specs.NotYet.{is_not_yet}
 use Rattle.scoop.specs.Rules.{Fails, IsWellFormed}
 use Rattle.scoop.specs.declared.refusal.Rejection.{Rejection}
 use Rattle.scoop.specs.declared.refusal.Rejection.TheVariants as rejection
@@ -32,16 +34,18 @@ pub record IsSpelled (text : List ℕ) (tree : System) : Type 0 where
   pub shallow : nesting ≤ 64
   pub grammar : IsSystem tree (kinds tokens) nesting
 
--- The text spells a system in which no rule fails.
+-- The text spells a system in which no rule fails, and which uses only what is checked and run.
 pub record IsAccepted (text : List ℕ) (root : Root) : Type 0 where
   pub system : System
   pub spelled : IsSpelled text (bare_system system)
+  pub supported : is_not_yet system ≡ false
   pub well_formed : IsWellFormed system root
 
--- The text spells a tree that is well formed wherever its parts stand.
+-- The text spells a tree that uses only what is checked and run, and is well formed, wherever its parts stand.
 pub record MustBeAccepted (text : List ℕ) (root : Root) : Type 0 where
   pub tree : System
   pub spelled : IsSpelled text tree
+  pub supported : (system : System) → bare_system system ≡ tree → is_not_yet system ≡ false
   pub well_formed : (system : System) → bare_system system ≡ tree → IsWellFormed system root
 
 -- ---- refusals
@@ -52,18 +56,32 @@ pub record IsNoSystem (text : List ℕ) (fault : ParseFault) : Type 0 where
   pub spelled : Spells text tokens
   pub refuses : Refuses (kinds tokens) fault
 
--- The text spells a system in which the rule fails at the place.
+-- The text spells a system that uses what is neither checked nor run yet.
+pub record IsNotYet (text : List ℕ) : Type 0 where
+  pub system : System
+  pub spelled : IsSpelled text (bare_system system)
+  pub not_yet : is_not_yet system ≡ true
+
+-- The text spells a system, of what is checked and run, in which the rule fails at the place.
 pub record HasFailing (text : List ℕ) (root : Root) (rule : Rule) (place : Option Span) : Type 0 where
   pub system : System
   pub spelled : IsSpelled text (bare_system system)
+  pub supported : is_not_yet system ≡ false
   pub fails : Fails system root rule place
+
+-- The text spells no system, as the rejection says, or memory ran out.
+abbrev pub IsUnreadable : List ℕ → Rejection → Type 0
+IsUnreadable text (rejection.Text fault) = IsRefused text fault
+IsUnreadable text (rejection.Grammar fault) = IsNoSystem text fault
+IsUnreadable text rejection.NotYet = ⊥
+IsUnreadable text (rejection.Rules fault) = ⊥
+IsUnreadable text rejection.OutOfMemory = Unit {0}
 
 -- A refusal is true of the text.
 abbrev pub IsRefusedFor : List ℕ → Root → Rejection → Type 0
-IsRefusedFor text root (rejection.Text fault) = IsRefused text fault
-IsRefusedFor text root (rejection.Grammar fault) = IsNoSystem text fault
+IsRefusedFor text root rejection.NotYet = IsNotYet text
 IsRefusedFor text root (rejection.Rules fault) = HasFailing text root fault.rule fault.place
-IsRefusedFor text root rejection.OutOfMemory = Unit {0}
+IsRefusedFor text root other = IsUnreadable text other
 
 -- ---- runs
 
@@ -80,9 +98,19 @@ pub record IsRun (system : System) (root : Root) (limit : ℕ) (text : List ℕ)
   pub report_is : text ≡ report (world_after system root turns)
   pub status_is : status ≡ option_map status_of (slice_get (world_after system root turns) 0)
 
--- The text spells a system in which no rule fails, and the report and the status are those of its run.
+-- The text spells a system in which no rule fails, and which uses only what is checked and run, and the report and the
+-- status are those of its run.
 pub record IsRunOf (text : List ℕ) (root : Root) (limit : ℕ) (output : List ℕ) (status : Option Status) : Type 0 where
   pub system : System
   pub spelled : IsSpelled text (bare_system system)
+  pub supported : is_not_yet system ≡ false
   pub well_formed : IsWellFormed system root
   pub is_run : IsRun system root limit output status
+
+-- ---- canonical text
+
+-- The text spells a system, and the output is its canonical text.
+pub record IsPrinted (text output : List ℕ) : Type 0 where
+  pub tree : System
+  pub spelled : IsSpelled text tree
+  pub printed : output ≡ canonical_text tree

@@ -1,10 +1,10 @@
 -- Judging, as a function: the first rule that fails and its place, or what a part gives.
-use Rattle.std.specs.Prelude.{ℕ, Bool, true, false, List, [], ◌∷◌, ◌++◌, ◌&&◌, ◌||◌, length, Option, Some, None, Result, Ok, Err, not, nat_le, is_some}
+use Rattle.std.specs.Prelude.{ℕ, Bool, true, false, if◌then◌else◌, List, [], ◌∷◌, ◌++◌, ◌&&◌, ◌||◌, length, Option, Some, None, Result, Ok, Err, not, nat_le}
 use Rattle.std.specs.List.{list_all}
 use Rattle.sc_text.specs.declared.token.Span.{Span}
 use Rattle.sc_tree.specs.declared.expression.UnaryOperator.{UnaryOperator}
 use Rattle.sc_tree.specs.declared.expression.BinaryOperator.{BinaryOperator}
-use Rattle.sc_tree.specs.Plain.{System, Class, Feature, FeatureKind, Attribute, Routine, Clause, Name, Expr, Integer, Boolean, Call, Unary, Binary, Instr, Assign, Print, PrintText, CallRoutine, If, Instrs, no_instrs, instr_then, Branches, no_branches, branch_then}
+use Rattle.sc_tree.specs.Plain.{System, Class, Feature, FeatureKind, Attribute, Routine, Clause, Name, Expr, Integer, Boolean, Call, Unary, Binary, Target, Exprs, Named, Instr, Assign, CallRoutine, If, Instrs, no_instrs, instr_then, Branches, no_branches, branch_then}
 use Rattle.sc_model.specs.Lookup.{Root}
 use Rattle.scoop.specs.declared.rules.types.ValueType.{ValueType}
 use Rattle.scoop.specs.declared.rules.types.ValueType.TheVariants as type
@@ -13,8 +13,8 @@ use Rattle.scoop.specs.declared.rules.names.Role.TheVariants.{Value, Instruction
 use Rattle.scoop.specs.declared.rules.rule.Rule.{Rule}
 use Rattle.scoop.specs.declared.rules.rule.Rule.TheVariants.{DuplicateClass, DuplicateFeature, NoRoot, Limit, UnknownName, AssignType, NotBoolean, OperatorType, InvariantForm}
 use Rattle.scoop.specs.declared.rules.fault.CheckFault.{CheckFault}
-use Rattle.scoop.specs.Typing.{span_of, type_named, conforms, meaning_of, type_of_meaning, unary_type, binary_type}
-use Rattle.scoop.specs.Rules.{name_fault, is_formula, clause_place}
+use Rattle.scoop.specs.Typing.{span_of, is_plain_routine, is_name, printed, is_old, conforms, meaning_of, type_of_meaning, unary_type, binary_type}
+use Rattle.scoop.specs.Rules.{name_fault, names_nothing, is_formula, clause_place}
 use Rattle.scoop.specs.ClassRules.{is_built_in, is_print, is_listed, class_names, feature_names, has_root, limit}
 
 abbrev pub Judged : Type 0 → Type 0
@@ -50,7 +50,7 @@ operation (Some T) p = Ok (Some T)
 
 abbrev pub judge_unary : Span → UnaryOperator → Option ValueType → Judged (Option ValueType)
 judge_unary p op None = Ok None
-judge_unary p op (Some A) = operation (unary_type op A) p
+judge_unary p op (Some A) = if is_old op then Ok None else operation (unary_type op A) p
 
 abbrev pub judge_binary : Span → BinaryOperator → Option ValueType → Option ValueType → Judged (Option ValueType)
 judge_binary p op (Some A) (Some B) = operation (binary_type op A B) p
@@ -60,13 +60,18 @@ judge_binary p op (Some A) None = Ok None
 abbrev pub judge_name : Class → Role → Name → Judged (Unit {0})
 judge_name c role n = accepted (name_fault role (meaning_of c n.text)) n.span
 
+-- a call as an expression: of a name alone
+abbrev pub judge_value : Class → Target → Name → Exprs → Judged (Option ValueType)
+judge_value c t n es = if is_name t es then (judge_name c Value n >>= λ u. Ok (type_of_meaning (meaning_of c n.text))) else Ok None
+
 -- the expression's type, if it has one
 unfoldable pub judge_expr : Class → Expr → Judged (Option ValueType)
 judge_expr c (Integer s n) = Ok (Some type.Integer)
 judge_expr c (Boolean s b) = Ok (Some type.Boolean)
-judge_expr c (Call n) = judge_name c Value n >>= λ u. Ok (type_of_meaning (meaning_of c n.text))
+judge_expr c (Call s t n es) = judge_value c t n es
 judge_expr c (Unary s op a) = judge_expr c a >>= λ A. judge_unary s op A
 judge_expr c (Binary s op a b) = judge_expr c a >>= λ A. judge_expr c b >>= λ B. judge_binary s op A B
+judge_expr c other = Ok None
 
 -- what has a type conforms to the other, where there is one
 abbrev pub conforming : Option ValueType → Option ValueType → Rule → Span → Judged (Unit {0})
@@ -77,20 +82,28 @@ conforming (Some A) None r p = Ok tt
 abbrev pub judge_condition : Class → Expr → Judged (Unit {0})
 judge_condition c e = judge_expr c e >>= λ A. conforming A (Some type.Boolean) NotBoolean (span_of e)
 
+-- what is printed, if anything is
+abbrev pub judge_printed : Class → Option Expr → Judged (Unit {0})
+judge_printed c None = Ok tt
+judge_printed c (Some e) = judge_expr c e >>= λ A. Ok tt
+
+-- a call as an instruction: of a procedure by its name alone, or of `print`
+abbrev pub judge_call : Class → Target → Name → Exprs → Judged (Unit {0})
+judge_call c t n es = if is_name t es then judge_name c Instruction n else judge_printed c (printed t n es)
+
 unfoldable mutual
   pub judge_instr : Class → Instr → Judged (Unit {0})
-  judge_instr c (Assign s n e) =
+  judge_instr c (Assign s (Named n) e) =
       judge_name c Assigned n >>= λ u.
       judge_expr c e >>= λ A.
       conforming A (type_of_meaning (meaning_of c n.text)) AssignType (span_of e)
-  judge_instr c (Print s e) = judge_expr c e >>= λ A. Ok tt
-  judge_instr c (PrintText s t) = Ok tt
-  judge_instr c (CallRoutine n) = judge_name c Instruction n
+  judge_instr c (CallRoutine s t n es) = judge_call c t n es
   judge_instr c (If s e body branches other) =
       judge_condition c e >>= λ u.
       judge_instrs c body >>= λ u.
       judge_branches c branches >>= λ u.
       judge_instrs c other
+  judge_instr c other = Ok tt
 
   pub judge_instrs : Class → Instrs → Judged (Unit {0})
   judge_instrs c no_instrs = Ok tt
@@ -100,22 +113,23 @@ unfoldable mutual
   judge_branches c no_branches = Ok tt
   judge_branches c (branch_then e body bs) = judge_condition c e >>= λ u. judge_instrs c body >>= λ u. judge_branches c bs
 
-abbrev pub judge_kind : Class → FeatureKind → Judged (Unit {0})
-judge_kind c (Attribute t) = required (is_some (type_named t.class.text)) UnknownName (Some t.class.span)
-judge_kind c (Routine body) = judge_instrs c body
+abbrev pub judge_kind : List Class → Class → FeatureKind → Judged (Unit {0})
+judge_kind cs c (Attribute t) = required (not (names_nothing cs t)) UnknownName (Some t.class.span)
+judge_kind cs c (Routine formals result pre locals body post) = if is_plain_routine formals result pre locals post then judge_instrs c body else Ok tt
 
-abbrev pub judge_feature : Class → Feature → Judged (Unit {0})
-judge_feature c f = judge_kind c f.kind
+abbrev pub judge_feature : List Class → Class → Feature → Judged (Unit {0})
+judge_feature cs c f = judge_kind cs c f.kind
 
 abbrev pub judge_clause : Class → Clause → Judged (Unit {0})
 judge_clause c k =
     judge_condition c k.condition >>= λ u.
     required (is_formula c k.condition) InvariantForm (Some (clause_place k.tag k.condition))
 
-unfoldable pub judge_class : Class → Judged (Unit {0})
-judge_class c =
+-- the text of a class, which is one of these
+unfoldable pub judge_class : List Class → Class → Judged (Unit {0})
+judge_class cs c =
     judge_each (judge_name c Creator) c.creators >>= λ u.
-    judge_each (judge_feature c) c.features >>= λ u.
+    judge_each (judge_feature cs c) c.features >>= λ u.
     judge_each (judge_clause c) c.invariant
 
 -- each name, behind the earlier ones, is neither reserved nor like one before it
@@ -144,7 +158,7 @@ judge_system s root =
     judge_each judge_feature_names s.classes >>= λ u.
     required (has_root s root) NoRoot None >>= λ u.
     required (is_small s) Limit None >>= λ u.
-    judge_each judge_class s.classes
+    judge_each (judge_class s.classes) s.classes
 
 -- whether it is refused and how, whatever else it gives
 abbrev pub outcome : {A : Type 0} → Judged A → Judged (Unit {0})

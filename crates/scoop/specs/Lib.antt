@@ -7,11 +7,13 @@ pub mod Given
 pub mod HandlerView
 pub mod Judging
 pub mod Kept
+pub mod NotYet
 pub mod ObjectView
 pub mod PointView
 pub mod Refusal
 pub mod RootOption
 pub mod RootView
+pub mod RuleLaws
 pub mod RuleText
 pub mod Rules
 pub mod Source

@@ -53,11 +53,12 @@ start_of (Some span) = Some span.start
 abbrev pub told_of_system : CheckFault → Told
 told_of_system fault = record { code = code_of fault.rule; name = name_of fault.rule; offset = start_of fault.place }
 
--- Want of memory is no refusal.
+-- Want of memory is no refusal, nor is what isn't checked yet.
 abbrev pub told : Rejection → Option Told
 told (rejection.Text fault) = told_of_text fault
 told (rejection.Grammar fault) = told_of_tokens fault
 told (rejection.Rules fault) = Some (told_of_system fault)
+told rejection.NotYet = None
 told rejection.OutOfMemory = None
 
 -- ---- what is made of faults

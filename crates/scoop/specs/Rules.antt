@@ -1,10 +1,11 @@
 -- Which rule fails where in a system of classes (ECMA-367, 8.9, 8.14, 8.17, 8.20, 8.22, 8.23 and 8.28).
+-- The rules know the part of the language that NotYet gives: a system that uses anything else is answered `not yet` before them.
 -- Each family below says that the rule fails at the place, in a part of a class's text.
-use Rattle.std.specs.Prelude.{◌≡◌, Bool, true, false, Option, Some, None, Any, ◌&&◌}
+use Rattle.std.specs.Prelude.{◌≡◌, Bool, true, false, not, List, Option, Some, None, is_some, Any, ◌&&◌}
 use Rattle.sc_text.specs.declared.token.Span.{Span}
 use Rattle.sc_tree.specs.declared.expression.UnaryOperator.{UnaryOperator}
 use Rattle.sc_tree.specs.declared.expression.BinaryOperator.{BinaryOperator}
-use Rattle.sc_tree.specs.Plain.{System, Class, FeatureKind, Attribute, Routine, Clause, DeclaredType, Name, Expr, Integer, Boolean, Call, Unary, Binary, Instr, Assign, Print, CallRoutine, If, Instrs, instr_then, Branches, branch_then}
+use Rattle.sc_tree.specs.Plain.{System, Class, FeatureKind, Attribute, Routine, Declaration, Clause, DeclaredType, Name, Expr, Integer, Boolean, Call, Unary, Binary, no_target, no_exprs, expr_then, Named, Instr, Assign, CallRoutine, If, Instrs, instr_then, Branches, branch_then}
 use Rattle.sc_model.specs.Lookup.{Root}
 use Rattle.scoop.specs.declared.rules.types.ValueType.{ValueType}
 use Rattle.scoop.specs.declared.rules.types.ValueType.TheVariants as type
@@ -14,12 +15,14 @@ use Rattle.scoop.specs.declared.rules.names.Role.{Role}
 use Rattle.scoop.specs.declared.rules.names.Role.TheVariants.{Value, Instruction, Assigned, Creator}
 use Rattle.scoop.specs.declared.rules.rule.Rule.{Rule}
 use Rattle.scoop.specs.declared.rules.rule.Rule.TheVariants.{UnknownName, WrongArity, AssignType, ResultType, NotBoolean, OperatorType, NotAssignable, InvariantForm}
-use Rattle.scoop.specs.Typing.{HasType, span_of, type_named, conforms, meaning_of, type_of_meaning, unary_type, binary_type}
-use Rattle.scoop.specs.ClassRules.{ClassRuleFails}
+use Rattle.scoop.specs.Typing.{HasType, span_of, type_named, is_plain_routine, is_name, is_old, conforms, meaning_of, type_of_meaning, unary_type, binary_type}
+use Rattle.scoop.specs.ClassRules.{is_print, ClassRuleFails}
+use Rattle.scoop.specs.NotYet.{is_known_type}
 
 -- The rule that fails at a name, by how it is used and what it stands for.
 abbrev pub name_fault : Role → Meaning → Option Rule
 name_fault role meaning.Unknown = Some UnknownName
+name_fault role meaning.Other = None
 name_fault Value (meaning.Attribute t) = None
 name_fault Value meaning.Procedure = Some ResultType
 name_fault Value meaning.Print = Some WrongArity
@@ -39,9 +42,9 @@ pub data NameFails (c : Class) (role : Role) (n : Name) : Rule → Span → Type
 
 -- In an expression. The operands of an operator are judged where they have types.
 pub data ExprFails (c : Class) : Expr → Rule → Span → Type 0 where
-  value : {n : Name} {r : Rule} {p : Span} → NameFails c Value n r p → ExprFails c (Call n) r p
+  value : {s p : Span} {n : Name} {r : Rule} → NameFails c Value n r p → ExprFails c (Call s no_target n no_exprs) r p
   in_operand : {s p : Span} {op : UnaryOperator} {a : Expr} {r : Rule} → ExprFails c a r p → ExprFails c (Unary s op a) r p
-  operand : {s : Span} {op : UnaryOperator} {a : Expr} {A : ValueType} → HasType c a A → unary_type op A ≡ None →
+  operand : {s : Span} {op : UnaryOperator} {a : Expr} {A : ValueType} → is_old op ≡ false → HasType c a A → unary_type op A ≡ None →
       ExprFails c (Unary s op a) OperatorType s
   in_left : {s p : Span} {op : BinaryOperator} {a b : Expr} {r : Rule} → ExprFails c a r p → ExprFails c (Binary s op a b) r p
   in_right : {s p : Span} {op : BinaryOperator} {a b : Expr} {r : Rule} → ExprFails c b r p → ExprFails c (Binary s op a b) r p
@@ -56,12 +59,14 @@ pub data ConditionFails (c : Class) (e : Expr) : Rule → Span → Type 0 where
 mutual
   -- In an instruction. What is assigned is judged where both sides have types.
   pub data InstrFails (c : Class) : Instr → Rule → Span → Type 0 where
-    left : {s p : Span} {n : Name} {e : Expr} {r : Rule} → NameFails c Assigned n r p → InstrFails c (Assign s n e) r p
-    in_source : {s p : Span} {n : Name} {e : Expr} {r : Rule} → ExprFails c e r p → InstrFails c (Assign s n e) r p
+    left : {s p : Span} {n : Name} {e : Expr} {r : Rule} → NameFails c Assigned n r p → InstrFails c (Assign s (Named n) e) r p
+    in_source : {s p : Span} {n : Name} {e : Expr} {r : Rule} → ExprFails c e r p → InstrFails c (Assign s (Named n) e) r p
     source : {s : Span} {n : Name} {e : Expr} {A T : ValueType} →
-        type_of_meaning (meaning_of c n.text) ≡ Some T → HasType c e A → conforms A T ≡ false → InstrFails c (Assign s n e) AssignType (span_of e)
-    in_printed : {s p : Span} {e : Expr} {r : Rule} → ExprFails c e r p → InstrFails c (Print s e) r p
-    call : {n : Name} {r : Rule} {p : Span} → NameFails c Instruction n r p → InstrFails c (CallRoutine n) r p
+        type_of_meaning (meaning_of c n.text) ≡ Some T → HasType c e A → conforms A T ≡ false →
+        InstrFails c (Assign s (Named n) e) AssignType (span_of e)
+    in_printed : {s p : Span} {n : Name} {e : Expr} {r : Rule} → is_print n.text ≡ true → ExprFails c e r p →
+        InstrFails c (CallRoutine s no_target n (expr_then e no_exprs)) r p
+    call : {s p : Span} {n : Name} {r : Rule} → NameFails c Instruction n r p → InstrFails c (CallRoutine s no_target n no_exprs) r p
     if_condition : {s p : Span} {e : Expr} {body other : Instrs} {branches : Branches} {r : Rule} → ConditionFails c e r p →
         InstrFails c (If s e body branches other) r p
     in_then : {s p : Span} {e : Expr} {body other : Instrs} {branches : Branches} {r : Rule} → InstrsFail c body r p →
@@ -84,10 +89,16 @@ mutual
     in_later_branch : {e : Expr} {body : Instrs} {bs : Branches} {r : Rule} {p : Span} → BranchesFail c bs r p →
         BranchesFail c (branch_then e body bs) r p
 
--- In a feature: where no type has the name that an attribute is declared with, or in a routine's body.
-pub data FeatureFails (c : Class) : FeatureKind → Rule → Span → Type 0 where
-  declared : {t : DeclaredType} → type_named t.class.text ≡ None → FeatureFails c (Attribute t) UnknownName t.class.span
-  in_body : {body : Instrs} {r : Rule} {p : Span} → InstrsFail c body r p → FeatureFails c (Routine body) r p
+-- a type whose name nothing has: it is neither INTEGER nor BOOLEAN, nor ANY or a class of the system
+abbrev pub names_nothing : List Class → DeclaredType → Bool
+names_nothing cs t = is_known_type cs t && not (is_some (type_named t.class.text))
+
+-- In a feature of a class, among these classes: where nothing has the name of an attribute's type, or in the body of a routine
+-- that is nothing else.
+pub data FeatureFails (cs : List Class) (c : Class) : FeatureKind → Rule → Span → Type 0 where
+  declared : {t : DeclaredType} → names_nothing cs t ≡ true → FeatureFails cs c (Attribute t) UnknownName t.class.span
+  in_body : {formals locals : List Declaration} {result : Option DeclaredType} {pre post : List Clause} {body : Instrs} {r : Rule} {p : Span} →
+      is_plain_routine formals result pre locals post ≡ true → InstrsFail c body r p → FeatureFails cs c (Routine formals result pre locals body post) r p
 
 abbrev pub is_attribute : Meaning → Bool
 is_attribute (meaning.Attribute t) = true
@@ -97,9 +108,10 @@ is_attribute _ = false
 unfoldable pub is_formula : Class → Expr → Bool
 is_formula c (Integer s n) = true
 is_formula c (Boolean s b) = true
-is_formula c (Call n) = is_attribute (meaning_of c n.text)
-is_formula c (Unary s op a) = is_formula c a
+is_formula c (Call s t n es) = is_name t es && is_attribute (meaning_of c n.text)
+is_formula c (Unary s op a) = not (is_old op) && is_formula c a
 is_formula c (Binary s op a b) = is_formula c a && is_formula c b
+is_formula c other = false
 
 -- where a clause stands: at its tag, if it has one
 abbrev pub clause_place : Option Name → Expr → Span
@@ -111,16 +123,16 @@ pub data ClauseFails (c : Class) (k : Clause) : Rule → Span → Type 0 where
   in_clause : {r : Rule} {p : Span} → ConditionFails c k.condition r p → ClauseFails c k r p
   form : is_formula c k.condition ≡ false → ClauseFails c k InvariantForm (clause_place k.tag k.condition)
 
--- In the text of a class: in its `create` list, in a feature, or in a clause of its invariant.
-pub data ClassFails (c : Class) : Rule → Span → Type 0 where
-  in_creators : {r : Rule} {p : Span} → Any (λ n. NameFails c Creator n r p) c.creators → ClassFails c r p
-  in_features : {r : Rule} {p : Span} → Any (λ f. FeatureFails c f.kind r p) c.features → ClassFails c r p
-  in_invariant : {r : Rule} {p : Span} → Any (λ k. ClauseFails c k r p) c.invariant → ClassFails c r p
+-- In the text of a class, which is one of these: in its `create` list, in a feature, or in a clause of its invariant.
+pub data ClassFails (cs : List Class) (c : Class) : Rule → Span → Type 0 where
+  in_creators : {r : Rule} {p : Span} → Any (λ n. NameFails c Creator n r p) c.creators → ClassFails cs c r p
+  in_features : {r : Rule} {p : Span} → Any (λ f. FeatureFails cs c f.kind r p) c.features → ClassFails cs c r p
+  in_invariant : {r : Rule} {p : Span} → Any (λ k. ClauseFails c k r p) c.invariant → ClassFails cs c r p
 
 -- The rule fails at the place, in a system that is run from this root.
 pub data Fails (s : System) (root : Root) : Rule → Option Span → Type 0 where
   class_rule : {r : Rule} {p : Option Span} → ClassRuleFails s root r p → Fails s root r p
-  in_class : {r : Rule} {p : Span} → Any (λ c. ClassFails c r p) s.classes → Fails s root r (Some p)
+  in_class : {r : Rule} {p : Span} → Any (λ c. ClassFails s.classes c r p) s.classes → Fails s root r (Some p)
 
 -- No rule fails anywhere.
 abbrev pub IsWellFormed : System → Root → Type 0

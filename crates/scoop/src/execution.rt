@@ -1,4 +1,4 @@
-// Checks and runs of a source text.
+// What is done with a source text: its check, its run and its canonical text.
 
 ghost use Rattle.std.specs.Prelude.{◌≡◌, ◌≤◌, ℕ, length, IfErr, IfOk, IsErr, IsOk, MatchResult};
 ghost use Rattle.sc_model.specs.Lookup as lookup;
@@ -6,17 +6,19 @@ ghost use Rattle.sc_tree.specs.Bare.{bare_system};
 ghost use Rattle.sc_tree.specs.Plain as plain;
 ghost use Rattle.sc_tree.specs.View.{system_of};
 ghost use Rattle.scoop.specs.RootView.{root_at, root_of};
-ghost use Rattle.scoop.specs.Execution.{IsAccepted, IsSpelled, IsRefusedFor, IsRun, IsRunOf, MustBeAccepted};
+ghost use Rattle.sc_tree.specs.Canonical.{canonical_text};
+ghost use Rattle.scoop.specs.Execution.{IsAccepted, IsPrinted, IsSpelled, IsRefusedFor, IsRun, IsRunOf, IsUnreadable, MustBeAccepted};
 
 use crate::refusal::Rejection;
 use crate::root::Root;
 use crate::rules::checked::Checked;
+use crate::rules::not_yet::not_yet;
 use crate::rules::{self};
 use crate::world::{Turned, World};
 use sc_model::Status;
 use sc_parse::parse;
 use sc_text::lex;
-use sc_tree::System;
+use sc_tree::{System, print_system};
 use std::alloc::{AllocError, Global};
 
 /// What a run leaves: its report, and how handler 0 stands.
@@ -33,6 +35,9 @@ pub fn check_text(alloc: Global, text: &str, root: &Root) -> Result<(), Rejectio
     ensures complete { MustBeAccepted text.now (root_of root.now) → IfErr result (λ e. e ≡ Rejection.OutOfMemory) }
 {
     let system = read(alloc, text)?;
+    if not_yet(&system) {
+        return Err(Rejection::NotYet);
+    }
     rules::check(&system, root)?;
     Ok(())
 }
@@ -45,14 +50,28 @@ pub fn run_text(alloc: Global, text: &str, root: &Root, turns: u32) -> Result<Ou
     ensures complete { MustBeAccepted text.now (root_of root.now) → IfErr result (λ e. e ≡ Rejection.OutOfMemory) }
 {
     let system = read(alloc, text)?;
+    if not_yet(&system) {
+        return Err(Rejection::NotYet);
+    }
     let checked = rules::check(&system, root)?;
     Ok(play(alloc, checked, turns)?)
+}
+
+/// The canonical text of the system of a source text, which isn't checked.
+pub fn print_text(alloc: Global, text: &str) -> Result<Vec<u8>, Rejection>
+    ensures printed { IfOk result (λ output. IsPrinted text.now output.items) }
+    ensures refused { IfErr result (IsUnreadable text.now) }
+    ensures complete { (tree : plain.System) → IsSpelled text.now tree
+        → MatchResult result (λ output. output.items ≡ canonical_text tree) (λ e. e ≡ Rejection.OutOfMemory) }
+{
+    let system = read(alloc, text)?;
+    Ok(print_system(alloc, &system)?)
 }
 
 /// The system of a source text.
 fn read(alloc: Global, text: &str) -> Result<System, Rejection>
     ensures spelled { IfOk result (λ system. IsSpelled text.now (bare_system (system_of system))) }
-    ensures refused { (root : lookup.Root) → IfErr result (IsRefusedFor text.now root) }
+    ensures refused { IfErr result (IsUnreadable text.now) }
     ensures found { (tree : plain.System) → IsSpelled text.now tree
         → MatchResult result (λ system. bare_system (system_of system) ≡ tree) (λ e. e ≡ Rejection.OutOfMemory) }
 {

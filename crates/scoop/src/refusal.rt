@@ -11,13 +11,15 @@ use sc_parse::ParseFault;
 use sc_text::LexFault;
 use std::alloc::{AllocError, Global};
 
-/// Why a source text is no system that can run.
+/// Why nothing is made of a source text.
 #[derive(Debug, Drop)]
 pub enum Rejection {
     /// It spells no tokens.
     Text(LexFault),
     /// Its tokens spell no system, or none that is nested at most 64 deep.
     Grammar(ParseFault),
+    /// Its system uses what is neither checked nor run yet.
+    NotYet,
     /// A rule fails in its system.
     Rules(CheckFault),
     OutOfMemory,
@@ -56,7 +58,7 @@ impl Refusal {
 }
 
 impl Rejection {
-    /// How it is told. Want of memory is no refusal.
+    /// How it is told. Want of memory is no refusal, nor is what isn't checked yet.
     pub fn refusal(&self) -> Option<Refusal>
         ensures { option_map spec.seen result ≡ spec.told self.now }
     {
@@ -64,7 +66,7 @@ impl Rejection {
             Rejection::Text(fault) => text_refusal(fault),
             Rejection::Grammar(fault) => grammar_refusal(*fault),
             Rejection::Rules(fault) => Some(rules_refusal(*fault)),
-            Rejection::OutOfMemory => None,
+            Rejection::NotYet | Rejection::OutOfMemory => None,
         }
     }
 }

@@ -11,8 +11,10 @@ pub mod class;
 pub mod expressions;
 pub mod fault;
 pub mod instructions;
+pub mod laws;
 pub mod limits;
 pub mod names;
+pub mod not_yet;
 pub mod rule;
 #[cfg(test)]
 mod tests;
@@ -68,10 +70,10 @@ fn judge<'s>(system: &'s System, root: &Root) -> Result<(&'s Class, &'s Name), C
 
 /// The text of each class.
 fn check_classes(classes: &[Class]) -> Result<(), CheckFault>
-    ensures { result ≡ judging.judge_each judging.judge_class (map class_of classes.now) }
+    ensures { let all = map class_of classes.now in result ≡ judging.judge_each (judging.judge_class all) all }
 {
     for class in classes {
-        check_class(class)?;
+        check_class(classes, class)?;
     }
     Ok(())
 }

@@ -4,7 +4,7 @@ ghost use Rattle.std.specs.Prelude.{◌≡◌, IfOk};
 ghost use Rattle.scoop.specs.Answer as spec;
 ghost use Rattle.scoop.specs.Answer.{IsAnswerTo};
 
-use crate::execution::{check_text, run_text};
+use crate::execution::{check_text, print_text, run_text};
 use crate::files::{Files, read_text};
 use crate::refusal::Rejection;
 use crate::source::{LONGEST_SOURCE, Source};
@@ -46,6 +46,8 @@ pub enum Fault<'a> {
     CannotRead(&'a str),
     /// A word of the command line that isn't UTF-8.
     NotText,
+    /// A system that uses what is neither checked nor run yet.
+    NotYet,
     OutOfMemory,
 }
 
@@ -64,37 +66,47 @@ pub fn serve<R: AllocGlobal, S: AsStr, F: Files, O: Write, E: Write>(
     out: &mut O,
     err: &mut E,
 ) -> u8 {
-    match respond(rt.alloc(), words, files) {
-        Ok(answer) => {
-            let written = out.write_all(answer.text.as_slice());
-            if written.is_err() || out.flush().is_err() {
-                return Exit::Usage as u8;
-            }
-            answer.exit as u8
-        }
-        Err(fault) => end_with(&fault, err),
+    let answer = match respond(rt.alloc(), words, files) {
+        Ok(answer) => answer,
+        Err(fault) => return end_with(&fault, err),
+    };
+    match write_out(answer.text.as_slice(), out) {
+        Ok(()) => answer.exit as u8,
+        Err(error) if error.kind() == ErrorKind::OutOfMemory => end_with(&Fault::OutOfMemory, err),
+        Err(_) => Exit::Usage as u8,
     }
+}
+
+fn write_out<O: Write>(text: &[u8], out: &mut O) -> io::Result<()> {
+    out.write_all(text)?;
+    out.flush()
 }
 
 /// Says on `err` why the program ends without an answer, and answers its status.
 pub fn end_with<E: Write>(fault: &Fault<'_>, err: &mut E) -> u8 {
-    // The program ends in any case: nobody is left to be told that `err` failed.
-    let _ = match fault {
+    // The program ends in any case: nobody is left to be told that `err` failed. Its status still says so
+    // where it failed for want of memory.
+    match (fault, say(fault, err)) {
+        (Fault::Usage(UsageFault::OutOfMemory) | Fault::OutOfMemory, _) => Exit::OutOfMemory as u8,
+        (_, Err(error)) if error.kind() == ErrorKind::OutOfMemory => Exit::OutOfMemory as u8,
+        _ => Exit::Usage as u8,
+    }
+}
+
+fn say<E: Write>(fault: &Fault<'_>, err: &mut E) -> io::Result<()> {
+    match fault {
         Fault::Usage(UsageFault::Words(error)) => write!(err, "{error}"),
         Fault::Usage(UsageFault::NoCommand) => writeln!(err, "no command"),
         Fault::Usage(UsageFault::BadRoot) => writeln!(err, "bad root"),
         Fault::CannotRead(name) => writeln!(err, "cannot read {name}"),
         Fault::NotText => writeln!(err, "a word of the command line isn't UTF-8"),
+        Fault::NotYet => writeln!(err, "not yet"),
         Fault::Usage(UsageFault::OutOfMemory) | Fault::OutOfMemory => writeln!(
             err,
             "out of memory"
         ),
-    };
-    let _ = err.flush();
-    match fault {
-        Fault::Usage(UsageFault::OutOfMemory) | Fault::OutOfMemory => Exit::OutOfMemory as u8,
-        _ => Exit::Usage as u8,
-    }
+    }?;
+    err.flush()
 }
 
 fn respond<'a, S: AsStr, F: Files>(
@@ -116,6 +128,7 @@ fn respond<'a, S: AsStr, F: Files>(
     let source = read_source(alloc, files, invocation.files.as_slice())?;
     match examine(alloc, &invocation.command, source.text()) {
         Ok(answer) => Ok(answer),
+        Err(Rejection::NotYet) => Err(Fault::NotYet),
         Err(rejection) => match rejection.refusal() {
             Some(refusal) => Ok(Answer {
                 text: refusal.line(alloc, &source)?.into_bytes(),
@@ -150,7 +163,7 @@ fn read_source<'a, F: Files>(
     Ok(source)
 }
 
-/// Checks the system of a source text, and runs it where that is asked for.
+/// Does with the system of a source text what is asked for.
 fn examine(alloc: Global, command: &Command, text: &str) -> Result<Answer, Rejection>
     ensures { IfOk result (λ answer. IsAnswerTo command.now text.now answer.text.items answer.exit) }
 {
@@ -169,6 +182,10 @@ fn examine(alloc: Global, command: &Command, text: &str) -> Result<Answer, Rejec
                 exit: exit_of(outcome.status),
             })
         }
+        Command::Print => Ok(Answer {
+            text: print_text(alloc, text)?,
+            exit: Exit::Done,
+        }),
     }
 }
 

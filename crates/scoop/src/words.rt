@@ -22,6 +22,8 @@ pub enum Command {
     Check(CheckOptions),
     /// Checks and runs it.
     Run(RunOptions),
+    /// Prints its canonical text.
+    Print,
 }
 
 #[derive(Drop)]
@@ -107,6 +109,15 @@ and then, on lines of its own, what the handler printed. The status is `free`,
 number of requests that were refused. The report ends with `stopped idle`, or
 with `stopped limit` where the turns were used up.";
 
+const PRINT_ABOUT: &str = "Writes the text of a system in its one canonical layout";
+
+const PRINT_LONG_ABOUT: &str = "\
+Writes the text of a system in its one canonical layout.
+
+The text is read, but not checked. Comments and notes are left out, and there
+are no more parentheses than the grammar needs. Printed again, the text stays
+as it is.";
+
 const FILE_HELP: &str = "The files of the system's classes, in order";
 
 const ROOT_HELP: &str = "The root class and its creation procedure";
@@ -122,15 +133,17 @@ pub fn read_words<'a, S: AsStr>(
     let Some((name, options)) = matches.subcommand() else {
         return Err(UsageFault::NoCommand);
     };
-    let root = read_root(alloc, options)?;
-    let files = read_files(alloc, options)?;
     let command = match name {
-        "run" => {
-            let turns = options.get_one("turns").unwrap_or(DEFAULT_TURNS);
-            Command::Run(RunOptions { root, turns })
-        }
-        _ => Command::Check(CheckOptions { root }),
+        "print" => Command::Print,
+        "run" => Command::Run(RunOptions {
+            root: read_root(alloc, options)?,
+            turns: options.get_one("turns").unwrap_or(DEFAULT_TURNS),
+        }),
+        _ => Command::Check(CheckOptions {
+            root: read_root(alloc, options)?,
+        }),
     };
+    let files = read_files(alloc, options)?;
     Ok(Invocation { command, files })
 }
 
@@ -153,7 +166,8 @@ fn scoop_command<'a>(alloc: Global) -> Result<clap::Command<'a>, AllocError> {
         .subcommand_required(true)
         .arg_required_else_help(true)
         .subcommand(check_command(alloc)?)?
-        .subcommand(run_command(alloc)?)
+        .subcommand(run_command(alloc)?)?
+        .subcommand(print_command(alloc)?)
 }
 
 fn check_command<'a>(alloc: Global) -> Result<clap::Command<'a>, AllocError> {
@@ -177,6 +191,13 @@ fn run_command<'a>(alloc: Global) -> Result<clap::Command<'a>, AllocError> {
         .after_help(STATUS_HELP)
         .arg(turns)?
         .arg(root_argument(alloc))?
+        .arg(file_argument(alloc))
+}
+
+fn print_command<'a>(alloc: Global) -> Result<clap::Command<'a>, AllocError> {
+    clap::Command::new(alloc, "print")
+        .about(PRINT_ABOUT)
+        .long_about(PRINT_LONG_ABOUT)
         .arg(file_argument(alloc))
 }
 

@@ -1,26 +1,27 @@
 // What stands in a class: its `create` list, its features and its invariant.
 
 ghost use Rattle.std.specs.Prelude.{◌≡◌, map};
-ghost use Rattle.sc_tree.specs.View.{name_of, kind_of, feature_of, clause_of, class_of};
+ghost use Rattle.sc_tree.specs.View.{name_of, type_of, kind_of, feature_of, clause_of, class_of};
 ghost use Rattle.scoop.specs.Rules as rules;
 ghost use Rattle.scoop.specs.Judging as judging;
 
 use crate::rules::expressions::{check_condition, is_formula, span_of};
 use crate::rules::fault::{CheckFault, require};
 use crate::rules::instructions::check_instructions;
-use crate::rules::names::{Role, check_name};
+use crate::rules::names::{Role, check_name, is_plain_routine};
+use crate::rules::not_yet::is_known_type;
 use crate::rules::rule::Rule;
 use crate::rules::types::ValueType;
 use sc_text::Span;
-use sc_tree::{Class, Clause, Feature, FeatureKind, Name};
+use sc_tree::{Class, Clause, DeclaredType, Feature, FeatureKind, Name};
 
-/// The text of a class: its `create` list, then its features, then its invariant.
+/// The text of one of the classes: its `create` list, then its features, then its invariant.
 #[tactic(auto, unfolding(crate::specs::Judging::judge_class, sc_tree::specs::View::class_of))]
-pub fn check_class(class: &Class) -> Result<(), CheckFault>
-    ensures { result ≡ judging.judge_class (class_of class.now) }
+pub fn check_class(classes: &[Class], class: &Class) -> Result<(), CheckFault>
+    ensures { result ≡ judging.judge_class (map class_of classes.now) (class_of class.now) }
 {
     check_creators(class, &class.creators)?;
-    check_features(class, &class.features)?;
+    check_features(classes, class, &class.features)?;
     check_clauses(class, &class.invariant)
 }
 
@@ -35,29 +36,39 @@ fn check_creators(class: &Class, creators: &[Name]) -> Result<(), CheckFault>
 }
 
 #[tactic(auto, unfolding(sc_tree::specs::View::feature_of))]
-fn check_features(class: &Class, features: &[Feature]) -> Result<(), CheckFault>
-    ensures { let judge = judging.judge_feature (class_of class.now) in
+fn check_features(classes: &[Class], class: &Class, features: &[Feature]) -> Result<(), CheckFault>
+    ensures { let judge = judging.judge_feature (map class_of classes.now) (class_of class.now) in
         result ≡ judging.judge_each judge (map feature_of features.now) }
 {
     for feature in features {
-        check_feature(class, &feature.kind)?;
+        check_feature(classes, class, &feature.kind)?;
     }
     Ok(())
 }
 
-/// An attribute's type, or a routine's body.
+/// An attribute's type, or the body of a routine that is nothing else.
 #[tactic(auto, unfolding(sc_tree::specs::View::kind_of))]
-fn check_feature(class: &Class, kind: &FeatureKind) -> Result<(), CheckFault>
-    ensures { result ≡ judging.judge_kind (class_of class.now) (kind_of kind.now) }
+fn check_feature(classes: &[Class], class: &Class, kind: &FeatureKind) -> Result<(), CheckFault>
+    ensures { result ≡ judging.judge_kind (map class_of classes.now) (class_of class.now) (kind_of kind.now) }
 {
     match kind {
         FeatureKind::Attribute(declared) => require(
-            ValueType::named(&declared.class.text).is_some(),
+            !names_nothing(classes, declared),
             Rule::UnknownName,
             Some(declared.class.span),
         ),
-        FeatureKind::Routine(routine) => check_instructions(class, &routine.body),
+        FeatureKind::Routine(routine) if is_plain_routine(routine) => {
+            check_instructions(class, &routine.body)
+        }
+        FeatureKind::Routine(_) => Ok(()),
     }
+}
+
+/// Whether nothing has the name of the type.
+fn names_nothing(classes: &[Class], declared: &DeclaredType) -> bool
+    ensures { result ≡ rules.names_nothing (map class_of classes.now) (type_of declared.now) }
+{
+    is_known_type(classes, declared) && ValueType::named(&declared.class.text).is_none()
 }
 
 fn check_clauses(class: &Class, clauses: &[Clause]) -> Result<(), CheckFault>

@@ -1,17 +1,17 @@
 // Expressions: the type, or the first rule that fails.
 
 ghost use Rattle.std.specs.Prelude.{◌≡◌};
-ghost use Rattle.sc_tree.specs.View.{class_of, expr_of};
+ghost use Rattle.sc_tree.specs.View.{name_of, class_of, expr_of, target_of, exprs_of};
 ghost use Rattle.scoop.specs.Typing as typing;
 ghost use Rattle.scoop.specs.Rules as rules;
 ghost use Rattle.scoop.specs.Judging as judging;
 
 use crate::rules::fault::{CheckFault, refuse, require};
-use crate::rules::names::{Meaning, Role};
+use crate::rules::names::{Meaning, Role, is_name};
 use crate::rules::rule::Rule;
-use crate::rules::types::{ValueType, binary_type, unary_type};
+use crate::rules::types::{ValueType, binary_type, is_old, unary_type};
 use sc_text::Span;
-use sc_tree::{BinaryOperator, Class, Expr, UnaryOperator};
+use sc_tree::{BinaryOperator, Call, Class, Expr, UnaryOperator};
 
 /// Where an expression stands.
 #[tactic(auto, unfolding(sc_tree::specs::View::expr_of))]
@@ -19,16 +19,16 @@ pub fn span_of(e: &Expr) -> Span
     ensures { result ≡ typing.span_of (expr_of e.now) }
 {
     match e {
-        Expr::Integer(span, _) => *span,
-        Expr::Boolean(span, _) => *span,
-        Expr::Call(name) => name.span,
-        Expr::Unary(span, _, _) => *span,
-        Expr::Binary(span, _, _, _) => *span,
+        Expr::Integer(span, _) | Expr::Boolean(span, _) => *span,
+        Expr::Void(span) | Expr::Current(span) | Expr::Result(span) => *span,
+        Expr::Call(call) => call.span,
+        Expr::Unary(span, _, _) | Expr::Binary(span, _, _, _) => *span,
+        Expr::ObjectTest(span, _, _, _) => *span,
     }
 }
 
 /// The type of an expression in the text of the class. It has none where it names an attribute whose
-/// own type is unknown, or has such an operand.
+/// own type is unknown, is of a kind of which the rules say nothing yet, or has such an operand.
 #[tactic(auto, unfolding(crate::specs::Judging::judge_expr, sc_tree::specs::View::expr_of))]
 pub fn check_expression(class: &Class, e: &Expr) -> Result<Option<ValueType>, CheckFault>
     ensures { result ≡ judging.judge_expr (class_of class.now) (expr_of e.now) }
@@ -36,11 +36,7 @@ pub fn check_expression(class: &Class, e: &Expr) -> Result<Option<ValueType>, Ch
     match e {
         Expr::Integer(_, _) => Ok(Some(ValueType::Integer)),
         Expr::Boolean(_, _) => Ok(Some(ValueType::Boolean)),
-        Expr::Call(name) => {
-            let meaning = Meaning::of(class, &name.text);
-            refuse(meaning.fault(Role::Value), name.span)?;
-            Ok(meaning.value_type())
-        }
+        Expr::Call(call) => check_value(class, call),
         Expr::Unary(span, operator, operand) => {
             let operand = check_expression(class, operand)?;
             check_unary(*span, *operator, operand)
@@ -50,7 +46,21 @@ pub fn check_expression(class: &Class, e: &Expr) -> Result<Option<ValueType>, Ch
             let right = check_expression(class, right)?;
             check_binary(*span, *operator, left, right)
         }
+        _ => Ok(None),
     }
+}
+
+/// The type of a call in the text of the class: of what a name alone stands for.
+fn check_value(class: &Class, call: &Call) -> Result<Option<ValueType>, CheckFault>
+    ensures { let actuals = exprs_of call.now.actuals.items in
+        result ≡ judging.judge_value (class_of class.now) (target_of call.now.target) (name_of call.now.name) actuals }
+{
+    if !is_name(call) {
+        return Ok(None);
+    }
+    let meaning = Meaning::of(class, &call.name.text);
+    refuse(meaning.fault(Role::Value), call.name.span)?;
+    Ok(meaning.value_type())
 }
 
 fn operation(result_type: Option<ValueType>, place: Span) -> Result<Option<ValueType>, CheckFault>
@@ -73,8 +83,8 @@ fn check_unary(
     ensures { result ≡ judging.judge_unary place operator operand }
 {
     match operand {
-        None => Ok(None),
-        Some(operand) => operation(unary_type(operator, operand), place),
+        Some(operand) if !is_old(operator) => operation(unary_type(operator, operand), place),
+        _ => Ok(None),
     }
 }
 
@@ -128,8 +138,9 @@ pub fn is_formula(class: &Class, e: &Expr) -> bool
     match e {
         Expr::Integer(_, _) => true,
         Expr::Boolean(_, _) => true,
-        Expr::Call(name) => Meaning::of(class, &name.text).is_attribute(),
-        Expr::Unary(_, _, operand) => is_formula(class, operand),
+        Expr::Call(call) => is_name(call) && Meaning::of(class, &call.name.text).is_attribute(),
+        Expr::Unary(_, operator, operand) => !is_old(*operator) && is_formula(class, operand),
         Expr::Binary(_, _, left, right) => is_formula(class, left) && is_formula(class, right),
+        _ => false,
     }
 }

@@ -24,7 +24,7 @@ fn is_built_in(name: &str) -> bool
 }
 
 /// Whether one of the classes has the name.
-fn has_class(classes: &[Class], name: &str) -> bool
+pub fn has_class(classes: &[Class], name: &str) -> bool
     ensures { result ≡ class_rules.has_class (map class_of classes.now) name.now }
 {
     classes.iter().any(|class| class.name.text.as_str() == name)

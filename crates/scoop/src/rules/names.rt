@@ -1,7 +1,7 @@
 // What names stand for.
 
 ghost use Rattle.std.specs.Prelude.{◌≡◌, map, option_map, option_copied};
-ghost use Rattle.sc_tree.specs.View.{name_of, kind_of, feature_of, class_of};
+ghost use Rattle.sc_tree.specs.View.{name_of, expr_of, target_of, exprs_of, declaration_of, type_if_any, clause_of, kind_of, feature_of, class_of};
 ghost use Rattle.sc_model.specs.Lookup as lookup;
 ghost use Rattle.scoop.specs.ClassRules as class_rules;
 ghost use Rattle.scoop.specs.Typing as typing;
@@ -11,7 +11,7 @@ ghost use Rattle.scoop.specs.Judging as judging;
 use crate::rules::fault::{CheckFault, refuse};
 use crate::rules::rule::Rule;
 use crate::rules::types::ValueType;
-use sc_tree::{Class, Feature, FeatureKind, Name};
+use sc_tree::{Call, Class, Expr, Feature, FeatureKind, Name, Routine};
 
 /// What a name stands for in the text of a class.
 #[derive(Clone, Copy, Debug, PartialEq, Eq)]
@@ -20,10 +20,12 @@ pub enum Meaning {
     Unknown,
     /// An attribute, with its type where there is one of the name that it is declared with.
     Attribute(Option<ValueType>),
-    /// A routine of the class.
+    /// A routine of the class that is nothing but its body.
     Procedure,
     /// The procedure `print`, which every class has, with one formal.
     Print,
+    /// A routine with formals, a result, locals or a contract, of which the rules say nothing yet.
+    Other,
 }
 
 /// How a name is used.
@@ -60,9 +62,10 @@ impl Meaning {
     {
         match kind {
             FeatureKind::Attribute(declared) => {
-                Meaning::Attribute(ValueType::named(&declared.class.text))
+                Meaning::Attribute(ValueType::declared(declared))
             }
-            FeatureKind::Routine(_) => Meaning::Procedure,
+            FeatureKind::Routine(routine) if is_plain_routine(routine) => Meaning::Procedure,
+            FeatureKind::Routine(_) => Meaning::Other,
         }
     }
 
@@ -89,6 +92,7 @@ impl Meaning {
     {
         match (role, self) {
             (_, Meaning::Unknown) => Some(Rule::UnknownName),
+            (_, Meaning::Other) => None,
             (Role::Value, Meaning::Attribute(_)) => None,
             (Role::Value, Meaning::Procedure) => Some(Rule::ResultType),
             (Role::Value, Meaning::Print) => Some(Rule::WrongArity),
@@ -109,6 +113,40 @@ pub fn is_print(name: &str) -> bool
     ensures { result ≡ class_rules.is_print name.now }
 {
     name == "print"
+}
+
+/// Whether the call is of a name alone: it has no target and no actuals.
+pub fn is_name(call: &Call) -> bool
+    ensures { result ≡ typing.is_name (target_of call.now.target) (exprs_of call.now.actuals.items) }
+{
+    call.target.is_none() && call.actuals.is_empty()
+}
+
+/// What the call prints: the only actual of `print`.
+pub fn printed(call: &Call) -> Option<&Expr>
+    ensures { let actuals = exprs_of call.now.actuals.items in
+        option_map expr_of (option_copied result) ≡ typing.printed (target_of call.now.target) (name_of call.now.name) actuals }
+{
+    if call.target.is_some() || !is_print(&call.name.text) {
+        return None;
+    }
+    match call.actuals.as_slice() {
+        [value] => Some(value),
+        _ => None,
+    }
+}
+
+/// Whether the routine is nothing but its body: it has no formals, result, locals or contract.
+pub fn is_plain_routine(routine: &Routine) -> bool
+    ensures { let r = routine.now in
+        result ≡ typing.is_plain_routine (map declaration_of r.formals.items) (type_if_any r.result_type)
+        (map clause_of r.precondition.items) (map declaration_of r.locals.items) (map clause_of r.postcondition.items) }
+{
+    routine.formals.is_empty()
+        && routine.result_type.is_none()
+        && routine.precondition.is_empty()
+        && routine.locals.is_empty()
+        && routine.postcondition.is_empty()
 }
 
 /// The first feature of the name.

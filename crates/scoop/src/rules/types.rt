@@ -1,9 +1,10 @@
 // Types of values, and what operators make of them.
 
 ghost use Rattle.std.specs.Prelude.{◌≡◌};
+ghost use Rattle.sc_tree.specs.View.{type_of};
 ghost use Rattle.scoop.specs.Typing as typing;
 
-use sc_tree::{BinaryOperator, UnaryOperator};
+use sc_tree::{BinaryOperator, DeclaredType, HandlerTag, UnaryOperator};
 
 /// The type of a value. There are no others in this part of the language, and each conforms to itself
 /// alone.
@@ -27,6 +28,16 @@ impl ValueType {
         }
     }
 
+    /// The type that something is declared with, where it is attached and of the own handler.
+    pub fn declared(declared: &DeclaredType) -> Option<ValueType>
+        ensures { result ≡ typing.declared_type (type_of declared.now) }
+    {
+        if declared.is_detachable || !matches!(declared.tag, HandlerTag::Own) {
+            return None;
+        }
+        ValueType::named(&declared.class.text)
+    }
+
     /// Whether a value of this type may stand where one of the other is wanted.
     pub fn conforms_to(self, other: ValueType) -> bool
         ensures { result ≡ typing.conforms self other }
@@ -37,6 +48,13 @@ impl ValueType {
             _ => false,
         }
     }
+}
+
+/// Whether the operator is `old`.
+pub fn is_old(operator: UnaryOperator) -> bool
+    ensures { result ≡ typing.is_old operator }
+{
+    matches!(operator, UnaryOperator::Old)
 }
 
 /// The type of the result, where the operator takes an operand of this type.

@@ -3,8 +3,10 @@
 mod command_line;
 mod input;
 mod output;
+mod print;
 mod refusals;
 mod runs;
+mod sources;
 
 use crate::files::fake::{FakeFile, FakeFiles};
 use crate::serve::{Exit, serve};

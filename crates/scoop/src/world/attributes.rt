@@ -1,10 +1,10 @@
 // The attributes of an object.
 
-ghost use Rattle.std.specs.Prelude.{◌≡◌, ◌≤◌, length, position, [], List, map, Some, None, IfOk, IsTrue, if◌then◌else◌};
+ghost use Rattle.std.specs.Prelude.{◌≡◌, ◌≤◌, length, position, [], List, map, Some, None, IfOk, IsTrue, string_bytes, if◌then◌else◌};
 ghost use Rattle.std.specs.Bool.{OnFalse};
 ghost use Rattle.std.specs.Option.{option_map};
-ghost use Rattle.sc_tree.specs.View.{feature_of};
-ghost use Rattle.sc_model.specs.Value.{same_kind, default_of, atom_of};
+ghost use Rattle.sc_tree.specs.View.{handler_tag_of, feature_of};
+ghost use Rattle.sc_model.specs.Value.{same_kind, default_of, default_with, atom_of};
 ghost use Rattle.sc_model.specs.Object as m;
 ghost use Rattle.sc_model.specs.Object.{assigned, value_named, atoms_of, fresh_attributes, fresh_attribute};
 ghost use Rattle.sc_model.specs.Invariant.{attribute_named};
@@ -12,7 +12,7 @@ ghost use Rattle.scoop.specs.BindingView.{binding_of, is_named};
 
 use sc_formula::Atom;
 use sc_model::Value;
-use sc_tree::{Feature, FeatureKind};
+use sc_tree::{DeclaredType, Feature, FeatureKind, HandlerTag};
 use std::alloc::{AllocError, Global};
 use std::marker::Model;
 
@@ -137,14 +137,25 @@ fn fresh<'s>(feature: &'s Feature) -> Option<Binding<'s>>
     match &feature.kind {
         FeatureKind::Attribute(declared) => Some(Binding {
             name: feature.name.text.as_str(),
-            value: default_value(declared.class.text.as_str()),
+            value: default_with(declared),
         }),
         FeatureKind::Routine(_) => None,
     }
 }
 
+/// The default of the entities of a type.
+#[tactic(auto, using(crate::proofs::Views::tree_views))]
+fn default_with(declared: &DeclaredType) -> Value
+    ensures { result ≡ default_with declared.now.is_detachable (handler_tag_of declared.now.tag) (string_bytes declared.now.class.text) }
+{
+    match declared.tag {
+        HandlerTag::Own if !declared.is_detachable => default_of(declared.class.text.as_str()),
+        _ => Value::Void,
+    }
+}
+
 /// The default of the entities of a class.
-fn default_value(class: &str) -> Value
+fn default_of(class: &str) -> Value
     ensures { result ≡ default_of class.now }
 {
     if class == "integer" {

@@ -3,14 +3,15 @@
 ghost use Rattle.std.specs.Prelude.{◌≡◌, ◌≤◌, Some, length, map, IfOk};
 ghost use Rattle.std.specs.Option.{option_map, option_and_then};
 ghost use Rattle.sc_formula.specs.Plain.{plain_term, plain_formula};
-ghost use Rattle.sc_tree.specs.View.{expr_of, clause_of};
+ghost use Rattle.sc_tree.specs.Plain as plain;
+ghost use Rattle.sc_tree.specs.View.{name_of, expr_of, target_of, exprs_of, clause_of};
 ghost use Rattle.sc_model.specs.Invariant as m;
 
 use crate::world::attributes::Attributes;
 use crate::world::operators;
 use sc_formula::{ArithmeticOperator, Comparison, Connective, Formula, Term};
 use sc_model::Value;
-use sc_tree::{Clause, Expr, UnaryOperator};
+use sc_tree::{Call, Clause, Expr, UnaryOperator};
 use std::alloc::{AllocError, Global};
 
 /// The clauses as formulas over these attributes, or None where one is none.
@@ -44,9 +45,8 @@ fn formula(
     ensures { IfOk result (λ formula. option_map plain_formula formula ≡ m.formula_of attributes.now (expr_of expression.now)) }
 {
     match expression {
-        Expr::Integer(..) => Ok(None),
         Expr::Boolean(_, truth) => Ok(Some(Formula::Constant(*truth))),
-        Expr::Call(name) => Ok(boolean_attribute(attributes.find(name.text.as_str()))),
+        Expr::Call(call) => Ok(call_formula(attributes, call)),
         Expr::Unary(_, operator, operand) => {
             let operand = formula(alloc, attributes, operand)?;
             unary_formula(alloc, *operator, operand)
@@ -66,6 +66,26 @@ fn formula(
             let right = formula(alloc, attributes, right)?;
             connected(alloc, left, connective, right)
         }
+        Expr::Integer(..)
+        | Expr::Void(_)
+        | Expr::Current(_)
+        | Expr::Result(_)
+        | Expr::ObjectTest(..) => Ok(None),
+    }
+}
+
+/// A call as a formula over these attributes: the name of one that is a truth value.
+#[tactic(auto, using(crate::proofs::Views::tree_views, crate::proofs::UnrunCalls::calls, sc_formula::proofs::Plain::plain_trees))]
+fn call_formula(attributes: &Attributes<'_>, call: &Call) -> Option<Formula>
+    requires { length attributes.now ≤ 256 }
+    ensures { option_map plain_formula result ≡ m.formula_of attributes.now (plain.Call call.now.span (target_of call.now.target) (name_of call.now.name) (exprs_of call.now.actuals.items)) }
+{
+    match &call.target {
+        None => match call.actuals.as_slice() {
+            [] => boolean_attribute(attributes.find(call.name.text.as_str())),
+            [_, ..] => None,
+        },
+        Some(_) => None,
     }
 }
 
@@ -81,8 +101,7 @@ fn term(
 {
     match expression {
         Expr::Integer(_, number) => Ok(Some(Term::Integer(*number))),
-        Expr::Boolean(..) => Ok(None),
-        Expr::Call(name) => Ok(integer_attribute(attributes.find(name.text.as_str()))),
+        Expr::Call(call) => Ok(call_term(attributes, call)),
         Expr::Unary(_, operator, operand) => {
             let operand = term(alloc, attributes, operand)?;
             unary_term(alloc, *operator, operand)
@@ -95,6 +114,26 @@ fn term(
             let right = term(alloc, attributes, right)?;
             calculated(alloc, left, operator, right)
         }
+        Expr::Boolean(..)
+        | Expr::Void(_)
+        | Expr::Current(_)
+        | Expr::Result(_)
+        | Expr::ObjectTest(..) => Ok(None),
+    }
+}
+
+/// A call as a term over these attributes: the name of one that is an integer.
+#[tactic(auto, using(crate::proofs::Views::tree_views, crate::proofs::UnrunCalls::calls, sc_formula::proofs::Plain::plain_trees))]
+fn call_term(attributes: &Attributes<'_>, call: &Call) -> Option<Term>
+    requires { length attributes.now ≤ 256 }
+    ensures { option_map plain_term result ≡ m.term_of attributes.now (plain.Call call.now.span (target_of call.now.target) (name_of call.now.name) (exprs_of call.now.actuals.items)) }
+{
+    match &call.target {
+        None => match call.actuals.as_slice() {
+            [] => integer_attribute(attributes.find(call.name.text.as_str())),
+            [_, ..] => None,
+        },
+        Some(_) => None,
     }
 }
 

@@ -1,7 +1,8 @@
 // The steps of a routine.
 
 ghost use Rattle.std.specs.Prelude.{◌≡◌, [], ◌∷◌, Some, List, IfOk, OnOk};
-ghost use Rattle.sc_tree.specs.View.{expr_of, instr_of, instrs_of, branches_of};
+ghost use Rattle.sc_tree.specs.Plain as plain;
+ghost use Rattle.sc_tree.specs.View.{name_of, expr_of, target_of, exprs_of, instr_of, instrs_of, branches_of};
 ghost use Rattle.sc_model.specs.Step as m;
 ghost use Rattle.sc_model.specs.Moves as m_moves;
 ghost use Rattle.sc_model.specs.Operators.{arithmetic_of, comparison_of};
@@ -13,7 +14,7 @@ use crate::world::operators;
 use crate::world::stacks::{Task, Tasks, Values};
 use sc_formula::{ArithmeticFault, arithmetic};
 use sc_model::{Cause, Value};
-use sc_tree::{BinaryOperator, Branch, Expr, Instr, UnaryOperator};
+use sc_tree::{BinaryOperator, Branch, Call, Expr, Instr, UnaryOperator, Variable};
 use std::alloc::AllocError;
 
 /// A visible step.
@@ -64,11 +65,11 @@ fn perform<'s>(task: Task<'s>, point: &mut Point<'s>) -> Result<Option<Act<'s>>,
 {
     match task {
         Task::Do(body) => {
-            if let [first, others @ ..] = body {
-                point.tasks.push(Task::Do(others))?;
-                begin(first, &mut point.tasks)?;
-            }
-            Ok(None)
+            let [first, others @ ..] = body else {
+                return Ok(None);
+            };
+            point.tasks.push(Task::Do(others))?;
+            begin(first, point)
         }
         Task::Eval(expression) => evaluate(expression, point),
         Task::PrintText(text) => Ok(Some(Act::PrintsText(text))),
@@ -110,25 +111,67 @@ fn perform_on<'s>(
 
 /// An instruction begins: its tasks.
 #[tactic(auto, using(crate::proofs::Views::tree_views))]
-fn begin<'s>(instruction: &'s Instr, tasks: &mut Tasks<'s>) -> Result<(), AllocError>
-    ensures { OnOk result (tasks.new ≡ m.begin (instr_of instruction.now) tasks.old) }
+fn begin<'s>(instruction: &'s Instr, point: &mut Point<'s>) -> Result<Option<Act<'s>>, AllocError>
+    ensures { IfOk result (λ act. step_of act (point_of point.new) ≡ m.begin (instr_of instruction.now) (point_of point.old)) }
 {
     match instruction {
-        Instr::Assign(_, name, value) => {
-            tasks.push(Task::AssignTo(name.text.as_str()))?;
-            tasks.push(Task::Eval(value))
+        Instr::Assign(_, variable, value) => match variable {
+            Variable::Named(name) => {
+                point.tasks.push(Task::AssignTo(name.text.as_str()))?;
+                point.tasks.push(Task::Eval(value))?;
+                Ok(None)
+            }
+            Variable::Result(_) => Ok(Some(Act::Fails(Cause::BadCode))),
+        },
+        Instr::PrintText(_, text) => {
+            point.tasks.push(Task::PrintText(text.as_str()))?;
+            Ok(None)
         }
-        Instr::Print(_, value) => {
-            tasks.push(Task::Print)?;
-            tasks.push(Task::Eval(value))
-        }
-        Instr::PrintText(_, text) => tasks.push(Task::PrintText(text.as_str())),
-        Instr::Call(name) => tasks.push(Task::CallRoutine(name.text.as_str())),
+        Instr::Call(call) => begin_procedure(call, point),
         Instr::If(_, condition, body, branches, other) => {
-            tasks.push(Task::Choose(body, branches, other))?;
-            tasks.push(Task::Eval(condition))
+            point.tasks.push(Task::Choose(body, branches, other))?;
+            point.tasks.push(Task::Eval(condition))?;
+            Ok(None)
+        }
+        Instr::Create(..) | Instr::Loop(..) | Instr::Check(..) | Instr::Block(..) => {
+            Ok(Some(Act::Fails(Cause::BadCode)))
         }
     }
+}
+
+/// A call of a procedure begins: its tasks.
+#[tactic(auto, using(crate::proofs::Views::tree_views, crate::proofs::UnrunCalls::calls))]
+fn begin_procedure<'s>(call: &'s Call, point: &mut Point<'s>) -> Result<Option<Act<'s>>, AllocError>
+    ensures { IfOk result (λ act. step_of act (point_of point.new) ≡ m.begin (plain.CallRoutine call.now.span (target_of call.now.target) (name_of call.now.name) (exprs_of call.now.actuals.items)) (point_of point.old)) }
+{
+    let name = call.name.text.as_str();
+    match &call.target {
+        None => match call.actuals.as_slice() {
+            [] => {
+                point.tasks.push(Task::CallRoutine(name))?;
+                Ok(None)
+            }
+            [actual] => begin_call(name, actual, point),
+            [_, _, ..] => Ok(Some(Act::Fails(Cause::BadCode))),
+        },
+        Some(_) => Ok(Some(Act::Fails(Cause::BadCode))),
+    }
+}
+
+/// A call with one actual begins: `print`, or none that there is.
+fn begin_call<'s>(
+    name: &str,
+    actual: &'s Expr,
+    point: &mut Point<'s>,
+) -> Result<Option<Act<'s>>, AllocError>
+    ensures { IfOk result (λ act. step_of act (point_of point.new) ≡ m.begin_call name.now (expr_of actual.now) (point_of point.old)) }
+{
+    if name != "print" {
+        return Ok(Some(Act::Fails(Cause::BadCode)));
+    }
+    point.tasks.push(Task::Print)?;
+    point.tasks.push(Task::Eval(actual))?;
+    Ok(None)
 }
 
 /// An expression begins.
@@ -139,10 +182,7 @@ fn evaluate<'s>(expression: &'s Expr, point: &mut Point<'s>) -> Result<Option<Ac
     match expression {
         Expr::Integer(_, number) => give(Value::Integer(*number), point),
         Expr::Boolean(_, truth) => give(Value::Boolean(*truth), point),
-        Expr::Call(name) => match point.attributes.value(name.text.as_str()) {
-            Some(value) => give(value, point),
-            None => Ok(Some(Act::Fails(Cause::BadCode))),
-        },
+        Expr::Call(call) => evaluate_call(call, point),
         Expr::Unary(_, operator, operand) => {
             point.tasks.push(Task::ApplyUnary(*operator))?;
             point.tasks.push(Task::Eval(operand))?;
@@ -153,6 +193,23 @@ fn evaluate<'s>(expression: &'s Expr, point: &mut Point<'s>) -> Result<Option<Ac
             point.tasks.push(Task::Eval(left))?;
             Ok(None)
         }
+        Expr::Void(_) | Expr::Current(_) | Expr::Result(_) | Expr::ObjectTest(..) => {
+            Ok(Some(Act::Fails(Cause::BadCode)))
+        }
+    }
+}
+
+/// A call that gives a value begins: the name of an entity, without target and actuals.
+#[tactic(auto, using(crate::proofs::Views::tree_views, crate::proofs::UnrunCalls::calls))]
+fn evaluate_call<'s>(call: &'s Call, point: &mut Point<'s>) -> Result<Option<Act<'s>>, AllocError>
+    ensures { IfOk result (λ act. step_of act (point_of point.new) ≡ m.evaluate (plain.Call call.now.span (target_of call.now.target) (name_of call.now.name) (exprs_of call.now.actuals.items)) (point_of point.old)) }
+{
+    match &call.target {
+        None => match call.actuals.as_slice() {
+            [] => give_found(point.attributes.value(call.name.text.as_str()), point),
+            [_, ..] => Ok(Some(Act::Fails(Cause::BadCode))),
+        },
+        Some(_) => Ok(Some(Act::Fails(Cause::BadCode))),
     }
 }
 
@@ -162,6 +219,19 @@ fn give<'s>(value: Value, point: &mut Point<'s>) -> Result<Option<Act<'s>>, Allo
 {
     point.values.push(value)?;
     Ok(None)
+}
+
+/// The value of an entity, where there is one.
+fn give_found<'s>(
+    found: Option<Value>,
+    point: &mut Point<'s>,
+) -> Result<Option<Act<'s>>, AllocError>
+    ensures { IfOk result (λ act. step_of act (point_of point.new) ≡ m.gives_found found (point_of point.old)) }
+{
+    match found {
+        Some(value) => give(value, point),
+        None => Ok(Some(Act::Fails(Cause::BadCode))),
+    }
 }
 
 /// What an operation on integers comes to.

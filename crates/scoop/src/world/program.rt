@@ -3,7 +3,8 @@
 ghost use Rattle.std.specs.Prelude.{◌≡◌, ◌≤◌, Some, length, map, IfOk};
 ghost use Rattle.std.specs.Option.{option_map};
 ghost use Rattle.sc_formula.specs.Atom.{kinds_of};
-ghost use Rattle.sc_tree.specs.View.{system_of, class_of, instrs_of, feature_of};
+ghost use Rattle.sc_tree.specs.declared.system.FeatureKind.TheVariants as kind;
+ghost use Rattle.sc_tree.specs.View.{system_of, class_of, instrs_of, kind_of, feature_of};
 ghost use Rattle.sc_model.specs.Object.{fresh_attributes, atoms_of};
 ghost use Rattle.sc_model.specs.Invariant.{invariant_of, meets_clauses};
 ghost use Rattle.sc_model.specs.Turn.{body_of, body_named, routine_named};
@@ -11,7 +12,7 @@ ghost use Rattle.sc_model.specs.Turn.{body_of, body_named, routine_named};
 use crate::world::attributes::Attributes;
 use crate::world::invariant;
 use sc_formula::{Atom, Formula};
-use sc_tree::{Class, Feature, FeatureKind, Instr, System};
+use sc_tree::{Class, Feature, FeatureKind, Instr, Routine, System};
 use std::alloc::{AllocError, Global};
 use std::marker::Model;
 
@@ -114,6 +115,23 @@ fn body<'s>(feature: &'s Feature) -> Option<&'s [Instr]>
 {
     match &feature.kind {
         FeatureKind::Attribute(_) => None,
-        FeatureKind::Routine(routine) => Some(routine.body.as_slice()),
+        FeatureKind::Routine(routine) => plain_body(routine),
+    }
+}
+
+/// The body of a routine that has no formals, result, locals and contracts.
+#[tactic(auto, using(crate::proofs::Views::tree_views))]
+fn plain_body<'s>(routine: &'s Routine) -> Option<&'s [Instr]>
+    ensures { option_map (λ body. instrs_of body.now) result ≡ body_of (kind_of (kind.Routine routine.now)) }
+{
+    if routine.formals.is_empty()
+        && routine.result_type.is_none()
+        && routine.precondition.is_empty()
+        && routine.locals.is_empty()
+        && routine.postcondition.is_empty()
+    {
+        Some(routine.body.as_slice())
+    } else {
+        None
     }
 }

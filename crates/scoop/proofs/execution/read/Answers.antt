@@ -1,15 +1,15 @@
 use Rattle.std.proofs.Common.{ap}
-use Rattle.scoop.specs.Execution.{IsRefusedFor}
+use Rattle.scoop.specs.Execution.{IsUnreadable}
 use Rattle.scoop.specs.Refusal.{of_tokens, out_of_memory}
 use Rattle.scoop.proofs.ExecutionLemmas.{tree-spelled, tokens-refused, tree-found, err-is, only-err-is}
 use Rattle.scoop.proofs.execution.read.Goals as goal
 
 pub returns-in_err-parse-clause-refused : goal.returns-in_err-parse-clause-refused
-returns-in_err-parse-clause-refused c = λ root.
+returns-in_err-parse-clause-refused c =
     let answer = rw c.as_slice.ensures.value at c.in_err-parse.ensures.answer in
-    err-is (IsRefusedFor c.args.text.now root) c.from_residual-in_err-parse.result (of_tokens c.in_err-parse.field-0.0)
+    err-is (IsUnreadable c.args.text.now) c.from_residual-in_err-parse.result (of_tokens c.in_err-parse.field-0.0)
     c.from_residual-in_err-parse.ensures.1
-    (tokens-refused c.args.text.now root c.in_ok-tokens.tokens.items c.in_err-parse.field-0.0 c.in_ok-tokens.ensures.spelled answer)
+    (tokens-refused c.args.text.now c.in_ok-tokens.tokens.items c.in_err-parse.field-0.0 c.in_ok-tokens.ensures.spelled answer)
 
 pub returns-in_err-parse-clause-found : goal.returns-in_err-parse-clause-found
 returns-in_err-parse-clause-found c = λ tree is.

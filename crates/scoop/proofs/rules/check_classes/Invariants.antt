@@ -4,5 +4,6 @@ use Rattle.scoop.specs.Judging as judging
 use Rattle.scoop.proofs.rules.check_classes.Given as goal
 
 abbrev pub invariant-loop-class : goal.invariant-loop-class
-invariant-loop-class l = judging.judge_each judging.judge_class (map class_of l.fn.classes) ≡ judging.judge_each
-    judging.judge_class (map class_of (drop l.class-index l.fn.classes))
+invariant-loop-class l =
+    judging.judge_each (judging.judge_class (map class_of l.fn.classes)) (map class_of l.fn.classes) ≡ judging.judge_each
+    (judging.judge_class (map class_of l.fn.classes)) (map class_of (drop l.class-index l.fn.classes))

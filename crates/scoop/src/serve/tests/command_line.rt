@@ -53,12 +53,14 @@ fn takes_options_in_any_place(rt: HostRuntime) -> Result<(), Fail> {
 #[test]
 fn refuses_other_words(rt: HostRuntime) -> Result<(), Fail> {
     let files = [FakeFile::new("a.e", TEXT)];
-    let cases: [&[&str]; 14] = [
+    let cases: [&[&str]; 16] = [
         &["scoop"],
         &["scoop", "a.e"],
         &["scoop", "run"],
         &["scoop", "check", "--root", "A.f"],
         &["scoop", "check", "--turns", "1", "a.e"],
+        &["scoop", "print"],
+        &["scoop", "print", "--root", "A.f", "a.e"],
         &["scoop", "run", "--turns", "0", "a.e"],
         &["scoop", "run", "--turns", "10000001", "a.e"],
         &["scoop", "run", "--turns", "-1", "a.e"],
@@ -99,11 +101,12 @@ fn tells_a_bad_root(rt: HostRuntime) -> Result<(), Fail> {
 
 #[test]
 fn helps(rt: HostRuntime) -> Result<(), Fail> {
-    let cases: [(&[&str], &str); 5] = [
+    let cases: [(&[&str], &str); 6] = [
         (&["scoop", "--help"], "Usage: scoop <COMMAND>"),
         (&["scoop", "run", "--help"], "--turns <N>"),
         (&["scoop", "check", "--help"], "[default: APPLICATION.make]"),
         (&["scoop", "help", "run"], "stopped limit"),
+        (&["scoop", "print", "--help"], "canonical"),
         (&["scoop", "--version"], "scoop 0.1.0\n"),
     ];
     for (words, wanted) in cases {

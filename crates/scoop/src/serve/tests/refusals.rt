@@ -50,6 +50,13 @@ fn names_the_rule_and_the_place(rt: HostRuntime) -> Result<(), Fail> {
             "class A end\n\tclass Integer end",
             "C1 DuplicateClass app.e:2:8",
         ),
+        ("class Any end", "C1 DuplicateClass app.e:1:7"),
+        ("class NONE end", "C1 DuplicateClass app.e:1:7"),
+        (
+            "class A end class BOOLEAN end",
+            "C1 DuplicateClass app.e:1:19",
+        ),
+        ("class PRINT end", "C6 NoRoot"),
         (
             "class A feature\n\tn: INTEGER\n\tN do end\nend",
             "C4 DuplicateFeature app.e:3:2",
@@ -61,6 +68,30 @@ fn names_the_rule_and_the_place(rt: HostRuntime) -> Result<(), Fail> {
         ("", "C6 NoRoot"),
         ("class APPLICATION feature make do end end", "C6 NoRoot"),
         ("class A create make feature make do end end", "C6 NoRoot"),
+        (
+            "class APPLICATION create make feature make: INTEGER end",
+            "C6 NoRoot",
+        ),
+        (
+            "class APPLICATION create make, x feature make do end end",
+            "V1 UnknownName app.e:1:32",
+        ),
+        (
+            "class APPLICATION create make, print feature make do end end",
+            "V1 UnknownName app.e:1:32",
+        ),
+        (
+            "class APPLICATION create make, n feature make do end n: INTEGER end",
+            "V7 ResultType app.e:1:32",
+        ),
+        (
+            "class APPLICATION create make feature make do end n: UNKNOWN end",
+            "V1 UnknownName app.e:1:54",
+        ),
+        (
+            "class APPLICATION create make feature make do end n: NONE end",
+            "V1 UnknownName app.e:1:54",
+        ),
     ];
     for (text, wanted) in cases {
         let line = refusal(&rt, text)?;
@@ -78,10 +109,29 @@ fn names_the_rule_and_the_place_in_a_class(rt: HostRuntime) -> Result<(), Fail> 
         ("print", "True", "V2 WrongArity app.e:5:10"),
         ("n := b", "True", "V4 AssignType app.e:5:15"),
         ("n := make", "True", "V7 ResultType app.e:5:15"),
+        ("n := print", "True", "V2 WrongArity app.e:5:15"),
         ("n", "True", "V7 ResultType app.e:5:10"),
         ("if n + 1 then end", "True", "V8 NotBoolean app.e:5:13"),
         ("", "b and n", "V9 OperatorType app.e:6:11"),
         ("", "n", "V8 NotBoolean app.e:6:11"),
+        ("", "tag: n", "V8 NotBoolean app.e:6:16"),
+        ("", "tag: make", "V7 ResultType app.e:6:16"),
+        (
+            "if b then elseif n then end",
+            "True",
+            "V8 NotBoolean app.e:5:27",
+        ),
+        ("if b then n := x end", "True", "V1 UnknownName app.e:5:25"),
+        (
+            "if b then elseif b then n := x end",
+            "True",
+            "V1 UnknownName app.e:5:39",
+        ),
+        (
+            "if b then else print (x) end",
+            "True",
+            "V1 UnknownName app.e:5:32",
+        ),
         ("n := 1 + - b", "True", "V9 OperatorType app.e:5:19"),
         ("make := 1", "True", "V10 NotAssignable app.e:5:10"),
         ("print := 1", "True", "V10 NotAssignable app.e:5:10"),
@@ -112,7 +162,15 @@ fn answers_the_first_of_several(rt: HostRuntime) -> Result<(), Fail> {
             "class APPLICATION create make\nfeature\n\tn: INTEGER\n\tmake do end\n\tf do n := g end\ninvariant y\nend",
             "V1 UnknownName app.e:5:12",
         ),
-        // Operands come before their operator.
+        // The left side comes before the right, and operands before their operator.
+        (
+            "class APPLICATION create make feature make do make := x end end",
+            "V10 NotAssignable app.e:1:47",
+        ),
+        (
+            "class APPLICATION create make feature make do print (True + x) end end",
+            "V1 UnknownName app.e:1:61",
+        ),
         (
             "class APPLICATION create make feature make do if 1 + (x and 2) then end end end",
             "V1 UnknownName app.e:1:55",
@@ -127,6 +185,11 @@ fn answers_the_first_of_several(rt: HostRuntime) -> Result<(), Fail> {
             "class A feature f do x := 1 end end\nclass A end",
             "C1 DuplicateClass app.e:2:7",
         ),
+        (
+            "class A feature f do x := 1 end f do end end",
+            "C4 DuplicateFeature app.e:1:33",
+        ),
+        ("class A feature f do x := 1 end end", "C6 NoRoot"),
     ];
     for (text, wanted) in cases {
         let line = refusal(&rt, text)?;

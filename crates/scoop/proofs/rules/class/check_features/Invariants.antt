@@ -5,5 +5,5 @@ use Rattle.scoop.proofs.rules.class.check_features.Given as goal
 
 abbrev pub invariant-loop-feature : goal.invariant-loop-feature
 invariant-loop-feature l =
-    judging.judge_each (judging.judge_feature (class_of l.fn.class)) (map feature_of l.fn.features) ≡ judging.judge_each
-    (judging.judge_feature (class_of l.fn.class)) (map feature_of (drop l.feature-index l.fn.features))
+    judging.judge_each (judging.judge_feature (map class_of l.fn.classes) (class_of l.fn.class)) (map feature_of l.fn.features) ≡ judging.judge_each
+    (judging.judge_feature (map class_of l.fn.classes) (class_of l.fn.class)) (map feature_of (drop l.feature-index l.fn.features))

@@ -1,0 +1,166 @@
+// What the rules don't judge yet.
+
+ghost use Rattle.std.specs.Prelude.{◌≡◌, ◌&&◌, map};
+ghost use Rattle.std.specs.List.{list_all};
+ghost use Rattle.sc_tree.specs.View.{name_of, expr_of, target_of, exprs_of, instr_of, instrs_of, branches_of, clause_of, type_of, kind_of, feature_of, class_of, system_of};
+ghost use Rattle.scoop.specs.NotYet as known;
+
+use crate::rules::limits::has_class;
+use crate::rules::names::{is_name, is_plain_routine, printed};
+use crate::rules::types::{ValueType, is_old};
+use sc_tree::{
+    Branch, Call, Class, Clause, DeclaredType, Expr, Feature, FeatureKind, HandlerTag, Instr,
+    System, Variable,
+};
+
+/// Whether the system uses anything outside the part of the language that the rules know.
+///
+/// It goes through the tree once and takes no memory. Only the name of an attribute's type other than
+/// INTEGER and BOOLEAN is looked for among the names of the classes.
+pub fn not_yet(system: &System) -> bool
+    ensures { result ≡ known.is_not_yet (system_of system.now) }
+{
+    let classes = system.classes.as_slice();
+    !classes.iter().all(|class| is_known_class(classes, class))
+}
+
+#[tactic(auto, unfolding(crate::specs::NotYet::is_known_class, sc_tree::specs::View::class_of))]
+fn is_known_class(classes: &[Class], class: &Class) -> bool
+    ensures { result ≡ known.is_known_class (map class_of classes.now) (class_of class.now) }
+{
+    class.mark.is_none()
+        && class.parents.is_empty()
+        && are_known_features(classes, &class.features)
+        && are_known_clauses(&class.invariant)
+}
+
+fn are_known_features(classes: &[Class], features: &[Feature]) -> bool
+    ensures { result ≡ list_all (known.is_known_feature (map class_of classes.now)) (map feature_of features.now) }
+{
+    features
+        .iter()
+        .all(|feature| is_known_feature(classes, feature))
+}
+
+fn are_known_clauses(clauses: &[Clause]) -> bool
+    ensures { result ≡ list_all known.is_known_clause (map clause_of clauses.now) }
+{
+    clauses
+        .iter()
+        .all(|clause| is_known_expression(&clause.condition))
+}
+
+#[tactic(auto, unfolding(sc_tree::specs::View::feature_of))]
+fn is_known_feature(classes: &[Class], feature: &Feature) -> bool
+    ensures { result ≡ known.is_known_feature (map class_of classes.now) (feature_of feature.now) }
+{
+    feature.exports.is_empty() && is_known_kind(classes, &feature.kind)
+}
+
+#[tactic(auto, unfolding(sc_tree::specs::View::kind_of))]
+fn is_known_kind(classes: &[Class], kind: &FeatureKind) -> bool
+    ensures { result ≡ known.is_known_kind (map class_of classes.now) (kind_of kind.now) }
+{
+    match kind {
+        FeatureKind::Attribute(declared) => is_known_type(classes, declared),
+        FeatureKind::Routine(routine) => {
+            is_plain_routine(routine) && are_known_instructions(&routine.body)
+        }
+    }
+}
+
+/// Whether the type is attached and of the own handler, and is INTEGER, BOOLEAN or of a name that neither
+/// ANY nor a class has.
+pub fn is_known_type(classes: &[Class], declared: &DeclaredType) -> bool
+    ensures { result ≡ known.is_known_type (map class_of classes.now) (type_of declared.now) }
+{
+    !declared.is_detachable
+        && matches!(declared.tag, HandlerTag::Own)
+        && is_known_name(classes, &declared.class.text)
+}
+
+/// Whether it is the name of INTEGER or BOOLEAN, or one that neither ANY nor a class has.
+fn is_known_name(classes: &[Class], name: &str) -> bool
+    ensures { result ≡ known.is_known_name (map class_of classes.now) name.now }
+{
+    ValueType::named(name).is_some() || !(name == "any" || has_class(classes, name))
+}
+
+/// Whether it is an integer, a truth value, a name alone, or one of the operators but `old`.
+#[tactic(auto, unfolding(crate::specs::NotYet::is_known_expr, sc_tree::specs::View::expr_of))]
+fn is_known_expression(e: &Expr) -> bool
+    ensures { result ≡ known.is_known_expr (expr_of e.now) }
+{
+    match e {
+        Expr::Integer(_, _) | Expr::Boolean(_, _) => true,
+        Expr::Call(call) => is_name(call),
+        Expr::Unary(_, operator, operand) => !is_old(*operator) && is_known_expression(operand),
+        Expr::Binary(_, _, left, right) => is_known_expression(left) && is_known_expression(right),
+        _ => false,
+    }
+}
+
+/// Whether it is a call of a name alone, or of `print`.
+fn is_known_call(call: &Call) -> bool
+    ensures { let actuals = exprs_of call.now.actuals.items in
+        result ≡ known.is_known_call (target_of call.now.target) (name_of call.now.name) actuals }
+{
+    if is_name(call) {
+        return true;
+    }
+    match printed(call) {
+        Some(value) => is_known_expression(value),
+        None => false,
+    }
+}
+
+#[cycle(known)]
+#[tactic(auto, unfolding(crate::specs::NotYet::is_known_instr, sc_tree::specs::View::instr_of))]
+fn is_known_instruction(instruction: &Instr) -> bool
+    ensures { result ≡ known.is_known_instr (instr_of instruction.now) }
+{
+    match instruction {
+        Instr::Assign(_, Variable::Named(_), value) => is_known_expression(value),
+        Instr::PrintText(_, _) => true,
+        Instr::Call(call) => is_known_call(call),
+        Instr::If(_, condition, body, branches, other) => {
+            is_known_expression(condition)
+                && are_known_instructions(body)
+                && are_known_branches(branches)
+                && are_known_instructions(other)
+        }
+        _ => false,
+    }
+}
+
+#[cycle(known)]
+fn are_known_instructions(instructions: &[Instr]) -> bool
+    ensures { result ≡ known.is_known_instrs (instrs_of instructions.now) }
+{
+    for instruction in instructions {
+        if !is_known_instruction(instruction) {
+            return false;
+        }
+    }
+    true
+}
+
+#[cycle(known)]
+fn are_known_branches(branches: &[Branch]) -> bool
+    ensures { result ≡ known.is_known_branches (branches_of branches.now) }
+{
+    for branch in branches {
+        if !is_known_branch(branch) {
+            return false;
+        }
+    }
+    true
+}
+
+#[cycle(known)]
+fn is_known_branch(branch: &Branch) -> bool
+    ensures { let body = instrs_of branch.now.body.items in
+        result ≡ (known.is_known_expr (expr_of branch.now.condition) && known.is_known_instrs body) }
+{
+    is_known_expression(&branch.condition) && are_known_instructions(&branch.body)
+}
