@@ -1,0 +1,88 @@
+-- Faults that are found class by class, and those that no class has.
+use Rattle.std.proofs.Common.{◌≡◌, ◌<◌, ◌≤◌, ◌+◌, ℕ, Bool, true, false, List, [], Option, Some, None, length, get_or, map, refl, ap, sym, subst, ◌∙◌, ◌⊎◌, inl, inr, arith}
+use Rattle.std.specs.Prelude.{Any, nat_lt, slice_get}
+use Rattle.std.specs.Option.{option_map_or}
+use Rattle.std.proofs.lemmas.Option.{slice_get_within}
+use Rattle.std.proofs.lemmas.List.{length-map}
+use Rattle.sc_text.specs.declared.token.Span.{Span}
+use Rattle.sc_tree.specs.declared.system.Class as tree_class
+use Rattle.sc_tree.specs.Plain.{System, Class, Feature, Name}
+use Rattle.sc_tree.specs.View.{class_of}
+use Rattle.sc_class.specs.Found.{Finds, earliest}
+use Rattle.sc_class.specs.FaultAt.{FaultAt, FaultBefore}
+use Rattle.sc_class.specs.Names.{IsLikeOne, OneClashes}
+use Rattle.sc_class.specs.Features.{redefined_by, redefined_names, not_redefined, inherited_features, features}
+use Rattle.sc_class.specs.Scopes.{ClassClashes, own_features_clash, inherited_clash, in_routine, InheritedClashes, like_inherited, RoutineClashes, feature_names}
+use Rattle.sc_class.specs.InheritedClash.{IsLikeInherited, names_clash}
+use Rattle.sc_class.proofs.Finding.{finds_same}
+use Rattle.sc_class.proofs.Items.{some_is, item_in}
+use Rattle.sc_class.proofs.ClashLemmas.{either, names_found}
+
+no_faults_before : (s : System) (P : ℕ → Class → Span → Type 0) (p : Span) → FaultBefore s P 0 p → ⊥
+no_faults_before s P p (k, c, l, e, y) = absurd (omega arith)
+
+pub begins_at : (s : System) (P : ℕ → Class → Span → Type 0) → Finds (FaultBefore s P 0) None
+begins_at s P = no_faults_before s P
+
+module _ (s : System) (cs : List tree_class.Class) (all : map class_of cs ≡ s.classes) (P : ℕ → Class → Span → Type 0) where
+  pub one_more_at : (n : ℕ) (x : tree_class.Class) (found o next : Option Span) → n < length cs → x ≡ get_or cs n x → Finds (FaultBefore s P n) found → Finds (P n (class_of x)) o → next ≡ earliest found o → Finds (FaultBefore s P (n + 1)) next
+  one_more_at n x found o next l g h i e =
+      subst (Finds (FaultBefore s P (n + 1))) (sym e) (either {P = FaultBefore s P n} {Q = P n (class_of x)} {R = FaultBefore s P (n + 1)} found o (λ p. before) (λ p y. (n, class_of x, omega arith, here, y)) (λ p. parts) h i)
+    where
+      here : slice_get s.classes n ≡ Some (class_of x)
+      here = subst (λ (cs : List Class). slice_get cs n ≡ Some (class_of x)) all (item_in class_of cs n x l g)
+
+      before : {p : Span} → FaultBefore s P n p → FaultBefore s P (n + 1) p
+      before (k, c, l, e, y) = (k, c, omega (arith, l), e, y)
+
+      below_or : (k : ℕ) → k < n + 1 → (b : Bool) → nat_lt k n ≡ b → (k < n) ⊎ (k ≡ n)
+      below_or k l true e = inl (grind arith)
+      below_or k l false e = inr (grind arith)
+
+      parts_at : {p : Span} (k : ℕ) (c : Class) → slice_get s.classes k ≡ Some c → P k c p → (k < n) ⊎ (k ≡ n) → FaultBefore s P n p ⊎ P n (class_of x) p
+      parts_at k c e y (inl l) = inl (k, c, l, e, y)
+      parts_at {p} k c e y (inr q) =
+          let f : slice_get s.classes n ≡ Some c = subst (λ (k : ℕ). slice_get s.classes k ≡ Some c) q e in
+          inr (subst (λ (c : Class). P n c p) (sym (some_is (class_of x) c (sym here ∙ f))) (subst (λ (k : ℕ). P k c p) q y))
+
+      parts : {p : Span} → FaultBefore s P (n + 1) p → FaultBefore s P n p ⊎ P n (class_of x) p
+      parts (k, c, l, e, y) = parts_at k c e y (below_or k l (nat_lt k n) refl)
+
+  pub all_seen_at : (n : ℕ) (found : Option Span) → length cs ≤ n → Finds (FaultBefore s P n) found → Finds (FaultAt s P) found
+  all_seen_at n found l h = finds_same {P = FaultBefore s P n} {Q = FaultAt s P} found (λ p. some) (λ p. within) h
+    where
+      some : {p : Span} → FaultBefore s P n p → FaultAt s P p
+      some (k, c, l, e, y) = (k, c, e, y)
+
+      within : {p : Span} → FaultAt s P p → FaultBefore s P n p
+      within (k, c, e, y) = let m = slice_get_within s.classes k c e in (k, c, omega (arith, m, l, ap length all, length-map cs class_of), e, y)
+
+-- ---- clashes of a class
+
+module _ (s : System) (k : ℕ) (c : Class) (is_class : slice_get s.classes k ≡ Some c) where
+  names_are : redefined_names s k ≡ redefined_by c
+  names_are = ap (λ (o : Option Class). option_map_or redefined_by o []) is_class
+
+  like_one : (p : Span) → Any (λ (f : Feature). IsLikeInherited s k f p) c.features → InheritedClashes s k c p
+  like_one p (i, f, l, e, y) =
+      like_inherited (i, l, e) (subst (λ (ns : List Name). IsLikeOne (feature_names (not_redefined ns (inherited_features s k))) f.name p) names_are y)
+
+  one_like : (p : Span) → InheritedClashes s k c p → Any (λ (f : Feature). IsLikeInherited s k f p) c.features
+  one_like p (like_inherited {f = f} (i, l, e) y) = (i, f, l, e, subst (λ (ns : List Name). IsLikeOne (feature_names (not_redefined ns (inherited_features s k))) f.name p) (sym names_are) y)
+
+  pub class_found : (a b d : Option Span) → a ≡ names_clash [] (map (λ (f : Feature). f.name) c.features) → Finds (λ p. Any (λ f. IsLikeInherited s k f p) c.features) b →
+      Finds (λ p. Any (λ f. RoutineClashes (feature_names (features s k)) f.kind p) c.features) d → (bd all : Option Span) → bd ≡ earliest b d → all ≡ earliest a bd → Finds (ClassClashes s k c) all
+  class_found a b d e f h bd all i j =
+      subst (Finds (ClassClashes s k c)) (sym (j ∙ ap (earliest a) i))
+      (either {P = OneClashes [] (map (λ (f : Feature). f.name) c.features)} {Q = λ p. InheritedClashes s k c p ⊎ Any (λ (f : Feature). RoutineClashes (feature_names (features s k)) f.kind p) c.features} {R = ClassClashes s k c} a (earliest b d)
+      (λ p. own_features_clash) (λ p. within) (λ p. parts) (subst (Finds (OneClashes [] (map (λ (f : Feature). f.name) c.features))) (sym e) (names_found [] (map (λ (f : Feature). f.name) c.features)))
+      (either {P = InheritedClashes s k c} {Q = λ p. Any (λ (f : Feature). RoutineClashes (feature_names (features s k)) f.kind p) c.features} b d (λ p. inl) (λ p. inr) (λ p y. y) (finds_same b like_one one_like f) h))
+    where
+      within : {p : Span} → InheritedClashes s k c p ⊎ Any (λ (f : Feature). RoutineClashes (feature_names (features s k)) f.kind p) c.features → ClassClashes s k c p
+      within (inl y) = inherited_clash y
+      within (inr y) = in_routine y
+
+      parts : {p : Span} → ClassClashes s k c p → OneClashes [] (map (λ (f : Feature). f.name) c.features) p ⊎ (InheritedClashes s k c p ⊎ Any (λ (f : Feature). RoutineClashes (feature_names (features s k)) f.kind p) c.features)
+      parts (own_features_clash y) = inl y
+      parts (inherited_clash y) = inr (inl y)
+      parts (in_routine y) = inr (inr y)

@@ -1,0 +1,127 @@
+-- Features that are found by number, and those that are added along a line of classes.
+use Rattle.std.proofs.Common.{◌≡◌, ◌+◌, ◌<◌, ℕ, Bool, true, false, cond, List, [], ◌∷◌, ◌++◌, Option, Some, None, length, get_or, map, drop, refl, ap, sym, ◌∙◌, append_assoc, add-one}
+use Rattle.std.specs.Prelude.{bytes_eq, not, is_some, slice_get, string_bytes}
+use Rattle.std.specs.Option.{option_map, option_map_or, option_and_then, option_copied}
+use Rattle.std.specs.Borrow.{Bor}
+use Rattle.std.proofs.lemmas.Option.{slice_get-map}
+use Rattle.std.proofs.lemmas.List.{drop_more, map-append}
+use Rattle.sc_tree.specs.declared.system.Class as tree_class
+use Rattle.sc_tree.specs.declared.system.Feature as tree_feature
+use Rattle.sc_tree.specs.Plain.{System, Class, Feature, Name}
+use Rattle.sc_tree.specs.View.{class_of, feature_of}
+use Rattle.sc_class.specs.declared.own.FeatureEntry.{FeatureEntry}
+use Rattle.sc_class.specs.Names.{is_listed, number_among}
+use Rattle.sc_class.specs.Own.{own_names, own_names_at, features_at}
+use Rattle.sc_class.specs.Features.{DeclaredFeature, declared_in, own_features, redefined_names, not_redefined, features_along, named_among}
+use Rattle.sc_class.specs.Entries.{entry_of}
+use Rattle.sc_class.proofs.Anys.{at}
+use Rattle.sc_class.proofs.AncestorLemmas.{then_named, named-along, visible_all}
+
+-- two lists that are alike through a view, read at one number
+pub at_same : {A B C : Type 0} (f : A → C) (g : B → C) (xs : List A) (ys : List B) → map f xs ≡ map g ys → (k : ℕ) (x : A) (d : C) → slice_get xs k ≡ Some x → f x ≡ option_map_or g (slice_get ys k) d
+at_same {A} {B} {C} f g xs ys e k x d i = by (slice_get ys k) (sym (slice_get-map g ys k) ∙ ap (λ (zs : List C). slice_get zs k) (sym e) ∙ slice_get-map f xs k ∙ ap (option_map f) i)
+  where
+    by : (o : Option B) → option_map g o ≡ Some (f x) → f x ≡ option_map_or g o d
+    by None h = cc
+    by (Some y) h = cc
+
+-- an item that was got
+pub got_item : {A : Type 0} (xs ys : List A) (k : ℕ) (o : Option (Bor A)) (x : Bor A) → option_copied o ≡ slice_get xs k → o ≡ Some x → xs ≡ ys → slice_get ys k ≡ Some x.now
+got_item xs ys k o x e f g = ap (λ zs. slice_get zs k) (sym g) ∙ sym e ∙ ap option_copied f
+
+-- ---- by number
+
+named_in : (k : ℕ) (x : List ℕ) (fs : List Feature) → named_among x (map (declared_in k) fs) ≡ option_map (declared_in k) (option_and_then (slice_get fs) (number_among x (map (λ (f : Feature). f.name) fs)))
+named_in k x [] = refl
+named_in k x (f ∷ fs) = by (bytes_eq f.name.text x) (number_among x (map (λ (f : Feature). f.name) fs)) (named_in k x fs)
+  where
+    next : (j : ℕ) → slice_get (f ∷ fs) (j + 1) ≡ slice_get fs j
+    next j = ap (slice_get (f ∷ fs)) (add-one j)
+
+    by : (b : Bool) (o : Option ℕ) → named_among x (map (declared_in k) fs) ≡ option_map (declared_in k) (option_and_then (slice_get fs) o) →
+        cond b (Some (declared_in k f)) (named_among x (map (declared_in k) fs)) ≡ option_map (declared_in k) (option_and_then (slice_get (f ∷ fs)) (cond b (Some 0) (option_map (λ k. k + 1) o)))
+    by true o e = refl
+    by false None e = e
+    by false (Some j) e = e ∙ ap (option_map (declared_in k)) (sym (next j))
+
+pub named_own : (s : System) (k : ℕ) (x : List ℕ) → named_among x (own_features s k) ≡ option_map (declared_in k) (option_and_then (slice_get (features_at s k)) (number_among x (own_names_at s k)))
+named_own s k x = by (slice_get s.classes k)
+  where
+    by : (o : Option Class) → named_among x (option_map_or (λ (c : Class). map (declared_in k) c.features) o []) ≡ option_map (declared_in k) (option_and_then (slice_get (option_map_or (λ (c : Class). c.features) o [])) (number_among x (option_map_or own_names o [])))
+    by None = refl
+    by (Some c) = named_in k x c.features
+
+pub none_named : (s : System) (k : ℕ) (x : List ℕ) (o : Option ℕ) → o ≡ number_among x (own_names_at s k) → o ≡ None → None ≡ named_among x (own_features s k)
+none_named s k x o e f = sym (named_own s k x ∙ ap (λ o. option_map (declared_in k) (option_and_then (slice_get (features_at s k)) o)) (sym e ∙ f))
+
+pub named_by : (s : System) (k : ℕ) (x : List ℕ) (o : Option ℕ) (n : ℕ) (f : Option Feature) → o ≡ number_among x (own_names_at s k) → o ≡ Some n → f ≡ slice_get (features_at s k) n → option_map (declared_in k) f ≡ named_among x (own_features s k)
+named_by s k x o n f e g h = ap (option_map (declared_in k)) h ∙ sym (named_own s k x ∙ ap (λ o. option_map (declared_in k) (option_and_then (slice_get (features_at s k)) o)) (sym e ∙ g))
+
+pub feature_in : (s : System) (k n : ℕ) (c : tree_class.Class) (fs : List tree_feature.Feature) (o : Option (Bor tree_feature.Feature)) → slice_get s.classes k ≡ Some (class_of c) → fs ≡ c.features.items → option_copied o ≡ slice_get fs n →
+    option_map feature_of (option_copied o) ≡ slice_get (features_at s k) n
+unfolding class_of
+feature_in s k n c fs o e f g =
+    ap (option_map feature_of) (g ∙ ap (λ fs. slice_get fs n) f) ∙ sym (slice_get-map feature_of c.features.items n) ∙ ap (λ (o : Option Class). slice_get (option_map_or (λ (c : Class). c.features) o []) n) (sym e)
+
+-- ---- along a line
+
+module _ (s : System) (ks : List ℕ) (i : ℕ) (x : List ℕ) (total : Option DeclaredFeature) (o : Option FeatureEntry) (l : i < length ks)
+    (e : option_map entry_of o ≡ named_among x (own_features s (get_or ks i 0))) (inv : total ≡ named_among x (features_along s (drop i ks))) where
+  here : (b : Bool) → b ≡ is_listed x (redefined_names s (get_or ks i 0)) → total ≡ then_named (option_map entry_of o) b (named_among x (features_along s (drop (i + 1) ks)))
+  here b f =
+      inv ∙ ap (λ (l : List ℕ). named_among x (features_along s l)) (drop_more ks i 0 l) ∙ named-along s (get_or ks i 0) (drop (i + 1) ks) x
+      ∙ ap (λ d. then_named d (is_listed x (redefined_names s (get_or ks i 0))) (named_among x (features_along s (drop (i + 1) ks)))) (sym e) ∙ ap (λ b. then_named (option_map entry_of o) b (named_among x (features_along s (drop (i + 1) ks)))) (sym f)
+
+  pub named_found : is_some o ≡ true → option_map entry_of o ≡ total
+  named_found q = by o q ∙ sym (here (is_listed x (redefined_names s (get_or ks i 0))) refl)
+    where
+      by : (o : Option FeatureEntry) → is_some o ≡ true → option_map entry_of o ≡ then_named (option_map entry_of o) (is_listed x (redefined_names s (get_or ks i 0))) (named_among x (features_along s (drop (i + 1) ks)))
+      by None q = cc
+      by (Some f) q = refl
+
+  pub named_hidden : (b : Bool) → b ≡ is_listed x (redefined_names s (get_or ks i 0)) → b ≡ true → option_map entry_of o ≡ total
+  named_hidden b f q = by o ∙ ap (λ b. then_named (option_map entry_of o) b (named_among x (features_along s (drop (i + 1) ks)))) (sym q) ∙ sym (here b f)
+    where
+      by : (o : Option FeatureEntry) → option_map entry_of o ≡ then_named (option_map entry_of o) true (named_among x (features_along s (drop (i + 1) ks)))
+      by None = refl
+      by (Some f) = refl
+
+  pub named_on : is_some o ≡ false → (b : Bool) → b ≡ is_listed x (redefined_names s (get_or ks i 0)) → b ≡ false → total ≡ named_among x (features_along s (drop (i + 1) ks))
+  named_on q b f r = here b f ∙ ap (λ b. then_named (option_map entry_of o) b (named_among x (features_along s (drop (i + 1) ks)))) r ∙ by o q
+    where
+      by : (o : Option FeatureEntry) → is_some o ≡ false → then_named (option_map entry_of o) false (named_among x (features_along s (drop (i + 1) ks))) ≡ named_among x (features_along s (drop (i + 1) ks))
+      by None q = refl
+      by (Some f) q = cc
+
+module _ (hidden : List Name) (k : ℕ) (fs : List tree_feature.Feature) (i : ℕ) (x : tree_feature.Feature) (l : i < length fs) (g : x ≡ get_or fs i x) (total : List DeclaredFeature)
+    (y : List ℕ) (text : y ≡ string_bytes x.name.text) (b : Bool) (listed : b ≡ is_listed y hidden) where
+  -- the features from the one at the index on
+  others : List DeclaredFeature
+  others = not_redefined hidden (map (declared_in k) (map feature_of (drop (i + 1) fs)))
+
+  split : not_redefined hidden (map (declared_in k) (map feature_of (drop i fs))) ≡ cond (not b) (declared_in k (feature_of x) ∷ not_redefined hidden (map (declared_in k) (map feature_of (drop (i + 1) fs)))) (not_redefined hidden (map (declared_in k) (map feature_of (drop (i + 1) fs))))
+  unfolding feature_of
+  split =
+      ap (λ gs. not_redefined hidden (map (declared_in k) (map feature_of gs))) (at fs i x l g)
+      ∙ ap (λ b. cond (not b) (declared_in k (feature_of x) ∷ not_redefined hidden (map (declared_in k) (map feature_of (drop (i + 1) fs)))) (not_redefined hidden (map (declared_in k) (map feature_of (drop (i + 1) fs)))))
+      (sym (listed ∙ ap (λ y. is_listed y hidden) text))
+
+  pub visible_added : (es es' : List FeatureEntry) (e : FeatureEntry) → b ≡ false → es' ≡ es ++ e ∷ [] → entry_of e ≡ declared_in k (feature_of x) → map entry_of es ++ not_redefined hidden (map (declared_in k) (map feature_of (drop i fs))) ≡ total →
+      map entry_of es' ++ not_redefined hidden (map (declared_in k) (map feature_of (drop (i + 1) fs))) ≡ total
+  visible_added es es' e q a is inv =
+      ap (λ es. map entry_of es ++ not_redefined hidden (map (declared_in k) (map feature_of (drop (i + 1) fs)))) a
+      ∙ ap (λ ds. ds ++ not_redefined hidden (map (declared_in k) (map feature_of (drop (i + 1) fs)))) (map-append entry_of es (e ∷ []))
+      ∙ append_assoc (map entry_of es) (entry_of e ∷ []) (not_redefined hidden (map (declared_in k) (map feature_of (drop (i + 1) fs))))
+      ∙ ap (λ d. map entry_of es ++ (d ∷ not_redefined hidden (map (declared_in k) (map feature_of (drop (i + 1) fs))))) is
+      ∙ ap (λ ds. map entry_of es ++ ds)
+      (sym (split ∙ ap (λ b. cond (not b) (declared_in k (feature_of x) ∷ not_redefined hidden (map (declared_in k) (map feature_of (drop (i + 1) fs)))) (not_redefined hidden (map (declared_in k) (map feature_of (drop (i + 1) fs))))) q))
+      ∙ inv
+
+  pub hidden_passed : (es : List FeatureEntry) → b ≡ true → map entry_of es ++ not_redefined hidden (map (declared_in k) (map feature_of (drop i fs))) ≡ total → map entry_of es ++ not_redefined hidden (map (declared_in k) (map feature_of (drop (i + 1) fs))) ≡ total
+  hidden_passed es q inv =
+      ap (λ ds. map entry_of es ++ ds)
+      (sym (split ∙ ap (λ b. cond (not b) (declared_in k (feature_of x) ∷ not_redefined hidden (map (declared_in k) (map feature_of (drop (i + 1) fs)))) (not_redefined hidden (map (declared_in k) (map feature_of (drop (i + 1) fs))))) q))
+      ∙ inv
+
+pub features_begin : (es : List FeatureEntry) (hidden : List Name) (fs : List DeclaredFeature) → es ≡ [] → hidden ≡ [] → map entry_of es ++ not_redefined hidden fs ≡ fs
+features_begin es hidden fs e h = ap (λ es. map entry_of es ++ not_redefined hidden fs) e ∙ ap (λ ns. not_redefined ns fs) h ∙ visible_all fs

@@ -1,0 +1,129 @@
+-- What the functions of `specs/ScopeSearch` give at each exit of the code that follows them.
+use Rattle.std.proofs.Common.{◌≡◌, ◌<◌, ◌≤◌, ◌+◌, ℕ, Bool, true, false, List, [], ◌∷◌, ◌++◌, length, get_or, drop, map, Option, Some, None, refl, ap, sym, ◌∙◌, arith}
+use Rattle.std.specs.Prelude.{nat_lt, if◌then◌else◌}
+use Rattle.std.proofs.lemmas.Bool.Decides.{nat_tests}
+use Rattle.std.proofs.lemmas.List.{append_assoc, append-nil}
+use Rattle.std.specs.declared.vec.Vec.{Vec}
+use Rattle.std.specs.declared.alloc.Global.{Global}
+use Rattle.sc_text.specs.declared.token.Span.{Span}
+use Rattle.sc_tree.specs.declared.expression.Expr.{Expr}
+use Rattle.sc_tree.specs.declared.expression.Expr.TheVariants as expr
+use Rattle.sc_tree.specs.declared.expression.Call.{Call}
+use Rattle.sc_tree.specs.declared.instruction.Head.{Head}
+use Rattle.sc_tree.specs.declared.instruction.Instr.{Instr}
+use Rattle.sc_tree.specs.declared.instruction.Instr.TheVariants as instr
+use Rattle.sc_tree.specs.declared.instruction.Branch.{Branch}
+use Rattle.sc_tree.specs.Plain.{Name}
+use Rattle.sc_tree.specs.View.{expr_of, target_of, exprs_of, head_of, instr_of, instrs_of, branches_of}
+use Rattle.sc_tree.proofs.ViewLemmas.{expr_of-call, instr_of-if, instr_of-loop, instr_of-block}
+use Rattle.sc_class.specs.Found.{earliest}
+use Rattle.sc_class.specs.Scopes.{tests_of, head_names}
+use Rattle.sc_class.specs.ScopeSearch.{name_clash, names_clash, expr_clash, target_clash, exprs_clash, condition_clash, values_clash, instr_clash, instrs_clash, branches_clash}
+use Rattle.sc_class.proofs.Anys.{at, drop_end}
+
+-- ---- the earliest of several places
+
+pub earliest-none : (a : Option Span) → earliest a None ≡ a
+earliest-none None = refl
+earliest-none (Some p) = refl
+
+abbrev picked : Bool → Span → Span → Option Span
+picked b p q = if b then Some q else Some p
+
+three : (p q r : Span) (a b c : Bool) → nat_lt q.start p.start ≡ a → nat_lt r.start q.start ≡ b → nat_lt r.start p.start ≡ c →
+    earliest (picked a p q) (Some r) ≡ earliest (Some p) (picked b q r)
+three p q r true true true i j k = ap (λ x. picked x q r) j ∙ sym (ap (λ x. picked x p r) k)
+three p q r true true false i j k = absurd (grind (arith, nat_tests))
+three p q r true false c i j k = ap (λ x. picked x q r) j ∙ sym (ap (λ x. picked x p q) i)
+three p q r false true c i j k = refl
+three p q r false false true i j k = absurd (grind (arith, nat_tests))
+three p q r false false false i j k = ap (λ x. picked x p r) k ∙ sym (ap (λ x. picked x p q) i)
+
+pub earliest-assoc : (a b c : Option Span) → earliest (earliest a b) c ≡ earliest a (earliest b c)
+earliest-assoc None b c = refl
+earliest-assoc (Some p) None c = refl
+earliest-assoc (Some p) (Some q) None = earliest-none (earliest (Some p) (Some q))
+earliest-assoc (Some p) (Some q) (Some r) = three p q r (nat_lt q.start p.start) (nat_lt r.start q.start) (nat_lt r.start p.start) refl refl refl
+
+-- ---- lists, from the element at an index on
+
+-- a search g of a list, which goes by a search h of each element
+module _ {A : Type 0} (g : List A → Option Span) (h : A → Option Span) (xs : List A) where
+  pub search_more : ((x : A) (xs : List A) → g (x ∷ xs) ≡ earliest (h x) (g xs)) → (found place next : Option Span) (k : ℕ) (x : A) →
+      g xs ≡ earliest found (g (drop k xs)) → k < length xs → x ≡ get_or xs k x → place ≡ h x → next ≡ earliest found place → g xs ≡ earliest next (g (drop (k + 1) xs))
+  search_more cons found place next k x q l e i n =
+      q ∙ ap (λ ys. earliest found (g ys)) (at xs k x l e) ∙ ap (earliest found) (cons x (drop (k + 1) xs) ∙ ap (λ o. earliest o (g (drop (k + 1) xs))) (sym i))
+      ∙ sym (earliest-assoc found place (g (drop (k + 1) xs))) ∙ ap (λ o. earliest o (g (drop (k + 1) xs))) (sym n)
+
+  pub search_end : g [] ≡ None → (found : Option Span) (k : ℕ) → g xs ≡ earliest found (g (drop k xs)) → length xs ≤ k → found ≡ g xs
+  search_end empty found k q l = sym (q ∙ ap (λ ys. earliest found (g ys)) (drop_end xs k l) ∙ ap (earliest found) empty ∙ earliest-none found)
+
+-- the names g of a list, one n of each element
+module _ {A : Type 0} (g : List A → List Name) (n : A → Name) (xs : List A) where
+  pub names_more : (fs : List Name) → ((x : A) (xs : List A) → g (x ∷ xs) ≡ n x ∷ g xs) → (all found place next : Option Span) (ns more : List Name) (k : ℕ) (x : A) →
+      all ≡ earliest found (names_clash fs ns (g (drop k xs))) → k < length xs → x ≡ get_or xs k x → place ≡ name_clash fs ns (n x) → more ≡ ns ++ n x ∷ [] → next ≡ earliest found place →
+      all ≡ earliest next (names_clash fs more (g (drop (k + 1) xs)))
+  unfolding names_clash
+  names_more fs cons all found place next ns more k x q l e i m o =
+      q ∙ ap (λ ys. earliest found (names_clash fs ns (g ys))) (at xs k x l e)
+      ∙ ap (λ ms. earliest found (names_clash fs ns ms)) (cons x (drop (k + 1) xs))
+      ∙ ap (λ o. earliest found (earliest o (names_clash fs (ns ++ n x ∷ []) (g (drop (k + 1) xs))))) (sym i)
+      ∙ ap (λ ms. earliest found (earliest place (names_clash fs ms (g (drop (k + 1) xs))))) (sym m)
+      ∙ sym (earliest-assoc found place (names_clash fs more (g (drop (k + 1) xs)))) ∙ ap (λ o. earliest o (names_clash fs more (g (drop (k + 1) xs)))) (sym o)
+
+  pub names_end : (fs : List Name) → g [] ≡ [] → (all found : Option Span) (ns : List Name) (k : ℕ) → all ≡ earliest found (names_clash fs ns (g (drop k xs))) → length xs ≤ k → found ≡ all
+  unfolding names_clash
+  names_end fs empty all found ns k q l =
+      sym (q ∙ ap (λ ys. earliest found (names_clash fs ns (g ys))) (drop_end xs k l) ∙ ap (λ ms. earliest found (names_clash fs ns ms)) empty ∙ earliest-none found)
+
+  pub known_more : ((x : A) (xs : List A) → g (x ∷ xs) ≡ n x ∷ g xs) → (all ns more : List Name) (k : ℕ) (x : A) →
+      all ≡ ns ++ g (drop k xs) → k < length xs → x ≡ get_or xs k x → more ≡ ns ++ n x ∷ [] → all ≡ more ++ g (drop (k + 1) xs)
+  known_more cons all ns more k x q l e m =
+      q ∙ ap (λ ys. ns ++ g ys) (at xs k x l e) ∙ ap (λ ms. ns ++ ms) (cons x (drop (k + 1) xs)) ∙ sym (append_assoc ns (n x ∷ []) (g (drop (k + 1) xs)))
+      ∙ ap (λ ms. ms ++ g (drop (k + 1) xs)) (sym m)
+
+  pub known_end : g [] ≡ [] → (all ns : List Name) (k : ℕ) → all ≡ ns ++ g (drop k xs) → length xs ≤ k → ns ≡ all
+  known_end empty all ns k q l = sym (q ∙ ap (λ ys. ns ++ g ys) (drop_end xs k l) ∙ ap (λ ms. ns ++ ms) empty ∙ append-nil ns)
+
+-- ---- calls and instructions in the tree in memory
+
+pub call_found : (fs ns : List Name) (e : Expr) (k : Call) (es : List Expr) (a b r : Option Span) → e ≡ expr.Call k → es ≡ k.actuals.items →
+    a ≡ target_clash fs ns (target_of k.target) → b ≡ exprs_clash fs ns (exprs_of es) → r ≡ earliest a b → r ≡ expr_clash fs ns (expr_of e)
+unfolding expr_clash
+call_found fs ns e k es a b r q w i j o =
+    o ∙ ap (λ a. earliest a b) i ∙ ap (earliest (target_clash fs ns (target_of k.target))) (j ∙ ap (λ (es : List Expr). exprs_clash fs ns (exprs_of es)) w)
+    ∙ sym (ap (λ (e : Expr). expr_clash fs ns (expr_of e)) q ∙ ap (expr_clash fs ns) (expr_of-call k))
+
+module _ (fs ns : List Name) (i : Instr) where
+  pub if_found : (s : Span) (e : Expr) (body : Vec Instr Global) (branches : Vec Branch Global) (other : Vec Instr Global) (is os : List Instr) (bs : List Branch) (a b c d r : Option Span) →
+      i ≡ instr.If s e body branches other → is ≡ body.items → bs ≡ branches.items → os ≡ other.items →
+      a ≡ earliest (condition_clash fs ns (expr_of e)) (instrs_clash fs (ns ++ tests_of (expr_of e)) (instrs_of is)) → b ≡ branches_clash fs ns (branches_of bs) → c ≡ instrs_clash fs ns (instrs_of os) →
+      d ≡ earliest b c → r ≡ earliest a d → r ≡ instr_clash fs ns (instr_of i)
+  unfolding instr_clash
+  if_found s e body branches other is os bs a b c d r q u v w x y z m o =
+      o ∙ ap (earliest a) m ∙ ap (λ a. earliest a (earliest b c)) (x ∙ ap (λ (is : List Instr). earliest (condition_clash fs ns (expr_of e)) (instrs_clash fs (ns ++ tests_of (expr_of e)) (instrs_of is))) u)
+      ∙ ap (λ b. earliest (earliest (condition_clash fs ns (expr_of e)) (instrs_clash fs (ns ++ tests_of (expr_of e)) (instrs_of body.items))) (earliest b c)) (y ∙ ap (λ (bs : List Branch). branches_clash fs ns (branches_of bs)) v)
+      ∙ ap (λ c. earliest (earliest (condition_clash fs ns (expr_of e)) (instrs_clash fs (ns ++ tests_of (expr_of e)) (instrs_of body.items))) (earliest (branches_clash fs ns (branches_of branches.items)) c)) (z ∙ ap (λ (is : List Instr). instrs_clash fs ns (instrs_of is)) w)
+      ∙ sym (ap (λ (i : Instr). instr_clash fs ns (instr_of i)) q ∙ ap (instr_clash fs ns) (instr_of-if s e body branches other))
+
+  pub loop_found : (s : Span) (initial : Vec Instr Global) (e : Expr) (body : Vec Instr Global) (is js : List Instr) (a b c d r : Option Span) →
+      i ≡ instr.Loop s initial e body → is ≡ initial.items → js ≡ body.items → a ≡ instrs_clash fs ns (instrs_of is) → b ≡ expr_clash fs ns (expr_of e) → c ≡ instrs_clash fs ns (instrs_of js) →
+      d ≡ earliest b c → r ≡ earliest a d → r ≡ instr_clash fs ns (instr_of i)
+  unfolding instr_clash
+  loop_found s initial e body is js a b c d r q u v x y z m o =
+      o ∙ ap (earliest a) m ∙ ap (λ a. earliest a (earliest b c)) (x ∙ ap (λ (is : List Instr). instrs_clash fs ns (instrs_of is)) u)
+      ∙ ap (λ b. earliest (instrs_clash fs ns (instrs_of initial.items)) (earliest b c)) y
+      ∙ ap (λ c. earliest (instrs_clash fs ns (instrs_of initial.items)) (earliest (expr_clash fs ns (expr_of e)) c)) (z ∙ ap (λ (is : List Instr). instrs_clash fs ns (instrs_of is)) v)
+      ∙ sym (ap (λ (i : Instr). instr_clash fs ns (instr_of i)) q ∙ ap (instr_clash fs ns) (instr_of-loop s initial e body))
+
+  pub block_found : (s : Span) (heads : Vec Head Global) (body : Vec Instr Global) (hs gs : List Head) (is : List Instr) (more : List Name) (a b c d r : Option Span) →
+      i ≡ instr.Block s heads body → hs ≡ heads.items → gs ≡ heads.items → is ≡ body.items → more ≡ ns ++ head_names (map head_of gs) →
+      a ≡ values_clash fs ns (map head_of hs) → b ≡ names_clash fs ns (head_names (map head_of gs)) → c ≡ instrs_clash fs more (instrs_of is) →
+      d ≡ earliest b c → r ≡ earliest a d → r ≡ instr_clash fs ns (instr_of i)
+  unfolding instr_clash
+  block_found s heads body hs gs is more a b c d r q u v w k x y z m o =
+      o ∙ ap (earliest a) m ∙ ap (λ a. earliest a (earliest b c)) (x ∙ ap (λ (hs : List Head). values_clash fs ns (map head_of hs)) u)
+      ∙ ap (λ b. earliest (values_clash fs ns (map head_of heads.items)) (earliest b c)) (y ∙ ap (λ (hs : List Head). names_clash fs ns (head_names (map head_of hs))) v)
+      ∙ ap (λ c. earliest (values_clash fs ns (map head_of heads.items)) (earliest (names_clash fs ns (head_names (map head_of heads.items))) c))
+      (z ∙ ap (λ ms. instrs_clash fs ms (instrs_of is)) (k ∙ ap (λ (hs : List Head). ns ++ head_names (map head_of hs)) v) ∙ ap (λ (is : List Instr). instrs_clash fs (ns ++ head_names (map head_of heads.items)) (instrs_of is)) w)
+      ∙ sym (ap (λ (i : Instr). instr_clash fs ns (instr_of i)) q ∙ ap (instr_clash fs ns) (instr_of-block s heads body))

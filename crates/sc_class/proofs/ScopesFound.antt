@@ -1,0 +1,409 @@
+-- What the functions of `specs/ScopeSearch` give is a clash, and where they give none there is none.
+use Rattle.std.proofs.Common.{◌≡◌, Bool, true, false, cond, List, [], ◌∷◌, ◌++◌, Option, Some, None, refl, sym, subst, ◌⊎◌, inl, inr}
+use Rattle.std.specs.Prelude.{Any, IfOk, Ok, Err, bytes_eq, if◌then◌else◌}
+use Rattle.std.specs.Prelude as result
+use Rattle.std.specs.declared.alloc.AllocError.{AllocError}
+use Rattle.std.specs.Option.{option_map}
+use Rattle.std.proofs.lemmas.List.{append_assoc, append-nil}
+use Rattle.sc_text.specs.declared.token.Span.{Span}
+use Rattle.sc_tree.specs.declared.expression.UnaryOperator.{UnaryOperator}
+use Rattle.sc_tree.specs.declared.expression.BinaryOperator.{BinaryOperator}
+use Rattle.sc_tree.specs.declared.expression.BinaryOperator.TheVariants.{AndThen}
+use Rattle.sc_tree.specs.Plain.{FeatureKind, Attribute, Routine, Declaration, DeclaredType, Clause, Head, Name, Variable, CreationCall, Expr, Integer, Boolean, Void, Current, Result, Call, Unary, Binary, ObjectTest, Target, no_target, target, Exprs, no_exprs, expr_then, Instr, Assign, PrintText, CallRoutine, Create, If, Loop, Check, Block, Instrs, no_instrs, instr_then, Branches, no_branches, branch_then}
+use Rattle.sc_class.specs.Found.{Finds, earliest}
+use Rattle.sc_class.specs.Names.{IsLikeOne, Clashes, is_print_itself, is_like, OneClashes, first, further, first_like, is_print, later_of}
+use Rattle.sc_class.specs.Scopes.{tests_of, head_names, declared_names, ExprClashes, in_target, in_actuals, in_operand, in_left, in_right, in_tested, test_name, TargetClashes, in_target_value, ExprsClash, in_first, in_others, ConditionClashes, in_whole, in_left_test, in_right_test, ClausesClash, InstrClashes, in_source, in_call_target, in_call_actuals, in_creation, in_if, in_then, in_elseif, in_else, in_from, in_until, in_loop, in_check, in_heads, head_name, in_block, InstrsClash, in_first_instr, in_other_instrs, BranchesClash, in_branch_condition, in_branch, in_later_branch, RoutineClashes, entity, in_precondition, in_body, in_postcondition}
+use Rattle.sc_class.specs.ScopeSearch.{like_place, name_clash, names_clash, expr_clash, target_clash, exprs_clash, is_and_then, condition_clash, clauses_clash, values_clash, instr_clash, instrs_clash, branches_clash, kind_clash}
+use Rattle.sc_class.proofs.Anys.{any_none, any_first, any_later, any_split, any_left, any_right, any_parts}
+use Rattle.sc_class.proofs.Finding.{finds_same, finds_either}
+
+-- of one thing or the other, what is found of both
+both : (P Q R : Span → Type 0) (a b : Option Span) → ((p : Span) → P p → R p) → ((p : Span) → Q p → R p) → ((p : Span) → R p → P p ⊎ Q p) → Finds P a → Finds Q b → Finds R (earliest a b)
+both P Q R a b f g h x y = finds_either (λ (p : Span). p.start) {P = P} {Q = Q} {R = R} a b f g h x y
+
+same : (P R : Span → Type 0) (a : Option Span) → ((p : Span) → P p → R p) → ((p : Span) → R p → P p) → Finds P a → Finds R a
+same P R a f g x = finds_same {P = P} {Q = R} a f g x
+
+either_of : (P Q : Span → Type 0) (a b : Option Span) → Finds P a → Finds Q b → Finds (λ p. P p ⊎ Q p) (earliest a b)
+either_of P Q a b x y = both P Q (λ p. P p ⊎ Q p) a b (λ p z. inl z) (λ p z. inr z) (λ p z. z) x y
+
+-- ---- names
+
+like_found : (ns : List Name) (n : Name) → Finds (IsLikeOne ns n) (like_place ns n)
+like_found [] n = λ p a. any_none a
+like_found (m ∷ ns) n = by (bytes_eq m.text n.text) refl (like_found ns n)
+  where
+    is_later : bytes_eq m.text n.text ≡ false → (p : Span) → IsLikeOne (m ∷ ns) n p → IsLikeOne ns n p
+    is_later e p a = of (any_split m ns a)
+      where
+        of : ((bytes_eq m.text n.text ≡ true) × (p ≡ later_of m.span n.span)) ⊎ IsLikeOne ns n p → IsLikeOne ns n p
+        of (inl (i, q)) = cc
+        of (inr b) = b
+
+    by : (b : Bool) → bytes_eq m.text n.text ≡ b → Finds (IsLikeOne ns n) (like_place ns n) →
+        Finds (IsLikeOne (m ∷ ns) n) (option_map (λ p. later_of p n.span) (option_map (λ n. n.span) (cond b (Some m) (first_like n.text ns))))
+    by true e f = any_first m ns (e, refl)
+    by false e f = same (IsLikeOne ns n) (IsLikeOne (m ∷ ns) n) (like_place ns n) (λ p a. any_later m ns a) (is_later e) f
+
+name_parts : (fs ns : List Name) {n : Name} {p : Span} → is_print n.text ≡ false → Clashes (fs ++ ns) n p → IsLikeOne fs n p ⊎ IsLikeOne ns n p
+name_parts fs ns e (is_print_itself i) = cc
+name_parts fs ns e (is_like a) = any_parts fs ns a
+
+pub name_found : (fs ns : List Name) (n : Name) → Finds (Clashes (fs ++ ns) n) (name_clash fs ns n)
+unfolding name_clash
+name_found fs ns n = by (is_print n.text) refl
+  where
+    by : (b : Bool) → is_print n.text ≡ b → Finds (Clashes (fs ++ ns) n) (if b then Some n.span else earliest (like_place fs n) (like_place ns n))
+    by true e = is_print_itself e
+    by false e =
+        both (IsLikeOne fs n) (IsLikeOne ns n) (Clashes (fs ++ ns) n) (like_place fs n) (like_place ns n) (λ p a. is_like (any_left fs ns a)) (λ p a. is_like (any_right fs ns a)) (λ p c. name_parts fs ns e c)
+        (like_found fs n) (like_found ns n)
+
+-- behind more names the same one clashes
+wider_name : {known : List Name} (more : List Name) {n : Name} {p : Span} → Clashes known n p → Clashes (known ++ more) n p
+wider_name more (is_print_itself e) = is_print_itself e
+wider_name {known} more (is_like a) = is_like (any_left known more a)
+
+names_parts : {known ms : List Name} {m : Name} {p : Span} → OneClashes known (m ∷ ms) p → Clashes known m p ⊎ OneClashes (known ++ m ∷ []) ms p
+names_parts (first c) = inl c
+names_parts (further c) = inr c
+
+pub names_found : (fs ns ms : List Name) → Finds (OneClashes (fs ++ ns) ms) (names_clash fs ns ms)
+unfolding names_clash
+names_found fs ns [] = λ p x. elim x [ ]
+names_found fs ns (m ∷ ms) =
+    both (Clashes (fs ++ ns) m) (OneClashes ((fs ++ ns) ++ m ∷ []) ms) (OneClashes (fs ++ ns) (m ∷ ms)) (name_clash fs ns m) (names_clash fs (ns ++ m ∷ []) ms)
+    (λ p c. first c) (λ p c. further c) (λ p c. names_parts c) (name_found fs ns m)
+    (subst (λ k. Finds (OneClashes k ms) (names_clash fs (ns ++ m ∷ []) ms)) (sym (append_assoc fs ns (m ∷ []))) (names_found fs (ns ++ m ∷ []) ms))
+
+one_left : {known xs : List Name} (ys : List Name) {p : Span} → OneClashes known xs p → OneClashes known (xs ++ ys) p
+one_left ys (first c) = first c
+one_left ys (further c) = further (one_left ys c)
+
+one_right : (known xs ys : List Name) {p : Span} → OneClashes (known ++ xs) ys p → OneClashes known (xs ++ ys) p
+one_right known [] ys {p} c = subst (λ k. OneClashes k ys p) (append-nil known) c
+one_right known (x ∷ xs) ys {p} c = further (one_right (known ++ x ∷ []) xs ys (subst (λ k. OneClashes k ys p) (sym (append_assoc known (x ∷ []) xs)) c))
+
+one_parts : (known xs ys : List Name) {p : Span} → OneClashes known (xs ++ ys) p → OneClashes known xs p ⊎ OneClashes (known ++ xs) ys p
+one_parts known [] ys {p} c = inr (subst (λ k. OneClashes k ys p) (sym (append-nil known)) c)
+one_parts known (x ∷ xs) ys {p} c = by (names_parts c) (λ d. one_parts (known ++ x ∷ []) xs ys d)
+  where
+    on : OneClashes (known ++ x ∷ []) xs p ⊎ OneClashes ((known ++ x ∷ []) ++ xs) ys p → OneClashes known (x ∷ xs) p ⊎ OneClashes (known ++ x ∷ xs) ys p
+    on (inl d) = inl (further d)
+    on (inr d) = inr (subst (λ k. OneClashes k ys p) (append_assoc known (x ∷ []) xs) d)
+
+    by : Clashes known x p ⊎ OneClashes (known ++ x ∷ []) (xs ++ ys) p →
+        (OneClashes (known ++ x ∷ []) (xs ++ ys) p → OneClashes (known ++ x ∷ []) xs p ⊎ OneClashes ((known ++ x ∷ []) ++ xs) ys p) → OneClashes known (x ∷ xs) p ⊎ OneClashes (known ++ x ∷ xs) ys p
+    by (inl d) f = inl (first d)
+    by (inr d) f = on (f d)
+
+-- ---- expressions
+
+call_parts : {known : List Name} {s : Span} {t : Target} {n : Name} {es : Exprs} {p : Span} → ExprClashes known (Call s t n es) p → TargetClashes known t p ⊎ ExprsClash known es p
+call_parts (in_target c) = inl c
+call_parts (in_actuals c) = inr c
+
+unary_part : {known : List Name} {s : Span} {op : UnaryOperator} {a : Expr} {p : Span} → ExprClashes known (Unary s op a) p → ExprClashes known a p
+unary_part (in_operand c) = c
+
+binary_parts : {known : List Name} {s : Span} {op : BinaryOperator} {a b : Expr} {p : Span} → ExprClashes known (Binary s op a b) p → ExprClashes known a p ⊎ ExprClashes known b p
+binary_parts (in_left c) = inl c
+binary_parts (in_right c) = inr c
+
+test_parts : {known : List Name} {s : Span} {t : Option DeclaredType} {e : Expr} {n : Name} {p : Span} → ExprClashes known (ObjectTest s t e n) p → ExprClashes known e p ⊎ Clashes known n p
+test_parts (in_tested c) = inl c
+test_parts (test_name c) = inr c
+
+target_part : {known : List Name} {e : Expr} {p : Span} → TargetClashes known (target e) p → ExprClashes known e p
+target_part (in_target_value c) = c
+
+exprs_parts : {known : List Name} {e : Expr} {es : Exprs} {p : Span} → ExprsClash known (expr_then e es) p → ExprClashes known e p ⊎ ExprsClash known es p
+exprs_parts (in_first c) = inl c
+exprs_parts (in_others c) = inr c
+
+mutual
+  unfolding expr_clash
+
+  pub expr_found : (fs ns : List Name) (e : Expr) → Finds (ExprClashes (fs ++ ns) e) (expr_clash fs ns e)
+  expr_found fs ns (Integer s i) = λ p x. elim x [ ]
+  expr_found fs ns (Boolean s b) = λ p x. elim x [ ]
+  expr_found fs ns (Void s) = λ p x. elim x [ ]
+  expr_found fs ns (Current s) = λ p x. elim x [ ]
+  expr_found fs ns (Result s) = λ p x. elim x [ ]
+  expr_found fs ns (Call s t n es) =
+      both (TargetClashes (fs ++ ns) t) (ExprsClash (fs ++ ns) es) (ExprClashes (fs ++ ns) (Call s t n es)) (target_clash fs ns t) (exprs_clash fs ns es)
+      (λ p c. in_target c) (λ p c. in_actuals c) (λ p c. call_parts c) (target_found fs ns t) (exprs_found fs ns es)
+  expr_found fs ns (Unary s op a) =
+      same (ExprClashes (fs ++ ns) a) (ExprClashes (fs ++ ns) (Unary s op a)) (expr_clash fs ns a) (λ p c. in_operand c) (λ p c. unary_part c) (expr_found fs ns a)
+  expr_found fs ns (Binary s op a b) =
+      both (ExprClashes (fs ++ ns) a) (ExprClashes (fs ++ ns) b) (ExprClashes (fs ++ ns) (Binary s op a b)) (expr_clash fs ns a) (expr_clash fs ns b)
+      (λ p c. in_left c) (λ p c. in_right c) (λ p c. binary_parts c) (expr_found fs ns a) (expr_found fs ns b)
+  expr_found fs ns (ObjectTest s t e n) =
+      both (ExprClashes (fs ++ ns) e) (Clashes (fs ++ ns) n) (ExprClashes (fs ++ ns) (ObjectTest s t e n)) (expr_clash fs ns e) (name_clash fs ns n)
+      (λ p c. in_tested c) (λ p c. test_name c) (λ p c. test_parts c) (expr_found fs ns e) (name_found fs ns n)
+
+  pub target_found : (fs ns : List Name) (t : Target) → Finds (TargetClashes (fs ++ ns) t) (target_clash fs ns t)
+  target_found fs ns no_target = λ p x. elim x [ ]
+  target_found fs ns (target e) =
+      same (ExprClashes (fs ++ ns) e) (TargetClashes (fs ++ ns) (target e)) (expr_clash fs ns e) (λ p c. in_target_value c) (λ p c. target_part c) (expr_found fs ns e)
+
+  pub exprs_found : (fs ns : List Name) (es : Exprs) → Finds (ExprsClash (fs ++ ns) es) (exprs_clash fs ns es)
+  exprs_found fs ns no_exprs = λ p x. elim x [ ]
+  exprs_found fs ns (expr_then e es) =
+      both (ExprClashes (fs ++ ns) e) (ExprsClash (fs ++ ns) es) (ExprsClash (fs ++ ns) (expr_then e es)) (expr_clash fs ns e) (exprs_clash fs ns es)
+      (λ p c. in_first c) (λ p c. in_others c) (λ p c. exprs_parts c) (expr_found fs ns e) (exprs_found fs ns es)
+
+mutual
+  wider_expr : {known : List Name} (more : List Name) {e : Expr} {p : Span} → ExprClashes known e p → ExprClashes (known ++ more) e p
+  wider_expr more (in_target c) = in_target (wider_target more c)
+  wider_expr more (in_actuals c) = in_actuals (wider_exprs more c)
+  wider_expr more (in_operand c) = in_operand (wider_expr more c)
+  wider_expr more (in_left c) = in_left (wider_expr more c)
+  wider_expr more (in_right c) = in_right (wider_expr more c)
+  wider_expr more (in_tested c) = in_tested (wider_expr more c)
+  wider_expr more (test_name c) = test_name (wider_name more c)
+
+  wider_target : {known : List Name} (more : List Name) {t : Target} {p : Span} → TargetClashes known t p → TargetClashes (known ++ more) t p
+  wider_target more (in_target_value c) = in_target_value (wider_expr more c)
+
+  wider_exprs : {known : List Name} (more : List Name) {es : Exprs} {p : Span} → ExprsClash known es p → ExprsClash (known ++ more) es p
+  wider_exprs more (in_first c) = in_first (wider_expr more c)
+  wider_exprs more (in_others c) = in_others (wider_exprs more c)
+
+-- ---- conditions
+
+and_then_only : (op : BinaryOperator) → is_and_then op ≡ true → op ≡ AndThen
+and_then_only AndThen e = refl
+and_then_only op e = cc
+
+-- whether two conditions are joined so that the names of the left one are known in the right one
+abbrev joins : Expr → Bool
+joins (Binary s op a b) = is_and_then op
+joins _ = false
+
+whole_only : {known : List Name} {e : Expr} {p : Span} → joins e ≡ false → ConditionClashes known e p → ExprClashes known e p
+whole_only i (in_whole c) = c
+whole_only i (in_left_test c) = cc
+whole_only i (in_right_test c) = cc
+
+condition_parts : {known : List Name} {s : Span} {op : BinaryOperator} {a b : Expr} {p : Span} → ConditionClashes known (Binary s op a b) p → ConditionClashes known a p ⊎ ConditionClashes (known ++ tests_of a) b p
+condition_parts (in_whole (in_left c)) = inl (in_whole c)
+condition_parts {a} (in_whole (in_right c)) = inr (in_whole (wider_expr (tests_of a) c))
+condition_parts (in_left_test c) = inl c
+condition_parts (in_right_test c) = inr c
+
+module _ {known : List Name} (s : Span) (op : BinaryOperator) (a b : Expr) (e : is_and_then op ≡ true) where
+  in_left_condition : (p : Span) → ConditionClashes known a p → ConditionClashes known (Binary s op a b) p
+  in_left_condition p c = subst (λ op. ConditionClashes known (Binary s op a b) p) (sym (and_then_only op e)) (in_left_test c)
+
+  in_right_condition : (p : Span) → ConditionClashes (known ++ tests_of a) b p → ConditionClashes known (Binary s op a b) p
+  in_right_condition p c = subst (λ op. ConditionClashes known (Binary s op a b) p) (sym (and_then_only op e)) (in_right_test c)
+
+module _ (fs ns : List Name) where
+  whole_found : (e : Expr) → joins e ≡ false → Finds (ConditionClashes (fs ++ ns) e) (expr_clash fs ns e)
+  whole_found e i = same (ExprClashes (fs ++ ns) e) (ConditionClashes (fs ++ ns) e) (expr_clash fs ns e) (λ p c. in_whole c) (λ p c. whole_only i c) (expr_found fs ns e)
+
+  joined_found : (s : Span) (op : BinaryOperator) (a b : Expr) → Finds (ConditionClashes (fs ++ ns) a) (condition_clash fs ns a) → Finds (ConditionClashes (fs ++ (ns ++ tests_of a)) b) (condition_clash fs (ns ++ tests_of a) b) →
+      (c : Bool) → is_and_then op ≡ c →
+      Finds (ConditionClashes (fs ++ ns) (Binary s op a b)) (if c then earliest (condition_clash fs ns a) (condition_clash fs (ns ++ tests_of a) b) else expr_clash fs ns (Binary s op a b))
+  joined_found s op a b x y true e =
+      both (ConditionClashes (fs ++ ns) a) (ConditionClashes ((fs ++ ns) ++ tests_of a) b) (ConditionClashes (fs ++ ns) (Binary s op a b)) (condition_clash fs ns a) (condition_clash fs (ns ++ tests_of a) b)
+      (in_left_condition s op a b e) (in_right_condition s op a b e) (λ p c. condition_parts c) x
+      (subst (λ k. Finds (ConditionClashes k b) (condition_clash fs (ns ++ tests_of a) b)) (sym (append_assoc fs ns (tests_of a))) y)
+  joined_found s op a b x y false e = whole_found (Binary s op a b) e
+
+pub condition_found : (fs ns : List Name) (e : Expr) → Finds (ConditionClashes (fs ++ ns) e) (condition_clash fs ns e)
+unfolding condition_clash expr_clash
+condition_found fs ns (Binary s op a b) = joined_found fs ns s op a b (condition_found fs ns a) (condition_found fs (ns ++ tests_of a) b) (is_and_then op) refl
+condition_found fs ns (ObjectTest s t e n) = whole_found fs ns (ObjectTest s t e n) refl
+condition_found fs ns (Integer s i) = whole_found fs ns (Integer s i) refl
+condition_found fs ns (Boolean s b) = whole_found fs ns (Boolean s b) refl
+condition_found fs ns (Void s) = whole_found fs ns (Void s) refl
+condition_found fs ns (Current s) = whole_found fs ns (Current s) refl
+condition_found fs ns (Result s) = whole_found fs ns (Result s) refl
+condition_found fs ns (Call s t n es) = whole_found fs ns (Call s t n es) refl
+condition_found fs ns (Unary s op a) = whole_found fs ns (Unary s op a) refl
+
+-- ---- clauses and heads
+
+pub clauses_found : (fs ns : List Name) (ks : List Clause) → Finds (ClausesClash (fs ++ ns) ks) (clauses_clash fs ns ks)
+unfolding clauses_clash
+clauses_found fs ns [] = λ p a. any_none a
+clauses_found fs ns (k ∷ ks) =
+    both (ExprClashes (fs ++ ns) k.condition) (ClausesClash (fs ++ ns) ks) (ClausesClash (fs ++ ns) (k ∷ ks)) (expr_clash fs ns k.condition) (clauses_clash fs ns ks)
+    (λ p c. any_first k ks c) (λ p c. any_later k ks c) (λ p c. any_split k ks c) (expr_found fs ns k.condition) (clauses_found fs ns ks)
+
+abbrev ValuesClash : List Name → List Head → Span → Type 0
+ValuesClash known hs p = Any (λ h. ExprClashes known h.value p) hs
+
+values_found : (fs ns : List Name) (hs : List Head) → Finds (ValuesClash (fs ++ ns) hs) (values_clash fs ns hs)
+unfolding values_clash
+values_found fs ns [] = λ p a. any_none a
+values_found fs ns (h ∷ hs) =
+    both (ExprClashes (fs ++ ns) h.value) (ValuesClash (fs ++ ns) hs) (ValuesClash (fs ++ ns) (h ∷ hs)) (expr_clash fs ns h.value) (values_clash fs ns hs)
+    (λ p c. any_first h hs c) (λ p c. any_later h hs c) (λ p c. any_split h hs c) (expr_found fs ns h.value) (values_found fs ns hs)
+
+-- ---- instructions
+
+-- in a condition, or in what stands under it
+abbrev UnderClashes : List Name → Expr → Instrs → Span → Type 0
+UnderClashes known e body p = ConditionClashes known e p ⊎ InstrsClash (known ++ tests_of e) body p
+
+module _ {known : List Name} {p : Span} where
+  source_part : {s : Span} {v : Variable} {e : Expr} → InstrClashes known (Assign s v e) p → ExprClashes known e p
+  source_part (in_source c) = c
+
+  routine_call_parts : {s : Span} {t : Target} {n : Name} {es : Exprs} → InstrClashes known (CallRoutine s t n es) p → TargetClashes known t p ⊎ ExprsClash known es p
+  routine_call_parts (in_call_target c) = inl c
+  routine_call_parts (in_call_actuals c) = inr c
+
+  creation_part : {s : Span} {v : Variable} {k : CreationCall} → InstrClashes known (Create s v (Some k)) p → ExprsClash known k.actuals p
+  creation_part (in_creation c) = c
+
+  if_parts : {s : Span} {e : Expr} {body other : Instrs} {branches : Branches} →
+      InstrClashes known (If s e body branches other) p → UnderClashes known e body p ⊎ (BranchesClash known branches p ⊎ InstrsClash known other p)
+  if_parts (in_if c) = inl (inl c)
+  if_parts (in_then c) = inl (inr c)
+  if_parts (in_elseif c) = inr (inl c)
+  if_parts (in_else c) = inr (inr c)
+
+  if_under : {s : Span} {e : Expr} {body other : Instrs} {branches : Branches} → UnderClashes known e body p → InstrClashes known (If s e body branches other) p
+  if_under (inl c) = in_if c
+  if_under (inr c) = in_then c
+
+  if_behind : {s : Span} {e : Expr} {body other : Instrs} {branches : Branches} → BranchesClash known branches p ⊎ InstrsClash known other p → InstrClashes known (If s e body branches other) p
+  if_behind (inl c) = in_elseif c
+  if_behind (inr c) = in_else c
+
+  branches_parts : {e : Expr} {body : Instrs} {bs : Branches} → BranchesClash known (branch_then e body bs) p → UnderClashes known e body p ⊎ BranchesClash known bs p
+  branches_parts (in_branch_condition c) = inl (inl c)
+  branches_parts (in_branch c) = inl (inr c)
+  branches_parts (in_later_branch c) = inr c
+
+  branch_under : {e : Expr} {body : Instrs} {bs : Branches} → UnderClashes known e body p → BranchesClash known (branch_then e body bs) p
+  branch_under (inl c) = in_branch_condition c
+  branch_under (inr c) = in_branch c
+
+  loop_parts : {s : Span} {e : Expr} {initial body : Instrs} → InstrClashes known (Loop s initial e body) p → InstrsClash known initial p ⊎ (ExprClashes known e p ⊎ InstrsClash known body p)
+  loop_parts (in_from c) = inl c
+  loop_parts (in_until c) = inr (inl c)
+  loop_parts (in_loop c) = inr (inr c)
+
+  loop_behind : {s : Span} {e : Expr} {initial body : Instrs} → ExprClashes known e p ⊎ InstrsClash known body p → InstrClashes known (Loop s initial e body) p
+  loop_behind (inl c) = in_until c
+  loop_behind (inr c) = in_loop c
+
+  check_part : {s : Span} {ks : List Clause} → InstrClashes known (Check s ks) p → ClausesClash known ks p
+  check_part (in_check c) = c
+
+  block_parts : {s : Span} {hs : List Head} {body : Instrs} → InstrClashes known (Block s hs body) p → ValuesClash known hs p ⊎ (OneClashes known (head_names hs) p ⊎ InstrsClash (known ++ head_names hs) body p)
+  block_parts (in_heads c) = inl c
+  block_parts (head_name c) = inr (inl c)
+  block_parts (in_block c) = inr (inr c)
+
+  block_behind : {s : Span} {hs : List Head} {body : Instrs} → OneClashes known (head_names hs) p ⊎ InstrsClash (known ++ head_names hs) body p → InstrClashes known (Block s hs body) p
+  block_behind (inl c) = head_name c
+  block_behind (inr c) = in_block c
+
+  instrs_parts : {i : Instr} {is : Instrs} → InstrsClash known (instr_then i is) p → InstrClashes known i p ⊎ InstrsClash known is p
+  instrs_parts (in_first_instr c) = inl c
+  instrs_parts (in_other_instrs c) = inr c
+
+-- where more names are known
+grown : (fs ns more : List Name) (is : Instrs) → Finds (InstrsClash (fs ++ (ns ++ more)) is) (instrs_clash fs (ns ++ more) is) → Finds (InstrsClash ((fs ++ ns) ++ more) is) (instrs_clash fs (ns ++ more) is)
+grown fs ns more is x = subst (λ k. Finds (InstrsClash k is) (instrs_clash fs (ns ++ more) is)) (sym (append_assoc fs ns more)) x
+
+under_found : (fs ns : List Name) (e : Expr) (body : Instrs) → Finds (InstrsClash (fs ++ (ns ++ tests_of e)) body) (instrs_clash fs (ns ++ tests_of e) body) →
+    Finds (UnderClashes (fs ++ ns) e body) (earliest (condition_clash fs ns e) (instrs_clash fs (ns ++ tests_of e) body))
+under_found fs ns e body x =
+    either_of (ConditionClashes (fs ++ ns) e) (InstrsClash ((fs ++ ns) ++ tests_of e) body) (condition_clash fs ns e) (instrs_clash fs (ns ++ tests_of e) body)
+    (condition_found fs ns e) (grown fs ns (tests_of e) body x)
+
+mutual
+  unfolding instr_clash
+
+  pub instr_found : (fs ns : List Name) (i : Instr) → Finds (InstrClashes (fs ++ ns) i) (instr_clash fs ns i)
+  instr_found fs ns (Assign s v e) = same (ExprClashes (fs ++ ns) e) (InstrClashes (fs ++ ns) (Assign s v e)) (expr_clash fs ns e) (λ p c. in_source c) (λ p c. source_part c) (expr_found fs ns e)
+  instr_found fs ns (PrintText s t) = λ p x. elim x [ ]
+  instr_found fs ns (CallRoutine s t n es) =
+      both (TargetClashes (fs ++ ns) t) (ExprsClash (fs ++ ns) es) (InstrClashes (fs ++ ns) (CallRoutine s t n es)) (target_clash fs ns t) (exprs_clash fs ns es)
+      (λ p c. in_call_target c) (λ p c. in_call_actuals c) (λ p c. routine_call_parts c) (target_found fs ns t) (exprs_found fs ns es)
+  instr_found fs ns (Create s v None) = λ p x. elim x [ ]
+  instr_found fs ns (Create s v (Some k)) =
+      same (ExprsClash (fs ++ ns) k.actuals) (InstrClashes (fs ++ ns) (Create s v (Some k))) (exprs_clash fs ns k.actuals) (λ p c. in_creation c) (λ p c. creation_part c) (exprs_found fs ns k.actuals)
+  instr_found fs ns (If s e body branches other) =
+      both (UnderClashes (fs ++ ns) e body) (λ p. BranchesClash (fs ++ ns) branches p ⊎ InstrsClash (fs ++ ns) other p) (InstrClashes (fs ++ ns) (If s e body branches other))
+      (earliest (condition_clash fs ns e) (instrs_clash fs (ns ++ tests_of e) body)) (earliest (branches_clash fs ns branches) (instrs_clash fs ns other))
+      (λ p c. if_under c) (λ p c. if_behind c) (λ p c. if_parts c) (under_found fs ns e body (instrs_found fs (ns ++ tests_of e) body))
+      (either_of (BranchesClash (fs ++ ns) branches) (InstrsClash (fs ++ ns) other) (branches_clash fs ns branches) (instrs_clash fs ns other) (branches_found fs ns branches) (instrs_found fs ns other))
+  instr_found fs ns (Loop s initial e body) =
+      both (InstrsClash (fs ++ ns) initial) (λ p. ExprClashes (fs ++ ns) e p ⊎ InstrsClash (fs ++ ns) body p) (InstrClashes (fs ++ ns) (Loop s initial e body))
+      (instrs_clash fs ns initial) (earliest (expr_clash fs ns e) (instrs_clash fs ns body)) (λ p c. in_from c) (λ p c. loop_behind c) (λ p c. loop_parts c) (instrs_found fs ns initial)
+      (either_of (ExprClashes (fs ++ ns) e) (InstrsClash (fs ++ ns) body) (expr_clash fs ns e) (instrs_clash fs ns body) (expr_found fs ns e) (instrs_found fs ns body))
+  instr_found fs ns (Check s ks) = same (ClausesClash (fs ++ ns) ks) (InstrClashes (fs ++ ns) (Check s ks)) (clauses_clash fs ns ks) (λ p c. in_check c) (λ p c. check_part c) (clauses_found fs ns ks)
+  instr_found fs ns (Block s hs body) =
+      both (ValuesClash (fs ++ ns) hs) (λ p. OneClashes (fs ++ ns) (head_names hs) p ⊎ InstrsClash ((fs ++ ns) ++ head_names hs) body p) (InstrClashes (fs ++ ns) (Block s hs body))
+      (values_clash fs ns hs) (earliest (names_clash fs ns (head_names hs)) (instrs_clash fs (ns ++ head_names hs) body)) (λ p c. in_heads c) (λ p c. block_behind c) (λ p c. block_parts c) (values_found fs ns hs)
+      (either_of (OneClashes (fs ++ ns) (head_names hs)) (InstrsClash ((fs ++ ns) ++ head_names hs) body) (names_clash fs ns (head_names hs)) (instrs_clash fs (ns ++ head_names hs) body)
+      (names_found fs ns (head_names hs)) (grown fs ns (head_names hs) body (instrs_found fs (ns ++ head_names hs) body)))
+
+  pub instrs_found : (fs ns : List Name) (is : Instrs) → Finds (InstrsClash (fs ++ ns) is) (instrs_clash fs ns is)
+  instrs_found fs ns no_instrs = λ p x. elim x [ ]
+  instrs_found fs ns (instr_then i is) =
+      both (InstrClashes (fs ++ ns) i) (InstrsClash (fs ++ ns) is) (InstrsClash (fs ++ ns) (instr_then i is)) (instr_clash fs ns i) (instrs_clash fs ns is)
+      (λ p c. in_first_instr c) (λ p c. in_other_instrs c) (λ p c. instrs_parts c) (instr_found fs ns i) (instrs_found fs ns is)
+
+  pub branches_found : (fs ns : List Name) (bs : Branches) → Finds (BranchesClash (fs ++ ns) bs) (branches_clash fs ns bs)
+  branches_found fs ns no_branches = λ p x. elim x [ ]
+  branches_found fs ns (branch_then e body bs) =
+      both (UnderClashes (fs ++ ns) e body) (BranchesClash (fs ++ ns) bs) (BranchesClash (fs ++ ns) (branch_then e body bs))
+      (earliest (condition_clash fs ns e) (instrs_clash fs (ns ++ tests_of e) body)) (branches_clash fs ns bs) (λ p c. branch_under c) (λ p c. in_later_branch c) (λ p c. branches_parts c)
+      (under_found fs ns e body (instrs_found fs (ns ++ tests_of e) body)) (branches_found fs ns bs)
+
+-- ---- routines
+
+-- in the assertions, or in the body, where more names are known
+abbrev PartsClash : List Name → List Name → List Clause → Instrs → List Clause → Span → Type 0
+PartsClash outer inner pre body post p = ClausesClash outer pre p ⊎ (InstrsClash inner body p ⊎ ClausesClash outer post p)
+
+module _ {known : List Name} {formals locals : List Declaration} {result : Option DeclaredType} {pre post : List Clause} {body : Instrs} {p : Span} where
+  routine_parts : RoutineClashes known (Routine formals result pre locals body post) p →
+      OneClashes known (declared_names formals ++ declared_names locals) p ⊎ PartsClash (known ++ declared_names formals) (known ++ declared_names formals ++ declared_names locals) pre body post p
+  routine_parts (entity c) = inl c
+  routine_parts (in_precondition c) = inr (inl c)
+  routine_parts (in_body c) = inr (inr (inl c))
+  routine_parts (in_postcondition c) = inr (inr (inr c))
+
+  routine_behind : PartsClash (known ++ declared_names formals) (known ++ declared_names formals ++ declared_names locals) pre body post p → RoutineClashes known (Routine formals result pre locals body post) p
+  routine_behind (inl c) = in_precondition c
+  routine_behind (inr (inl c)) = in_body c
+  routine_behind (inr (inr c)) = in_postcondition c
+
+entities_found : (fs xs ys : List Name) → Finds (OneClashes fs (xs ++ ys)) (earliest (names_clash fs [] xs) (names_clash fs xs ys))
+entities_found fs xs ys =
+    both (OneClashes fs xs) (OneClashes (fs ++ xs) ys) (OneClashes fs (xs ++ ys)) (names_clash fs [] xs) (names_clash fs xs ys)
+    (λ p c. one_left ys c) (λ p c. one_right fs xs ys c) (λ p c. one_parts fs xs ys c)
+    (subst (λ k. Finds (OneClashes k xs) (names_clash fs [] xs)) (append-nil fs) (names_found fs [] xs)) (names_found fs xs ys)
+
+parts_found : (fs ms ns inner : List Name) → fs ++ ns ≡ inner → (pre post : List Clause) (body : Instrs) →
+    Finds (PartsClash (fs ++ ms) inner pre body post) (earliest (clauses_clash fs ms pre) (earliest (instrs_clash fs ns body) (clauses_clash fs ms post)))
+parts_found fs ms ns inner e pre post body =
+    subst (λ k. Finds (PartsClash (fs ++ ms) k pre body post) (earliest (clauses_clash fs ms pre) (earliest (instrs_clash fs ns body) (clauses_clash fs ms post)))) e
+    (either_of (ClausesClash (fs ++ ms) pre) (λ p. InstrsClash (fs ++ ns) body p ⊎ ClausesClash (fs ++ ms) post p) (clauses_clash fs ms pre) (earliest (instrs_clash fs ns body) (clauses_clash fs ms post))
+    (clauses_found fs ms pre)
+    (either_of (InstrsClash (fs ++ ns) body) (ClausesClash (fs ++ ms) post) (instrs_clash fs ns body) (clauses_clash fs ms post) (instrs_found fs ns body) (clauses_found fs ms post)))
+
+pub kind_found : (fs : List Name) (k : FeatureKind) → Finds (RoutineClashes fs k) (kind_clash fs k)
+unfolding kind_clash
+kind_found fs (Attribute t) = λ p x. elim x [ ]
+kind_found fs (Routine formals result pre locals body post) =
+    both (OneClashes fs (declared_names formals ++ declared_names locals)) (PartsClash (fs ++ declared_names formals) (fs ++ declared_names formals ++ declared_names locals) pre body post)
+    (RoutineClashes fs (Routine formals result pre locals body post)) (earliest (names_clash fs [] (declared_names formals)) (names_clash fs (declared_names formals) (declared_names locals)))
+    (earliest (clauses_clash fs (declared_names formals) pre) (earliest (instrs_clash fs (declared_names formals ++ declared_names locals) body) (clauses_clash fs (declared_names formals) post)))
+    (λ p c. entity c) (λ p c. routine_behind c) (λ p c. routine_parts c) (entities_found fs (declared_names formals) (declared_names locals))
+    (parts_found fs (declared_names formals) (declared_names formals ++ declared_names locals) (fs ++ declared_names formals ++ declared_names locals)
+    (sym (append_assoc fs (declared_names formals) (declared_names locals))) pre post body)
+
+pub found_in_kind : (fs : List Name) (k : FeatureKind) (r : result.Result (Option Span) AllocError) → IfOk r (λ place. place ≡ kind_clash fs k) → IfOk r (Finds (RoutineClashes fs k))
+found_in_kind fs k (Ok place) e = subst (Finds (RoutineClashes fs k)) (sym e) (kind_found fs k)
+found_in_kind fs k (Err x) e = tt

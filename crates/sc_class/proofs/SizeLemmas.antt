@@ -1,0 +1,53 @@
+-- Whether the limits on classes and features are passed.
+use Rattle.std.proofs.Common.{◌≡◌, ◌<◌, ◌≤◌, ℕ, Bool, true, false, List, length, map, ap, sym, subst, ◌∙◌, arith}
+use Rattle.std.specs.Prelude.{Any, Result, Ok, Err, IfOk, nat_lt}
+use Rattle.std.specs.Bool.{MatchBool}
+use Rattle.std.specs.declared.alloc.AllocError.{AllocError}
+use Rattle.std.proofs.lemmas.List.{length-map}
+use Rattle.sc_tree.specs.declared.system.System as tree
+use Rattle.sc_tree.specs.declared.system.Class as tree_class
+use Rattle.sc_tree.specs.Plain.{System}
+use Rattle.sc_tree.specs.View.{class_of}
+use Rattle.sc_class.specs.declared.own.FeatureEntry.{FeatureEntry}
+use Rattle.sc_class.specs.Entries.{entry_of}
+use Rattle.sc_class.specs.Features.{features}
+use Rattle.sc_class.specs.Limits.{is_large, has_many_features, TellsLargeClass, PassesLimit, many_classes, many_features, large_routine}
+
+-- what is said of the class of a lineage, of the system and the number that it was made from
+pub at_lineage : (P : tree.System → ℕ → Type 0) (t t' : tree.System) (k k' : ℕ) → (t' ≡ t) × (k' ≡ k) → P t' k' → P t k
+at_lineage P t t' k k' (e, f) p = subst (λ (k : ℕ). P t k) f (subst (λ (t : tree.System). P t k') e p)
+
+pub from_lineage : (P : tree.System → ℕ → Type 0) (t t' : tree.System) (k k' : ℕ) → (t' ≡ t) × (k' ≡ k) → P t k → P t' k'
+from_lineage P t t' k k' (e, f) p = subst (λ (k : ℕ). P t' k) (sym f) (subst (λ (t : tree.System). P t k) (sym e) p)
+
+pub counted : (s : System) (k : ℕ) (items : List FeatureEntry) → map entry_of items ≡ features s k → nat_lt 256 (length items) ≡ has_many_features s k
+counted s k items e = ap (nat_lt 256) (sym (length-map items entry_of) ∙ ap length e)
+
+abbrev pub LargeRoutine : System → Type 0
+LargeRoutine s = Any (λ c. Any (λ f. is_large f.kind ≡ true) c.features) s.classes
+
+module _ (s : System) (n : ℕ) (all : n ≡ length s.classes) (few : n ≤ 256) (b : Bool) (tells : MatchBool b (LargeRoutine s) (LargeRoutine s → ⊥)) (small : b ≡ false) where
+  none_large : LargeRoutine s → ⊥
+  none_large = subst (λ (b : Bool). MatchBool b (LargeRoutine s) (LargeRoutine s → ⊥)) small tells
+
+  pub size_told : (large : Bool) → TellsLargeClass s n large → MatchBool large (PassesLimit s) (PassesLimit s → ⊥)
+  size_told true (k, l, e) = many_features {k = k} (omega (arith, l, all)) (more e)
+    where
+      more : nat_lt 256 (length (features s k)) ≡ true → 256 < length (features s k)
+      more e = grind arith
+  size_told false none = λ p. refused p
+    where
+      few_features : (k : ℕ) → nat_lt 256 (length (features s k)) ≡ false → 256 < length (features s k) → ⊥
+      few_features k e l = absurd (grind arith)
+
+      refused : PassesLimit s → ⊥
+      refused (many_classes l) = absurd (omega (arith, l, all, few))
+      refused (many_features {k} l m) = few_features k (none k (omega (arith, l, all))) m
+      refused (large_routine y) = none_large y
+
+  pub size_answered : (r : Result Bool AllocError) → IfOk r (λ large. TellsLargeClass s n large) → IfOk r (λ large. MatchBool large (PassesLimit s) (PassesLimit s → ⊥))
+  size_answered (Ok large) t = size_told large t
+  size_answered (Err e) t = tt
+
+pub classes_counted : (s : System) (cs : List tree_class.Class) → map class_of cs ≡ s.classes → length cs ≡ length s.classes
+classes_counted s cs e = sym (length-map cs class_of) ∙ ap length e

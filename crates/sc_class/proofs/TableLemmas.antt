@@ -1,0 +1,153 @@
+-- What tables say of classes, and that a system with tables has no fault.
+use Rattle.std.proofs.Common.{◌≡◌, ◌<◌, ◌≤◌, ◌+◌, ℕ, zero, suc, Bool, true, false, cond, List, [], ◌∷◌, ◌++◌, Option, Some, None, length, get_or, map, drop, refl, ap, sym, ◌∙◌, arith, below_more}
+use Rattle.std.specs.Prelude.{slice_get, nat_lt}
+use Rattle.std.specs.Option.{option_map_or, option_and_then}
+use Rattle.std.specs.declared.vec.Vec.{Vec}
+use Rattle.std.specs.declared.alloc.Global.{Global}
+use Rattle.std.proofs.lemmas.Option.{slice_get_past, slice_get_within}
+use Rattle.std.proofs.lemmas.List.{length-append, drop_more}
+use Rattle.sc_tree.specs.declared.system.Class as tree_class
+use Rattle.sc_tree.specs.declared.instruction.Clause as tree_clause
+use Rattle.sc_tree.specs.Plain.{System, Class, Clause}
+use Rattle.sc_tree.specs.View.{class_of, clause_of}
+use Rattle.sc_class.specs.declared.identity.ClassId.{ClassId}
+use Rattle.sc_class.specs.declared.identity.ClassId.TheVariants as class
+use Rattle.sc_text.specs.declared.token.Span.{Span}
+use Rattle.sc_class.specs.declared.fault.ClassFault.TheVariants as fault
+use Rattle.sc_class.specs.FaultAt.{FaultAt}
+use Rattle.sc_class.specs.Scopes.{ClassClashes}
+use Rattle.sc_class.specs.Redefinition.{BadlyRedefines}
+use Rattle.sc_class.specs.ClassNames.{Root}
+use Rattle.sc_class.specs.Ancestors.{ancestors, line, parent_of}
+use Rattle.sc_class.specs.Features.{declared_in, redefined_by, not_redefined, features_along, features, named_among, feature_named, invariant_along, invariant_of, own_invariant}
+use Rattle.sc_class.specs.ClassRules.{Fails, IsFaultless, duplicate_class, unknown_parent, cycle, duplicate_feature, bad_redefinition, no_root, limit, left_out}
+use Rattle.sc_class.specs.Lines.{line_in}
+use Rattle.sc_class.specs.Tables.{ClassesStand, FeaturesStand, RestStands, ancestors_of, joined_invariant}
+
+pub faultless : (s : System) (root : Root) → ClassesStand s → FeaturesStand s root → RestStands s → IsFaultless s root
+faultless s root a b d f (duplicate_class {p} y) = a.none_repeated p y
+faultless s root a b d f (unknown_parent {p} y) = a.none_unknown p y
+faultless s root a b d f (cycle {p} y) = a.none_cyclic p y
+faultless s root a b d f (duplicate_feature {p} {k} {c} e y) = b.none_clashes p (k, c, e, y)
+faultless s root a b d f (bad_redefinition {p} {k} {c} e y) = b.none_redefines_badly p (k, c, e, y)
+faultless s root a b d f (no_root e) = let q : true ≡ false = sym b.rooted ∙ e in cc
+faultless s root a b d f (limit y) = d.within_limits y
+faultless s root a b d f (left_out {x} y) = d.none_left_out x y
+
+-- ---- lines
+
+read_append : {A : Type 0} (xs : List A) (x : A) (k : ℕ) → k < length xs → slice_get (xs ++ x ∷ []) k ≡ slice_get xs k
+read_append [] x k l = absurd (omega arith)
+read_append (y ∷ xs) x zero l = refl
+read_append (y ∷ xs) x (suc k) l = read_append xs x k (less l)
+  where
+    less : suc k < suc (length xs) → k < length xs
+    less l = omega arith
+
+read_last : {A : Type 0} (xs : List A) (x : A) → slice_get (xs ++ x ∷ []) (length xs) ≡ Some x
+read_last [] x = refl
+read_last (y ∷ xs) x = read_last xs x
+
+pub lines_more : (s : System) (lines lines' : List (Vec ℕ Global)) (v : Vec ℕ Global) (n : ℕ) → v.items ≡ ancestors s n → lines' ≡ lines ++ v ∷ [] →
+    (length lines ≡ n) × ((k : ℕ) → k < n → line_in lines k ≡ ancestors s k) → (length lines' ≡ n + 1) × ((k : ℕ) → k < n + 1 → line_in lines' k ≡ ancestors s k)
+lines_more s lines lines' v n e f (l, below) =
+    (ap length f ∙ length-append lines (v ∷ []) ∙ ap (λ k. k + 1) l, below_more (λ k. line_in lines' k ≡ ancestors s k) n before here)
+  where
+    before : (k : ℕ) → k < n → line_in lines' k ≡ ancestors s k
+    before k m =
+        let m' : k < length lines = omega (arith, l, m) in
+        ap (λ (vs : List (Vec ℕ Global)). line_in vs k) f ∙ ap (λ (o : Option (Vec ℕ Global)). option_map_or (λ (v : Vec ℕ Global). v.items) o []) (read_append lines v k m') ∙ below k m
+
+    here : line_in lines' n ≡ ancestors s n
+    here =
+        ap (λ (vs : List (Vec ℕ Global)). line_in vs n) f
+        ∙ ap (λ (o : Option (Vec ℕ Global)). option_map_or (λ (v : Vec ℕ Global). v.items) o []) (ap (slice_get (lines ++ v ∷ [])) (sym l) ∙ read_last lines v) ∙ e
+
+not_past : {A : Type 0} (xs : List A) (k : ℕ) → k < length xs → slice_get xs k ≡ None → ⊥
+not_past [] k l e = absurd (omega arith)
+not_past (x ∷ xs) zero l e = cc
+not_past (x ∷ xs) (suc k) l e = not_past xs k (less l) e
+  where
+    less : suc k < suc (length xs) → k < length xs
+    less l = omega arith
+
+module _ (s : System) (lines : List (Vec ℕ Global)) (as_many : length lines ≡ length s.classes) (are : (k : ℕ) → k < length lines → line_in lines k ≡ ancestors s k) (k : ℕ) where
+  pub line_at : (v : Vec ℕ Global) → slice_get lines k ≡ Some v → v.items ≡ cond (nat_lt k (length s.classes)) (ancestors s k) []
+  line_at v e =
+      let l = slice_get_within lines k v e in
+      let m : k < length s.classes = omega (arith, l, as_many) in
+      sym (ap (λ (o : Option (Vec ℕ Global)). option_map_or (λ (v : Vec ℕ Global). v.items) o []) e) ∙ are k l ∙ sym (ap (λ b. cond b (ancestors s k) []) (yes m))
+    where
+      yes : k < length s.classes → nat_lt k (length s.classes) ≡ true
+      yes m = grind arith
+
+  pub no_line : slice_get lines k ≡ None → [] ≡ cond (nat_lt k (length s.classes)) (ancestors s k) []
+  no_line e = by (nat_lt k (length s.classes)) refl
+    where
+      by : (b : Bool) → nat_lt k (length s.classes) ≡ b → [] ≡ cond b (ancestors s k) []
+      by false f = refl
+      by true f = let l : k < length s.classes = grind arith in absurd (not_past lines k (omega (arith, l, as_many)) e)
+
+-- ---- a number that no class has
+
+module _ (s : System) (k : ℕ) where
+  pub features_beyond : (n : ℕ) → slice_get s.classes k ≡ None → features_along s (line n s k) ≡ []
+  features_beyond zero e = refl
+  features_beyond (suc n) e = by (slice_get s.classes k) e
+    where
+      by : (o : Option Class) → o ≡ None →
+          option_map_or (λ (c : Class). map (declared_in k) c.features) o [] ++ not_redefined (option_map_or redefined_by o []) (features_along s (option_map_or (line n s) (option_and_then (parent_of s) o) [])) ≡ []
+      by None e = refl
+      by (Some c) e = cc
+
+  pub invariant_beyond : (n : ℕ) → slice_get s.classes k ≡ None → invariant_along s (line n s k) ≡ []
+  invariant_beyond zero e = refl
+  invariant_beyond (suc n) e = by (slice_get s.classes k) e
+    where
+      by : (o : Option Class) → o ≡ None → invariant_along s (option_map_or (line n s) (option_and_then (parent_of s) o) []) ++ option_map_or (λ (c : Class). c.invariant) o [] ≡ []
+      by None e = refl
+      by (Some c) e = cc
+
+  -- the features of a class, by its line in the tables
+  pub features_by_line : features_along s (cond (nat_lt k (length s.classes)) (ancestors s k) []) ≡ features s k
+  features_by_line = by (nat_lt k (length s.classes)) refl
+    where
+      by : (b : Bool) → nat_lt k (length s.classes) ≡ b → features_along s (cond b (ancestors s k) []) ≡ features s k
+      by true e = refl
+      by false e = let l : length s.classes ≤ k = grind arith in sym (features_beyond (length s.classes) (slice_get_past s.classes k l))
+
+  pub invariant_by_line : invariant_along s (cond (nat_lt k (length s.classes)) (ancestors s k) []) ≡ invariant_of s k
+  invariant_by_line = by (nat_lt k (length s.classes)) refl
+    where
+      by : (b : Bool) → nat_lt k (length s.classes) ≡ b → invariant_along s (cond b (ancestors s k) []) ≡ invariant_of s k
+      by true e = refl
+      by false e = let l : length s.classes ≤ k = grind arith in sym (invariant_beyond (length s.classes) (slice_get_past s.classes k l))
+
+-- the clauses of one more class, below those above it
+pub invariant_more : (s : System) (ks : List ℕ) (a b : ℕ) (old new : List Clause) → a ≡ b + 1 → b < length ks → new ≡ old ++ own_invariant s (get_or ks b 0) → old ≡ invariant_along s (drop a ks) → new ≡ invariant_along s (drop b ks)
+invariant_more s ks a b old new e l f g =
+    f ∙ ap (λ cs. cs ++ own_invariant s (get_or ks b 0)) (g ∙ ap (λ (n : ℕ). invariant_along s (drop n ks)) e) ∙ sym (ap (invariant_along s) (drop_more ks b 0 l))
+
+pub named_by_line : (s : System) (of : ClassId) (x : List ℕ) → named_among x (features_along s (ancestors_of s of)) ≡ feature_named s of x
+named_by_line s (class.Declared k) x = ap (named_among x) (features_by_line s k)
+named_by_line s class.Any x = refl
+named_by_line s class.None x = refl
+named_by_line s class.Integer x = refl
+named_by_line s class.Boolean x = refl
+
+pub joined_by_line : (s : System) (of : ClassId) → invariant_along s (ancestors_of s of) ≡ joined_invariant s of
+joined_by_line s (class.Declared k) = invariant_by_line s k
+joined_by_line s class.Any = refl
+joined_by_line s class.None = refl
+joined_by_line s class.Integer = refl
+joined_by_line s class.Boolean = refl
+
+pub invariant_in : (s : System) (k : ℕ) (c : tree_class.Class) (items : List tree_clause.Clause) → slice_get s.classes k ≡ Some (class_of c) → items ≡ c.invariant.items → map clause_of items ≡ own_invariant s k
+unfolding class_of
+invariant_in s k c items e f = ap (map clause_of) f ∙ sym (ap (λ (o : Option Class). option_map_or (λ (c : Class). c.invariant) o []) e)
+
+pub duplicated : (s : System) (root : Root) (p : Span) → FaultAt s (ClassClashes s) p → Fails s root (fault.DuplicateFeature p)
+duplicated s root p (k, c, e, y) = duplicate_feature e y
+
+pub redefined_badly : (s : System) (root : Root) (p : Span) → FaultAt s (BadlyRedefines s) p → Fails s root (fault.BadRedefinition p)
+redefined_badly s root p (k, c, e, y) = bad_redefinition e y

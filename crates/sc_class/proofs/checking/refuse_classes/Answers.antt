@@ -1,0 +1,15 @@
+use Rattle.std.proofs.Common.{inr, subst}
+use Rattle.sc_tree.specs.View.{system_of}
+use Rattle.sc_class.specs.Found.{Finds}
+use Rattle.sc_class.specs.Ancestors.{CycleAt}
+use Rattle.sc_class.specs.ClassRules.{duplicate_class, unknown_parent, cycle}
+use Rattle.sc_class.proofs.checking.refuse_classes.Goals as goal
+
+pub returns-in-Some-clause-fault : goal.returns-in-Some-clause-fault
+returns-in-Some-clause-fault c = inr (duplicate_class c.in-Some.ensures)
+
+pub returns-in-Some-unknown_parent-clause-fault : goal.returns-in-Some-unknown_parent-clause-fault
+returns-in-Some-unknown_parent-clause-fault c = inr (unknown_parent c.in-Some-unknown_parent.ensures)
+
+pub returns-in-Some-2-clause-fault : goal.returns-in-Some-2-clause-fault
+returns-in-Some-2-clause-fault c = inr (cycle (subst (Finds (CycleAt (system_of c.args.hierarchy.now.system.now))) c.in-Some-2.is c.in_ok-place.ensures))

@@ -1,0 +1,23 @@
+use Rattle.std.proofs.Common.{inr, sym, subst, ◌∙◌}
+use Rattle.sc_tree.specs.View.{system_of}
+use Rattle.sc_class.specs.Found.{Finds}
+use Rattle.sc_class.specs.FaultAt.{FaultAt}
+use Rattle.sc_class.specs.Scopes.{ClassClashes}
+use Rattle.sc_class.specs.Redefinition.{BadlyRedefines}
+use Rattle.sc_class.specs.ClassRules.{no_root}
+use Rattle.sc_class.specs.Entries.{root_of}
+use Rattle.sc_class.proofs.TableLemmas.{duplicated, redefined_badly}
+use Rattle.sc_class.proofs.checking.refuse_features.Goals as goal
+
+pub returns-in-Some-clause-fault : goal.returns-in-Some-clause-fault
+returns-in-Some-clause-fault c =
+    let s = system_of c.args.outline.now.hierarchy.system.now in
+    inr (duplicated s (root_of c.args.root.now) c.in-Some.place (subst (Finds (FaultAt s (ClassClashes s))) c.in-Some.is c.in_ok-place.ensures))
+
+pub returns-in-Some-2-clause-fault : goal.returns-in-Some-2-clause-fault
+returns-in-Some-2-clause-fault c =
+    let s = system_of c.args.outline.now.hierarchy.system.now in
+    inr (redefined_badly s (root_of c.args.root.now) c.in-Some-2.place (subst (Finds (FaultAt s (BadlyRedefines s))) c.in-Some-2.is c.in_ok-place-2.ensures))
+
+pub returns-then-not-branch-clause-fault : goal.returns-then-not-branch-clause-fault
+returns-then-not-branch-clause-fault c = inr (no_root (sym c.in_ok-has_root.ensures ∙ c.if-not-branch.true))

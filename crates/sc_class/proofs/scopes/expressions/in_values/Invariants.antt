@@ -1,0 +1,9 @@
+use Rattle.std.proofs.Common.{◌≡◌, drop, map}
+use Rattle.sc_tree.specs.View.{head_of}
+use Rattle.sc_class.specs.Found.{earliest}
+use Rattle.sc_class.specs.ScopeSearch as search
+use Rattle.sc_class.proofs.scopes.expressions.in_values.Given as goal
+
+abbrev pub invariant-loop-head : goal.invariant-loop-head
+invariant-loop-head l =
+    search.values_clash l.features l.known (map head_of l.heads) ≡ earliest l.found (search.values_clash l.features l.known (map head_of (drop l.head-index l.heads)))

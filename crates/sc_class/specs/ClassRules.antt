@@ -1,0 +1,47 @@
+-- The faults of a system's classes.
+use Rattle.std.specs.Prelude.{◌≡◌, ℕ, Bool, true, false, List, [], ◌&&◌, Some, None, Any, slice_get}
+use Rattle.std.specs.Option.{option_map_or}
+use Rattle.sc_text.specs.declared.token.Span.{Span}
+use Rattle.sc_tree.specs.Plain.{System, Class, FeatureKind, Routine, Name}
+use Rattle.sc_class.specs.declared.left_out.Exclusion.{Exclusion}
+use Rattle.sc_class.specs.declared.fault.ClassFault.{ClassFault}
+use Rattle.sc_class.specs.declared.fault.ClassFault.TheVariants as fault
+use Rattle.sc_class.specs.Names.{is_listed}
+use Rattle.sc_class.specs.ClassNames.{Root, RepeatedAt, number_of}
+use Rattle.sc_class.specs.Ancestors.{UnknownParentAt, CycleAt}
+use Rattle.sc_class.specs.Features.{DeclaredFeature, features, named_among}
+use Rattle.sc_class.specs.Scopes.{ClassClashes}
+use Rattle.sc_class.specs.Redefinition.{BadlyRedefines}
+use Rattle.sc_class.specs.Limits.{PassesLimit}
+use Rattle.sc_class.specs.LeftOut.{ClassLeftOut}
+
+-- a procedure without formals
+abbrev pub is_plain_procedure : FeatureKind → Bool
+is_plain_procedure (Routine [] None pre locals body post) = true
+is_plain_procedure _ = false
+
+abbrev pub creators_of : System → ℕ → List Name
+creators_of s k = option_map_or (λ (c : Class). c.creators) (slice_get s.classes k) []
+
+-- the class at the number lists the name under `create`, and has a procedure of that name without formals, its own or inherited
+abbrev pub creates_by : System → List ℕ → ℕ → Bool
+creates_by s x k = is_listed x (creators_of s k) && option_map_or (λ (f : DeclaredFeature). is_plain_procedure f.feature.kind) (named_among x (features s k)) false
+
+-- there is a class of the root's name, and it creates its objects by that procedure
+abbrev pub has_root : System → Root → Bool
+has_root s root = option_map_or (creates_by s root.procedure) (number_of s root.class) false
+
+-- The fault is in the system, which is run from this root.
+pub data Fails (s : System) (root : Root) : ClassFault → Type 0 where
+  duplicate_class : {p : Span} → RepeatedAt [] s.classes p → Fails s root (fault.DuplicateClass p)
+  unknown_parent : {p : Span} → Any (λ c. Any (λ q. UnknownParentAt s q p) c.parents) s.classes → Fails s root (fault.UnknownParent p)
+  cycle : {p : Span} → CycleAt s p → Fails s root (fault.Cycle p)
+  duplicate_feature : {p : Span} {k : ℕ} {c : Class} → slice_get s.classes k ≡ Some c → ClassClashes s k c p → Fails s root (fault.DuplicateFeature p)
+  bad_redefinition : {p : Span} {k : ℕ} {c : Class} → slice_get s.classes k ≡ Some c → BadlyRedefines s k c p → Fails s root (fault.BadRedefinition p)
+  no_root : has_root s root ≡ false → Fails s root fault.NoRoot
+  limit : PassesLimit s → Fails s root fault.Limit
+  left_out : {x : Exclusion} → Any (λ c. ClassLeftOut c x) s.classes → Fails s root (fault.LeftOut x.what x.place)
+
+-- No fault is in the system.
+abbrev pub IsFaultless : System → Root → Type 0
+IsFaultless s root = (f : ClassFault) → Fails s root f → ⊥

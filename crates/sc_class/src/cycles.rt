@@ -1,0 +1,241 @@
+// Classes that inherit from themselves.
+
+ghost use Rattle.std.specs.Prelude.{◌≡◌, ◌<◌, ℕ, [], IfOk, OnOk, MatchBool, map, length, slice_get, unwrap_or};
+ghost use Rattle.std.specs.Bool.{OnTrue};
+ghost use Rattle.sc_tree.specs.View.{parent_of, system_of};
+ghost use Rattle.sc_class.specs.Ancestors.{CycleAt, IsParent, LeadsTo, NameLeadsTo};
+ghost use Rattle.sc_class.specs.Found.{Finds};
+ghost use Rattle.sc_class.specs.Search.{AreRanks, AreAbove, FindsWayBack, Grows, IsAbove, IsNumberOf, IsSeen};
+
+use crate::hierarchy::Hierarchy;
+use sc_text::Span;
+use sc_tree::{Class, Parent};
+use std::alloc::{AllocError, Global};
+
+/// The parent's name of the first class in the text that inherits from itself, if one does. It takes time
+/// in proportion to the text, unless a class inherits from itself or has a second parent.
+pub fn cycle(alloc: Global, hierarchy: &Hierarchy) -> Result<Option<Span>, AllocError>
+    ensures { IfOk result (Finds (CycleAt (system_of hierarchy.now.system.now))) }
+{
+    let ranks = ranks_of(alloc, hierarchy)?;
+    if are_ranks(hierarchy, &ranks) {
+        return Ok(None);
+    }
+    first_cycle(alloc, hierarchy)
+}
+
+/// A number for each class, above that of its parent where no class inherits from itself. `are_ranks`
+/// decides whether they are above.
+fn ranks_of(alloc: Global, hierarchy: &Hierarchy) -> Result<Vec<usize>, AllocError> {
+    let count = hierarchy.classes().len();
+    let mut children = children_of(alloc, hierarchy)?;
+    let mut leaves = Vec::new(alloc);
+    for (class, number) in children.iter().enumerate() {
+        if *number == 0 {
+            leaves.push(class)?;
+        }
+    }
+    let mut ranks = vec![in alloc; 0usize; count]?;
+    for rank in (0..count).rev() {
+        let Some(class) = leaves.pop() else {
+            return Ok(ranks);
+        };
+        if let Some(place) = ranks.get_mut(class) {
+            *place = rank;
+        }
+        if let Some(parent) = left_without(&mut children, hierarchy.parent(class)) {
+            leaves.push(parent)?;
+        }
+    }
+    Ok(ranks)
+}
+
+/// How many classes name each class as their first parent.
+fn children_of(alloc: Global, hierarchy: &Hierarchy) -> Result<Vec<usize>, AllocError> {
+    let mut children = vec![in alloc; 0usize; hierarchy.classes().len()]?;
+    for parent in &hierarchy.parents {
+        if let Some(number) = *parent {
+            if let Some(count) = children.get_mut(number) {
+                *count = count.saturating_add(1);
+            }
+        }
+    }
+    Ok(children)
+}
+
+/// Takes a child from a class, and gives that class where none is left.
+fn left_without(children: &mut [usize], parent: Option<usize>) -> Option<usize> {
+    let parent = parent?;
+    let count = children.get_mut(parent)?;
+    *count = count.saturating_sub(1);
+    if *count == 0 { Some(parent) } else { None }
+}
+
+/// The rank of a class.
+fn rank(ranks: &[usize], class: usize) -> usize
+    ensures { result ≡ unwrap_or (slice_get ranks.now class) 0 }
+{
+    ranks.get(class).copied().unwrap_or(0)
+}
+
+/// Whether each class is above each of its parents: then none inherits from itself.
+fn are_ranks(hierarchy: &Hierarchy, ranks: &[usize]) -> bool
+    ensures { OnTrue result (AreRanks (system_of hierarchy.now.system.now) ranks.now) }
+{
+    let classes = hierarchy.classes();
+    for (number, class) in classes.iter().enumerate() {
+        if !is_above(hierarchy, ranks, number, &class.parents) {
+            return false;
+        }
+    }
+    true
+}
+
+/// Whether the class at the number is above each of these parents.
+fn is_above(hierarchy: &Hierarchy, ranks: &[usize], number: usize, parents: &[Parent]) -> bool
+    ensures { OnTrue result (AreAbove (system_of hierarchy.now.system.now) ranks.now number (map parent_of parents.now)) }
+{
+    for parent in parents {
+        if !is_above_parent(hierarchy, ranks, number, parent) {
+            return false;
+        }
+    }
+    true
+}
+
+/// Whether the class at the number is above this parent.
+fn is_above_parent(hierarchy: &Hierarchy, ranks: &[usize], number: usize, parent: &Parent) -> bool
+    ensures { OnTrue result (IsAbove (system_of hierarchy.now.system.now) ranks.now number (parent_of parent.now)) }
+{
+    match hierarchy.number(&parent.name.text) {
+        None => true,
+        Some(above) => rank(ranks, above) < rank(ranks, number),
+    }
+}
+
+/// The same as `cycle`, by a search from each class.
+fn first_cycle(alloc: Global, hierarchy: &Hierarchy) -> Result<Option<Span>, AllocError>
+    ensures { IfOk result (Finds (CycleAt (system_of hierarchy.now.system.now))) }
+{
+    let classes = hierarchy.classes();
+    for (number, class) in classes.iter().enumerate() {
+        let way_back = way_back(alloc, hierarchy, number, &class.parents)?;
+        if way_back.is_some() {
+            return Ok(way_back);
+        }
+    }
+    Ok(None)
+}
+
+/// The first of the parents that leads to the class at the number.
+fn way_back(
+    alloc: Global,
+    hierarchy: &Hierarchy,
+    number: usize,
+    parents: &[Parent],
+) -> Result<Option<Span>, AllocError>
+    ensures { IfOk result (FindsWayBack (system_of hierarchy.now.system.now) number (map parent_of parents.now)) }
+{
+    for parent in parents {
+        if name_leads_to(alloc, hierarchy, number, parent)? {
+            return Ok(Some(parent.name.span));
+        }
+    }
+    Ok(None)
+}
+
+/// Whether the parent leads to the class at the number.
+fn name_leads_to(
+    alloc: Global,
+    hierarchy: &Hierarchy,
+    number: usize,
+    parent: &Parent,
+) -> Result<bool, AllocError>
+    ensures { let way = NameLeadsTo (system_of hierarchy.now.system.now) number (parent_of parent.now) in IfOk result (λ b. MatchBool b way (way → ⊥)) }
+{
+    match hierarchy.number(&parent.name.text) {
+        None => Ok(false),
+        Some(start) => leads_to(alloc, hierarchy, number, start),
+    }
+}
+
+/// Whether the ways up from a class lead to another.
+fn leads_to(
+    alloc: Global,
+    hierarchy: &Hierarchy,
+    target: usize,
+    start: usize,
+) -> Result<bool, AllocError>
+    requires { start < length hierarchy.now.system.now.classes.items }
+    ensures { let way = LeadsTo (system_of hierarchy.now.system.now) target start in IfOk result (λ b. MatchBool b way (way → ⊥)) }
+{
+    let mut search = Search::new(alloc, hierarchy.classes().len())?;
+    search.see(start)?;
+    while let Some(class) = search.todo.pop() {
+        if class == target {
+            return Ok(true);
+        }
+        search.see_parents(hierarchy, class)?;
+    }
+    Ok(false)
+}
+
+/// The classes that a search has come to, and those of them whose parents it hasn't looked at.
+#[derive(Drop)]
+struct Search {
+    seen: Vec<bool>,
+    todo: Vec<usize>,
+}
+
+impl Search {
+    /// A search among so many classes that has seen none of them.
+    fn new(alloc: Global, count: usize) -> Result<Search, AllocError>
+        ensures { IfOk result (λ search. (length search.seen.items ≡ count) × (search.todo.items ≡ []) × ((k : ℕ) → IsSeen search.seen.items k → ⊥)) }
+    {
+        let seen = vec![in alloc; false; count]?;
+        Ok(Search {
+            seen,
+            todo: Vec::new(alloc),
+        })
+    }
+
+    /// Comes to a class.
+    fn see(&mut self, number: usize) -> Result<(), AllocError>
+        requires { number < length self.old.seen.items }
+        ensures { OnOk result (Grows (λ k. k ≡ number) self.old.seen.items self.old.todo.items self.new.seen.items self.new.todo.items × IsSeen self.new.seen.items number) }
+    {
+        if self.seen[number] {
+            return Ok(());
+        }
+        self.todo.push(number)?;
+        self.seen[number] = true;
+        Ok(())
+    }
+
+    /// Comes to the parents of a class.
+    fn see_parents(&mut self, hierarchy: &Hierarchy, class: usize) -> Result<(), AllocError>
+        requires { length self.old.seen.items ≡ length hierarchy.now.system.now.classes.items }
+        ensures { let s = system_of hierarchy.now.system.now in
+            OnOk result (Grows (IsParent s class) self.old.seen.items self.old.todo.items self.new.seen.items self.new.todo.items × ((k : ℕ) → IsParent s class k → IsSeen self.new.seen.items k)) }
+    {
+        let Some(class) = hierarchy.classes().get(class) else {
+            return Ok(());
+        };
+        for parent in &class.parents {
+            self.see_parent(hierarchy, parent)?;
+        }
+        Ok(())
+    }
+
+    /// Comes to a parent.
+    fn see_parent(&mut self, hierarchy: &Hierarchy, parent: &Parent) -> Result<(), AllocError>
+        requires { length self.old.seen.items ≡ length hierarchy.now.system.now.classes.items }
+        ensures { let is_it = IsNumberOf (system_of hierarchy.now.system.now) (parent_of parent.now) in
+            OnOk result (Grows is_it self.old.seen.items self.old.todo.items self.new.seen.items self.new.todo.items × ((k : ℕ) → is_it k → IsSeen self.new.seen.items k)) }
+    {
+        match hierarchy.number(&parent.name.text) {
+            None => Ok(()),
+            Some(number) => self.see(number),
+        }
+    }
+}

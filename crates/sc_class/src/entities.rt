@@ -1,0 +1,34 @@
+// The formals and the locals of features.
+
+ghost use Rattle.std.specs.Prelude.{◌≡◌, map};
+ghost use Rattle.sc_tree.specs.View.{declaration_of};
+ghost use Rattle.sc_class.specs.Entities.{formals_of, locals_of};
+ghost use Rattle.sc_class.specs.Entries.{entry_of};
+
+use crate::own::FeatureEntry;
+use sc_tree::{Declaration, FeatureKind};
+
+impl<'s> FeatureEntry<'s> {
+    /// The formals of the feature (ECMA-367, 8.8), in the order of the text, at once. An attribute has none.
+    #[tactic(auto, unfolding(sc_tree::specs::View::feature_of, sc_tree::specs::View::kind_of))]
+    pub fn formals(&self) -> &'s [Declaration]
+        ensures { map declaration_of result.now ≡ formals_of (entry_of self.now).feature.kind }
+    {
+        match &self.feature.kind {
+            FeatureKind::Attribute(_) => &[],
+            FeatureKind::Routine(routine) => &routine.formals,
+        }
+    }
+
+    /// The locals of the feature (ECMA-367, 8.8), in the order of the text, at once. They are known in its body
+    /// alone. An attribute has none.
+    #[tactic(auto, unfolding(sc_tree::specs::View::feature_of, sc_tree::specs::View::kind_of))]
+    pub fn locals(&self) -> &'s [Declaration]
+        ensures { map declaration_of result.now ≡ locals_of (entry_of self.now).feature.kind }
+    {
+        match &self.feature.kind {
+            FeatureKind::Attribute(_) => &[],
+            FeatureKind::Routine(routine) => &routine.locals,
+        }
+    }
+}

@@ -1,0 +1,155 @@
+// What each class declares itself, by name.
+
+ghost use Rattle.std.specs.Prelude.{◌≡◌, ◌++◌, IfOk, OnOk, map, slice_get};
+ghost use Rattle.std.specs.Option.{option_map, option_copied};
+ghost use Rattle.sc_tree.specs.View.{name_of, feature_of, class_of, system_of};
+ghost use Rattle.sc_class.specs.Names.{number_among, is_listed};
+ghost use Rattle.sc_class.specs.Own.{features_at, own_names, own_names_at};
+ghost use Rattle.sc_class.specs.ClassRules.{creators_of};
+ghost use Rattle.sc_class.specs.Features.{redefined_by, redefined_names, own_features, features_along, named_among, not_redefined};
+ghost use Rattle.sc_class.specs.Entries.{entry_of};
+
+use crate::hierarchy::Hierarchy;
+use crate::names::NameIndex;
+use crate::own::{FeatureEntry, OwnNames, own_names_of, redefined_in};
+use sc_tree::{Class, Feature, Name};
+use std::alloc::{AllocError, Global};
+
+/// The classes of a system, with the names of what each declares itself.
+#[derive(Drop)]
+pub struct Outline<'s> {
+    pub hierarchy: Hierarchy<'s>,
+    own: Vec<OwnNames<'s>>,
+    ghost have_features: { map (λ o. o.features) own.items ≡ map own_names (system_of hierarchy.system.now).classes },
+    ghost have_redefined: { map (λ o. o.redefined) own.items ≡ map redefined_by (system_of hierarchy.system.now).classes },
+}
+
+fn names_of_each<'s>(alloc: Global, classes: &'s [Class]) -> Result<Vec<OwnNames<'s>>, AllocError>
+    ensures features { IfOk result (λ own. map (λ o. o.features) own.items ≡ map own_names (map class_of classes.now)) }
+    ensures redefined { IfOk result (λ own. map (λ o. o.redefined) own.items ≡ map redefined_by (map class_of classes.now)) }
+{
+    let mut own = Vec::with_capacity(alloc, classes.len())?;
+    for class in classes {
+        own.push(own_names_of(alloc, class)?)?;
+    }
+    Ok(own)
+}
+
+impl<'s> Outline<'s> {
+    pub fn of(alloc: Global, hierarchy: Hierarchy<'s>) -> Result<Self, AllocError>
+        ensures { IfOk result (λ outline. outline.hierarchy.system.now ≡ hierarchy.entry.system.now) }
+    {
+        let own = names_of_each(alloc, hierarchy.classes())?;
+        Ok(Outline { hierarchy, own })
+    }
+
+    /// The class at a number.
+    pub fn class(&self, number: usize) -> Option<&'s Class>
+        ensures { option_map class_of (option_copied result) ≡ slice_get (system_of self.now.hierarchy.system.now).classes number }
+    {
+        self.hierarchy.classes().get(number)
+    }
+
+    /// The number of the first feature of this name that the class declares itself. It looks once by hash.
+    fn number(&self, class: usize, name: &str) -> Option<usize>
+        ensures { result ≡ number_among name.now (own_names_at (system_of self.now.hierarchy.system.now) class) }
+    {
+        match self.own.get(class) {
+            None => None,
+            Some(own) => own.features.number(name),
+        }
+    }
+
+    /// A feature that the class declares itself, by its number in the text of the class.
+    fn feature(&self, class: usize, number: usize) -> Option<&'s Feature>
+        ensures { option_map feature_of (option_copied result) ≡ slice_get (features_at (system_of self.now.hierarchy.system.now) class) number }
+    {
+        match self.class(class) {
+            None => None,
+            Some(text) => text.features.get(number),
+        }
+    }
+
+    /// The feature of this name that the class at the number declares itself. It looks once by hash.
+    pub fn declared(&self, class: usize, name: &str) -> Option<FeatureEntry<'s>>
+        ensures { option_map entry_of result ≡ named_among name.now (own_features (system_of self.now.hierarchy.system.now) class) }
+    {
+        match self.number(class, name) {
+            None => None,
+            Some(number) => match self.feature(class, number) {
+                None => None,
+                Some(feature) => Some(FeatureEntry { class, feature }),
+            },
+        }
+    }
+
+    /// Whether the class at the number lists the name under `redefine`. It looks once by hash.
+    pub fn redefines(&self, class: usize, name: &str) -> bool
+        ensures { result ≡ is_listed name.now (redefined_names (system_of self.now.hierarchy.system.now) class) }
+    {
+        match self.own.get(class) {
+            None => false,
+            Some(own) => own.redefined.contains(name),
+        }
+    }
+
+    /// The names that the class at the number lists under `create`.
+    #[tactic(auto, unfolding(sc_tree::specs::View::class_of))]
+    pub fn creators(&self, class: usize) -> &'s [Name]
+        ensures { map name_of result.now ≡ creators_of (system_of self.now.hierarchy.system.now) class }
+    {
+        match self.class(class) {
+            None => &[],
+            Some(text) => &text.creators,
+        }
+    }
+
+    /// The feature of this name of a class with these ancestors. It looks up to twice by hash for each of them.
+    pub fn named_along(&self, classes: &[usize], name: &str) -> Option<FeatureEntry<'s>>
+        ensures { option_map entry_of result ≡ named_among name.now (features_along (system_of self.now.hierarchy.system.now) classes.now) }
+    {
+        for class in classes {
+            let declared = self.declared(*class, name);
+            if declared.is_some() || self.redefines(*class, name) {
+                return declared;
+            }
+        }
+        None
+    }
+
+    /// Adds the features that the class at the number declares itself, but for those of the hidden names.
+    #[tactic(auto, unfolding(sc_tree::specs::View::class_of))]
+    pub fn add_visible(
+        &self,
+        features: &mut Vec<FeatureEntry<'s>>,
+        hidden: &NameIndex,
+        class: usize,
+    ) -> Result<(), AllocError>
+        ensures { let own = own_features (system_of self.now.hierarchy.system.now) class in
+            OnOk result (map entry_of features.new.items ≡ map entry_of features.old.items ++ not_redefined hidden.now own) }
+    {
+        let Some(text) = self.class(class) else {
+            return Ok(());
+        };
+        for feature in &text.features {
+            if !hidden.contains(&feature.name.text) {
+                features.push(FeatureEntry { class, feature })?;
+            }
+        }
+        Ok(())
+    }
+
+    /// Adds the names that the class at the number lists under `redefine`.
+    pub fn hide(&self, hidden: &mut NameIndex<'s>, class: usize) -> Result<(), AllocError>
+        ensures { OnOk result (hidden.new ≡ hidden.old ++ redefined_names (system_of self.now.hierarchy.system.now) class) }
+    {
+        let Some(text) = self.class(class) else {
+            return Ok(());
+        };
+        let redefined = redefined_in(text);
+        for name in redefined {
+            hidden.push(name)?;
+        }
+        Ok(())
+    }
+}

@@ -1,0 +1,128 @@
+// Instructions: where the name of an object test or of a block's head clashes. What they make known is
+// known no more behind them.
+
+ghost use Rattle.std.specs.Prelude.{◌≡◌, ◌++◌, IfOk, OnOk};
+ghost use Rattle.sc_tree.specs.View.{expr_of, creation_call_of, instr_of, instrs_of, branches_of};
+ghost use Rattle.sc_class.specs.Found as found;
+ghost use Rattle.sc_class.specs.Scopes.{tests_of};
+ghost use Rattle.sc_class.specs.ScopeSearch as search;
+
+use crate::found::earliest;
+use crate::names::NameIndex;
+use crate::scopes::expressions::{
+    in_clauses, in_condition, in_expression, in_expressions, in_target, in_values,
+};
+use crate::scopes::features::Features;
+use crate::scopes::names::declare_heads;
+use sc_text::Span;
+use sc_tree::{Branch, CreationCall, Expr, Instr};
+use std::alloc::AllocError;
+
+/// In the actuals of a creation.
+fn in_creation(features: &Features, known: &NameIndex, call: &Option<CreationCall>) -> Option<Span>
+    ensures { result ≡ search.creation_clash features.now known.now (creation_call_of call.now) }
+{
+    match call {
+        None => None,
+        Some(call) => in_expressions(features, known, &call.actuals),
+    }
+}
+
+/// In an instruction.
+#[cycle(instructions)]
+#[tactic(auto, unfolding(crate::specs::ScopeSearch::instr_clash, sc_tree::specs::View::instr_of))]
+pub fn in_instruction<'s>(
+    features: &Features,
+    known: &mut NameIndex<'s>,
+    instruction: &'s Instr,
+) -> Result<Option<Span>, AllocError>
+    ensures found { IfOk result (λ place. place ≡ search.instr_clash features.now known.old (instr_of instruction.now)) }
+    ensures kept { OnOk result (known.new ≡ known.old) }
+{
+    match instruction {
+        Instr::Assign(_, _, value) => Ok(in_expression(features, known, value)),
+        Instr::PrintText(_, _) => Ok(None),
+        Instr::Call(call) => {
+            let target = in_target(features, known, &call.target);
+            let actuals = in_expressions(features, known, &call.actuals);
+            Ok(earliest(target, actuals))
+        }
+        Instr::Create(_, _, call) => Ok(in_creation(features, known, call)),
+        Instr::If(_, condition, body, branches, other) => {
+            let part = in_part(features, known, body, condition)?;
+            let branches = in_branches(features, known, branches)?;
+            let other = in_instructions(features, known, other)?;
+            Ok(earliest(part, earliest(branches, other)))
+        }
+        Instr::Loop(_, initial, until, body) => {
+            let initial = in_instructions(features, known, initial)?;
+            let until = in_expression(features, known, until);
+            let body = in_instructions(features, known, body)?;
+            Ok(earliest(initial, earliest(until, body)))
+        }
+        Instr::Check(_, clauses) => Ok(in_clauses(features, known, clauses)),
+        Instr::Block(_, heads, body) => {
+            let values = in_values(features, known, heads);
+            let outer = known.len();
+            let names = declare_heads(features, known, heads)?;
+            let body = in_instructions(features, known, body)?;
+            known.truncate(outer);
+            Ok(earliest(values, earliest(names, body)))
+        }
+    }
+}
+
+/// In what stands under a condition, and in that condition.
+#[cycle(instructions)]
+fn in_part<'s>(
+    features: &Features,
+    known: &mut NameIndex<'s>,
+    body: &'s [Instr],
+    condition: &'s Expr,
+) -> Result<Option<Span>, AllocError>
+    ensures found { let e = expr_of condition.now in let ns = known.old ++ tests_of e in
+        IfOk result (λ place. place ≡ found.earliest (search.condition_clash features.now known.old e) (search.instrs_clash features.now ns (instrs_of body.now))) }
+    ensures kept { OnOk result (known.new ≡ known.old) }
+{
+    let count = known.len();
+    let condition = in_condition(features, known, condition)?;
+    let body = in_instructions(features, known, body)?;
+    known.truncate(count);
+    Ok(earliest(condition, body))
+}
+
+/// In one of several instructions.
+#[cycle(instructions)]
+pub fn in_instructions<'s>(
+    features: &Features,
+    known: &mut NameIndex<'s>,
+    instructions: &'s [Instr],
+) -> Result<Option<Span>, AllocError>
+    ensures found { IfOk result (λ place. place ≡ search.instrs_clash features.now known.old (instrs_of instructions.now)) }
+    ensures kept { OnOk result (known.new ≡ known.old) }
+{
+    let mut found = None;
+    for instruction in instructions {
+        let place = in_instruction(features, known, instruction)?;
+        found = earliest(found, place);
+    }
+    Ok(found)
+}
+
+/// In one of the `elseif`s.
+#[cycle(instructions)]
+fn in_branches<'s>(
+    features: &Features,
+    known: &mut NameIndex<'s>,
+    branches: &'s [Branch],
+) -> Result<Option<Span>, AllocError>
+    ensures found { IfOk result (λ place. place ≡ search.branches_clash features.now known.old (branches_of branches.now)) }
+    ensures kept { OnOk result (known.new ≡ known.old) }
+{
+    let mut found = None;
+    for branch in branches {
+        let place = in_part(features, known, &branch.body, &branch.condition)?;
+        found = earliest(found, place);
+    }
+    Ok(found)
+}

@@ -1,0 +1,62 @@
+// Routines: where the name of a formal, a local, an object test or a block's head clashes.
+
+ghost use Rattle.std.specs.Prelude.{◌≡◌, IfOk};
+ghost use Rattle.sc_tree.specs.View.{kind_of};
+ghost use Rattle.sc_tree.specs.declared.system.FeatureKind.TheVariants as kind;
+ghost use Rattle.sc_class.specs.Found.{Finds};
+ghost use Rattle.sc_class.specs.Scopes.{RoutineClashes};
+ghost use Rattle.sc_class.specs.ScopeSearch as search;
+
+use crate::found::earliest;
+use crate::names::NameIndex;
+use crate::scopes::expressions::in_clauses;
+use crate::scopes::features::Features;
+use crate::scopes::instructions::in_instructions;
+use crate::scopes::names::declare_entities;
+use sc_text::Span;
+use sc_tree::{FeatureKind, Routine};
+use std::alloc::{AllocError, Global};
+
+/// The first place in the text at which a name clashes in a feature of a class that has these features.
+/// It goes over the feature once, and looks for each name twice by hash. Locals are known in the body alone.
+pub fn routine_clash(
+    alloc: Global,
+    features: &Features,
+    kind: &FeatureKind,
+) -> Result<Option<Span>, AllocError>
+    ensures { IfOk result (Finds (RoutineClashes features.now (kind_of kind.now))) }
+{
+    in_kind(alloc, features, kind)
+}
+
+#[tactic(auto, unfolding(crate::specs::ScopeSearch::kind_clash, sc_tree::specs::View::kind_of))]
+fn in_kind(
+    alloc: Global,
+    features: &Features,
+    kind: &FeatureKind,
+) -> Result<Option<Span>, AllocError>
+    ensures { IfOk result (λ place. place ≡ search.kind_clash features.now (kind_of kind.now)) }
+{
+    match kind {
+        FeatureKind::Attribute(_) => Ok(None),
+        FeatureKind::Routine(routine) => in_routine(alloc, features, routine),
+    }
+}
+
+#[tactic(auto, unfolding(crate::specs::ScopeSearch::kind_clash, sc_tree::specs::View::kind_of))]
+fn in_routine(
+    alloc: Global,
+    features: &Features,
+    routine: &Routine,
+) -> Result<Option<Span>, AllocError>
+    ensures { IfOk result (λ place. place ≡ search.kind_clash features.now (kind_of (kind.Routine routine.now))) }
+{
+    let mut known = NameIndex::new(alloc);
+    let formals = declare_entities(features, &mut known, &routine.formals)?;
+    let before = in_clauses(features, &known, &routine.precondition);
+    let after = in_clauses(features, &known, &routine.postcondition);
+    let locals = declare_entities(features, &mut known, &routine.locals)?;
+    let body = in_instructions(features, &mut known, &routine.body)?;
+    let parts = earliest(before, earliest(body, after));
+    Ok(earliest(earliest(formals, locals), parts))
+}
