@@ -1,0 +1,3 @@
+pub mod Combiners
+pub mod Calls
+pub mod Laws

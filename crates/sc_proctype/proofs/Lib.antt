@@ -1,0 +1,2 @@
+pub mod Ancestry
+pub mod Conforming

@@ -1,0 +1,5 @@
+use Rattle.sc_proctype.proofs.Conforming.{reflexive}
+use Rattle.sc_proctype.proofs.laws.conformance_is_reflexive.Goals as goal
+
+pub returns : goal.returns
+returns c = reflexive

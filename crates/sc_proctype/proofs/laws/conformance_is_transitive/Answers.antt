@@ -1,0 +1,5 @@
+use Rattle.sc_proctype.proofs.Conforming.{transitive}
+use Rattle.sc_proctype.proofs.laws.conformance_is_transitive.Goals as goal
+
+pub returns : goal.returns
+returns c = transitive

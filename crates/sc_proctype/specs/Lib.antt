@@ -1,0 +1,4 @@
+pub mod Tags
+pub mod Conformance
+pub mod Handlers
+pub mod Laws
