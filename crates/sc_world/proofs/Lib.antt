@@ -1,0 +1,12 @@
+pub mod Bodies
+pub mod Fresh
+pub mod Lists
+pub mod Mapped
+pub mod Named
+pub mod Placed
+pub mod Reports
+pub mod Stack
+pub mod Turns
+pub mod UnrunCalls
+pub mod Views
+pub mod Worlds
