@@ -4,7 +4,7 @@ use Rattle.std.specs.Prelude.{Any, not}
 use Rattle.sc_text.specs.declared.token.Span.{Span}
 use Rattle.sc_tree.specs.declared.expression.UnaryOperator.{UnaryOperator}
 use Rattle.sc_tree.specs.declared.expression.UnaryOperator.TheVariants.{Old}
-use Rattle.sc_tree.specs.Plain.{Class, FeatureKind, Clause, Name, Expr, Instr, Instrs, Branches}
+use Rattle.sc_tree.specs.Plain.{System, Class, FeatureKind, Clause, Name, Expr, Instr, Instrs, Branches}
 use Rattle.scoop.specs.declared.rules.types.ValueType.{ValueType}
 use Rattle.scoop.specs.declared.rules.types.ValueType.TheVariants as type
 use Rattle.scoop.specs.declared.rules.names.Role.{Role}
@@ -55,7 +55,7 @@ pub condition_refused : {c : Class} {e : Expr} {r : Rule} {p : Span} → Conditi
 condition_refused {c} {e} (in_condition f) = stops (judge_expr c e) (λ A. conforming A (Some type.Boolean) NotBoolean (span_of e)) (expr_refused f)
 condition_refused {c} {e} (condition {A} d f) = stops_at (judge_expr c e)
     (λ A. conforming A (Some type.Boolean) NotBoolean (span_of e)) (Some A) (typed d)
-    (unmet (conforms A type.Boolean) NotBoolean (Some (span_of e)) f)
+    (unmet (conforms A type.Boolean) NotBoolean (span_of e) f)
 
 -- what is behind the left side of an assignment, and behind its right side
 abbrev assigning : Class → Name → Expr → Judged (Unit {0})
@@ -63,7 +63,7 @@ assigning c n e = judge_expr c e >>= λ A. conforming A (type_of_meaning (meanin
 
 not_conforming : (A T : ValueType) (t : Option ValueType) (r : Rule) (p : Span) → t ≡ Some T → conforms A T ≡ false →
     Refused (conforming (Some A) t r p)
-not_conforming A T t r p e f = subst (λ t. Refused (conforming (Some A) t r p)) (sym e) (unmet (conforms A T) r (Some p) f)
+not_conforming A T t r p e f = subst (λ t. Refused (conforming (Some A) t r p)) (sym e) (unmet (conforms A T) r p f)
 
 mutual
   unfolding judge_instr
@@ -106,33 +106,32 @@ mutual
       stops_behind (judge_condition c e) (λ u. judge_instrs c body >>= λ u. judge_branches c bs)
       (λ u. stops_behind (judge_instrs c body) (λ u. judge_branches c bs) (λ u. branches_refused f))
 
-pub kind_refused : {cs : List Class} {c : Class} {k : FeatureKind} {r : Rule} {p : Span} → FeatureFails cs c k r p → Refused (judge_kind cs c k)
-kind_refused {cs} (declared {t} e) = unmet (not (names_nothing cs t)) UnknownName (Some t.class.span) (ap not e)
-kind_refused {cs} {c} (in_body {body = body} e f) = subst (λ b. Refused (if b then judge_instrs c body else Ok tt)) (sym e) (instrs_refused f)
+pub kind_refused : {s : System} {c : Class} {k : FeatureKind} {r : Rule} {p : Span} → FeatureFails s c k r p → Refused (judge_kind s c k)
+kind_refused {s} (declared {t} e) = unmet (not (names_nothing s t)) UnknownName t.class.span (ap not e)
+kind_refused {s} {c} (in_body {body = body} e f) = subst (λ b. Refused (if b then judge_instrs c body else Ok tt)) (sym e) (instrs_refused f)
 
 pub clause_refused : {c : Class} {k : Clause} {r : Rule} {p : Span} → ClauseFails c k r p → Refused (judge_clause c k)
 clause_refused {c} {k} (in_clause f) = stops (judge_condition c k.condition)
-    (λ u. required (is_formula c k.condition) InvariantForm (Some (clause_place k.tag k.condition))) (condition_refused f)
+    (λ u. required (is_formula c k.condition) InvariantForm (clause_place k.tag k.condition)) (condition_refused f)
 clause_refused {c} {k} (form e) =
-    stops_behind (judge_condition c k.condition) (λ u. required (is_formula c k.condition) InvariantForm
-    (Some (clause_place k.tag k.condition))) (λ u. unmet (is_formula c k.condition) InvariantForm (Some (clause_place k.tag k.condition)) e)
+    stops_behind (judge_condition c k.condition) (λ u. required (is_formula c k.condition) InvariantForm (clause_place k.tag k.condition)) (λ u. unmet (is_formula c k.condition) InvariantForm (clause_place k.tag k.condition) e)
 
 pub any_refused : {A : Type 0} {P : A → Type 0} (judge : A → Judged (Unit {0})) (xs : List A) →
     ((x : A) → P x → Refused (judge x)) → Any P xs → Refused (judge_each judge xs)
 any_refused judge xs f (k, x, l, e, p) = refused_each judge xs (k, x, l, e, f x p)
 
-pub class_refused : {cs : List Class} {c : Class} {r : Rule} {p : Span} → ClassFails cs c r p → Refused (judge_class cs c)
+pub class_refused : {s : System} {c : Class} {r : Rule} {p : Span} → ClassFails s c r p → Refused (judge_class s c)
 unfolding judge_class
-class_refused {cs} {c} (in_creators f) = stops (judge_each (judge_name c Creator) c.creators)
-    (λ u. judge_each (judge_feature cs c) c.features >>= λ u. judge_each (judge_clause c) c.invariant)
+class_refused {s} {c} (in_creators f) = stops (judge_each (judge_name c Creator) c.creators)
+    (λ u. judge_each (judge_feature s c) c.features >>= λ u. judge_each (judge_clause c) c.invariant)
     (any_refused (judge_name c Creator) c.creators (λ n. name_refused) f)
-class_refused {cs} {c} (in_features f) =
-    stops_behind (judge_each (judge_name c Creator) c.creators) (λ u. judge_each (judge_feature cs c) c.features >>= λ u. judge_each
+class_refused {s} {c} (in_features f) =
+    stops_behind (judge_each (judge_name c Creator) c.creators) (λ u. judge_each (judge_feature s c) c.features >>= λ u. judge_each
     (judge_clause c) c.invariant)
-    (λ u. stops (judge_each (judge_feature cs c) c.features) (λ u. judge_each (judge_clause c) c.invariant)
-    (any_refused (judge_feature cs c) c.features (λ g. kind_refused) f))
-class_refused {cs} {c} (in_invariant f) =
-    stops_behind (judge_each (judge_name c Creator) c.creators) (λ u. judge_each (judge_feature cs c) c.features >>= λ u. judge_each
+    (λ u. stops (judge_each (judge_feature s c) c.features) (λ u. judge_each (judge_clause c) c.invariant)
+    (any_refused (judge_feature s c) c.features (λ g. kind_refused) f))
+class_refused {s} {c} (in_invariant f) =
+    stops_behind (judge_each (judge_name c Creator) c.creators) (λ u. judge_each (judge_feature s c) c.features >>= λ u. judge_each
     (judge_clause c) c.invariant)
-    (λ u. stops_behind (judge_each (judge_feature cs c) c.features) (λ u. judge_each (judge_clause c) c.invariant)
+    (λ u. stops_behind (judge_each (judge_feature s c) c.features) (λ u. judge_each (judge_clause c) c.invariant)
     (λ u. any_refused (judge_clause c) c.invariant (λ k. clause_refused) f))

@@ -1,5 +1,5 @@
 -- From a text to its system.
-use Rattle.std.proofs.Common.{◌≡◌, ℕ, ◌<◌, ◌≤◌, List, [], ◌∷◌, Result, Ok, Err, IfErr, IsErrAnd, MatchResult, length, refl, ap, sym, ◌∙◌, subst, arith}
+use Rattle.std.proofs.Common.{◌≡◌, ℕ, ◌<◌, ◌≤◌, List, [], ◌∷◌, ◌⊎◌, inl, inr, Result, Ok, Err, IfErr, IsErrAnd, MatchResult, length, refl, ap, sym, ◌∙◌, subst, arith}
 use Rattle.sc_text.specs.Kind.{Kind, kinds_of}
 use Rattle.sc_text.specs.declared.token.Token.{Token}
 use Rattle.sc_text.specs.Spelling.{Spells, lexemes_of, lexeme_of}
@@ -12,11 +12,14 @@ use Rattle.sc_tree.proofs.CanonicalPlaces.{classes-bare}
 use Rattle.sc_parse.specs.Parses.{Refuses}
 use Rattle.sc_parse.specs.declared.fault.ParseFault.{ParseFault}
 use Rattle.sc_parse.specs.declared.fault.ParseFault.TheVariants as parsing
-use Rattle.sc_model.specs.Lookup.{Root}
+use Rattle.sc_class.specs.declared.fault.ClassFault.{ClassFault}
+use Rattle.sc_class.specs.declared.fault.ClassFault.TheVariants as classes
+use Rattle.sc_class.specs.ClassNames.{Root}
+use Rattle.sc_class.specs.ClassRules.{Fails, duplicate_class, unknown_parent, cycle, duplicate_feature, bad_redefinition, no_root, limit, left_out}
 use Rattle.scoop.specs.declared.refusal.Rejection.{Rejection}
 use Rattle.scoop.specs.declared.refusal.Rejection.TheVariants as rejection
-use Rattle.scoop.specs.Refusal.{of_tokens}
-use Rattle.scoop.specs.Execution.{kinds, IsSpelled, IsRefusedFor, IsUnreadable}
+use Rattle.scoop.specs.Refusal.{of_tokens, of_classes}
+use Rattle.scoop.specs.Execution.{kinds, IsSpelled, IsSound, IsAtFault, IsRefusedFor, IsUnreadable}
 
 -- the kinds of tokens, with their places or without
 pub kinds-lexemes_of : (ts : List Token) → kinds (lexemes_of ts) ≡ kinds_of ts
@@ -49,9 +52,41 @@ tokens-refused text ts parsing.OutOfMemory spelled refuses = tt
 pub unreadable-refused : (text : List ℕ) (root : Root) (e : Rejection) → IsUnreadable text e → IsRefusedFor text root e
 unreadable-refused text root (rejection.Text fault) is = is
 unreadable-refused text root (rejection.Grammar fault) is = is
+unreadable-refused text root (rejection.Classes fault) is = absurd is
 unreadable-refused text root rejection.NotYet is = absurd is
 unreadable-refused text root (rejection.Rules fault) is = absurd is
 unreadable-refused text root rejection.OutOfMemory is = is
+
+-- what is at fault in the system that it spells is a refusal of the text
+pub fault-refused : (text : List ℕ) (root : Root) (s : System) → IsSpelled text (bare_system s) → (e : Rejection) → IsAtFault s root e →
+    IsRefusedFor text root e
+fault-refused text root s is (rejection.Text fault) at = absurd at
+fault-refused text root s is (rejection.Grammar fault) at = absurd at
+fault-refused text root s is (rejection.Classes fault) at = record { system = s; spelled = is; fault = at }
+fault-refused text root s is rejection.NotYet at = record { system = s; spelled = is; fault = at }
+fault-refused text root s is (rejection.Rules fault) at = record { system = s; spelled = is; fault = at }
+fault-refused text root s is rejection.OutOfMemory at = tt
+
+-- in a sound system nothing is at fault
+pub sound-in_memory : (s : System) (root : Root) → IsSound s root → (e : Rejection) → IsAtFault s root e → e ≡ rejection.OutOfMemory
+sound-in_memory s root sound (rejection.Text fault) at = absurd at
+sound-in_memory s root sound (rejection.Grammar fault) at = absurd at
+sound-in_memory s root sound (rejection.Classes fault) at = absurd (sound.faultless fault at)
+sound-in_memory s root sound rejection.NotYet at = let known = sound.supported in let unknown = at.not_yet in cc
+sound-in_memory s root sound (rejection.Rules fault) at = absurd (sound.well_formed fault.rule fault.place at.fails)
+sound-in_memory s root sound rejection.OutOfMemory at = refl
+
+-- a class fault, as a rejection
+pub class-fault : (s : System) (root : Root) (f : ClassFault) → (f ≡ classes.OutOfMemory) ⊎ Fails s root f → IsAtFault s root (of_classes f)
+class-fault s root f (inl e) = subst (λ (f : ClassFault). IsAtFault s root (of_classes f)) (sym e) tt
+class-fault s root f (inr (duplicate_class y)) = duplicate_class y
+class-fault s root f (inr (unknown_parent y)) = unknown_parent y
+class-fault s root f (inr (cycle y)) = cycle y
+class-fault s root f (inr (duplicate_feature e y)) = duplicate_feature e y
+class-fault s root f (inr (bad_redefinition e y)) = bad_redefinition e y
+class-fault s root f (inr (no_root e)) = no_root e
+class-fault s root f (inr (limit y)) = limit y
+class-fault s root f (inr (left_out y)) = left_out y
 
 -- a tree that a text spells is spelled by the tokens that are found
 pub tree-found : (text : List ℕ) (ts : List Token) (tree : System) (is : IsSpelled text tree) → lexemes_of ts ≡ is.tokens →

@@ -2,16 +2,15 @@
 use Rattle.std.proofs.Common.{◌≡◌, ℕ, Bool, true, false, cond, List, [], ◌∷◌, Option, Some, None, refl, ap, sym, ◌∙◌, subst}
 use Rattle.std.specs.Prelude.{◌&&◌, not, bytes_eq, if◌then◌else◌}
 use Rattle.std.specs.List.{list_all}
-use Rattle.std.specs.Option.{is_none}
 use Rattle.sc_text.specs.declared.token.Span.{Span}
 use Rattle.sc_tree.specs.declared.expression.BinaryOperator.{BinaryOperator}
-use Rattle.sc_tree.specs.Plain.{Class, Feature, FeatureKind, Attribute, Routine, Name, Expr, Integer, Boolean, Call, Unary, Binary, no_target, no_exprs}
+use Rattle.sc_tree.specs.Plain.{System, Class, Feature, FeatureKind, Attribute, Routine, Name, Expr, Integer, Boolean, Call, Unary, Binary, no_target, no_exprs}
 use Rattle.sc_model.specs.Lookup.{feature_named}
 use Rattle.scoop.specs.declared.rules.names.Meaning.{Meaning}
 use Rattle.scoop.specs.declared.rules.names.Meaning.TheVariants as meaning
 use Rattle.scoop.specs.declared.rules.names.Role.TheVariants.{Value}
 use Rattle.scoop.specs.declared.rules.rule.Rule.TheVariants.{UnknownName, WrongArity, ResultType}
-use Rattle.scoop.specs.ClassRules.{is_print}
+use Rattle.sc_class.specs.Names.{is_print}
 use Rattle.scoop.specs.Typing.{is_empty, is_old, is_plain_routine, feature_meaning, meaning_in, meaning_of}
 use Rattle.scoop.specs.Rules.{name_fault, name, value, in_operand, in_left, in_right, is_attribute, is_formula}
 use Rattle.scoop.specs.NotYet.{is_known_expr, is_known_instrs, is_known_kind, is_known_feature, is_known_clause, is_known_class}
@@ -29,26 +28,24 @@ second_fails : (a b : Bool) → a ≡ true → (a && b) ≡ false → b ≡ fals
 second_fails true b e f = f
 second_fails false b e f = cc
 
-features_known : (cs : List Class) (c : Class) → is_known_class cs c ≡ true → list_all (is_known_feature cs) c.features ≡ true
+features_known : (s : System) (c : Class) → is_known_class s c ≡ true → list_all (is_known_feature s) c.features ≡ true
 unfolding is_known_class
-features_known cs c k =
-    first_holds (list_all (is_known_feature cs) c.features) (list_all is_known_clause c.invariant)
-    (second_holds (is_empty c.parents) _ (second_holds (is_none c.mark) _ k))
+features_known s c k = first_holds (list_all (is_known_feature s) c.features) (list_all is_known_clause c.invariant) (second_holds (is_empty c.parents) _ k)
 
 -- a feature that is found among known ones is known
-found_known : (cs : List Class) (x : List ℕ) (fs : List Feature) (f : Feature) → list_all (is_known_feature cs) fs ≡ true →
-    feature_named x fs ≡ Some f → is_known_feature cs f ≡ true
-found_known cs x [] f k e = cc
-found_known cs x (g ∷ fs) f k e =
-    at_head (bytes_eq g.name.text x) e (found_known cs x fs f (second_holds (is_known_feature cs g) (list_all (is_known_feature cs) fs) k))
+found_known : (s : System) (x : List ℕ) (fs : List Feature) (f : Feature) → list_all (is_known_feature s) fs ≡ true →
+    feature_named x fs ≡ Some f → is_known_feature s f ≡ true
+found_known s x [] f k e = cc
+found_known s x (g ∷ fs) f k e =
+    at_head (bytes_eq g.name.text x) e (found_known s x fs f (second_holds (is_known_feature s g) (list_all (is_known_feature s) fs) k))
   where
     same : (g f : Feature) → Some g ≡ Some f → g ≡ f
     same g f e = cc
 
-    at_head : (b : Bool) → cond b (Some g) (feature_named x fs) ≡ Some f → (feature_named x fs ≡ Some f → is_known_feature cs f ≡ true) →
-        is_known_feature cs f ≡ true
-    at_head true e h = subst (λ (f : Feature). is_known_feature cs f ≡ true) (same g f e)
-        (first_holds (is_known_feature cs g) (list_all (is_known_feature cs) fs) k)
+    at_head : (b : Bool) → cond b (Some g) (feature_named x fs) ≡ Some f → (feature_named x fs ≡ Some f → is_known_feature s f ≡ true) →
+        is_known_feature s f ≡ true
+    at_head true e h = subst (λ (f : Feature). is_known_feature s f ≡ true) (same g f e)
+        (first_holds (is_known_feature s g) (list_all (is_known_feature s) fs) k)
     at_head false e h = h e
 
 -- a routine that is nothing but its body is a procedure
@@ -56,9 +53,9 @@ procedure : (b : Bool) → b ≡ true → (if b then meaning.Procedure else mean
 procedure true i e = cc
 procedure false i e = cc
 
-kind_known : (cs : List Class) (k : FeatureKind) → is_known_kind cs k ≡ true → feature_meaning k ≡ meaning.Other → ⊥
-kind_known cs (Attribute t) i e = cc
-kind_known cs (Routine formals result pre locals body post) i e =
+kind_known : (s : System) (k : FeatureKind) → is_known_kind s k ≡ true → feature_meaning k ≡ meaning.Other → ⊥
+kind_known s (Attribute t) i e = cc
+kind_known s (Routine formals result pre locals body post) i e =
     procedure (is_plain_routine formals result pre locals post)
     (first_holds (is_plain_routine formals result pre locals post) (is_known_instrs body) i) e
 
@@ -66,10 +63,10 @@ meaning_is : (c : Class) (x : List ℕ) → meaning_of c x ≡ (if is_print x th
 unfolding meaning_of
 meaning_is c x = refl
 
-module _ (cs : List Class) (c : Class) (k : list_all (is_known_feature cs) c.features ≡ true) where
+module _ (system : System) (c : Class) (k : list_all (is_known_feature system) c.features ≡ true) where
   feature_known : (x : List ℕ) (o : Option Feature) → feature_named x c.features ≡ o → meaning_in o ≡ meaning.Other → ⊥
   feature_known x None q e = cc
-  feature_known x (Some f) q e = kind_known cs f.kind (second_holds (is_empty f.exports) (is_known_kind cs f.kind) (found_known cs x c.features f k q)) e
+  feature_known x (Some f) q e = kind_known system f.kind (second_holds (is_empty f.exports) (is_known_kind system f.kind) (found_known system x c.features f k q)) e
 
   none_other : (x : List ℕ) (b : Bool) → (if b then meaning.Print else meaning_in (feature_named x c.features)) ≡ meaning.Other → ⊥
   none_other x true e = cc
@@ -101,5 +98,5 @@ module _ (cs : List Class) (c : Class) (k : list_all (is_known_feature cs) c.fea
       (some_fails b (second_holds (is_known_expr a) (is_known_expr b) i))
   some_fails other i f = cc
 
-pub form_last : (cs : List Class) (c : Class) (e : Expr) → is_known_class cs c ≡ true → is_known_expr e ≡ true → is_formula c e ≡ false → SomeFails c e
-form_last cs c e k i f = some_fails cs c (features_known cs c k) e i f
+pub form_last : (s : System) (c : Class) (e : Expr) → is_known_class s c ≡ true → is_known_expr e ≡ true → is_formula c e ≡ false → SomeFails c e
+form_last s c e k i f = some_fails s c (features_known s c k) e i f

@@ -14,9 +14,8 @@ use Rattle.sc_tree.specs.declared.instruction.Branch.{Branch}
 use Rattle.sc_tree.specs.declared.instruction.Clause.{Clause}
 use Rattle.sc_tree.specs.declared.system.Feature as tree
 use Rattle.sc_tree.specs.declared.system.Class.{Class}
-use Rattle.sc_tree.specs.declared.system.System.{System}
 use Rattle.sc_tree.specs.Plain as plain
-use Rattle.sc_tree.specs.View.{expr_of, instr_of, instrs_of, branches_of, clause_of, feature_of, class_of, system_of}
+use Rattle.sc_tree.specs.View.{expr_of, instr_of, instrs_of, branches_of, clause_of, feature_of, class_of}
 use Rattle.sc_tree.proofs.ViewLemmas.{instr_of-if}
 use Rattle.scoop.specs.NotYet.{is_known_expr, is_known_instr, is_known_instrs, is_known_branches, is_known_clause, is_known_feature, is_known_class, is_not_yet}
 use Rattle.scoop.proofs.Steps.{drop_end, at}
@@ -83,18 +82,16 @@ if_known i s e body branches other q = ap (λ (i : Instr). is_known_instr (instr
 
 -- ---- lists that are gone through at once
 
-pub features_known : (cs : List plain.Class) (fs : List tree.Feature) (b : Bool) → b ≡ list_all (λ f. is_known_feature cs (feature_of f)) fs →
-    b ≡ list_all (is_known_feature cs) (map feature_of fs)
-features_known cs fs b e = e ∙ sym (list_all-map (is_known_feature cs) feature_of fs)
+pub features_known : (s : plain.System) (fs : List tree.Feature) (b : Bool) → b ≡ list_all (λ f. is_known_feature s (feature_of f)) fs →
+    b ≡ list_all (is_known_feature s) (map feature_of fs)
+features_known s fs b e = e ∙ sym (list_all-map (is_known_feature s) feature_of fs)
 
 pub clauses_known : (ks : List Clause) (b : Bool) → b ≡ list_all (λ k. is_known_expr (expr_of k.condition)) ks →
     b ≡ list_all is_known_clause (map clause_of ks)
 unfolding clause_of
 clauses_known ks b e = e ∙ sym (list_all-map is_known_clause clause_of ks)
 
-pub classes_known : (s : System) (cs : List Class) (b : Bool) → cs ≡ s.classes.items →
-    b ≡ list_all (λ c. is_known_class (map class_of cs) (class_of c)) cs → not b ≡ is_not_yet (system_of s)
-unfolding system_of is_not_yet
-classes_known s cs b q e =
-    ap not (e ∙ sym (list_all-map (is_known_class (map class_of cs)) class_of cs)
-    ∙ ap (λ (cs : List Class). list_all (is_known_class (map class_of cs)) (map class_of cs)) q)
+pub classes_known : (s : plain.System) (cs : List Class) (b : Bool) → map class_of cs ≡ s.classes →
+    b ≡ list_all (λ c. is_known_class s (class_of c)) cs → not b ≡ is_not_yet s
+unfolding is_not_yet
+classes_known s cs b q e = ap not (e ∙ sym (list_all-map (is_known_class s) class_of cs) ∙ ap (list_all (is_known_class s)) q)

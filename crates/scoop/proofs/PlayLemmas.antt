@@ -9,10 +9,10 @@ use Rattle.sc_model.specs.Handler.{Handler, Request, Frame, has_turn_with}
 use Rattle.sc_model.specs.Turn.{turn_with, take}
 use Rattle.sc_model.specs.World.{World, opening, run, has_turn_at}
 use Rattle.sc_model.specs.Report.{report, status_of}
-use Rattle.scoop.specs.declared.world.Turned.TheVariants.{Nothing}
-use Rattle.scoop.specs.Kept.{Kept, opened, after_run, turned_of}
+use Rattle.sc_world.specs.declared.world.Turned.TheVariants.{Nothing}
+use Rattle.sc_world.specs.Kept.{Kept, opened, after_run, turned_of}
 use Rattle.scoop.specs.Execution.{IsRun}
-use Rattle.scoop.proofs.Worlds.{after_run-append}
+use Rattle.sc_world.proofs.Worlds.{after_run-append}
 
 -- without a turn the handler stays as it is
 pub turn-none : (s : System) (h : Handler) (stack : List Frame) (queue : List Request) → queue ≡ h.queue →

@@ -27,7 +27,7 @@ stops_behind (Err e) f r = tt
 pub stops_at : {A B : Type 0} (m : Judged A) (f : A → Judged B) (x : A) → m ≡ Ok x → Refused (f x) → Refused (m >>= f)
 stops_at m f x e r = subst Refused (sym (bind_ok f e)) r
 
-pub unmet : (b : Bool) (r : Rule) (p : Option Span) → b ≡ false → Refused (required b r p)
+pub unmet : (b : Bool) (r : Rule) (p : Span) → b ≡ false → Refused (required b r p)
 unmet b r p e = subst (λ b. Refused (required b r p)) (sym e) tt
 
 pub not_accepted : (o : Option Rule) (p : Span) (r : Rule) → o ≡ Some r → Refused (accepted o p)
@@ -43,36 +43,26 @@ refused_each judge (y ∷ ys) (suc k, x, l, e, r) = stops_behind (judge y) (λ u
     less l = omega arith
 
 -- a refusal's rule fails at its place, as P says
-pub data Tells {A : Type 0} (P : Rule → Option Span → Type 0) : Judged A → Type 0 where
+pub data Tells {A : Type 0} (P : Rule → Span → Type 0) : Judged A → Type 0 where
   passes : {x : A} → Tells P (Ok x)
   tells : {e : CheckFault} → P e.rule e.place → Tells P (Err e)
 
-pub tells_more : {A : Type 0} {P Q : Rule → Option Span → Type 0} {j : Judged A} →
-    ((r : Rule) (p : Option Span) → P r p → Q r p) → Tells P j → Tells Q j
+pub tells_more : {A : Type 0} {P Q : Rule → Span → Type 0} {j : Judged A} → ((r : Rule) (p : Span) → P r p → Q r p) → Tells P j → Tells Q j
 tells_more f passes = passes
 tells_more f (tells {e} t) = tells (f e.rule e.place t)
 
-pub tells_then : {A B : Type 0} {P : Rule → Option Span → Type 0} {i : Judged A} (f : A → Judged B) → Tells P i →
+pub tells_then : {A B : Type 0} {P : Rule → Span → Type 0} {i : Judged A} (f : A → Judged B) → Tells P i →
     ((x : A) → Tells P (f x)) → Tells P (i >>= f)
 tells_then f (passes {x}) t = t x
 tells_then f (tells s) t = tells s
 
--- a rule that fails at a place of the text
-pub record At (P : Rule → Span → Type 0) (r : Rule) (place : Option Span) : Type 0 where
-  pub span : Span
-  pub is : place ≡ Some span
-  pub fails : P r span
-
-pub tells_at : {A : Type 0} {P Q : Rule → Span → Type 0} {j : Judged A} → ((r : Rule) (p : Span) → P r p → Q r p) → Tells (At P) j → Tells (At Q) j
-tells_at f t = tells_more (λ r p a. record { span = a.span; is = a.is; fails = f r a.span a.fails }) t
-
-pub tells_required : (P : Rule → Span → Type 0) (b : Bool) (r : Rule) (p : Span) → (b ≡ false → P r p) → Tells (At P) (required b r (Some p))
+pub tells_required : (P : Rule → Span → Type 0) (b : Bool) (r : Rule) (p : Span) → (b ≡ false → P r p) → Tells P (required b r p)
 tells_required P true r p f = passes
-tells_required P false r p f = tells (record { span = p; is = refl; fails = f refl })
+tells_required P false r p f = tells (f refl)
 
-pub tells_accepted : (P : Rule → Span → Type 0) (o : Option Rule) (p : Span) → ((r : Rule) → o ≡ Some r → P r p) → Tells (At P) (accepted o p)
+pub tells_accepted : (P : Rule → Span → Type 0) (o : Option Rule) (p : Span) → ((r : Rule) → o ≡ Some r → P r p) → Tells P (accepted o p)
 tells_accepted P None p f = passes
-tells_accepted P (Some r) p f = tells (record { span = p; is = refl; fails = f r refl })
+tells_accepted P (Some r) p f = tells (f r refl)
 
 any_first : {A : Type 0} {P : A → Type 0} (x : A) (xs : List A) → P x → Any P (x ∷ xs)
 any_first x xs p = (0, x, omega arith, refl, p)
@@ -84,7 +74,7 @@ any_later y xs (k, x, l, e, p) = (suc k, x, more l, e, p)
     more l = omega arith
 
 pub tells_each : {A : Type 0} (P : A → Rule → Span → Type 0) (judge : A → Judged (Unit {0})) →
-    ((x : A) → Tells (At (P x)) (judge x)) → (xs : List A) → Tells (At (λ r p. Any (λ x. P x r p) xs)) (judge_each judge xs)
+    ((x : A) → Tells (P x) (judge x)) → (xs : List A) → Tells (λ r p. Any (λ x. P x r p) xs) (judge_each judge xs)
 tells_each P judge t [] = passes
-tells_each P judge t (x ∷ xs) = tells_then (λ u. judge_each judge xs) (tells_at (λ r p f. any_first x xs f) (t x))
-    (λ u. tells_at (λ r p f. any_later x xs f) (tells_each P judge t xs))
+tells_each P judge t (x ∷ xs) = tells_then (λ u. judge_each judge xs) (tells_more (λ r p f. any_first x xs f) (t x))
+    (λ u. tells_more (λ r p f. any_later x xs f) (tells_each P judge t xs))

@@ -7,7 +7,7 @@ use Rattle.scoop.specs.declared.serve.Exit.TheVariants.{Done, Failed, Unfinished
 use Rattle.scoop.specs.declared.words.Command.{Command}
 use Rattle.scoop.specs.declared.words.Command.TheVariants as command
 use Rattle.scoop.specs.Execution.{IsAccepted, IsPrinted, IsRunOf}
-use Rattle.scoop.specs.RootView.{root_of}
+use Rattle.sc_class.specs.Entries.{root_of}
 
 -- what the program ends with where handler 0 stands so
 abbrev pub exit_of : Option Status → Exit

@@ -10,8 +10,11 @@ use Rattle.sc_tree.specs.Canonical.{canonical_text}
 use Rattle.sc_parse.specs.Parses.{Refuses}
 use Rattle.sc_parse.specs.declared.fault.ParseFault.{ParseFault}
 use Rattle.sc_text.specs.declared.token.Span.{Span}
+use Rattle.sc_class.specs.ClassNames.{Root}
+use Rattle.sc_class.specs.ClassRules as class_rules
+use Rattle.sc_class.specs.ClassRules.{IsFaultless}
 use Rattle.sc_model.specs.declared.status.Status.{Status}
-use Rattle.sc_model.specs.Lookup.{Root}
+use Rattle.sc_model.specs.Lookup as lookup
 use Rattle.sc_model.specs.World.{World, opening, run, has_turn_at}
 use Rattle.sc_model.specs.Report.{report, status_of}
 use Rattle.scoop.specs.declared.rules.rule.Rule.{Rule}
@@ -34,19 +37,23 @@ pub record IsSpelled (text : List ℕ) (tree : System) : Type 0 where
   pub shallow : nesting ≤ 64
   pub grammar : IsSystem tree (kinds tokens) nesting
 
--- The text spells a system in which no rule fails, and which uses only what is checked and run.
+-- No class fault is in the system, which is run from this root; it uses only what is checked and run, and no rule fails in it.
+pub record IsSound (system : System) (root : Root) : Type 0 where
+  pub faultless : IsFaultless system root
+  pub supported : is_not_yet system ≡ false
+  pub well_formed : IsWellFormed system
+
+-- The text spells a system that is sound.
 pub record IsAccepted (text : List ℕ) (root : Root) : Type 0 where
   pub system : System
   pub spelled : IsSpelled text (bare_system system)
-  pub supported : is_not_yet system ≡ false
-  pub well_formed : IsWellFormed system root
+  pub sound : IsSound system root
 
--- The text spells a tree that uses only what is checked and run, and is well formed, wherever its parts stand.
+-- The text spells a tree that is sound, wherever its parts stand.
 pub record MustBeAccepted (text : List ℕ) (root : Root) : Type 0 where
   pub tree : System
   pub spelled : IsSpelled text tree
-  pub supported : (system : System) → bare_system system ≡ tree → is_not_yet system ≡ false
-  pub well_formed : (system : System) → bare_system system ≡ tree → IsWellFormed system root
+  pub sound : (system : System) → bare_system system ≡ tree → IsSound system root
 
 -- ---- refusals
 
@@ -56,56 +63,75 @@ pub record IsNoSystem (text : List ℕ) (fault : ParseFault) : Type 0 where
   pub spelled : Spells text tokens
   pub refuses : Refuses (kinds tokens) fault
 
--- The text spells a system that uses what is neither checked nor run yet.
-pub record IsNotYet (text : List ℕ) : Type 0 where
-  pub system : System
-  pub spelled : IsSpelled text (bare_system system)
-  pub not_yet : is_not_yet system ≡ true
-
--- The text spells a system, of what is checked and run, in which the rule fails at the place.
-pub record HasFailing (text : List ℕ) (root : Root) (rule : Rule) (place : Option Span) : Type 0 where
-  pub system : System
-  pub spelled : IsSpelled text (bare_system system)
-  pub supported : is_not_yet system ≡ false
-  pub fails : Fails system root rule place
-
 -- The text spells no system, as the rejection says, or memory ran out.
 abbrev pub IsUnreadable : List ℕ → Rejection → Type 0
 IsUnreadable text (rejection.Text fault) = IsRefused text fault
 IsUnreadable text (rejection.Grammar fault) = IsNoSystem text fault
+IsUnreadable text (rejection.Classes fault) = ⊥
 IsUnreadable text rejection.NotYet = ⊥
 IsUnreadable text (rejection.Rules fault) = ⊥
 IsUnreadable text rejection.OutOfMemory = Unit {0}
 
+-- The system has no class fault, and uses what is neither checked nor run yet.
+pub record IsNotYet (system : System) (root : Root) : Type 0 where
+  pub faultless : IsFaultless system root
+  pub not_yet : is_not_yet system ≡ true
+
+-- The system has no class fault and uses only what is checked and run, and the rule fails in it at the place.
+pub record HasFailing (system : System) (root : Root) (rule : Rule) (place : Span) : Type 0 where
+  pub faultless : IsFaultless system root
+  pub supported : is_not_yet system ≡ false
+  pub fails : Fails system rule place
+
+-- What the rejection says is at fault in the system, or memory ran out.
+abbrev pub IsAtFault : System → Root → Rejection → Type 0
+IsAtFault system root (rejection.Classes fault) = class_rules.Fails system root fault
+IsAtFault system root rejection.NotYet = IsNotYet system root
+IsAtFault system root (rejection.Rules fault) = HasFailing system root fault.rule fault.place
+IsAtFault system root rejection.OutOfMemory = Unit {0}
+IsAtFault system root (rejection.Text fault) = ⊥
+IsAtFault system root (rejection.Grammar fault) = ⊥
+
+-- The text spells a system in which this is at fault.
+pub record HasFault (text : List ℕ) (root : Root) (why : Rejection) : Type 0 where
+  pub system : System
+  pub spelled : IsSpelled text (bare_system system)
+  pub fault : IsAtFault system root why
+
 -- A refusal is true of the text.
 abbrev pub IsRefusedFor : List ℕ → Root → Rejection → Type 0
-IsRefusedFor text root rejection.NotYet = IsNotYet text
-IsRefusedFor text root (rejection.Rules fault) = HasFailing text root fault.rule fault.place
-IsRefusedFor text root other = IsUnreadable text other
+IsRefusedFor text root (rejection.Text fault) = IsRefused text fault
+IsRefusedFor text root (rejection.Grammar fault) = IsNoSystem text fault
+IsRefusedFor text root (rejection.Classes fault) = HasFault text root (rejection.Classes fault)
+IsRefusedFor text root rejection.NotYet = HasFault text root rejection.NotYet
+IsRefusedFor text root (rejection.Rules fault) = HasFault text root (rejection.Rules fault)
+IsRefusedFor text root rejection.OutOfMemory = Unit {0}
 
 -- ---- runs
 
+-- a root, as the machine has it
+abbrev pub run_root : Root → lookup.Root
+run_root r = record { class = r.class; procedure = r.procedure }
+
 -- the world after so many turns of handler 0
-abbrev pub world_after : System → Root → ℕ → World
+abbrev pub world_after : System → lookup.Root → ℕ → World
 world_after system root turns = run system (replicate turns 0) (opening root)
 
 -- The report and the status are those of the world after some turns of handler 0, of which there are at most so many, and
 -- fewer only where handler 0 has nothing to do any more.
-pub record IsRun (system : System) (root : Root) (limit : ℕ) (text : List ℕ) (status : Option Status) : Type 0 where
+pub record IsRun (system : System) (root : lookup.Root) (limit : ℕ) (text : List ℕ) (status : Option Status) : Type 0 where
   pub turns : ℕ
   pub within : turns ≤ limit
   pub ended : (turns ≡ limit) ⊎ (has_turn_at 0 (world_after system root turns) ≡ false)
   pub report_is : text ≡ report (world_after system root turns)
   pub status_is : status ≡ option_map status_of (slice_get (world_after system root turns) 0)
 
--- The text spells a system in which no rule fails, and which uses only what is checked and run, and the report and the
--- status are those of its run.
+-- The text spells a system that is sound, and the report and the status are those of its run.
 pub record IsRunOf (text : List ℕ) (root : Root) (limit : ℕ) (output : List ℕ) (status : Option Status) : Type 0 where
   pub system : System
   pub spelled : IsSpelled text (bare_system system)
-  pub supported : is_not_yet system ≡ false
-  pub well_formed : IsWellFormed system root
-  pub is_run : IsRun system root limit output status
+  pub sound : IsSound system root
+  pub is_run : IsRun system (run_root root) limit output status
 
 -- ---- canonical text
 

@@ -1,21 +1,18 @@
 -- Judging, as a function: the first rule that fails and its place, or what a part gives.
-use Rattle.std.specs.Prelude.{ℕ, Bool, true, false, if◌then◌else◌, List, [], ◌∷◌, ◌++◌, ◌&&◌, ◌||◌, length, Option, Some, None, Result, Ok, Err, not, nat_le}
-use Rattle.std.specs.List.{list_all}
+use Rattle.std.specs.Prelude.{Bool, true, false, if◌then◌else◌, List, [], ◌∷◌, Option, Some, None, Result, Ok, Err, not}
 use Rattle.sc_text.specs.declared.token.Span.{Span}
 use Rattle.sc_tree.specs.declared.expression.UnaryOperator.{UnaryOperator}
 use Rattle.sc_tree.specs.declared.expression.BinaryOperator.{BinaryOperator}
 use Rattle.sc_tree.specs.Plain.{System, Class, Feature, FeatureKind, Attribute, Routine, Clause, Name, Expr, Integer, Boolean, Call, Unary, Binary, Target, Exprs, Named, Instr, Assign, CallRoutine, If, Instrs, no_instrs, instr_then, Branches, no_branches, branch_then}
-use Rattle.sc_model.specs.Lookup.{Root}
 use Rattle.scoop.specs.declared.rules.types.ValueType.{ValueType}
 use Rattle.scoop.specs.declared.rules.types.ValueType.TheVariants as type
 use Rattle.scoop.specs.declared.rules.names.Role.{Role}
 use Rattle.scoop.specs.declared.rules.names.Role.TheVariants.{Value, Instruction, Assigned, Creator}
 use Rattle.scoop.specs.declared.rules.rule.Rule.{Rule}
-use Rattle.scoop.specs.declared.rules.rule.Rule.TheVariants.{DuplicateClass, DuplicateFeature, NoRoot, Limit, UnknownName, AssignType, NotBoolean, OperatorType, InvariantForm}
+use Rattle.scoop.specs.declared.rules.rule.Rule.TheVariants.{UnknownName, AssignType, NotBoolean, OperatorType, InvariantForm}
 use Rattle.scoop.specs.declared.rules.fault.CheckFault.{CheckFault}
 use Rattle.scoop.specs.Typing.{span_of, is_plain_routine, is_name, printed, is_old, conforms, meaning_of, type_of_meaning, unary_type, binary_type}
 use Rattle.scoop.specs.Rules.{name_fault, names_nothing, is_formula, clause_place}
-use Rattle.scoop.specs.ClassRules.{is_built_in, is_print, is_listed, class_names, feature_names, has_root, limit}
 
 abbrev pub Judged : Type 0 → Type 0
 Judged A = Result A CheckFault
@@ -25,18 +22,18 @@ abbrev pub ◌>>=◌ : {A B : Type 0} → Judged A → (A → Judged B) → Judg
 (Ok x) >>= f = f x
 (Err e) >>= f = Err e
 
-abbrev pub fault : Rule → Option Span → CheckFault
+abbrev pub fault : Rule → Span → CheckFault
 fault r p = record { rule = r; place = p }
 
 -- the rule fails unless the test holds
-abbrev pub required : Bool → Rule → Option Span → Judged (Unit {0})
+abbrev pub required : Bool → Rule → Span → Judged (Unit {0})
 required true r p = Ok tt
 required false r p = Err (fault r p)
 
 -- this rule fails, if any
 abbrev pub accepted : Option Rule → Span → Judged (Unit {0})
 accepted None p = Ok tt
-accepted (Some r) p = Err (fault r (Some p))
+accepted (Some r) p = Err (fault r p)
 
 -- each of them, in order
 abbrev pub judge_each : {A : Type 0} → (A → Judged (Unit {0})) → List A → Judged (Unit {0})
@@ -45,7 +42,7 @@ judge_each judge (x ∷ xs) = judge x >>= λ u. judge_each judge xs
 
 -- the result's type, which an operator has whose operands are of types that it takes
 abbrev pub operation : Option ValueType → Span → Judged (Option ValueType)
-operation None p = Err (fault OperatorType (Some p))
+operation None p = Err (fault OperatorType p)
 operation (Some T) p = Ok (Some T)
 
 abbrev pub judge_unary : Span → UnaryOperator → Option ValueType → Judged (Option ValueType)
@@ -75,7 +72,7 @@ judge_expr c other = Ok None
 
 -- what has a type conforms to the other, where there is one
 abbrev pub conforming : Option ValueType → Option ValueType → Rule → Span → Judged (Unit {0})
-conforming (Some A) (Some T) r p = required (conforms A T) r (Some p)
+conforming (Some A) (Some T) r p = required (conforms A T) r p
 conforming None _ r p = Ok tt
 conforming (Some A) None r p = Ok tt
 
@@ -113,54 +110,25 @@ unfoldable mutual
   judge_branches c no_branches = Ok tt
   judge_branches c (branch_then e body bs) = judge_condition c e >>= λ u. judge_instrs c body >>= λ u. judge_branches c bs
 
-abbrev pub judge_kind : List Class → Class → FeatureKind → Judged (Unit {0})
-judge_kind cs c (Attribute t) = required (not (names_nothing cs t)) UnknownName (Some t.class.span)
-judge_kind cs c (Routine formals result pre locals body post) = if is_plain_routine formals result pre locals post then judge_instrs c body else Ok tt
+abbrev pub judge_kind : System → Class → FeatureKind → Judged (Unit {0})
+judge_kind s c (Attribute t) = required (not (names_nothing s t)) UnknownName t.class.span
+judge_kind s c (Routine formals result pre locals body post) = if is_plain_routine formals result pre locals post then judge_instrs c body else Ok tt
 
-abbrev pub judge_feature : List Class → Class → Feature → Judged (Unit {0})
-judge_feature cs c f = judge_kind cs c f.kind
+abbrev pub judge_feature : System → Class → Feature → Judged (Unit {0})
+judge_feature s c f = judge_kind s c f.kind
 
 abbrev pub judge_clause : Class → Clause → Judged (Unit {0})
 judge_clause c k =
     judge_condition c k.condition >>= λ u.
-    required (is_formula c k.condition) InvariantForm (Some (clause_place k.tag k.condition))
+    required (is_formula c k.condition) InvariantForm (clause_place k.tag k.condition)
 
--- the text of a class, which is one of these
-unfoldable pub judge_class : List Class → Class → Judged (Unit {0})
-judge_class cs c =
+-- the text of a class of the system
+unfoldable pub judge_class : System → Class → Judged (Unit {0})
+judge_class s c =
     judge_each (judge_name c Creator) c.creators >>= λ u.
-    judge_each (judge_feature cs c) c.features >>= λ u.
+    judge_each (judge_feature s c) c.features >>= λ u.
     judge_each (judge_clause c) c.invariant
 
--- each name, behind the earlier ones, is neither reserved nor like one before it
-abbrev pub judge_names : (List ℕ → Bool) → Rule → List Name → List Name → Judged (Unit {0})
-judge_names is_reserved r earlier [] = Ok tt
-judge_names is_reserved r earlier (n ∷ later) =
-    required (not (is_reserved n.text || is_listed n.text earlier)) r (Some n.span) >>= λ u.
-    judge_names is_reserved r (earlier ++ n ∷ []) later
-
-abbrev pub judge_class_names : List Class → Judged (Unit {0})
-judge_class_names cs = judge_names is_built_in DuplicateClass [] (class_names cs)
-
-abbrev pub judge_names_in : List Feature → Judged (Unit {0})
-judge_names_in fs = judge_names is_print DuplicateFeature [] (feature_names fs)
-
-abbrev pub judge_feature_names : Class → Judged (Unit {0})
-judge_feature_names c = judge_names_in c.features
-
--- at most `limit` classes, and as many features in each
-abbrev pub is_small : System → Bool
-is_small s = nat_le (length s.classes) limit && list_all (λ c. nat_le (length c.features) limit) s.classes
-
-unfoldable pub judge_system : System → Root → Judged (Unit {0})
-judge_system s root =
-    judge_class_names s.classes >>= λ u.
-    judge_each judge_feature_names s.classes >>= λ u.
-    required (has_root s root) NoRoot None >>= λ u.
-    required (is_small s) Limit None >>= λ u.
-    judge_each (judge_class s.classes) s.classes
-
--- whether it is refused and how, whatever else it gives
-abbrev pub outcome : {A : Type 0} → Judged A → Judged (Unit {0})
-outcome (Ok x) = Ok tt
-outcome (Err e) = Err e
+-- the texts of the classes
+abbrev pub judge_system : System → Judged (Unit {0})
+judge_system s = judge_each (judge_class s) s.classes

@@ -1,10 +1,11 @@
 -- How a refusal is told.
 use Rattle.std.specs.Prelude.{ℕ, List, [], ◌∷◌, ◌++◌, Option, Some, None, codes, decimal}
-use Rattle.sc_text.specs.declared.token.Span.{Span}
 use Rattle.sc_text.specs.declared.fault.LexFault.{LexFault}
 use Rattle.sc_text.specs.declared.fault.LexFault.TheVariants as lexing
 use Rattle.sc_parse.specs.declared.fault.ParseFault.{ParseFault}
 use Rattle.sc_parse.specs.declared.fault.ParseFault.TheVariants as parsing
+use Rattle.sc_class.specs.declared.fault.ClassFault.{ClassFault}
+use Rattle.sc_class.specs.declared.fault.ClassFault.TheVariants as classes
 use Rattle.scoop.specs.declared.rules.fault.CheckFault.{CheckFault}
 use Rattle.scoop.specs.declared.refusal.Refusal.{Refusal}
 use Rattle.scoop.specs.declared.refusal.Rejection.{Rejection}
@@ -45,18 +46,27 @@ told_of_tokens (parsing.NotInGrammar place) = Some (record { code = codes "P1"; 
 told_of_tokens (parsing.TooDeep place) = Some (record { code = codes "P2"; name = codes "TooDeep"; offset = Some place })
 told_of_tokens parsing.OutOfMemory = None
 
-abbrev pub start_of : Option Span → Option ℕ
-start_of None = None
-start_of (Some span) = Some span.start
+-- what is at fault in the classes of a system
+abbrev pub told_of_classes : ClassFault → Option Told
+told_of_classes (classes.DuplicateClass place) = Some (record { code = codes "C1"; name = codes "DuplicateClass"; offset = Some place.start })
+told_of_classes (classes.UnknownParent place) = Some (record { code = codes "C2"; name = codes "UnknownParent"; offset = Some place.start })
+told_of_classes (classes.Cycle place) = Some (record { code = codes "C3"; name = codes "Cycle"; offset = Some place.start })
+told_of_classes (classes.DuplicateFeature place) = Some (record { code = codes "C4"; name = codes "DuplicateFeature"; offset = Some place.start })
+told_of_classes (classes.BadRedefinition place) = Some (record { code = codes "C5"; name = codes "BadRedefinition"; offset = Some place.start })
+told_of_classes classes.NoRoot = Some (record { code = codes "C6"; name = codes "NoRoot"; offset = None })
+told_of_classes classes.Limit = Some (record { code = codes "C7"; name = codes "Limit"; offset = None })
+told_of_classes (classes.LeftOut what place) = Some (record { code = codes "C8"; name = codes "LeftOut"; offset = Some place.start })
+told_of_classes classes.OutOfMemory = None
 
 -- which rule fails in a system
 abbrev pub told_of_system : CheckFault → Told
-told_of_system fault = record { code = code_of fault.rule; name = name_of fault.rule; offset = start_of fault.place }
+told_of_system fault = record { code = code_of fault.rule; name = name_of fault.rule; offset = Some fault.place.start }
 
 -- Want of memory is no refusal, nor is what isn't checked yet.
 abbrev pub told : Rejection → Option Told
 told (rejection.Text fault) = told_of_text fault
 told (rejection.Grammar fault) = told_of_tokens fault
+told (rejection.Classes fault) = told_of_classes fault
 told (rejection.Rules fault) = Some (told_of_system fault)
 told rejection.NotYet = None
 told rejection.OutOfMemory = None
@@ -76,3 +86,7 @@ of_text fault = rejection.Text fault
 abbrev pub of_tokens : ParseFault → Rejection
 of_tokens parsing.OutOfMemory = rejection.OutOfMemory
 of_tokens fault = rejection.Grammar fault
+
+abbrev pub of_classes : ClassFault → Rejection
+of_classes classes.OutOfMemory = rejection.OutOfMemory
+of_classes fault = rejection.Classes fault

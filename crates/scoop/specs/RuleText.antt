@@ -1,13 +1,9 @@
 -- The words that a rule is told by.
 use Rattle.std.specs.Prelude.{ℕ, List, codes}
 use Rattle.scoop.specs.declared.rules.rule.Rule.{Rule}
-use Rattle.scoop.specs.declared.rules.rule.Rule.TheVariants.{DuplicateClass, DuplicateFeature, NoRoot, Limit, UnknownName, WrongArity, AssignType, ResultType, NotBoolean, OperatorType, NotAssignable, InvariantForm}
+use Rattle.scoop.specs.declared.rules.rule.Rule.TheVariants.{UnknownName, WrongArity, AssignType, ResultType, NotBoolean, OperatorType, NotAssignable, InvariantForm}
 
 abbrev pub code_of : Rule → List ℕ
-code_of DuplicateClass = codes "C1"
-code_of DuplicateFeature = codes "C4"
-code_of NoRoot = codes "C6"
-code_of Limit = codes "C7"
 code_of UnknownName = codes "V1"
 code_of WrongArity = codes "V2"
 code_of AssignType = codes "V4"
@@ -18,10 +14,6 @@ code_of NotAssignable = codes "V10"
 code_of InvariantForm = codes "V14"
 
 abbrev pub name_of : Rule → List ℕ
-name_of DuplicateClass = codes "DuplicateClass"
-name_of DuplicateFeature = codes "DuplicateFeature"
-name_of NoRoot = codes "NoRoot"
-name_of Limit = codes "Limit"
 name_of UnknownName = codes "UnknownName"
 name_of WrongArity = codes "WrongArity"
 name_of AssignType = codes "AssignType"

@@ -1,12 +1,12 @@
 -- Which rule fails where in a system of classes (ECMA-367, 8.9, 8.14, 8.17, 8.20, 8.22, 8.23 and 8.28).
--- The rules know the part of the language that NotYet gives: a system that uses anything else is answered `not yet` before them.
+-- The rules know the part of the language that NotYet gives, in systems without class faults: any other is answered before them.
 -- Each family below says that the rule fails at the place, in a part of a class's text.
 use Rattle.std.specs.Prelude.{◌≡◌, Bool, true, false, not, List, Option, Some, None, is_some, Any, ◌&&◌}
 use Rattle.sc_text.specs.declared.token.Span.{Span}
 use Rattle.sc_tree.specs.declared.expression.UnaryOperator.{UnaryOperator}
 use Rattle.sc_tree.specs.declared.expression.BinaryOperator.{BinaryOperator}
 use Rattle.sc_tree.specs.Plain.{System, Class, FeatureKind, Attribute, Routine, Declaration, Clause, DeclaredType, Name, Expr, Integer, Boolean, Call, Unary, Binary, no_target, no_exprs, expr_then, Named, Instr, Assign, CallRoutine, If, Instrs, instr_then, Branches, branch_then}
-use Rattle.sc_model.specs.Lookup.{Root}
+use Rattle.sc_class.specs.Names.{is_print}
 use Rattle.scoop.specs.declared.rules.types.ValueType.{ValueType}
 use Rattle.scoop.specs.declared.rules.types.ValueType.TheVariants as type
 use Rattle.scoop.specs.declared.rules.names.Meaning.{Meaning}
@@ -16,7 +16,6 @@ use Rattle.scoop.specs.declared.rules.names.Role.TheVariants.{Value, Instruction
 use Rattle.scoop.specs.declared.rules.rule.Rule.{Rule}
 use Rattle.scoop.specs.declared.rules.rule.Rule.TheVariants.{UnknownName, WrongArity, AssignType, ResultType, NotBoolean, OperatorType, NotAssignable, InvariantForm}
 use Rattle.scoop.specs.Typing.{HasType, span_of, type_named, is_plain_routine, is_name, is_old, conforms, meaning_of, type_of_meaning, unary_type, binary_type}
-use Rattle.scoop.specs.ClassRules.{is_print, ClassRuleFails}
 use Rattle.scoop.specs.NotYet.{is_known_type}
 
 -- The rule that fails at a name, by how it is used and what it stands for.
@@ -90,15 +89,15 @@ mutual
         BranchesFail c (branch_then e body bs) r p
 
 -- a type whose name nothing has: it is neither INTEGER nor BOOLEAN, nor ANY or a class of the system
-abbrev pub names_nothing : List Class → DeclaredType → Bool
-names_nothing cs t = is_known_type cs t && not (is_some (type_named t.class.text))
+abbrev pub names_nothing : System → DeclaredType → Bool
+names_nothing s t = is_known_type s t && not (is_some (type_named t.class.text))
 
--- In a feature of a class, among these classes: where nothing has the name of an attribute's type, or in the body of a routine
+-- In a feature of a class of the system: where nothing has the name of an attribute's type, or in the body of a routine
 -- that is nothing else.
-pub data FeatureFails (cs : List Class) (c : Class) : FeatureKind → Rule → Span → Type 0 where
-  declared : {t : DeclaredType} → names_nothing cs t ≡ true → FeatureFails cs c (Attribute t) UnknownName t.class.span
+pub data FeatureFails (s : System) (c : Class) : FeatureKind → Rule → Span → Type 0 where
+  declared : {t : DeclaredType} → names_nothing s t ≡ true → FeatureFails s c (Attribute t) UnknownName t.class.span
   in_body : {formals locals : List Declaration} {result : Option DeclaredType} {pre post : List Clause} {body : Instrs} {r : Rule} {p : Span} →
-      is_plain_routine formals result pre locals post ≡ true → InstrsFail c body r p → FeatureFails cs c (Routine formals result pre locals body post) r p
+      is_plain_routine formals result pre locals post ≡ true → InstrsFail c body r p → FeatureFails s c (Routine formals result pre locals body post) r p
 
 abbrev pub is_attribute : Meaning → Bool
 is_attribute (meaning.Attribute t) = true
@@ -123,17 +122,16 @@ pub data ClauseFails (c : Class) (k : Clause) : Rule → Span → Type 0 where
   in_clause : {r : Rule} {p : Span} → ConditionFails c k.condition r p → ClauseFails c k r p
   form : is_formula c k.condition ≡ false → ClauseFails c k InvariantForm (clause_place k.tag k.condition)
 
--- In the text of a class, which is one of these: in its `create` list, in a feature, or in a clause of its invariant.
-pub data ClassFails (cs : List Class) (c : Class) : Rule → Span → Type 0 where
-  in_creators : {r : Rule} {p : Span} → Any (λ n. NameFails c Creator n r p) c.creators → ClassFails cs c r p
-  in_features : {r : Rule} {p : Span} → Any (λ f. FeatureFails cs c f.kind r p) c.features → ClassFails cs c r p
-  in_invariant : {r : Rule} {p : Span} → Any (λ k. ClauseFails c k r p) c.invariant → ClassFails cs c r p
+-- In the text of a class of the system: in its `create` list, in a feature, or in a clause of its invariant.
+pub data ClassFails (s : System) (c : Class) : Rule → Span → Type 0 where
+  in_creators : {r : Rule} {p : Span} → Any (λ n. NameFails c Creator n r p) c.creators → ClassFails s c r p
+  in_features : {r : Rule} {p : Span} → Any (λ f. FeatureFails s c f.kind r p) c.features → ClassFails s c r p
+  in_invariant : {r : Rule} {p : Span} → Any (λ k. ClauseFails c k r p) c.invariant → ClassFails s c r p
 
--- The rule fails at the place, in a system that is run from this root.
-pub data Fails (s : System) (root : Root) : Rule → Option Span → Type 0 where
-  class_rule : {r : Rule} {p : Option Span} → ClassRuleFails s root r p → Fails s root r p
-  in_class : {r : Rule} {p : Span} → Any (λ c. ClassFails s.classes c r p) s.classes → Fails s root r (Some p)
+-- The rule fails at the place, in one of the system's classes.
+abbrev pub Fails : System → Rule → Span → Type 0
+Fails s r p = Any (λ c. ClassFails s c r p) s.classes
 
 -- No rule fails anywhere.
-abbrev pub IsWellFormed : System → Root → Type 0
-IsWellFormed s root = (r : Rule) (p : Option Span) → Fails s root r p → ⊥
+abbrev pub IsWellFormed : System → Type 0
+IsWellFormed s = (r : Rule) (p : Span) → Fails s r p → ⊥

@@ -9,7 +9,7 @@ use Rattle.sc_tree.specs.declared.expression.BinaryOperator.TheVariants.{Times, 
 use Rattle.sc_tree.specs.Plain as plain
 use Rattle.sc_tree.specs.Plain.{Class, Feature, FeatureKind, Attribute, Routine, Declaration, HandlerTag, Own, DeclaredType, Clause, Name, Expr, Call, Unary, Binary, ObjectTest, Target, no_target, Exprs, no_exprs, expr_then}
 use Rattle.sc_model.specs.Lookup.{feature_named}
-use Rattle.scoop.specs.ClassRules.{is_print}
+use Rattle.sc_class.specs.Names.{is_print}
 use Rattle.scoop.specs.declared.rules.types.ValueType.{ValueType}
 use Rattle.scoop.specs.declared.rules.types.ValueType.TheVariants.{Integer, Boolean}
 use Rattle.scoop.specs.declared.rules.names.Meaning.{Meaning}

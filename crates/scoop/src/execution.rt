@@ -1,24 +1,24 @@
 // What is done with a source text: its check, its run and its canonical text.
 
-ghost use Rattle.std.specs.Prelude.{◌≡◌, ◌≤◌, ℕ, length, IfErr, IfOk, IsErr, IsOk, MatchResult};
-ghost use Rattle.sc_model.specs.Lookup as lookup;
+ghost use Rattle.std.specs.Prelude.{◌≡◌, IfErr, IfOk, IsOk, MatchResult, OnOk};
 ghost use Rattle.sc_tree.specs.Bare.{bare_system};
 ghost use Rattle.sc_tree.specs.Plain as plain;
 ghost use Rattle.sc_tree.specs.View.{system_of};
-ghost use Rattle.scoop.specs.RootView.{root_at, root_of};
 ghost use Rattle.sc_tree.specs.Canonical.{canonical_text};
-ghost use Rattle.scoop.specs.Execution.{IsAccepted, IsPrinted, IsSpelled, IsRefusedFor, IsRun, IsRunOf, IsUnreadable, MustBeAccepted};
+ghost use Rattle.sc_class.specs.ClassRules.{IsFaultless};
+ghost use Rattle.sc_class.specs.Entries.{root_of};
+ghost use Rattle.scoop.specs.Execution.{IsAccepted, IsAtFault, IsPrinted, IsRefusedFor, IsRun, IsRunOf, IsSound, IsSpelled, IsUnreadable, MustBeAccepted, run_root};
 
 use crate::refusal::Rejection;
-use crate::root::Root;
-use crate::rules::checked::Checked;
+use crate::root::start_of;
 use crate::rules::not_yet::not_yet;
 use crate::rules::{self};
-use crate::world::{Turned, World};
+use sc_class::{Root, tables};
 use sc_model::Status;
 use sc_parse::parse;
 use sc_text::lex;
 use sc_tree::{System, print_system};
+use sc_world::{Turned, World};
 use std::alloc::{AllocError, Global};
 
 /// What a run leaves: its report, and how handler 0 stands.
@@ -35,10 +35,7 @@ pub fn check_text(alloc: Global, text: &str, root: &Root) -> Result<(), Rejectio
     ensures complete { MustBeAccepted text.now (root_of root.now) → IfErr result (λ e. e ≡ Rejection.OutOfMemory) }
 {
     let system = read(alloc, text)?;
-    if not_yet(&system) {
-        return Err(Rejection::NotYet);
-    }
-    rules::check(&system, root)?;
+    judge(alloc, &system, root)?;
     Ok(())
 }
 
@@ -50,11 +47,8 @@ pub fn run_text(alloc: Global, text: &str, root: &Root, turns: u32) -> Result<Ou
     ensures complete { MustBeAccepted text.now (root_of root.now) → IfErr result (λ e. e ≡ Rejection.OutOfMemory) }
 {
     let system = read(alloc, text)?;
-    if not_yet(&system) {
-        return Err(Rejection::NotYet);
-    }
-    let checked = rules::check(&system, root)?;
-    Ok(play(alloc, checked, turns)?)
+    judge(alloc, &system, root)?;
+    Ok(play(alloc, &system, root, turns)?)
 }
 
 /// The canonical text of the system of a source text, which isn't checked.
@@ -79,13 +73,28 @@ fn read(alloc: Global, text: &str) -> Result<System, Rejection>
     Ok(parse(alloc, tokens.as_slice())?)
 }
 
-/// Plays handler 0 until it has nothing to do or so many turns are played.
-fn play(alloc: Global, checked: Checked<'_>, turns: u32) -> Result<Outcome, AllocError>
-    ensures { IfOk result (λ outcome. IsRun (system_of checked.entry.system.now)
-        (root_at checked.entry.class.now checked.entry.procedure.now) turns outcome.report.items outcome.status) }
+/// Whether the system is sound; else what is at fault: its classes first, then what isn't checked or run yet, then what
+/// stands in a class.
+fn judge(alloc: Global, system: &System, root: &Root) -> Result<(), Rejection>
+    ensures sound { OnOk result (IsSound (system_of system.now) (root_of root.now)) }
+    ensures fault { IfErr result (IsAtFault (system_of system.now) (root_of root.now)) }
 {
-    let (class, procedure) = checked.root();
-    let mut world = World::open(alloc, checked.system, class, procedure)?;
+    let classes = tables(alloc, system, root)?;
+    if not_yet(&classes) {
+        return Err(Rejection::NotYet);
+    }
+    rules::check(&classes)?;
+    Ok(())
+}
+
+/// Plays handler 0 until it has nothing to do or so many turns are played.
+fn play(alloc: Global, system: &System, root: &Root, turns: u32) -> Result<Outcome, AllocError>
+    requires { IsFaultless (system_of system.now) (root_of root.now) }
+    ensures { IfOk result (λ outcome.
+        IsRun (system_of system.now) (run_root (root_of root.now)) turns outcome.report.items outcome.status) }
+{
+    let (class, procedure) = start_of(system, root);
+    let mut world = World::open(alloc, system, class, procedure)?;
     for _ in 0..turns {
         if world.turn(0)? == Turned::Nothing {
             break;

@@ -12,7 +12,6 @@ mod rules;
 mod serve;
 mod source;
 mod words;
-mod world;
 
 use files::SystemFiles;
 use serve::Fault;

@@ -1,14 +1,15 @@
 // Refusals of a source text, and the line that tells one.
 
-ghost use Rattle.std.specs.Prelude.{◌≡◌, IfOk, string_bytes};
+ghost use Rattle.std.specs.Prelude.{◌≡◌, IfOk, Some, string_bytes};
 ghost use Rattle.std.specs.Option.{option_and_then, option_map};
 ghost use Rattle.scoop.specs.Source.{place_of};
 ghost use Rattle.scoop.specs.Refusal as spec;
 
 use crate::rules::fault::CheckFault;
 use crate::source::{Place, Source};
+use sc_class::ClassFault;
 use sc_parse::ParseFault;
-use sc_text::LexFault;
+use sc_text::{LexFault, Span};
 use std::alloc::{AllocError, Global};
 
 /// Why nothing is made of a source text.
@@ -18,6 +19,8 @@ pub enum Rejection {
     Text(LexFault),
     /// Its tokens spell no system, or none that is nested at most 64 deep.
     Grammar(ParseFault),
+    /// Something is at fault in the classes of its system.
+    Classes(ClassFault),
     /// Its system uses what is neither checked nor run yet.
     NotYet,
     /// A rule fails in its system.
@@ -65,6 +68,7 @@ impl Rejection {
         match self {
             Rejection::Text(fault) => text_refusal(fault),
             Rejection::Grammar(fault) => grammar_refusal(*fault),
+            Rejection::Classes(fault) => class_refusal(*fault),
             Rejection::Rules(fault) => Some(rules_refusal(*fault)),
             Rejection::NotYet | Rejection::OutOfMemory => None,
         }
@@ -102,14 +106,36 @@ fn grammar_refusal(fault: ParseFault) -> Option<Refusal>
     }
 }
 
+fn class_refusal(fault: ClassFault) -> Option<Refusal>
+    ensures { option_map spec.seen result ≡ spec.told_of_classes fault }
+{
+    match fault {
+        ClassFault::DuplicateClass { place } => refusal_at("C1", "DuplicateClass", place),
+        ClassFault::UnknownParent { place } => refusal_at("C2", "UnknownParent", place),
+        ClassFault::Cycle { place } => refusal_at("C3", "Cycle", place),
+        ClassFault::DuplicateFeature { place } => refusal_at("C4", "DuplicateFeature", place),
+        ClassFault::BadRedefinition { place } => refusal_at("C5", "BadRedefinition", place),
+        ClassFault::NoRoot => Some(Refusal::new("C6", "NoRoot", None)),
+        ClassFault::Limit => Some(Refusal::new("C7", "Limit", None)),
+        ClassFault::LeftOut { what: _, place } => refusal_at("C8", "LeftOut", place),
+        ClassFault::OutOfMemory => None,
+    }
+}
+
+fn refusal_at(code: &'static str, name: &'static str, place: Span) -> Option<Refusal>
+    ensures { option_map spec.seen result ≡ Some (record { code = code.entry.now; name = name.entry.now; offset = Some place.start }) }
+{
+    Some(Refusal::new(code, name, Some(place.start)))
+}
+
 fn rules_refusal(fault: CheckFault) -> Refusal
     ensures { spec.seen result ≡ spec.told_of_system fault }
 {
-    let offset = match fault.place {
-        Some(span) => Some(span.start),
-        None => None,
-    };
-    Refusal::new(fault.rule.code(), fault.rule.name(), offset)
+    Refusal::new(
+        fault.rule.code(),
+        fault.rule.name(),
+        Some(fault.place.start),
+    )
 }
 
 impl From<AllocError> for Rejection {
@@ -138,6 +164,17 @@ impl From<ParseFault> for Rejection {
         match fault {
             ParseFault::OutOfMemory => Rejection::OutOfMemory,
             _ => Rejection::Grammar(fault),
+        }
+    }
+}
+
+impl From<ClassFault> for Rejection {
+    ghost from_gives = { λ fault rejection. rejection ≡ spec.of_classes fault };
+
+    fn from(fault: ClassFault) -> Rejection {
+        match fault {
+            ClassFault::OutOfMemory => Rejection::OutOfMemory,
+            _ => Rejection::Classes(fault),
         }
     }
 }

@@ -2,9 +2,9 @@
 
 mod root_option;
 
-use crate::root::Root;
 use clap::error::ErrorKind;
 use clap::{Arg, ArgAction, ArgMatches, value_parser};
+use sc_class::Root;
 use std::alloc::{AllocError, Global};
 use std::convert::AsStr;
 

@@ -1,7 +1,7 @@
 // What stands in a class: its `create` list, its features and its invariant.
 
 ghost use Rattle.std.specs.Prelude.{◌≡◌, map};
-ghost use Rattle.sc_tree.specs.View.{name_of, type_of, kind_of, feature_of, clause_of, class_of};
+ghost use Rattle.sc_tree.specs.View.{name_of, type_of, kind_of, feature_of, clause_of, class_of, system_of};
 ghost use Rattle.scoop.specs.Rules as rules;
 ghost use Rattle.scoop.specs.Judging as judging;
 
@@ -12,16 +12,17 @@ use crate::rules::names::{Role, check_name, is_plain_routine};
 use crate::rules::not_yet::is_known_type;
 use crate::rules::rule::Rule;
 use crate::rules::types::ValueType;
+use sc_class::Tables;
 use sc_text::Span;
 use sc_tree::{Class, Clause, DeclaredType, Feature, FeatureKind, Name};
 
-/// The text of one of the classes: its `create` list, then its features, then its invariant.
+/// The text of a class: its `create` list, then its features, then its invariant.
 #[tactic(auto, unfolding(crate::specs::Judging::judge_class, sc_tree::specs::View::class_of))]
-pub fn check_class(classes: &[Class], class: &Class) -> Result<(), CheckFault>
-    ensures { result ≡ judging.judge_class (map class_of classes.now) (class_of class.now) }
+pub fn check_class(tables: &Tables, class: &Class) -> Result<(), CheckFault>
+    ensures { result ≡ judging.judge_class (system_of tables.now.outline.hierarchy.system.now) (class_of class.now) }
 {
     check_creators(class, &class.creators)?;
-    check_features(classes, class, &class.features)?;
+    check_features(tables, class, &class.features)?;
     check_clauses(class, &class.invariant)
 }
 
@@ -36,26 +37,26 @@ fn check_creators(class: &Class, creators: &[Name]) -> Result<(), CheckFault>
 }
 
 #[tactic(auto, unfolding(sc_tree::specs::View::feature_of))]
-fn check_features(classes: &[Class], class: &Class, features: &[Feature]) -> Result<(), CheckFault>
-    ensures { let judge = judging.judge_feature (map class_of classes.now) (class_of class.now) in
+fn check_features(tables: &Tables, class: &Class, features: &[Feature]) -> Result<(), CheckFault>
+    ensures { let judge = judging.judge_feature (system_of tables.now.outline.hierarchy.system.now) (class_of class.now) in
         result ≡ judging.judge_each judge (map feature_of features.now) }
 {
     for feature in features {
-        check_feature(classes, class, &feature.kind)?;
+        check_feature(tables, class, &feature.kind)?;
     }
     Ok(())
 }
 
 /// An attribute's type, or the body of a routine that is nothing else.
 #[tactic(auto, unfolding(sc_tree::specs::View::kind_of))]
-fn check_feature(classes: &[Class], class: &Class, kind: &FeatureKind) -> Result<(), CheckFault>
-    ensures { result ≡ judging.judge_kind (map class_of classes.now) (class_of class.now) (kind_of kind.now) }
+fn check_feature(tables: &Tables, class: &Class, kind: &FeatureKind) -> Result<(), CheckFault>
+    ensures { result ≡ judging.judge_kind (system_of tables.now.outline.hierarchy.system.now) (class_of class.now) (kind_of kind.now) }
 {
     match kind {
         FeatureKind::Attribute(declared) => require(
-            !names_nothing(classes, declared),
+            !names_nothing(tables, declared),
             Rule::UnknownName,
-            Some(declared.class.span),
+            declared.class.span,
         ),
         FeatureKind::Routine(routine) if is_plain_routine(routine) => {
             check_instructions(class, &routine.body)
@@ -65,10 +66,10 @@ fn check_feature(classes: &[Class], class: &Class, kind: &FeatureKind) -> Result
 }
 
 /// Whether nothing has the name of the type.
-fn names_nothing(classes: &[Class], declared: &DeclaredType) -> bool
-    ensures { result ≡ rules.names_nothing (map class_of classes.now) (type_of declared.now) }
+fn names_nothing(tables: &Tables, declared: &DeclaredType) -> bool
+    ensures { result ≡ rules.names_nothing (system_of tables.now.outline.hierarchy.system.now) (type_of declared.now) }
 {
-    is_known_type(classes, declared) && ValueType::named(&declared.class.text).is_none()
+    is_known_type(tables, declared) && ValueType::named(&declared.class.text).is_none()
 }
 
 fn check_clauses(class: &Class, clauses: &[Clause]) -> Result<(), CheckFault>
@@ -90,7 +91,7 @@ fn check_clause(class: &Class, clause: &Clause) -> Result<(), CheckFault>
     require(
         is_formula(class, &clause.condition),
         Rule::InvariantForm,
-        Some(clause_place(clause)),
+        clause_place(clause),
     )
 }
 

@@ -69,7 +69,7 @@ fn operation(result_type: Option<ValueType>, place: Span) -> Result<Option<Value
     match result_type {
         None => Err(CheckFault {
             rule: Rule::OperatorType,
-            place: Some(place),
+            place,
         }),
         Some(value_type) => Ok(Some(value_type)),
     }
@@ -112,7 +112,7 @@ pub fn conform(
     ensures { result ≡ judging.conforming found wanted rule place }
 {
     match (found, wanted) {
-        (Some(found), Some(wanted)) => require(found.conforms_to(wanted), rule, Some(place)),
+        (Some(found), Some(wanted)) => require(found.conforms_to(wanted), rule, place),
         _ => Ok(()),
     }
 }

@@ -6,15 +6,15 @@ ghost use Rattle.scoop.specs.Judging.{required, accepted};
 use crate::rules::rule::Rule;
 use sc_text::Span;
 
-/// A rule that fails, and where. A rule about the system as a whole fails at no place.
+/// A rule that fails, and where.
 #[derive(Clone, Copy, Debug, PartialEq, Eq)]
 pub struct CheckFault {
     pub rule: Rule,
-    pub place: Option<Span>,
+    pub place: Span,
 }
 
 /// The rule fails unless the test holds.
-pub fn require(holds: bool, rule: Rule, place: Option<Span>) -> Result<(), CheckFault>
+pub fn require(holds: bool, rule: Rule, place: Span) -> Result<(), CheckFault>
     ensures { result ≡ required holds rule place }
 {
     if holds {
@@ -30,9 +30,6 @@ pub fn refuse(rule: Option<Rule>, place: Span) -> Result<(), CheckFault>
 {
     match rule {
         None => Ok(()),
-        Some(rule) => Err(CheckFault {
-            rule,
-            place: Some(place),
-        }),
+        Some(rule) => Err(CheckFault { rule, place }),
     }
 }

@@ -3,7 +3,7 @@
 ghost use Rattle.std.specs.Prelude.{◌≡◌, map, option_map, option_copied};
 ghost use Rattle.sc_tree.specs.View.{name_of, expr_of, target_of, exprs_of, declaration_of, type_if_any, clause_of, kind_of, feature_of, class_of};
 ghost use Rattle.sc_model.specs.Lookup as lookup;
-ghost use Rattle.scoop.specs.ClassRules as class_rules;
+ghost use Rattle.sc_class.specs.Names as class_names;
 ghost use Rattle.scoop.specs.Typing as typing;
 ghost use Rattle.scoop.specs.Rules as rules;
 ghost use Rattle.scoop.specs.Judging as judging;
@@ -110,7 +110,7 @@ impl Meaning {
 
 /// Whether the name is that of the feature which every class has.
 pub fn is_print(name: &str) -> bool
-    ensures { result ≡ class_rules.is_print name.now }
+    ensures { result ≡ class_names.is_print name.now }
 {
     name == "print"
 }

@@ -5,41 +5,39 @@ ghost use Rattle.std.specs.List.{list_all};
 ghost use Rattle.sc_tree.specs.View.{name_of, expr_of, target_of, exprs_of, instr_of, instrs_of, branches_of, clause_of, type_of, kind_of, feature_of, class_of, system_of};
 ghost use Rattle.scoop.specs.NotYet as known;
 
-use crate::rules::limits::has_class;
 use crate::rules::names::{is_name, is_plain_routine, printed};
-use crate::rules::types::{ValueType, is_old};
+use crate::rules::types::is_old;
+use sc_class::{ClassId, Tables};
 use sc_tree::{
     Branch, Call, Class, Clause, DeclaredType, Expr, Feature, FeatureKind, HandlerTag, Instr,
-    System, Variable,
+    Variable,
 };
 
 /// Whether the system uses anything outside the part of the language that the rules know.
 ///
-/// It goes through the tree once and takes no memory. Only the name of an attribute's type other than
-/// INTEGER and BOOLEAN is looked for among the names of the classes.
-pub fn not_yet(system: &System) -> bool
-    ensures { result ≡ known.is_not_yet (system_of system.now) }
+/// It goes through the tree once and takes no memory. The name of an attribute's type is looked for once by hash.
+pub fn not_yet(tables: &Tables) -> bool
+    ensures { result ≡ known.is_not_yet (system_of tables.now.outline.hierarchy.system.now) }
 {
-    let classes = system.classes.as_slice();
-    !classes.iter().all(|class| is_known_class(classes, class))
+    let classes = tables.outline.hierarchy.classes();
+    !classes.iter().all(|class| is_known_class(tables, class))
 }
 
 #[tactic(auto, unfolding(crate::specs::NotYet::is_known_class, sc_tree::specs::View::class_of))]
-fn is_known_class(classes: &[Class], class: &Class) -> bool
-    ensures { result ≡ known.is_known_class (map class_of classes.now) (class_of class.now) }
+fn is_known_class(tables: &Tables, class: &Class) -> bool
+    ensures { result ≡ known.is_known_class (system_of tables.now.outline.hierarchy.system.now) (class_of class.now) }
 {
-    class.mark.is_none()
-        && class.parents.is_empty()
-        && are_known_features(classes, &class.features)
+    class.parents.is_empty()
+        && are_known_features(tables, &class.features)
         && are_known_clauses(&class.invariant)
 }
 
-fn are_known_features(classes: &[Class], features: &[Feature]) -> bool
-    ensures { result ≡ list_all (known.is_known_feature (map class_of classes.now)) (map feature_of features.now) }
+fn are_known_features(tables: &Tables, features: &[Feature]) -> bool
+    ensures { result ≡ list_all (known.is_known_feature (system_of tables.now.outline.hierarchy.system.now)) (map feature_of features.now) }
 {
     features
         .iter()
-        .all(|feature| is_known_feature(classes, feature))
+        .all(|feature| is_known_feature(tables, feature))
 }
 
 fn are_known_clauses(clauses: &[Clause]) -> bool
@@ -51,18 +49,18 @@ fn are_known_clauses(clauses: &[Clause]) -> bool
 }
 
 #[tactic(auto, unfolding(sc_tree::specs::View::feature_of))]
-fn is_known_feature(classes: &[Class], feature: &Feature) -> bool
-    ensures { result ≡ known.is_known_feature (map class_of classes.now) (feature_of feature.now) }
+fn is_known_feature(tables: &Tables, feature: &Feature) -> bool
+    ensures { result ≡ known.is_known_feature (system_of tables.now.outline.hierarchy.system.now) (feature_of feature.now) }
 {
-    feature.exports.is_empty() && is_known_kind(classes, &feature.kind)
+    feature.exports.is_empty() && is_known_kind(tables, &feature.kind)
 }
 
 #[tactic(auto, unfolding(sc_tree::specs::View::kind_of))]
-fn is_known_kind(classes: &[Class], kind: &FeatureKind) -> bool
-    ensures { result ≡ known.is_known_kind (map class_of classes.now) (kind_of kind.now) }
+fn is_known_kind(tables: &Tables, kind: &FeatureKind) -> bool
+    ensures { result ≡ known.is_known_kind (system_of tables.now.outline.hierarchy.system.now) (kind_of kind.now) }
 {
     match kind {
-        FeatureKind::Attribute(declared) => is_known_type(classes, declared),
+        FeatureKind::Attribute(declared) => is_known_type(tables, declared),
         FeatureKind::Routine(routine) => {
             is_plain_routine(routine) && are_known_instructions(&routine.body)
         }
@@ -71,19 +69,19 @@ fn is_known_kind(classes: &[Class], kind: &FeatureKind) -> bool
 
 /// Whether the type is attached and of the own handler, and is INTEGER, BOOLEAN or of a name that neither
 /// ANY nor a class has.
-pub fn is_known_type(classes: &[Class], declared: &DeclaredType) -> bool
-    ensures { result ≡ known.is_known_type (map class_of classes.now) (type_of declared.now) }
+pub fn is_known_type(tables: &Tables, declared: &DeclaredType) -> bool
+    ensures { result ≡ known.is_known_type (system_of tables.now.outline.hierarchy.system.now) (type_of declared.now) }
 {
     !declared.is_detachable
         && matches!(declared.tag, HandlerTag::Own)
-        && is_known_name(classes, &declared.class.text)
+        && !is_of_references(tables.class_named(&declared.class.text))
 }
 
-/// Whether it is the name of INTEGER or BOOLEAN, or one that neither ANY nor a class has.
-fn is_known_name(classes: &[Class], name: &str) -> bool
-    ensures { result ≡ known.is_known_name (map class_of classes.now) name.now }
+/// Whether it is a class of references: ANY, or one of the system.
+fn is_of_references(class: Option<ClassId>) -> bool
+    ensures { result ≡ known.is_of_references class }
 {
-    ValueType::named(name).is_some() || !(name == "any" || has_class(classes, name))
+    matches!(class, Some(ClassId::Any | ClassId::Declared(_)))
 }
 
 /// Whether it is an integer, a truth value, a name alone, or one of the operators but `old`.

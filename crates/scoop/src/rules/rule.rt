@@ -1,20 +1,11 @@
-// The rules that a system of classes meets.
+// The rules that what stands in a class meets.
 
 ghost use Rattle.std.specs.Prelude.{◌≡◌};
 ghost use Rattle.scoop.specs.RuleText.{code_of, name_of};
 
-/// A rule of the language. The first four are about the names and the number of classes and features,
-/// the others about what stands in a class.
+/// A rule of the language about what stands in a class.
 #[derive(Clone, Copy, Debug, PartialEq, Eq)]
 pub enum Rule {
-    /// No class has the name of another, or of a built-in class.
-    DuplicateClass,
-    /// No feature has the name of another of its class, or the name `print`.
-    DuplicateFeature,
-    /// There is a root class, and its `create` list has the root procedure.
-    NoRoot,
-    /// There are at most 256 classes, each of at most 256 features.
-    Limit,
     /// A name stands for something.
     UnknownName,
     /// A call has as many actuals as the feature has formals.
@@ -34,15 +25,11 @@ pub enum Rule {
 }
 
 impl Rule {
-    /// The rule's short name, as `C1`.
+    /// The rule's short name, as `V1`.
     pub fn code(self) -> &'static str
         ensures { result.now ≡ code_of self }
     {
         match self {
-            Rule::DuplicateClass => "C1",
-            Rule::DuplicateFeature => "C4",
-            Rule::NoRoot => "C6",
-            Rule::Limit => "C7",
             Rule::UnknownName => "V1",
             Rule::WrongArity => "V2",
             Rule::AssignType => "V4",
@@ -54,15 +41,11 @@ impl Rule {
         }
     }
 
-    /// The rule's name, as `DuplicateClass`.
+    /// The rule's name, as `UnknownName`.
     pub fn name(self) -> &'static str
         ensures { result.now ≡ name_of self }
     {
         match self {
-            Rule::DuplicateClass => "DuplicateClass",
-            Rule::DuplicateFeature => "DuplicateFeature",
-            Rule::NoRoot => "NoRoot",
-            Rule::Limit => "Limit",
             Rule::UnknownName => "UnknownName",
             Rule::WrongArity => "WrongArity",
             Rule::AssignType => "AssignType",

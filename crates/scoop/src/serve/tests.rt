@@ -1,5 +1,6 @@
 // Calls of the program with files and writers that stand in the test.
 
+mod class_faults;
 mod command_line;
 mod input;
 mod output;
@@ -10,6 +11,7 @@ mod sources;
 
 use crate::files::fake::{FakeFile, FakeFiles};
 use crate::serve::{Exit, serve};
+use std::process::Abort;
 use std::test::Fail;
 
 /// What a call of the program wrote, and its status.
@@ -20,8 +22,40 @@ struct Outcome {
     err: String,
 }
 
+/// What a call of the program is to write, and its status.
+#[derive(Clone, Copy)]
+struct Wanted<'a> {
+    status: u8,
+    out: &'a str,
+    err: &'a str,
+}
+
+fn done(out: &str) -> Wanted<'_> {
+    Wanted {
+        status: Exit::Done as u8,
+        out,
+        err: "",
+    }
+}
+
+fn refused(out: &str) -> Wanted<'_> {
+    Wanted {
+        status: Exit::Refused as u8,
+        out,
+        err: "",
+    }
+}
+
+fn usage(err: &str) -> Wanted<'_> {
+    Wanted {
+        status: Exit::Usage as u8,
+        out: "",
+        err,
+    }
+}
+
 /// Calls the program. A call for which memory runs out has no outcome: the test ends there and says so.
-fn call(rt: &HostRuntime, words: &[&str], files: &[FakeFile<'_>]) -> Result<Outcome, Fail> {
+fn call<R: AllocGlobal>(rt: &R, words: &[&str], files: &[FakeFile<'_>]) -> Result<Outcome, Fail> {
     let mut out = Vec::new(rt.alloc());
     let mut err = Vec::new(rt.alloc());
     let status = serve(rt, words, &FakeFiles { files }, &mut out, &mut err);
@@ -35,11 +69,30 @@ fn call(rt: &HostRuntime, words: &[&str], files: &[FakeFile<'_>]) -> Result<Outc
     })
 }
 
-/// Calls the program on one file, `app.e`, with nothing expected on standard error.
-fn call_on(rt: &HostRuntime, words: &[&str], text: &str) -> Result<Outcome, Fail> {
+/// Calls the program, and compares what it writes and its status.
+fn expect_of<R: Abort + AllocGlobal>(
+    rt: &R,
+    words: &[&str],
+    files: &[FakeFile<'_>],
+    wanted: Wanted<'_>,
+) -> Result<(), Fail> {
+    let outcome = call(rt, words, files)?;
+    assert_eq!(rt; outcome.err.as_str(), wanted.err, "for {words:?}");
+    assert_eq!(rt; outcome.out.as_str(), wanted.out, "for {words:?}");
+    assert_eq!(rt; outcome.status, wanted.status, "for {words:?}");
+    Ok(())
+}
+
+/// The same on one file, `app.e`.
+fn expect<R: Abort + AllocGlobal>(
+    rt: &R,
+    words: &[&str],
+    text: &str,
+    wanted: Wanted<'_>,
+) -> Result<(), Fail> {
     let outcome = call(rt, words, &[FakeFile::new("app.e", text)])?;
-    if !outcome.err.is_empty() {
-        return Err(Fail::new(outcome.err.as_str()));
-    }
-    Ok(outcome)
+    assert_eq!(rt; outcome.err.as_str(), wanted.err, "for {text}");
+    assert_eq!(rt; outcome.out.as_str(), wanted.out, "for {text}");
+    assert_eq!(rt; outcome.status, wanted.status, "for {text}");
+    Ok(())
 }

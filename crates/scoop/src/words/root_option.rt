@@ -6,7 +6,7 @@ ghost use Rattle.sc_text.specs.Spelling.{lexemes_of};
 ghost use Rattle.scoop.specs.RootOption as spec;
 ghost use Rattle.scoop.specs.RootOption.{IsName, NamesRoot};
 
-use crate::root::Root;
+use sc_class::Root;
 use sc_text::{LexFault, Token, TokenKind, lex};
 use std::alloc::{AllocError, Global};
 

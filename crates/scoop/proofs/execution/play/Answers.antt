@@ -1,19 +1,20 @@
 use Rattle.std.proofs.Common.{◌≡◌, ◌∙◌, ◌∷◌, [], false, rules, inl, inr, ap, arith}
 use Rattle.sc_model.specs.World.{has_turn_at}
-use Rattle.scoop.specs.declared.world.Turned.TheVariants.{Nothing}
-use Rattle.sc_tree.specs.View.{class_of}
-use Rattle.scoop.specs.Kept.{after_run}
+use Rattle.sc_world.specs.declared.world.Turned.TheVariants.{Nothing}
+use Rattle.sc_tree.specs.View.{class_of, system_of}
+use Rattle.sc_model.specs.Lookup.{class_named}
+use Rattle.sc_world.specs.Kept.{after_run}
 use Rattle.scoop.proofs.PlayLemmas.{kept-stands, one-more, nothing-due, run-told}
 use Rattle.scoop.proofs.execution.play.Goals as goal
 use Rattle.scoop.proofs.execution.play.Goals.{else-loop-test, then-loop-test+in_ok-turn+then-eq}
 
 pub open-requires-clause-named : goal.open-requires-clause-named
 unfolding class_of
-open-requires-clause-named c = c.root.ensures.named
+open-requires-clause-named c = ap (λ x. class_named x (system_of c.args.system.now).classes) c.start_of.ensures.class ∙ c.start_of.ensures.named
 
 pub loop-init : goal.loop-init
 unfolding class_of
-loop-init c = rw (c.root.ensures.class, c.root.ensures.procedure) at c.in_ok-world.ensures
+loop-init c = rw (c.start_of.ensures.class, c.start_of.ensures.procedure) at c.in_ok-world.ensures
 
 pub loop-preserved : goal.loop-preserved
 loop-preserved c = c.in_ok-turn.ensures.ok ∙ ap (λ k. after_run k (0 ∷ [])) c.loop.invariant ∙ one-more _ c.loop.counter

@@ -1,6 +1,6 @@
 // The words of the command line.
 
-use super::call;
+use super::{Wanted, call, done, expect_of, usage};
 use crate::files::fake::FakeFile;
 use std::test::Fail;
 
@@ -15,15 +15,18 @@ fn takes_options_in_any_place(rt: HostRuntime) -> Result<(), Fail> {
         FakeFile::new("b.e", ""),
         FakeFile::new("--turns", ""),
     ];
-    let cases: [(&[&str], &str); 8] = [
-        (&["scoop", "check", "a.e"], "ok\n"),
+    let cases: [(&[&str], Wanted<'static>); 8] = [
+        (&["scoop", "check", "a.e"], done("ok\n")),
         (
             &["scoop", "check", "a.e", "--root", "Application.MAKE", "b.e"],
-            "ok\n",
+            done("ok\n"),
         ),
-        (&["scoop", "run", "a.e"], REPORT),
-        (&["scoop", "run", "a.e", "--turns=10000000"], REPORT),
-        (&["scoop", "run", "a.e", "--turns", "+5", "b.e"], REPORT),
+        (&["scoop", "run", "a.e"], done(REPORT)),
+        (&["scoop", "run", "a.e", "--turns=10000000"], done(REPORT)),
+        (
+            &["scoop", "run", "a.e", "--turns", "+5", "b.e"],
+            done(REPORT),
+        ),
         (
             &[
                 "scoop",
@@ -34,18 +37,20 @@ fn takes_options_in_any_place(rt: HostRuntime) -> Result<(), Fail> {
                 "application.make",
                 "a.e",
             ],
-            REPORT,
+            done(REPORT),
         ),
-        (&["scoop", "run", "--", "a.e", "--turns"], REPORT),
+        (&["scoop", "run", "--", "a.e", "--turns"], done(REPORT)),
         (
             &["scoop", "run", "--turns", "1", "a.e"],
-            "handler 0 busy refused 0 output 0\n\nstopped limit\n",
+            Wanted {
+                status: 4,
+                out: "handler 0 busy refused 0 output 0\n\nstopped limit\n",
+                err: "",
+            },
         ),
     ];
     for (words, wanted) in cases {
-        let outcome = call(&rt, words, &files)?;
-        assert_eq!(rt; outcome.err.as_str(), "", "for {words:?}");
-        assert_eq!(rt; outcome.out.as_str(), wanted, "for {words:?}");
+        expect_of(&rt, words, &files, wanted)?;
     }
     Ok(())
 }
@@ -91,10 +96,8 @@ fn tells_a_bad_root(rt: HostRuntime) -> Result<(), Fail> {
     ];
     for root in roots {
         // The root is at fault before the file, which isn't there.
-        let outcome = call(&rt, &["scoop", "check", "--root", root, "a.e"], &[])?;
-        assert_eq!(rt; outcome.err.as_str(), "bad root\n", "for {root}");
-        assert_eq!(rt; outcome.out.as_str(), "", "for {root}");
-        assert_eq!(rt; outcome.status, 2, "for {root}");
+        let words = ["scoop", "check", "--root", root, "a.e"];
+        expect_of(&rt, &words, &[], usage("bad root\n"))?;
     }
     Ok(())
 }

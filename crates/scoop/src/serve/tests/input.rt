@@ -1,6 +1,6 @@
 // Files that can't be read.
 
-use super::call;
+use super::{expect_of, refused, usage};
 use crate::files::fake::FakeFile;
 use crate::source::LONGEST_SOURCE;
 use std::test::Fail;
@@ -27,11 +27,9 @@ fn tells_the_file_that_cannot_be_read(rt: HostRuntime) -> Result<(), Fail> {
         },
     ];
     for name in ["none.e", "latin.e", "cut.e", "broken.e", "dir/a.e"] {
-        let outcome = call(&rt, &["scoop", "run", "a.e", name, "a.e"], &files)?;
-        let wanted = format!(in rt.alloc(); "cannot read {name}\n")?;
-        assert_eq!(rt; outcome.err.as_str(), wanted.as_str());
-        assert_eq!(rt; outcome.out.as_str(), "", "for {name}");
-        assert_eq!(rt; outcome.status, 2, "for {name}");
+        let words = ["scoop", "run", "a.e", name, "a.e"];
+        let err = format!(in rt.alloc(); "cannot read {name}\n")?;
+        expect_of(&rt, &words, &files, usage(err.as_str()))?;
     }
     Ok(())
 }
@@ -59,11 +57,11 @@ fn reads_a_file_no_further_than_a_source_may_be_long(rt: HostRuntime) -> Result<
                 is_broken: false,
             },
         ];
-        let outcome = call(&rt, &["scoop", "check", "a.e"], &files)?;
-        assert_eq!(rt; outcome.out.as_str(), "refused L5 SourceTooLong\n");
+        let too_long = refused("refused L5 SourceTooLong\n");
+        expect_of(&rt, &["scoop", "check", "a.e"], &files, too_long)?;
         // A file that can't be read comes before a source that is too long.
-        let outcome = call(&rt, &["scoop", "check", "a.e", "b.e"], &files)?;
-        assert_eq!(rt; outcome.err.as_str(), "cannot read b.e\n");
+        let words = ["scoop", "check", "a.e", "b.e"];
+        expect_of(&rt, &words, &files, usage("cannot read b.e\n"))?;
     }
     Ok(())
 }

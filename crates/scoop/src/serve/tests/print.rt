@@ -3,8 +3,9 @@
 use super::sources::{
     ANOTHER_LAYOUT, BLOCK, BUFFER, CALLBACK, CANONICAL, HANDLER_TESTS, SEPARATE_CALL, TRAITOR,
 };
-use super::{call, call_on};
+use super::{call, done, expect, expect_of, refused, usage};
 use crate::files::fake::FakeFile;
+use std::process::Abort;
 use std::test::Fail;
 
 const PRINT: [&str; 3] = ["scoop", "print", "app.e"];
@@ -22,9 +23,7 @@ fn prints_one_layout(rt: HostRuntime) -> Result<(), Fail> {
         (ANOTHER_LAYOUT, CANONICAL),
     ];
     for (text, wanted) in cases {
-        let outcome = call_on(&rt, &PRINT, text)?;
-        assert_eq!(rt; outcome.out.as_str(), wanted);
-        assert_eq!(rt; outcome.status, 0, "for {text}");
+        expect(&rt, &PRINT, text, done(wanted))?;
     }
     Ok(())
 }
@@ -39,33 +38,18 @@ fn prints_again_what_it_printed(rt: HostRuntime) -> Result<(), Fail> {
         BUFFER,
         CALLBACK,
     ] {
-        let outcome = call_on(&rt, &PRINT, text)?;
-        let again = call_on(&rt, &PRINT, outcome.out.as_str())?;
-        assert!(rt;
-            outcome
-                .out
-                .as_str()
-                .starts_with("class APPLICATION\ncreate\n\tmake\n")
-        );
-        assert_eq!(rt; again.out.as_str(), outcome.out.as_str());
-        assert_eq!(rt; again.status, 0, "for {text}");
+        let outcome = call(&rt, &PRINT, &[FakeFile::new("app.e", text)])?;
+        let printed = outcome.out.as_str();
+        assert!(rt; printed.starts_with("class APPLICATION\ncreate\n\tmake\n"));
+        expect(&rt, &PRINT, printed, done(printed))?;
     }
-    Ok(())
-}
-
-#[test]
-fn prints_the_classes_of_all_files(rt: HostRuntime) -> Result<(), Fail> {
     let files = [
         FakeFile::new("a.e", "class a end"),
         FakeFile::new("b.e", "class A end class c end"),
     ];
-    let outcome = call(&rt, &["scoop", "print", "b.e", "a.e"], &files)?;
-    assert_eq!(rt;
-        outcome.out.as_str(),
-        "class A\nend\n\nclass C\nend\n\nclass A\nend\n"
-    );
-    assert_eq!(rt; outcome.status, 0);
-    Ok(())
+    // The classes of all files.
+    let classes = done("class A\nend\n\nclass C\nend\n\nclass A\nend\n");
+    expect_of(&rt, &["scoop", "print", "b.e", "a.e"], &files, classes)
 }
 
 #[test]
@@ -83,95 +67,86 @@ fn refuses_to_print_what_is_no_system(rt: HostRuntime) -> Result<(), Fail> {
         ("class A @", "refused L1 BadCharacter app.e:1:9\n"),
     ];
     for (text, wanted) in cases {
-        let outcome = call_on(&rt, &PRINT, text)?;
-        assert_eq!(rt; outcome.out.as_str(), wanted);
-        assert_eq!(rt; outcome.status, 1);
+        expect(&rt, &PRINT, text, refused(wanted))?;
     }
     Ok(())
 }
 
-/// Whether the system is neither checked nor run.
-fn is_not_yet(rt: &HostRuntime, text: &str) -> Result<bool, Fail> {
-    for command in ["check", "run"] {
-        let files = [FakeFile::new("app.e", text)];
-        let outcome = call(rt, &["scoop", command, "app.e"], &files)?;
-        if outcome.status != 2 || outcome.err.as_str() != "not yet\n" || !outcome.out.is_empty() {
-            return Ok(false);
-        }
-    }
-    Ok(true)
+/// Systems that use more than is checked and run.
+const SYSTEMS: [&str; 11] = [
+    SEPARATE_CALL,
+    BLOCK,
+    TRAITOR,
+    HANDLER_TESTS,
+    BUFFER,
+    CALLBACK,
+    // It comes before the rules.
+    "class APPLICATION inherit ANY create make feature make do x := 1 end end",
+    "class A feature make do end end class APPLICATION inherit A create make end",
+    "class APPLICATION create make feature make do end feature {NONE} x: INTEGER end",
+    "class APPLICATION create make feature make do end end class B invariant Void = Void end",
+    "class A feature f: A do end end class B inherit A redefine f end feature f: B do end end class APPLICATION create make feature make do end end",
+];
+
+/// Features that are more.
+const FEATURES: [&str; 9] = [
+    "x: APPLICATION",
+    "x: ANY",
+    "x: detachable INTEGER",
+    "x: separate INTEGER",
+    "f (a: INTEGER) do end",
+    "f: INTEGER do end",
+    "f local a: INTEGER do end",
+    "f require True do end",
+    "f do ensure True end",
+];
+
+/// Instructions that are more.
+const BODIES: [&str; 19] = [
+    "n.make",
+    "make (1)",
+    "print (1, 2)",
+    "n.print (1)",
+    "Result := 1",
+    "create n",
+    "from until True loop end",
+    "check end",
+    "separate n as x do end",
+    "print (Void)",
+    "print (Current)",
+    "print (Result)",
+    "print (n.n)",
+    "print (n (1))",
+    "print (old n)",
+    "print (attached n as x)",
+    "if True then elseif True then n := -Void end",
+    "if True then else print (1 = Void) end",
+    "if not Void then end",
+];
+
+/// Checks and runs a system that uses more.
+fn expect_not_yet<R: Abort + AllocGlobal>(rt: &R, text: &str) -> Result<(), Fail> {
+    let wanted = usage("not yet\n");
+    expect(rt, &["scoop", "check", "app.e"], text, wanted)?;
+    expect(rt, &["scoop", "run", "app.e"], text, wanted)
 }
 
 #[test]
 fn says_what_is_not_checked_or_run_yet(rt: HostRuntime) -> Result<(), Fail> {
-    for text in [
-        SEPARATE_CALL,
-        BLOCK,
-        TRAITOR,
-        HANDLER_TESTS,
-        BUFFER,
-        CALLBACK,
-        // It comes before the rules.
-        "class A end frozen class A end",
-        "class A inherit ANY end",
-        "class A feature {NONE} x: INTEGER end",
-        "class A end class B invariant Void = Void end",
-    ] {
-        assert!(rt; is_not_yet(&rt, text)?, "for {text}");
+    for text in SYSTEMS {
+        expect_not_yet(&rt, text)?;
     }
-    Ok(())
-}
-
-#[test]
-fn says_which_features_are_not_checked_or_run_yet(rt: HostRuntime) -> Result<(), Fail> {
-    let features = [
-        "x: APPLICATION",
-        "x: ANY",
-        "x: detachable INTEGER",
-        "x: separate INTEGER",
-        "f (a: INTEGER) do end",
-        "f: INTEGER do end",
-        "f local a: INTEGER do end",
-        "f require True do end",
-        "f do ensure True end",
-    ];
-    for feature in features {
+    for feature in FEATURES {
         let text = format!(in rt.alloc();
             "class APPLICATION create make feature make do end {feature} end"
         )?;
-        assert!(rt; is_not_yet(&rt, text.as_str())?, "for {text}");
+        expect_not_yet(&rt, text.as_str())?;
     }
-    Ok(())
-}
-
-#[test]
-fn says_which_instructions_are_not_checked_or_run_yet(rt: HostRuntime) -> Result<(), Fail> {
-    let bodies = [
-        "n.make",
-        "make (1)",
-        "print (1, 2)",
-        "n.print (1)",
-        "Result := 1",
-        "create n",
-        "from until True loop end",
-        "check end",
-        "separate n as x do end",
-        "print (Void)",
-        "print (Current)",
-        "print (Result)",
-        "print (n.n)",
-        "print (n (1))",
-        "print (old n)",
-        "print (attached n as x)",
-        "if True then elseif True then n := -Void end",
-        "if True then else print (1 = Void) end",
-        "if not Void then end",
-    ];
-    for body in bodies {
+    for body in BODIES {
         let text = format!(in rt.alloc();
             "class APPLICATION create make feature n: INTEGER make do {body} end end"
         )?;
-        assert!(rt; is_not_yet(&rt, text.as_str())?, "for {text}");
+        expect_not_yet(&rt, text.as_str())?;
     }
     Ok(())
 }

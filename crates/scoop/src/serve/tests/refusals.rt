@@ -1,199 +1,158 @@
 // Each rule that a source text can break, and where.
 
-use super::{call, call_on};
+use super::{done, expect, expect_of, refused, usage};
 use crate::files::fake::FakeFile;
 use crate::source::LONGEST_SOURCE;
 use std::alloc::{AllocError, Global};
+use std::process::Abort;
 use std::test::Fail;
 
-const CHECK: [&str; 3] = ["scoop", "check", "app.e"];
+/// The words of a check of one file.
+pub const CHECK: [&str; 3] = ["scoop", "check", "app.e"];
 
-/// The text on the refused line after `refused`.
-fn refusal(rt: &HostRuntime, text: &str) -> Result<String, Fail> {
-    let outcome = call_on(rt, &CHECK, text)?;
-    let line = outcome.out.as_str();
-    match line.strip_prefix("refused ") {
-        Some(rest) if outcome.status == 1 => Ok(String::from_str(rt.alloc(), rest.trim_end())?),
-        _ => Err(Fail::new(line)),
-    }
+/// Source texts, and what follows `refused` in their answers.
+const ROWS: [(&str, &str); 24] = [
+    // Tokens.
+    (
+        "class A feature\n\tn: INTEGER @\nend",
+        "L1 BadCharacter app.e:2:13",
+    ),
+    (
+        "class A feature f do print (\"abc",
+        "L2 UnclosedString app.e:1:29",
+    ),
+    (
+        "class A feature\n\tf do print (\"a%xb\") end\nend",
+        "L3 BadEscape app.e:2:16",
+    ),
+    (
+        "class A feature\n\tn: INTEGER\n\tf do n := 9223372036854775808 end\nend",
+        "L4 IntegerTooLarge app.e:3:12",
+    ),
+    // The grammar. A system that ends too soon is at fault just after its last token.
+    ("class A class", "P1 NotInGrammar app.e:1:9"),
+    ("class A\n\n", "P1 NotInGrammar app.e:1:8"),
+    // Names in a class.
+    (
+        "class APPLICATION create make, x feature make do end end",
+        "V1 UnknownName app.e:1:32",
+    ),
+    (
+        "class APPLICATION create make, print feature make do end end",
+        "V1 UnknownName app.e:1:32",
+    ),
+    (
+        "class APPLICATION create make, n feature make do end n: INTEGER end",
+        "V7 ResultType app.e:1:32",
+    ),
+    (
+        "class APPLICATION create make feature make do end n: UNKNOWN end",
+        "V1 UnknownName app.e:1:54",
+    ),
+    (
+        "class APPLICATION create make feature make do end n: NONE end",
+        "V1 UnknownName app.e:1:54",
+    ),
+    // The create list, then the features in order, then the invariant.
+    (
+        "class APPLICATION create make, leap\nfeature\n\tmake do x := 1 end\ninvariant y\nend",
+        "V1 UnknownName app.e:1:32",
+    ),
+    (
+        "class APPLICATION create make\nfeature\n\tmake do print (1 + True) x := 1 end\ninvariant y\nend",
+        "V9 OperatorType app.e:3:17",
+    ),
+    (
+        "class APPLICATION create make\nfeature\n\tn: INTEGER\n\tmake do end\n\tf do n := g end\ninvariant y\nend",
+        "V1 UnknownName app.e:5:12",
+    ),
+    // The left side comes before the right, and operands before their operator.
+    (
+        "class APPLICATION create make feature make do make := x end end",
+        "V10 NotAssignable app.e:1:47",
+    ),
+    (
+        "class APPLICATION create make feature make do print (True + x) end end",
+        "V1 UnknownName app.e:1:61",
+    ),
+    (
+        "class APPLICATION create make feature make do if 1 + (x and 2) then end end end",
+        "V1 UnknownName app.e:1:55",
+    ),
+    // Tokens come before the grammar, the grammar before class faults, and these before what stands in a class.
+    ("class A class\n#", "L1 BadCharacter app.e:2:1"),
+    (
+        "class A end class A end class",
+        "P1 NotInGrammar app.e:1:30",
+    ),
+    (
+        "class A feature f do x := 1 end end\nclass A end",
+        "C1 DuplicateClass app.e:2:7",
+    ),
+    (
+        "class A feature f do x := 1 end f do end end",
+        "C4 DuplicateFeature app.e:1:33",
+    ),
+    ("class A feature f do x := 1 end end", "C6 NoRoot"),
+    // Two class faults, the place of each counted by hand.
+    ("class A end class a end", "C1 DuplicateClass app.e:1:19"),
+    (
+        "class A inherit B end class B inherit A end",
+        "C3 Cycle app.e:1:17",
+    ),
+];
+
+/// What stands in `make` behind a tab and `make do `, what stands in the invariant, and what follows `refused`.
+const IN_CLASS: [(&str, &str, &str); 19] = [
+    ("n := m", "True", "V1 UnknownName app.e:5:15"),
+    ("leap", "True", "V1 UnknownName app.e:5:10"),
+    ("print", "True", "V2 WrongArity app.e:5:10"),
+    ("n := b", "True", "V4 AssignType app.e:5:15"),
+    ("n := make", "True", "V7 ResultType app.e:5:15"),
+    ("n := print", "True", "V2 WrongArity app.e:5:15"),
+    ("n", "True", "V7 ResultType app.e:5:10"),
+    ("if n + 1 then end", "True", "V8 NotBoolean app.e:5:13"),
+    ("", "b and n", "V9 OperatorType app.e:6:11"),
+    ("", "n", "V8 NotBoolean app.e:6:11"),
+    ("", "tag: n", "V8 NotBoolean app.e:6:16"),
+    ("", "tag: make", "V7 ResultType app.e:6:16"),
+    (
+        "if b then elseif n then end",
+        "True",
+        "V8 NotBoolean app.e:5:27",
+    ),
+    ("if b then n := x end", "True", "V1 UnknownName app.e:5:25"),
+    (
+        "if b then elseif b then n := x end",
+        "True",
+        "V1 UnknownName app.e:5:39",
+    ),
+    (
+        "if b then else print (x) end",
+        "True",
+        "V1 UnknownName app.e:5:32",
+    ),
+    ("n := 1 + - b", "True", "V9 OperatorType app.e:5:19"),
+    ("make := 1", "True", "V10 NotAssignable app.e:5:10"),
+    ("print := 1", "True", "V10 NotAssignable app.e:5:10"),
+];
+
+/// Checks a source that is refused.
+fn expect_line<R: Abort + AllocGlobal>(rt: &R, text: &str, refusal: &str) -> Result<(), Fail> {
+    let line = format!(in rt.alloc(); "refused {refusal}\n")?;
+    expect(rt, &CHECK, text, refused(line.as_str()))
 }
 
 #[test]
 fn names_the_rule_and_the_place(rt: HostRuntime) -> Result<(), Fail> {
-    let cases = [
-        // Tokens.
-        (
-            "class A feature\n\tn: INTEGER @\nend",
-            "L1 BadCharacter app.e:2:13",
-        ),
-        (
-            "class A feature f do print (\"abc",
-            "L2 UnclosedString app.e:1:29",
-        ),
-        (
-            "class A feature\n\tf do print (\"a%xb\") end\nend",
-            "L3 BadEscape app.e:2:16",
-        ),
-        (
-            "class A feature\n\tn: INTEGER\n\tf do n := 9223372036854775808 end\nend",
-            "L4 IntegerTooLarge app.e:3:12",
-        ),
-        // The grammar. A system that ends too soon is at fault just after its last token.
-        ("class A class", "P1 NotInGrammar app.e:1:9"),
-        ("class A\n\n", "P1 NotInGrammar app.e:1:8"),
-        // Classes and features.
-        (
-            "class A end\nclass B end\nclass a end",
-            "C1 DuplicateClass app.e:3:7",
-        ),
-        (
-            "class A end\n\tclass Integer end",
-            "C1 DuplicateClass app.e:2:8",
-        ),
-        ("class Any end", "C1 DuplicateClass app.e:1:7"),
-        ("class NONE end", "C1 DuplicateClass app.e:1:7"),
-        (
-            "class A end class BOOLEAN end",
-            "C1 DuplicateClass app.e:1:19",
-        ),
-        ("class PRINT end", "C6 NoRoot"),
-        (
-            "class A feature\n\tn: INTEGER\n\tN do end\nend",
-            "C4 DuplicateFeature app.e:3:2",
-        ),
-        (
-            "class A feature\n\tprint: INTEGER\nend",
-            "C4 DuplicateFeature app.e:2:2",
-        ),
-        ("", "C6 NoRoot"),
-        ("class APPLICATION feature make do end end", "C6 NoRoot"),
-        ("class A create make feature make do end end", "C6 NoRoot"),
-        (
-            "class APPLICATION create make feature make: INTEGER end",
-            "C6 NoRoot",
-        ),
-        (
-            "class APPLICATION create make, x feature make do end end",
-            "V1 UnknownName app.e:1:32",
-        ),
-        (
-            "class APPLICATION create make, print feature make do end end",
-            "V1 UnknownName app.e:1:32",
-        ),
-        (
-            "class APPLICATION create make, n feature make do end n: INTEGER end",
-            "V7 ResultType app.e:1:32",
-        ),
-        (
-            "class APPLICATION create make feature make do end n: UNKNOWN end",
-            "V1 UnknownName app.e:1:54",
-        ),
-        (
-            "class APPLICATION create make feature make do end n: NONE end",
-            "V1 UnknownName app.e:1:54",
-        ),
-    ];
-    for (text, wanted) in cases {
-        let line = refusal(&rt, text)?;
-        assert_eq!(rt; line.as_str(), wanted, "for {text}");
+    for (text, refusal) in ROWS {
+        expect_line(&rt, text, refusal)?;
     }
-    Ok(())
-}
-
-#[test]
-fn names_the_rule_and_the_place_in_a_class(rt: HostRuntime) -> Result<(), Fail> {
-    // What stands in `make` behind a tab and `make do `, and what stands in the invariant.
-    let cases = [
-        ("n := m", "True", "V1 UnknownName app.e:5:15"),
-        ("leap", "True", "V1 UnknownName app.e:5:10"),
-        ("print", "True", "V2 WrongArity app.e:5:10"),
-        ("n := b", "True", "V4 AssignType app.e:5:15"),
-        ("n := make", "True", "V7 ResultType app.e:5:15"),
-        ("n := print", "True", "V2 WrongArity app.e:5:15"),
-        ("n", "True", "V7 ResultType app.e:5:10"),
-        ("if n + 1 then end", "True", "V8 NotBoolean app.e:5:13"),
-        ("", "b and n", "V9 OperatorType app.e:6:11"),
-        ("", "n", "V8 NotBoolean app.e:6:11"),
-        ("", "tag: n", "V8 NotBoolean app.e:6:16"),
-        ("", "tag: make", "V7 ResultType app.e:6:16"),
-        (
-            "if b then elseif n then end",
-            "True",
-            "V8 NotBoolean app.e:5:27",
-        ),
-        ("if b then n := x end", "True", "V1 UnknownName app.e:5:25"),
-        (
-            "if b then elseif b then n := x end",
-            "True",
-            "V1 UnknownName app.e:5:39",
-        ),
-        (
-            "if b then else print (x) end",
-            "True",
-            "V1 UnknownName app.e:5:32",
-        ),
-        ("n := 1 + - b", "True", "V9 OperatorType app.e:5:19"),
-        ("make := 1", "True", "V10 NotAssignable app.e:5:10"),
-        ("print := 1", "True", "V10 NotAssignable app.e:5:10"),
-    ];
-    for (body, invariant, wanted) in cases {
+    for (body, invariant, refusal) in IN_CLASS {
         let text = format!(in rt.alloc();
             "class APPLICATION create make\nfeature\n\tn: INTEGER\n\tb: BOOLEAN\n\tmake do {body} end\ninvariant {invariant}\nend\n"
         )?;
-        let line = refusal(&rt, text.as_str())?;
-        assert_eq!(rt; line.as_str(), wanted, "for {body} and {invariant}");
-    }
-    Ok(())
-}
-
-#[test]
-fn answers_the_first_of_several(rt: HostRuntime) -> Result<(), Fail> {
-    let cases = [
-        // The create list, then the features in order, then the invariant.
-        (
-            "class APPLICATION create make, leap\nfeature\n\tmake do x := 1 end\ninvariant y\nend",
-            "V1 UnknownName app.e:1:32",
-        ),
-        (
-            "class APPLICATION create make\nfeature\n\tmake do print (1 + True) x := 1 end\ninvariant y\nend",
-            "V9 OperatorType app.e:3:17",
-        ),
-        (
-            "class APPLICATION create make\nfeature\n\tn: INTEGER\n\tmake do end\n\tf do n := g end\ninvariant y\nend",
-            "V1 UnknownName app.e:5:12",
-        ),
-        // The left side comes before the right, and operands before their operator.
-        (
-            "class APPLICATION create make feature make do make := x end end",
-            "V10 NotAssignable app.e:1:47",
-        ),
-        (
-            "class APPLICATION create make feature make do print (True + x) end end",
-            "V1 UnknownName app.e:1:61",
-        ),
-        (
-            "class APPLICATION create make feature make do if 1 + (x and 2) then end end end",
-            "V1 UnknownName app.e:1:55",
-        ),
-        // Tokens come before the grammar, the grammar before class rules, and these before what stands in a class.
-        ("class A class\n#", "L1 BadCharacter app.e:2:1"),
-        (
-            "class A end class A end class",
-            "P1 NotInGrammar app.e:1:30",
-        ),
-        (
-            "class A feature f do x := 1 end end\nclass A end",
-            "C1 DuplicateClass app.e:2:7",
-        ),
-        (
-            "class A feature f do x := 1 end f do end end",
-            "C4 DuplicateFeature app.e:1:33",
-        ),
-        ("class A feature f do x := 1 end end", "C6 NoRoot"),
-    ];
-    for (text, wanted) in cases {
-        let line = refusal(&rt, text)?;
-        assert_eq!(rt; line.as_str(), wanted, "for {text}");
+        expect_line(&rt, text.as_str(), refusal)?;
     }
     Ok(())
 }
@@ -260,9 +219,7 @@ fn finds_the_file(rt: HostRuntime) -> Result<(), Fail> {
             FakeFile::new("b.e", b),
             FakeFile::new("c.e", c),
         ];
-        let outcome = call(&rt, &words, &files)?;
-        assert_eq!(rt; outcome.out.as_str(), wanted, "for {a}, {b}, {c}");
-        assert_eq!(rt; outcome.status, 1, "for {a}, {b}, {c}");
+        expect_of(&rt, &words, &files, refused(wanted))?;
     }
     Ok(())
 }
@@ -292,8 +249,7 @@ fn bounds_the_source(rt: HostRuntime) -> Result<(), Fail> {
         ];
         let words = ["scoop", "check", "a.e", "b.e"];
         let count = if second.is_some() { 4 } else { 3 };
-        let outcome = call(&rt, &words[..count], &files)?;
-        assert_eq!(rt; outcome.out.as_str(), wanted);
+        expect_of(&rt, &words[..count], &files, refused(wanted))?;
     }
     Ok(())
 }
@@ -308,22 +264,84 @@ fn spaces(alloc: Global, before: &str, count: usize) -> Result<String, AllocErro
     Ok(text)
 }
 
-#[test]
-fn bounds_classes_and_features(rt: HostRuntime) -> Result<(), Fail> {
-    let refused = "refused C7 Limit\n";
-    for (classes, features, wanted) in [(256, 256, "ok\n"), (257, 1, refused), (1, 257, refused)] {
-        let alloc = rt.alloc();
-        let mut text = String::new(alloc);
-        for class in 1..classes {
+/// So many classes and the root class, with so many features besides `make`. In a line each class inherits from the one
+/// after it, and the root class from the first.
+fn system_of_size(
+    alloc: Global,
+    classes: usize,
+    is_line: bool,
+    features: usize,
+) -> Result<String, Fail> {
+    let mut text = String::new(alloc);
+    let parent = if is_line { "inherit C1" } else { "" };
+    writeln!(
+        text,
+        "class APPLICATION {parent} create make feature make do end"
+    )?;
+    for feature in 0..features {
+        writeln!(text, "f{feature}: INTEGER")?;
+    }
+    writeln!(text, "end")?;
+    for class in 1..classes {
+        if is_line {
+            let next = class + 1;
+            writeln!(text, "class C{class} inherit C{next} end")?;
+        } else {
             writeln!(text, "class C{class} end")?;
         }
-        writeln!(text, "class APPLICATION create make feature make do end")?;
-        for feature in 1..features {
-            writeln!(text, "f{feature}: INTEGER")?;
-        }
-        writeln!(text, "end")?;
-        let outcome = call_on(&rt, &CHECK, text.as_str())?;
-        assert_eq!(rt; outcome.out.as_str(), wanted, "for {classes} classes");
+    }
+    writeln!(text, "class C{classes} feature g: INTEGER end")?;
+    Ok(text)
+}
+
+#[test]
+fn bounds_classes_and_features(rt: HostRuntime) -> Result<(), Fail> {
+    let limit = refused("refused C7 Limit\n");
+    let cases = [
+        (255, false, 255, done("ok\n")),
+        (256, false, 0, limit),
+        (1, false, 256, limit),
+        // An inherited feature counts too. What is in a line isn't checked any further yet.
+        (255, true, 254, usage("not yet\n")),
+        (255, true, 255, limit),
+        (256, true, 0, limit),
+    ];
+    for (classes, is_line, features, wanted) in cases {
+        let text = system_of_size(rt.alloc(), classes, is_line, features)?;
+        expect(&rt, &CHECK, text.as_str(), wanted)?;
     }
     Ok(())
+}
+
+#[test]
+fn bounds_routines(rt: HostRuntime) -> Result<(), Fail> {
+    let limit = refused("refused C7 Limit\n");
+    // So many formals, locals and names of a block, beside the two of another block.
+    let cases = [
+        (16, 238, 16, usage("not yet\n")),
+        (17, 1, 1, limit),
+        (1, 239, 16, limit),
+        (1, 1, 17, limit),
+    ];
+    for (formals, locals, heads, wanted) in cases {
+        let alloc = rt.alloc();
+        let formals = names(alloc, "", "a", formals)?;
+        let locals = names(alloc, "", "l", locals)?;
+        let heads = names(alloc, "c as ", "h", heads)?;
+        let text = format!(in alloc;
+            "class APPLICATION create make feature make do end c: separate APPLICATION f ({formals}: INTEGER) local {locals}: INTEGER do separate {heads} do end if attached c as t then separate c as x, c as y do end end end end"
+        )?;
+        expect(&rt, &CHECK, text.as_str(), wanted)?;
+    }
+    Ok(())
+}
+
+/// So many names that begin with a letter, each behind a text, with commas between them.
+fn names(alloc: Global, before: &str, letter: &str, count: usize) -> Result<String, Fail> {
+    let mut text = String::new(alloc);
+    for number in 0..count {
+        let comma = if number == 0 { "" } else { ", " };
+        write!(text, "{comma}{before}{letter}{number}")?;
+    }
+    Ok(text)
 }

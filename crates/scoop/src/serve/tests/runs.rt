@@ -1,6 +1,6 @@
 // Runs of whole systems, and what is reported of them.
 
-use super::call_on;
+use super::{Wanted, done, expect, refused};
 use std::test::Fail;
 
 const COUNTER: &str = "class APPLICATION create make
@@ -67,66 +67,70 @@ fn reports_what_became_of_the_handler(rt: HostRuntime) -> Result<(), Fail> {
         let text = format!(in rt.alloc();
             "class APPLICATION create make\nfeature\n\tn: INTEGER\n\t{routines}\ninvariant n >= 0\nend\n"
         )?;
-        let outcome = call_on(&rt, &RUN, text.as_str())?;
-        let wanted = format!(in rt.alloc(); "handler 0 {report}\nstopped idle\n")?;
-        assert_eq!(rt; outcome.out.as_str(), wanted.as_str(), "for {routines}");
-        assert_eq!(rt; outcome.status, status, "for {routines}");
+        let out = format!(in rt.alloc(); "handler 0 {report}\nstopped idle\n")?;
+        let wanted = Wanted {
+            status,
+            out: out.as_str(),
+            err: "",
+        };
+        expect(&rt, &RUN, text.as_str(), wanted)?;
     }
     Ok(())
 }
 
+/// Two classes with three procedures by which they are made.
+const ROOTS: &str = "class A create f, G feature f do print (1) end g do print (2) end end
+class B create h feature h do print (3) end end
+";
+
 #[test]
-fn stops_where_the_turns_are_used_up(rt: HostRuntime) -> Result<(), Fail> {
+fn takes_turns_and_a_root(rt: HostRuntime) -> Result<(), Fail> {
     let busy = "handler 0 busy refused 0 output 1\n1\nstopped limit\n";
-    let idle = "handler 0 free refused 0 output 1\n1\nstopped idle\n";
-    for (turns, status, report) in [
-        ("4", 4, busy),
-        ("5", 0, idle),
-        ("+6", 0, idle),
-        ("010", 0, idle),
-    ] {
-        let outcome = call_on(&rt, &["scoop", "run", "--turns", turns, "app.e"], COUNTER)?;
-        assert_eq!(rt; outcome.out.as_str(), report, "for {turns} turns");
-        assert_eq!(rt; outcome.status, status, "for {turns} turns");
-    }
-    Ok(())
-}
-
-#[test]
-fn begins_with_the_root_procedure(rt: HostRuntime) -> Result<(), Fail> {
-    let text =
-        "class A create f, G feature f do print (1) end g do print (2) end end\nclass B create h feature h do print (3) end end";
-    for (root, output) in [("A.f", "1"), ("a.g", "2"), ("b.H", "3")] {
-        let outcome = call_on(&rt, &["scoop", "run", "--root", root, "app.e"], text)?;
-        let wanted = format!(in rt.alloc();
-            "handler 0 free refused 0 output 1\n{output}\nstopped idle\n"
-        )?;
-        assert_eq!(rt; outcome.out.as_str(), wanted.as_str(), "for {root}");
+    let one = "handler 0 free refused 0 output 1\n1\nstopped idle\n";
+    let two = "handler 0 free refused 0 output 1\n2\nstopped idle\n";
+    let three = "handler 0 free refused 0 output 1\n3\nstopped idle\n";
+    let cases = [
+        ("--turns", "4", COUNTER, 4, busy),
+        ("--turns", "5", COUNTER, 0, one),
+        ("--turns", "+6", COUNTER, 0, one),
+        ("--turns", "010", COUNTER, 0, one),
+        ("--root", "A.f", ROOTS, 0, one),
+        ("--root", "a.g", ROOTS, 0, two),
+        ("--root", "b.H", ROOTS, 0, three),
+        ("--root", "A.h", ROOTS, 1, "refused C6 NoRoot\n"),
+        ("--root", "any.f", ROOTS, 1, "refused C6 NoRoot\n"),
+    ];
+    for (option, value, text, status, out) in cases {
+        let wanted = Wanted {
+            status,
+            out,
+            err: "",
+        };
+        expect(&rt, &["scoop", "run", option, value, "app.e"], text, wanted)?;
     }
     Ok(())
 }
 
 #[test]
 fn bounds_nesting(rt: HostRuntime) -> Result<(), Fail> {
-    let cases = [
-        (64, "handler 0 free refused 0 output 0\n\nstopped idle\n"),
-        (65, "refused P2 TooDeep app.e:4:79\n"),
-    ];
-    for (count, wanted) in cases {
-        let alloc = rt.alloc();
-        let mut value = String::new(alloc);
-        for _ in 0..count {
-            value.push('(')?;
-        }
-        value.push('1')?;
-        for _ in 0..count {
-            value.push(')')?;
-        }
-        let text = format!(in alloc;
-            "class APPLICATION create make\nfeature\n\tn: INTEGER\n\tmake do n := {value} end\nend\n"
+    let idle = "handler 0 free refused 0 output 0\n\nstopped idle\n";
+    for (count, wanted) in [
+        (64, done(idle)),
+        (65, refused("refused P2 TooDeep app.e:4:79\n")),
+    ] {
+        let mut text = String::from_str(
+            rt.alloc(),
+            "class APPLICATION create make\nfeature\n\tn: INTEGER\n\tmake do n := ",
         )?;
-        let outcome = call_on(&rt, &RUN, text.as_str())?;
-        assert_eq!(rt; outcome.out.as_str(), wanted, "for {count} parentheses");
+        for _ in 0..count {
+            text.push('(')?;
+        }
+        text.push('1')?;
+        for _ in 0..count {
+            text.push(')')?;
+        }
+        text.push_str(" end\nend\n")?;
+        expect(&rt, &RUN, text.as_str(), wanted)?;
     }
     Ok(())
 }

@@ -1,8 +1,0 @@
-use Rattle.std.proofs.Common.{◌≡◌, drop, map}
-use Rattle.sc_tree.specs.View.{class_of}
-use Rattle.scoop.specs.Judging as judging
-use Rattle.scoop.proofs.rules.limits.check_feature_names.Given as goal
-
-abbrev pub invariant-loop-class : goal.invariant-loop-class
-invariant-loop-class l = judging.judge_each judging.judge_feature_names (map class_of l.fn.classes) ≡ judging.judge_each
-    judging.judge_feature_names (map class_of (drop l.class-index l.fn.classes))
