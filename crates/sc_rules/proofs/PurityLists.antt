@@ -1,0 +1,72 @@
+-- Lists of deeds: what stands in a list that is put together.
+use Rattle.std.proofs.Common.{◌≡◌, Bool, true, false, List, [], ◌∷◌, Option, Some, None, Ok, Err, refl, sym, subst}
+use Rattle.std.specs.Prelude.{◌++◌}
+use Rattle.std.specs.List.{flat_map, list_any}
+use Rattle.sc_rules.specs.Names.{RoutineName, Entities}
+use Rattle.sc_rules.specs.Judging.{Judged}
+use Rattle.sc_rules.specs.JudgingPurity.{Deed, acting, leading, acting_if, leading_if_any, where_known, is_acting, Lists, first, later}
+
+pub in_left : {A : Type 0} {x : A} {xs : List A} (ys : List A) → Lists x xs → Lists x (xs ++ ys)
+in_left ys first = first
+in_left ys (later p) = later (in_left ys p)
+
+pub in_right : {A : Type 0} {x : A} (xs : List A) {ys : List A} → Lists x ys → Lists x (xs ++ ys)
+in_right [] p = p
+in_right (x ∷ xs) p = later (in_right xs p)
+
+pub in_either : {A : Type 0} {x : A} {P : Type 0} (xs ys : List A) → Lists x (xs ++ ys) → (Lists x xs → P) → (Lists x ys → P) → P
+in_either [] ys p f g = g p
+in_either (x ∷ xs) ys first f g = f first
+in_either (x ∷ xs) ys (later p) f g = in_either xs ys p (λ q. f (later q)) g
+
+-- what passes a test is acting, and only that is listed
+pub from_acting_if : (P : Deed → Type 0) (b : Bool) → (b ≡ true → P acting) → {d : Deed} → Lists d (acting_if b) → P d
+from_acting_if P true f first = f refl
+from_acting_if P true f (later p) = elim p [ ]
+from_acting_if P false f p = elim p [ ]
+
+pub in_acting_if : (b : Bool) → b ≡ true → Lists acting (acting_if b)
+in_acting_if true e = first
+in_acting_if false e = cc
+
+pub from_leading : (P : Deed → Type 0) (o : Option RoutineName) → ((f : RoutineName) → o ≡ Some f → P (leading f)) → {d : Deed} →
+    Lists d (leading_if_any o) → P d
+from_leading P None f p = elim p [ ]
+from_leading P (Some g) f first = f g refl
+from_leading P (Some g) f (later p) = elim p [ ]
+
+pub in_leading : (o : Option RoutineName) (f : RoutineName) → o ≡ Some f → Lists (leading f) (leading_if_any o)
+in_leading o f e = subst (λ o. Lists (leading f) (leading_if_any o)) (sym e) first
+
+pub from_known : {P : Type 0} {d : Deed} (j : Judged Entities) (f : Entities → List Deed) → Lists d (where_known j f) → ((m : Entities) → j ≡ Ok m →
+    Lists d (f m) → P) → P
+from_known (Ok m) f p g = g m refl p
+from_known (Err e) f p g = elim p [ ]
+
+pub in_known : {d : Deed} (j : Judged Entities) (f : Entities → List Deed) (m : Entities) → j ≡ Ok m → Lists d (f m) → Lists d (where_known j f)
+in_known {d} j f m e p = subst (λ j. Lists d (where_known j f)) (sym e) p
+
+-- one of those that a list gives element by element
+pub data AmongEach {A B : Type 0} (f : A → List B) (y : B) (xs : List A) : Type 0 where
+  among : (x : A) → Lists x xs → Lists y (f x) → AmongEach f y xs
+
+pub in_each : {A B : Type 0} (f : A → List B) {y : B} {x : A} {xs : List A} → Lists x xs → Lists y (f x) → Lists y (flat_map f xs)
+in_each f (first {xs}) q = in_left (flat_map f xs) q
+in_each f (later {y} p) q = in_right (f y) (in_each f p q)
+
+pub from_each : {A B : Type 0} (f : A → List B) {y : B} (xs : List A) → Lists y (flat_map f xs) → AmongEach f y xs
+from_each f [] p = elim p [ ]
+from_each f {y} (x ∷ xs) p = in_either (f x) (flat_map f xs) p (λ q. among x first q) (λ q. later_among (from_each f xs q))
+  where
+    later_among : AmongEach f y xs → AmongEach f y (x ∷ xs)
+    later_among (among z p q) = among z (later p) q
+
+pub acting_listed : (ds : List Deed) → Lists acting ds → list_any is_acting ds ≡ true
+acting_listed [] p = elim p [ ]
+acting_listed (acting ∷ ds) p = refl
+acting_listed (leading f ∷ ds) (later p) = acting_listed ds p
+
+pub listed_acting : (ds : List Deed) → list_any is_acting ds ≡ true → Lists acting ds
+listed_acting [] e = cc
+listed_acting (acting ∷ ds) e = first
+listed_acting (leading f ∷ ds) e = later (listed_acting ds e)

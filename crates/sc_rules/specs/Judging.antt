@@ -1,0 +1,190 @@
+-- Judging an expression, as a function: what is found of it, or the first rule that fails in it, in the order of the walk. Public contracts
+-- don't speak of it.
+use Rattle.std.specs.Prelude.{ℕ, Bool, true, false, not, ◌&&◌, ◌||◌, ◌==◌, if◌then◌else◌, List, [], ◌∷◌, ◌++◌, length, map, Option, Some, None, is_some, Result, Ok, Err}
+use Rattle.std.specs.List.{list_any}
+use Rattle.sc_text.specs.declared.token.Span.{Span}
+use Rattle.sc_tree.specs.Plain as plain
+use Rattle.sc_tree.specs.Plain.{System, Declaration, DeclaredType, Name, Expr, Integer, Boolean, Void, Current, Call, Unary, Binary, ObjectTest, Target, no_target, target, Exprs, no_exprs, expr_then}
+use Rattle.sc_class.specs.Conformance.{type_class}
+use Rattle.sc_proctype.specs.declared.entity_type.EntityType.{EntityType}
+use Rattle.sc_proctype.specs.Conformance.{void, integer, boolean}
+use Rattle.sc_rules.specs.declared.rule.Rule.{Rule}
+use Rattle.sc_rules.specs.declared.rule.Rule.TheVariants.{UnknownName, WrongArity, ArgumentType, TargetDetachable, TargetUncontrolled, ResultType, OperatorType, TagName, ImpureContract, PreconditionArgument, NotExported, ObjectTestPlace, OldPlace, VoidUse}
+use Rattle.sc_rules.specs.declared.fault.Fault.{Fault}
+use Rattle.sc_rules.specs.declared.position.Context.{Context}
+use Rattle.sc_rules.specs.declared.position.Spot.{Spot}
+use Rattle.sc_rules.specs.declared.position.Spot.TheVariants.{Plain, Condition, Source}
+use Rattle.sc_rules.specs.declared.position.Use.{Use}
+use Rattle.sc_rules.specs.declared.position.Use.TheVariants.{Value, Instruction}
+use Rattle.sc_rules.specs.declared.position.Role.TheVariants as role
+use Rattle.sc_rules.specs.Types.{declared_type, is_controlling, unary_result, binary_result}
+use Rattle.sc_rules.specs.Positions.{span_of, is_and_then, is_require, is_condition, takes_void, under, beside, joins}
+use Rattle.sc_rules.specs.Names.{Here, Entities, entity, test_type, FormalType, Meaning, unknown, unresolved, stands, current, meaning_of}
+use Rattle.sc_rules.specs.Typing.{Typing, typing, plainly, is_foreign_type, takes_if_any, is_value, may_call, is_exported_to, old_stands}
+
+abbrev pub Judged : Type 0 → Type 0
+Judged A = Result A Fault
+
+infixl 10 ◌>>=◌
+abbrev pub ◌>>=◌ : {A B : Type 0} → Judged A → (A → Judged B) → Judged B
+(Ok x) >>= f = f x
+(Err e) >>= f = Err e
+
+abbrev pub fault : Rule → Span → Fault
+fault r p = record { rule = r; span = p }
+
+-- the rule fails unless the test holds
+abbrev pub required : Bool → Rule → Span → Judged (Unit {0})
+required true r p = Ok tt
+required false r p = Err (fault r p)
+
+-- each of them, in order
+abbrev pub judge_each : {A : Type 0} → (A → Judged (Unit {0})) → List A → Judged (Unit {0})
+judge_each judge [] = Ok tt
+judge_each judge (x ∷ xs) = judge x >>= λ u. judge_each judge xs
+
+-- ---- types
+
+-- the class of a declared type, then its tag and its mark
+abbrev pub judge_type : System → List Declaration → DeclaredType → Judged (Unit {0})
+judge_type s formals d =
+    required (is_some (type_class s d.class.text)) UnknownName d.class.span >>= λ u. required (is_some (declared_type s formals d)) TagName d.span
+
+abbrev pub judge_tested : Here → Option DeclaredType → Judged (Unit {0})
+judge_tested h None = Ok tt
+judge_tested h (Some d) = judge_type h.system h.formals d
+
+-- ---- calls
+
+-- a target that has a type is attached and controlled
+abbrev pub judge_target : Span → Option EntityType → Judged (Unit {0})
+judge_target p None = Ok tt
+judge_target p (Some t) = required t.attached TargetDetachable p >>= λ u. required (is_controlling t.tag) TargetUncontrolled p
+
+-- an actual: where it stands, and what judging it gives
+abbrev pub Found : Type 0
+Found = Span × Judged Typing
+
+abbrev pub type_found : Judged Typing → Option EntityType
+type_found (Ok t) = t.type
+type_found (Err f) = None
+
+abbrev pub types_found : List Found → List (Option EntityType)
+types_found rs = map (λ (r : Found). type_found r.1) rs
+
+abbrev pub formals_of : Meaning → List FormalType
+formals_of unknown = []
+formals_of unresolved = []
+formals_of (stands g) = g.formals
+
+abbrev pub target_of : Here → Meaning → EntityType
+target_of h unknown = current h
+target_of h unresolved = current h
+target_of h (stands g) = g.target
+
+-- an actual that has a formal
+abbrev pub is_taken : System → EntityType → List (Option EntityType) → List FormalType → Option EntityType → Bool
+is_taken s t ts [] a = true
+is_taken s t ts (f ∷ fs) a = takes_if_any s t ts f a
+
+abbrev pub rest : List FormalType → List FormalType
+rest [] = []
+rest (f ∷ fs) = fs
+
+-- an actual of a separate call in a precondition is no reference
+abbrev pub may_pass : Context → Option EntityType → Option EntityType → Bool
+may_pass c r a = not (is_require c && is_foreign_type r) || is_value a
+
+-- the actuals in order, each with its formal, before the next one; r is the type of the target
+abbrev pub judge_actuals : Here → Context → Option EntityType → EntityType → List (Option EntityType) → List FormalType → List Found → Judged (List Typing)
+judge_actuals h c r t ts fs [] = Ok []
+judge_actuals h c r t ts fs (a ∷ rs) =
+    a.1 >>= λ b.
+    required (is_taken h.system t ts fs b.type) ArgumentType a.0 >>= λ u.
+    required (may_pass c r b.type) PreconditionArgument a.0 >>= λ u.
+    judge_actuals h c r t ts (rest fs) rs >>= λ bs.
+    Ok (b ∷ bs)
+
+-- a query is a value, a procedure an instruction
+abbrev pub judge_use : Use → Option (Option EntityType) → Span → Judged (Option EntityType)
+judge_use Value None p = Err (fault ResultType p)
+judge_use Value (Some t) p = Ok t
+judge_use Instruction None p = Ok None
+judge_use Instruction (Some t) p = Err (fault ResultType p)
+
+-- what is judged at the name, with so many actuals
+abbrev pub judge_name : Here → Context → Use → Target → Meaning → ℕ → Span → Judged (Option EntityType)
+judge_name h c u a unknown k p = Err (fault UnknownName p)
+judge_name h c u a unresolved k p = Ok None
+judge_name h c u a (stands g) k p =
+    required (k == length g.formals) WrongArity p >>= λ w.
+    judge_use u g.gives p >>= λ t.
+    required (may_call h c g.routine) ImpureContract p >>= λ w.
+    required (is_exported_to a g) NotExported p >>= λ w.
+    Ok t
+
+-- the actuals and the name, where this is meant
+abbrev pub judge_meant : Here → Context → Use → Target → Meaning → Span → List Found → Typing → Judged Typing
+judge_meant h c u a m p rs r =
+    judge_actuals h c r.type (target_of h m) (types_found rs) (formals_of m) rs >>= λ ts.
+    judge_name h c u a m (length ts) p >>= λ t.
+    Ok (typing t (r.is_separate || list_any (λ (b : Typing). b.is_separate) ts))
+
+-- what is judged of a call behind its target, of which this was found
+abbrev pub judge_called : Here → Context → Entities → Use → Target → Name → List Found → Typing → Judged Typing
+judge_called h c n u a x rs r = judge_meant h c u a (meaning_of h n a r.type x) x.span rs r
+
+-- ---- operators
+
+-- the result's type, where the operator takes its operands
+abbrev pub operated : Span → Bool → Option (Option EntityType) → Judged Typing
+operated p b None = Err (fault OperatorType p)
+operated p b (Some t) = Ok (typing t b)
+
+abbrev pub judge_result : Span → Option (Option EntityType) → Judged (Option EntityType)
+judge_result p None = Err (fault ResultType p)
+judge_result p (Some t) = Ok t
+
+unfoldable mutual
+  pub judge : Here → Context → Spot → Entities → Expr → Judged Typing
+  judge h c k n (Integer p v) = Ok (plainly integer)
+  judge h c k n (Boolean p v) = Ok (plainly boolean)
+  judge h c k n (Void p) = required (takes_void k) VoidUse p >>= λ u. Ok (plainly void)
+  judge h c k n (Current p) = Ok (plainly (current h))
+  judge h c k n (plain.Result p) = judge_result p h.result >>= λ t. Ok (typing t false)
+  judge h c k n (Call p a x es) = judge_receiver h c n a >>= λ r. judge_called h c n Value a x (found h c n es) r
+  judge h c k n (Unary p op a) =
+      judge h (under op c) Plain n a >>= λ t.
+      required (old_stands c op t) OldPlace p >>= λ u.
+      operated p t.is_separate (unary_result op t.type)
+  judge h c k n (Binary p op a b) =
+      if joins k op
+      then (judge h c Condition n a >>= λ t.
+      judge_given h c n a >>= λ m.
+      judge h c Condition m b >>= λ u.
+      operated p (t.is_separate || u.is_separate) (binary_result op t.type u.type))
+      else (judge h c (beside op) n a >>= λ t.
+      judge h c (beside op) n b >>= λ u.
+      operated p (t.is_separate || u.is_separate) (binary_result op t.type u.type))
+  judge h c k n (ObjectTest p d a x) =
+      judge_tested h d >>= λ u.
+      judge h c Plain n a >>= λ t.
+      required (is_condition k) ObjectTestPlace p >>= λ u.
+      Ok (typing (Some boolean) t.is_separate)
+
+  pub judge_receiver : Here → Context → Entities → Target → Judged Typing
+  judge_receiver h c n no_target = Ok (plainly (current h))
+  judge_receiver h c n (target a) =
+      judge h c Plain n a >>= λ t.
+      judge_target (span_of a) t.type >>= λ u.
+      Ok (typing t.type (t.is_separate || is_foreign_type t.type))
+
+  pub found : Here → Context → Entities → Exprs → List Found
+  found h c n no_exprs = []
+  found h c n (expr_then e es) = (span_of e, judge h c Source n e) ∷ found h c n es
+
+  -- the entities that are known where the condition holds
+  pub judge_given : Here → Context → Entities → Expr → Judged Entities
+  judge_given h c n (ObjectTest p d a x) = judge h c Plain n a >>= λ t. Ok (n ++ entity x.text (test_type h d t.type) role.Test ∷ [])
+  judge_given h c n (Binary p op a b) = if is_and_then op then (judge_given h c n a >>= λ m. judge_given h c m b) else Ok n
+  judge_given h c n e = Ok n

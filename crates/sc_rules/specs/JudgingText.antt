@@ -1,0 +1,113 @@
+-- Judging instructions and clauses, as functions: the first rule that fails, in the order of the walk.
+use Rattle.std.specs.Prelude.{Bool, true, false, not, List, [], ◌∷◌, ◌++◌, Option, Some, None, Ok, Err}
+use Rattle.sc_text.specs.declared.token.Span.{Span}
+use Rattle.sc_tree.specs.Plain.{System, Clause, Head, Name, Variable, Named, ResultVariable, CreationCall, Expr, no_target, Instr, Assign, PrintText, CallRoutine, Create, If, Loop, Check, Block, Instrs, no_instrs, instr_then, Branches, no_branches, branch_then}
+use Rattle.sc_proctype.specs.declared.entity_type.EntityType.{EntityType}
+use Rattle.sc_proctype.specs.Conformance.{conforms}
+use Rattle.sc_rules.specs.declared.rule.Rule.TheVariants.{UnknownName, ArgumentType, AssignType, NotBoolean, NotAssignable, NotCreation, CreationTag}
+use Rattle.sc_rules.specs.declared.position.Context.{Context}
+use Rattle.sc_rules.specs.declared.position.Context.TheVariants as context
+use Rattle.sc_rules.specs.declared.position.Spot.{Spot}
+use Rattle.sc_rules.specs.declared.position.Spot.TheVariants.{Plain, Condition, Source}
+use Rattle.sc_rules.specs.declared.position.Use.TheVariants.{Instruction}
+use Rattle.sc_rules.specs.declared.position.Role.TheVariants as role
+use Rattle.sc_rules.specs.Types.{is_boolean}
+use Rattle.sc_rules.specs.Positions.{span_of}
+use Rattle.sc_rules.specs.Names.{Here, Entities, entity, blocks, block_type, Meaning, unresolved, far, Assigned, no_such, fixed, to_local, to_attribute, assigned, variable_span}
+use Rattle.sc_rules.specs.Typing.{typing}
+use Rattle.sc_rules.specs.TextRules.{is_tagged, is_made_plainly, is_made_by, separate_any}
+use Rattle.sc_rules.specs.Judging.{Judged, ◌>>=◌, fault, required, judge_each, judge_meant, judge_called, judge_result, judge, judge_receiver, found, judge_given}
+
+-- what has a type conforms
+abbrev pub conforms_if_any : System → Option EntityType → Option EntityType → Bool
+conforms_if_any s None t = true
+conforms_if_any s (Some a) None = true
+conforms_if_any s (Some a) (Some t) = conforms s a t
+
+abbrev pub is_boolean_if_any : Option EntityType → Bool
+is_boolean_if_any None = true
+is_boolean_if_any (Some t) = is_boolean t.class
+
+abbrev pub judge_condition : Here → Context → Spot → Entities → Expr → Judged (Unit {0})
+judge_condition h c k n e = judge h c k n e >>= λ t. required (is_boolean_if_any t.type) NotBoolean (span_of e)
+
+abbrev pub judge_clause : Here → Context → Entities → Clause → Judged (Unit {0})
+judge_clause h c n k = judge_condition h c Plain n k.condition
+
+-- the type of what may be assigned
+abbrev pub judge_assigned : Span → Assigned → Judged (Option EntityType)
+judge_assigned p no_such = Err (fault UnknownName p)
+judge_assigned p fixed = Err (fault NotAssignable p)
+judge_assigned p (to_local t) = Ok t
+judge_assigned p (to_attribute t) = Ok t
+
+abbrev pub judge_variable : Here → Entities → Variable → Judged (Option EntityType)
+judge_variable h n (Named x) = judge_assigned x.span (assigned h n (Named x))
+judge_variable h n (ResultVariable p) = judge_result p h.result
+
+abbrev pub is_made_plainly_if_any : System → Option EntityType → Bool
+is_made_plainly_if_any s None = true
+is_made_plainly_if_any s (Some t) = is_made_plainly s t.class
+
+abbrev pub is_made_by_if_any : System → Option EntityType → Name → Bool
+is_made_by_if_any s None x = true
+is_made_by_if_any s (Some t) x = is_made_by s t.class x
+
+abbrev pub is_untagged : Option EntityType → Bool
+is_untagged None = true
+is_untagged (Some t) = not (is_tagged t.tag)
+
+abbrev pub creation_meaning : Here → Option EntityType → Name → Meaning
+creation_meaning h None x = unresolved
+creation_meaning h (Some t) x = far h t x.text
+
+-- the creation of an object for an entity of this type, if it has one
+abbrev pub judge_creation : Here → Entities → Span → Option EntityType → Option CreationCall → Judged (Unit {0})
+judge_creation h n p t None =
+    required (is_made_plainly_if_any h.system t) NotCreation p >>= λ u.
+    required (is_untagged t) CreationTag p
+judge_creation h n p t (Some k) =
+    required (is_untagged t) CreationTag p >>= λ u.
+    judge_meant h context.Body Instruction no_target (creation_meaning h t k.name) k.name.span (found h context.Body n k.actuals) (typing t false) >>= λ u.
+    required (is_made_by_if_any h.system t k.name) NotCreation k.name.span
+
+-- the heads of a block, each where its own names aren't known; the entities that its body knows
+abbrev pub judge_heads : Here → Entities → Entities → List Head → Judged Entities
+judge_heads h n m [] = Ok m
+judge_heads h n m (d ∷ ds) =
+    judge h context.Body Plain n d.value >>= λ t.
+    required (conforms_if_any h.system t.type (Some separate_any)) ArgumentType (span_of d.value) >>= λ u.
+    judge_heads h n (m ++ entity d.name.text (block_type (blocks m) t.type) role.Block ∷ []) ds
+
+unfoldable mutual
+  pub judge_instr : Here → Entities → Instr → Judged (Unit {0})
+  judge_instr h n (Assign p v e) =
+      judge_variable h n v >>= λ t.
+      judge h context.Body Source n e >>= λ a.
+      required (conforms_if_any h.system a.type t) AssignType (span_of e)
+  judge_instr h n (PrintText p x) = Ok tt
+  judge_instr h n (CallRoutine p a x es) =
+      judge_receiver h context.Body n a >>= λ r. judge_called h context.Body n Instruction a x (found h context.Body n es) r >>= λ t. Ok tt
+  judge_instr h n (Create p v k) = judge_variable h n v >>= λ t. judge_creation h n (variable_span v) t k
+  judge_instr h n (If p e body bs other) =
+      judge_condition h context.Body Condition n e >>= λ u.
+      judge_given h context.Body n e >>= λ m.
+      judge_instrs h m body >>= λ u.
+      judge_branches h n bs >>= λ u.
+      judge_instrs h n other
+  judge_instr h n (Loop p initial e body) =
+      judge_instrs h n initial >>= λ u. judge_condition h context.Body Plain n e >>= λ u. judge_instrs h n body
+  judge_instr h n (Check p ks) = judge_each (judge_clause h context.Check n) ks
+  judge_instr h n (Block p ds body) = judge_heads h n n ds >>= λ m. judge_instrs h m body
+
+  pub judge_instrs : Here → Entities → Instrs → Judged (Unit {0})
+  judge_instrs h n no_instrs = Ok tt
+  judge_instrs h n (instr_then i is) = judge_instr h n i >>= λ u. judge_instrs h n is
+
+  pub judge_branches : Here → Entities → Branches → Judged (Unit {0})
+  judge_branches h n no_branches = Ok tt
+  judge_branches h n (branch_then e body bs) =
+      judge_condition h context.Body Condition n e >>= λ u.
+      judge_given h context.Body n e >>= λ m.
+      judge_instrs h m body >>= λ u.
+      judge_branches h n bs

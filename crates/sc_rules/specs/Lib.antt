@@ -1,0 +1,17 @@
+pub mod Types
+pub mod Positions
+pub mod Names
+pub mod Typing
+pub mod Sites
+pub mod Purity
+pub mod CallRules
+pub mod TextRules
+pub mod SystemRules
+pub mod RuleText
+pub mod Judging
+pub mod JudgingText
+pub mod JudgingSystem
+pub mod JudgingPurity
+pub mod Laws
+pub mod SystemLaws
+pub mod InstructionLaws

@@ -1,0 +1,48 @@
+-- The words that a rule is told by.
+use Rattle.std.specs.Prelude.{ℕ, List, codes}
+use Rattle.sc_rules.specs.declared.rule.Rule.{Rule}
+use Rattle.sc_rules.specs.declared.rule.Rule.TheVariants.{UnknownName, WrongArity, ArgumentType, AssignType, TargetDetachable, TargetUncontrolled, ResultType, NotBoolean, OperatorType, NotAssignable, NotCreation, CreationTag, TagName, InvariantForm, ImpureContract, PreconditionArgument, NotExported, ObjectTestPlace, OldPlace, VoidUse}
+
+abbrev pub code_of : Rule → List ℕ
+code_of UnknownName = codes "V1"
+code_of WrongArity = codes "V2"
+code_of ArgumentType = codes "V3"
+code_of AssignType = codes "V4"
+code_of TargetDetachable = codes "V5"
+code_of TargetUncontrolled = codes "V6"
+code_of ResultType = codes "V7"
+code_of NotBoolean = codes "V8"
+code_of OperatorType = codes "V9"
+code_of NotAssignable = codes "V10"
+code_of NotCreation = codes "V11"
+code_of CreationTag = codes "V12"
+code_of TagName = codes "V13"
+code_of InvariantForm = codes "V14"
+code_of ImpureContract = codes "V15"
+code_of PreconditionArgument = codes "V16"
+code_of NotExported = codes "V17"
+code_of ObjectTestPlace = codes "V18"
+code_of OldPlace = codes "V19"
+code_of VoidUse = codes "V20"
+
+abbrev pub name_of : Rule → List ℕ
+name_of UnknownName = codes "UnknownName"
+name_of WrongArity = codes "WrongArity"
+name_of ArgumentType = codes "ArgumentType"
+name_of AssignType = codes "AssignType"
+name_of TargetDetachable = codes "TargetDetachable"
+name_of TargetUncontrolled = codes "TargetUncontrolled"
+name_of ResultType = codes "ResultType"
+name_of NotBoolean = codes "NotBoolean"
+name_of OperatorType = codes "OperatorType"
+name_of NotAssignable = codes "NotAssignable"
+name_of NotCreation = codes "NotCreation"
+name_of CreationTag = codes "CreationTag"
+name_of TagName = codes "TagName"
+name_of InvariantForm = codes "InvariantForm"
+name_of ImpureContract = codes "ImpureContract"
+name_of PreconditionArgument = codes "PreconditionArgument"
+name_of NotExported = codes "NotExported"
+name_of ObjectTestPlace = codes "ObjectTestPlace"
+name_of OldPlace = codes "OldPlace"
+name_of VoidUse = codes "VoidUse"

@@ -1,0 +1,51 @@
+//! Where an expression stands, and what a name stands for.
+
+/// The part of a class's text in which an expression stands.
+#[derive(Clone, Copy, Debug, PartialEq, Eq)]
+pub enum Context {
+    /// A routine's body.
+    Body,
+    /// A precondition.
+    Require,
+    /// A postcondition.
+    Ensure,
+    /// A clause of a `check`.
+    Check,
+    /// A clause of a class's invariant.
+    Invariant,
+    /// The operand of `old`.
+    Old,
+}
+
+/// What an expression is used as, where that matters.
+#[derive(Clone, Copy, Debug, PartialEq, Eq)]
+pub enum Spot {
+    /// Nothing special: neither of the others.
+    Plain,
+    /// The condition of an `if` or `elseif`, or an operand of the `and then`s at its top: an object test may stand there.
+    Condition,
+    /// A right side, an actual, or an operand of `=` or `/=`: `Void` may stand there.
+    Source,
+}
+
+/// What a call is used as.
+#[derive(Clone, Copy, Debug, PartialEq, Eq)]
+pub enum Use {
+    /// As an expression.
+    Value,
+    /// As an instruction.
+    Instruction,
+}
+
+/// What a name of a routine is.
+#[derive(Clone, Copy, Debug, PartialEq, Eq)]
+pub enum Role {
+    /// A formal argument.
+    Formal,
+    /// A local.
+    Local,
+    /// The name of an object test.
+    Test,
+    /// A name of a separate block.
+    Block,
+}
