@@ -115,7 +115,7 @@ fn answers_of_tables(rt: HostRuntime) -> Result<(), Fail> {
     heir.features.push(procedure(alloc, "f")?)?;
     let classes = vec![in alloc; first, heir]?;
     let system = System { classes };
-    let tables = tables(alloc, &system, &root).ok().ok_or("refused")?;
+    let tables = tables(alloc, &system, &root)?;
     let told = are_of_two(&tables) && has_both(alloc, &tables)?;
     assert!(&rt; told);
     Ok(())

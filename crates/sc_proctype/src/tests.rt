@@ -195,7 +195,7 @@ fn types_conform(tables: &Tables) -> bool {
 fn types(rt: HostRuntime) -> Result<(), Fail> {
     let alloc = rt.alloc();
     let system = three_classes(alloc)?;
-    let tables = tables(alloc, &system, &root(alloc)?).ok().ok_or("refused")?;
+    let tables = tables(alloc, &system, &root(alloc)?)?;
     let told = classes_conform(&tables) && expanded_conform(&tables) && types_conform(&tables);
     assert!(rt; told);
     Ok(())
