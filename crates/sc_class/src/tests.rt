@@ -84,8 +84,8 @@ fn fault_of(alloc: Global, count: usize) -> Result<Option<ClassFault>, AllocErro
 #[test]
 fn limits_classes(rt: HostRuntime) -> Result<(), Fail> {
     let alloc = rt.alloc();
-    let faults = (fault_of(alloc, 256)?, fault_of(alloc, 257)?);
-    assert!(&rt; faults == (None, Some(ClassFault::Limit)));
+    assert_eq!(rt; fault_of(alloc, 256)?, None);
+    assert_eq!(rt; fault_of(alloc, 257)?, Some(ClassFault::Limit));
     Ok(())
 }
 
