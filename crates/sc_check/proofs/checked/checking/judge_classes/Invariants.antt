@@ -1,0 +1,11 @@
+use Rattle.std.proofs.Common.{◌≡◌, drop, map}
+use Rattle.sc_tree.specs.View.{class_of}
+use Rattle.sc_rules.specs.JudgingSystem.{judge_classes, judge_system}
+use Rattle.sc_check.specs.SystemIn.{system_in}
+use Rattle.sc_check.specs.Marks.{is_marked}
+use Rattle.sc_check.proofs.checked.checking.judge_classes.Given as goal
+
+abbrev pub invariant-loop-class : goal.invariant-loop-class
+invariant-loop-class l =
+    judge_system (system_in l.tables) (is_marked l.purity)
+    ≡ judge_classes (system_in l.tables) (is_marked l.purity) l.class (map class_of (drop l.class l.classes))

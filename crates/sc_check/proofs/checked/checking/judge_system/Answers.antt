@@ -1,0 +1,19 @@
+use Rattle.std.proofs.lemmas.Result.{err_from_is_err_and}
+use Rattle.sc_check.specs.Marks.{is_marked}
+use Rattle.sc_check.specs.SystemIn.{system_in}
+use Rattle.sc_check.proofs.Checking.{passed, refused, memory_is_true}
+use Rattle.sc_check.proofs.checked.checking.judge_system.Goals as goal
+
+-- the search for pure functions fails for want of memory alone
+pub returns-in_err-purity-clause-refused : goal.returns-in_err-purity-clause-refused
+returns-in_err-purity-clause-refused c =
+    let q = err_from_is_err_and c.from_residual.result c.from_residual.ensures.1 in
+    rw (q.1, q.2) (memory_is_true (system_in c.args.tables.now) _ c.in_err-purity.ensures.memory)
+
+pub returns-clause-accepted : goal.returns-clause-accepted
+returns-clause-accepted c =
+    passed (system_in c.args.tables.now) (is_marked c.in_ok-purity.purity) c.judge_classes.result c.in_ok-purity.ensures.pure c.judge_classes.ensures
+
+pub returns-clause-refused : goal.returns-clause-refused
+returns-clause-refused c =
+    refused (system_in c.args.tables.now) (is_marked c.in_ok-purity.purity) c.judge_classes.result c.in_ok-purity.ensures.pure c.judge_classes.ensures
