@@ -1,19 +1,16 @@
 -- Calls in the tree in memory, and in the plain tree.
 use Rattle.std.proofs.Common.{◌≡◌, ◌<◌, ℕ, suc, Bool, true, false, List, [], ◌∷◌, length, Option, Some, None, refl, ap, subst, ◌∙◌, arith}
-use Rattle.std.specs.Prelude.{◌==◌, ◌&&◌}
+use Rattle.std.specs.Prelude.{◌==◌}
 use Rattle.std.specs.Option.{is_none}
 use Rattle.std.specs.declared.boxed.Box.{Box}
 use Rattle.std.specs.declared.alloc.Global.{Global}
 use Rattle.sc_tree.specs.declared.expression.Expr.{Expr}
 use Rattle.sc_tree.specs.declared.expression.Expr.TheVariants as expr
 use Rattle.sc_tree.specs.declared.expression.Call.{Call}
-use Rattle.sc_tree.specs.Plain.{Class, Name}
-use Rattle.sc_tree.specs.View.{name_of, expr_of, target_of, exprs_of}
+use Rattle.sc_tree.specs.Plain.{Name}
+use Rattle.sc_tree.specs.View.{expr_of, target_of, exprs_of}
 use Rattle.sc_tree.proofs.ViewLemmas.{expr_of-call}
-use Rattle.scoop.specs.Typing.{is_name, printed, meaning_of}
-use Rattle.scoop.specs.Rules.{is_attribute, is_formula}
-use Rattle.scoop.specs.Judging.{judge_value, judge_expr}
-use Rattle.scoop.specs.NotYet.{is_known_expr}
+use Rattle.scoop.specs.NotYet.{is_name, printed, is_known_expr}
 
 some_left : (n : ℕ) → (suc n == 0) ≡ false
 some_left n = grind arith
@@ -45,15 +42,6 @@ module _ (t : Option (Box Expr Global)) (n : Name) (xs es : List Expr) (q : xs �
   several_printed l = several_printed_of t n es (subst (λ (es : List Expr). 1 < length es) q l)
 
 module _ (e : Expr) (k : Call) (q : e ≡ expr.Call k) where
-  pub judge_expr-call : (c : Class) → judge_expr c (expr_of e) ≡ judge_value c (target_of k.target) (name_of k.name) (exprs_of k.actuals.items)
-  unfolding judge_expr
-  judge_expr-call c = ap (λ (e : Expr). judge_expr c (expr_of e)) q ∙ ap (judge_expr c) (expr_of-call k)
-
-  pub is_formula-call : (c : Class) →
-      is_formula c (expr_of e) ≡ (is_name (target_of k.target) (exprs_of k.actuals.items) && is_attribute (meaning_of c (name_of k.name).text))
-  unfolding is_formula
-  is_formula-call c = ap (λ (e : Expr). is_formula c (expr_of e)) q ∙ ap (is_formula c) (expr_of-call k)
-
   pub is_known_expr-call : is_known_expr (expr_of e) ≡ is_name (target_of k.target) (exprs_of k.actuals.items)
   unfolding is_known_expr
   is_known_expr-call = ap (λ (e : Expr). is_known_expr (expr_of e)) q ∙ ap is_known_expr (expr_of-call k)

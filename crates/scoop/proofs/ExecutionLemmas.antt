@@ -15,11 +15,15 @@ use Rattle.sc_parse.specs.declared.fault.ParseFault.TheVariants as parsing
 use Rattle.sc_class.specs.declared.fault.ClassFault.{ClassFault}
 use Rattle.sc_class.specs.declared.fault.ClassFault.TheVariants as classes
 use Rattle.sc_class.specs.ClassNames.{Root}
-use Rattle.sc_class.specs.ClassRules.{Fails, duplicate_class, unknown_parent, cycle, duplicate_feature, bad_redefinition, no_root, limit, left_out}
+use Rattle.sc_class.specs.ClassRules.{Fails, IsFaultless, duplicate_class, unknown_parent, cycle, duplicate_feature, bad_redefinition, no_root, limit, left_out}
+use Rattle.sc_rules.specs.SystemRules.{SystemFails}
+use Rattle.sc_check.specs.declared.fault.CheckFault.{CheckFault}
+use Rattle.sc_check.specs.declared.fault.CheckFault.TheVariants as checking
+use Rattle.sc_check.specs.CheckFaults.{IsTrueOf}
 use Rattle.scoop.specs.declared.refusal.Rejection.{Rejection}
 use Rattle.scoop.specs.declared.refusal.Rejection.TheVariants as rejection
-use Rattle.scoop.specs.Refusal.{of_tokens, of_classes}
-use Rattle.scoop.specs.Execution.{kinds, IsSpelled, IsSound, IsAtFault, IsRefusedFor, IsUnreadable}
+use Rattle.scoop.specs.Refusal.{of_tokens, of_classes, of_system}
+use Rattle.scoop.specs.Execution.{kinds, IsSpelled, IsSound, IsAtFault, IsRefusedFor, IsNotRunFor, IsUnreadable}
 
 -- the kinds of tokens, with their places or without
 pub kinds-lexemes_of : (ts : List Token) → kinds (lexemes_of ts) ≡ kinds_of ts
@@ -53,8 +57,8 @@ pub unreadable-refused : (text : List ℕ) (root : Root) (e : Rejection) → IsU
 unreadable-refused text root (rejection.Text fault) is = is
 unreadable-refused text root (rejection.Grammar fault) is = is
 unreadable-refused text root (rejection.Classes fault) is = absurd is
-unreadable-refused text root rejection.NotYet is = absurd is
 unreadable-refused text root (rejection.Rules fault) is = absurd is
+unreadable-refused text root rejection.NotYet is = absurd is
 unreadable-refused text root rejection.OutOfMemory is = is
 
 -- what is at fault in the system that it spells is a refusal of the text
@@ -63,18 +67,34 @@ pub fault-refused : (text : List ℕ) (root : Root) (s : System) → IsSpelled t
 fault-refused text root s is (rejection.Text fault) at = absurd at
 fault-refused text root s is (rejection.Grammar fault) at = absurd at
 fault-refused text root s is (rejection.Classes fault) at = record { system = s; spelled = is; fault = at }
-fault-refused text root s is rejection.NotYet at = record { system = s; spelled = is; fault = at }
 fault-refused text root s is (rejection.Rules fault) at = record { system = s; spelled = is; fault = at }
+fault-refused text root s is rejection.NotYet at = absurd at
 fault-refused text root s is rejection.OutOfMemory at = tt
+
+-- what is refused isn't run
+pub refused-not_run : (text : List ℕ) (root : Root) (e : Rejection) → IsRefusedFor text root e → IsNotRunFor text root e
+refused-not_run text root (rejection.Text fault) is = is
+refused-not_run text root (rejection.Grammar fault) is = is
+refused-not_run text root (rejection.Classes fault) is = is
+refused-not_run text root (rejection.Rules fault) is = is
+refused-not_run text root rejection.NotYet is = absurd is
+refused-not_run text root rejection.OutOfMemory is = is
 
 -- in a sound system nothing is at fault
 pub sound-in_memory : (s : System) (root : Root) → IsSound s root → (e : Rejection) → IsAtFault s root e → e ≡ rejection.OutOfMemory
 sound-in_memory s root sound (rejection.Text fault) at = absurd at
 sound-in_memory s root sound (rejection.Grammar fault) at = absurd at
 sound-in_memory s root sound (rejection.Classes fault) at = absurd (sound.faultless fault at)
-sound-in_memory s root sound rejection.NotYet at = let known = sound.supported in let unknown = at.not_yet in cc
-sound-in_memory s root sound (rejection.Rules fault) at = absurd (sound.well_formed fault.rule fault.place at.fails)
+sound-in_memory s root sound (rejection.Rules fault) at = absurd (sound.well_formed fault.rule fault.span at.fails)
+sound-in_memory s root sound rejection.NotYet at = absurd at
 sound-in_memory s root sound rejection.OutOfMemory at = refl
+
+-- a rule that fails in a system of tables, which is this one, as a rejection
+pub check-fault : (s : System) (root : Root) → IsFaultless s root → (t : System) → t ≡ s → (f : CheckFault) → IsTrueOf t f →
+    IsAtFault s root (of_system f)
+check-fault s root faultless t same (checking.Refused fault) fails =
+    record { faultless = faultless; fails = subst (λ (t : System). SystemFails t fault.rule fault.span) same fails }
+check-fault s root faultless t same checking.OutOfMemory fails = tt
 
 -- a class fault, as a rejection
 pub class-fault : (s : System) (root : Root) (f : ClassFault) → (f ≡ classes.OutOfMemory) ⊎ Fails s root f → IsAtFault s root (of_classes f)

@@ -4,11 +4,10 @@ use Rattle.std.specs.Prelude.{find, is_some, map, bytes_eq, string_bytes}
 use Rattle.std.specs.Option.{option_map, option_copied}
 use Rattle.std.specs.Borrow.{Bor}
 use Rattle.sc_tree.specs.declared.expression.Name.{Name}
-use Rattle.sc_tree.specs.declared.system.Feature.{Feature}
 use Rattle.sc_tree.specs.declared.system.Class.{Class}
-use Rattle.sc_tree.specs.View.{name_of, feature_of, class_of}
+use Rattle.sc_tree.specs.View.{name_of, class_of}
 use Rattle.sc_class.specs.Names.{is_listed}
-use Rattle.sc_model.specs.Lookup.{class_named, feature_named}
+use Rattle.sc_model.specs.Lookup.{class_named}
 
 choose : {A B : Type 0} (f : A → B) (x : A) (b : Bool) (o : Option B) (q : Option A) → o ≡ option_map f q →
     cond b (Some (f x)) o ≡ option_map f (cond b (Some x) q)
@@ -19,11 +18,6 @@ choose f x false o q e = e
 pub find-map : {A B : Type 0} (f : A → B) (p : B → Bool) (xs : List A) → find p (map f xs) ≡ option_map f (find (λ x. p (f x)) xs)
 find-map f p [] = refl
 find-map f p (x ∷ xs) = choose f x (p (f x)) (find p (map f xs)) (find (λ x. p (f x)) xs) (find-map f p xs)
-
-pub feature_found : (name : List ℕ) (fs : List Feature) (o : Option Feature) →
-    o ≡ find (λ f. bytes_eq (string_bytes f.name.text) name) fs → option_map feature_of o ≡ feature_named name (map feature_of fs)
-unfolding feature_of
-feature_found name fs o e = ap (option_map feature_of) e ∙ sym (find-map feature_of (λ f. bytes_eq f.name.text name) fs)
 
 pub class_found : (name : List ℕ) (cs : List Class) (o : Option Class) →
     o ≡ find (λ c. bytes_eq (string_bytes c.name.text) name) cs → option_map class_of o ≡ class_named name (map class_of cs)

@@ -1,6 +1,8 @@
 -- What is known of the language, part by part, as the code goes through it.
-use Rattle.std.proofs.Common.{◌≡◌, ◌<◌, ◌≤◌, ◌+◌, ℕ, Bool, true, false, List, length, drop, refl, ap, sym, ◌∙◌}
+use Rattle.std.proofs.Common.{◌≡◌, ◌<◌, ◌≤◌, ◌+◌, ℕ, Bool, true, false, List, [], ◌∷◌, length, drop, refl, ap, sym, ◌∙◌, arith}
 use Rattle.std.proofs.Math.ListN.{get_or}
+use Rattle.std.proofs.lemmas.List.{drop_more}
+use Rattle.std.proofs.lemmas.Grind.{common_steps}
 use Rattle.std.proofs.lemmas.List.Folds.{list_all-map}
 use Rattle.std.specs.Prelude.{◌&&◌, not, map}
 use Rattle.std.specs.List.{list_all}
@@ -18,7 +20,15 @@ use Rattle.sc_tree.specs.Plain as plain
 use Rattle.sc_tree.specs.View.{expr_of, instr_of, instrs_of, branches_of, clause_of, feature_of, class_of}
 use Rattle.sc_tree.proofs.ViewLemmas.{instr_of-if}
 use Rattle.scoop.specs.NotYet.{is_known_expr, is_known_instr, is_known_instrs, is_known_branches, is_known_clause, is_known_feature, is_known_class, is_not_yet}
-use Rattle.scoop.proofs.Steps.{drop_end, at}
+
+-- ---- lists, from the element at an index on
+
+drop_end : {A : Type 0} (xs : List A) (k : ℕ) → length xs ≤ k → drop k xs ≡ []
+drop_end xs k l = grind (arith, common_steps)
+
+-- at the element x of xs, whose index is k
+at : {A : Type 0} (xs : List A) (k : ℕ) (x : A) → k < length xs → x ≡ get_or xs k x → drop k xs ≡ x ∷ drop (k + 1) xs
+at xs k x l g = drop_more xs k x l ∙ ap (λ y. y ∷ drop (k + 1) xs) (sym g)
 
 -- ---- instructions, from the one at an index on
 

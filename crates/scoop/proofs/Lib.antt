@@ -1,15 +1,9 @@
 pub mod Calls
-pub mod Complete
 pub mod ExecutionLemmas
 pub mod FileLemmas
-pub mod Forms
 pub mod Found
 pub mod Known
-pub mod Laws
 pub mod PlayLemmas
-pub mod Refusals
 pub mod RootClass
 pub mod RootLemmas
-pub mod Sound
 pub mod SourceLemmas
-pub mod Steps

@@ -17,9 +17,9 @@ use Rattle.sc_model.specs.declared.status.Status.{Status}
 use Rattle.sc_model.specs.Lookup as lookup
 use Rattle.sc_model.specs.World.{World, opening, run, has_turn_at}
 use Rattle.sc_model.specs.Report.{report, status_of}
-use Rattle.scoop.specs.declared.rules.rule.Rule.{Rule}
+use Rattle.sc_rules.specs.declared.rule.Rule.{Rule}
+use Rattle.sc_rules.specs.SystemRules.{SystemFails, WellFormed}
 use Rattle.scoop.specs.NotYet.{is_not_yet}
-use Rattle.scoop.specs.Rules.{Fails, IsWellFormed}
 use Rattle.scoop.specs.declared.refusal.Rejection.{Rejection}
 use Rattle.scoop.specs.declared.refusal.Rejection.TheVariants as rejection
 
@@ -37,11 +37,15 @@ pub record IsSpelled (text : List ℕ) (tree : System) : Type 0 where
   pub shallow : nesting ≤ 64
   pub grammar : IsSystem tree (kinds tokens) nesting
 
--- No class fault is in the system, which is run from this root; it uses only what is checked and run, and no rule fails in it.
+-- No class fault is in the system, which is run from this root, and no rule fails in it.
 pub record IsSound (system : System) (root : Root) : Type 0 where
   pub faultless : IsFaultless system root
+  pub well_formed : WellFormed system
+
+-- The system is sound, and uses only what is run.
+pub record IsRunnable (system : System) (root : Root) : Type 0 where
+  pub sound : IsSound system root
   pub supported : is_not_yet system ≡ false
-  pub well_formed : IsWellFormed system
 
 -- The text spells a system that is sound.
 pub record IsAccepted (text : List ℕ) (root : Root) : Type 0 where
@@ -54,6 +58,12 @@ pub record MustBeAccepted (text : List ℕ) (root : Root) : Type 0 where
   pub tree : System
   pub spelled : IsSpelled text tree
   pub sound : (system : System) → bare_system system ≡ tree → IsSound system root
+
+-- The same, and it uses only what is run.
+pub record MustBeRun (text : List ℕ) (root : Root) : Type 0 where
+  pub tree : System
+  pub spelled : IsSpelled text tree
+  pub runnable : (system : System) → bare_system system ≡ tree → IsRunnable system root
 
 -- ---- refusals
 
@@ -68,27 +78,21 @@ abbrev pub IsUnreadable : List ℕ → Rejection → Type 0
 IsUnreadable text (rejection.Text fault) = IsRefused text fault
 IsUnreadable text (rejection.Grammar fault) = IsNoSystem text fault
 IsUnreadable text (rejection.Classes fault) = ⊥
-IsUnreadable text rejection.NotYet = ⊥
 IsUnreadable text (rejection.Rules fault) = ⊥
+IsUnreadable text rejection.NotYet = ⊥
 IsUnreadable text rejection.OutOfMemory = Unit {0}
 
--- The system has no class fault, and uses what is neither checked nor run yet.
-pub record IsNotYet (system : System) (root : Root) : Type 0 where
-  pub faultless : IsFaultless system root
-  pub not_yet : is_not_yet system ≡ true
-
--- The system has no class fault and uses only what is checked and run, and the rule fails in it at the place.
+-- The system has no class fault, and the rule fails in it at the place.
 pub record HasFailing (system : System) (root : Root) (rule : Rule) (place : Span) : Type 0 where
   pub faultless : IsFaultless system root
-  pub supported : is_not_yet system ≡ false
-  pub fails : Fails system rule place
+  pub fails : SystemFails system rule place
 
 -- What the rejection says is at fault in the system, or memory ran out.
 abbrev pub IsAtFault : System → Root → Rejection → Type 0
 IsAtFault system root (rejection.Classes fault) = class_rules.Fails system root fault
-IsAtFault system root rejection.NotYet = IsNotYet system root
-IsAtFault system root (rejection.Rules fault) = HasFailing system root fault.rule fault.place
+IsAtFault system root (rejection.Rules fault) = HasFailing system root fault.rule fault.span
 IsAtFault system root rejection.OutOfMemory = Unit {0}
+IsAtFault system root rejection.NotYet = ⊥
 IsAtFault system root (rejection.Text fault) = ⊥
 IsAtFault system root (rejection.Grammar fault) = ⊥
 
@@ -103,9 +107,25 @@ abbrev pub IsRefusedFor : List ℕ → Root → Rejection → Type 0
 IsRefusedFor text root (rejection.Text fault) = IsRefused text fault
 IsRefusedFor text root (rejection.Grammar fault) = IsNoSystem text fault
 IsRefusedFor text root (rejection.Classes fault) = HasFault text root (rejection.Classes fault)
-IsRefusedFor text root rejection.NotYet = HasFault text root rejection.NotYet
 IsRefusedFor text root (rejection.Rules fault) = HasFault text root (rejection.Rules fault)
 IsRefusedFor text root rejection.OutOfMemory = Unit {0}
+IsRefusedFor text root rejection.NotYet = ⊥
+
+-- The text spells a system that is sound, and uses what isn't run yet.
+pub record IsNotYet (text : List ℕ) (root : Root) : Type 0 where
+  pub system : System
+  pub spelled : IsSpelled text (bare_system system)
+  pub sound : IsSound system root
+  pub not_yet : is_not_yet system ≡ true
+
+-- What keeps the system of the text from being run is true of it.
+abbrev pub IsNotRunFor : List ℕ → Root → Rejection → Type 0
+IsNotRunFor text root (rejection.Text fault) = IsRefused text fault
+IsNotRunFor text root (rejection.Grammar fault) = IsNoSystem text fault
+IsNotRunFor text root (rejection.Classes fault) = HasFault text root (rejection.Classes fault)
+IsNotRunFor text root (rejection.Rules fault) = HasFault text root (rejection.Rules fault)
+IsNotRunFor text root rejection.NotYet = IsNotYet text root
+IsNotRunFor text root rejection.OutOfMemory = Unit {0}
 
 -- ---- runs
 
@@ -126,11 +146,11 @@ pub record IsRun (system : System) (root : lookup.Root) (limit : ℕ) (text : Li
   pub report_is : text ≡ report (world_after system root turns)
   pub status_is : status ≡ option_map status_of (slice_get (world_after system root turns) 0)
 
--- The text spells a system that is sound, and the report and the status are those of its run.
+-- The text spells a system that is sound and uses only what is run, and the report and the status are those of its run.
 pub record IsRunOf (text : List ℕ) (root : Root) (limit : ℕ) (output : List ℕ) (status : Option Status) : Type 0 where
   pub system : System
   pub spelled : IsSpelled text (bare_system system)
-  pub sound : IsSound system root
+  pub runnable : IsRunnable system root
   pub is_run : IsRun system (run_root root) limit output status
 
 -- ---- canonical text

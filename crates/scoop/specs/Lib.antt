@@ -1,11 +1,6 @@
 pub mod Answer
 pub mod Execution
-pub mod Judging
 pub mod NotYet
 pub mod Refusal
 pub mod RootOption
-pub mod RuleLaws
-pub mod RuleText
-pub mod Rules
 pub mod Source
-pub mod Typing

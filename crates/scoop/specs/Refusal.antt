@@ -6,11 +6,13 @@ use Rattle.sc_parse.specs.declared.fault.ParseFault.{ParseFault}
 use Rattle.sc_parse.specs.declared.fault.ParseFault.TheVariants as parsing
 use Rattle.sc_class.specs.declared.fault.ClassFault.{ClassFault}
 use Rattle.sc_class.specs.declared.fault.ClassFault.TheVariants as classes
-use Rattle.scoop.specs.declared.rules.fault.CheckFault.{CheckFault}
+use Rattle.sc_rules.specs.declared.fault.Fault.{Fault}
+use Rattle.sc_rules.specs.RuleText.{code_of, name_of}
+use Rattle.sc_check.specs.declared.fault.CheckFault.{CheckFault}
+use Rattle.sc_check.specs.declared.fault.CheckFault.TheVariants as checking
 use Rattle.scoop.specs.declared.refusal.Refusal.{Refusal}
 use Rattle.scoop.specs.declared.refusal.Rejection.{Rejection}
 use Rattle.scoop.specs.declared.refusal.Rejection.TheVariants as rejection
-use Rattle.scoop.specs.RuleText.{code_of, name_of}
 use Rattle.scoop.specs.Source.{Place, line_feed}
 
 -- ` FILE:LINE:COLUMN`, or nothing where there is no place
@@ -59,10 +61,10 @@ told_of_classes (classes.LeftOut what place) = Some (record { code = codes "C8";
 told_of_classes classes.OutOfMemory = None
 
 -- which rule fails in a system
-abbrev pub told_of_system : CheckFault → Told
-told_of_system fault = record { code = code_of fault.rule; name = name_of fault.rule; offset = Some fault.place.start }
+abbrev pub told_of_system : Fault → Told
+told_of_system fault = record { code = code_of fault.rule; name = name_of fault.rule; offset = Some fault.span.start }
 
--- Want of memory is no refusal, nor is what isn't checked yet.
+-- Want of memory is no refusal, nor is what isn't run yet.
 abbrev pub told : Rejection → Option Told
 told (rejection.Text fault) = told_of_text fault
 told (rejection.Grammar fault) = told_of_tokens fault
@@ -77,7 +79,8 @@ abbrev pub out_of_memory : Rejection
 out_of_memory = rejection.OutOfMemory
 
 abbrev pub of_system : CheckFault → Rejection
-of_system fault = rejection.Rules fault
+of_system (checking.Refused fault) = rejection.Rules fault
+of_system checking.OutOfMemory = rejection.OutOfMemory
 
 abbrev pub of_text : LexFault → Rejection
 of_text lexing.OutOfMemory = rejection.OutOfMemory

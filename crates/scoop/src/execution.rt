@@ -7,12 +7,14 @@ ghost use Rattle.sc_tree.specs.View.{system_of};
 ghost use Rattle.sc_tree.specs.Canonical.{canonical_text};
 ghost use Rattle.sc_class.specs.ClassRules.{IsFaultless};
 ghost use Rattle.sc_class.specs.Entries.{root_of};
-ghost use Rattle.scoop.specs.Execution.{IsAccepted, IsAtFault, IsPrinted, IsRefusedFor, IsRun, IsRunOf, IsSound, IsSpelled, IsUnreadable, MustBeAccepted, run_root};
+ghost use Rattle.sc_check.specs.SystemIn.{system_in};
+ghost use Rattle.sc_check.specs.CheckedTables.{tables_of};
+ghost use Rattle.scoop.specs.Execution.{IsAccepted, IsAtFault, IsNotRunFor, IsPrinted, IsRefusedFor, IsRun, IsRunOf, IsSound, IsSpelled, IsUnreadable, MustBeAccepted, MustBeRun, run_root};
 
+use crate::not_yet::not_yet;
 use crate::refusal::Rejection;
 use crate::root::start_of;
-use crate::rules::not_yet::not_yet;
-use crate::rules::{self};
+use sc_check::{Checked, check};
 use sc_class::{Root, tables};
 use sc_model::Status;
 use sc_parse::parse;
@@ -43,11 +45,14 @@ pub fn check_text(alloc: Global, text: &str, root: &Root) -> Result<(), Rejectio
 pub fn run_text(alloc: Global, text: &str, root: &Root, turns: u32) -> Result<Outcome, Rejection>
     ensures ok { IfOk result (λ outcome.
         IsRunOf text.now (root_of root.now) turns outcome.report.items outcome.status) }
-    ensures refused { IfErr result (IsRefusedFor text.now (root_of root.now)) }
-    ensures complete { MustBeAccepted text.now (root_of root.now) → IfErr result (λ e. e ≡ Rejection.OutOfMemory) }
+    ensures refused { IfErr result (IsNotRunFor text.now (root_of root.now)) }
+    ensures complete { MustBeRun text.now (root_of root.now) → IfErr result (λ e. e ≡ Rejection.OutOfMemory) }
 {
     let system = read(alloc, text)?;
-    judge(alloc, &system, root)?;
+    let checked = judge(alloc, &system, root)?;
+    if not_yet(checked.tables()) {
+        return Err(Rejection::NotYet);
+    }
     Ok(play(alloc, &system, root, turns)?)
 }
 
@@ -73,18 +78,14 @@ fn read(alloc: Global, text: &str) -> Result<System, Rejection>
     Ok(parse(alloc, tokens.as_slice())?)
 }
 
-/// Whether the system is sound; else what is at fault: its classes first, then what isn't checked or run yet, then what
-/// stands in a class.
-fn judge(alloc: Global, system: &System, root: &Root) -> Result<(), Rejection>
+/// The system, where it is sound; else what is at fault: its classes first, then what stands in a class.
+fn judge<'s>(alloc: Global, system: &'s System, root: &Root) -> Result<Checked<'s>, Rejection>
     ensures sound { OnOk result (IsSound (system_of system.now) (root_of root.now)) }
+    ensures of_it { IfOk result (λ checked. system_in (tables_of checked) ≡ system_of system.now) }
     ensures fault { IfErr result (IsAtFault (system_of system.now) (root_of root.now)) }
 {
     let classes = tables(alloc, system, root)?;
-    if not_yet(&classes) {
-        return Err(Rejection::NotYet);
-    }
-    rules::check(&classes)?;
-    Ok(())
+    Ok(check(alloc, classes)?)
 }
 
 /// Plays handler 0 until it has nothing to do or so many turns are played.

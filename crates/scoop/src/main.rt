@@ -6,9 +6,9 @@
 
 mod execution;
 mod files;
+mod not_yet;
 mod refusal;
 mod root;
-mod rules;
 mod serve;
 mod source;
 mod words;

@@ -5,10 +5,11 @@ ghost use Rattle.std.specs.Option.{option_and_then, option_map};
 ghost use Rattle.scoop.specs.Source.{place_of};
 ghost use Rattle.scoop.specs.Refusal as spec;
 
-use crate::rules::fault::CheckFault;
 use crate::source::{Place, Source};
+use sc_check::CheckFault;
 use sc_class::ClassFault;
 use sc_parse::ParseFault;
+use sc_rules::Fault;
 use sc_text::{LexFault, Span};
 use std::alloc::{AllocError, Global};
 
@@ -21,10 +22,10 @@ pub enum Rejection {
     Grammar(ParseFault),
     /// Something is at fault in the classes of its system.
     Classes(ClassFault),
-    /// Its system uses what is neither checked nor run yet.
-    NotYet,
     /// A rule fails in its system.
-    Rules(CheckFault),
+    Rules(Fault),
+    /// Its system is sound, and uses what isn't run yet.
+    NotYet,
     OutOfMemory,
 }
 
@@ -61,7 +62,7 @@ impl Refusal {
 }
 
 impl Rejection {
-    /// How it is told. Want of memory is no refusal, nor is what isn't checked yet.
+    /// How it is told. Want of memory is no refusal, nor is what isn't run yet.
     pub fn refusal(&self) -> Option<Refusal>
         ensures { option_map spec.seen result ≡ spec.told self.now }
     {
@@ -128,14 +129,10 @@ fn refusal_at(code: &'static str, name: &'static str, place: Span) -> Option<Ref
     Some(Refusal::new(code, name, Some(place.start)))
 }
 
-fn rules_refusal(fault: CheckFault) -> Refusal
+fn rules_refusal(fault: Fault) -> Refusal
     ensures { spec.seen result ≡ spec.told_of_system fault }
 {
-    Refusal::new(
-        fault.rule.code(),
-        fault.rule.name(),
-        Some(fault.place.start),
-    )
+    Refusal::new(fault.rule.code(), fault.rule.name(), Some(fault.span.start))
 }
 
 impl From<AllocError> for Rejection {
@@ -183,6 +180,9 @@ impl From<CheckFault> for Rejection {
     ghost from_gives = { λ fault rejection. rejection ≡ spec.of_system fault };
 
     fn from(fault: CheckFault) -> Rejection {
-        Rejection::Rules(fault)
+        match fault {
+            CheckFault::Refused(fault) => Rejection::Rules(fault),
+            CheckFault::OutOfMemory => Rejection::OutOfMemory,
+        }
     }
 }

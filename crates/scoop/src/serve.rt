@@ -46,7 +46,7 @@ pub enum Fault<'a> {
     CannotRead(&'a str),
     /// A word of the command line that isn't UTF-8.
     NotText,
-    /// A system that uses what is neither checked nor run yet.
+    /// A system that uses what isn't run yet.
     NotYet,
     OutOfMemory,
 }

@@ -1,8 +1,10 @@
 // Calls of the program with files and writers that stand in the test.
 
+mod checker;
 mod class_faults;
 mod command_line;
 mod input;
+mod not_yet;
 mod output;
 mod print;
 mod refusals;

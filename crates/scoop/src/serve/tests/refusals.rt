@@ -1,6 +1,6 @@
 // Each rule that a source text can break, and where.
 
-use super::{done, expect, expect_of, refused, usage};
+use super::{done, expect, expect_of, refused};
 use crate::files::fake::FakeFile;
 use crate::source::LONGEST_SOURCE;
 use std::alloc::{AllocError, Global};
@@ -157,63 +157,65 @@ fn names_the_rule_and_the_place(rt: HostRuntime) -> Result<(), Fail> {
     Ok(())
 }
 
+/// The texts of three files, and what is answered for them.
+const THREE_FILES: [(&str, &str, &str, &str); 8] = [
+    // Lines and columns begin anew in each file, also where the file before ends without a line feed.
+    (
+        "class A end",
+        "class B\nend #",
+        "class C end",
+        "refused L1 BadCharacter b.e:2:5\n",
+    ),
+    (
+        "class A end\n",
+        "",
+        "\tclass C end #\n",
+        "refused L1 BadCharacter c.e:1:14\n",
+    ),
+    // A system may go on in the next file, and a name doesn't.
+    (
+        "class A",
+        "feature n: INTEGER",
+        "end end",
+        "refused P1 NotInGrammar c.e:1:5\n",
+    ),
+    (
+        "class A feature f do print (\"",
+        "\") end end",
+        "",
+        "refused L2 UnclosedString a.e:1:29\n",
+    ),
+    // Just after the last token is in that token's file.
+    (
+        "class A end",
+        "class B",
+        "-- nothing\n",
+        "refused P1 NotInGrammar b.e:1:8\n",
+    ),
+    (
+        "class A end",
+        "\u{feff}class A end",
+        "",
+        "refused C1 DuplicateClass b.e:1:7\n",
+    ),
+    (
+        "\u{feff}\u{feff}class A end",
+        "",
+        "",
+        "refused L1 BadCharacter a.e:1:1\n",
+    ),
+    (
+        "class A end",
+        "class B end \u{feff}",
+        "",
+        "refused L1 BadCharacter b.e:1:13\n",
+    ),
+];
+
 #[test]
 fn finds_the_file(rt: HostRuntime) -> Result<(), Fail> {
     let words = ["scoop", "check", "a.e", "b.e", "c.e"];
-    let cases = [
-        // Lines and columns begin anew in each file, also where the file before ends without a line feed.
-        (
-            "class A end",
-            "class B\nend #",
-            "class C end",
-            "refused L1 BadCharacter b.e:2:5\n",
-        ),
-        (
-            "class A end\n",
-            "",
-            "\tclass C end #\n",
-            "refused L1 BadCharacter c.e:1:14\n",
-        ),
-        // A system may go on in the next file, and a name doesn't.
-        (
-            "class A",
-            "feature n: INTEGER",
-            "end end",
-            "refused P1 NotInGrammar c.e:1:5\n",
-        ),
-        (
-            "class A feature f do print (\"",
-            "\") end end",
-            "",
-            "refused L2 UnclosedString a.e:1:29\n",
-        ),
-        // Just after the last token is in that token's file.
-        (
-            "class A end",
-            "class B",
-            "-- nothing\n",
-            "refused P1 NotInGrammar b.e:1:8\n",
-        ),
-        (
-            "class A end",
-            "\u{feff}class A end",
-            "",
-            "refused C1 DuplicateClass b.e:1:7\n",
-        ),
-        (
-            "\u{feff}\u{feff}class A end",
-            "",
-            "",
-            "refused L1 BadCharacter a.e:1:1\n",
-        ),
-        (
-            "class A end",
-            "class B end \u{feff}",
-            "",
-            "refused L1 BadCharacter b.e:1:13\n",
-        ),
-    ];
-    for (a, b, c, wanted) in cases {
+    for (a, b, c, wanted) in THREE_FILES {
         let files = [
             FakeFile::new("a.e", a),
             FakeFile::new("b.e", b),
@@ -301,8 +303,8 @@ fn bounds_classes_and_features(rt: HostRuntime) -> Result<(), Fail> {
         (255, false, 255, done("ok\n")),
         (256, false, 0, limit),
         (1, false, 256, limit),
-        // An inherited feature counts too. What is in a line isn't checked any further yet.
-        (255, true, 254, usage("not yet\n")),
+        // An inherited feature counts too.
+        (255, true, 254, done("ok\n")),
         (255, true, 255, limit),
         (256, true, 0, limit),
     ];
@@ -318,7 +320,7 @@ fn bounds_routines(rt: HostRuntime) -> Result<(), Fail> {
     let limit = refused("refused C7 Limit\n");
     // So many formals, locals and names of a block, beside the two of another block.
     let cases = [
-        (16, 238, 16, usage("not yet\n")),
+        (16, 238, 16, done("ok\n")),
         (17, 1, 1, limit),
         (1, 239, 16, limit),
         (1, 1, 17, limit),

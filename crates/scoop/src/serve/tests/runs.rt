@@ -14,56 +14,58 @@ end
 
 const RUN: [&str; 3] = ["scoop", "run", "app.e"];
 
+/// The procedures of a class, the status of its run, and what is reported of its handler.
+const RUNS: [(&str, u8, &str); 9] = [
+    // The smallest run, and its beginning.
+    (
+        "make do raise print (n) end\n\traise do n := n + 1 end",
+        0,
+        "free refused 0 output 1\n1",
+    ),
+    // Unqualified exits test nothing, and the creation's exit does.
+    (
+        "make do dip mend end\n\tdip do n := n - 1 end\n\tmend do n := 0 end",
+        0,
+        "free refused 0 output 0\n",
+    ),
+    (
+        "make do dip end\n\tdip do n := n - 1 end\n\tmend do n := 0 end",
+        3,
+        "failed F1 refused 0 output 0\n",
+    ),
+    ("make do make end", 3, "failed F11 refused 0 output 0\n"),
+    // Arithmetic.
+    (
+        "make do print (-7 // 2) print (-7 \\\\ 2) end",
+        0,
+        "free refused 0 output 4\n-3-1",
+    ),
+    (
+        "make do print (1_000) end",
+        0,
+        "free refused 0 output 4\n1000",
+    ),
+    (
+        "make do n := 9223372036854775807 n := n + 1 end",
+        3,
+        "failed F5 refused 0 output 0\n",
+    ),
+    (
+        "make do n := 1 // 0 end",
+        3,
+        "failed F6 refused 0 output 0\n",
+    ),
+    // What was printed before a failure stays.
+    (
+        "make do print (\"a%Nb\") print (n = 0) n := 1 \\\\ n end",
+        3,
+        "failed F6 refused 0 output 7\na\nbTrue",
+    ),
+];
+
 #[test]
 fn reports_what_became_of_the_handler(rt: HostRuntime) -> Result<(), Fail> {
-    let cases = [
-        // The smallest run, and its beginning.
-        (
-            "make do raise print (n) end\n\traise do n := n + 1 end",
-            0,
-            "free refused 0 output 1\n1",
-        ),
-        // Unqualified exits test nothing, and the creation's exit does.
-        (
-            "make do dip mend end\n\tdip do n := n - 1 end\n\tmend do n := 0 end",
-            0,
-            "free refused 0 output 0\n",
-        ),
-        (
-            "make do dip end\n\tdip do n := n - 1 end\n\tmend do n := 0 end",
-            3,
-            "failed F1 refused 0 output 0\n",
-        ),
-        ("make do make end", 3, "failed F11 refused 0 output 0\n"),
-        // Arithmetic.
-        (
-            "make do print (-7 // 2) print (-7 \\\\ 2) end",
-            0,
-            "free refused 0 output 4\n-3-1",
-        ),
-        (
-            "make do print (1_000) end",
-            0,
-            "free refused 0 output 4\n1000",
-        ),
-        (
-            "make do n := 9223372036854775807 n := n + 1 end",
-            3,
-            "failed F5 refused 0 output 0\n",
-        ),
-        (
-            "make do n := 1 // 0 end",
-            3,
-            "failed F6 refused 0 output 0\n",
-        ),
-        // What was printed before a failure stays.
-        (
-            "make do print (\"a%Nb\") print (n = 0) n := 1 \\\\ n end",
-            3,
-            "failed F6 refused 0 output 7\na\nbTrue",
-        ),
-    ];
-    for (routines, status, report) in cases {
+    for (routines, status, report) in RUNS {
         let text = format!(in rt.alloc();
             "class APPLICATION create make\nfeature\n\tn: INTEGER\n\t{routines}\ninvariant n >= 0\nend\n"
         )?;
