@@ -1,8 +1,5 @@
 // Files by name, and their texts.
 
-#[cfg(test)]
-pub mod fake;
-
 ghost use Rattle.std.specs.Prelude.{◌≡◌, ◌<◌, length, IfOk, IfSome, IsOk, string_bytes};
 ghost use Rattle.std.specs.Str.{IsUtf8};
 

@@ -199,6 +199,3 @@ fn exit_of(status: Option<Status>) -> Exit
         Some(Status::Free) | None => Exit::Done,
     }
 }
-
-#[cfg(test)]
-mod tests;

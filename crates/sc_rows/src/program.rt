@@ -3,6 +3,7 @@
 mod checker;
 mod class_faults;
 mod command_line;
+mod fake;
 mod input;
 mod not_yet;
 mod output;
@@ -11,8 +12,8 @@ mod refusals;
 mod runs;
 mod sources;
 
-use crate::files::fake::{FakeFile, FakeFiles};
-use crate::serve::{Exit, serve};
+use crate::program::fake::{FakeFile, FakeFiles};
+use sc_serve::serve::{Exit, serve};
 use std::process::Abort;
 use std::test::Fail;
 

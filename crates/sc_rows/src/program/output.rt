@@ -1,7 +1,7 @@
 // Writers that fail.
 
-use crate::files::fake::{FakeFile, FakeFiles};
-use crate::serve::{Exit, serve};
+use crate::program::fake::{FakeFile, FakeFiles};
+use sc_serve::serve::{Exit, serve};
 use std::io::{self, ErrorKind, Write};
 use std::test::Fail;
 

@@ -1,8 +1,8 @@
 // Files that can't be read.
 
 use super::{expect_of, refused, usage};
-use crate::files::fake::FakeFile;
-use crate::source::LONGEST_SOURCE;
+use crate::program::fake::FakeFile;
+use sc_serve::source::LONGEST_SOURCE;
 use std::test::Fail;
 
 #[test]

@@ -1,7 +1,7 @@
 // The words of the command line.
 
 use super::{Wanted, call, done, expect_of, usage};
-use crate::files::fake::FakeFile;
+use crate::program::fake::FakeFile;
 use std::test::Fail;
 
 const TEXT: &str = "class APPLICATION create make feature make do print (\"here\") end end";

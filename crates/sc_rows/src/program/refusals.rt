@@ -1,8 +1,8 @@
 // Each rule that a source text can break, and where.
 
 use super::{done, expect, expect_of, refused};
-use crate::files::fake::FakeFile;
-use crate::source::LONGEST_SOURCE;
+use crate::program::fake::FakeFile;
+use sc_serve::source::LONGEST_SOURCE;
 use std::alloc::{AllocError, Global};
 use std::process::Abort;
 use std::test::Fail;

@@ -6,7 +6,7 @@ mod texts;
 use super::refusals::CHECK;
 use super::sources::{BLOCK, BUFFER, CALLBACK, HANDLER_TESTS, SEPARATE_CALL};
 use super::{done, expect, expect_of, refused};
-use crate::files::fake::FakeFile;
+use crate::program::fake::FakeFile;
 use std::process::Abort;
 use std::test::Fail;
 

@@ -4,7 +4,7 @@ use super::sources::{
     ANOTHER_LAYOUT, BLOCK, BUFFER, CALLBACK, CANONICAL, HANDLER_TESTS, SEPARATE_CALL, TRAITOR,
 };
 use super::{call, done, expect, expect_of, refused};
-use crate::files::fake::FakeFile;
+use crate::program::fake::FakeFile;
 use std::test::Fail;
 
 const PRINT: [&str; 3] = ["scoop", "print", "app.e"];
