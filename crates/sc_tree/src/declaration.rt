@@ -4,7 +4,7 @@ use crate::expression::Name;
 use sc_text::Span;
 
 /// What a type says of the handler of its objects.
-#[derive(Debug, Drop, PartialEq)]
+#[derive(Drop)]
 pub enum HandlerTag {
     /// Nothing: they are objects of the current object's own handler.
     Own,
@@ -15,7 +15,7 @@ pub enum HandlerTag {
 }
 
 /// The type that something is declared with.
-#[derive(Debug, Drop, PartialEq)]
+#[derive(Drop)]
 pub struct DeclaredType {
     pub span: Span,
     /// Whether it stands for `Void` too; a type with no mark is attached.
@@ -25,7 +25,7 @@ pub struct DeclaredType {
 }
 
 /// A formal argument or a local. Of `a, b: INTEGER` each name is one of its own.
-#[derive(Debug, Drop, PartialEq)]
+#[derive(Drop)]
 pub struct Declaration {
     pub name: Name,
     pub declared_type: DeclaredType,

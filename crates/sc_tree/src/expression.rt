@@ -4,7 +4,7 @@ use crate::declaration::DeclaredType;
 use sc_text::Span;
 
 /// A name and where it stands, in lower case.
-#[derive(Debug, Drop, PartialEq)]
+#[derive(Drop)]
 pub struct Name {
     pub text: String,
     pub span: Span,
@@ -44,7 +44,7 @@ pub enum BinaryOperator {
 /// A call of a feature, with its target and its actual arguments. With no target it is of the current
 /// object, or its name is that of a formal argument, a local, an object test or a block's head.
 #[cycle(expressions)]
-#[derive(Debug, Drop, PartialEq)]
+#[derive(Drop)]
 pub struct Call {
     pub span: Span,
     pub target: Option<Box<Expr>>,
@@ -54,7 +54,7 @@ pub struct Call {
 
 /// An expression. Parentheses leave nothing in the tree: the place of `(a + b) * c` begins at `a`.
 #[cycle(expressions)]
-#[derive(Debug, Drop, PartialEq)]
+#[derive(Drop)]
 pub enum Expr {
     /// An integer's value, which is not negative.
     Integer(Span, i64),

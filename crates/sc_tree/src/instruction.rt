@@ -4,28 +4,28 @@ use crate::expression::{Call, Expr, Name};
 use sc_text::Span;
 
 /// What an assignment or a creation changes.
-#[derive(Debug, Drop, PartialEq)]
+#[derive(Drop)]
 pub enum Variable {
     Named(Name),
     Result(Span),
 }
 
 /// The call that an object is created by.
-#[derive(Debug, Drop, PartialEq)]
+#[derive(Drop)]
 pub struct CreationCall {
     pub name: Name,
     pub actuals: Vec<Expr>,
 }
 
 /// An assertion clause, with its tag where it has one.
-#[derive(Debug, Drop, PartialEq)]
+#[derive(Drop)]
 pub struct Clause {
     pub tag: Option<Name>,
     pub condition: Expr,
 }
 
 /// A head of a separate block: what is reserved, and the name that it has in the block.
-#[derive(Debug, Drop, PartialEq)]
+#[derive(Drop)]
 pub struct Head {
     pub value: Expr,
     pub name: Name,
@@ -33,7 +33,7 @@ pub struct Head {
 
 /// An instruction.
 #[cycle(instructions)]
-#[derive(Debug, Drop, PartialEq)]
+#[derive(Drop)]
 pub enum Instr {
     /// `variable := value`
     Assign(Span, Variable, Expr),
@@ -55,7 +55,7 @@ pub enum Instr {
 
 /// An `elseif` and what stands under it.
 #[cycle(instructions)]
-#[derive(Debug, Drop, PartialEq)]
+#[derive(Drop)]
 pub struct Branch {
     pub condition: Expr,
     pub body: Vec<Instr>,

@@ -6,13 +6,13 @@ use crate::instruction::{Clause, Instr};
 use sc_text::Span;
 
 /// The classes of a source text, in order.
-#[derive(Debug, Drop, PartialEq)]
+#[derive(Drop)]
 pub struct System {
     pub classes: Vec<Class>,
 }
 
 /// A word before `class`, and where it stands.
-#[derive(Debug, Drop, PartialEq)]
+#[derive(Drop)]
 pub enum ClassMark {
     Deferred(Span),
     Expanded(Span),
@@ -21,7 +21,7 @@ pub enum ClassMark {
 
 /// A class: its mark, its parents, the procedures that create its objects, its features and the clauses
 /// of its invariant, in the order of the text.
-#[derive(Debug, Drop, PartialEq)]
+#[derive(Drop)]
 pub struct Class {
     pub span: Span,
     pub mark: Option<ClassMark>,
@@ -33,14 +33,14 @@ pub struct Class {
 }
 
 /// A class that another inherits from, and the names of the features that it redefines.
-#[derive(Debug, Drop, PartialEq)]
+#[derive(Drop)]
 pub struct Parent {
     pub name: Name,
     pub redefined: Vec<Name>,
 }
 
 /// A feature. Of `a, b: INTEGER` each name is a feature of its own.
-#[derive(Debug, Drop, PartialEq)]
+#[derive(Drop)]
 pub struct Feature {
     /// The classes that it is exported to: to all where none stands here. `{ANY}` leaves none here, and
     /// `{}` leaves `NONE`.
@@ -50,14 +50,14 @@ pub struct Feature {
 }
 
 /// What a feature is.
-#[derive(Debug, Drop, PartialEq)]
+#[derive(Drop)]
 pub enum FeatureKind {
     Attribute(DeclaredType),
     Routine(Routine),
 }
 
 /// A routine: a function where it has a result type, else a procedure.
-#[derive(Debug, Drop, PartialEq)]
+#[derive(Drop)]
 pub struct Routine {
     pub formals: Vec<Declaration>,
     pub result_type: Option<DeclaredType>,
