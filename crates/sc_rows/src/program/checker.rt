@@ -298,7 +298,11 @@ const ACCEPTED: [&str; 12] = [
 ];
 
 /// Checks a source in which a mark stands where it is refused, or that has no mark and is accepted.
-fn expect_answer<R: Abort + AllocGlobal>(rt: &R, refusal: &str, marked: &str) -> Result<(), Fail> {
+pub fn expect_answer<R: Abort + AllocGlobal>(
+    rt: &R,
+    refusal: &str,
+    marked: &str,
+) -> Result<(), Fail> {
     let alloc = rt.alloc();
     match marked.split_once('`') {
         None => {

@@ -339,7 +339,7 @@ fn bounds_routines(rt: HostRuntime) -> Result<(), Fail> {
 }
 
 /// So many names that begin with a letter, each behind a text, with commas between them.
-fn names(alloc: Global, before: &str, letter: &str, count: usize) -> Result<String, Fail> {
+pub fn names(alloc: Global, before: &str, letter: &str, count: usize) -> Result<String, Fail> {
     let mut text = String::new(alloc);
     for number in 0..count {
         let comma = if number == 0 { "" } else { ", " };
