@@ -2,6 +2,14 @@
 #![tactic(auto)]
 
 #[cfg(test)]
+mod edited;
+#[cfg(test)]
+mod grammar;
+#[cfg(test)]
 mod program;
 #[cfg(test)]
+mod reading;
+#[cfg(test)]
 mod tokens;
+#[cfg(test)]
+mod trees;
