@@ -2,6 +2,10 @@
 #![tactic(auto)]
 
 #[cfg(test)]
+mod checks;
+#[cfg(test)]
+mod class_tables;
+#[cfg(test)]
 mod edited;
 #[cfg(test)]
 mod grammar;
