@@ -17,3 +17,5 @@ mod reading;
 mod tokens;
 #[cfg(test)]
 mod trees;
+#[cfg(test)]
+mod types;
