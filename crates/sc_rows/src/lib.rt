@@ -8,6 +8,8 @@ mod class_tables;
 #[cfg(test)]
 mod edited;
 #[cfg(test)]
+mod formulas;
+#[cfg(test)]
 mod grammar;
 #[cfg(test)]
 mod program;
