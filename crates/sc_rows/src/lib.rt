@@ -21,3 +21,5 @@ mod tokens;
 mod trees;
 #[cfg(test)]
 mod types;
+#[cfg(test)]
+mod worlds;
