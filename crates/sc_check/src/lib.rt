@@ -22,8 +22,6 @@ mod names;
 mod operators;
 mod positions;
 mod purity;
-#[cfg(test)]
-mod tests;
 mod types;
 mod typing;
 

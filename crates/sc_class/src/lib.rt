@@ -32,8 +32,6 @@ mod redefinition;
 mod root;
 mod scopes;
 mod size;
-#[cfg(test)]
-mod tests;
 
 pub use checking::tables;
 pub use class_tables::Tables;

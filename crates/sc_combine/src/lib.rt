@@ -7,8 +7,6 @@
 mod combiner;
 mod known;
 pub mod laws;
-#[cfg(test)]
-mod tests;
 
 pub use combiner::{combine_argument, combine_result};
 pub use known::Known;

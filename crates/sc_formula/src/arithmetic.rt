@@ -107,30 +107,3 @@ pub fn opposite(operand: i64) -> Result<i64, ArithmeticFault>
 {
     operand.checked_neg().ok_or(ArithmeticFault::Overflow)
 }
-
-#[cfg(test)]
-mod tests {
-    use super::*;
-
-    #[test]
-    fn results(rt: HostRuntime) {
-        assert_eq!(rt; quotient(-7, 2), Ok(-3));
-        assert_eq!(rt; remainder(-7, 2), Ok(-1));
-        assert_eq!(rt; quotient(7, -2), Ok(-3));
-        assert_eq!(rt; remainder(7, -2), Ok(1));
-        assert_eq!(rt; difference(-9223372036854775807, 1), Ok(i64::MIN));
-        assert_eq!(rt; product(-4611686018427387904, 2), Ok(i64::MIN));
-        assert_eq!(rt; remainder(i64::MIN, -1), Ok(0));
-        assert_eq!(rt; opposite(i64::MAX), Ok(-9223372036854775807));
-        assert_eq!(rt; ArithmeticOperator::Minus.apply(3, 5), Ok(-2));
-    }
-
-    #[test]
-    fn faults(rt: HostRuntime) {
-        assert_eq!(rt; sum(9223372036854775807, 1), Err(ArithmeticFault::Overflow));
-        assert_eq!(rt; quotient(i64::MIN, -1), Err(ArithmeticFault::Overflow));
-        assert_eq!(rt; opposite(i64::MIN), Err(ArithmeticFault::Overflow));
-        assert_eq!(rt; quotient(1, 0), Err(ArithmeticFault::DivideByZero));
-        assert_eq!(rt; remainder(1, 0), Err(ArithmeticFault::DivideByZero));
-    }
-}

@@ -15,7 +15,7 @@ use crate::term::Term;
 use std::alloc::{AllocError, Global};
 
 /// A truth value made from the attributes of one object.
-#[derive(Debug, PartialEq, Eq, Drop)]
+#[derive(Drop)]
 pub enum Formula {
     /// `True` or `False`.
     Constant(bool),
@@ -123,6 +123,3 @@ pub fn meets(clauses: &[Formula], atoms: &[Atom]) -> bool
         .iter()
         .all(|clause| eval(clause, atoms) == Some(true))
 }
-
-#[cfg(test)]
-mod tests;

@@ -12,7 +12,7 @@ use crate::atom::Atom;
 use std::alloc::{AllocError, Global};
 
 /// An integer made from the attributes of one object.
-#[derive(Debug, PartialEq, Eq, Drop)]
+#[derive(Drop)]
 pub enum Term {
     /// A number of the text.
     Integer(i64),

@@ -9,16 +9,24 @@ use Rattle.sc_tree.specs.Grammar.Classes.{IsSystem}
 use Rattle.sc_parse.specs.declared.fault.ParseFault.{ParseFault}
 use Rattle.sc_parse.specs.declared.fault.ParseFault.TheVariants as fault
 
+-- There is no tree of the tokens, or none that is nested at most so deep, as the fault says.
+abbrev pub RefusesWithin : ℕ → List Kind → ParseFault → Type 0
+RefusesWithin room ts (fault.NotInGrammar place) = (t : plain.System) (h : ℕ) → IsSystem t ts h → ⊥
+RefusesWithin room ts (fault.TooDeep place) = (t : plain.System) (h : ℕ) → h ≤ room → IsSystem t ts h → ⊥
+RefusesWithin room ts fault.OutOfMemory = Unit {0}
+
+-- The tokens spell the tree, nested at most so deep, or the fault is true of them.
+abbrev pub ParsesWithin : ℕ → List Kind → Result System ParseFault → Type 0
+ParsesWithin room ts (Ok s) = (h : ℕ) × (h ≤ room) × IsSystem (bare_system (system_of s)) ts h
+ParsesWithin room ts (Err e) = RefusesWithin room ts e
+
 -- There is no tree of the tokens, or none that is nested at most 64 deep, as the fault says.
 abbrev pub Refuses : List Kind → ParseFault → Type 0
-Refuses ts (fault.NotInGrammar place) = (t : plain.System) (h : ℕ) → IsSystem t ts h → ⊥
-Refuses ts (fault.TooDeep place) = (t : plain.System) (h : ℕ) → h ≤ 64 → IsSystem t ts h → ⊥
-Refuses ts fault.OutOfMemory = Unit {0}
+Refuses ts e = RefusesWithin 64 ts e
 
 -- The tokens spell the tree, nested at most 64 deep, or the fault is true of them.
 abbrev pub Parses : List Kind → Result System ParseFault → Type 0
-Parses ts (Ok s) = (h : ℕ) × (h ≤ 64) × IsSystem (bare_system (system_of s)) ts h
-Parses ts (Err e) = Refuses ts e
+Parses ts r = ParsesWithin 64 ts r
 
 -- This tree is answered, unless memory ran out. Trees are compared without places.
 abbrev pub IsParsedTo : plain.System → Result System ParseFault → Type 0

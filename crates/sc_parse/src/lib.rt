@@ -1,7 +1,8 @@
 //! From tokens to the tree of a system, by recursive descent.
 //!
 //! [`parse`] gives the one tree that the tokens spell, where none of them is nested deeper than
-//! [`MAX_NESTING`]; a [`ParseFault`] says why there is none, and where that shows first.
+//! [`MAX_NESTING`], and [`parse_within`] the same for another nesting; a [`ParseFault`] says why there is
+//! none, and where that shows first.
 #![tactic(auto)]
 
 mod assertion;
@@ -19,4 +20,4 @@ mod system;
 mod types;
 
 pub use fault::ParseFault;
-pub use system::{MAX_NESTING, parse};
+pub use system::{MAX_NESTING, parse, parse_within};

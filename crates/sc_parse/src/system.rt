@@ -5,7 +5,7 @@ ghost use Rattle.sc_text.specs.Kind.{kinds_of};
 ghost use Rattle.sc_tree.specs.Grammar.Classes.{IsSystem};
 ghost use Rattle.sc_tree.specs.Plain as plain;
 ghost use Rattle.sc_tree.specs.Reading.Classes as spec;
-ghost use Rattle.sc_parse.specs.Parses.{Parses, IsParsedTo};
+ghost use Rattle.sc_parse.specs.Parses.{Parses, ParsesWithin, IsParsedTo};
 ghost use Rattle.sc_parse.specs.Reads.{ParsesAs};
 
 use crate::cursor::Parser;
@@ -14,13 +14,6 @@ use sc_text::Token;
 use sc_tree::System;
 use std::alloc::Global;
 
-#[cfg(test)]
-mod grammar;
-#[cfg(test)]
-mod rows;
-#[cfg(test)]
-mod tests;
-
 /// How many constructs may stand around a token, counted from the routine's body or the clause: pairs of
 /// parentheses, lists of actuals, operators whose operand it lies in, dots whose target it lies in, `if`s,
 /// loops, `check`s and separate blocks.
@@ -28,7 +21,7 @@ pub const MAX_NESTING: u8 = 64;
 
 /// The system that the tokens spell, where its nesting is at most `room`.
 #[tactic(auto, unfolding(sc_tree::specs::Reading::Classes::system, sc_tree::specs::View::system_of))]
-fn parse_within(alloc: Global, tokens: &[Token], room: u8) -> Result<System, ParseFault>
+fn read_within(alloc: Global, tokens: &[Token], room: u8) -> Result<System, ParseFault>
     ensures { ParsesAs (spec.system room (kinds_of tokens.now)) result }
 {
     let mut parser = Parser::new(alloc, tokens);
@@ -40,6 +33,21 @@ fn parse_within(alloc: Global, tokens: &[Token], room: u8) -> Result<System, Par
             place: parser.next_start(),
         })
     }
+}
+
+/// The system that the tokens spell, where its nesting is at most `room`, as [`parse`] answers it where the nesting
+/// is at most [`MAX_NESTING`].
+///
+/// # Errors
+///
+/// `NotInGrammar` where the tokens spell no system, `TooDeep` where they spell none of nesting at most
+/// `room`, and `OutOfMemory`. At fault is the first token that no system of this nesting has there, after
+/// the tokens before it; the fault is `TooDeep` if one of greater nesting has.
+pub fn parse_within(alloc: Global, tokens: &[Token], room: u8) -> Result<System, ParseFault>
+    ensures answer { ParsesWithin room (kinds_of tokens.now) result }
+    ensures found { (t : plain.System) (h : ℕ) → h ≤ room → IsSystem t (kinds_of tokens.now) h → IsParsedTo t result }
+{
+    read_within(alloc, tokens, room)
 }
 
 /// The system that the tokens spell. The place of each part goes from its first token to its last,

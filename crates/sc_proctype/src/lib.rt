@@ -8,8 +8,6 @@ mod conformance;
 mod entity_type;
 pub mod laws;
 mod tag;
-#[cfg(test)]
-mod tests;
 
 pub use conformance::conforms;
 pub use entity_type::EntityType;

@@ -9,8 +9,6 @@ mod laws;
 mod lexer;
 mod scan;
 mod symbols;
-#[cfg(test)]
-mod tests;
 mod token;
 mod words;
 

@@ -14,8 +14,6 @@ mod expressions;
 mod instructions;
 mod laws;
 mod operators;
-#[cfg(test)]
-mod tests;
 mod words;
 
 use crate::expression::Name;

@@ -20,8 +20,6 @@ mod point;
 mod program;
 mod report;
 mod stacks;
-#[cfg(test)]
-mod tests;
 mod world;
 
 pub use world::{Turned, World};

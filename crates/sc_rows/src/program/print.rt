@@ -9,20 +9,56 @@ use std::test::Fail;
 
 const PRINT: [&str; 3] = ["scoop", "print", "app.e"];
 
+/// Texts, and their canonical texts.
+const LAYOUTS: [(&str, &str); 6] = [
+    ("", ""),
+    ("-- Nothing but a comment.\n", ""),
+    (
+        "class a feature x, Y: integer f do if x < y + 1 * (2 + 3) then print (\"a%Nb\") end end end",
+        "class A\nfeature\n\tx: INTEGER\n\ty: INTEGER\n\tf\n\t\tdo\n\t\t\tif x < y + 1 * (2 + 3) then\n\t\t\t\tprint (\"a%Nb\")\n\t\t\tend\n\t\tend\nend\n",
+    ),
+    // Features stand under their export lists.
+    (
+        "class a end frozen class b inherit c redefine f, g end; any create make, other feature {none} p, q: integer feature {a, b} r: integer feature s: integer end",
+        "class A\nend\n\nfrozen class B\ninherit\n\tC redefine f, g end\n\tANY\ncreate\n\tmake, other\nfeature {NONE}\n\tp: INTEGER\n\tq: INTEGER\nfeature {A, B}\n\tr: INTEGER\nfeature\n\ts: INTEGER\nend\n",
+    ),
+    (CANONICAL, CANONICAL),
+    (ANOTHER_LAYOUT, CANONICAL),
+];
+
+/// What is printed by a routine, and how it is laid out.
+const PRINTED: [(&str, &str); 18] = [
+    ("1*1", "1 * 1"),
+    ("1//1", "1 // 1"),
+    ("1\\\\1", "1 \\\\ 1"),
+    ("1+1", "1 + 1"),
+    ("1-1", "1 - 1"),
+    ("1=1", "1 = 1"),
+    ("1/=1", "1 /= 1"),
+    ("1<1", "1 < 1"),
+    ("1>1", "1 > 1"),
+    ("1<=1", "1 <= 1"),
+    ("1>=1", "1 >= 1"),
+    ("1 AND 1", "1 and 1"),
+    ("1 and\nTHEN 1", "1 and then 1"),
+    ("1 Or 1", "1 or 1"),
+    ("1 or\telse 1", "1 or else 1"),
+    ("1 XOR 1", "1 xor 1"),
+    ("1 implieS 1", "1 implies 1"),
+    ("\"\t%%%\"%N%%N\"", "\"%T%%%\"%N%%N\""),
+];
+
 #[test]
 fn prints_one_layout(rt: HostRuntime) -> Result<(), Fail> {
-    let cases = [
-        ("", ""),
-        ("-- Nothing but a comment.\n", ""),
-        (
-            "class a feature x, Y: integer f do if x < y + 1 * (2 + 3) then print (\"a%Nb\") end end end",
-            "class A\nfeature\n\tx: INTEGER\n\ty: INTEGER\n\tf\n\t\tdo\n\t\t\tif x < y + 1 * (2 + 3) then\n\t\t\t\tprint (\"a%Nb\")\n\t\t\tend\n\t\tend\nend\n",
-        ),
-        (CANONICAL, CANONICAL),
-        (ANOTHER_LAYOUT, CANONICAL),
-    ];
-    for (text, wanted) in cases {
+    for (text, wanted) in LAYOUTS {
         expect(&rt, &PRINT, text, done(wanted))?;
+    }
+    for (printed, wanted) in PRINTED {
+        let text = format!(in rt.alloc(); "class a feature f do print ({printed}) end end")?;
+        let layout = format!(in rt.alloc();
+            "class A\nfeature\n\tf\n\t\tdo\n\t\t\tprint ({wanted})\n\t\tend\nend\n"
+        )?;
+        expect(&rt, &PRINT, &text, done(&layout))?;
     }
     Ok(())
 }

@@ -1,12 +1,51 @@
-//! Formulas as they stand in the text of a class.
+// Arithmetic, and formulas as they stand in the text of a class.
+
 ghost use Rattle.std.specs.Prelude.{[], IfOk};
 ghost use Rattle.sc_formula.specs.Fit.{IsFit};
 ghost use Rattle.sc_formula.specs.Plain.{plain_formula};
 
-use super::*;
-use crate::arithmetic::ArithmeticOperator;
+use sc_formula::arithmetic::{difference, opposite, product, quotient, remainder, sum};
+use sc_formula::{
+    ArithmeticFault, ArithmeticOperator, Atom, Comparison, Connective, Formula, Term, eval, meets,
+};
 use std::alloc::{AllocError, Global};
 use std::test::Fail;
+
+#[test]
+fn arithmetic(rt: HostRuntime) {
+    // What is calculated, its result, and what it should be.
+    let rows = [
+        ("-7 // 2", quotient(-7, 2), Ok(-3)),
+        ("-7 \\\\ 2", remainder(-7, 2), Ok(-1)),
+        ("7 // -2", quotient(7, -2), Ok(-3)),
+        ("7 \\\\ -2", remainder(7, -2), Ok(1)),
+        ("least", difference(-9223372036854775807, 1), Ok(i64::MIN)),
+        ("least", product(-4611686018427387904, 2), Ok(i64::MIN)),
+        ("least \\\\ -1", remainder(i64::MIN, -1), Ok(0)),
+        ("-greatest", opposite(i64::MAX), Ok(-9223372036854775807)),
+        ("3 - 5", ArithmeticOperator::Minus.apply(3, 5), Ok(-2)),
+        (
+            "greatest + 1",
+            sum(i64::MAX, 1),
+            Err(ArithmeticFault::Overflow),
+        ),
+        (
+            "least // -1",
+            quotient(i64::MIN, -1),
+            Err(ArithmeticFault::Overflow),
+        ),
+        ("-least", opposite(i64::MIN), Err(ArithmeticFault::Overflow)),
+        ("1 // 0", quotient(1, 0), Err(ArithmeticFault::DivideByZero)),
+        (
+            "1 \\\\ 0",
+            remainder(1, 0),
+            Err(ArithmeticFault::DivideByZero),
+        ),
+    ];
+    for (what, got, wanted) in rows {
+        assert_eq!(rt; got, wanted, "{what}");
+    }
+}
 
 /// `left operator right = third`, over no attributes.
 fn equation(
@@ -62,7 +101,11 @@ fn equations(rt: HostRuntime) -> Result<(), Fail> {
         (i64::MIN, ArithmeticOperator::Quotient, -1, 0, None),
     ] {
         let formula = equation(rt.alloc(), left, operator, right, third)?;
-        assert_eq!(rt; eval(&formula, &[]), want, "at {formula:?}");
+        assert_eq!(rt;
+            eval(&formula, &[]),
+            want,
+            "{left} {operator:?} {right} = {third}"
+        );
     }
     Ok(())
 }
@@ -82,7 +125,7 @@ fn sides_that_cannot_matter(rt: HostRuntime) -> Result<(), Fail> {
         (false, Connective::Equal, None),
     ] {
         let formula = before_zero_divisor(rt.alloc(), left, connective)?;
-        assert_eq!(rt; eval(&formula, &[]), want, "at {formula:?}");
+        assert_eq!(rt; eval(&formula, &[]), want, "{left} {connective:?}");
     }
     Ok(())
 }

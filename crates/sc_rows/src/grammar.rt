@@ -1,8 +1,7 @@
 // The grammar as it is written in the language's description, and which beginnings of its texts there are.
 
 use sc_text::{Token, TokenKind};
-use std::alloc::Global;
-use std::test::Fail;
+use std::alloc::{AllocError, Global};
 
 /// A rule a line: a part, and what it is spelled by. `^` stands before what is nested one deeper, PLAIN
 /// before a token that is none of `(`, `+` and `-`. The other words in capitals are kinds of tokens.
@@ -267,7 +266,7 @@ impl Set {
         }
     }
 
-    fn add(&mut self, item: Item) -> Result<(), Fail> {
+    fn add(&mut self, item: Item) -> Result<(), AllocError> {
         if !self.items.iter().any(|known| *known == item) {
             self.items.push(item)?;
         }
@@ -275,7 +274,7 @@ impl Set {
     }
 
     /// Whether the part is begun here for the first time.
-    fn begins(&mut self, place: Place) -> Result<bool, Fail> {
+    fn begins(&mut self, place: Place) -> Result<bool, AllocError> {
         let number = place
             .part
             .saturating_mul(4)
@@ -294,7 +293,7 @@ impl Set {
 }
 
 impl Grammar {
-    pub fn written(alloc: Global) -> Result<Grammar, Fail> {
+    pub fn written(alloc: Global) -> Result<Grammar, AllocError> {
         let mut grammar = Grammar {
             alloc,
             parts: Vec::new(alloc),
@@ -306,7 +305,7 @@ impl Grammar {
         Ok(grammar)
     }
 
-    fn word(&mut self, word: &str) -> Result<usize, Fail> {
+    fn word(&mut self, word: &str) -> Result<usize, AllocError> {
         match self.words.iter().position(|known| known.as_str() == word) {
             Some(index) => Ok(index),
             None => {
@@ -316,7 +315,7 @@ impl Grammar {
         }
     }
 
-    fn part(&mut self, name: &str) -> Result<usize, Fail> {
+    fn part(&mut self, name: &str) -> Result<usize, AllocError> {
         match self
             .parts
             .iter()
@@ -332,7 +331,7 @@ impl Grammar {
         }
     }
 
-    fn add_rule(&mut self, line: &str) -> Result<(), Fail> {
+    fn add_rule(&mut self, line: &str) -> Result<(), AllocError> {
         let mut first = None;
         let mut symbols = Vec::new(self.alloc);
         let mut opens = false;
@@ -360,9 +359,10 @@ impl Grammar {
         Ok(())
     }
 
-    pub fn fit(&self, token: &Token, source: &str) -> Result<Fit, Fail> {
+    /// The words of rules that a token of the source fits.
+    pub fn fit(&self, token: &Token, source: &str) -> Result<Fit, AllocError> {
         let place = token.span.start..token.span.end;
-        let spelling = source.get(place).ok_or("no such place")?;
+        let spelling = source.get(place).unwrap_or("no such place");
         let mut words = Vec::new(self.alloc);
         for (index, word) in self.words.iter().enumerate() {
             if fits(&token.kind, spelling, word) {
@@ -382,7 +382,7 @@ impl Grammar {
     }
 
     /// Adds the rules of the part that can be used there.
-    fn begin(&self, set: &mut Set, place: Place, origin: usize) -> Result<(), Fail> {
+    fn begin(&self, set: &mut Set, place: Place, origin: usize) -> Result<(), AllocError> {
         if !set.begins(place)? {
             return Ok(());
         }
@@ -403,19 +403,19 @@ impl Grammar {
     }
 
     /// The items before the first token, where systems may nest so deep.
-    pub fn first(&self, room: u8) -> Result<Vec<Item>, Fail> {
+    pub fn first(&self, room: u8) -> Result<Vec<Item>, AllocError> {
         let mut set = Set::new(self.alloc, Vec::new(self.alloc));
         self.begin(&mut set, Place { part: 0, room }, 0)?;
         Ok(set.items)
     }
 
-    /// Adds a set with all that follows from these items, before a token that fits so.
+    /// The set of all that follows from these items, before a token that fits so, behind these sets.
     pub fn complete(
         &self,
-        sets: &mut Vec<Set>,
+        sets: &[Set],
         items: Vec<Item>,
         fit: Option<&Fit>,
-    ) -> Result<(), Fail> {
+    ) -> Result<Set, AllocError> {
         let at = sets.len();
         let mut set = Set::new(self.alloc, items);
         for turn in 0..100000 {
@@ -425,13 +425,7 @@ impl Grammar {
             match self.next(item) {
                 None => finish(sets, &mut set, item, at)?,
                 Some(Symbol::Part { name, is_deeper }) => {
-                    let room = inner_room(item.place.room, is_deeper);
-                    let place = Place { part: name, room };
-                    set.waiting.push((place, item))?;
-                    self.begin(&mut set, place, at)?;
-                    if set.empty.iter().any(|empty| *empty == place) {
-                        set.add(moved(item))?;
-                    }
+                    self.wait(&mut set, item, name, is_deeper, at)?;
                 }
                 Some(Symbol::Token(_)) => (),
                 Some(Symbol::Plain) => {
@@ -441,12 +435,30 @@ impl Grammar {
                 }
             }
         }
-        sets.push(set)?;
+        Ok(set)
+    }
+
+    /// Lets the item wait for its next part, which begins here.
+    fn wait(
+        &self,
+        set: &mut Set,
+        item: Item,
+        name: usize,
+        is_deeper: bool,
+        at: usize,
+    ) -> Result<(), AllocError> {
+        let room = inner_room(item.place.room, is_deeper);
+        let place = Place { part: name, room };
+        set.waiting.push((place, item))?;
+        self.begin(set, place, at)?;
+        if set.empty.iter().any(|empty| *empty == place) {
+            set.add(moved(item))?;
+        }
         Ok(())
     }
 
     /// The items that go on with a token, from the set before it.
-    pub fn after(&self, set: &Set, fit: &Fit) -> Result<Vec<Item>, Fail> {
+    pub fn after(&self, set: &Set, fit: &Fit) -> Result<Vec<Item>, AllocError> {
         let mut next = Vec::new(self.alloc);
         for item in &set.items {
             if let Some(Symbol::Token(word)) = self.next(*item)
@@ -467,7 +479,7 @@ impl Grammar {
 }
 
 /// Goes on with what waited for the part that the item is the whole of.
-fn finish(sets: &[Set], set: &mut Set, item: Item, at: usize) -> Result<(), Fail> {
+fn finish(sets: &[Set], set: &mut Set, item: Item, at: usize) -> Result<(), AllocError> {
     if item.origin == at {
         set.empty.push(item.place)?;
     }

@@ -1,11 +1,10 @@
 // Which tokens are parsed, and which fault stands where, against a plain recogniser of the written grammar.
 
-use crate::fault::ParseFault;
-use crate::system::grammar::{ENDLESS, Fit, Grammar, Item, Set};
-use crate::system::{parse, parse_within};
+use crate::grammar::{ENDLESS, Fit, Grammar, Item, Set};
+use sc_parse::{MAX_NESTING, ParseFault, parse_within};
 use sc_text::{Token, lex};
-use sc_tree::System;
-use std::alloc::Global;
+use std::alloc::{AllocError, Global};
+use std::process::Abort;
 use std::test::Fail;
 
 /// Sources of every construct, a space between each two tokens.
@@ -33,13 +32,8 @@ const WORDS: &str =
     implies indexing inherit invariant is local loop not note old or redefine require result \
     separate then until void";
 
-fn words_of(alloc: Global, text: &'static str) -> Result<Vec<&'static str>, Fail> {
-    let mut words = Vec::new(alloc);
-    for word in text.split(' ') {
-        words.push(word)?;
-    }
-    Ok(words)
-}
+/// The nesting that is tried besides the greatest.
+const SHALLOW: u8 = 2;
 
 /// Where the first token stands that no system has there, or the end where only more is wanted.
 fn place_of(tokens: &[Token], index: usize) -> usize {
@@ -52,11 +46,11 @@ fn place_of(tokens: &[Token], index: usize) -> usize {
     }
 }
 
-/// Why the answer is a fault, if it is one, unless memory ran out.
-pub fn fault_of(answer: Result<System, ParseFault>) -> Result<Option<ParseFault>, Fail> {
-    match answer {
+/// Why the tokens are no system of this nesting, if they are none, unless memory ran out.
+fn fault_of(alloc: Global, tokens: &[Token], room: u8) -> Result<Option<ParseFault>, AllocError> {
+    match parse_within(alloc, tokens, room) {
         Ok(_) => Ok(None),
-        Err(ParseFault::OutOfMemory) => Err(ParseFault::OutOfMemory)?,
+        Err(ParseFault::OutOfMemory) => Err(AllocError),
         Err(fault) => Ok(Some(fault)),
     }
 }
@@ -68,22 +62,20 @@ struct Chart {
     items: Vec<Vec<Item>>,
     /// The same with all that follows from it, before each token.
     sets: Vec<Set>,
-    room: u8,
 }
 
 impl Chart {
-    fn new(alloc: Global, grammar: &Grammar, fits: &[Fit], room: u8) -> Result<Chart, Fail> {
+    fn new(alloc: Global, grammar: &Grammar, fits: &[Fit], room: u8) -> Result<Chart, AllocError> {
         let mut chart = Chart {
             items: Vec::new(alloc),
             sets: Vec::new(alloc),
-            room,
         };
         let mut items = grammar.first(room)?;
         for fit in fits {
             chart.items.push(items.to_vec(alloc)?)?;
-            grammar.complete(&mut chart.sets, items, Some(fit))?;
-            let set = chart.sets.last().ok_or("no set")?;
-            items = grammar.after(set, fit)?;
+            let set = grammar.complete(&chart.sets, items, Some(fit))?;
+            items = grammar.after(&set, fit)?;
+            chart.sets.push(set)?;
         }
         chart.items.push(items)?;
         Ok(chart)
@@ -98,7 +90,7 @@ impl Chart {
         start: usize,
         tokens: &[Token],
         source: &str,
-    ) -> Result<Option<usize>, Fail> {
+    ) -> Result<Option<usize>, AllocError> {
         let fault = self.items.iter().position(|items| items.is_empty());
         if let Some(after) = fault
             && after <= start
@@ -110,21 +102,21 @@ impl Chart {
             Some(items) => items.to_vec(alloc)?,
             None => Vec::new(alloc),
         };
-        for index in start..tokens.len() {
-            let Some(token) = tokens.get(index) else {
-                break;
-            };
+        for (index, token) in tokens.iter().enumerate().skip(start) {
             let fit = grammar.fit(token, source)?;
-            grammar.complete(&mut self.sets, items, Some(&fit))?;
-            let set = self.sets.last().ok_or("no set")?;
-            items = grammar.after(set, &fit)?;
+            let set = grammar.complete(&self.sets, items, Some(&fit))?;
+            items = grammar.after(&set, &fit)?;
+            self.sets.push(set)?;
             if items.is_empty() {
                 return Ok(Some(index));
             }
         }
-        grammar.complete(&mut self.sets, items, None)?;
-        let is_whole = self.sets.last().is_some_and(|set| grammar.is_whole(set));
-        Ok(if is_whole { None } else { Some(tokens.len()) })
+        let last = grammar.complete(&self.sets, items, None)?;
+        Ok(if grammar.is_whole(&last) {
+            None
+        } else {
+            Some(tokens.len())
+        })
     }
 }
 
@@ -163,7 +155,7 @@ fn edited(
     place: usize,
     edit: usize,
     seed: &mut u64,
-) -> Result<String, Fail> {
+) -> Result<String, AllocError> {
     let other = others.get(drawn(seed, others.len())).copied().unwrap_or("");
     let here = words.get(place).copied().unwrap_or("");
     let next = words.get(place.saturating_add(1)).copied().unwrap_or("");
@@ -181,48 +173,85 @@ fn edited(
     let mut text = String::new(alloc);
     for (index, word) in words.iter().enumerate() {
         if index == place {
-            for word in instead {
-                text.push_str(word)?;
-                text.push_str(" ")?;
-            }
+            add_word(&mut text, instead[0])?;
+            add_word(&mut text, instead[1])?;
         }
         if index < place || index >= behind {
-            text.push_str(word)?;
-            text.push_str(" ")?;
+            add_word(&mut text, word)?;
         }
     }
     Ok(text)
 }
 
+fn add_word(text: &mut String, word: &str) -> Result<(), AllocError> {
+    text.push_str(word)?;
+    text.push_str(" ")
+}
+
+/// A source, and what may follow its first tokens: in systems of any nesting, and in those of nesting at most 2.
+#[derive(Drop)]
+struct Charts {
+    grammar: Grammar,
+    any: Chart,
+    shallow: Chart,
+}
+
+impl Charts {
+    fn new(alloc: Global, source: &str, tokens: &[Token]) -> Result<Charts, AllocError> {
+        let grammar = Grammar::written(alloc)?;
+        let mut fits = Vec::new(alloc);
+        for token in tokens {
+            fits.push(grammar.fit(token, source)?)?;
+        }
+        let any = Chart::new(alloc, &grammar, &fits, ENDLESS)?;
+        let shallow = Chart::new(alloc, &grammar, &fits, SHALLOW)?;
+        Ok(Charts {
+            grammar,
+            any,
+            shallow,
+        })
+    }
+
+    /// Compares what is answered for the source, edited at a place, with what the grammar says.
+    fn expect<R: Abort + AllocGlobal>(
+        &mut self,
+        rt: &R,
+        place: usize,
+        text: &str,
+    ) -> Result<(), Fail> {
+        let alloc = rt.alloc();
+        let tokens = lex(alloc, text)?;
+        let wrong = self
+            .any
+            .fault_index(alloc, &self.grammar, place, &tokens, text)?;
+        let fault = fault_of(alloc, &tokens, MAX_NESTING)?;
+        assert_eq!(rt; fault, expected(&tokens, wrong, wrong), "{text}");
+        let deep = self
+            .shallow
+            .fault_index(alloc, &self.grammar, place, &tokens, text)?;
+        let fault = fault_of(alloc, &tokens, SHALLOW)?;
+        assert_eq!(rt; fault, expected(&tokens, wrong, deep), "{text}");
+        Ok(())
+    }
+}
+
 #[test]
 fn edited_sources_are_told_as_the_written_grammar_says(rt: HostRuntime) -> Result<(), Fail> {
     let alloc = rt.alloc();
-    let grammar = Grammar::written(alloc)?;
-    let others = words_of(alloc, WORDS)?;
+    let others: Vec<&'static str> = WORDS.split(' ').collect(alloc)?;
     let mut seed: u64 = 1;
     for source in SOURCES {
         let tokens = lex(alloc, source)?;
-        let words = words_of(alloc, source)?;
+        let words: Vec<&'static str> = source.split(' ').collect(alloc)?;
         assert_eq!(rt; words.len(), tokens.len(), "{source}");
-        let mut fits = Vec::new(alloc);
-        for token in &tokens {
-            fits.push(grammar.fit(token, source)?)?;
-        }
-        let mut any = Chart::new(alloc, &grammar, &fits, ENDLESS)?;
-        let mut shallow = Chart::new(alloc, &grammar, &fits, 2)?;
-        assert!(rt; fault_of(parse(alloc, &tokens))?.is_none(), "{source}");
+        let mut charts = Charts::new(alloc, source, &tokens)?;
+        assert_eq!(rt; fault_of(alloc, &tokens, MAX_NESTING)?, None, "{source}");
         for place in (0..words.len()).rev() {
             for time in 0..4 {
                 // First the beginning up to there.
                 let edit = if time == 0 { 3 } else { drawn(&mut seed, 9) };
                 let text = edited(alloc, &words, &others, place, edit, &mut seed)?;
-                let tokens = lex(alloc, &text)?;
-                let wrong = any.fault_index(alloc, &grammar, place, &tokens, &text)?;
-                let fault = fault_of(parse(alloc, &tokens))?;
-                assert_eq!(rt; fault, expected(&tokens, wrong, wrong), "{text}");
-                let deep = shallow.fault_index(alloc, &grammar, place, &tokens, &text)?;
-                let fault = fault_of(parse_within(alloc, &tokens, 2))?;
-                assert_eq!(rt; fault, expected(&tokens, wrong, deep), "{text}");
+                charts.expect(&rt, place, &text)?;
             }
         }
     }
