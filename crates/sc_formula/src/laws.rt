@@ -1,7 +1,10 @@
 //! Laws of the definitions: each function's contract is one, and its body is empty.
-ghost use Rattle.std.specs.Prelude.{◌≡◌, Some, Ok};
+ghost use Rattle.std.specs.Prelude.{◌≡◌, ◌<ℤ◌, ◌||◌, ◌&&◌, not, true, Some, Ok};
 ghost use Rattle.sc_formula.specs.Arithmetic.{quotient_of, remainder_of, Divides};
+ghost use Rattle.sc_formula.specs.Comparison.{compares};
 ghost use Rattle.sc_formula.specs.Connective.{decision_of, truth_table};
+ghost use Rattle.sc_formula.specs.declared.comparison.Comparison.TheVariants.{Equal, NotEqual, Less, LessOrEqual, Greater, GreaterOrEqual};
+ghost use Rattle.sc_formula.specs.declared.connective.Connective.TheVariants.{And, AndThen, Or, OrElse, Xor, Implies};
 
 use crate::connective::Connective;
 
