@@ -13,6 +13,7 @@ An edit alone is refused where the crate isn't proved and a goal is open. Otherw
 import os
 import re
 import shutil
+import signal
 import subprocess
 import sys
 import tempfile
@@ -256,6 +257,8 @@ def write(file, text):
 
 
 def main(names):
+    # so that a copy goes, and its check ends, also where this is told to stop
+    signal.signal(signal.SIGTERM, lambda number, _: sys.exit(128 + number))
     crates = crates_and_below()
     unknown = [it for it in names if it not in crates]
     if unknown:
