@@ -1,4 +1,4 @@
-"""Runs `rt ci`, passes on what it says but for the last line, and measures what each crate costs it.
+"""Runs `rt ci`, passes on what it says, and measures what each crate costs it.
 
     python3 .ci/seconds.py FOLDER
 
@@ -101,6 +101,9 @@ class Costs:
 
 def end(running):
     """Ends the checks of `rt ci`, so that it stops soon and puts back what it had set aside."""
+    for it in (signal.SIGINT, signal.SIGTERM, signal.SIGHUP):
+        signal.signal(it, signal.SIG_IGN)
+    threading.Thread(target=running.stdout.read, daemon=True).start()
     running.send_signal(signal.SIGINT)
     while running.poll() is None:
         for it in processes():
@@ -113,26 +116,25 @@ def end(running):
 
 
 def main(folder):
-    running = subprocess.Popen(["rt", "ci"], stdin=subprocess.DEVNULL, stdout=subprocess.PIPE, stderr=subprocess.STDOUT, text=True, errors="replace", start_new_session=True)
-    stop, costs = threading.Event(), Costs(running.pid)
-
     def told_to_stop(number, _):
         raise SystemExit(128 + number)
+
+    # (set first, so that `rt ci` doesn't start with a signal ignored)
+    for it in (signal.SIGINT, signal.SIGTERM, signal.SIGHUP):
+        signal.signal(it, told_to_stop)
+    how = {"stdin": subprocess.DEVNULL, "stdout": subprocess.PIPE, "stderr": subprocess.STDOUT, "start_new_session": True}
+    running = subprocess.Popen(["rt", "ci"], text=True, errors="replace", **how)
+    stop, costs, last = threading.Event(), Costs(running.pid), ""
 
     def look():
         while not stop.wait(0.5):
             costs.look()
 
-    for it in (signal.SIGINT, signal.SIGTERM, signal.SIGHUP):
-        signal.signal(it, told_to_stop)
     looking = threading.Thread(target=look, daemon=True)
     looking.start()
-    last = None
     try:
-        for line in running.stdout:
-            if last is not None:
-                print(last, end="", flush=True)
-            last = line
+        for last in running.stdout:
+            print(last, end="", flush=True)
         status = running.wait()
     except SystemExit:
         stop.set()
@@ -141,7 +143,7 @@ def main(folder):
     stop.set()
     looking.join()
     with open(f"{folder}/last", "w", encoding="utf-8") as it:
-        it.write(last or "")
+        it.write(last)
     with open(f"{folder}/seconds", "w", encoding="utf-8") as it:
         it.writelines(line + "\n" for line in costs.table())
     return status if status >= 0 else 128 - status
