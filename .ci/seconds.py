@@ -1,0 +1,153 @@
+"""Runs `rt ci`, passes on what it says, and measures what each crate costs it.
+
+    python3 .ci/seconds.py FOLDER
+
+FOLDER gets two files: `last`, the last line, and `seconds`, a table of processor seconds: crate by crate those of its
+proof, of its tests (they are proved with the crate once more, and run) and of its must-fail edits, the dearest first.
+The status is that of `rt ci`. It says nothing of the kind itself, so its checks are looked at twice a second in /proc.
+Told to stop, this ends the checks that run, and waits until `rt ci` has put back what it had set aside.
+"""
+import os
+import re
+import signal
+import subprocess
+import sys
+import threading
+import time
+
+TICKS = os.sysconf("SC_CLK_TCK")
+PARTS = ("proof", "tests", "edits")
+
+
+class Process:
+    """A process as /proc tells of it: its parent, and its seconds with those of its children that have ended."""
+
+    def __init__(self, number):
+        with open(f"/proc/{number}/stat", encoding="utf-8", errors="replace") as it:
+            fields = it.read().rpartition(")")[2].split()
+        self.number, self.parent, self.started = number, int(fields[1]), fields[19]
+        self.seconds = sum(map(int, fields[11:15])) / TICKS
+
+    def words(self):
+        with open(f"/proc/{self.number}/cmdline", encoding="utf-8", errors="replace") as it:
+            return it.read().split("\0")[:-1]
+
+    def folder(self):
+        return os.path.basename(os.readlink(f"/proc/{self.number}/cwd"))
+
+
+def processes():
+    found = []
+    for name in filter(str.isdigit, os.listdir("/proc")):
+        try:
+            found.append(Process(int(name)))
+        except (OSError, IndexError, ValueError):
+            pass  # it has ended
+    return found
+
+
+def part_of(process):
+    """Returns the crate and the part of its cost that a process which `rt ci` has started belongs to, or None."""
+    try:
+        words, folder = process.words(), process.folder()
+    except OSError:
+        return None
+    if words and os.path.basename(words[0]) == "rattle" and "--crate-name" in words:
+        crate = words[words.index("--crate-name") + 1]
+        # an edit is checked on a copy of the crate, and the tests are built by a command of their own
+        return crate, "edits" if folder.startswith("rt-edit-") else "tests" if "--test" in words else "proof"
+    runs = [re.search(r"/(\w+)_tests$", it) for it in words]
+    return next(((it[1], "tests") for it in runs if it), None)
+
+
+class Costs:
+    """The seconds of each process that `rt ci` has started, by what it was for."""
+
+    def __init__(self, started):
+        self.started, self.begun, self.of_process, self.parts, self.ended = started, time.time(), {}, {}, {}
+
+    def look(self):
+        now = processes()
+        children = {}
+        for it in now:
+            children.setdefault(it.parent, []).append(it)
+
+        def whole(it):
+            return it.seconds + sum(map(whole, children.get(it.number, [])))
+
+        for it in children.get(self.started, []):
+            key = it.number, it.started
+            # (a check is another program for the moment in which it starts)
+            self.parts[key] = self.parts.get(key) or part_of(it)
+            if self.parts[key]:
+                self.of_process[key] = whole(it)
+                self.ended[self.parts[key][0]] = time.time() - self.begun
+
+    def table(self):
+        """Returns the lines of the table, the dearest crate first."""
+        crates = {}
+        for key, seconds in self.of_process.items():
+            crate, part = self.parts[key]
+            crates.setdefault(crate, dict.fromkeys(PARTS, 0))[part] += seconds
+        rows = sorted(crates.items(), key=lambda it: -sum(it[1].values()))
+        rows.append(("all", {part: sum(it[part] for it in crates.values()) for part in PARTS}))
+        lines = [f"{'processor seconds':18}" + "".join(f"{it:>8}" for it in (*PARTS, "all")) + "   ended after"]
+        for crate, costs in rows:
+            ended = self.ended.get(crate, max(self.ended.values(), default=0))
+            numbers = [*(costs[it] for it in PARTS), sum(costs.values())]
+            lines.append(f"{crate:18}" + "".join(f"{it:8.0f}" for it in numbers) + f"{ended / 60:10.1f} min")
+        return lines
+
+
+def end(running):
+    """Ends the checks of `rt ci`, so that it stops soon and puts back what it had set aside."""
+    for it in (signal.SIGINT, signal.SIGTERM, signal.SIGHUP):
+        signal.signal(it, signal.SIG_IGN)
+    threading.Thread(target=running.stdout.read, daemon=True).start()
+    running.send_signal(signal.SIGINT)
+    while running.poll() is None:
+        for it in processes():
+            if it.parent == running.pid and part_of(it):
+                try:
+                    os.kill(it.number, signal.SIGKILL)
+                except OSError:
+                    pass
+        time.sleep(0.1)
+
+
+def main(folder):
+    def told_to_stop(number, _):
+        raise SystemExit(128 + number)
+
+    # (set first, so that `rt ci` doesn't start with a signal ignored)
+    for it in (signal.SIGINT, signal.SIGTERM, signal.SIGHUP):
+        signal.signal(it, told_to_stop)
+    how = {"stdin": subprocess.DEVNULL, "stdout": subprocess.PIPE, "stderr": subprocess.STDOUT, "start_new_session": True}
+    running = subprocess.Popen(["rt", "ci"], text=True, errors="replace", **how)
+    stop, costs, last = threading.Event(), Costs(running.pid), ""
+
+    def look():
+        while not stop.wait(0.5):
+            costs.look()
+
+    looking = threading.Thread(target=look, daemon=True)
+    looking.start()
+    try:
+        for last in running.stdout:
+            print(last, end="", flush=True)
+        status = running.wait()
+    except SystemExit:
+        stop.set()
+        end(running)
+        raise
+    stop.set()
+    looking.join()
+    with open(f"{folder}/last", "w", encoding="utf-8") as it:
+        it.write(last)
+    with open(f"{folder}/seconds", "w", encoding="utf-8") as it:
+        it.writelines(line + "\n" for line in costs.table())
+    return status if status >= 0 else 128 - status
+
+
+if __name__ == "__main__":
+    sys.exit(main(sys.argv[1]))
