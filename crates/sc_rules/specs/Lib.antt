@@ -15,3 +15,4 @@ pub mod JudgingPurity
 pub mod Laws
 pub mod SystemLaws
 pub mod InstructionLaws
+pub mod Versions

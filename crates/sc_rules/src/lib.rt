@@ -8,6 +8,7 @@
 #![tactic(auto)]
 
 mod fault;
+pub mod heir_laws;
 pub mod instruction_laws;
 pub mod laws;
 mod position;
