@@ -25,3 +25,4 @@ pub mod Versions
 pub mod TextsStand
 pub mod InvariantHeirs
 pub mod PureHeirs
+pub mod TextLaws

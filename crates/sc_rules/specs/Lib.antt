@@ -16,3 +16,4 @@ pub mod Laws
 pub mod SystemLaws
 pub mod InstructionLaws
 pub mod Versions
+pub mod TextLaws
