@@ -16,3 +16,8 @@ pub mod FeaturePlaces
 pub mod LimitLemmas
 pub mod TableLemmas
 pub mod SizeLemmas
+pub mod Ancestry
+pub mod Acyclic
+pub mod Standing
+pub mod Heirs
+pub mod Origins

@@ -19,3 +19,4 @@ pub mod InheritedClash
 pub mod Lines
 pub mod Tables
 pub mod Entities
+pub mod Heirs

@@ -19,6 +19,7 @@ mod cycles;
 mod entities;
 mod fault;
 mod found;
+pub mod heir_laws;
 mod hierarchy;
 mod identity;
 mod left_out;

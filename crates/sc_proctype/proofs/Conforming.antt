@@ -13,7 +13,7 @@ use Rattle.sc_proctype.specs.declared.tag.Tag.TheVariants as tag
 use Rattle.sc_proctype.specs.Tags.{is_same_reserved, tag_conforms}
 use Rattle.sc_proctype.specs.Conformance.{mark_conforms}
 use Rattle.sc_proctype.specs.Laws.{IsClassOf, IsWithin, Reflexive, Transitive, AttachedOwn, VoidFits, TagsAreHandlers}
-use Rattle.sc_proctype.proofs.Ancestry.{own_ancestor, ancestor_of_ancestor}
+use Rattle.sc_class.proofs.Ancestry.{own_ancestor, ancestor_of_ancestor}
 
 -- ---- truth values
 

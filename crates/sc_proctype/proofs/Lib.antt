@@ -1,2 +1,1 @@
-pub mod Ancestry
 pub mod Conforming

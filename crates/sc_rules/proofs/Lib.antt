@@ -19,3 +19,10 @@ pub mod WellFormed
 pub mod EachTyped
 pub mod CallLaws
 pub mod InstructionLaws
+pub mod Kept
+pub mod Results
+pub mod Versions
+pub mod TextsStand
+pub mod InvariantHeirs
+pub mod PureHeirs
+pub mod TextLaws

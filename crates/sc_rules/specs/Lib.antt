@@ -15,3 +15,5 @@ pub mod JudgingPurity
 pub mod Laws
 pub mod SystemLaws
 pub mod InstructionLaws
+pub mod Versions
+pub mod TextLaws
