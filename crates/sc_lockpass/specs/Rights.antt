@@ -1,17 +1,11 @@
 -- Rights: who holds which handler, and what reserving and releasing make of it.
 use Rattle.std.specs.Prelude.{◌==◌, ◌||◌, ℕ, Bool, false, List, Option, Some, None, if◌then◌else◌}
 use Rattle.std.specs.List.{list_any}
-use Rattle.sc_lockpass.specs.declared.version.Version.{Version}
 
 -- For each handler who may post to it, and who may push on its waiting stack: a handler, or nobody.
 pub record Rights : Type 0 where
   pub queue : ℕ → Option ℕ
   pub top : ℕ → Option ℕ
-
--- the rights over the handlers of a version
-pub record Table : Type 0 where
-  pub version : Version
-  pub rights : Rights
 
 -- all rights are nobody's
 abbrev pub unreserved : Rights

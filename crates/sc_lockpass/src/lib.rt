@@ -3,6 +3,13 @@
 //! `specs/Rights` and `specs/Passing` are the definitions, on maps from handlers to a handler or nobody.
 #![tactic(auto)]
 
+mod handler_set;
+mod holders;
+pub mod laws;
+mod passed;
+mod rights;
 mod version;
 
+pub use passed::Passed;
+pub use rights::Rights;
 pub use version::Version;
