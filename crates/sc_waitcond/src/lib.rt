@@ -5,9 +5,12 @@
 #![tactic(auto)]
 
 mod condition;
+mod entry;
+pub mod laws;
 mod mark;
 mod session;
 
 pub use condition::{ClauseKind, ClauseResult, Verdict};
-pub use mark::Marked;
+pub use entry::Entry;
+pub use mark::{Mark, Marked};
 pub use session::Release;

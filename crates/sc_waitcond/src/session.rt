@@ -1,4 +1,6 @@
 //! Sessions: the time from a reservation of a handler to its release.
+ghost use Rattle.std.specs.Prelude.{◌≡◌};
+ghost use Rattle.sc_waitcond.specs.Reservations.{ends_session};
 
 /// Why handlers are released.
 #[derive(Clone, Copy, Debug, PartialEq, Eq)]
@@ -15,4 +17,20 @@ pub enum Release {
     Creation,
     /// The entry that reserved them waits, since a wait condition was false.
     FalseWaitCondition,
+}
+
+impl Release {
+    /// Whether a session of each released handler ends: always, but where an entry waits.
+    pub fn ends_session(self) -> bool
+        ensures { result ≡ ends_session self }
+    {
+        match self {
+            Release::Exit
+            | Release::Leave
+            | Release::Refusal
+            | Release::Failure
+            | Release::Creation => true,
+            Release::FalseWaitCondition => false,
+        }
+    }
 }
