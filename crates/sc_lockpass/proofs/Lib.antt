@@ -1,0 +1,3 @@
+pub mod Members
+pub mod Listings
+pub mod LawProofs

@@ -1,0 +1,5 @@
+pub mod Versions
+pub mod Rights
+pub mod Passing
+pub mod Tables
+pub mod Laws

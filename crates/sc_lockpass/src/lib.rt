@@ -1,0 +1,15 @@
+//! Who holds which handler, and how these rights are passed with a request and return with its answer.
+//!
+//! `specs/Rights` and `specs/Passing` are the definitions, on maps from handlers to a handler or nobody.
+#![tactic(auto)]
+
+mod handler_set;
+mod holders;
+pub mod laws;
+mod passed;
+mod rights;
+mod version;
+
+pub use passed::Passed;
+pub use rights::Rights;
+pub use version::Version;

@@ -1,0 +1,35 @@
+//! What a client passed with a request.
+
+use crate::handler_set::HandlerSet;
+use std::marker::Model;
+
+/// The rights that a client passed to its supplier, with their holders before.
+///
+/// Only [`Rights::pass`](crate::Rights::pass) makes one, it can't be copied, and
+/// [`Rights::give_back`](crate::Rights::give_back) takes it. It takes 152 bytes, for any number of handlers.
+#[derive(Drop)]
+pub struct Passed {
+    pub(crate) client: u16,
+    /// Who could push on the client's waiting stack.
+    pub(crate) top_holder: Option<u16>,
+    /// No right over a handler from this number on is listed.
+    pub(crate) reach: usize,
+    pub(crate) queues: HandlerSet,
+    pub(crate) tops: HandlerSet,
+}
+
+impl Model for Passed {
+    ghost use Rattle.std.specs.Prelude.{◌<◌, ◌≤◌};
+    ghost use Rattle.sc_lockpass.specs.Tables.{Listing, IsBelow};
+
+    ghost Value = { Listing };
+
+    ghost view = { λ p. record { client = p.client; top_holder = p.top_holder; queues = p.queues.words; tops = p.tops.words } };
+
+    ghost invariant = { λ p. record {
+      client : p.client < p.reach;
+      most : p.reach ≤ 512;
+      queues : IsBelow p.reach p.queues.words;
+      tops : IsBelow p.reach p.tops.words;
+    } };
+}

@@ -1,0 +1,4 @@
+pub mod Entries
+pub mod Conditions
+pub mod Reservations
+pub mod Laws
