@@ -4,13 +4,12 @@ mod trees;
 
 ghost use Rattle.std.specs.Prelude.{◌≡◌, ◌≤◌, Some, length, IfSome};
 ghost use Rattle.sc_tree.specs.View.{class_of, system_of};
-ghost use Rattle.sc_model.specs.Lookup.{class_named};
+ghost use Rattle.sc_world.specs.Lookup.{class_named};
 
 use crate::tests::trees::{
     add_one, call, print_number, print_text, print_truth, procedure, set_zero, subtract_one, system,
 };
-use crate::{Turned, World};
-use sc_model::{Cause, Status};
+use crate::{Cause, Status, Turned, World};
 use sc_tree::{Class, System};
 use std::alloc::Global;
 use std::test::Fail;
