@@ -1,4 +1,4 @@
--- Objects: the attributes of each, in the order of its class's features.
+-- Objects (ECMA-367, 8.19): the attributes of each, in the order of its class's features.
 use Rattle.std.specs.Prelude.{ℕ, ◌-◌, ◌==◌, List, [], ◌∷◌, Option, Some, None, slice_get, slice_set, if◌then◌else◌}
 use Rattle.std.specs.List.{filter_map}
 use Rattle.std.specs.Option.{option_map}
@@ -7,7 +7,8 @@ use Rattle.sc_class.specs.Features.{DeclaredFeature, features}
 use Rattle.sc_proctype.specs.declared.entity_type.EntityType.{EntityType}
 use Rattle.sc_rules.specs.declared.position.Role.TheVariants as role
 use Rattle.sc_rules.specs.Types.{declared_type}
-use Rattle.sc_model.specs.Values.{Value, Binding, bind, default_of}
+use Rattle.sc_model.specs.Values.{default_of}
+use Rattle.sc_model.specs.Environments.{Binding, bind}
 
 -- an object: the number of its class, and its attributes
 pub record Object : Type 0 where

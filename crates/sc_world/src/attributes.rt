@@ -10,8 +10,8 @@ ghost use Rattle.sc_world.specs.Object.{assigned, value_named, atoms_of, fresh_a
 ghost use Rattle.sc_world.specs.Invariant.{attribute_named};
 ghost use Rattle.sc_world.specs.BindingView.{binding_of, is_named};
 
-use sc_formula::Atom;
 use crate::value::Value;
+use sc_formula::Atom;
 use sc_tree::{DeclaredType, Feature, FeatureKind, HandlerTag};
 use std::alloc::{AllocError, Global};
 use std::marker::Model;

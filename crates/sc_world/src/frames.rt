@@ -4,8 +4,8 @@ ghost use Rattle.std.specs.Prelude.{◌≡◌, ◌<◌, [], ◌∷◌, List, IfO
 ghost use Rattle.sc_world.specs.Handler as m;
 ghost use Rattle.sc_world.specs.FrameView.{frame_of, below};
 
-use crate::stacks::{Tasks, Values};
 use crate::frame_kind::FrameKind;
+use crate::stacks::{Tasks, Values};
 use std::alloc::{AllocError, Global};
 use std::marker::Model;
 

@@ -13,13 +13,13 @@ ghost use Rattle.sc_world.specs.FrameView.{frame_of, below};
 ghost use Rattle.sc_world.specs.HandlerView.{handler_of, queue_of, act_of, moved, entered, exited, after, passes, FitsObject};
 
 use crate::attributes::Attributes;
+use crate::cause::Cause;
+use crate::frame_kind::FrameKind;
 use crate::frames::{Frame, Frames};
 use crate::objects::{Object, Objects};
 use crate::point::{Act, Point, moves};
 use crate::program::Program;
 use crate::stacks::{Task, Tasks, Values};
-use crate::cause::Cause;
-use crate::frame_kind::FrameKind;
 use crate::status::Status;
 use sc_tree::Instr;
 use std::alloc::{AllocError, Global};

@@ -9,8 +9,8 @@ ghost use Rattle.sc_world.specs.Invariant as m;
 
 use crate::attributes::Attributes;
 use crate::operators;
-use sc_formula::{ArithmeticOperator, Comparison, Connective, Formula, Term};
 use crate::value::Value;
+use sc_formula::{ArithmeticOperator, Comparison, Connective, Formula, Term};
 use sc_tree::{Call, Clause, Expr, UnaryOperator};
 use std::alloc::{AllocError, Global};
 

@@ -10,11 +10,11 @@ ghost use Rattle.sc_world.specs.TaskView.{task_of};
 ghost use Rattle.sc_world.specs.PointView.{point_of, step_of, visible};
 
 use crate::attributes::Attributes;
+use crate::cause::Cause;
 use crate::operators;
 use crate::stacks::{Task, Tasks, Values};
-use sc_formula::{ArithmeticFault, arithmetic};
-use crate::cause::Cause;
 use crate::value::Value;
+use sc_formula::{ArithmeticFault, arithmetic};
 use sc_tree::{BinaryOperator, Branch, Call, Expr, Instr, UnaryOperator, Variable};
 use std::alloc::AllocError;
 

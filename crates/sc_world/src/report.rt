@@ -4,8 +4,8 @@ ghost use Rattle.std.specs.Prelude.{◌≡◌, [], ◌∷◌, ◌++◌, IfOk, On
 ghost use Rattle.sc_world.specs.Report as m;
 ghost use Rattle.sc_world.specs.HandlerView.{handler_of};
 
-use crate::handler::Handler;
 use crate::cause::Cause;
+use crate::handler::Handler;
 use crate::status::Status;
 use std::alloc::{AllocError, Global};
 

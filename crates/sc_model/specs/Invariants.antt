@@ -20,7 +20,8 @@ use Rattle.sc_tree.specs.Plain as tree
 use Rattle.sc_tree.specs.Plain.{Expr, Integer, Boolean, Call, no_target, no_exprs, Unary, Binary, Clause, System}
 use Rattle.sc_class.specs.Features.{features, invariant_of}
 use Rattle.sc_model.specs.Values as value
-use Rattle.sc_model.specs.Values.{Value, Binding}
+use Rattle.sc_model.specs.Values.{Value}
+use Rattle.sc_model.specs.Environments.{Binding}
 use Rattle.sc_model.specs.Objects.{Object, fresh_attributes}
 use Rattle.sc_model.specs.Operators.{arithmetic_of, comparison_of, connective_of}
 
