@@ -1,0 +1,30 @@
+//! Clauses of preconditions.
+
+/// What becomes of an entry whose clause is false.
+#[derive(Clone, Copy, Debug, PartialEq, Eq)]
+pub enum ClauseKind {
+    /// It waits: the clause speaks of a handler that this entry newly reserved, so others may make it true.
+    WaitCondition,
+    /// It is refused.
+    CorrectnessCondition,
+}
+
+/// A clause that was evaluated.
+#[derive(Clone, Copy, Debug, PartialEq, Eq)]
+pub struct ClauseResult {
+    /// What becomes of the entry where the clause is false.
+    pub kind: ClauseKind,
+    /// Whether it is true.
+    pub holds: bool,
+}
+
+/// What the clauses of a precondition decide.
+#[derive(Clone, Copy, Debug, PartialEq, Eq)]
+pub enum Verdict {
+    /// The body starts.
+    Start,
+    /// What was newly reserved is released, and the entry waits.
+    Wait,
+    /// A request is refused, and a routine that its own handler called fails.
+    Refuse,
+}

@@ -1,0 +1,13 @@
+//! Entries into routines with attached separate formals, and into separate blocks: what they need reserved, which
+//! clauses of a precondition are waited for, and when an entry that waits is tried again.
+//!
+//! `specs/Entries`, `specs/Conditions` and `specs/Reservations` are the definitions.
+#![tactic(auto)]
+
+mod condition;
+mod mark;
+mod session;
+
+pub use condition::{ClauseKind, ClauseResult, Verdict};
+pub use mark::Marked;
+pub use session::Release;
