@@ -4,17 +4,8 @@
 //! and `scoop run` plays it from its root procedure and prints the report of the run.
 #![tactic(auto)]
 
-mod execution;
-mod files;
-mod not_yet;
-mod refusal;
-mod root;
-mod serve;
-mod source;
-mod words;
-
-use files::SystemFiles;
-use serve::Fault;
+use sc_serve::files::SystemFiles;
+use sc_serve::serve::{self, Fault};
 use std::io::ErrorKind;
 use std::process::ExitCode;
 

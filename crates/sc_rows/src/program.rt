@@ -1,0 +1,101 @@
+// Calls of the program with files and writers that stand in the test.
+
+mod checker;
+mod class_faults;
+mod command_line;
+mod fake;
+mod input;
+mod not_yet;
+mod output;
+mod print;
+mod refusals;
+mod runs;
+mod sources;
+
+use crate::program::fake::{FakeFile, FakeFiles};
+use sc_serve::serve::{Exit, serve};
+use std::process::Abort;
+use std::test::Fail;
+
+/// What a call of the program wrote, and its status.
+#[derive(Drop)]
+struct Outcome {
+    status: u8,
+    out: String,
+    err: String,
+}
+
+/// What a call of the program is to write, and its status.
+#[derive(Clone, Copy)]
+struct Wanted<'a> {
+    status: u8,
+    out: &'a str,
+    err: &'a str,
+}
+
+fn done(out: &str) -> Wanted<'_> {
+    Wanted {
+        status: Exit::Done as u8,
+        out,
+        err: "",
+    }
+}
+
+fn refused(out: &str) -> Wanted<'_> {
+    Wanted {
+        status: Exit::Refused as u8,
+        out,
+        err: "",
+    }
+}
+
+fn usage(err: &str) -> Wanted<'_> {
+    Wanted {
+        status: Exit::Usage as u8,
+        out: "",
+        err,
+    }
+}
+
+/// Calls the program. A call for which memory runs out has no outcome: the test ends there and says so.
+fn call<R: AllocGlobal>(rt: &R, words: &[&str], files: &[FakeFile<'_>]) -> Result<Outcome, Fail> {
+    let mut out = Vec::new(rt.alloc());
+    let mut err = Vec::new(rt.alloc());
+    let status = serve(rt, words, &FakeFiles { files }, &mut out, &mut err);
+    if status == Exit::OutOfMemory as u8 {
+        return Err(Fail::new("out of memory"));
+    }
+    Ok(Outcome {
+        status,
+        out: String::from_utf8(out)?,
+        err: String::from_utf8(err)?,
+    })
+}
+
+/// Calls the program, and compares what it writes and its status.
+fn expect_of<R: Abort + AllocGlobal>(
+    rt: &R,
+    words: &[&str],
+    files: &[FakeFile<'_>],
+    wanted: Wanted<'_>,
+) -> Result<(), Fail> {
+    let outcome = call(rt, words, files)?;
+    assert_eq!(rt; outcome.err.as_str(), wanted.err, "for {words:?}");
+    assert_eq!(rt; outcome.out.as_str(), wanted.out, "for {words:?}");
+    assert_eq!(rt; outcome.status, wanted.status, "for {words:?}");
+    Ok(())
+}
+
+/// The same on one file, `app.e`.
+fn expect<R: Abort + AllocGlobal>(
+    rt: &R,
+    words: &[&str],
+    text: &str,
+    wanted: Wanted<'_>,
+) -> Result<(), Fail> {
+    let outcome = call(rt, words, &[FakeFile::new("app.e", text)])?;
+    assert_eq!(rt; outcome.err.as_str(), wanted.err, "for {text}");
+    assert_eq!(rt; outcome.out.as_str(), wanted.out, "for {text}");
+    assert_eq!(rt; outcome.status, wanted.status, "for {text}");
+    Ok(())
+}

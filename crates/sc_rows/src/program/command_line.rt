@@ -1,0 +1,122 @@
+// The words of the command line.
+
+use super::{Wanted, call, done, expect_of, usage};
+use crate::program::fake::FakeFile;
+use std::test::Fail;
+
+const TEXT: &str = "class APPLICATION create make feature make do print (\"here\") end end";
+
+const REPORT: &str = "handler 0 free refused 0 output 4\nhere\nstopped idle\n";
+
+#[test]
+fn takes_options_in_any_place(rt: HostRuntime) -> Result<(), Fail> {
+    let files = [
+        FakeFile::new("a.e", TEXT),
+        FakeFile::new("b.e", ""),
+        FakeFile::new("--turns", ""),
+    ];
+    let cases: [(&[&str], Wanted<'static>); 8] = [
+        (&["scoop", "check", "a.e"], done("ok\n")),
+        (
+            &["scoop", "check", "a.e", "--root", "Application.MAKE", "b.e"],
+            done("ok\n"),
+        ),
+        (&["scoop", "run", "a.e"], done(REPORT)),
+        (&["scoop", "run", "a.e", "--turns=10000000"], done(REPORT)),
+        (
+            &["scoop", "run", "a.e", "--turns", "+5", "b.e"],
+            done(REPORT),
+        ),
+        (
+            &[
+                "scoop",
+                "run",
+                "--turns",
+                "05",
+                "--root",
+                "application.make",
+                "a.e",
+            ],
+            done(REPORT),
+        ),
+        (&["scoop", "run", "--", "a.e", "--turns"], done(REPORT)),
+        (
+            &["scoop", "run", "--turns", "1", "a.e"],
+            Wanted {
+                status: 4,
+                out: "handler 0 busy refused 0 output 0\n\nstopped limit\n",
+                err: "",
+            },
+        ),
+    ];
+    for (words, wanted) in cases {
+        expect_of(&rt, words, &files, wanted)?;
+    }
+    Ok(())
+}
+
+#[test]
+fn refuses_other_words(rt: HostRuntime) -> Result<(), Fail> {
+    let files = [FakeFile::new("a.e", TEXT)];
+    let cases: [&[&str]; 16] = [
+        &["scoop"],
+        &["scoop", "a.e"],
+        &["scoop", "run"],
+        &["scoop", "check", "--root", "A.f"],
+        &["scoop", "check", "--turns", "1", "a.e"],
+        &["scoop", "print"],
+        &["scoop", "print", "--root", "A.f", "a.e"],
+        &["scoop", "run", "--turns", "0", "a.e"],
+        &["scoop", "run", "--turns", "10000001", "a.e"],
+        &["scoop", "run", "--turns", "-1", "a.e"],
+        &["scoop", "run", "--turns", "1e3", "a.e"],
+        &["scoop", "run", "--turns", "", "a.e"],
+        &["scoop", "run", "--turns", "1", "--turns", "1", "a.e"],
+        &["scoop", "run", "a.e", "--turns"],
+        &["scoop", "run", "--fast", "a.e"],
+        // Other faults of the words come before a bad root.
+        &["scoop", "run", "--root", "A", "--turns", "0", "a.e"],
+    ];
+    for words in cases {
+        let outcome = call(&rt, words, &files)?;
+        assert_eq!(rt; outcome.status, 2, "for {words:?}");
+        assert_eq!(rt; outcome.out.as_str(), "", "for {words:?}");
+        assert!(rt;
+            outcome.err.as_str().contains("Usage: ") || outcome.err.as_str().starts_with("error: ")
+        );
+    }
+    Ok(())
+}
+
+#[test]
+fn tells_a_bad_root(rt: HostRuntime) -> Result<(), Fail> {
+    let roots = [
+        "", "A", "A.", ".f", "A.f.g", "A..f", "A .f", " A.f", "A.f ", "A.f\n", "A.f--", "A:f",
+        "A.1", "1A.f", "_A.f", "A.class", "class.f", "A.\u{e9}", "A-B.f",
+    ];
+    for root in roots {
+        // The root is at fault before the file, which isn't there.
+        let words = ["scoop", "check", "--root", root, "a.e"];
+        expect_of(&rt, &words, &[], usage("bad root\n"))?;
+    }
+    Ok(())
+}
+
+#[test]
+fn helps(rt: HostRuntime) -> Result<(), Fail> {
+    let cases: [(&[&str], &str); 6] = [
+        (&["scoop", "--help"], "Usage: scoop <COMMAND>"),
+        (&["scoop", "run", "--help"], "--turns <N>"),
+        (&["scoop", "check", "--help"], "[default: APPLICATION.make]"),
+        (&["scoop", "help", "run"], "stopped limit"),
+        (&["scoop", "print", "--help"], "canonical"),
+        (&["scoop", "--version"], "scoop 0.1.0\n"),
+    ];
+    for (words, wanted) in cases {
+        let outcome = call(&rt, words, &[])?;
+        assert!(rt; outcome.out.as_str().contains(wanted), "for {words:?}");
+        assert_eq!(rt; outcome.err.as_str(), "", "for {words:?}");
+        assert_eq!(rt; outcome.status, 0, "for {words:?}");
+    }
+    Ok(())
+}

@@ -1,0 +1,67 @@
+// Files that can't be read.
+
+use super::{expect_of, refused, usage};
+use crate::program::fake::FakeFile;
+use sc_serve::source::LONGEST_SOURCE;
+use std::test::Fail;
+
+#[test]
+fn tells_the_file_that_cannot_be_read(rt: HostRuntime) -> Result<(), Fail> {
+    let files = [
+        // A fault in the text isn't looked for while a file is still to be read.
+        FakeFile::new("a.e", "#"),
+        FakeFile {
+            name: "latin.e",
+            bytes: b"-- caf\xe9\n",
+            is_broken: false,
+        },
+        FakeFile {
+            name: "cut.e",
+            bytes: b"-- caf\xc3",
+            is_broken: false,
+        },
+        FakeFile {
+            name: "broken.e",
+            bytes: b"class A end",
+            is_broken: true,
+        },
+    ];
+    for name in ["none.e", "latin.e", "cut.e", "broken.e", "dir/a.e"] {
+        let words = ["scoop", "run", "a.e", name, "a.e"];
+        let err = format!(in rt.alloc(); "cannot read {name}\n")?;
+        expect_of(&rt, &words, &files, usage(err.as_str()))?;
+    }
+    Ok(())
+}
+
+#[test]
+fn reads_a_file_no_further_than_a_source_may_be_long(rt: HostRuntime) -> Result<(), Fail> {
+    // A character of three bytes stands across the place where reading stops, at each of its bytes.
+    for extra in 0..3 {
+        let mut bytes = Vec::with_capacity(rt.alloc(), LONGEST_SOURCE + 20)?;
+        for _ in 0..extra {
+            bytes.push(b' ')?;
+        }
+        for _ in 0..LONGEST_SOURCE / 3 + 4 {
+            bytes.extend_from_slice("\u{20ac}".as_bytes())?;
+        }
+        let files = [
+            FakeFile {
+                name: "a.e",
+                bytes: bytes.as_slice(),
+                is_broken: true,
+            },
+            FakeFile {
+                name: "b.e",
+                bytes: b"\xff",
+                is_broken: false,
+            },
+        ];
+        let too_long = refused("refused L5 SourceTooLong\n");
+        expect_of(&rt, &["scoop", "check", "a.e"], &files, too_long)?;
+        // A file that can't be read comes before a source that is too long.
+        let words = ["scoop", "check", "a.e", "b.e"];
+        expect_of(&rt, &words, &files, usage("cannot read b.e\n"))?;
+    }
+    Ok(())
+}

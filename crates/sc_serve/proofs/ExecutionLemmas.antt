@@ -1,0 +1,131 @@
+-- From a text to its system.
+use Rattle.std.proofs.Common.{◌≡◌, ℕ, ◌<◌, ◌≤◌, List, [], ◌∷◌, ◌⊎◌, inl, inr, Result, Ok, Err, IfErr, IsErrAnd, MatchResult, length, refl, ap, sym, ◌∙◌, subst, arith}
+use Rattle.sc_text.specs.Kind.{Kind, kinds_of}
+use Rattle.sc_text.specs.declared.token.Token.{Token}
+use Rattle.sc_text.specs.Spelling.{Spells, lexemes_of, lexeme_of}
+use Rattle.sc_tree.specs.Plain.{System}
+use Rattle.sc_tree.specs.Grammar.Classes.{IsSystem}
+use Rattle.sc_tree.specs.Bare.{bare_system}
+use Rattle.sc_tree.specs.Canonical.{canonical_text}
+use Rattle.sc_tree.specs.Canonical.Layout.{text_of_lines}
+use Rattle.sc_tree.proofs.CanonicalPlaces.{classes-bare}
+use Rattle.sc_parse.specs.Parses.{Refuses}
+use Rattle.sc_parse.specs.declared.fault.ParseFault.{ParseFault}
+use Rattle.sc_parse.specs.declared.fault.ParseFault.TheVariants as parsing
+use Rattle.sc_class.specs.declared.fault.ClassFault.{ClassFault}
+use Rattle.sc_class.specs.declared.fault.ClassFault.TheVariants as classes
+use Rattle.sc_class.specs.ClassNames.{Root}
+use Rattle.sc_class.specs.ClassRules.{Fails, IsFaultless, duplicate_class, unknown_parent, cycle, duplicate_feature, bad_redefinition, no_root, limit, left_out}
+use Rattle.sc_rules.specs.SystemRules.{SystemFails}
+use Rattle.sc_check.specs.declared.fault.CheckFault.{CheckFault}
+use Rattle.sc_check.specs.declared.fault.CheckFault.TheVariants as checking
+use Rattle.sc_check.specs.CheckFaults.{IsTrueOf}
+use Rattle.sc_serve.specs.declared.refusal.Rejection.{Rejection}
+use Rattle.sc_serve.specs.declared.refusal.Rejection.TheVariants as rejection
+use Rattle.sc_serve.specs.Refusal.{of_tokens, of_classes, of_system}
+use Rattle.sc_serve.specs.Execution.{kinds, IsSpelled, IsSound, IsAtFault, IsRefusedFor, IsNotRunFor, IsUnreadable}
+
+-- the kinds of tokens, with their places or without
+pub kinds-lexemes_of : (ts : List Token) → kinds (lexemes_of ts) ≡ kinds_of ts
+kinds-lexemes_of [] = refl
+kinds-lexemes_of (t ∷ ts) = ap (λ ks. (lexeme_of t).kind ∷ ks) (kinds-lexemes_of ts)
+
+-- tokens of a text that spell a tree: the text spells it
+pub tree-spelled : (text : List ℕ) (ts : List Token) (tree : System) (nesting : ℕ) → Spells text (lexemes_of ts) →
+    (1048576 < length text → ⊥) → nesting ≤ 64 → IsSystem tree (kinds_of ts) nesting → IsSpelled text tree
+tree-spelled text ts tree nesting spelled short shallow grammar =
+    record {
+      tokens = lexemes_of ts;
+      nesting = nesting;
+      spelled = spelled;
+      short = omega (arith, short);
+      shallow = shallow;
+      grammar = rw (kinds-lexemes_of ts) grammar;
+    }
+
+-- tokens of a text that are refused
+pub tokens-refused : (text : List ℕ) (ts : List Token) (fault : ParseFault) → Spells text (lexemes_of ts) →
+    Refuses (kinds_of ts) fault → IsUnreadable text (of_tokens fault)
+tokens-refused text ts (parsing.NotInGrammar place) spelled refuses =
+    record { tokens = lexemes_of ts; spelled = spelled; refuses = rw (kinds-lexemes_of ts) refuses }
+tokens-refused text ts (parsing.TooDeep place) spelled refuses =
+    record { tokens = lexemes_of ts; spelled = spelled; refuses = rw (kinds-lexemes_of ts) refuses }
+tokens-refused text ts parsing.OutOfMemory spelled refuses = tt
+
+-- what can't be read is refused
+pub unreadable-refused : (text : List ℕ) (root : Root) (e : Rejection) → IsUnreadable text e → IsRefusedFor text root e
+unreadable-refused text root (rejection.Text fault) is = is
+unreadable-refused text root (rejection.Grammar fault) is = is
+unreadable-refused text root (rejection.Classes fault) is = absurd is
+unreadable-refused text root (rejection.Rules fault) is = absurd is
+unreadable-refused text root rejection.NotYet is = absurd is
+unreadable-refused text root rejection.OutOfMemory is = is
+
+-- what is at fault in the system that it spells is a refusal of the text
+pub fault-refused : (text : List ℕ) (root : Root) (s : System) → IsSpelled text (bare_system s) → (e : Rejection) → IsAtFault s root e →
+    IsRefusedFor text root e
+fault-refused text root s is (rejection.Text fault) at = absurd at
+fault-refused text root s is (rejection.Grammar fault) at = absurd at
+fault-refused text root s is (rejection.Classes fault) at = record { system = s; spelled = is; fault = at }
+fault-refused text root s is (rejection.Rules fault) at = record { system = s; spelled = is; fault = at }
+fault-refused text root s is rejection.NotYet at = absurd at
+fault-refused text root s is rejection.OutOfMemory at = tt
+
+-- what is refused isn't run
+pub refused-not_run : (text : List ℕ) (root : Root) (e : Rejection) → IsRefusedFor text root e → IsNotRunFor text root e
+refused-not_run text root (rejection.Text fault) is = is
+refused-not_run text root (rejection.Grammar fault) is = is
+refused-not_run text root (rejection.Classes fault) is = is
+refused-not_run text root (rejection.Rules fault) is = is
+refused-not_run text root rejection.NotYet is = absurd is
+refused-not_run text root rejection.OutOfMemory is = is
+
+-- in a sound system nothing is at fault
+pub sound-in_memory : (s : System) (root : Root) → IsSound s root → (e : Rejection) → IsAtFault s root e → e ≡ rejection.OutOfMemory
+sound-in_memory s root sound (rejection.Text fault) at = absurd at
+sound-in_memory s root sound (rejection.Grammar fault) at = absurd at
+sound-in_memory s root sound (rejection.Classes fault) at = absurd (sound.faultless fault at)
+sound-in_memory s root sound (rejection.Rules fault) at = absurd (sound.well_formed fault.rule fault.span at.fails)
+sound-in_memory s root sound rejection.NotYet at = absurd at
+sound-in_memory s root sound rejection.OutOfMemory at = refl
+
+-- a rule that fails in a system of tables, which is this one, as a rejection
+pub check-fault : (s : System) (root : Root) → IsFaultless s root → (t : System) → t ≡ s → (f : CheckFault) → IsTrueOf t f →
+    IsAtFault s root (of_system f)
+check-fault s root faultless t same (checking.Refused fault) fails =
+    record { faultless = faultless; fails = subst (λ (t : System). SystemFails t fault.rule fault.span) same fails }
+check-fault s root faultless t same checking.OutOfMemory fails = tt
+
+-- a class fault, as a rejection
+pub class-fault : (s : System) (root : Root) (f : ClassFault) → (f ≡ classes.OutOfMemory) ⊎ Fails s root f → IsAtFault s root (of_classes f)
+class-fault s root f (inl e) = subst (λ (f : ClassFault). IsAtFault s root (of_classes f)) (sym e) tt
+class-fault s root f (inr (duplicate_class y)) = duplicate_class y
+class-fault s root f (inr (unknown_parent y)) = unknown_parent y
+class-fault s root f (inr (cycle y)) = cycle y
+class-fault s root f (inr (duplicate_feature e y)) = duplicate_feature e y
+class-fault s root f (inr (bad_redefinition e y)) = bad_redefinition e y
+class-fault s root f (inr (no_root e)) = no_root e
+class-fault s root f (inr (limit y)) = limit y
+class-fault s root f (inr (left_out y)) = left_out y
+
+-- a tree that a text spells is spelled by the tokens that are found
+pub tree-found : (text : List ℕ) (ts : List Token) (tree : System) (is : IsSpelled text tree) → lexemes_of ts ≡ is.tokens →
+    IsSystem tree (kinds_of ts) is.nesting
+tree-found text ts tree is same =
+    let all : kinds is.tokens ≡ kinds_of ts = ap kinds (sym same) ∙ kinds-lexemes_of ts in
+    subst (λ (ks : List Kind). IsSystem tree ks is.nesting) all is.grammar
+
+-- what is true of the one error that a result can have
+pub err-is : {T E : Type 0} (P : E → Type 0) (r : Result T E) (x : E) → IsErrAnd r (λ e. e ≡ x) → P x → IfErr r P
+err-is P (Ok t) x is p = absurd is
+err-is P (Err e) x is p = subst P (sym is) p
+
+pub only-err-is : {T E : Type 0} (P : T → Type 0) (r : Result T E) (x y : E) → IsErrAnd r (λ e. e ≡ x) → x ≡ y →
+    MatchResult r P (λ e. e ≡ y)
+only-err-is P (Ok t) x y is same = absurd is
+only-err-is P (Err e) x y is same = is ∙ same
+
+-- places are no part of canonical text
+pub canonical-bare : (s : System) → canonical_text (bare_system s) ≡ canonical_text s
+unfolding canonical_text
+canonical-bare s = ap text_of_lines (classes-bare s.classes)

@@ -1,0 +1,65 @@
+use Rattle.std.proofs.Common.{◌≡◌, ◌∙◌, ap, sym}
+use Rattle.sc_tree.specs.View.{system_of}
+use Rattle.sc_class.specs.Entries.{root_of}
+use Rattle.sc_check.specs.SystemIn.{system_in}
+use Rattle.sc_serve.specs.NotYet.{is_not_yet}
+use Rattle.sc_serve.specs.Execution.{IsNotRunFor}
+use Rattle.sc_serve.specs.Refusal.{out_of_memory}
+use Rattle.sc_serve.proofs.ExecutionLemmas.{err-is, unreadable-refused, fault-refused, refused-not_run, sound-in_memory}
+use Rattle.sc_serve.proofs.execution.run_text.Goals as goal
+
+pub returns-in_err-system-clause-refused : goal.returns-in_err-system-clause-refused
+returns-in_err-system-clause-refused c =
+    err-is (IsNotRunFor c.args.text.now (root_of c.args.root.now)) c.from_residual.result _ c.from_residual.ensures.1
+    (refused-not_run c.args.text.now (root_of c.args.root.now) _
+    (unreadable-refused c.args.text.now (root_of c.args.root.now) _ c.in_err-system.ensures.refused))
+
+pub returns-in_err-system-clause-complete : goal.returns-in_err-system-clause-complete
+returns-in_err-system-clause-complete c = λ must.
+    err-is (λ e. e ≡ out_of_memory) c.from_residual.result _ c.from_residual.ensures.1 (c.in_err-system.ensures.found must.tree must.spelled)
+
+-- what is at fault in the system that was read
+pub returns-in_err-checked-clause-refused : goal.returns-in_err-checked-clause-refused
+returns-in_err-checked-clause-refused c =
+    err-is (IsNotRunFor c.args.text.now (root_of c.args.root.now)) c.from_residual-in_err-checked.result _ c.from_residual-in_err-checked.ensures.1
+    (refused-not_run c.args.text.now (root_of c.args.root.now) _
+    (fault-refused c.args.text.now (root_of c.args.root.now) (system_of c.in_ok-system.system) c.in_ok-system.ensures.spelled _ c.in_err-checked.ensures.fault))
+
+-- what must be run is sound
+pub returns-in_err-checked-clause-complete : goal.returns-in_err-checked-clause-complete
+returns-in_err-checked-clause-complete c = λ must.
+    err-is (λ e. e ≡ out_of_memory) c.from_residual-in_err-checked.result _ c.from_residual-in_err-checked.ensures.1
+    (sound-in_memory (system_of c.in_ok-system.system) (root_of c.args.root.now)
+    (must.runnable _ (c.in_ok-system.ensures.found must.tree must.spelled)).sound _ c.in_err-checked.ensures.fault)
+
+-- what isn't run yet
+pub returns-then-not_yet-clause-refused : goal.returns-then-not_yet-clause-refused
+returns-then-not_yet-clause-refused c =
+    record {
+      system = system_of c.in_ok-system.system;
+      spelled = c.in_ok-system.ensures.spelled;
+      sound = c.in_ok-checked.ensures.sound;
+      not_yet = ap is_not_yet (sym (ap system_in c.tables.ensures.same ∙ c.in_ok-checked.ensures.of_it)) ∙ sym c.not_yet.ensures ∙ c.if-not_yet.true;
+    }
+
+pub returns-then-not_yet-clause-complete : goal.returns-then-not_yet-clause-complete
+returns-then-not_yet-clause-complete c = λ must.
+    let known = (must.runnable _ (c.in_ok-system.ensures.found must.tree must.spelled)).supported in
+    let unknown = ap is_not_yet (sym (ap system_in c.tables.ensures.same ∙ c.in_ok-checked.ensures.of_it)) ∙ sym c.not_yet.ensures ∙ c.if-not_yet.true in
+    cc
+
+pub play-requires : goal.play-requires
+play-requires c = c.in_ok-checked.ensures.sound.faultless
+
+pub returns-clause-ok : goal.returns-clause-ok
+returns-clause-ok c =
+    record {
+      system = system_of c.in_ok-system.system;
+      spelled = c.in_ok-system.ensures.spelled;
+      runnable =
+          record {
+            sound = c.in_ok-checked.ensures.sound;
+            supported = ap is_not_yet (sym (ap system_in c.tables.ensures.same ∙ c.in_ok-checked.ensures.of_it)) ∙ sym c.not_yet.ensures ∙ c.if-not_yet.false;
+          };
+      is_run = c.in_ok-play.ensures;
+    }

@@ -1,0 +1,162 @@
+-- What the check, the run and the printing of a source text come to.
+use Rattle.std.specs.Prelude.{ℕ, ◌≡◌, ◌≤◌, ◌⊎◌, true, false, List, map, length, Option, slice_get, replicate}
+use Rattle.std.specs.Option.{option_map}
+use Rattle.sc_text.specs.Kind.{Kind}
+use Rattle.sc_text.specs.Spelling.{Lexeme, Spells, IsRefused}
+use Rattle.sc_tree.specs.Plain.{System}
+use Rattle.sc_tree.specs.Bare.{bare_system}
+use Rattle.sc_tree.specs.Grammar.Classes.{IsSystem}
+use Rattle.sc_tree.specs.Canonical.{canonical_text}
+use Rattle.sc_parse.specs.Parses.{Refuses}
+use Rattle.sc_parse.specs.declared.fault.ParseFault.{ParseFault}
+use Rattle.sc_text.specs.declared.token.Span.{Span}
+use Rattle.sc_class.specs.ClassNames.{Root}
+use Rattle.sc_class.specs.ClassRules as class_rules
+use Rattle.sc_class.specs.ClassRules.{IsFaultless}
+use Rattle.sc_world.specs.declared.status.Status.{Status}
+use Rattle.sc_world.specs.Lookup as lookup
+use Rattle.sc_world.specs.World.{World, opening, run, has_turn_at}
+use Rattle.sc_world.specs.Report.{report, status_of}
+use Rattle.sc_rules.specs.declared.rule.Rule.{Rule}
+use Rattle.sc_rules.specs.SystemRules.{SystemFails, WellFormed}
+use Rattle.sc_serve.specs.NotYet.{is_not_yet}
+use Rattle.sc_serve.specs.declared.refusal.Rejection.{Rejection}
+use Rattle.sc_serve.specs.declared.refusal.Rejection.TheVariants as rejection
+
+-- the kinds of the tokens that a text spells
+abbrev pub kinds : List Lexeme → List Kind
+kinds ts = map (λ t. t.kind) ts
+
+-- The text spells tokens that spell the tree, in no more than 1,048,576 bytes and nested at most 64 deep. The tree is one
+-- without places.
+pub record IsSpelled (text : List ℕ) (tree : System) : Type 0 where
+  pub tokens : List Lexeme
+  pub nesting : ℕ
+  pub spelled : Spells text tokens
+  pub short : length text ≤ 1048576
+  pub shallow : nesting ≤ 64
+  pub grammar : IsSystem tree (kinds tokens) nesting
+
+-- No class fault is in the system, which is run from this root, and no rule fails in it.
+pub record IsSound (system : System) (root : Root) : Type 0 where
+  pub faultless : IsFaultless system root
+  pub well_formed : WellFormed system
+
+-- The system is sound, and uses only what is run.
+pub record IsRunnable (system : System) (root : Root) : Type 0 where
+  pub sound : IsSound system root
+  pub supported : is_not_yet system ≡ false
+
+-- The text spells a system that is sound.
+pub record IsAccepted (text : List ℕ) (root : Root) : Type 0 where
+  pub system : System
+  pub spelled : IsSpelled text (bare_system system)
+  pub sound : IsSound system root
+
+-- The text spells a tree that is sound, wherever its parts stand.
+pub record MustBeAccepted (text : List ℕ) (root : Root) : Type 0 where
+  pub tree : System
+  pub spelled : IsSpelled text tree
+  pub sound : (system : System) → bare_system system ≡ tree → IsSound system root
+
+-- The same, and it uses only what is run.
+pub record MustBeRun (text : List ℕ) (root : Root) : Type 0 where
+  pub tree : System
+  pub spelled : IsSpelled text tree
+  pub runnable : (system : System) → bare_system system ≡ tree → IsRunnable system root
+
+-- ---- refusals
+
+-- The text spells tokens, and they spell no system, or none that is shallow, as the fault says.
+pub record IsNoSystem (text : List ℕ) (fault : ParseFault) : Type 0 where
+  pub tokens : List Lexeme
+  pub spelled : Spells text tokens
+  pub refuses : Refuses (kinds tokens) fault
+
+-- The text spells no system, as the rejection says, or memory ran out.
+abbrev pub IsUnreadable : List ℕ → Rejection → Type 0
+IsUnreadable text (rejection.Text fault) = IsRefused text fault
+IsUnreadable text (rejection.Grammar fault) = IsNoSystem text fault
+IsUnreadable text (rejection.Classes fault) = ⊥
+IsUnreadable text (rejection.Rules fault) = ⊥
+IsUnreadable text rejection.NotYet = ⊥
+IsUnreadable text rejection.OutOfMemory = Unit {0}
+
+-- The system has no class fault, and the rule fails in it at the place.
+pub record HasFailing (system : System) (root : Root) (rule : Rule) (place : Span) : Type 0 where
+  pub faultless : IsFaultless system root
+  pub fails : SystemFails system rule place
+
+-- What the rejection says is at fault in the system, or memory ran out.
+abbrev pub IsAtFault : System → Root → Rejection → Type 0
+IsAtFault system root (rejection.Classes fault) = class_rules.Fails system root fault
+IsAtFault system root (rejection.Rules fault) = HasFailing system root fault.rule fault.span
+IsAtFault system root rejection.OutOfMemory = Unit {0}
+IsAtFault system root rejection.NotYet = ⊥
+IsAtFault system root (rejection.Text fault) = ⊥
+IsAtFault system root (rejection.Grammar fault) = ⊥
+
+-- The text spells a system in which this is at fault.
+pub record HasFault (text : List ℕ) (root : Root) (why : Rejection) : Type 0 where
+  pub system : System
+  pub spelled : IsSpelled text (bare_system system)
+  pub fault : IsAtFault system root why
+
+-- A refusal is true of the text.
+abbrev pub IsRefusedFor : List ℕ → Root → Rejection → Type 0
+IsRefusedFor text root (rejection.Text fault) = IsRefused text fault
+IsRefusedFor text root (rejection.Grammar fault) = IsNoSystem text fault
+IsRefusedFor text root (rejection.Classes fault) = HasFault text root (rejection.Classes fault)
+IsRefusedFor text root (rejection.Rules fault) = HasFault text root (rejection.Rules fault)
+IsRefusedFor text root rejection.OutOfMemory = Unit {0}
+IsRefusedFor text root rejection.NotYet = ⊥
+
+-- The text spells a system that is sound, and uses what isn't run yet.
+pub record IsNotYet (text : List ℕ) (root : Root) : Type 0 where
+  pub system : System
+  pub spelled : IsSpelled text (bare_system system)
+  pub sound : IsSound system root
+  pub not_yet : is_not_yet system ≡ true
+
+-- What keeps the system of the text from being run is true of it.
+abbrev pub IsNotRunFor : List ℕ → Root → Rejection → Type 0
+IsNotRunFor text root (rejection.Text fault) = IsRefused text fault
+IsNotRunFor text root (rejection.Grammar fault) = IsNoSystem text fault
+IsNotRunFor text root (rejection.Classes fault) = HasFault text root (rejection.Classes fault)
+IsNotRunFor text root (rejection.Rules fault) = HasFault text root (rejection.Rules fault)
+IsNotRunFor text root rejection.NotYet = IsNotYet text root
+IsNotRunFor text root rejection.OutOfMemory = Unit {0}
+
+-- ---- runs
+
+-- a root, as the machine has it
+abbrev pub run_root : Root → lookup.Root
+run_root r = record { class = r.class; procedure = r.procedure }
+
+-- the world after so many turns of handler 0
+abbrev pub world_after : System → lookup.Root → ℕ → World
+world_after system root turns = run system (replicate turns 0) (opening root)
+
+-- The report and the status are those of the world after some turns of handler 0, of which there are at most so many, and
+-- fewer only where handler 0 has nothing to do any more.
+pub record IsRun (system : System) (root : lookup.Root) (limit : ℕ) (text : List ℕ) (status : Option Status) : Type 0 where
+  pub turns : ℕ
+  pub within : turns ≤ limit
+  pub ended : (turns ≡ limit) ⊎ (has_turn_at 0 (world_after system root turns) ≡ false)
+  pub report_is : text ≡ report (world_after system root turns)
+  pub status_is : status ≡ option_map status_of (slice_get (world_after system root turns) 0)
+
+-- The text spells a system that is sound and uses only what is run, and the report and the status are those of its run.
+pub record IsRunOf (text : List ℕ) (root : Root) (limit : ℕ) (output : List ℕ) (status : Option Status) : Type 0 where
+  pub system : System
+  pub spelled : IsSpelled text (bare_system system)
+  pub runnable : IsRunnable system root
+  pub is_run : IsRun system (run_root root) limit output status
+
+-- ---- canonical text
+
+-- The text spells a system, and the output is its canonical text.
+pub record IsPrinted (text output : List ℕ) : Type 0 where
+  pub tree : System
+  pub spelled : IsSpelled text tree
+  pub printed : output ≡ canonical_text tree

@@ -1,0 +1,123 @@
+// The source text of a system: the texts of its files, one after the other.
+
+ghost use Rattle.std.specs.Prelude.{◌≡◌, ◌+◌, ◌∷◌, ◌++◌, [], List, OnOk, OnErr, option_map, string_bytes};
+ghost use Rattle.sc_serve.specs.Source as spec;
+
+use std::alloc::{AllocError, Global};
+use std::marker::Model;
+
+/// The most bytes that a source text may have.
+pub const LONGEST_SOURCE: usize = 1_048_576;
+
+/// The source text of a system: the text of each file in order, each with a line feed after it. A byte
+/// order mark at the start of a file is no part of its text.
+#[derive(Drop)]
+pub struct Source {
+    text: String,
+    files: Vec<SourceFile>,
+}
+
+/// A file's name, and the length of its text in bytes.
+#[derive(Drop)]
+struct SourceFile {
+    name: String,
+    length: usize,
+}
+
+/// Where something stands in the files: the line and the column count from 1, and a column is a byte.
+#[derive(Debug, Drop, PartialEq, Eq)]
+pub struct Place<'s> {
+    pub file: &'s str,
+    pub line: usize,
+    pub column: usize,
+}
+
+impl Model for Source {
+    ghost Value = { List spec.File };
+
+    ghost view = { λ s. spec.files_in (string_bytes s.text) s.files.items };
+
+    ghost invariant = { λ s. spec.joined (spec.files_in (string_bytes s.text) s.files.items)
+        ≡ string_bytes s.text };
+}
+
+impl Source {
+    /// The source text of no file.
+    pub fn new(alloc: Global) -> Self
+        ensures { result ≡ [] }
+    {
+        Source {
+            text: String::new(alloc),
+            files: Vec::new(alloc),
+        }
+    }
+
+    /// The whole text.
+    pub fn text(&self) -> &str
+        ensures { result.now ≡ spec.joined self.now }
+    {
+        self.text.as_str()
+    }
+
+    /// Adds a file of that name and text. Where memory runs out nothing is added.
+    pub fn add(&mut self, alloc: Global, name: &str, text: &str) -> Result<(), AllocError>
+        ensures ok { OnOk result (self.new
+            ≡ self.old ++ record { name = name.now; text = spec.unmarked text.now } ∷ []) }
+        ensures err { OnErr result (self.new ≡ self.old) }
+    {
+        let text = unmarked(text);
+        let name = String::from_str(alloc, name)?;
+        let length = text.len();
+        self.files.reserve(1)?;
+        self.text.reserve(length + 1)?;
+        self.text.push_str(text).unwrap();
+        self.text.push('\n').unwrap();
+        self.files.push(SourceFile { name, length }).unwrap();
+        Ok(())
+    }
+
+    /// Where the byte at `offset` of the whole text stands, or None where the text ends before it. The
+    /// line feed after a file's text stands in that file.
+    pub fn place_of(&self, offset: usize) -> Option<Place<'_>>
+        ensures { option_map spec.seen result ≡ spec.place_of self.now offset }
+    {
+        let mut rest = self.text.as_bytes();
+        let mut offset = offset;
+        for file in &self.files {
+            if offset <= file.length {
+                return Some(place_after(file.name.as_str(), &rest[..offset]));
+            }
+            rest = &rest[file.length + 1..];
+            offset -= file.length + 1;
+        }
+        None
+    }
+}
+
+const BYTE_ORDER_MARK: &str = "\u{feff}";
+
+/// A text without the byte order mark at its start.
+fn unmarked(text: &str) -> &str
+    ensures { result.now ≡ spec.unmarked text.now }
+{
+    text.strip_prefix(BYTE_ORDER_MARK).unwrap_or(text)
+}
+
+/// The place of what comes after these bytes of a file.
+fn place_after<'s>(file: &'s str, before: &[u8]) -> Place<'s>
+    ensures file { result.file.now ≡ file.entry.now }
+    ensures line { result.line ≡ spec.line_after before.now }
+    ensures column { result.column ≡ spec.column_after before.now }
+{
+    let mut line = 1;
+    let mut column = 1;
+    for byte in before {
+        if *byte == b'\n' {
+            line += 1;
+            column = 1;
+        } else {
+            column += 1;
+        }
+    }
+    Place { file, line, column }
+}

@@ -1,6 +1,0 @@
-use Rattle.std.proofs.Common.{rules}
-use Rattle.scoop.proofs.Calls.{name_alone}
-use Rattle.scoop.proofs.not_yet.is_name.Goals as goal
-
-pub returns-then-is_none : goal.returns-then-is_none
-returns-then-is_none c = name_alone c.args.call.now.target c.args.call.now.actuals.items c.is_empty.result (search rules) (search rules)
