@@ -30,3 +30,4 @@ pub mod Reports
 pub mod Settled
 pub mod Clauses
 pub mod Chains
+pub mod Laws

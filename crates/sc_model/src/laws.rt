@@ -1,0 +1,27 @@
+//! Laws of the machine, each the contract of a function that does nothing.
+ghost use Rattle.sc_model.specs.Laws.{FewerAreEnough, IdleTurnsChangeNothing, RunsJoin, SilentStepsFall, TurnsAreVisible};
+
+/// A silent step makes what is left to do smaller.
+pub fn silent_steps_fall()
+    ensures { SilentStepsFall }
+{}
+
+/// The silent steps of a turn come to a visible one.
+pub fn turns_are_visible()
+    ensures { TurnsAreVisible }
+{}
+
+/// A handler that has no turn changes nothing.
+pub fn idle_turns_change_nothing()
+    ensures { IdleTurnsChangeNothing }
+{}
+
+/// A run of two lists is the run of the second from where the first ends.
+pub fn runs_join()
+    ensures { RunsJoin }
+{}
+
+/// A run that stays within fewer handlers is the same where there may be no more.
+pub fn fewer_handlers_are_enough()
+    ensures { FewerAreEnough }
+{}
