@@ -1,8 +1,7 @@
+pub mod Texts
+pub mod Playing
+pub mod Rows
+pub mod Joins
+pub mod Idle
+pub mod Fewer
 pub mod Silent
-pub mod KindsKept
-pub mod Numbered
-pub mod Meeting
-pub mod Sound
-pub mod ObjectsOf
-pub mod Fitting
-pub mod Reached

@@ -1,7 +1,6 @@
--- The silent steps end, and the bound on them is never met.
-use Rattle.std.proofs.Common.{◌≡◌, ℕ, ℤ, zero, suc, ◌+◌, ◌<◌, ◌≤◌, List, [], ◌∷◌, Option, Some, None, Ok, Err, Bool, true, false, refl, ap, ◌∙◌, subst, arith}
-use Rattle.std.specs.Prelude.{codes, bytes_eq, if◌then◌else◌}
-use Rattle.std.specs.Option.{option_or}
+-- Silent steps make what is left to do smaller, so the bound on them is never met.
+use Rattle.std.proofs.Common.{◌≡◌, ℕ, ℤ, zero, suc, ◌+◌, ◌<◌, ◌≤◌, List, [], ◌∷◌, ◌++◌, Option, Some, None, Ok, Err, Bool, true, false, refl, ap, ◌∙◌, subst, arith}
+use Rattle.std.specs.Prelude.{map, if◌then◌else◌, slice_get, ◌==◌, length, nat_lt}
 use Rattle.sc_formula.specs.declared.arithmetic.ArithmeticFault.TheVariants as fault
 use Rattle.sc_formula.specs.declared.arithmetic.ArithmeticOperator.{ArithmeticOperator}
 use Rattle.sc_formula.specs.declared.comparison.Comparison.{Comparison}
@@ -11,72 +10,105 @@ use Rattle.sc_tree.specs.declared.expression.UnaryOperator.{UnaryOperator}
 use Rattle.sc_tree.specs.declared.expression.UnaryOperator.TheVariants as unary
 use Rattle.sc_tree.specs.declared.expression.BinaryOperator.{BinaryOperator}
 use Rattle.sc_tree.specs.Plain as tree
-use Rattle.sc_tree.specs.Plain.{Instr, Instrs, no_instrs, instr_then, Branches, no_branches, branch_then}
+use Rattle.sc_tree.specs.Plain.{System, FeatureKind, DeclaredType, Clause, Head, Name, Variable, Named, ResultVariable, CreationCall, Exprs, no_exprs, expr_then, Instr, Instrs, no_instrs, instr_then, Branches, no_branches, branch_then}
+use Rattle.sc_class.specs.declared.identity.ClassId.{ClassId}
+use Rattle.sc_class.specs.declared.identity.ClassId.TheVariants as class
+use Rattle.sc_class.specs.Names.{is_print}
+use Rattle.sc_class.specs.Features.{DeclaredFeature, feature_named}
+use Rattle.sc_proctype.specs.declared.tag.Tag.{Tag}
+use Rattle.sc_proctype.specs.declared.tag.Tag.TheVariants as tag
+use Rattle.sc_proctype.specs.declared.entity_type.EntityType.{EntityType}
+use Rattle.sc_rules.specs.Names.{Assigned, no_such, fixed, to_local, to_attribute, assigned_type, Signature, signature_of, current, given, test_type}
+use Rattle.sc_model.specs.declared.cause.Cause.{Cause}
 use Rattle.sc_model.specs.declared.cause.Cause.TheVariants as cause
-use Rattle.sc_model.specs.declared.value.Value.{Value}
-use Rattle.sc_model.specs.declared.value.Value.TheVariants.{Integer, Boolean, Void}
-use Rattle.sc_model.specs.Object.{Binding, value_named, assigned}
-use Rattle.sc_model.specs.Operators.{arithmetic_of, comparison_of, connective_of}
-use Rattle.sc_model.specs.Step.{Task, Do, Eval, ApplyUnary, EvalRight, ApplyBinary, AssignTo, Print, PrintText, Choose, CallRoutine, Point, Step, Goes, Does, fails, gives, gives_found, begin_call, begin, evaluate, gives_outcome, apply_unary, apply_to_integers, apply_to_booleans, apply_binary, decided_by, eval_right, assign, print, choose_other, choose, apply_to_last, perform_on, perform, step_at, step}
-use Rattle.sc_model.specs.Size.{expr_size, instr_size, instrs_size, branches_size, task_size, size}
-use Rattle.sc_model.specs.Moves.{then_go, first_visible, moves, IsVisible}
+use Rattle.sc_model.specs.Values.{Reference, Value, Integer, Boolean, Void, Attached, Operand}
+use Rattle.sc_model.specs.Environments.{Binding, binding_named, handler_named}
+use Rattle.sc_model.specs.Objects.{Object, object_numbered, attributes_of, fresh_object}
+use Rattle.sc_model.specs.Invariants.{meets_invariant}
+use Rattle.sc_model.specs.Operators.{arithmetic_of, comparison_of, connective_of, identity_of, is_short}
+use Rattle.sc_model.specs.Routines.{place_in, version_of}
+use Rattle.sc_model.specs.Olds.{olds_in}
+use Rattle.sc_model.specs.Limits.{max_objects}
+use Rattle.sc_model.specs.Tasks.{Task, Do, In, Declare, Forget, Eval, ApplyUnary, EvalRight, ApplyBinary, Conclude, Bind, CallUnqualified, CallQualified, AssignTo, Print, Choose, Repeat, EndLoop, Checked, Require, Required, KeepOld, Ensured, CreateBy, Open, Leave, evals, head_evals, checks}
+use Rattle.sc_model.specs.Steps.{Point, Step, Goes, Does, stuck, fails, comes, gives, reads, reads_as, reads_attribute, popped}
+use Rattle.sc_model.specs.Calls.{given_by, passes_rights, enters_unqualified, calls_own, calls_unqualified, calls_kind, calls_version, requests, calls_object, calls_on, calls_qualified}
+use Rattle.sc_model.specs.Creations.{creates_object, creates_here, creates_at, creates_as, creates, assigned_at}
+use Rattle.sc_model.specs.ObjectTests.{is_tested, binds_if, binds}
+use Rattle.sc_model.specs.Expressions.{gives_outcome, gives_truth, apply_unary, apply_to_integers, apply_to_booleans, is_same_object, apply_binary, applies, decided_by, evals_right, concludes, gives_found, reads_result, reads_own, begins_kind, begins_feature, begins_name, evaluate}
+use Rattle.sc_model.specs.Instructions.{assigns, prints, chooses_other, chooses, ends_loop, tests, required, opens, procedure_of, actuals_of, begins_routine, begins}
+use Rattle.sc_model.specs.Sizes.{expr_size, exprs_size, clauses_size, heads_size, creation_size, instr_size, instrs_size, branches_size, task_size, size}
+use Rattle.sc_model.specs.Moves.{performs_on, performs, step_at, step, then_go, first_visible, moves}
+use Rattle.sc_model.specs.Laws.{IsVisible}
 
 -- what a step leaves is smaller, unless it is visible
 pub Smaller : ℕ → Step → Type 0
 Smaller n (Goes p) = size p.tasks < n
 Smaller n (Does a p) = Unit {0}
 
-call_smaller : (name : List ℕ) (e : tree.Expr) (p : Point) → Smaller (expr_size e + 2 + size p.tasks) (begin_call name e p)
-unfolding Smaller
-call_smaller name e p =
-    elim (bytes_eq name (codes "print")) as (λ b. Smaller (expr_size e + 2 + size p.tasks) (if b then Goes (record p { tasks = Eval e ∷ Print ∷ p.tasks }) else fails cause.BadCode p)) [
-      | true ↦ omega arith
-      | false ↦ tt
-    ]
+-- ---- sizes of what constructs set out
 
-begin_smaller : (i : Instr) (p : Point) → Smaller (instr_size i + size p.tasks) (begin i p)
-unfolding Smaller
-begin_smaller (tree.Assign s (tree.Named n) e) p = omega arith
-begin_smaller (tree.Assign s (tree.ResultVariable r) e) p = tt
-begin_smaller (tree.PrintText s t) p = omega arith
-begin_smaller (tree.CallRoutine s tree.no_target n tree.no_exprs) p = omega arith
-begin_smaller (tree.CallRoutine s tree.no_target n (tree.expr_then e tree.no_exprs)) p = call_smaller n.text e p
-begin_smaller (tree.CallRoutine s tree.no_target n (tree.expr_then e (tree.expr_then f es))) p = tt
-begin_smaller (tree.CallRoutine s (tree.target a) n es) p = tt
-begin_smaller (tree.Create s v c) p = tt
-begin_smaller (tree.If s e body elseifs other) p = omega arith
-begin_smaller (tree.Loop s initial e body) p = tt
-begin_smaller (tree.Check s cs) p = tt
-begin_smaller (tree.Block s hs body) p = tt
+size_append : (xs ys : List Task) → size (xs ++ ys) ≡ size xs + size ys
+size_append [] ys = omega arith
+size_append (t ∷ ts) ys = omega (arith, size_append ts ys)
 
-gives_smaller : (n : ℕ) (v : Value) (p : Point) → size p.tasks < n → Smaller n (gives v p)
-unfolding Smaller
-gives_smaller n v p h = h
+evals_size : (i : ℕ) (es : Exprs) → size (evals i es) ≡ exprs_size es
+evals_size i no_exprs = refl
+evals_size i (expr_then e es) = omega (arith, evals_size (i + olds_in e) es)
 
-found_smaller : (n : ℕ) (o : Option Value) (p : Point) → size p.tasks < n → Smaller n (gives_found o p)
-unfolding Smaller
-found_smaller n None p h = tt
-found_smaller n (Some v) p h = h
+heads_evals_size : (ds : List Head) → size (head_evals ds) ≡ heads_size ds
+heads_evals_size [] = refl
+heads_evals_size (d ∷ ds) = omega (arith, heads_evals_size ds)
 
-evaluate_smaller : (e : tree.Expr) (p : Point) → Smaller (expr_size e + size p.tasks) (evaluate e p)
+checks_size : (ks : List Clause) → size (checks ks) ≤ clauses_size ks
+checks_size [] = omega arith
+checks_size (k ∷ ks) = omega (arith, checks_size ks)
+
+actuals_size : (k : Option CreationCall) → exprs_size (actuals_of k) ≡ creation_size k
+actuals_size None = refl
+actuals_size (Some k) = refl
+
+comes_smaller : (n : ℕ) (ts : List Task) (p : Point) → size ts + size p.tasks < n → Smaller n (comes ts p)
 unfolding Smaller
-evaluate_smaller (tree.Integer s z) p = omega arith
-evaluate_smaller (tree.Boolean s b) p = omega arith
-evaluate_smaller (tree.Void s) p = tt
-evaluate_smaller (tree.Current s) p = tt
-evaluate_smaller (tree.Result s) p = tt
-evaluate_smaller (tree.Call s tree.no_target n (tree.expr_then e es)) p = tt
-evaluate_smaller (tree.Call s (tree.target a) n es) p = tt
-evaluate_smaller (tree.ObjectTest s t a n) p = tt
-evaluate_smaller (tree.Call s tree.no_target n tree.no_exprs) p = found_smaller _ (option_or (value_named n.text p.environment) (value_named n.text p.attributes)) p (omega arith)
-evaluate_smaller (tree.Unary s op a) p = omega arith
-evaluate_smaller (tree.Binary s op a b) p = omega arith
+comes_smaller n ts p h = omega (arith, size_append ts p.tasks)
+
+-- actuals, and then a task of size 1
+evals_smaller : (n i : ℕ) (es : Exprs) (t : Task) (p : Point) → task_size t ≡ 1 → exprs_size es + 1 + size p.tasks < n → Smaller n (comes (evals i es ++ t ∷ []) p)
+evals_smaller n i es t p one h = comes_smaller n (evals i es ++ t ∷ []) p (omega (arith, size_append (evals i es) (t ∷ []), evals_size i es, one))
+
+-- with a target before them
+target_smaller : (n i j : ℕ) (a : tree.Expr) (es : Exprs) (t : Task) (p : Point) → task_size t ≡ 1 → expr_size a + exprs_size es + 1 + size p.tasks < n
+    → Smaller n (comes (Eval i a ∷ evals j es ++ t ∷ []) p)
+target_smaller n i j a es t p one h =
+    comes_smaller n (Eval i a ∷ evals j es ++ t ∷ []) p (omega (arith, size_append (evals j es) (t ∷ []), size_append (Eval i a ∷ evals j es) (t ∷ []), evals_size j es, one))
+
+if_smaller : (n : ℕ) (b : Bool) (x y : Step) → Smaller n x → Smaller n y → Smaller n (if b then x else y)
+if_smaller n true x y h k = h
+if_smaller n false x y h k = k
+
+-- ---- values
+
+reads_as_smaller : (n : ℕ) (d : EntityType) (v : Value) (t : EntityType) (p : Point) → size p.tasks < n → Smaller n (reads_as d v t p)
+unfolding Smaller
+reads_as_smaller n d Void t p h = if_smaller n d.attached (fails cause.UnsetEntity p) (gives Void t p) tt h
+reads_as_smaller n d (Integer z) t p h = h
+reads_as_smaller n d (Boolean b) t p h = h
+reads_as_smaller n d (Attached r) t p h = h
+
+attribute_smaller : (n : ℕ) (b : Option Binding) (t : EntityType) (p : Point) → size p.tasks < n → Smaller n (reads_attribute b t p)
+unfolding Smaller
+attribute_smaller n None t p h = tt
+attribute_smaller n (Some b) t p h = reads_as_smaller n t b.value t p h
 
 outcome_smaller : (n : ℕ) (o : Outcome) (p : Point) → size p.tasks < n → Smaller n (gives_outcome o p)
 unfolding Smaller
 outcome_smaller n (Ok z) p h = h
 outcome_smaller n (Err fault.Overflow) p h = tt
 outcome_smaller n (Err fault.DivideByZero) p h = tt
+
+truth_smaller : (n : ℕ) (b : Option Bool) (p : Point) → size p.tasks < n → Smaller n (gives_truth b p)
+unfolding Smaller
+truth_smaller n None p h = tt
+truth_smaller n (Some b) p h = h
 
 unary_smaller : (n : ℕ) (op : UnaryOperator) (v : Value) (p : Point) → size p.tasks < n → Smaller n (apply_unary op v p)
 unfolding Smaller
@@ -85,10 +117,13 @@ unary_smaller n unary.Plus (Integer z) p h = h
 unary_smaller n unary.Minus (Integer z) p h = outcome_smaller n (opposite_of z) p h
 unary_smaller n unary.Not (Integer z) p h = tt
 unary_smaller n unary.Not Void p h = tt
+unary_smaller n unary.Not (Attached r) p h = tt
 unary_smaller n unary.Plus (Boolean b) p h = tt
 unary_smaller n unary.Plus Void p h = tt
+unary_smaller n unary.Plus (Attached r) p h = tt
 unary_smaller n unary.Minus (Boolean b) p h = tt
 unary_smaller n unary.Minus Void p h = tt
+unary_smaller n unary.Minus (Attached r) p h = tt
 unary_smaller n unary.Old v p h = tt
 
 integers_smaller : (n : ℕ) (o : Option ArithmeticOperator) (c : Option Comparison) (a b : ℤ) (p : Point) → size p.tasks < n → Smaller n (apply_to_integers o c a b p)
@@ -106,122 +141,387 @@ binary_smaller : (n : ℕ) (op : BinaryOperator) (v w : Value) (p : Point) → s
 unfolding Smaller
 binary_smaller n op (Integer a) (Integer b) p h = integers_smaller n (arithmetic_of op) (comparison_of op) a b p h
 binary_smaller n op (Boolean a) (Boolean b) p h = booleans_smaller n (connective_of op) a b p h
+binary_smaller n op (Attached r) (Attached q) p h = truth_smaller n (identity_of op (is_same_object r q)) p h
+binary_smaller n op (Attached r) Void p h = truth_smaller n (identity_of op false) p h
+binary_smaller n op Void (Attached q) p h = truth_smaller n (identity_of op false) p h
+binary_smaller n op Void Void p h = truth_smaller n (identity_of op true) p h
 binary_smaller n op (Integer a) (Boolean b) p h = tt
 binary_smaller n op (Integer a) Void p h = tt
+binary_smaller n op (Integer a) (Attached q) p h = tt
 binary_smaller n op (Boolean a) (Integer b) p h = tt
 binary_smaller n op (Boolean a) Void p h = tt
-binary_smaller n op Void w p h = tt
+binary_smaller n op (Boolean a) (Attached q) p h = tt
+binary_smaller n op (Attached r) (Integer b) p h = tt
+binary_smaller n op (Attached r) (Boolean b) p h = tt
+binary_smaller n op Void (Integer b) p h = tt
+binary_smaller n op Void (Boolean b) p h = tt
 
-right_smaller : (d : Option Bool) (op : BinaryOperator) (e : tree.Expr) (v : Value) (p : Point) → Smaller (expr_size e + 2 + size p.tasks) (eval_right d op e v p)
+applies_smaller : (n : ℕ) (op : BinaryOperator) (v : Value) (vs : List Operand) (p : Point) → size p.tasks < n → Smaller n (applies op v vs p)
 unfolding Smaller
-right_smaller (Some d) op e v p = omega arith
-right_smaller None op e v p = omega arith
+applies_smaller n op v [] p h = tt
+applies_smaller n op v (u ∷ vs) p h = binary_smaller n op u.value v (record p { values = vs }) h
 
-assign_smaller : (n : ℕ) (o : Option (List Binding)) (p : Point) → size p.tasks < n → Smaller n (assign o p)
+right_smaller : (d : Option Bool) (short : Bool) (op : BinaryOperator) (i : ℕ) (e : tree.Expr) (u : Operand) (p : Point) → Smaller (expr_size e + 2 + size p.tasks) (evals_right d short op i e u p)
 unfolding Smaller
-assign_smaller n None p h = tt
-assign_smaller n (Some a) p h = h
+right_smaller (Some b) short op i e u p = omega arith
+right_smaller None true op i e u p = omega arith
+right_smaller None false op i e u p = omega arith
 
-print_smaller : (n : ℕ) (v : Value) (p : Point) → Smaller n (print v p)
+concludes_smaller : (n : ℕ) (v : Value) (p : Point) → size p.tasks < n → Smaller n (concludes v p)
 unfolding Smaller
-print_smaller n (Integer z) p = tt
-print_smaller n (Boolean b) p = tt
-print_smaller n Void p = tt
+concludes_smaller n (Boolean b) p h = h
+concludes_smaller n (Integer z) p h = tt
+concludes_smaller n Void p h = tt
+concludes_smaller n (Attached r) p h = tt
 
-positive_instrs : (is : Instrs) → 0 < instrs_size is
-positive_instrs no_instrs = omega arith
-positive_instrs (instr_then i is) = omega (arith, positive_instrs is)
+-- ---- object tests
 
-other_smaller : (n : ℕ) (bs : Branches) (other : Instrs) (p : Point) → branches_size bs + instrs_size other + size p.tasks ≤ n → Smaller n (choose_other bs other p)
+binds_if_smaller : (n : ℕ) (b : Bool) (x : List ℕ) (v : Value) (t : EntityType) (p : Point) → size p.tasks < n → Smaller n (binds_if b x v t p)
 unfolding Smaller
-other_smaller n no_branches other p h = omega arith
-other_smaller n (branch_then e b bs) other p h = omega arith
+binds_if_smaller n true x v t p h = h
+binds_if_smaller n false x v t p h = h
 
-choose_smaller : (v : Value) (body : Instrs) (bs : Branches) (other : Instrs) (p : Point) → Smaller (instrs_size body + branches_size bs + instrs_size other + size p.tasks) (choose v body bs other p)
+binds_smaller : (n : ℕ) (s : System) (me : ℕ) (d : Option DeclaredType) (x : List ℕ) (v : Value) (t : Option EntityType) (p : Point) → size p.tasks < n → Smaller n (binds s me d x v t p)
 unfolding Smaller
-choose_smaller (Boolean true) body bs other p = omega (arith, positive_instrs other)
-choose_smaller (Boolean false) body bs other p = other_smaller _ bs other p (omega arith)
-choose_smaller (Integer z) body bs other p = tt
-choose_smaller Void body bs other p = tt
+binds_smaller n s me d x v None p h = tt
+binds_smaller n s me d x v (Some t) p h = binds_if_smaller n (is_tested s me (handler_named p.environment) v d t) x v t p h
 
-last_smaller : (n : ℕ) (op : BinaryOperator) (v : Value) (vs : List Value) (p : Point) → size p.tasks < n → Smaller n (apply_to_last op v vs p)
-unfolding Smaller
-last_smaller n op v [] p h = tt
-last_smaller n op v (w ∷ vs) p h = binary_smaller n op w v (record p { values = vs }) h
+-- ---- calls
 
-on_smaller : (t : Task) (v : Value) (p : Point) → Smaller (task_size t + size p.tasks) (perform_on t v p)
+enters_smaller : (n : ℕ) (me : Reference) (x : List ℕ) (us : List Operand) (g : Option (Option EntityType)) (p : Point) → Smaller n (enters_unqualified me x us g p)
 unfolding Smaller
-on_smaller (ApplyUnary op) v p = unary_smaller _ op v p (omega arith)
-on_smaller (EvalRight op e) v p = right_smaller (decided_by op v) op e v p
-on_smaller (ApplyBinary op) v p = last_smaller _ op v p.values p (omega arith)
-on_smaller (AssignTo n) v p = assign_smaller _ (assigned n v p.attributes) p (omega arith)
-on_smaller Print v p = print_smaller _ v p
-on_smaller (Choose body bs other) v p = choose_smaller v body bs other p
-on_smaller (Do b) v p = tt
-on_smaller (Eval e) v p = tt
-on_smaller (PrintText t) v p = tt
-on_smaller (CallRoutine n) v p = tt
+enters_smaller n me x us None p = tt
+enters_smaller n me x us (Some g) p = tt
+
+own_smaller : (n : ℕ) (s : System) (me : Reference) (x : List ℕ) (f : Option DeclaredFeature) (us : List Operand) (p : Point) → Smaller n (calls_own s me x f us p)
+unfolding Smaller
+own_smaller n s me x None us p = tt
+own_smaller n s me x (Some f) us p = enters_smaller n me x us (given_by (signature_of s (current (place_in s p.text)) f).gives) p
+
+unqualified_smaller : (n : ℕ) (s : System) (me : Reference) (x : List ℕ) (us : Option (List Operand × List Operand)) (p : Point) → Smaller n (calls_unqualified s me x us p)
+unfolding Smaller
+unqualified_smaller n s me x None p = tt
+unqualified_smaller n s me x (Some (us, vs)) p = own_smaller n s me x (feature_named s (class.Declared p.text.class) x) us (record p { values = vs })
+
+kind_smaller : (n : ℕ) (r : Reference) (x : List ℕ) (us : List Operand) (g : Option EntityType) (o : Object) (k : FeatureKind) (p : Point) → size p.tasks < n → Smaller n (calls_kind r x us g o k p)
+unfolding Smaller
+kind_smaller n r x us (Some t) o (tree.Attribute d) p h = attribute_smaller n (binding_named x o.attributes) t p h
+kind_smaller n r x us None o (tree.Attribute d) p h = tt
+kind_smaller n r x us (Some t) o (tree.Routine a b c d e f) p h = tt
+kind_smaller n r x us None o (tree.Routine a b c d e f) p h = tt
+
+version_smaller : (n : ℕ) (r : Reference) (x : List ℕ) (us : List Operand) (g : Option EntityType) (o : Option Object) (f : Option DeclaredFeature) (p : Point) → size p.tasks < n → Smaller n (calls_version r x us g o f p)
+unfolding Smaller
+version_smaller n r x us g (Some o) (Some f) p h = kind_smaller n r x us g o f.feature.kind p h
+version_smaller n r x us g (Some o) None p h = tt
+version_smaller n r x us g None f p h = tt
+
+requests_smaller : (n : ℕ) (r : Reference) (t : Tag) (x : List ℕ) (us : List Operand) (g : Option EntityType) (b : Bool) (p : Point) → Smaller n (requests r t x us g b p)
+unfolding Smaller
+requests_smaller n r tag.Own x us g b p = tt
+requests_smaller n r (tag.With y) x us g b p = tt
+requests_smaller n r tag.Any x us g b p = tt
+requests_smaller n r tag.None x us g b p = tt
+
+object_smaller : (n : ℕ) (s : System) (me r : Reference) (t : EntityType) (x : List ℕ) (us : List Operand) (g : Signature) (gives : Option (Option EntityType)) (p : Point) → size p.tasks < n → Smaller n (calls_object s me r t x us g gives p)
+unfolding Smaller
+object_smaller n s me r t x us g None p h = tt
+object_smaller n s me r t x us g (Some gives) p h =
+    if_smaller n (r.handler == me.handler) (calls_version r x us gives (object_numbered r.number p.objects) (version_of s r.class x) p) (requests r t.tag x us gives (passes_rights g.formals us) p)
+      (version_smaller n r x us gives (object_numbered r.number p.objects) (version_of s r.class x) p h)
+      (requests_smaller n r t.tag x us gives (passes_rights g.formals us) p)
+
+on_value_smaller : (n : ℕ) (s : System) (me : Reference) (x : List ℕ) (v : Value) (t : EntityType) (f : Option DeclaredFeature) (us : List Operand) (p : Point) → size p.tasks < n → Smaller n (calls_on s me x v t f us p)
+unfolding Smaller
+on_value_smaller n s me x Void t f us p h = tt
+on_value_smaller n s me x (Integer z) t f us p h = tt
+on_value_smaller n s me x (Boolean b) t f us p h = tt
+on_value_smaller n s me x (Attached r) t None us p h = tt
+on_value_smaller n s me x (Attached r) t (Some f) us p h = object_smaller n s me r t x us (signature_of s t f) (given_by (signature_of s t f).gives) p h
+
+qualified_smaller : (n : ℕ) (s : System) (me : Reference) (x : List ℕ) (us : Option (List Operand × List Operand)) (p : Point) → size p.tasks < n → Smaller n (calls_qualified s me x us p)
+unfolding Smaller
+qualified_smaller n s me x None p h = tt
+qualified_smaller n s me x (Some (us, [])) p h = tt
+qualified_smaller n s me x (Some (us, v ∷ vs)) p h = on_value_smaller n s me x v.value v.type (feature_named s v.type.class x) us (record p { values = vs }) h
+
+-- ---- creations
+
+new_object_smaller : (n : ℕ) (s : System) (r : Reference) (t : EntityType) (k : Option (List ℕ)) (us : List Operand) (p : Point) → Smaller n (creates_object s r t k us p)
+unfolding Smaller
+new_object_smaller n s r t (Some x) us p = tt
+new_object_smaller n s r t None us p = if_smaller n (meets_invariant s (fresh_object s r.class)) _ (fails cause.Invariant p) tt tt
+
+here_smaller : (n : ℕ) (s : System) (me : Reference) (k : ℕ) (t : EntityType) (call : Option (List ℕ)) (us : List Operand) (p : Point) → Smaller n (creates_here s me k t call us p)
+unfolding Smaller
+here_smaller n s me k t call us p =
+    if_smaller n (nat_lt (length p.objects) max_objects)
+      (creates_object s (record { handler = me.handler; number = length p.objects + 1; class = k }) t call us (record p { objects = p.objects ++ fresh_object s k ∷ [] }))
+      (fails cause.TooManyObjects p)
+      (new_object_smaller n s (record { handler = me.handler; number = length p.objects + 1; class = k }) t call us (record p { objects = p.objects ++ fresh_object s k ∷ [] })) tt
+
+creates_at_smaller : (n : ℕ) (s : System) (me : Reference) (call : Option (List ℕ)) (t : EntityType) (g : Tag) (c : ClassId) (us : List Operand) (p : Point) → Smaller n (creates_at s me call t g c us p)
+unfolding Smaller
+creates_at_smaller n s me call t tag.Own (class.Declared k) us p = here_smaller n s me k t call us p
+creates_at_smaller n s me call t tag.Any (class.Declared k) us p = tt
+creates_at_smaller n s me call t tag.Own class.Any us p = tt
+creates_at_smaller n s me call t tag.Own class.None us p = tt
+creates_at_smaller n s me call t tag.Own class.Integer us p = tt
+creates_at_smaller n s me call t tag.Own class.Boolean us p = tt
+creates_at_smaller n s me call t tag.Any class.Any us p = tt
+creates_at_smaller n s me call t tag.Any class.None us p = tt
+creates_at_smaller n s me call t tag.Any class.Integer us p = tt
+creates_at_smaller n s me call t tag.Any class.Boolean us p = tt
+creates_at_smaller n s me call t (tag.With x) c us p = tt
+creates_at_smaller n s me call t tag.None c us p = tt
+
+creates_as_smaller : (n : ℕ) (s : System) (me : Reference) (call : Option (List ℕ)) (t : Option EntityType) (us : List Operand) (p : Point) → Smaller n (creates_as s me call t us p)
+unfolding Smaller
+creates_as_smaller n s me call None us p = tt
+creates_as_smaller n s me call (Some t) us p = creates_at_smaller n s me call t t.tag t.class us p
+
+creates_smaller : (n : ℕ) (s : System) (me : Reference) (x : Variable) (call : Option (List ℕ)) (us : Option (List Operand × List Operand)) (p : Point) → Smaller n (creates s me x call us p)
+unfolding Smaller
+creates_smaller n s me x call None p = tt
+creates_smaller n s me x call (Some (us, vs)) p = creates_as_smaller n s me call (assigned_type (assigned_at s x p)) us (record p { tasks = AssignTo x ∷ p.tasks; values = vs })
+
+-- ---- expressions
+
+found_smaller : (n : ℕ) (u : Option Operand) (p : Point) → size p.tasks < n → Smaller n (gives_found u p)
+unfolding Smaller
+found_smaller n None p h = tt
+found_smaller n (Some u) p h = h
+
+result_smaller : (n : ℕ) (u : Option Operand) (t : Option (Option EntityType)) (p : Point) → size p.tasks < n → Smaller n (reads_result u t p)
+unfolding Smaller
+result_smaller n (Some u) (Some (Some t)) p h = reads_as_smaller n u.type u.value t p h
+result_smaller n (Some u) (Some None) p h = tt
+result_smaller n (Some u) None p h = tt
+result_smaller n None t p h = tt
+
+reads_own_smaller : (n : ℕ) (t : Option EntityType) (b : Option Binding) (p : Point) → size p.tasks < n → Smaller n (reads_own t b p)
+unfolding Smaller
+reads_own_smaller n None b p h = tt
+reads_own_smaller n (Some t) b p h = attribute_smaller n b t p h
+
+begins_kind_smaller : (s : System) (me : Reference) (x : List ℕ) (k : FeatureKind) (i : ℕ) (es : Exprs) (p : Point) → Smaller (exprs_size es + 2 + size p.tasks) (begins_kind s me x k i es p)
+unfolding Smaller
+begins_kind_smaller s me x (tree.Attribute d) i es p =
+    reads_own_smaller _ (given s (current (place_in s p.text)) d) (binding_named x (attributes_of me.number p.objects)) p (omega arith)
+begins_kind_smaller s me x (tree.Routine a b c d e f) i es p = evals_smaller _ i es _ p refl (omega arith)
+
+begins_feature_smaller : (s : System) (me : Reference) (x : List ℕ) (f : Option DeclaredFeature) (i : ℕ) (es : Exprs) (p : Point) → Smaller (exprs_size es + 2 + size p.tasks) (begins_feature s me x f i es p)
+unfolding Smaller
+begins_feature_smaller s me x None i es p = tt
+begins_feature_smaller s me x (Some f) i es p = begins_kind_smaller s me x f.feature.kind i es p
+
+begins_name_smaller : (s : System) (me : Reference) (x : List ℕ) (b : Option Binding) (i : ℕ) (es : Exprs) (p : Point) → Smaller (exprs_size es + 2 + size p.tasks) (begins_name s me x b i es p)
+unfolding Smaller
+begins_name_smaller s me x (Some b) i es p = reads_as_smaller _ b.type b.value b.type p (omega arith)
+begins_name_smaller s me x None i es p = begins_feature_smaller s me x (feature_named s (class.Declared p.text.class) x) i es p
+
+evaluate_smaller : (s : System) (me : Reference) (i : ℕ) (e : tree.Expr) (p : Point) → Smaller (expr_size e + size p.tasks) (evaluate s me i e p)
+unfolding Smaller
+evaluate_smaller s me i (tree.Integer q z) p = omega arith
+evaluate_smaller s me i (tree.Boolean q b) p = omega arith
+evaluate_smaller s me i (tree.Void q) p = omega arith
+evaluate_smaller s me i (tree.Current q) p = omega arith
+evaluate_smaller s me i (tree.Result q) p = result_smaller _ p.result p.text.result p (omega arith)
+evaluate_smaller s me i (tree.Call q tree.no_target x es) p = begins_name_smaller s me x.text (binding_named x.text p.environment) i es p
+evaluate_smaller s me i (tree.Call q (tree.target a) x es) p = target_smaller _ i (i + olds_in a) a es _ p refl (omega arith)
+evaluate_smaller s me i (tree.Unary q unary.Old a) p = found_smaller _ (slice_get p.olds i) p (omega arith)
+evaluate_smaller s me i (tree.Unary q unary.Not a) p = omega arith
+evaluate_smaller s me i (tree.Unary q unary.Plus a) p = omega arith
+evaluate_smaller s me i (tree.Unary q unary.Minus a) p = omega arith
+evaluate_smaller s me i (tree.Binary q op a b) p = omega arith
+evaluate_smaller s me i (tree.ObjectTest q d a x) p = omega arith
+
+-- ---- instructions
+
+assigns_smaller : (n : ℕ) (me : Reference) (x : Variable) (a : Assigned) (v : Value) (p : Point) → size p.tasks < n → Smaller n (assigns me x a v p)
+unfolding Smaller
+assigns_smaller n me (Named x) (to_local t) v p h = h
+assigns_smaller n me (Named x) (to_attribute t) v p h = h
+assigns_smaller n me (ResultVariable q) (to_local (Some t)) v p h = h
+assigns_smaller n me (Named x) no_such v p h = tt
+assigns_smaller n me (Named x) fixed v p h = tt
+assigns_smaller n me (ResultVariable q) no_such v p h = tt
+assigns_smaller n me (ResultVariable q) fixed v p h = tt
+assigns_smaller n me (ResultVariable q) (to_local None) v p h = tt
+assigns_smaller n me (ResultVariable q) (to_attribute t) v p h = tt
+
+prints_smaller : (n : ℕ) (v : Value) (p : Point) → Smaller n (prints v p)
+unfolding Smaller
+prints_smaller n (Integer z) p = tt
+prints_smaller n (Boolean b) p = tt
+prints_smaller n Void p = tt
+prints_smaller n (Attached r) p = tt
+
+other_smaller : (n depth : ℕ) (bs : Branches) (other : Instrs) (p : Point) → branches_size bs + instrs_size other + size p.tasks < n → Smaller n (chooses_other depth bs other p)
+unfolding Smaller
+other_smaller n depth no_branches other p h = omega arith
+other_smaller n depth (branch_then e b bs) other p h = omega arith
+
+chooses_smaller : (depth : ℕ) (v : Value) (body : Instrs) (bs : Branches) (other : Instrs) (p : Point) → Smaller (instrs_size body + branches_size bs + instrs_size other + 2 + size p.tasks) (chooses depth v body bs other p)
+unfolding Smaller
+chooses_smaller depth (Boolean true) body bs other p = omega arith
+chooses_smaller depth (Boolean false) body bs other p = other_smaller _ depth bs other _ (omega arith)
+chooses_smaller depth (Integer z) body bs other p = tt
+chooses_smaller depth Void body bs other p = tt
+chooses_smaller depth (Attached r) body bs other p = tt
+
+ends_loop_smaller : (n : ℕ) (v : Value) (e : tree.Expr) (body : Instrs) (p : Point) → Smaller n (ends_loop v e body p)
+unfolding Smaller
+ends_loop_smaller n (Boolean true) e body p = tt
+ends_loop_smaller n (Boolean false) e body p = tt
+ends_loop_smaller n (Integer z) e body p = tt
+ends_loop_smaller n Void e body p = tt
+ends_loop_smaller n (Attached r) e body p = tt
+
+tests_smaller : (n : ℕ) (why : Cause) (v : Value) (p : Point) → size p.tasks < n → Smaller n (tests why v p)
+unfolding Smaller
+tests_smaller n why (Boolean true) p h = h
+tests_smaller n why (Boolean false) p h = tt
+tests_smaller n why (Integer z) p h = tt
+tests_smaller n why Void p h = tt
+tests_smaller n why (Attached r) p h = tt
+
+required_smaller : (n : ℕ) (k : Clause) (v : Value) (p : Point) → size p.tasks < n → Smaller n (required k v p)
+unfolding Smaller
+required_smaller n k (Boolean true) p h = h
+required_smaller n k (Boolean false) p h = tt
+required_smaller n k (Integer z) p h = tt
+required_smaller n k Void p h = tt
+required_smaller n k (Attached r) p h = tt
+
+opens_smaller : (n : ℕ) (xs : List Name) (body : Instrs) (us : Option (List Operand × List Operand)) (p : Point) → Smaller n (opens xs body us p)
+unfolding Smaller
+opens_smaller n xs body None p = tt
+opens_smaller n xs body (Some (us, vs)) p = tt
+
+routine_smaller : (b : Bool) (x : List ℕ) (es : Exprs) (p : Point) → Smaller (exprs_size es + 2 + size p.tasks) (begins_routine b x es p)
+unfolding Smaller
+routine_smaller true x no_exprs p = tt
+routine_smaller true x (expr_then e no_exprs) p = omega arith
+routine_smaller true x (expr_then e (expr_then f es)) p = tt
+routine_smaller false x es p = evals_smaller _ 0 es _ p refl (omega arith)
+
+begins_smaller : (i : Instr) (p : Point) → Smaller (instr_size i + size p.tasks) (begins i p)
+unfolding Smaller
+begins_smaller (tree.Assign q x e) p = omega arith
+begins_smaller (tree.PrintText q text) p = tt
+begins_smaller (tree.CallRoutine q tree.no_target x es) p = routine_smaller (is_print x.text) x.text es p
+begins_smaller (tree.CallRoutine q (tree.target a) x es) p = target_smaller _ 0 0 a es _ p refl (omega arith)
+begins_smaller (tree.Create q x k) p = evals_smaller _ 0 (actuals_of k) _ p refl (omega (arith, actuals_size k))
+begins_smaller (tree.If q e body bs other) p = omega arith
+begins_smaller (tree.Loop q initial e body) p = omega arith
+begins_smaller (tree.Check q ks) p = comes_smaller _ (checks ks) p (omega (arith, checks_size ks))
+begins_smaller (tree.Block q ds body) p =
+    let open_task : Task = Open (map (λ (d : Head). d.name) ds) body in
+    comes_smaller _ (head_evals ds ++ open_task ∷ []) p (omega (arith, size_append (head_evals ds) (open_task ∷ []), heads_evals_size ds))
+
+-- ---- tasks
+
+on_smaller : (s : System) (me : Reference) (t : Task) (u : Operand) (p : Point) → Smaller (task_size t + size p.tasks) (performs_on s me t u p)
+unfolding Smaller
+on_smaller s me (ApplyUnary op) u p = unary_smaller _ op u.value p (omega arith)
+on_smaller s me (EvalRight op i e) u p = right_smaller (decided_by op u.value) (is_short op) op i e u p
+on_smaller s me (ApplyBinary op) u p = applies_smaller _ op u.value p.values p (omega arith)
+on_smaller s me Conclude u p = concludes_smaller _ u.value p (omega arith)
+on_smaller s me (Bind d x) u p = binds_smaller _ s me.handler d x u.value (test_type (place_in s p.text) d (Some u.type)) p (omega arith)
+on_smaller s me (AssignTo x) u p = assigns_smaller _ me x (assigned_at s x p) u.value p (omega arith)
+on_smaller s me Print u p = prints_smaller _ u.value p
+on_smaller s me (Choose depth body bs other) u p = chooses_smaller depth u.value body bs other p
+on_smaller s me (EndLoop e body) u p = ends_loop_smaller _ u.value e body p
+on_smaller s me Checked u p = tests_smaller _ cause.Check u.value p (omega arith)
+on_smaller s me (Required k) u p = required_smaller _ k u.value p (omega arith)
+on_smaller s me KeepOld u p = omega arith
+on_smaller s me Ensured u p = tests_smaller _ cause.Postcondition u.value p (omega arith)
+on_smaller s me (Do b) u p = tt
+on_smaller s me (In t) u p = tt
+on_smaller s me (Declare l) u p = tt
+on_smaller s me (Forget d) u p = tt
+on_smaller s me (Eval i e) u p = tt
+on_smaller s me (CallUnqualified x n) u p = tt
+on_smaller s me (CallQualified x n) u p = tt
+on_smaller s me (Repeat e b) u p = tt
+on_smaller s me (Require ks) u p = tt
+on_smaller s me (CreateBy x k n) u p = tt
+on_smaller s me (Open xs b) u p = tt
+on_smaller s me (Leave d) u p = tt
+
+weaker : (m n : ℕ) (st : Step) → m ≤ n → Smaller m st → Smaller n st
+unfolding Smaller
+weaker m n (Goes q) le h = omega (arith, le, h)
+weaker m n (Does a q) le h = tt
 
 -- one task, where p.tasks is what is left behind it
-perform_smaller : (t : Task) (vs : List Value) (p : Point) → Smaller (task_size t + size p.tasks) (perform t vs p)
+performs_smaller : (s : System) (me : Reference) (t : Task) (vs : List Operand) (p : Point) → Smaller (task_size t + size p.tasks) (performs s me t vs p)
 unfolding Smaller
-perform_smaller (Do no_instrs) vs p = omega arith
-perform_smaller (Do (instr_then i is)) vs p =
-    let q : Point = record p { values = vs; tasks = Do is ∷ p.tasks } in
-    subst (λ n. Smaller n (begin i q)) (omega arith) (begin_smaller i q)
-perform_smaller (Eval e) vs p = evaluate_smaller e (record p { values = vs })
-perform_smaller (PrintText t) vs p = tt
-perform_smaller (CallRoutine n) vs p = tt
-perform_smaller (ApplyUnary op) [] p = tt
-perform_smaller (EvalRight op e) [] p = tt
-perform_smaller (ApplyBinary op) [] p = tt
-perform_smaller (AssignTo n) [] p = tt
-perform_smaller Print [] p = tt
-perform_smaller (Choose body bs other) [] p = tt
-perform_smaller (ApplyUnary op) (v ∷ vs) p = on_smaller (ApplyUnary op) v (record p { values = vs })
-perform_smaller (EvalRight op e) (v ∷ vs) p = on_smaller (EvalRight op e) v (record p { values = vs })
-perform_smaller (ApplyBinary op) (v ∷ vs) p = on_smaller (ApplyBinary op) v (record p { values = vs })
-perform_smaller (AssignTo n) (v ∷ vs) p = on_smaller (AssignTo n) v (record p { values = vs })
-perform_smaller Print (v ∷ vs) p = on_smaller Print v (record p { values = vs })
-perform_smaller (Choose body bs other) (v ∷ vs) p = on_smaller (Choose body bs other) v (record p { values = vs })
+performs_smaller s me (Do no_instrs) vs p = omega arith
+performs_smaller s me (Do (instr_then i is)) vs p =
+    let q : Point = record p { tasks = Do is ∷ p.tasks } in
+    weaker (instr_size i + size q.tasks) (instrs_size (instr_then i is) + size p.tasks) (begins i q) (omega arith) (begins_smaller i q)
+performs_smaller s me (In text) vs p = omega arith
+performs_smaller s me (Declare locals) vs p = omega arith
+performs_smaller s me (Forget depth) vs p = omega arith
+performs_smaller s me (Eval i e) vs p = evaluate_smaller s me i e p
+performs_smaller s me (CallUnqualified x n) vs p = unqualified_smaller _ s me x (popped n [] vs) p
+performs_smaller s me (CallQualified x n) vs p = qualified_smaller _ s me x (popped n [] vs) p (omega arith)
+performs_smaller s me (Repeat e body) vs p = omega arith
+performs_smaller s me (Require []) vs p = tt
+performs_smaller s me (Require (k ∷ ks)) vs p = omega arith
+performs_smaller s me (CreateBy x k n) vs p = creates_smaller _ s me x k (popped n [] vs) p
+performs_smaller s me (Open xs body) vs p = opens_smaller _ xs body (popped (length xs) [] vs) p
+performs_smaller s me (Leave depth) vs p = tt
+performs_smaller s me (ApplyUnary op) [] p = tt
+performs_smaller s me (EvalRight op i e) [] p = tt
+performs_smaller s me (ApplyBinary op) [] p = tt
+performs_smaller s me Conclude [] p = tt
+performs_smaller s me (Bind d x) [] p = tt
+performs_smaller s me (AssignTo x) [] p = tt
+performs_smaller s me Print [] p = tt
+performs_smaller s me (Choose depth body bs other) [] p = tt
+performs_smaller s me (EndLoop e body) [] p = tt
+performs_smaller s me Checked [] p = tt
+performs_smaller s me (Required k) [] p = tt
+performs_smaller s me KeepOld [] p = tt
+performs_smaller s me Ensured [] p = tt
+performs_smaller s me (ApplyUnary op) (u ∷ vs) p = on_smaller s me (ApplyUnary op) u (record p { values = vs })
+performs_smaller s me (EvalRight op i e) (u ∷ vs) p = on_smaller s me (EvalRight op i e) u (record p { values = vs })
+performs_smaller s me (ApplyBinary op) (u ∷ vs) p = on_smaller s me (ApplyBinary op) u (record p { values = vs })
+performs_smaller s me Conclude (u ∷ vs) p = on_smaller s me Conclude u (record p { values = vs })
+performs_smaller s me (Bind d x) (u ∷ vs) p = on_smaller s me (Bind d x) u (record p { values = vs })
+performs_smaller s me (AssignTo x) (u ∷ vs) p = on_smaller s me (AssignTo x) u (record p { values = vs })
+performs_smaller s me Print (u ∷ vs) p = on_smaller s me Print u (record p { values = vs })
+performs_smaller s me (Choose depth body bs other) (u ∷ vs) p = on_smaller s me (Choose depth body bs other) u (record p { values = vs })
+performs_smaller s me (EndLoop e body) (u ∷ vs) p = on_smaller s me (EndLoop e body) u (record p { values = vs })
+performs_smaller s me Checked (u ∷ vs) p = on_smaller s me Checked u (record p { values = vs })
+performs_smaller s me (Required k) (u ∷ vs) p = on_smaller s me (Required k) u (record p { values = vs })
+performs_smaller s me KeepOld (u ∷ vs) p = on_smaller s me KeepOld u (record p { values = vs })
+performs_smaller s me Ensured (u ∷ vs) p = on_smaller s me Ensured u (record p { values = vs })
 
-step_at_smaller : (ts : List Task) (p : Point) → Smaller (size ts) (step_at ts p)
+step_at_smaller : (s : System) (me : Reference) (ts : List Task) (p : Point) → Smaller (size ts) (step_at s me ts p)
 unfolding Smaller
-step_at_smaller [] p = tt
-step_at_smaller (t ∷ ts) p = perform_smaller t p.values (record p { tasks = ts })
+step_at_smaller s me [] p = tt
+step_at_smaller s me (t ∷ ts) p = performs_smaller s me t p.values (record p { tasks = ts })
+
+-- ---- turns
 
 -- a silent step makes what is left smaller
-pub falls : (p q : Point) → step p ≡ Goes q → size q.tasks < size p.tasks
+pub falls : (s : System) (me : Reference) (p q : Point) → step s me p ≡ Goes q → size q.tasks < size p.tasks
 unfolding Smaller
-falls p q e = subst (Smaller (size p.tasks)) e (step_at_smaller p.tasks p)
+falls s me p q e = subst (Smaller (size p.tasks)) e (step_at_smaller s me p.tasks p)
 
-then_same : (s : Step) (f g : Point → Step) → ((q : Point) → s ≡ Goes q → f q ≡ g q) → then_go s f ≡ then_go s g
-then_same (Goes q) f g h = h q refl
-then_same (Does a q) f g h = refl
-
--- any bound above the size serves
-enough : (m n : ℕ) (p : Point) → size p.tasks < m → size p.tasks < n → first_visible m p ≡ first_visible n p
-enough zero n p h k = absurd (omega arith)
-enough (suc m) zero p h k = absurd (omega arith)
-enough (suc m) (suc n) p h k =
-    then_same (step p) (first_visible m) (first_visible n)
-    (λ q e. let lt = falls p q e in enough m n q (omega arith) (omega arith))
-
--- after a silent step the same visible one comes
-pub moves_goes : (p q : Point) → step p ≡ Goes q → moves p ≡ moves q
-moves_goes p q e =
-    let lt = falls p q e in
-    ap (λ s. then_go s (first_visible (size p.tasks))) e ∙ enough (size p.tasks) (suc (size q.tasks)) q lt (omega arith)
-
-then_visible : (s : Step) (go : Point → Step) → ((q : Point) → s ≡ Goes q → IsVisible (go q)) → IsVisible (then_go s go)
+then_visible : (st : Step) (go : Point → Step) → ((q : Point) → st ≡ Goes q → IsVisible (go q)) → IsVisible (then_go st go)
 then_visible (Goes q) go h = h q refl
 then_visible (Does a q) go h = tt
 
-visible_within : (n : ℕ) (p : Point) → size p.tasks < n → IsVisible (first_visible n p)
-visible_within zero p h = absurd (omega arith)
-visible_within (suc n) p h =
-    then_visible (step p) (first_visible n) (λ q e. let lt = falls p q e in visible_within n q (omega arith))
+visible_within : (n : ℕ) (s : System) (me : Reference) (p : Point) → size p.tasks < n → IsVisible (first_visible n s me p)
+visible_within zero s me p h = absurd (omega arith)
+visible_within (suc n) s me p h =
+    then_visible (step s me p) (first_visible n s me) (λ q e. let lt = falls s me p q e in visible_within n s me q (omega arith))
 
--- what moves is a visible step: the bound is never met
-pub moves_visible : (p : Point) → IsVisible (moves p)
-moves_visible p = visible_within (suc (size p.tasks)) p (omega arith)
+-- what a turn comes to is a visible step: the bound is never met
+pub moves_visible : (s : System) (me : Reference) (p : Point) → IsVisible (moves s me p)
+moves_visible s me p = visible_within (suc (size p.tasks)) s me p (omega arith)

@@ -1,47 +1,29 @@
--- What is true of a handler at every moment.
-use Rattle.std.specs.Prelude.{ℕ, ◌≡◌, ◌≢◌, ◌⊎◌, List, [], ◌∷◌, Some, None, All}
-use Rattle.sc_formula.specs.Atom.{kinds_of}
-use Rattle.sc_tree.specs.Plain.{Class, System}
-use Rattle.sc_model.specs.declared.frame_kind.FrameKind.TheVariants.{Creation}
-use Rattle.sc_model.specs.Lookup.{class_named}
-use Rattle.sc_model.specs.Object.{Object, object_numbered, atoms_of, fresh_attributes}
-use Rattle.sc_model.specs.Invariant.{MeetsInvariant}
-use Rattle.sc_model.specs.Handler.{Frame, Request, Create, Handler}
+-- Settled objects, and free handlers.
+use Rattle.std.specs.Prelude.{ℕ, ◌≡◌, ◌<◌, List, [], Option, Some, None, All}
+use Rattle.sc_tree.specs.Plain.{System}
+use Rattle.sc_model.specs.Objects.{Object, object_numbered}
+use Rattle.sc_model.specs.Invariants.{MeetsInvariant}
+use Rattle.sc_model.specs.Handlers.{Frame, Handler, World}
 
--- the frame of an unqualified call has the object of the frame under it
-abbrev pub SameBelow : ℕ → List Frame → Type 0
-SameBelow current [] = ⊥
-SameBelow current (frame ∷ below) = current ≡ frame.current
+-- no frame has the object of the number as Current
+abbrev pub IsNoCurrent : ℕ → List Frame → Type 0
+IsNoCurrent number stack = All (λ (f : Frame). f.current.number ≡ number → ⊥) stack
 
-abbrev pub IsChain : List Frame → Type 0
-IsChain [] = Unit {0}
-IsChain (frame ∷ below) = ((frame.kind ≡ Creation) ⊎ SameBelow frame.current below) × IsChain below
+-- The object of the number is settled: its handler has not failed, and no frame has it as Current.
+pub record IsSettled (x : Handler) (number : ℕ) : Type 0 where
+  pub stands : x.failure ≡ None
+  pub at_rest : IsNoCurrent number x.stack
 
--- no frame has the object as Current
-abbrev pub IsNobodys : ℕ → List Frame → Type 0
-IsNobodys number [] = Unit {0}
-IsNobodys number (frame ∷ below) = (frame.current ≢ number) × IsNobodys number below
+-- The handler has not failed, and runs nothing.
+pub record IsFree (x : Handler) : Type 0 where
+  pub stands : x.failure ≡ None
+  pub idle : x.stack ≡ []
 
--- each object that no frame has as Current meets its class invariant, unless the handler has failed
-abbrev pub SettledMeet : System → Handler → Type 0
-SettledMeet system handler =
-    (number : ℕ) (object : Object) → handler.failure ≡ None → IsNobodys number handler.stack
-    → object_numbered number handler.objects ≡ Some object → MeetsInvariant system object
+-- each settled object meets its class invariant (ECMA-367, 8.9.16)
+abbrev pub SettledObjectsMeet : System → World → Type 0
+SettledObjectsMeet s w =
+    (h number : ℕ) (o : Object) → h < w.count → IsSettled (w.handlers h) number → object_numbered number (w.handlers h).objects ≡ Some o → MeetsInvariant s o
 
-pub record IsSettled (system : System) (handler : Handler) : Type 0 where
-  pub chain : IsChain handler.stack
-  pub settled : SettledMeet system handler
-
--- the object is of the class, with as many attributes and of the same kinds as a new one
-pub record IsOf (system : System) (class : Class) (object : Object) : Type 0 where
-  pub named : class_named object.class system.classes ≡ Some class
-  pub kinds : kinds_of (atoms_of object.attributes) ≡ kinds_of (atoms_of (fresh_attributes class.features))
-
--- the request asks for an object of the class
-abbrev pub AsksFor : System → Class → Request → Type 0
-AsksFor system class (Create name procedure) = class_named name system.classes ≡ Some class
-
--- the handler's objects are of the class, and so are those that it is asked to make
-pub record HasObjectsOf (system : System) (class : Class) (handler : Handler) : Type 0 where
-  pub objects : (number : ℕ) (object : Object) → object_numbered number handler.objects ≡ Some object → IsOf system class object
-  pub requests : All (AsksFor system class) handler.queue
+-- each object of a free handler does
+abbrev pub FreeObjectsMeet : System → World → Type 0
+FreeObjectsMeet s w = (h : ℕ) → h < w.count → IsFree (w.handlers h) → All (MeetsInvariant s) (w.handlers h).objects

@@ -1,17 +1,15 @@
-//! The machine on trees: what a system does, turn by turn.
+//! The machine: what a checked system does, turn by turn.
 //!
-//! Its definitions stand in `specs/`: objects and the clauses that they meet, the steps of a routine, the turn of a
-//! handler, and the run of a world. The values that they speak of are types of this crate. The tree is that of the whole
-//! grammar; what of it isn't run yet fails at its step.
+//! Its definitions stand in `specs/`. A handler has objects and a stack of frames; what is left of a frame's routine is
+//! a list of tasks beside a list of values (`Tasks`, `Moves`). A turn is the silent steps up to and with the first visible
+//! one, whose effect on the handlers and on the rights over them comes with it (`Turns`). A run is the turns of a list of
+//! handler numbers (`Runs`), and `Reports` says what it leaves. [`laws`] has what holds of every system and every run.
+//! `docs/STEPS.md` tells the steps one by one.
 #![tactic(auto)]
 
 mod cause;
-mod frame_kind;
 pub mod laws;
 mod status;
-mod value;
 
 pub use cause::Cause;
-pub use frame_kind::FrameKind;
 pub use status::Status;
-pub use value::Value;

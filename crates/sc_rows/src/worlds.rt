@@ -2,10 +2,10 @@
 
 ghost use Rattle.std.specs.Prelude.{◌≡◌, ◌≤◌, Some, length, IfSome};
 ghost use Rattle.sc_tree.specs.View.{class_of, system_of};
-ghost use Rattle.sc_model.specs.Lookup.{class_named};
+ghost use Rattle.sc_world.specs.Lookup.{class_named};
 
 use crate::reading;
-use sc_model::{Cause, Status};
+use sc_world::{Cause, Status};
 use sc_tree::{Class, System};
 use sc_world::{Turned, World};
 use std::alloc::Global;

@@ -7,7 +7,7 @@ use Rattle.sc_tree.specs.declared.expression.Name.{Name}
 use Rattle.sc_tree.specs.declared.system.Class.{Class}
 use Rattle.sc_tree.specs.View.{name_of, class_of}
 use Rattle.sc_class.specs.Names.{is_listed}
-use Rattle.sc_model.specs.Lookup.{class_named}
+use Rattle.sc_world.specs.Lookup.{class_named}
 
 choose : {A B : Type 0} (f : A → B) (x : A) (b : Bool) (o : Option B) (q : Option A) → o ≡ option_map f q →
     cond b (Some (f x)) o ≡ option_map f (cond b (Some x) q)

@@ -3,12 +3,12 @@ use Rattle.std.proofs.Common.{◌≡◌, ℕ, ◌+◌, ◌≤◌, ◌⊎◌, Lis
 use Rattle.std.specs.Option.{option_map}
 use Rattle.std.proofs.lemmas.List.{replicate-append-replicate}
 use Rattle.sc_tree.specs.Plain.{System}
-use Rattle.sc_model.specs.declared.status.Status.{Status}
-use Rattle.sc_model.specs.Lookup.{Root}
-use Rattle.sc_model.specs.Handler.{Handler, Request, Frame, has_turn_with}
-use Rattle.sc_model.specs.Turn.{turn_with, take}
-use Rattle.sc_model.specs.World.{World, opening, run, has_turn_at}
-use Rattle.sc_model.specs.Report.{report, status_of}
+use Rattle.sc_world.specs.declared.status.Status.{Status}
+use Rattle.sc_world.specs.Lookup.{Root}
+use Rattle.sc_world.specs.Handler.{Handler, Request, Frame, has_turn_with}
+use Rattle.sc_world.specs.Turn.{turn_with, take}
+use Rattle.sc_world.specs.World.{World, opening, run, has_turn_at}
+use Rattle.sc_world.specs.Report.{report, status_of}
 use Rattle.sc_world.specs.declared.world.Turned.TheVariants.{Nothing}
 use Rattle.sc_world.specs.Kept.{Kept, opened, after_run, turned_of}
 use Rattle.sc_serve.specs.Execution.{IsRun}

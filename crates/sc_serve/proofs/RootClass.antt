@@ -16,7 +16,7 @@ use Rattle.sc_class.specs.Ancestors.{line, parent_number}
 use Rattle.sc_class.specs.Features.{declared_in, own_features, redefined_names, not_redefined, features_along}
 use Rattle.sc_class.specs.Limits.{many_features}
 use Rattle.sc_class.specs.ClassRules.{IsFaultless, creates_by, has_root, no_root, limit}
-use Rattle.sc_model.specs.Lookup.{class_named}
+use Rattle.sc_world.specs.Lookup.{class_named}
 
 -- ---- the first class of a name, by its number
 

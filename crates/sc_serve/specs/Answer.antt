@@ -1,7 +1,7 @@
 -- What the program answers for a source text.
 use Rattle.std.specs.Prelude.{ℕ, ◌≡◌, List, Option, Some, None, codes}
-use Rattle.sc_model.specs.declared.status.Status.{Status}
-use Rattle.sc_model.specs.declared.status.Status.TheVariants as status
+use Rattle.sc_world.specs.declared.status.Status.{Status}
+use Rattle.sc_world.specs.declared.status.Status.TheVariants as status
 use Rattle.sc_serve.specs.declared.serve.Exit.{Exit}
 use Rattle.sc_serve.specs.declared.serve.Exit.TheVariants.{Done, Failed, Unfinished}
 use Rattle.sc_serve.specs.declared.words.Command.{Command}

@@ -13,10 +13,10 @@ use Rattle.sc_text.specs.declared.token.Span.{Span}
 use Rattle.sc_class.specs.ClassNames.{Root}
 use Rattle.sc_class.specs.ClassRules as class_rules
 use Rattle.sc_class.specs.ClassRules.{IsFaultless}
-use Rattle.sc_model.specs.declared.status.Status.{Status}
-use Rattle.sc_model.specs.Lookup as lookup
-use Rattle.sc_model.specs.World.{World, opening, run, has_turn_at}
-use Rattle.sc_model.specs.Report.{report, status_of}
+use Rattle.sc_world.specs.declared.status.Status.{Status}
+use Rattle.sc_world.specs.Lookup as lookup
+use Rattle.sc_world.specs.World.{World, opening, run, has_turn_at}
+use Rattle.sc_world.specs.Report.{report, status_of}
 use Rattle.sc_rules.specs.declared.rule.Rule.{Rule}
 use Rattle.sc_rules.specs.SystemRules.{SystemFails, WellFormed}
 use Rattle.sc_serve.specs.NotYet.{is_not_yet}

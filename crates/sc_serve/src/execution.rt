@@ -16,11 +16,10 @@ use crate::refusal::Rejection;
 use crate::root::start_of;
 use sc_check::{Checked, check};
 use sc_class::{Root, tables};
-use sc_model::Status;
 use sc_parse::parse;
 use sc_text::lex;
 use sc_tree::{System, print_system};
-use sc_world::{Turned, World};
+use sc_world::{Status, Turned, World};
 use std::alloc::{AllocError, Global};
 
 /// What a run leaves: its report, and how handler 0 stands.

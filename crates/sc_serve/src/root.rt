@@ -5,7 +5,7 @@ ghost use Rattle.sc_tree.specs.View.{name_of, class_of, system_of};
 ghost use Rattle.sc_class.specs.ClassRules.{IsFaultless};
 ghost use Rattle.sc_class.specs.Entries.{root_of};
 ghost use Rattle.sc_class.specs.Names.{is_listed};
-ghost use Rattle.sc_model.specs.Lookup as lookup;
+ghost use Rattle.sc_world.specs.Lookup as lookup;
 
 use sc_class::Root;
 use sc_tree::{Class, Name, System};

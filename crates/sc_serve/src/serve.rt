@@ -9,7 +9,7 @@ use crate::files::{Files, read_text};
 use crate::refusal::Rejection;
 use crate::source::{LONGEST_SOURCE, Source};
 use crate::words::{Command, Invocation, UsageFault, read_words};
-use sc_model::Status;
+use sc_world::Status;
 use std::alloc::{AllocError, Global};
 use std::convert::AsStr;
 use std::io::{self, ErrorKind, Write};

@@ -19,9 +19,9 @@ use Rattle.sc_tree.specs.declared.system.Routine.{Routine}
 use Rattle.sc_tree.specs.declared.instruction.Clause.{Clause}
 use Rattle.sc_tree.specs.Plain as plain
 use Rattle.sc_tree.specs.View.{expr_of, instrs_of, type_if_any, declaration_of, kind_of, feature_of, clause_of}
-use Rattle.sc_model.specs.Object.{Binding, fresh_attribute, fresh_attributes}
-use Rattle.sc_model.specs.Invariant.{formula_of, with_clause, clauses_of}
-use Rattle.sc_model.specs.Turn.{body_of, body_named}
+use Rattle.sc_world.specs.Object.{Binding, fresh_attribute, fresh_attributes}
+use Rattle.sc_world.specs.Invariant.{formula_of, with_clause, clauses_of}
+use Rattle.sc_world.specs.Turn.{body_of, body_named}
 use Rattle.sc_world.proofs.Views.{feature_name, kind_of-routine, clause_condition}
 
 dropped : {A : Type 0} (xs : List A) (i : ℕ) (x : A) → i < length xs → x ≡ get_or xs i x → drop i xs ≡ x ∷ drop (i + 1) xs

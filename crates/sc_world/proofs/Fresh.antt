@@ -5,7 +5,7 @@ use Rattle.std.proofs.lemmas.List.Elements.{filter_map-append}
 use Rattle.sc_tree.specs.declared.system.Feature.{Feature}
 use Rattle.sc_tree.specs.Plain as plain
 use Rattle.sc_tree.specs.View.{feature_of}
-use Rattle.sc_model.specs.Object.{Binding, fresh_attribute, fresh_attributes}
+use Rattle.sc_world.specs.Object.{Binding, fresh_attribute, fresh_attributes}
 
 -- none or one
 abbrev pub listed : Option Binding → List Binding

@@ -1,7 +1,7 @@
 -- The last element of a `Vec` comes first in the model.
 use Rattle.std.proofs.Common.{◌≡◌, List, [], ◌∷◌, ◌++◌, refl}
-use Rattle.sc_model.specs.Step as m
-use Rattle.sc_model.specs.declared.value.Value.{Value}
+use Rattle.sc_world.specs.Step as m
+use Rattle.sc_world.specs.declared.value.Value.{Value}
 use Rattle.sc_world.specs.declared.stacks.Task.{Task}
 use Rattle.sc_world.specs.TaskView.{task_of, tasks_onto, values_onto}
 

@@ -4,11 +4,11 @@ use Rattle.std.specs.Prelude.{cond, find, bytes_eq, position, slice_set, if◌th
 use Rattle.std.specs.List.{position_from}
 use Rattle.std.proofs.lemmas.Iterator.Adapters.{position_from-zero}
 use Rattle.std.specs.Option.{option_map}
-use Rattle.sc_model.specs.declared.value.Value.{Value}
-use Rattle.sc_model.specs.Value.{same_kind}
-use Rattle.sc_model.specs.Object as m
-use Rattle.sc_model.specs.Object.{value_named, assigned}
-use Rattle.sc_model.specs.Invariant.{attribute_named}
+use Rattle.sc_world.specs.declared.value.Value.{Value}
+use Rattle.sc_world.specs.Value.{same_kind}
+use Rattle.sc_world.specs.Object as m
+use Rattle.sc_world.specs.Object.{value_named, assigned}
+use Rattle.sc_world.specs.Invariant.{attribute_named}
 use Rattle.sc_world.specs.declared.attributes.Binding.{Binding}
 use Rattle.sc_world.specs.BindingView.{binding_of, is_named}
 

@@ -1,8 +1,8 @@
 -- The object of a number, in a list of what stands for objects.
 use Rattle.std.proofs.Common.{◌≡◌, ◌≢◌, ℕ, zero, suc, ◌-◌, ◌<◌, ◌≤◌, List, [], ◌∷◌, Some, length, map, get_or, refl, sym, ap, ◌∙◌, arith}
 use Rattle.std.specs.Prelude.{slice_get, slice_set}
-use Rattle.sc_model.specs.Object.{Binding, Object, with_object, with_attributes}
-use Rattle.sc_model.proofs.Numbered.{with_suc}
+use Rattle.sc_world.specs.Object.{Binding, Object, with_object, with_attributes}
+use Rattle.sc_world.proofs.Numbered.{with_suc}
 
 get_map : {A : Type 0} (g : A → Object) (xs : List A) (i : ℕ) (d : A) → i < length xs → slice_get (map g xs) i ≡ Some (g (get_or xs i d))
 get_map g [] i d l = absurd (omega arith)

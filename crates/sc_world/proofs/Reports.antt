@@ -3,8 +3,8 @@ use Rattle.std.proofs.Common.{◌≡◌, ℕ, List, [], ◌∷◌, ◌++◌, Boo
 use Rattle.std.proofs.lemmas.Fmt.{decimal_digit}
 use Rattle.std.specs.Fmt.{decimal}
 use Rattle.std.specs.Prelude.{codes, if◌then◌else◌, ◌||◌}
-use Rattle.sc_model.specs.Handler.{Handler, has_turn}
-use Rattle.sc_model.specs.Report.{status_text, status_of, line_feed, end_text, report}
+use Rattle.sc_world.specs.Handler.{Handler, has_turn}
+use Rattle.sc_world.specs.Report.{status_text, status_of, line_feed, end_text, report}
 
 zero_text : decimal 0 ≡ 48 ∷ []
 zero_text = decimal_digit 0 (omega arith)

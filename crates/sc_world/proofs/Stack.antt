@@ -1,7 +1,7 @@
 -- The topmost frame, which is the last of a `Vec`, comes first in the model.
 use Rattle.std.proofs.Common.{◌≡◌, ℕ, zero, suc, ◌+◌, List, [], ◌∷◌, ◌++◌, length, take, get_or, refl, arith}
 use Rattle.std.specs.Prelude.{slice_set}
-use Rattle.sc_model.specs.Handler as m
+use Rattle.sc_world.specs.Handler as m
 use Rattle.sc_world.specs.declared.frames.Frame.{Frame}
 use Rattle.sc_world.specs.FrameView.{frame_of, frames_onto, below}
 

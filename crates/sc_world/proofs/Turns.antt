@@ -6,20 +6,20 @@ use Rattle.std.specs.Option.{option_map}
 use Rattle.sc_formula.specs.declared.atom.AtomKind.{AtomKind}
 use Rattle.sc_formula.specs.Atom.{kinds_of}
 use Rattle.sc_tree.specs.Plain.{Class, Instrs, System}
-use Rattle.sc_model.specs.declared.cause.Cause.TheVariants as cause
-use Rattle.sc_model.specs.declared.frame_kind.FrameKind.{FrameKind}
-use Rattle.sc_model.specs.declared.frame_kind.FrameKind.TheVariants.{Creation, Unqualified}
-use Rattle.sc_model.specs.Lookup.{class_named}
-use Rattle.sc_model.specs.Object.{Binding, Object, object_numbered, with_attributes, attributes_of, attributes_in, atoms_of, fresh_attributes}
-use Rattle.sc_model.specs.Invariant.{invariant_of, meets_clauses, meets_invariant_of}
-use Rattle.sc_model.specs.Step.{Point}
-use Rattle.sc_model.specs.Moves.{moves}
-use Rattle.sc_model.specs.Handler as m
-use Rattle.sc_model.specs.Turn.{fail, max_frames, entry, enter, class_in, class_of, object_meets, exit, point_of, frame_at, settled, routine_named, create, take, turn_with, turn}
-use Rattle.sc_model.specs.Settled.{HasObjectsOf}
-use Rattle.sc_model.proofs.KindsKept.{kinds, Keeps, moves_keeps}
-use Rattle.sc_model.proofs.Numbered.{numbered_same, numbered_none}
-use Rattle.sc_model.proofs.ObjectsOf.{class_name_is}
+use Rattle.sc_world.specs.declared.cause.Cause.TheVariants as cause
+use Rattle.sc_world.specs.declared.frame_kind.FrameKind.{FrameKind}
+use Rattle.sc_world.specs.declared.frame_kind.FrameKind.TheVariants.{Creation, Unqualified}
+use Rattle.sc_world.specs.Lookup.{class_named}
+use Rattle.sc_world.specs.Object.{Binding, Object, object_numbered, with_attributes, attributes_of, attributes_in, atoms_of, fresh_attributes}
+use Rattle.sc_world.specs.Invariant.{invariant_of, meets_clauses, meets_invariant_of}
+use Rattle.sc_world.specs.Step.{Point}
+use Rattle.sc_world.specs.Moves.{moves}
+use Rattle.sc_world.specs.Handler as m
+use Rattle.sc_world.specs.Turn.{fail, max_frames, entry, enter, class_in, class_of, object_meets, exit, point_of, frame_at, settled, routine_named, create, take, turn_with, turn}
+use Rattle.sc_world.specs.Settled.{HasObjectsOf}
+use Rattle.sc_world.proofs.KindsKept.{kinds, Keeps, moves_keeps}
+use Rattle.sc_world.proofs.Numbered.{numbered_same, numbered_none}
+use Rattle.sc_world.proofs.ObjectsOf.{class_name_is}
 use Rattle.sc_world.specs.declared.handler.Creation as request
 use Rattle.sc_world.specs.declared.point.Act.{Act}
 use Rattle.sc_world.specs.declared.point.Act.TheVariants as act

@@ -4,10 +4,10 @@ use Rattle.sc_text.specs.declared.token.Span.{Span}
 use Rattle.sc_tree.specs.declared.expression.Expr.{Expr}
 use Rattle.sc_tree.specs.Plain as plain
 use Rattle.sc_tree.specs.View.{exprs_of}
-use Rattle.sc_model.specs.declared.cause.Cause.TheVariants.{BadCode}
-use Rattle.sc_model.specs.Object.{Binding}
-use Rattle.sc_model.specs.Invariant.{term_of, formula_of}
-use Rattle.sc_model.specs.Step.{Point, fails, begin, evaluate}
+use Rattle.sc_world.specs.declared.cause.Cause.TheVariants.{BadCode}
+use Rattle.sc_world.specs.Object.{Binding}
+use Rattle.sc_world.specs.Invariant.{term_of, formula_of}
+use Rattle.sc_world.specs.Step.{Point, fails, begin, evaluate}
 
 pub term_with_actuals : (attributes : List Binding) (s : Span) (t : plain.Target) (n : plain.Name) (es : List Expr) → 1 ≤ length es → None ≡ term_of attributes (plain.Call s t n (exprs_of es))
 term_with_actuals attributes s t n [] l = absurd (omega arith)

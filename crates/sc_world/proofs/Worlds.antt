@@ -2,11 +2,11 @@
 use Rattle.std.proofs.Common.{◌≡◌, ℕ, ◌+◌, ◌<◌, List, [], ◌∷◌, ◌++◌, length, take, get_or, sym, ap, ◌∙◌, subst}
 use Rattle.std.proofs.lemmas.List.{take_more}
 use Rattle.sc_tree.specs.Plain.{Class, System}
-use Rattle.sc_model.specs.Lookup.{Root}
-use Rattle.sc_model.specs.Handler.{Handler}
-use Rattle.sc_model.specs.Turn.{turn}
-use Rattle.sc_model.specs.World.{IsReached, FreeObjectsMeet}
-use Rattle.sc_model.proofs.Reached.{run-append, reached_meet, reached_more}
+use Rattle.sc_world.specs.Lookup.{Root}
+use Rattle.sc_world.specs.Handler.{Handler}
+use Rattle.sc_world.specs.Turn.{turn}
+use Rattle.sc_world.specs.World.{IsReached, FreeObjectsMeet}
+use Rattle.sc_world.proofs.Reached.{run-append, reached_meet, reached_more}
 use Rattle.sc_world.specs.Kept.{Kept, IsKept, after_run}
 
 pub after_run-append : (kept : Kept) (first second : List ℕ) → after_run (after_run kept first) second ≡ after_run kept (first ++ second)

@@ -1,6 +1,6 @@
 -- What the attributes of the code stand for.
 use Rattle.std.specs.Prelude.{ℕ, Bool, List, bytes_eq}
-use Rattle.sc_model.specs.Object as m
+use Rattle.sc_world.specs.Object as m
 use Rattle.sc_world.specs.declared.attributes.Binding.{Binding}
 
 abbrev pub binding_of : Binding → m.Binding

@@ -1,6 +1,6 @@
 -- What the stack of the code stands for.
 use Rattle.std.specs.Prelude.{List, [], ◌∷◌}
-use Rattle.sc_model.specs.Handler as m
+use Rattle.sc_world.specs.Handler as m
 use Rattle.sc_world.specs.declared.frames.Frame.{Frame}
 
 -- a routine of this part has no entities of its own

@@ -3,15 +3,15 @@ use Rattle.std.specs.Prelude.{ℕ, ◌≡◌, Bool, true, List, [], ◌∷◌, O
 use Rattle.std.specs.Fmt.{signed_decimal}
 use Rattle.sc_formula.specs.Atom.{kinds_of}
 use Rattle.sc_tree.specs.Plain.{Class, System}
-use Rattle.sc_model.specs.declared.frame_kind.FrameKind.{FrameKind}
-use Rattle.sc_model.specs.declared.frame_kind.FrameKind.TheVariants.{Creation, Unqualified}
-use Rattle.sc_model.specs.Lookup.{class_named}
-use Rattle.sc_model.specs.Object as object
-use Rattle.sc_model.specs.Object.{object_numbered, with_attributes, atoms_of, fresh_attributes}
-use Rattle.sc_model.specs.Step as step
-use Rattle.sc_model.specs.Step.{boolean_text}
-use Rattle.sc_model.specs.Handler as m
-use Rattle.sc_model.specs.Turn.{effect}
+use Rattle.sc_world.specs.declared.frame_kind.FrameKind.{FrameKind}
+use Rattle.sc_world.specs.declared.frame_kind.FrameKind.TheVariants.{Creation, Unqualified}
+use Rattle.sc_world.specs.Lookup.{class_named}
+use Rattle.sc_world.specs.Object as object
+use Rattle.sc_world.specs.Object.{object_numbered, with_attributes, atoms_of, fresh_attributes}
+use Rattle.sc_world.specs.Step as step
+use Rattle.sc_world.specs.Step.{boolean_text}
+use Rattle.sc_world.specs.Handler as m
+use Rattle.sc_world.specs.Turn.{effect}
 use Rattle.sc_world.specs.declared.point.Act.{Act}
 use Rattle.sc_world.specs.declared.point.Act.TheVariants.{PrintsInteger, PrintsBoolean, PrintsText, Enters, Exits, Fails}
 use Rattle.sc_world.specs.declared.handler.Creation as request

@@ -1,8 +1,8 @@
 -- What a world is to its callers.
 use Rattle.std.specs.Prelude.{ℕ, ◌≡◌, Bool, List, Some, if◌then◌else◌}
 use Rattle.sc_tree.specs.Plain.{Class, System}
-use Rattle.sc_model.specs.Lookup.{Root, class_named}
-use Rattle.sc_model.specs.World.{World, IsReached, opening, run}
+use Rattle.sc_world.specs.Lookup.{Root, class_named}
+use Rattle.sc_world.specs.World.{World, IsReached, opening, run}
 use Rattle.sc_world.specs.declared.world.Turned.{Turned}
 use Rattle.sc_world.specs.declared.world.Turned.TheVariants.{Moved, Nothing}
 

@@ -1,3 +1,17 @@
+pub mod Lookup
+pub mod Value
+pub mod Object
+pub mod Operators
+pub mod Invariant
+pub mod Step
+pub mod Size
+pub mod Moves
+pub mod Handler
+pub mod Turn
+pub mod World
+pub mod Settled
+pub mod Stored
+pub mod Report
 pub mod BindingView
 pub mod FrameView
 pub mod Given

@@ -1,8 +1,8 @@
 -- What a point of the code and its steps stand for.
 use Rattle.std.specs.Prelude.{[], Option, Some, None}
 use Rattle.std.specs.Fmt.{signed_decimal}
-use Rattle.sc_model.specs.Step as m
-use Rattle.sc_model.specs.Step.{boolean_text}
+use Rattle.sc_world.specs.Step as m
+use Rattle.sc_world.specs.Step.{boolean_text}
 use Rattle.sc_world.specs.declared.point.Act.{Act}
 use Rattle.sc_world.specs.declared.point.Act.TheVariants.{PrintsInteger, PrintsBoolean, PrintsText, Enters, Exits, Fails}
 use Rattle.sc_world.specs.declared.point.Point.{Point}

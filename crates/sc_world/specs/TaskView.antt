@@ -1,8 +1,8 @@
 -- What the tasks and the values of the code stand for.
 use Rattle.std.specs.Prelude.{List, [], ◌∷◌}
 use Rattle.sc_tree.specs.View.{expr_of, instrs_of, branches_of}
-use Rattle.sc_model.specs.declared.value.Value.{Value}
-use Rattle.sc_model.specs.Step as m
+use Rattle.sc_world.specs.declared.value.Value.{Value}
+use Rattle.sc_world.specs.Step as m
 use Rattle.sc_world.specs.declared.stacks.Task.{Task}
 use Rattle.sc_world.specs.declared.stacks.Task.TheVariants.{Do, Eval, ApplyUnary, EvalRight, ApplyBinary, AssignTo, Print, PrintText, Choose, CallRoutine}
 

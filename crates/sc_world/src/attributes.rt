@@ -4,14 +4,14 @@ ghost use Rattle.std.specs.Prelude.{◌≡◌, ◌≤◌, length, position, [], 
 ghost use Rattle.std.specs.Bool.{OnFalse};
 ghost use Rattle.std.specs.Option.{option_map};
 ghost use Rattle.sc_tree.specs.View.{handler_tag_of, feature_of};
-ghost use Rattle.sc_model.specs.Value.{same_kind, default_of, default_with, atom_of};
-ghost use Rattle.sc_model.specs.Object as m;
-ghost use Rattle.sc_model.specs.Object.{assigned, value_named, atoms_of, fresh_attributes, fresh_attribute};
-ghost use Rattle.sc_model.specs.Invariant.{attribute_named};
+ghost use Rattle.sc_world.specs.Value.{same_kind, default_of, default_with, atom_of};
+ghost use Rattle.sc_world.specs.Object as m;
+ghost use Rattle.sc_world.specs.Object.{assigned, value_named, atoms_of, fresh_attributes, fresh_attribute};
+ghost use Rattle.sc_world.specs.Invariant.{attribute_named};
 ghost use Rattle.sc_world.specs.BindingView.{binding_of, is_named};
 
+use crate::value::Value;
 use sc_formula::Atom;
-use sc_model::Value;
 use sc_tree::{DeclaredType, Feature, FeatureKind, HandlerTag};
 use std::alloc::{AllocError, Global};
 use std::marker::Model;
@@ -31,7 +31,7 @@ pub struct Attributes<'s> {
 
 impl<'s> Model for Attributes<'s> {
     ghost use Rattle.std.specs.Prelude.{List, map};
-    ghost use Rattle.sc_model.specs.Object as m;
+    ghost use Rattle.sc_world.specs.Object as m;
     ghost use Rattle.sc_world.specs.BindingView.{binding_of};
 
     ghost Value = { List m.Binding };

@@ -1,11 +1,11 @@
 // The stack of a handler.
 
 ghost use Rattle.std.specs.Prelude.{◌≡◌, ◌<◌, [], ◌∷◌, List, IfOk, OnOk, OnErr, IfSome, IfNone, length};
-ghost use Rattle.sc_model.specs.Handler as m;
+ghost use Rattle.sc_world.specs.Handler as m;
 ghost use Rattle.sc_world.specs.FrameView.{frame_of, below};
 
+use crate::frame_kind::FrameKind;
 use crate::stacks::{Tasks, Values};
-use sc_model::FrameKind;
 use std::alloc::{AllocError, Global};
 use std::marker::Model;
 
@@ -28,8 +28,8 @@ pub struct Frames<'s> {
 
 impl<'s> Model for Frames<'s> {
     ghost use Rattle.std.specs.Prelude.{List, []};
-    ghost use Rattle.sc_model.specs.Handler as m;
-    ghost use Rattle.sc_model.specs.Stored.{tree_codes};
+    ghost use Rattle.sc_world.specs.Handler as m;
+    ghost use Rattle.sc_world.specs.Stored.{tree_codes};
     ghost use Rattle.sc_world.specs.FrameView.{frames_onto};
 
     ghost Value = { List m.Frame };

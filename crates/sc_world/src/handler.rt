@@ -2,23 +2,25 @@
 
 ghost use Rattle.std.specs.Prelude.{◌≡◌, ◌<◌, ℕ, [], ◌∷◌, List, Some, All, IfOk, OnOk, OnErr, length, map};
 ghost use Rattle.std.specs.Option.{option_map};
-ghost use Rattle.sc_model.specs.Object.{object_numbered, with_attributes};
-ghost use Rattle.sc_model.specs.Step.{boolean_text};
-ghost use Rattle.sc_model.specs.Handler as m_handler;
-ghost use Rattle.sc_model.specs.Turn as m;
-ghost use Rattle.sc_model.specs.Report.{status_of};
-ghost use Rattle.sc_model.specs.Settled.{AsksFor, HasObjectsOf};
+ghost use Rattle.sc_world.specs.Object.{object_numbered, with_attributes};
+ghost use Rattle.sc_world.specs.Step.{boolean_text};
+ghost use Rattle.sc_world.specs.Handler as m_handler;
+ghost use Rattle.sc_world.specs.Turn as m;
+ghost use Rattle.sc_world.specs.Report.{status_of};
+ghost use Rattle.sc_world.specs.Settled.{AsksFor, HasObjectsOf};
 ghost use Rattle.sc_world.specs.PointView as point;
 ghost use Rattle.sc_world.specs.FrameView.{frame_of, below};
 ghost use Rattle.sc_world.specs.HandlerView.{handler_of, queue_of, act_of, moved, entered, exited, after, passes, FitsObject};
 
 use crate::attributes::Attributes;
+use crate::cause::Cause;
+use crate::frame_kind::FrameKind;
 use crate::frames::{Frame, Frames};
 use crate::objects::{Object, Objects};
 use crate::point::{Act, Point, moves};
 use crate::program::Program;
 use crate::stacks::{Task, Tasks, Values};
-use sc_model::{Cause, FrameKind, Status};
+use crate::status::Status;
 use sc_tree::Instr;
 use std::alloc::{AllocError, Global};
 

@@ -5,12 +5,12 @@ ghost use Rattle.std.specs.Option.{option_map, option_and_then};
 ghost use Rattle.sc_formula.specs.Plain.{plain_term, plain_formula};
 ghost use Rattle.sc_tree.specs.Plain as plain;
 ghost use Rattle.sc_tree.specs.View.{name_of, expr_of, target_of, exprs_of, clause_of};
-ghost use Rattle.sc_model.specs.Invariant as m;
+ghost use Rattle.sc_world.specs.Invariant as m;
 
 use crate::attributes::Attributes;
 use crate::operators;
+use crate::value::Value;
 use sc_formula::{ArithmeticOperator, Comparison, Connective, Formula, Term};
-use sc_model::Value;
 use sc_tree::{Call, Clause, Expr, UnaryOperator};
 use std::alloc::{AllocError, Global};
 

@@ -1,8 +1,8 @@
 // The objects of a handler.
 
 ghost use Rattle.std.specs.Prelude.{◌≡◌, ◌<◌, [], ◌∷◌, ◌++◌, List, length, map, IfOk, OnOk, OnErr, is_some, take, ◌-◌};
-ghost use Rattle.sc_model.specs.Object as m;
-ghost use Rattle.sc_model.specs.Object.{attributes_of, object_numbered, with_attributes};
+ghost use Rattle.sc_world.specs.Object as m;
+ghost use Rattle.sc_world.specs.Object.{attributes_of, object_numbered, with_attributes};
 ghost use Rattle.sc_world.specs.ObjectView.{object_of};
 
 use crate::attributes::Attributes;
@@ -24,7 +24,7 @@ pub struct Objects<'s> {
 
 impl<'s> Model for Objects<'s> {
     ghost use Rattle.std.specs.Prelude.{List, map};
-    ghost use Rattle.sc_model.specs.Object as m;
+    ghost use Rattle.sc_world.specs.Object as m;
     ghost use Rattle.sc_world.specs.ObjectView.{object_of};
 
     ghost Value = { List m.Object };

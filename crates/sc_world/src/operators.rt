@@ -1,7 +1,7 @@
 // The operators of the language, as those of integers and of truth values.
 
 ghost use Rattle.std.specs.Prelude.{◌≡◌};
-ghost use Rattle.sc_model.specs.Operators.{arithmetic_of, comparison_of, connective_of};
+ghost use Rattle.sc_world.specs.Operators.{arithmetic_of, comparison_of, connective_of};
 
 use sc_formula::{ArithmeticOperator, Comparison, Connective};
 use sc_tree::BinaryOperator;

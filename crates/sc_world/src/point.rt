@@ -3,17 +3,18 @@
 ghost use Rattle.std.specs.Prelude.{◌≡◌, [], ◌∷◌, Some, List, IfOk, OnOk};
 ghost use Rattle.sc_tree.specs.Plain as plain;
 ghost use Rattle.sc_tree.specs.View.{name_of, expr_of, target_of, exprs_of, instr_of, instrs_of, branches_of};
-ghost use Rattle.sc_model.specs.Step as m;
-ghost use Rattle.sc_model.specs.Moves as m_moves;
-ghost use Rattle.sc_model.specs.Operators.{arithmetic_of, comparison_of};
+ghost use Rattle.sc_world.specs.Step as m;
+ghost use Rattle.sc_world.specs.Moves as m_moves;
+ghost use Rattle.sc_world.specs.Operators.{arithmetic_of, comparison_of};
 ghost use Rattle.sc_world.specs.TaskView.{task_of};
 ghost use Rattle.sc_world.specs.PointView.{point_of, step_of, visible};
 
 use crate::attributes::Attributes;
+use crate::cause::Cause;
 use crate::operators;
 use crate::stacks::{Task, Tasks, Values};
+use crate::value::Value;
 use sc_formula::{ArithmeticFault, arithmetic};
-use sc_model::{Cause, Value};
 use sc_tree::{BinaryOperator, Branch, Call, Expr, Instr, UnaryOperator, Variable};
 use std::alloc::AllocError;
 

@@ -5,9 +5,9 @@ ghost use Rattle.std.specs.Option.{option_map};
 ghost use Rattle.sc_formula.specs.Atom.{kinds_of};
 ghost use Rattle.sc_tree.specs.declared.system.FeatureKind.TheVariants as kind;
 ghost use Rattle.sc_tree.specs.View.{system_of, class_of, instrs_of, kind_of, feature_of};
-ghost use Rattle.sc_model.specs.Object.{fresh_attributes, atoms_of};
-ghost use Rattle.sc_model.specs.Invariant.{invariant_of, meets_clauses};
-ghost use Rattle.sc_model.specs.Turn.{body_of, body_named, routine_named};
+ghost use Rattle.sc_world.specs.Object.{fresh_attributes, atoms_of};
+ghost use Rattle.sc_world.specs.Invariant.{invariant_of, meets_clauses};
+ghost use Rattle.sc_world.specs.Turn.{body_of, body_named, routine_named};
 
 use crate::attributes::Attributes;
 use crate::invariant;
@@ -30,8 +30,8 @@ impl<'s> Model for Program<'s> {
     ghost use Rattle.std.specs.Option.{option_map};
     ghost use Rattle.sc_formula.specs.Plain.{plain_formula};
     ghost use Rattle.sc_tree.specs.View.{system_of, class_of};
-    ghost use Rattle.sc_model.specs.Invariant.{invariant_of};
-    ghost use Rattle.sc_model.specs.Stored.{tree_codes};
+    ghost use Rattle.sc_world.specs.Invariant.{invariant_of};
+    ghost use Rattle.sc_world.specs.Stored.{tree_codes};
     ghost use Rattle.sc_world.specs.Given.{Given};
 
     ghost Value = { Given };

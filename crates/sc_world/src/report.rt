@@ -1,11 +1,12 @@
 // What a run leaves, as text.
 
 ghost use Rattle.std.specs.Prelude.{◌≡◌, [], ◌∷◌, ◌++◌, IfOk, OnOk, codes, if◌then◌else◌};
-ghost use Rattle.sc_model.specs.Report as m;
+ghost use Rattle.sc_world.specs.Report as m;
 ghost use Rattle.sc_world.specs.HandlerView.{handler_of};
 
+use crate::cause::Cause;
 use crate::handler::Handler;
-use sc_model::{Cause, Status};
+use crate::status::Status;
 use std::alloc::{AllocError, Global};
 
 /// The handler's line, its output, and how the run has ended.

@@ -3,7 +3,7 @@
 ghost use Rattle.std.specs.Prelude.{◌≡◌, [], ◌∷◌, IfOk, OnOk, OnErr, IfSome, IfNone};
 ghost use Rattle.sc_world.specs.TaskView.{task_of};
 
-use sc_model::Value;
+use crate::value::Value;
 use sc_tree::{BinaryOperator, Branch, Expr, Instr, UnaryOperator};
 use std::alloc::{AllocError, Global};
 use std::marker::Model;
@@ -31,8 +31,8 @@ pub struct Tasks<'s> {
 
 impl<'s> Model for Tasks<'s> {
     ghost use Rattle.std.specs.Prelude.{List, []};
-    ghost use Rattle.sc_model.specs.Step as m;
-    ghost use Rattle.sc_model.specs.Stored.{tree_codes};
+    ghost use Rattle.sc_world.specs.Step as m;
+    ghost use Rattle.sc_world.specs.Stored.{tree_codes};
     ghost use Rattle.sc_world.specs.TaskView.{tasks_onto};
 
     ghost Value = { List m.Task };
@@ -85,7 +85,7 @@ pub struct Values {
 
 impl Model for Values {
     ghost use Rattle.std.specs.Prelude.{List, []};
-    ghost use Rattle.sc_model.specs.declared.value.Value.{Value as ModelValue};
+    ghost use Rattle.sc_world.specs.declared.value.Value.{Value as ModelValue};
     ghost use Rattle.sc_world.specs.TaskView.{values_onto};
 
     ghost Value = { List ModelValue };

@@ -5,15 +5,15 @@
 ghost use Rattle.std.specs.Prelude.{◌≡◌, ◌≤◌, ℕ, [], ◌∷◌, Some, length, take, IfOk, OnOk, OnErr, slice_get, string_bytes};
 ghost use Rattle.std.specs.Option.{option_map};
 ghost use Rattle.sc_tree.specs.View.{system_of, class_of};
-ghost use Rattle.sc_model.specs.Lookup.{class_named};
-ghost use Rattle.sc_model.specs.World as m;
-ghost use Rattle.sc_model.specs.Report as m_report;
+ghost use Rattle.sc_world.specs.Lookup.{class_named};
+ghost use Rattle.sc_world.specs.World as m;
+ghost use Rattle.sc_world.specs.Report as m_report;
 ghost use Rattle.sc_world.specs.Kept.{opened, after_run, turned_of};
 
 use crate::handler::Handler;
 use crate::program::Program;
 use crate::report;
-use sc_model::Status;
+use crate::status::Status;
 use sc_tree::{Class, Name, System};
 use std::alloc::{AllocError, Global};
 use std::marker::Model;
@@ -38,7 +38,7 @@ pub struct World<'s> {
 
 impl<'s> Model for World<'s> {
     ghost use Rattle.std.specs.Prelude.{[], ◌∷◌};
-    ghost use Rattle.sc_model.specs.Stored.{tree_codes};
+    ghost use Rattle.sc_world.specs.Stored.{tree_codes};
     ghost use Rattle.sc_world.specs.HandlerView.{handler_of};
     ghost use Rattle.sc_world.specs.Kept.{Kept, IsKept};
 

@@ -4,7 +4,7 @@ use Rattle.std.specs.Prelude.{slice_get, find, bytes_eq}
 use Rattle.sc_tree.specs.declared.system.Class.{Class}
 use Rattle.sc_tree.specs.Plain as plain
 use Rattle.sc_tree.specs.View.{class_of}
-use Rattle.sc_model.specs.Lookup.{class_named}
+use Rattle.sc_world.specs.Lookup.{class_named}
 use Rattle.sc_world.proofs.Views.{system_classes}
 use Rattle.sc_rows.proofs.worlds.root.Goals as goal
 

@@ -1,7 +1,7 @@
 use Rattle.std.proofs.Common.{◌<◌, ◌≤◌, length, ap, sym, ◌∙◌, arith}
 use Rattle.std.specs.Option.{option_map}
-use Rattle.sc_model.specs.Object.{with_attributes}
-use Rattle.sc_model.specs.Turn.{max_frames}
+use Rattle.sc_world.specs.Object.{with_attributes}
+use Rattle.sc_world.specs.Turn.{max_frames}
 use Rattle.sc_world.specs.FrameView.{frame_of}
 use Rattle.sc_world.specs.HandlerView.{handler_of, moved}
 use Rattle.sc_world.proofs.Turns.{entered_absent, entered_none, entered_room, entered_full}

@@ -2,10 +2,10 @@ use Rattle.std.proofs.Common.{◌≡◌, ◌+◌, ◌++◌, ◌∷◌, [], Some,
 use Rattle.std.proofs.lemmas.List.Elements.{All-head}
 use Rattle.std.specs.Prelude.{All}
 use Rattle.std.specs.Option.{option_map}
-use Rattle.sc_model.specs.declared.cause.Cause.TheVariants as cause
-use Rattle.sc_model.specs.declared.frame_kind.FrameKind.TheVariants.{Creation}
-use Rattle.sc_model.specs.Settled.{AsksFor}
-use Rattle.sc_model.specs.Turn.{fail, entry, routine_named, take}
+use Rattle.sc_world.specs.declared.cause.Cause.TheVariants as cause
+use Rattle.sc_world.specs.declared.frame_kind.FrameKind.TheVariants.{Creation}
+use Rattle.sc_world.specs.Settled.{AsksFor}
+use Rattle.sc_world.specs.Turn.{fail, entry, routine_named, take}
 use Rattle.sc_world.specs.FrameView.{frame_of}
 use Rattle.sc_world.specs.HandlerView.{handler_of, queue_of, request_of}
 use Rattle.sc_world.proofs.Mapped.{from_ok}

@@ -2,7 +2,7 @@ use Rattle.std.proofs.Common.{◌++◌, ◌+◌, map, drop, ap, sym, ◌∙◌}
 use Rattle.std.specs.Option.{option_map}
 use Rattle.sc_formula.specs.Plain.{plain_formula}
 use Rattle.sc_tree.specs.View.{clause_of}
-use Rattle.sc_model.specs.Invariant.{with_clause, clauses_of}
+use Rattle.sc_world.specs.Invariant.{with_clause, clauses_of}
 use Rattle.sc_world.proofs.Bodies.{clause_here, clause_pushed}
 use Rattle.sc_world.proofs.invariant.clauses.Goals as goal
 

@@ -2,7 +2,7 @@ use Rattle.std.proofs.Common.{◌≡◌, ◌++◌, drop, map}
 use Rattle.std.specs.Option.{option_map}
 use Rattle.sc_formula.specs.Plain.{plain_formula}
 use Rattle.sc_tree.specs.View.{clause_of}
-use Rattle.sc_model.specs.Invariant.{clauses_of}
+use Rattle.sc_world.specs.Invariant.{clauses_of}
 use Rattle.sc_world.proofs.invariant.clauses.Given as goal
 
 abbrev pub invariant-loop-clause : goal.invariant-loop-clause

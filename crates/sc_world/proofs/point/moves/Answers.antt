@@ -1,5 +1,5 @@
 use Rattle.std.proofs.Common.{sym, ◌∙◌, ap}
-use Rattle.sc_model.proofs.Silent.{falls, moves_goes}
+use Rattle.sc_world.proofs.Silent.{falls, moves_goes}
 use Rattle.sc_world.specs.PointView.{point_of, step_of}
 use Rattle.sc_world.proofs.point.moves.Goals as goal
 

@@ -1,6 +1,6 @@
 use Rattle.std.proofs.Common.{◌≡◌}
-use Rattle.sc_model.specs.Moves.{moves}
-use Rattle.sc_model.specs.Size.{size}
+use Rattle.sc_world.specs.Moves.{moves}
+use Rattle.sc_world.specs.Size.{size}
 use Rattle.sc_world.specs.PointView.{point_of}
 use Rattle.sc_world.proofs.point.moves.Given as goal
 

@@ -1,6 +1,6 @@
 use Rattle.std.proofs.Common.{◌≡◌, drop, map}
 use Rattle.sc_tree.specs.View.{feature_of}
-use Rattle.sc_model.specs.Turn.{body_named}
+use Rattle.sc_world.specs.Turn.{body_named}
 use Rattle.sc_world.proofs.program.routine_in.Given as goal
 
 abbrev pub invariant-loop-feature : goal.invariant-loop-feature

@@ -1,8 +1,8 @@
 use Rattle.std.proofs.Common.{◌≡◌, ◌++◌, [], length, refl, ap, ◌∙◌, arith}
 use Rattle.std.specs.Fmt.{decimal}
 use Rattle.std.specs.Prelude.{codes, if◌then◌else◌}
-use Rattle.sc_model.specs.Handler.{has_turn}
-use Rattle.sc_model.specs.Report.{status_text, status_of}
+use Rattle.sc_world.specs.Handler.{has_turn}
+use Rattle.sc_world.specs.Report.{status_text, status_of}
 use Rattle.sc_world.specs.HandlerView.{handler_of}
 use Rattle.sc_world.proofs.Reports.{report_is}
 use Rattle.sc_world.proofs.report.report.Goals as goal

@@ -1,7 +1,7 @@
 use Rattle.std.proofs.Common.{◌≡◌, Some, None, map, ap, sym, ◌∙◌}
 use Rattle.std.specs.Prelude.{position, slice_set}
-use Rattle.sc_model.specs.Value.{same_kind}
-use Rattle.sc_model.specs.Object.{assigned}
+use Rattle.sc_world.specs.Value.{same_kind}
+use Rattle.sc_world.specs.Object.{assigned}
 use Rattle.sc_world.specs.BindingView.{binding_of, is_named}
 use Rattle.sc_world.proofs.Named.{assigned_found, assigned_refused, assigned_missing}
 use Rattle.sc_world.proofs.attributes.Attributes.assign.Goals as goal

@@ -1,5 +1,5 @@
 use Rattle.std.proofs.Common.{◌≡◌, take, map}
-use Rattle.sc_model.specs.Object.{atoms_of}
+use Rattle.sc_world.specs.Object.{atoms_of}
 use Rattle.sc_world.specs.BindingView.{binding_of}
 use Rattle.sc_world.proofs.attributes.Attributes.atoms.Given as goal
 

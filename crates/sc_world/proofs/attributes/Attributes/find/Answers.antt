@@ -1,6 +1,6 @@
 use Rattle.std.proofs.Common.{◌≡◌, Some, None, ap, sym, ◌∙◌}
 use Rattle.std.specs.Prelude.{position}
-use Rattle.sc_model.specs.Invariant.{attribute_named}
+use Rattle.sc_world.specs.Invariant.{attribute_named}
 use Rattle.sc_world.specs.BindingView.{is_named}
 use Rattle.sc_world.proofs.Named.{attribute_found, attribute_missing}
 use Rattle.sc_world.proofs.attributes.Attributes.find.Goals as goal

@@ -2,7 +2,7 @@ use Rattle.std.proofs.Common.{◌++◌, ◌∷◌, [], map, take, append-nil, ap
 use Rattle.std.proofs.lemmas.List.{map-append}
 use Rattle.std.specs.Option.{option_map}
 use Rattle.sc_tree.specs.View.{feature_of}
-use Rattle.sc_model.specs.Object.{fresh_attributes}
+use Rattle.sc_world.specs.Object.{fresh_attributes}
 use Rattle.sc_world.specs.BindingView.{binding_of}
 use Rattle.sc_world.proofs.Fresh.{listed, fresh_more}
 use Rattle.sc_world.proofs.attributes.Attributes.fresh.Goals as goal

@@ -1,6 +1,6 @@
 use Rattle.std.proofs.Common.{◌≡◌, take, map}
 use Rattle.sc_tree.specs.View.{feature_of}
-use Rattle.sc_model.specs.Object.{fresh_attributes}
+use Rattle.sc_world.specs.Object.{fresh_attributes}
 use Rattle.sc_world.specs.BindingView.{binding_of}
 use Rattle.sc_world.proofs.attributes.Attributes.fresh.Given as goal
 

@@ -1,6 +1,6 @@
 use Rattle.std.proofs.Common.{◌≡◌, Some, None, ap, sym, ◌∙◌}
 use Rattle.std.specs.Prelude.{position}
-use Rattle.sc_model.specs.Object.{value_named}
+use Rattle.sc_world.specs.Object.{value_named}
 use Rattle.sc_world.specs.BindingView.{is_named}
 use Rattle.sc_world.proofs.Named.{value_found, value_missing}
 use Rattle.sc_world.proofs.attributes.Attributes.value.Goals as goal

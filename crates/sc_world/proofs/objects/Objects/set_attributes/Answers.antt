@@ -1,5 +1,5 @@
 use Rattle.std.proofs.Common.{ap, ◌∙◌, arith}
-use Rattle.sc_model.specs.Object.{with_attributes}
+use Rattle.sc_world.specs.Object.{with_attributes}
 use Rattle.sc_world.specs.ObjectView.{object_of}
 use Rattle.sc_world.proofs.Placed.{placed}
 use Rattle.sc_world.proofs.objects.Objects.set_attributes.Goals as goal

@@ -5,10 +5,10 @@ use Rattle.sc_formula.specs.Atom.{kinds_of}
 use Rattle.sc_formula.specs.Fit.{IsFit}
 use Rattle.sc_formula.specs.Plain.{plain_formula}
 use Rattle.sc_tree.specs.View.{class_of}
-use Rattle.sc_model.specs.Object.{fresh_attributes, atoms_of}
-use Rattle.sc_model.specs.Invariant.{invariant_of, meets_clauses}
-use Rattle.sc_model.proofs.Fitting.{clauses_fit}
-use Rattle.sc_model.proofs.Meeting.{truth_is}
+use Rattle.sc_world.specs.Object.{fresh_attributes, atoms_of}
+use Rattle.sc_world.specs.Invariant.{invariant_of, meets_clauses}
+use Rattle.sc_world.proofs.Fitting.{clauses_fit}
+use Rattle.sc_world.proofs.Meeting.{truth_is}
 use Rattle.sc_world.proofs.Mapped.{all_map}
 use Rattle.sc_world.proofs.program.Program.is_met.Goals as goal
 

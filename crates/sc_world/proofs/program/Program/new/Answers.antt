@@ -1,7 +1,7 @@
 use Rattle.std.proofs.Common.{◌≡◌, length, map, ap, ◌∙◌, arith}
 use Rattle.std.proofs.lemmas.List.{length-map}
 use Rattle.sc_tree.specs.View.{feature_of}
-use Rattle.sc_model.specs.Object.{fresh_attributes}
+use Rattle.sc_world.specs.Object.{fresh_attributes}
 use Rattle.sc_world.proofs.Bodies.{length_fresh}
 use Rattle.sc_world.proofs.program.Program.new.Goals as goal
 

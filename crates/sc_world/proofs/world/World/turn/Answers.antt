@@ -1,6 +1,6 @@
 use Rattle.std.proofs.Common.{[], ◌∷◌, sym, subst}
-use Rattle.sc_model.specs.World.{FreeObjectsMeet}
-use Rattle.sc_model.proofs.Reached.{reached_first, reached_meet}
+use Rattle.sc_world.specs.World.{FreeObjectsMeet}
+use Rattle.sc_world.proofs.Reached.{reached_first, reached_meet}
 use Rattle.sc_world.specs.HandlerView.{handler_of}
 use Rattle.sc_world.proofs.Worlds.{kept_turn, kept_meet}
 use Rattle.sc_world.proofs.world.World.turn.Goals as goal

@@ -1,5 +1,5 @@
 use Rattle.std.proofs.Common.{◌≡◌, take}
-use Rattle.sc_model.specs.World.{FreeObjectsMeet}
+use Rattle.sc_world.specs.World.{FreeObjectsMeet}
 use Rattle.sc_world.specs.Kept.{after_run}
 use Rattle.sc_world.proofs.world.World.turns.Given as goal
 

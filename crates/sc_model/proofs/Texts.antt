@@ -1,0 +1,120 @@
+-- Systems as terms, without spans, for the rows.
+use Rattle.std.specs.Prelude.{ℕ, ℤ, pos, Bool, true, false, List, [], ◌∷◌, Option, Some, None, codes, map}
+use Rattle.sc_text.specs.declared.token.Span.{Span}
+use Rattle.sc_tree.specs.declared.expression.UnaryOperator.TheVariants as unary
+use Rattle.sc_tree.specs.declared.expression.BinaryOperator.{BinaryOperator}
+use Rattle.sc_tree.specs.declared.expression.BinaryOperator.TheVariants as binary
+use Rattle.sc_tree.specs.Plain as tree
+use Rattle.sc_tree.specs.Plain.{System, Class, Feature, Name, DeclaredType, Declaration, HandlerTag, Own, Separate, Clause, Expr, Exprs, no_exprs, expr_then, no_target, target, Variable, Named, ResultVariable, Instr, Instrs, no_instrs, instr_then, no_branches}
+use Rattle.sc_class.specs.ClassNames.{Root}
+
+abbrev pub nowhere : Span
+nowhere = record { start = 0; end = 0 }
+
+abbrev pub named : List ℕ → Name
+named x = record { text = x; span = nowhere }
+
+-- ---- types and declarations
+
+abbrev pub type_with : HandlerTag → List ℕ → DeclaredType
+type_with tag c = record { span = nowhere; is_detachable = false; tag = tag; class = named c }
+
+-- a type of the current handler
+abbrev pub own : List ℕ → DeclaredType
+own c = type_with Own c
+
+abbrev pub separate : List ℕ → DeclaredType
+separate c = type_with Separate c
+
+abbrev pub integer : DeclaredType
+integer = own (codes "integer")
+
+abbrev pub declared : List ℕ → DeclaredType → Declaration
+declared x t = record { name = named x; declared_type = t }
+
+-- ---- expressions
+
+abbrev pub each : List Expr → Exprs
+each [] = no_exprs
+each (e ∷ es) = expr_then e (each es)
+
+abbrev pub number : ℤ → Expr
+number z = tree.Integer nowhere z
+
+abbrev pub truth : Bool → Expr
+truth b = tree.Boolean nowhere b
+
+abbrev pub the_current : Expr
+the_current = tree.Current nowhere
+
+-- a call without a target, an entity too
+abbrev pub name : List ℕ → List Expr → Expr
+name x es = tree.Call nowhere no_target (named x) (each es)
+
+abbrev pub entity : List ℕ → Expr
+entity x = name x []
+
+-- a call on an entity
+abbrev pub on : List ℕ → List ℕ → List Expr → Expr
+on a x es = tree.Call nowhere (target (entity a)) (named x) (each es)
+
+abbrev pub both : Expr → BinaryOperator → Expr → Expr
+both a op b = tree.Binary nowhere op a b
+
+-- ---- instructions
+
+abbrev pub body : List Instr → Instrs
+body [] = no_instrs
+body (i ∷ is) = instr_then i (body is)
+
+abbrev pub assign : List ℕ → Expr → Instr
+assign x e = tree.Assign nowhere (Named (named x)) e
+
+abbrev pub assign_result : Expr → Instr
+assign_result e = tree.Assign nowhere (ResultVariable nowhere) e
+
+abbrev pub call : List ℕ → List Expr → Instr
+call x es = tree.CallRoutine nowhere no_target (named x) (each es)
+
+abbrev pub print : Expr → Instr
+print e = call (codes "print") (e ∷ [])
+
+abbrev pub call_on : List ℕ → List ℕ → List Expr → Instr
+call_on a x es = tree.CallRoutine nowhere (target (entity a)) (named x) (each es)
+
+abbrev pub create : List ℕ → Instr
+create x = tree.Create nowhere (Named (named x)) None
+
+abbrev pub create_by : List ℕ → List ℕ → List Expr → Instr
+create_by x f es = tree.Create nowhere (Named (named x)) (Some (record { name = named f; actuals = each es }))
+
+abbrev pub clause : Expr → Clause
+clause e = record { tag = None; condition = e }
+
+abbrev pub check : Expr → Instr
+check e = tree.Check nowhere (clause e ∷ [])
+
+-- ---- features and classes
+
+abbrev pub attribute : List ℕ → DeclaredType → Feature
+attribute x t = record { exports = []; name = named x; kind = tree.Attribute t }
+
+-- a routine with its formals, its result, the clauses of its precondition and its body
+abbrev pub routine : List ℕ → List Declaration → Option DeclaredType → List Expr → List Instr → Feature
+routine x formals result pre is = record { exports = []; name = named x; kind = tree.Routine formals result (map clause pre) [] (body is) [] }
+
+abbrev pub procedure : List ℕ → List Declaration → List Instr → Feature
+procedure x formals is = routine x formals None [] is
+
+abbrev pub class : List ℕ → List (List ℕ) → List Feature → List Expr → Class
+class x creators fs invariant =
+    record { span = nowhere; mark = None; name = named x; parents = []; creators = map named creators; features = fs; invariant = map clause invariant }
+
+abbrev pub system : List Class → System
+system classes = record { classes = classes }
+
+abbrev pub root : Root
+root = record { class = codes "application"; procedure = codes "make" }
+
+abbrev pub application : List Feature → List Expr → Class
+application fs invariant = class (codes "application") (codes "make" ∷ []) fs invariant

@@ -1,0 +1,39 @@
+-- What holds of every system and every run.
+use Rattle.std.specs.Prelude.{ℕ, ◌≡◌, ◌<◌, ◌≤◌, false, List, ◌++◌}
+use Rattle.sc_tree.specs.Plain.{System}
+use Rattle.sc_model.specs.Values.{Reference}
+use Rattle.sc_model.specs.Steps.{Point, Step, Goes, Does}
+use Rattle.sc_model.specs.Sizes.{size}
+use Rattle.sc_model.specs.Moves.{step, moves}
+use Rattle.sc_model.specs.Handlers.{World}
+use Rattle.sc_model.specs.Turns.{turn}
+use Rattle.sc_model.specs.Runs.{run, has_turn}
+
+abbrev pub IsVisible : Step → Type 0
+IsVisible (Goes p) = ⊥
+IsVisible (Does a p) = Unit {0}
+
+-- A silent step makes what is left to do smaller.
+abbrev pub SilentStepsFall : Type 0
+SilentStepsFall = (s : System) (me : Reference) (p q : Point) → step s me p ≡ Goes q → size q.tasks < size p.tasks
+
+-- So the silent steps come to a visible one.
+abbrev pub TurnsAreVisible : Type 0
+TurnsAreVisible = (s : System) (me : Reference) (p : Point) → IsVisible (moves s me p)
+
+-- A handler that has no turn changes nothing.
+abbrev pub IdleTurnsChangeNothing : Type 0
+IdleTurnsChangeNothing = (most : ℕ) (s : System) (h : ℕ) (w : World) → has_turn h w ≡ false → turn most s h w ≡ w
+
+-- A run of two lists is the run of the second from where the first ends.
+abbrev pub RunsJoin : Type 0
+RunsJoin = (most : ℕ) (s : System) (first second : List ℕ) (w : World) → run most s (first ++ second) w ≡ run most s second (run most s first w)
+
+-- At no point of the run are there more than so many handlers.
+abbrev pub StaysWithin : ℕ → ℕ → System → List ℕ → World → Type 0
+StaysWithin few most s hs w = (first second : List ℕ) → hs ≡ first ++ second → (run most s first w).count ≤ few
+
+-- Where a run stays within fewer handlers, it is the same where there may be no more.
+abbrev pub FewerAreEnough : Type 0
+FewerAreEnough =
+    (few most : ℕ) (s : System) (hs : List ℕ) (w : World) → few ≤ most → StaysWithin few most s hs w → run few s hs w ≡ run most s hs w

@@ -1,0 +1,14 @@
+// How a handler stands.
+
+use crate::cause::Cause;
+
+/// How a handler stands: the first of these that is true of it.
+#[derive(Clone, Copy, Debug, PartialEq, Eq)]
+pub enum Status {
+    Failed(Cause),
+    /// It has something to do.
+    Busy,
+    /// It has frames, and nothing that it can do.
+    Waiting,
+    Free,
+}
