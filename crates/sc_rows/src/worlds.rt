@@ -5,9 +5,8 @@ ghost use Rattle.sc_tree.specs.View.{class_of, system_of};
 ghost use Rattle.sc_world.specs.Lookup.{class_named};
 
 use crate::reading;
-use sc_world::{Cause, Status};
 use sc_tree::{Class, System};
-use sc_world::{Turned, World};
+use sc_world::{Cause, Status, Turned, World};
 use std::alloc::Global;
 use std::test::Fail;
 
