@@ -4,10 +4,11 @@ An edit has the form of one in must-fail/: `file: PATH`, and then pairs of `old:
 
 A proof stands on the contracts of what a function calls, not on their bodies. So one check can try an edit in each of
 many functions: a round. Such an edit is refused where the prover reports a goal of the edited function itself as open;
-that a function which it calls isn't proved doesn't count. What isn't refused so is tried again in a round of its own:
-  - an edit that showed no open goal in its function, as where the prover waits for the proof of a function below it;
-  - every edit of a round in which a function without an edit has an open goal;
-  - an edit that changes anything but the body of one function, as a constant.
+that a function which it calls isn't proved doesn't count. What isn't refused so is tried again:
+  - an edit that showed no open goal in its function, as where the prover waits for the proof of a function below it,
+    with others of the kind, and alone once a round shows nothing more;
+  - a round in which a function without an edit has an open goal, by halves;
+  - an edit that changes anything but the body of one function, as a constant, alone.
 An edit alone is refused where the crate isn't proved and a goal is open. Otherwise it is told as let through.
 """
 import os
@@ -22,9 +23,10 @@ from collections import defaultdict, namedtuple
 
 # The body of a function: where it lies in the text of its file, and how its reports begin.
 Body = namedtuple("Body", "start end type_name trait_name name")
-# A report on one function: the open goals that are its own.
-FUNCTION = re.compile(r"^fn (\S+): (.*)$", re.M)
-OPEN_GOALS = re.compile(r"did not prove ((?:`[^`]+`(?:, | and )?)+)")
+# A report on one function; the goals in it that are open; an answer that doesn't prove its goal. The functions of a ring of
+# calls have one folder of answers, whose name begins with +, and their goals begin with the function's name.
+FUNCTION = re.compile(r"^fn (\S+): (?!proved)(.*)$", re.M)
+OPEN_GOALS = re.compile(r"expected answers in (?:\./)?proofs/(\S+)/\w+\.antt; `search` did not prove ((?:`[^`]+`(?:, | and )?)+)")
 WRONG_ANSWER = re.compile(r"^(?:\./)?proofs/(\S+)/\w+\.antt:\d+:\d+: error: (.*)$", re.M)
 # What the prover says where a proof names what an edit took away: that shows nothing of the contract.
 TAKEN_AWAY = re.compile(r"has no field|is not in scope|has no `|was not admitted")
@@ -141,17 +143,16 @@ class Trial:
         return ran.stdout
 
     def try_together(self, edits):
-        """Tries a round. Returns the open goal of each edit that is refused in it, by the edit's name."""
+        """Tries a round. Returns the open goal of each edit that is refused in it, by the edit's name, or None where
+        a function without an edit has an open goal, so that the round tells nothing."""
         texts = {}
         for edit in sorted(edits, key=Edit.key, reverse=True):
             text = texts.get(edit.file, edit.before[edit.file])
             texts[edit.file] = text[: edit.body.start] + edit.new_body() + text[edit.body.end :]
         said = self.check(texts)
-        if not re.search(r"^logic=not-proved", said, re.M):
-            return {}
-        found = open_goals(said)
+        found = open_goals(said) if re.search(r"^logic=not-proved", said, re.M) else {}
         if any(not any(is_of(path, it) for it in edits) for path in found):
-            return {}
+            return None
         return {it.name: goal for it in edits for path, goal in found.items() if is_of(path, it)}
 
     def try_alone(self, edit):
@@ -169,17 +170,22 @@ class Trial:
 
 def open_goals(said):
     """Returns the first open goal of each function that has one of its own, by the function's name in the report."""
-    wrong = {}
-    for place, text in WRONG_ANSWER.findall(said):
+    unproved, found = dict(FUNCTION.findall(said)), {}
+
+    def add(folder, goal, text):
+        ring = os.path.basename(folder).startswith("+")
+        name = re.split(r"[-`]", goal.strip("`"))[0].split("::")[-1]
+        own = [it for it in unproved if (it.split("::")[-1] == name if ring else it.partition("::")[2] == folder.replace("/", "::"))]
+        for path in own or [folder]:
+            found.setdefault(path, text)
+
+    for folder, text in WRONG_ANSWER.findall(said):
         if not TAKEN_AWAY.search(text):
-            wrong.setdefault(place.replace("/", "::"), text[:120])
-    found = {}
-    for path, text in FUNCTION.findall(said):
-        goals = OPEN_GOALS.search(text)
-        if goals:
-            found[path] = goals[1]
-        elif path.partition("::")[2] in wrong and not text.startswith("proved"):
-            found[path] = wrong[path.partition("::")[2]]
+            add(folder, text, text[:120])
+    for text in unproved.values():
+        for folder, goals in OPEN_GOALS.findall(text):
+            for goal in re.findall(r"`[^`]+`", goals):
+                add(folder, goal, goal)
     return found
 
 
@@ -192,33 +198,54 @@ def rounds_of(edits):
     return [[it[number] for it in by_function.values() if number < len(it)] for number in range(most)]
 
 
+def try_rounds(trial, edits, told):
+    """Tries edits of bodies together, and tells of those that are refused. Returns the others, and the rounds."""
+    groups, again, left, rounds = rounds_of(edits), [], [], 0
+    while groups:
+        group = groups.pop(0)
+        refused = {}
+        if len(group) > 1:
+            rounds, refused = rounds + 1, trial.try_together(group)
+        if refused is None:
+            half = len(group) // 2
+            groups = [group[:half], group[half:], *groups]
+        else:
+            for name, goal in refused.items():
+                told(name, f"refused: {goal}")
+            # a round that shows nothing shows no more the next time
+            (again if refused else left).extend(it for it in group if it.name not in refused)
+        if not groups:
+            groups, again = rounds_of(again), []
+    return left, rounds
+
+
 def try_crate(crate, below):
     """Tries the edits of a crate. Returns how many were tried, how many of them weren't refused, and the rounds."""
-    folder, edits, failed, rounds, start = f"crates/{crate}", [], 0, 0, time.time()
+    folder, edits, failed, start = f"crates/{crate}", [], 0, time.time()
+
+    def told(name, what):
+        print(f"{crate}/{name}: {what}", flush=True)
+
     for file in sorted(os.listdir(f"{folder}/edits")):
         try:
             edits.append(Edit(f"{folder}/edits/{file}", folder))
         except (BadEdit, OSError) as error:
             failed += 1
-            print(f"{crate}/{file}: BAD EDIT: {error}", flush=True)
+            told(file, f"BAD EDIT: {error}")
     # over what the crate's own check keeps, a round proves little more than the edited functions
     if subprocess.run(["rt", "check"], cwd=folder, stdout=subprocess.DEVNULL, stderr=subprocess.DEVNULL).returncode:
         print(f"{crate}: it isn't proved as it stands, so no edit is tried", flush=True)
         return len(edits) + failed, len(edits) + failed, 0
     begun = time.time()
     with tempfile.TemporaryDirectory(prefix="edits-") as room:
-        trial, left = Trial(crate, below, room), [it for it in edits if not it.body]
-        for together in rounds_of(it for it in edits if it.body):
-            refused = trial.try_together(together) if len(together) > 1 else {}
-            rounds += len(together) > 1
-            left += [it for it in together if it.name not in refused]
-            for name, goal in refused.items():
-                print(f"{crate}/{name}: refused: {goal}", flush=True)
-        for edit in left:
+        trial = Trial(crate, below, room)
+        left, rounds = try_rounds(trial, [it for it in edits if it.body], told)
+        for edit in [*left, *(it for it in edits if not it.body)]:
             is_refused, why = trial.try_alone(edit)
             rounds, failed = rounds + 1, failed + (not is_refused)
-            print(f"{crate}/{edit.name}: {'refused, tried alone: ' if is_refused else ''}{why}", flush=True)
-    print(f"{crate}: {len(edits)} edits in {rounds} rounds, {failed} not refused, {time.time() - begun:.0f} s after a check of {begun - start:.0f} s", flush=True)
+            told(edit.name, ("refused, alone: " if is_refused else "") + why)
+    took = f"{time.time() - begun:.0f} s, after a check of {begun - start:.0f} s"
+    print(f"{crate}: {len(edits)} edits in {rounds} rounds, {failed} not refused, {took}", flush=True)
     return len(edits), failed, rounds
 
 
