@@ -1,14 +1,13 @@
 -- How a handler stands after a turn of another: its output grows, and once it has failed it stays.
-use Rattle.std.proofs.Common.{◌≡◌, ◌≢◌, ℕ, zero, suc, ◌+◌, ◌<◌, ◌≤◌, List, [], ◌∷◌, ◌++◌, Option, Some, None, Bool, true, false, ◌==◌, refl, sym, ap, subst, ◌∙◌, append_assoc, arith}
+use Rattle.std.proofs.Common.{◌≡◌, ◌≢◌, ℕ, ◌<◌, ◌≤◌, List, [], ◌++◌, Option, Some, None, Bool, true, false, ◌==◌, refl, sym, ap, subst, ◌∙◌, append_assoc, arith}
 use Rattle.std.proofs.lemmas.List.{append-nil}
 use Rattle.std.proofs.lemmas.Bool.{eqb-true, eq-eqb}
 use Rattle.std.proofs.lemmas.Bool.Decides.{nat_tests}
-use Rattle.std.specs.Prelude.{if◌then◌else◌, is_some}
-use Rattle.sc_lockpass.specs.Rights.{Rights, is_handler}
+use Rattle.std.specs.Prelude.{if◌then◌else◌}
 use Rattle.sc_lockpass.specs.Passing.{Passed}
 use Rattle.sc_waitcond.specs.declared.session.Release.{Release}
 use Rattle.sc_model.specs.declared.cause.Cause.{Cause}
-use Rattle.sc_model.specs.Handlers.{Request, Answer, Reply, Failed, Refused, Frame, Handler, World, put, with_stack}
+use Rattle.sc_model.specs.Handlers.{Request, Answer, Failed, Frame, Handler, World, put, with_stack}
 use Rattle.sc_model.specs.Sessions.{session_ended, reserve, release}
 use Rattle.sc_model.specs.Answers.{heard, answered, answer_to, return_rights, finish}
 use Rattle.sc_model.specs.Failures.{told, fallen, fails_with, fail}

@@ -1,5 +1,5 @@
 -- Each turn lets output grow, and leaves handlers that have failed as they are.
-use Rattle.std.proofs.Common.{◌≡◌, ◌≢◌, ◌⊎◌, inl, inr, ℕ, zero, suc, ◌+◌, ◌<◌, ◌≤◌, List, [], ◌∷◌, ◌++◌, Option, Some, None, Bool, true, false, ◌==◌, refl, sym, ap, subst, ◌∙◌, arith}
+use Rattle.std.proofs.Common.{◌≡◌, ◌≢◌, ◌⊎◌, inl, inr, ℕ, ◌<◌, ◌≤◌, List, [], ◌∷◌, ◌++◌, Option, Some, None, Bool, true, false, ◌==◌, refl, sym, ap, subst, ◌∙◌, arith}
 use Rattle.std.proofs.lemmas.Bool.{ltb-true, eqb-true, eq-eqb}
 use Rattle.std.specs.Prelude.{◌&&◌, ◌||◌, not, if◌then◌else◌, is_some, length, nat_lt}
 use Rattle.std.specs.Option.{option_map}
@@ -24,16 +24,16 @@ use Rattle.sc_model.specs.Limits.{max_frames, max_queue}
 use Rattle.sc_model.specs.Steps.{Act, Prints, Tests, Creates, CreatesHandler, Enters, Requests, Starts, Refuses, Opens, Leaves, Exits, Fails, Step, Goes, Does}
 use Rattle.sc_model.specs.Moves.{moves}
 use Rattle.sc_model.specs.Handlers.{Errand, Calls, Makes, Request, Answer, Reply, Failed, Refused, Origin, Called, Requested, Stage, Runs, Reserves, ReservesBlock, InCall, Awaits, Frame, Handler, World, new_handler, put, with_stack, point_of, frame_at}
-use Rattle.sc_model.specs.Sessions.{standing_in, reserve, release}
+use Rattle.sc_model.specs.Sessions.{standing_in}
 use Rattle.sc_model.specs.Answers.{finish}
 use Rattle.sc_model.specs.Failures.{fail, fails_with}
-use Rattle.sc_model.specs.Entries.{entry, enters_bound, enters, reserves, reserves_if, may_reserve, entry_needs, block_needs}
+use Rattle.sc_model.specs.Entries.{entry, enters_bound, enters, reserves_if, may_reserve, entry_needs, block_needs}
 use Rattle.sc_model.specs.Asking.{passes, placed, send, awaits_if, request_by, is_callback, asks, request, with_handler, posts_creation, passes_or_releases, created, creates_handler}
 use Rattle.sc_model.specs.Preconditions.{verdict_on, waits_again, is_creation, object_meets, counted_refusal, refuses, correctness_fails, false_clause}
 use Rattle.sc_model.specs.Exits.{is_unset, is_unset_value, is_untested, handed, handed_as, leaves_to, exits, leaves_block}
-use Rattle.sc_model.specs.Takes.{replies, takes_kind, takes_version, takes_creation, with_new_object, takes_errand, takes, takes_next, takes_callback, released_if, takes_answer}
+use Rattle.sc_model.specs.Takes.{replies, takes_kind, takes_version, takes_creation, with_new_object, takes_errand, takes_next, takes_callback, released_if, takes_answer}
 use Rattle.sc_model.specs.Turns.{turn, turn_with, goes_on, settles, effect, waits}
-use Rattle.sc_model.proofs.Follows.{Grows, Follows, Leads, same_output, grows_trans, follows_same, leads_same, leads_trans, put_own, put_any, stack_leads, reserve_leads, release_leads, finish_leads, fails_leads, fail_leads, if_leads, differs}
+use Rattle.sc_model.proofs.Follows.{Grows, Follows, Leads, same_output, follows_same, leads_same, leads_trans, put_own, put_any, stack_leads, reserve_leads, release_leads, finish_leads, fails_leads, fail_leads, if_leads, differs}
 
 stays : (h : ℕ) (w : World) → Leads h w w
 stays h w = leads_same h w w refl (omega arith)
