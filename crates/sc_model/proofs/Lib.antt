@@ -5,3 +5,5 @@ pub mod Joins
 pub mod Idle
 pub mod Fewer
 pub mod Silent
+pub mod Follows
+pub mod Outputs

@@ -1,15 +1,11 @@
 -- What rows compare: how a world stands after a list of turns.
-use Rattle.std.proofs.Common.{◌≡◌, ℕ, zero, suc, Bool, true, false, List, [], ◌∷◌, ◌++◌, Option, Some, None}
-use Rattle.std.specs.Prelude.{◌*◌, ◌+◌, ◌%◌, length, map, is_some}
-use Rattle.sc_tree.specs.Plain.{System}
-use Rattle.sc_lockpass.specs.Rights.{Rights}
+use Rattle.std.proofs.Common.{ℕ, zero, suc, Bool, List, [], ◌∷◌, ◌++◌}
+use Rattle.std.specs.Prelude.{map}
+use Rattle.sc_tree.specs.Plain.{System, Clause}
 use Rattle.sc_model.specs.declared.status.Status.{Status}
-use Rattle.sc_model.specs.Values.{Value}
-use Rattle.sc_model.specs.Environments.{Binding}
-use Rattle.sc_model.specs.Objects.{Object}
-use Rattle.sc_model.specs.Handlers.{World, Handler, Answer, Reply, Failed, Refused}
-use Rattle.sc_model.specs.Turns.{turn}
-use Rattle.sc_model.specs.Runs.{opening, run, has_turn}
+use Rattle.sc_model.specs.Handlers.{World, Frame}
+use Rattle.sc_model.specs.Clauses.{Outcome, after, begun}
+use Rattle.sc_model.specs.Runs.{opening, run}
 use Rattle.sc_model.specs.Reports.{status_of, some_has_turn}
 use Rattle.sc_model.proofs.Texts.{root}
 
@@ -30,3 +26,8 @@ outcome w = (some_has_turn w.count w, summary w.count w)
 abbrev pub rounds : ℕ → List ℕ → List ℕ
 rounds zero hs = []
 rounds (suc n) hs = hs ++ rounds n hs
+
+-- what the clauses of the precondition of a handler's topmost frame come to in so many steps
+abbrev pub clauses_of : ℕ → System → World → List Frame → List Outcome
+clauses_of n s w [] = []
+clauses_of n s w (f ∷ below) = map (λ (k : Clause). after n s w (begun w f k)) f.routine.require

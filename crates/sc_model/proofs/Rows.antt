@@ -1,5 +1,5 @@
 -- Systems played by the machine, with what must come of them.
-use Rattle.std.proofs.Common.{◌≡◌, ℕ, zero, suc, Bool, true, false, List, [], ◌∷◌, ◌++◌, Option, Some, None, refl}
+use Rattle.std.proofs.Common.{◌≡◌, true, false, List, [], ◌∷◌, ◌++◌, Some, None, refl}
 use Rattle.std.specs.Prelude.{ℤ, pos, neg_ℤ, codes}
 use Rattle.std.specs.Fmt.{signed_decimal}
 use Rattle.sc_tree.specs.declared.expression.BinaryOperator.TheVariants as binary
@@ -8,7 +8,10 @@ use Rattle.sc_model.specs.declared.cause.Cause.TheVariants.{Invariant, Check, Pr
 use Rattle.sc_model.specs.declared.status.Status.TheVariants.{Failed, Busy, Waiting, Free}
 use Rattle.sc_model.specs.Runs.{has_turn}
 use Rattle.sc_model.proofs.Texts.{own, separate, integer, declared, number, truth, the_current, entity, on, both, assign, assign_result, call, print, call_on, create, create_by, check, attribute, routine, procedure, class, application, system}
-use Rattle.sc_model.proofs.Playing.{played, rounds, outcome}
+use Rattle.sc_model.specs.Values.{Boolean}
+use Rattle.sc_model.specs.Handlers.{World}
+use Rattle.sc_model.specs.Clauses.{Comes}
+use Rattle.sc_model.proofs.Playing.{clauses_of, played, rounds, outcome}
 
 -- the entity compares so with the number
 abbrev is_equal : Expr → ℤ → Expr
@@ -42,6 +45,20 @@ dipping_and_mending_ends = refl
 
 pub dipping_fails : outcome (played (counter (call (codes "dip") [] ∷ [])) (0 ∷ 0 ∷ 0 ∷ 0 ∷ [])) ≡ (false, (Failed Invariant, 0, []) ∷ [])
 dipping_fails = refl
+
+-- a counter with a function that a precondition calls
+abbrev guarded : System
+guarded = system (application
+    (attribute (codes "n") integer ∷ procedure (codes "make") [] (call (codes "raise") [] ∷ [])
+      ∷ routine (codes "is_small") [] (Some (own (codes "boolean"))) [] (assign_result (both (entity (codes "n")) binary.Less (number (pos 3))) ∷ [])
+      ∷ routine (codes "raise") [] None (entity (codes "is_small") ∷ []) (assign (codes "n") (number (pos 3)) ∷ []) ∷ []) [] ∷ [])
+
+pub guarded_ends : outcome (played guarded (0 ∷ 0 ∷ 0 ∷ 0 ∷ 0 ∷ 0 ∷ 0 ∷ [])) ≡ (false, (Free, 0, []) ∷ [])
+guarded_ends = refl
+
+-- as its body starts
+pub guard_holds : (let w : World = played guarded (0 ∷ 0 ∷ 0 ∷ 0 ∷ 0 ∷ []) in clauses_of 20 guarded w (w.handlers 0).stack) ≡ Comes (Boolean true) ∷ []
+guard_holds = refl
 
 -- ---- two handlers
 
@@ -104,6 +121,13 @@ pub exchanging_ends :
       (0 ∷ 0 ∷ 0 ∷ 0 ∷ 0 ∷ 1 ∷ 2 ∷ 2 ∷ 2 ∷ 1 ∷ 2 ∷ 2 ∷ 2 ∷ 3 ∷ 3 ∷ 3 ∷ 1 ∷ 3 ∷ 3 ∷ 3 ∷ 3 ∷ 1 ∷ 1 ∷ 1 ∷ 2 ∷ 2 ∷ 1 ∷ 2 ∷ 2 ∷ 2 ∷ 1 ∷ 2 ∷ 2 ∷ 2 ∷ 2 ∷ 1 ∷ 1 ∷ 1 ∷ []))
     ≡ (false, (Free, 0, []) ∷ (Free, 0, []) ∷ (Free, 0, signed_decimal (pos 7)) ∷ (Free, 0, []) ∷ [])
 exchanging_ends = refl
+
+-- right after the verdict that starts its body its clause holds, by its evaluation over all objects at once
+pub consumer_starts_where_it_holds :
+    (let w : World = played exchanging
+      (0 ∷ 0 ∷ 0 ∷ 0 ∷ 0 ∷ 1 ∷ 2 ∷ 2 ∷ 2 ∷ 1 ∷ 2 ∷ 2 ∷ 2 ∷ 3 ∷ 3 ∷ 3 ∷ 1 ∷ 3 ∷ 3 ∷ 3 ∷ 3 ∷ 1 ∷ 1 ∷ 1 ∷ 2 ∷ 2 ∷ 1 ∷ 2 ∷ 2 ∷ [])
+    in clauses_of 12 exchanging w (w.handlers 2).stack) ≡ Comes (Boolean true) ∷ []
+consumer_starts_where_it_holds = refl
 
 abbrev holding : System
 holding = system (application

@@ -1,5 +1,5 @@
 -- Silent steps make what is left to do smaller, so the bound on them is never met.
-use Rattle.std.proofs.Common.{◌≡◌, ℕ, ℤ, zero, suc, ◌+◌, ◌<◌, ◌≤◌, List, [], ◌∷◌, ◌++◌, Option, Some, None, Ok, Err, Bool, true, false, refl, ap, ◌∙◌, subst, arith}
+use Rattle.std.proofs.Common.{◌≡◌, ℕ, ℤ, zero, suc, ◌+◌, ◌<◌, ◌≤◌, List, [], ◌∷◌, ◌++◌, Option, Some, None, Ok, Err, Bool, true, false, refl, subst, arith}
 use Rattle.std.specs.Prelude.{map, if◌then◌else◌, slice_get, ◌==◌, length, nat_lt}
 use Rattle.sc_formula.specs.declared.arithmetic.ArithmeticFault.TheVariants as fault
 use Rattle.sc_formula.specs.declared.arithmetic.ArithmeticOperator.{ArithmeticOperator}
@@ -30,12 +30,12 @@ use Rattle.sc_model.specs.Routines.{place_in, version_of}
 use Rattle.sc_model.specs.Olds.{olds_in}
 use Rattle.sc_model.specs.Limits.{max_objects}
 use Rattle.sc_model.specs.Tasks.{Task, Do, In, Declare, Forget, Eval, ApplyUnary, EvalRight, ApplyBinary, Conclude, Bind, CallUnqualified, CallQualified, AssignTo, Print, Choose, Repeat, EndLoop, Checked, Require, Required, KeepOld, Ensured, CreateBy, Open, Leave, evals, head_evals, checks}
-use Rattle.sc_model.specs.Steps.{Point, Step, Goes, Does, stuck, fails, comes, gives, reads, reads_as, reads_attribute, popped}
+use Rattle.sc_model.specs.Steps.{Point, Step, Goes, Does, fails, comes, gives, reads_as, reads_attribute, popped}
 use Rattle.sc_model.specs.Calls.{given_by, passes_rights, enters_unqualified, calls_own, calls_unqualified, calls_kind, calls_version, requests, calls_object, calls_on, calls_qualified}
 use Rattle.sc_model.specs.Creations.{creates_object, creates_here, creates_at, creates_as, creates, assigned_at}
 use Rattle.sc_model.specs.ObjectTests.{is_tested, binds_if, binds}
 use Rattle.sc_model.specs.Expressions.{gives_outcome, gives_truth, apply_unary, apply_to_integers, apply_to_booleans, is_same_object, apply_binary, applies, decided_by, evals_right, concludes, gives_found, reads_result, reads_own, begins_kind, begins_feature, begins_name, evaluate}
-use Rattle.sc_model.specs.Instructions.{assigns, prints, chooses_other, chooses, ends_loop, tests, required, opens, procedure_of, actuals_of, begins_routine, begins}
+use Rattle.sc_model.specs.Instructions.{assigns, prints, chooses_other, chooses, ends_loop, tests, required, opens, actuals_of, begins_routine, begins}
 use Rattle.sc_model.specs.Sizes.{expr_size, exprs_size, clauses_size, heads_size, creation_size, instr_size, instrs_size, branches_size, task_size, size}
 use Rattle.sc_model.specs.Moves.{performs_on, performs, step_at, step, then_go, first_visible, moves}
 use Rattle.sc_model.specs.Laws.{IsVisible}

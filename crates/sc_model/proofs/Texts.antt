@@ -1,9 +1,7 @@
 -- Systems as terms, without spans, for the rows.
-use Rattle.std.specs.Prelude.{ℕ, ℤ, pos, Bool, true, false, List, [], ◌∷◌, Option, Some, None, codes, map}
+use Rattle.std.specs.Prelude.{ℕ, ℤ, Bool, false, List, [], ◌∷◌, Option, Some, None, codes, map}
 use Rattle.sc_text.specs.declared.token.Span.{Span}
-use Rattle.sc_tree.specs.declared.expression.UnaryOperator.TheVariants as unary
 use Rattle.sc_tree.specs.declared.expression.BinaryOperator.{BinaryOperator}
-use Rattle.sc_tree.specs.declared.expression.BinaryOperator.TheVariants as binary
 use Rattle.sc_tree.specs.Plain as tree
 use Rattle.sc_tree.specs.Plain.{System, Class, Feature, Name, DeclaredType, Declaration, HandlerTag, Own, Separate, Clause, Expr, Exprs, no_exprs, expr_then, no_target, target, Variable, Named, ResultVariable, Instr, Instrs, no_instrs, instr_then, no_branches}
 use Rattle.sc_class.specs.ClassNames.{Root}

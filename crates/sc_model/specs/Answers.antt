@@ -1,5 +1,5 @@
 -- Answers to requests that are waited for, and the end of a request.
-use Rattle.std.specs.Prelude.{ℕ, Bool, true, false, Option, Some, None}
+use Rattle.std.specs.Prelude.{ℕ, Bool, true, Option, Some, None}
 use Rattle.sc_lockpass.specs.Passing.{Passed, give_back}
 use Rattle.sc_model.specs.declared.cause.Cause.{Cause}
 use Rattle.sc_model.specs.Handlers.{Request, Answer, Reply, Failed, Refused, Handler, World, put}

@@ -5,7 +5,7 @@ use Rattle.sc_lockpass.specs.Rights.{Rights, is_handler, held}
 use Rattle.sc_lockpass.specs.Passing.{Passed, pass, passed_by}
 use Rattle.sc_waitcond.specs.declared.session.Release.TheVariants as release_at
 use Rattle.sc_model.specs.declared.cause.Cause.TheVariants as cause
-use Rattle.sc_model.specs.Values.{Reference, Value, Attached, Operand, operand, values_of}
+use Rattle.sc_model.specs.Values.{Reference, Attached, Operand, operand, values_of}
 use Rattle.sc_model.specs.Limits.{max_queue}
 use Rattle.sc_model.specs.Handlers.{Errand, Calls, Makes, Request, Awaits, Frame, Handler, World, new_handler, put, with_stack}
 use Rattle.sc_model.specs.Sessions.{release}

@@ -1,5 +1,5 @@
 -- Who asked for a frame, who waits for whom, and the chain of a request that is waited for.
-use Rattle.std.specs.Prelude.{ℕ, ◌≡◌, Bool, List, Option, Some, None, Contains}
+use Rattle.std.specs.Prelude.{ℕ, ◌≡◌, Bool, Option, None, Contains}
 use Rattle.sc_proctype.specs.declared.entity_type.EntityType.{EntityType}
 use Rattle.sc_model.specs.Handlers.{Origin, Called, Requested, Awaits, Frame, World}
 

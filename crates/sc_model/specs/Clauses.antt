@@ -1,5 +1,5 @@
 -- When a clause holds: evaluated over the objects of all handlers at once, with the bodies of functions and without their contracts, it is true.
-use Rattle.std.specs.Prelude.{ℕ, zero, suc, ◌≡◌, Bool, true, false, List, [], ◌∷◌, ◌++◌, Option, Some, None, if◌then◌else◌}
+use Rattle.std.specs.Prelude.{ℕ, zero, suc, ◌≡◌, true, List, [], ◌∷◌, Option, Some, None, if◌then◌else◌}
 use Rattle.sc_tree.specs.Plain as tree
 use Rattle.sc_tree.specs.Plain.{System, Clause, FeatureKind}
 use Rattle.sc_class.specs.Features.{DeclaredFeature}

@@ -1,5 +1,5 @@
 -- Handlers: what each runs, and what it is asked for (after Nienaltowski's thesis).
-use Rattle.std.specs.Prelude.{ℕ, Bool, List, [], Option, Some, None, ◌==◌, if◌then◌else◌}
+use Rattle.std.specs.Prelude.{ℕ, Bool, List, [], Option, None, ◌==◌, if◌then◌else◌}
 use Rattle.sc_proctype.specs.declared.entity_type.EntityType.{EntityType}
 use Rattle.sc_lockpass.specs.Rights.{Rights}
 use Rattle.sc_lockpass.specs.Passing.{Passed}

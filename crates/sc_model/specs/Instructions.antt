@@ -10,7 +10,7 @@ use Rattle.sc_model.specs.declared.cause.Cause.{Cause}
 use Rattle.sc_model.specs.Values.{Reference, Value, Integer, Boolean, Void, Attached, Operand, operand}
 use Rattle.sc_model.specs.Environments.{assigned_to, block_bound}
 use Rattle.sc_model.specs.Objects.{attributes_of, with_attributes}
-use Rattle.sc_model.specs.Tasks.{Do, Forget, Eval, AssignTo, Print, Choose, Repeat, EndLoop, CallUnqualified, CallQualified, CreateBy, Open, Leave, evals, head_evals, checks}
+use Rattle.sc_model.specs.Tasks.{Do, Forget, Eval, AssignTo, Print, Choose, Repeat, CallUnqualified, CallQualified, CreateBy, Open, Leave, evals, head_evals, checks}
 use Rattle.sc_model.specs.Steps.{Point, Prints, Tests, Refuses, Opens, Step, Goes, Does, fails, stuck, comes, forgets}
 
 -- ---- assignment (8.22)

@@ -1,6 +1,7 @@
 -- What holds of every system and every run.
-use Rattle.std.specs.Prelude.{ℕ, ◌≡◌, ◌<◌, ◌≤◌, false, List, ◌++◌}
+use Rattle.std.specs.Prelude.{ℕ, ◌≡◌, ◌<◌, ◌≤◌, false, List, ◌++◌, Some}
 use Rattle.sc_tree.specs.Plain.{System}
+use Rattle.sc_model.specs.declared.cause.Cause.{Cause}
 use Rattle.sc_model.specs.Values.{Reference}
 use Rattle.sc_model.specs.Steps.{Point, Step, Goes, Does}
 use Rattle.sc_model.specs.Sizes.{size}
@@ -37,3 +38,14 @@ StaysWithin few most s hs w = (first second : List ℕ) → hs ≡ first ++ seco
 abbrev pub FewerAreEnough : Type 0
 FewerAreEnough =
     (few most : ℕ) (s : System) (hs : List ℕ) (w : World) → few ≤ most → StaysWithin few most s hs w → run few s hs w ≡ run most s hs w
+
+-- A turn only adds to outputs.
+abbrev pub OutputGrows : Type 0
+OutputGrows =
+    (most : ℕ) (s : System) (h : ℕ) (w : World) (k : ℕ) → k < w.count → (added : List ℕ) × (((turn most s h w).handlers k).output ≡ (w.handlers k).output ++ added)
+
+-- A handler that has failed stays as it is, but that its sessions may end.
+abbrev pub FailedHandlersStay : Type 0
+FailedHandlersStay =
+    (most : ℕ) (s : System) (h : ℕ) (w : World) (k : ℕ) (why : Cause) → k < w.count → (w.handlers k).failure ≡ Some why
+    → record ((turn most s h w).handlers k) { sessions = (w.handlers k).sessions } ≡ w.handlers k

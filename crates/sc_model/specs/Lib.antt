@@ -1,5 +1,6 @@
 pub mod Values
 pub mod Environments
+pub mod Fits
 pub mod Objects
 pub mod Operators
 pub mod Invariants

@@ -1,15 +1,14 @@
 -- The next step of a routine, and the silent steps up to and with the first visible one.
-use Rattle.std.specs.Prelude.{ℕ, zero, suc, Bool, true, false, List, [], ◌∷◌, ◌++◌, length}
+use Rattle.std.specs.Prelude.{ℕ, zero, suc, List, [], ◌∷◌, ◌++◌, length, Some}
 use Rattle.sc_tree.specs.Plain.{System, no_instrs, instr_then}
 use Rattle.sc_rules.specs.Names.{test_type}
-use Rattle.std.specs.Prelude.{Some}
 use Rattle.sc_model.specs.declared.cause.Cause.TheVariants as cause
 use Rattle.sc_model.specs.Values.{Reference, Operand}
 use Rattle.sc_model.specs.Environments.{locals_bound}
 use Rattle.sc_model.specs.Operators.{is_short}
 use Rattle.sc_model.specs.Routines.{place_in}
 use Rattle.sc_model.specs.Tasks.{Task, Do, In, Declare, Forget, Eval, ApplyUnary, EvalRight, ApplyBinary, Conclude, Bind, CallUnqualified, CallQualified, AssignTo, Print, Choose, Repeat, EndLoop, Checked, Require, Required, KeepOld, Ensured, CreateBy, Open, Leave}
-use Rattle.sc_model.specs.Steps.{Point, Act, Starts, Leaves, Exits, Step, Goes, Does, stuck, comes, popped, forgets}
+use Rattle.sc_model.specs.Steps.{Point, Starts, Leaves, Exits, Step, Goes, Does, stuck, comes, popped, forgets}
 use Rattle.sc_model.specs.Calls.{calls_unqualified, calls_qualified}
 use Rattle.sc_model.specs.Creations.{assigned_at, creates}
 use Rattle.sc_model.specs.ObjectTests.{binds}

@@ -1,5 +1,5 @@
 -- Objects (ECMA-367, 8.19): the attributes of each, in the order of its class's features.
-use Rattle.std.specs.Prelude.{ℕ, ◌-◌, ◌==◌, List, [], ◌∷◌, Option, Some, None, slice_get, slice_set, if◌then◌else◌}
+use Rattle.std.specs.Prelude.{ℕ, ◌-◌, ◌==◌, List, [], Option, Some, None, slice_get, slice_set, if◌then◌else◌}
 use Rattle.std.specs.List.{filter_map}
 use Rattle.std.specs.Option.{option_map}
 use Rattle.sc_tree.specs.Plain.{System, FeatureKind, Attribute, Routine}

@@ -5,7 +5,7 @@ use Rattle.sc_tree.specs.Plain.{System}
 use Rattle.sc_class.specs.ClassNames.{Root, number_of}
 use Rattle.sc_lockpass.specs.Rights.{unreserved}
 use Rattle.sc_model.specs.declared.cause.Cause.{Cause}
-use Rattle.sc_model.specs.Handlers.{Request, Makes, Stage, Runs, Reserves, ReservesBlock, InCall, Awaits, Frame, Handler, World, new_handler}
+use Rattle.sc_model.specs.Handlers.{Request, Makes, Stage, Runs, Reserves, ReservesBlock, InCall, Awaits, Frame, World, new_handler}
 use Rattle.sc_model.specs.Sessions.{has_requests}
 use Rattle.sc_model.specs.Entries.{entry_needs, block_needs, may_reserve}
 use Rattle.sc_model.specs.Turns.{turn}

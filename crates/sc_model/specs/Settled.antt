@@ -1,5 +1,5 @@
 -- Settled objects, and free handlers.
-use Rattle.std.specs.Prelude.{ℕ, ◌≡◌, ◌<◌, List, [], Option, Some, None, All}
+use Rattle.std.specs.Prelude.{ℕ, ◌≡◌, ◌<◌, List, [], Some, None, All}
 use Rattle.sc_tree.specs.Plain.{System}
 use Rattle.sc_model.specs.Objects.{Object, object_numbered}
 use Rattle.sc_model.specs.Invariants.{MeetsInvariant}

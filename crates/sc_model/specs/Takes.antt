@@ -1,5 +1,5 @@
 -- Taking a request, and taking an answer.
-use Rattle.std.specs.Prelude.{ℕ, Bool, true, false, not, List, [], ◌∷◌, ◌++◌, Option, Some, None, ◌==◌, if◌then◌else◌}
+use Rattle.std.specs.Prelude.{ℕ, Bool, true, false, List, [], ◌∷◌, ◌++◌, Option, Some, None, ◌==◌, if◌then◌else◌}
 use Rattle.sc_tree.specs.Plain as tree
 use Rattle.sc_tree.specs.Plain.{System, FeatureKind}
 use Rattle.sc_class.specs.Features.{DeclaredFeature}
@@ -11,7 +11,7 @@ use Rattle.sc_model.specs.Environments.{Binding, binding_named}
 use Rattle.sc_model.specs.Objects.{Object, object_numbered, fresh_object}
 use Rattle.sc_model.specs.Invariants.{meets_invariant}
 use Rattle.sc_model.specs.Routines.{version_of, routine_named, routine_of}
-use Rattle.sc_model.specs.Handlers.{Errand, Calls, Makes, Request, Answer, Reply, Failed, Refused, Requested, Frame, World, put, with_stack}
+use Rattle.sc_model.specs.Handlers.{Errand, Calls, Makes, Request, Answer, Reply, Failed, Refused, Requested, Frame, World, put}
 use Rattle.sc_model.specs.Sessions.{release}
 use Rattle.sc_model.specs.Answers.{finish}
 use Rattle.sc_model.specs.Failures.{fail, fails_with}

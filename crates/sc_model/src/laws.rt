@@ -1,5 +1,5 @@
 //! Laws of the machine, each the contract of a function that does nothing.
-ghost use Rattle.sc_model.specs.Laws.{FewerAreEnough, IdleTurnsChangeNothing, RunsJoin, SilentStepsFall, TurnsAreVisible};
+ghost use Rattle.sc_model.specs.Laws.{FailedHandlersStay, FewerAreEnough, IdleTurnsChangeNothing, OutputGrows, RunsJoin, SilentStepsFall, TurnsAreVisible};
 
 /// A silent step makes what is left to do smaller.
 pub fn silent_steps_fall()
@@ -24,4 +24,14 @@ pub fn runs_join()
 /// A run that stays within fewer handlers is the same where there may be no more.
 pub fn fewer_handlers_are_enough()
     ensures { FewerAreEnough }
+{}
+
+/// A turn only adds to outputs.
+pub fn output_grows()
+    ensures { OutputGrows }
+{}
+
+/// A handler that has failed stays as it is, but that its sessions may end.
+pub fn failed_handlers_stay()
+    ensures { FailedHandlersStay }
 {}
