@@ -26,7 +26,7 @@ use Rattle.sc_check.specs.Judges.{Faults, Judges, judge_call}
 use Rattle.sc_check.proofs.Steps.{faults_along, faults_first, judges_along}
 
 module _ (h : Here) (c : Context) (n : Entities) where
-  judge_call-is : (k : Spot) (d : Call) → judge h c k n (expr_of (expr.Call d)) ≡ judge_call h c n Value (target_of d.target) (name_of d.name) (exprs_of d.actuals.items)
+  pub judge_call-is : (k : Spot) (d : Call) → judge h c k n (expr_of (expr.Call d)) ≡ judge_call h c n Value (target_of d.target) (name_of d.name) (exprs_of d.actuals.items)
   unfolding judge
   judge_call-is k d = ap (judge h c k n) (expr_of-call d)
 

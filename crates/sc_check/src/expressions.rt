@@ -39,7 +39,7 @@ pub fn judge_type(
 }
 
 impl<'t, 's> Here<'t, 's> {
-    fn judge_tested(self, declared: &Option<DeclaredType>) -> Result<(), CheckFault>
+    pub fn judge_tested(self, declared: &Option<DeclaredType>) -> Result<(), CheckFault>
         ensures { Passes (judging.judge_tested (here_in self.entry) (type_if_any declared.now)) result }
     {
         match declared {

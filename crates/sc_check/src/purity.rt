@@ -13,6 +13,7 @@ mod marks;
 mod numbering;
 mod search;
 mod spreading;
+mod walk;
 
 use crate::fault::CheckFault;
 use crate::purity::marks::Marks;

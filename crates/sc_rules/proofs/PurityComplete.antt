@@ -1,19 +1,27 @@
 -- What is done within a site stands in its list of deeds.
-use Rattle.std.proofs.Common.{◌≡◌, zero, suc, ◌<◌, true, List, [], ◌∷◌, length, Option, Some, None, Ok, refl, ap, sym, ◌∙◌, subst, arith}
+use Rattle.std.proofs.Common.{◌≡◌, zero, suc, ◌<◌, true, false, List, [], ◌∷◌, length, Option, Some, None, Ok, Err, refl, ap, sym, ◌∙◌, subst, arith}
 use Rattle.std.specs.Prelude.{not, ◌++◌, is_some, Contains}
-use Rattle.sc_tree.specs.Plain.{Clause, Head, Name, Expr, Target, target, Exprs}
+use Rattle.sc_text.specs.declared.token.Span.{Span}
+use Rattle.sc_tree.specs.declared.expression.BinaryOperator.{BinaryOperator}
+use Rattle.sc_tree.specs.Plain.{Clause, Head, Name, Expr, Binary, ObjectTest, Target, target, Exprs, If, Block, Instrs, Branches, branch_then}
 use Rattle.sc_proctype.specs.declared.entity_type.EntityType.{EntityType}
 use Rattle.sc_rules.specs.declared.position.Context.{Context}
 use Rattle.sc_rules.specs.declared.position.Context.TheVariants as context
+use Rattle.sc_rules.specs.declared.position.Spot.{Spot}
 use Rattle.sc_rules.specs.declared.position.Spot.TheVariants.{Plain, Condition, Source}
-use Rattle.sc_rules.specs.Names.{RoutineName, Here, Entities, Signature, stands, meaning_of, assigned}
-use Rattle.sc_rules.specs.Typing.{Typing, is_foreign_type, HasType, HasReceiver, implicit, explicit}
-use Rattle.sc_rules.specs.Sites.{Site, IsActual, first_actual, later_actual, Reserves, no_more, one_more, Part, target_part, actual_part, operand_part, left_part, right_part, joined_left_part, joined_right_part, tested_part, source_part, call_target_part, call_actual_part, creation_actual_part, condition_part, then_part, elseif_part, else_part, from_part, until_part, loop_part, check_part, head_part, block_part, first_part, others_part, branch_condition_part, branch_part, later_branches_part, Within, itself, inside}
-use Rattle.sc_rules.specs.Purity.{IsCall, as_value, as_instruction, Calls, calls, Acts, assigns, creates, prints, opens, calls_procedure, calls_separately}
-use Rattle.sc_rules.specs.Judging.{type_found, judge_given}
-use Rattle.sc_rules.specs.JudgingPurity.{Deed, acting, leading, acting_if, leading_if_any, deeds_of_meaning, receiver_type, deeds_of_name, deeds_of_call, is_to_attribute, where_known, judge_reserved, deeds, deeds_of_target, deeds_of_actuals, deeds_of_instr, deeds_of_instrs, deeds_of_branches, deeds_at, Lists, first, later, Does, does_act, does_lead, Done}
-use Rattle.sc_rules.proofs.Complete.{typed, given}
-use Rattle.sc_rules.proofs.PurityLists.{in_left, in_right, in_acting_if, in_leading, in_known, in_each}
+use Rattle.sc_rules.specs.declared.position.Role.TheVariants as role
+use Rattle.sc_rules.specs.Positions.{joins, may_give}
+use Rattle.sc_rules.specs.Names.{RoutineName, Here, Entities, entity, test_type, blocks, block_type, Signature, stands, meaning_of, assigned}
+use Rattle.sc_rules.specs.Typing.{Typing, is_foreign_type, HasType, HasReceiver, implicit, explicit, Gives}
+use Rattle.sc_rules.specs.Sites.{Site, IsActual, first_actual, later_actual, Reserves, no_more, one_more, Part, target_part, actual_part, operand_part, left_part, right_part, joined_left_part, joined_right_part, tested_part, source_part, call_target_part, call_actual_part, creation_actual_part, condition_part, then_part, elseif_part, else_part, from_part, until_part, loop_part, check_part, head_part, block_part, first_part, others_part, branch_condition_part, branch_part, later_branches_part}
+use Rattle.sc_rules.specs.Typing as typing
+use Rattle.sc_rules.specs.Purity as anyway
+use Rattle.sc_rules.specs.Purity.{HasTypeIfAny, of_type, of_none, GivesAnyway, ReservesAnyway, PartAnyway, WithinAnyway, IsCall, as_value, as_instruction, Calls, calls, Acts, assigns, creates, prints, opens, calls_procedure, calls_separately}
+use Rattle.sc_rules.specs.Judging.{Judged, type_found, judge}
+use Rattle.sc_rules.specs.JudgingPurity.{Deed, acting, leading, acting_if, leading_if_any, deeds_of_meaning, receiver_type, deeds_of_name, deeds_of_call, is_to_attribute, given_anyway, reserved_anyway, deeds, deeds_of_target, deeds_of_actuals, deeds_of_heads, deeds_of_instr, deeds_of_instrs, deeds_of_branches, deeds_at, Lists, first, later, Does, does_act, does_lead, Done}
+use Rattle.sc_rules.proofs.Complete.{typed}
+use Rattle.sc_rules.proofs.PuritySound.{sound}
+use Rattle.sc_rules.proofs.PurityLists.{in_left, in_right, in_acting_if, in_leading, in_each}
 
 -- ---- calls
 
@@ -85,9 +93,63 @@ contained x (y ∷ ys) (suc k, l, e) = later (contained x ys (k, less l, e))
     less : suc k < suc (length ys) → k < length ys
     less l = omega arith
 
-reserved : {h : Here} {n m o : Entities} {ds : List Head} → Reserves h n m ds o → judge_reserved h n m ds ≡ Ok o
-reserved no_more = refl
-reserved (one_more d r) = simp (typed d) (reserved r)
+-- ---- what stands behind a mistake
+
+nothing_given : (h : Here) (c : Context) (n : Entities) (e : Expr) → may_give e ≡ false → given_anyway h c n e ≡ n
+nothing_given h c n (ObjectTest s d a x) i = cc
+nothing_given h c n (Binary s op a b) i = simp i refl
+nothing_given h c n e i = refl
+
+type_is : {h : Here} {c : Context} {n : Entities} {e : Expr} {t : Option EntityType} → HasTypeIfAny h c n e t → type_found (judge h c Plain n e) ≡ t
+type_is (of_type d) = ap type_found (typed d)
+type_is {h} {c} {n} {e} (of_none f) = by (judge h c Plain n e) refl
+  where
+    by : (j : Judged Typing) → judge h c Plain n e ≡ j → type_found j ≡ None
+    by (Ok t) i = absurd (f t (sound i))
+    by (Err r) i = refl
+
+given_is : {h : Here} {c : Context} {n m : Entities} {e : Expr} → GivesAnyway h c n e m → given_anyway h c n e ≡ m
+given_is {h} (anyway.by_test {n} {s} {d} {a} {x} i) = ap (λ t. n ++ entity x.text (test_type h d t) role.Test ∷ []) (type_is i)
+given_is {h} {c} (anyway.by_both {n} {m} {o} {s} {op} {a} {b} i g k) = simp i (ap (λ m. given_anyway h c m b) (given_is g) ∙ given_is k)
+given_is {h} {c} (anyway.nothing {n} {e} i) = nothing_given h c n e i
+
+reserved_is : {h : Here} {n m o : Entities} {ds : List Head} → ReservesAnyway h n m ds o → reserved_anyway h n m ds ≡ o
+reserved_is anyway.no_more = refl
+reserved_is {h} {n} (anyway.one_more {m} {o} {d} {ds} i r) =
+    ap (λ t. reserved_anyway h n (m ++ entity d.name.text (block_type (blocks m) t) role.Block ∷ []) ds) (type_is i) ∙ reserved_is r
+
+-- what is given where no rule fails is given anyway
+pub anyway_given : {h : Here} {c : Context} {n m : Entities} {e : Expr} → Gives h c n e m → GivesAnyway h c n e m
+anyway_given (typing.by_test d) = anyway.by_test (of_type d)
+anyway_given (typing.by_both i g k) = anyway.by_both i (anyway_given g) (anyway_given k)
+anyway_given (typing.nothing i) = anyway.nothing i
+
+pub anyway_reserved : {h : Here} {n m o : Entities} {ds : List Head} → Reserves h n m ds o → ReservesAnyway h n m ds o
+anyway_reserved no_more = anyway.no_more
+anyway_reserved (one_more d r) = anyway.one_more (of_type d) (anyway_reserved r)
+
+held_listed : {h : Here} {c : Context} {n m : Entities} {a : Expr} {d : Deed} (k : Spot) (s : Span) (op : BinaryOperator) (b : Expr) → joins k op ≡ true →
+    GivesAnyway h c n a m → Lists d (deeds h c Condition m b) → Lists d (deeds h c k n (Binary s op a b))
+unfolding deeds
+held_listed {h} {c} {n} {m} {a} {d} k s op b j g p = rw j (in_right (deeds h c Condition n a) (subst (λ m. Lists d (deeds h c Condition m b)) (sym (given_is g)) p))
+
+then_listed : {h : Here} {n m : Entities} {e : Expr} {d : Deed} (s : Span) (body other : Instrs) (bs : Branches) → GivesAnyway h context.Body n e m →
+    Lists d (deeds_of_instrs h m body) → Lists d (deeds_of_instr h n (If s e body bs other))
+unfolding deeds_of_instr
+then_listed {h} {n} {m} {e} {d} s body other bs g p =
+    in_right (deeds h context.Body Condition n e)
+    (in_left (deeds_of_branches h n bs ++ deeds_of_instrs h n other) (subst (λ m. Lists d (deeds_of_instrs h m body)) (sym (given_is g)) p))
+
+branch_listed : {h : Here} {n m : Entities} {e : Expr} {d : Deed} (body : Instrs) (bs : Branches) → GivesAnyway h context.Body n e m →
+    Lists d (deeds_of_instrs h m body) → Lists d (deeds_of_branches h n (branch_then e body bs))
+unfolding deeds_of_instr
+branch_listed {h} {n} {m} {e} {d} body bs g p =
+    in_right (deeds h context.Body Condition n e) (in_left (deeds_of_branches h n bs) (subst (λ m. Lists d (deeds_of_instrs h m body)) (sym (given_is g)) p))
+
+block_listed : {h : Here} {n m : Entities} {ds : List Head} {d : Deed} (s : Span) (body : Instrs) → ReservesAnyway h n n ds m →
+    Lists d (deeds_of_instrs h m body) → Lists d (deeds_of_instr h n (Block s ds body))
+unfolding deeds_of_instr
+block_listed {h} {n} {m} {ds} {d} s body r p = later (in_right (deeds_of_heads h n ds) (subst (λ m. Lists d (deeds_of_instrs h m body)) (sym (reserved_is r)) p))
 
 part_listed : {h : Here} {a b : Site} {d : Deed} → Part h a b → Lists d (deeds_at h b) → Lists d (deeds_at h a)
 unfolding deeds deeds_of_instr
@@ -97,32 +159,39 @@ part_listed operand_part p = p
 part_listed (left_part j) p = rw j (in_left _ p)
 part_listed (right_part j) p = rw j (in_right _ p)
 part_listed (joined_left_part j) p = rw j (in_left _ p)
-part_listed (joined_right_part j g) p = rw j (in_right _ (in_known _ _ _ (given g) p))
+part_listed (joined_right_part {k} {s} {op} {b} j g) p = held_listed k s op b j (anyway_given g) p
 part_listed tested_part p = p
 part_listed source_part p = in_right _ p
 part_listed call_target_part p = in_left _ p
 part_listed (call_actual_part i) p = in_right _ (in_left _ (actual_listed _ _ _ i p))
 part_listed (creation_actual_part i) p = later (actual_listed _ _ _ i p)
 part_listed condition_part p = in_left _ p
-part_listed (then_part g) p = in_right _ (in_left _ (in_known _ _ _ (given g) p))
+part_listed (then_part {s} {body} {other} {bs} g) p = then_listed s body other bs (anyway_given g) p
 part_listed elseif_part p = in_right _ (in_right _ (in_left _ p))
 part_listed {h} (else_part {n} {s} {e} {body} {other} {bs}) p =
-    in_right (deeds h context.Body Condition n e) (in_right (where_known (judge_given h context.Body n e) (λ m. deeds_of_instrs h m body)) (in_right (deeds_of_branches h n bs) p))
+    in_right (deeds h context.Body Condition n e) (in_right (deeds_of_instrs h (given_anyway h context.Body n e) body) (in_right (deeds_of_branches h n bs) p))
 part_listed from_part p = in_left _ p
 part_listed until_part p = in_right _ (in_left _ p)
 part_listed loop_part p = in_right _ (in_right _ p)
 part_listed {h} (check_part {n} {s} {ks} {k} i) p = in_each (λ (k : Clause). deeds h context.Check Plain n k.condition) (contained k ks i) p
 part_listed {h} (head_part {n} {s} {ds} {d} i) p = later (in_left _ (in_each (λ (d : Head). deeds h context.Body Plain n d.value) (contained d ds i) p))
-part_listed (block_part r) p = later (in_right _ (in_known _ _ _ (reserved r) p))
+part_listed (block_part {s} {body} r) p = block_listed s body (anyway_reserved r) p
 part_listed first_part p = in_left _ p
 part_listed others_part p = in_right _ p
 part_listed branch_condition_part p = in_left _ p
-part_listed (branch_part g) p = in_right _ (in_left _ (in_known _ _ _ (given g) p))
+part_listed (branch_part {body} {bs} g) p = branch_listed body bs (anyway_given g) p
 part_listed later_branches_part p = in_right _ (in_right _ p)
 
-within_listed : {h : Here} {a b : Site} {d : Deed} → Within h a b → Lists d (deeds_at h b) → Lists d (deeds_at h a)
-within_listed itself p = p
-within_listed (inside i w) p = part_listed i (within_listed w p)
+anyway_listed : {h : Here} {a b : Site} {d : Deed} → PartAnyway h a b → Lists d (deeds_at h b) → Lists d (deeds_at h a)
+anyway_listed (anyway.part i) p = part_listed i p
+anyway_listed (anyway.held_part {k} {s} {op} {b} j g) p = held_listed k s op b j g p
+anyway_listed (anyway.then_part {s} {body} {other} {bs} g) p = then_listed s body other bs g p
+anyway_listed (anyway.branch_part {body} {bs} g) p = branch_listed body bs g p
+anyway_listed (anyway.block_part {s} {body} r) p = block_listed s body r p
+
+within_listed : {h : Here} {a b : Site} {d : Deed} → WithinAnyway h a b → Lists d (deeds_at h b) → Lists d (deeds_at h a)
+within_listed anyway.itself p = p
+within_listed (anyway.inside i w) p = anyway_listed i (within_listed w p)
 
 -- what is done there, or in a part, is listed
 pub listed : {h : Here} {a : Site} {d : Deed} → Done h a d → Lists d (deeds_at h a)

@@ -1,10 +1,9 @@
 -- Lists of deeds: what stands in a list that is put together.
-use Rattle.std.proofs.Common.{◌≡◌, Bool, true, false, List, [], ◌∷◌, Option, Some, None, Ok, Err, refl, sym, subst}
+use Rattle.std.proofs.Common.{◌≡◌, Bool, true, false, List, [], ◌∷◌, Option, Some, None, refl, sym, subst}
 use Rattle.std.specs.Prelude.{◌++◌}
 use Rattle.std.specs.List.{flat_map, list_any}
-use Rattle.sc_rules.specs.Names.{RoutineName, Entities}
-use Rattle.sc_rules.specs.Judging.{Judged}
-use Rattle.sc_rules.specs.JudgingPurity.{Deed, acting, leading, acting_if, leading_if_any, where_known, is_acting, Lists, first, later}
+use Rattle.sc_rules.specs.Names.{RoutineName}
+use Rattle.sc_rules.specs.JudgingPurity.{Deed, acting, leading, acting_if, leading_if_any, is_acting, Lists, first, later}
 
 pub in_left : {A : Type 0} {x : A} {xs : List A} (ys : List A) → Lists x xs → Lists x (xs ++ ys)
 in_left ys first = first
@@ -37,14 +36,6 @@ from_leading P (Some g) f (later p) = elim p [ ]
 
 pub in_leading : (o : Option RoutineName) (f : RoutineName) → o ≡ Some f → Lists (leading f) (leading_if_any o)
 in_leading o f e = subst (λ o. Lists (leading f) (leading_if_any o)) (sym e) first
-
-pub from_known : {P : Type 0} {d : Deed} (j : Judged Entities) (f : Entities → List Deed) → Lists d (where_known j f) → ((m : Entities) → j ≡ Ok m →
-    Lists d (f m) → P) → P
-from_known (Ok m) f p g = g m refl p
-from_known (Err e) f p g = elim p [ ]
-
-pub in_known : {d : Deed} (j : Judged Entities) (f : Entities → List Deed) (m : Entities) → j ≡ Ok m → Lists d (f m) → Lists d (where_known j f)
-in_known {d} j f m e p = subst (λ j. Lists d (where_known j f)) (sym e) p
 
 -- one of those that a list gives element by element
 pub data AmongEach {A B : Type 0} (f : A → List B) (y : B) (xs : List A) : Type 0 where

@@ -1,5 +1,5 @@
 -- What stands in a site's list of deeds is done within it.
-use Rattle.std.proofs.Common.{◌≡◌, ◌<◌, suc, arith, Bool, true, false, List, [], ◌∷◌, Option, Some, None, Ok, Err, refl, subst}
+use Rattle.std.proofs.Common.{◌≡◌, ◌<◌, suc, arith, Bool, true, false, List, [], ◌∷◌, Option, Some, None, Ok, Err, refl, sym, ◌∙◌, subst}
 use Rattle.std.specs.Prelude.{not, ◌++◌, is_some, Contains, length, if◌then◌else◌}
 use Rattle.sc_text.specs.declared.token.Span.{Span}
 use Rattle.sc_tree.specs.declared.expression.BinaryOperator.{BinaryOperator}
@@ -7,21 +7,23 @@ use Rattle.sc_tree.specs.Plain as plain
 use Rattle.sc_tree.specs.Plain.{Clause, Head, Name, Variable, CreationCall, Expr, Integer, Boolean, Void, Current, Call, Unary, Binary, ObjectTest, Target, no_target, target, Exprs, no_exprs, expr_then, Instr, Assign, PrintText, CallRoutine, Create, If, Loop, Check, Block, Instrs, no_instrs, instr_then, Branches, no_branches, branch_then}
 use Rattle.sc_proctype.specs.declared.entity_type.EntityType.{EntityType}
 use Rattle.sc_rules.specs.declared.rule.Rule.{Rule}
+use Rattle.sc_rules.specs.declared.fault.Fault.{Fault}
 use Rattle.sc_rules.specs.declared.position.Context.{Context}
 use Rattle.sc_rules.specs.declared.position.Context.TheVariants as context
 use Rattle.sc_rules.specs.declared.position.Spot.{Spot}
 use Rattle.sc_rules.specs.declared.position.Spot.TheVariants.{Plain, Condition, Source}
 use Rattle.sc_rules.specs.declared.position.Role.TheVariants as role
-use Rattle.sc_rules.specs.Positions.{under, beside, joins}
+use Rattle.sc_rules.specs.Positions.{is_and_then, under, beside, joins}
 use Rattle.sc_rules.specs.Names.{Here, Entities, entity, blocks, block_type, Signature, Meaning, unknown, unresolved, stands, current, meaning_of, Assigned, no_such, fixed, to_local, to_attribute, assigned}
-use Rattle.sc_rules.specs.Typing.{Typing, is_foreign_type, HasType, implicit, explicit, Gives}
-use Rattle.sc_rules.specs.Sites.{Site, expression, instruction, instructions, branches, IsActual, first_actual, later_actual, Reserves, no_more, one_more, Part, target_part, actual_part, operand_part, left_part, right_part, joined_left_part, joined_right_part, tested_part, source_part, call_target_part, call_actual_part, creation_actual_part, condition_part, then_part, elseif_part, else_part, from_part, until_part, loop_part, check_part, head_part, block_part, first_part, others_part, branch_condition_part, branch_part, later_branches_part, itself, inside}
-use Rattle.sc_rules.specs.Purity.{IsCall, as_value, as_instruction, Calls, calls, assigns, creates, prints, opens, calls_procedure, calls_separately}
-use Rattle.sc_rules.specs.Judging.{Judged, ◌>>=◌, type_found, judge, judge_given}
-use Rattle.sc_rules.specs.JudgingPurity.{Deed, acting, acting_if, leading_if_any, deeds_of_meaning, deeds_of_name, deeds_of_call, is_to_attribute, where_known, judge_reserved, deeds, deeds_of_target, deeds_of_actuals, deeds_of_creation, deeds_of_clauses, deeds_of_heads, deeds_of_instr, deeds_of_instrs, deeds_of_branches, deeds_at, Lists, first, later, Does, does_act, does_lead, Done}
-use Rattle.sc_rules.proofs.PurityLists.{in_either, from_acting_if, from_leading, from_known, AmongEach, among, from_each}
+use Rattle.sc_rules.specs.Typing.{Typing, is_foreign_type, HasType, implicit, explicit}
+use Rattle.sc_rules.specs.Sites.{Site, expression, instruction, instructions, branches, IsActual, first_actual, later_actual, Part, target_part, actual_part, operand_part, left_part, right_part, joined_left_part, tested_part, source_part, call_target_part, call_actual_part, creation_actual_part, condition_part, elseif_part, else_part, from_part, until_part, loop_part, check_part, head_part, first_part, others_part, branch_condition_part, later_branches_part}
+use Rattle.sc_rules.specs.Purity.{HasTypeIfAny, of_type, of_none, GivesAnyway, by_test, by_both, nothing, ReservesAnyway, no_more, one_more, PartAnyway, part, held_part, then_part, branch_part, block_part, itself, inside, IsCall, as_value, as_instruction, Calls, calls, assigns, creates, prints, opens, calls_procedure, calls_separately}
+use Rattle.sc_rules.specs.Judging.{Judged, type_found, judge}
+use Rattle.sc_rules.specs.JudgingPurity.{Deed, acting, acting_if, leading_if_any, deeds_of_meaning, deeds_of_name, deeds_of_call, is_to_attribute, given_anyway, reserved_anyway, deeds, deeds_of_target, deeds_of_actuals, deeds_of_creation, deeds_of_clauses, deeds_of_heads, deeds_of_instr, deeds_of_instrs, deeds_of_branches, deeds_at, Lists, first, later, Does, does_act, does_lead, Done}
+use Rattle.sc_rules.proofs.Complete as complete
+use Rattle.sc_rules.proofs.PurityLists.{in_either, from_acting_if, from_leading, AmongEach, among, from_each}
 use Rattle.sc_rules.proofs.Refusals.{Gave, gave, refuses}
-use Rattle.sc_rules.proofs.Sound.{told, told_given}
+use Rattle.sc_rules.proofs.Sound.{told}
 
 -- what judging gives is so
 given_so : {A : Type 0} {Q : A → Type 0} {P : Rule → Span → Type 0} {j : Judged A} → Gave Q P j → (x : A) → j ≡ Ok x → Q x
@@ -31,17 +33,51 @@ given_so {A} {Q} (gave {x = y} q) x e = subst Q (same e) q
     same e = cc
 given_so (refuses f) x e = cc
 
-sound : {h : Here} {c : Context} {k : Spot} {n : Entities} {e : Expr} {t : Typing} → judge h c k n e ≡ Ok t → HasType h c k n e t
+pub sound : {h : Here} {c : Context} {k : Spot} {n : Entities} {e : Expr} {t : Typing} → judge h c k n e ≡ Ok t → HasType h c k n e t
 sound {h} {c} {k} {n} {e} {t} i = given_so (told h c k n e) t i
 
-sound_given : {h : Here} {c : Context} {n : Entities} {e : Expr} {m : Entities} → judge_given h c n e ≡ Ok m → Gives h c n e m
-sound_given {h} {c} {n} {e} {m} i = given_so (told_given h c n e) m i
+-- ---- what stands behind a mistake
+
+type_if_any : (h : Here) (c : Context) (n : Entities) (e : Expr) → HasTypeIfAny h c n e (type_found (judge h c Plain n e))
+type_if_any h c n e = by (judge h c Plain n e) refl
+  where
+    refused : (f : Fault) (t : Typing) → ◌≡◌ {A = Judged Typing} (Err f) (Ok t) → ⊥
+    refused f t q = cc
+
+    by : (j : Judged Typing) → judge h c Plain n e ≡ j → HasTypeIfAny h c n e (type_found j)
+    by (Ok t) i = of_type (sound i)
+    by (Err f) i = of_none (λ t d. refused f t (sym i ∙ complete.typed d))
+
+gives_anyway : (h : Here) (c : Context) (n : Entities) (e : Expr) → GivesAnyway h c n e (given_anyway h c n e)
+gives_anyway h c n (Integer s v) = nothing refl
+gives_anyway h c n (Boolean s v) = nothing refl
+gives_anyway h c n (Void s) = nothing refl
+gives_anyway h c n (Current s) = nothing refl
+gives_anyway h c n (plain.Result s) = nothing refl
+gives_anyway h c n (Call s t x es) = nothing refl
+gives_anyway h c n (Unary s op a) = nothing refl
+gives_anyway h c n (Binary s op a b) = by (is_and_then op) refl (gives_anyway h c n a) (gives_anyway h c (given_anyway h c n a) b)
+  where
+    by : (x : Bool) → is_and_then op ≡ x → GivesAnyway h c n a (given_anyway h c n a) → GivesAnyway h c (given_anyway h c n a) b (given_anyway h c (given_anyway h c n a) b) →
+        GivesAnyway h c n (Binary s op a b) (if x then given_anyway h c (given_anyway h c n a) b else n)
+    by true i g k = by_both i g k
+    by false i g k = nothing i
+gives_anyway h c n (ObjectTest s d a x) = by_test (type_if_any h c n a)
+
+reserves_anyway : (h : Here) (n m : Entities) (ds : List Head) → ReservesAnyway h n m ds (reserved_anyway h n m ds)
+reserves_anyway h n m [] = no_more
+reserves_anyway h n m (d ∷ ds) =
+    one_more (type_if_any h context.Body n d.value)
+    (reserves_anyway h n (m ++ entity d.name.text (block_type (blocks m) (type_found (judge h context.Body Plain n d.value))) role.Block ∷ []) ds)
 
 done_here : {h : Here} {a : Site} {d : Deed} → Does h a d → Done h a d
 done_here {a} k = record { site = a; within = itself; does = k }
 
+farther : {h : Here} {a b : Site} {d : Deed} → PartAnyway h a b → Done h b d → Done h a d
+farther i k = record { site = k.site; within = inside i k.within; does = k.does }
+
 deeper : {h : Here} {a b : Site} {d : Deed} → Part h a b → Done h b d → Done h a d
-deeper i k = record { site = k.site; within = inside i k.within; does = k.does }
+deeper i k = farther (part i) k
 
 -- ---- calls
 
@@ -90,29 +126,16 @@ among_actuals : {h : Here} {a : Site} {c : Context} {n : Entities} {es : Exprs} 
     Done h a d
 among_actuals f k = deeper (f k.actual k.is_one) k.done_there
 
-reserves : (h : Here) (n m o : Entities) (ds : List Head) → judge_reserved h n m ds ≡ Ok o → Reserves h n m ds o
-reserves h n m o [] e = subst (λ o. Reserves h n m [] o) (same e) no_more
-  where
-    same : ◌≡◌ {A = Judged Entities} (Ok m) (Ok o) → m ≡ o
-    same e = cc
-reserves h n m o (d ∷ ds) e = by_head (judge h context.Body Plain n d.value) refl (λ t i. reserves h n (m ++ entity d.name.text (block_type (blocks m) t.type) role.Block ∷ []) o ds i) e
-  where
-    by_head : (j : Judged Typing) → judge h context.Body Plain n d.value ≡ j →
-        ((t : Typing) → judge_reserved h n (m ++ entity d.name.text (block_type (blocks m) t.type) role.Block ∷ []) ds ≡ Ok o →
-        Reserves h n (m ++ entity d.name.text (block_type (blocks m) t.type) role.Block ∷ []) ds o) →
-        (j >>= λ t. judge_reserved h n (m ++ entity d.name.text (block_type (blocks m) t.type) role.Block ∷ []) ds) ≡ Ok o → Reserves h n m (d ∷ ds) o
-    by_head (Ok t) j r e = one_more (sound j) (r t e)
-    by_head (Err f) j r e = cc
-
 module _ (h : Here) (c : Context) (k : Spot) (n : Entities) (s : Span) (op : BinaryOperator) (a b : Expr) (d : Deed) where
   of_operands : (j : Bool) → joins k op ≡ j →
-      (Lists d (deeds h c Condition n a) → Done h (expression c Condition n a) d) → ((m : Entities) → Lists d (deeds h c Condition m b) → Done h (expression c Condition m b) d) →
+      (Lists d (deeds h c Condition n a) → Done h (expression c Condition n a) d) →
+      (Lists d (deeds h c Condition (given_anyway h c n a) b) → Done h (expression c Condition (given_anyway h c n a) b) d) →
       (Lists d (deeds h c (beside op) n a) → Done h (expression c (beside op) n a) d) → (Lists d (deeds h c (beside op) n b) → Done h (expression c (beside op) n b) d) →
-      Lists d (if j then deeds h c Condition n a ++ where_known (judge_given h c n a) (λ m. deeds h c Condition m b) else deeds h c (beside op) n a ++ deeds h c (beside op) n b) →
+      Lists d (if j then deeds h c Condition n a ++ deeds h c Condition (given_anyway h c n a) b else deeds h c (beside op) n a ++ deeds h c (beside op) n b) →
       Done h (expression c k n (Binary s op a b)) d
-  of_operands true j f g u v p = in_either (deeds h c Condition n a) (where_known (judge_given h c n a) (λ m. deeds h c Condition m b)) p
+  of_operands true j f g u v p = in_either (deeds h c Condition n a) (deeds h c Condition (given_anyway h c n a) b) p
       (λ q. deeper (joined_left_part j) (f q))
-      (λ q. from_known (judge_given h c n a) (λ m. deeds h c Condition m b) q (λ m i r. deeper (joined_right_part j (sound_given i)) (g m r)))
+      (λ q. farther (held_part j (gives_anyway h c n a)) (g q))
   of_operands false j f g u v p = in_either (deeds h c (beside op) n a) (deeds h c (beside op) n b) p
       (λ q. deeper (left_part j) (u q))
       (λ q. deeper (right_part j) (v q))
@@ -136,7 +159,7 @@ mutual
       (λ r. done_here (of_call h (expression c k n (Call s (target a) x es)) c n (target a) x as_value r)))
   of_expr h c k n (Unary s op a) p = deeper operand_part (of_expr h (under op c) Plain n a p)
   of_expr h c k n (Binary s op a b) {d} p = of_operands h c k n s op a b d (joins k op) refl
-      (λ q. of_expr h c Condition n a q) (λ m q. of_expr h c Condition m b q) (λ q. of_expr h c (beside op) n a q) (λ q. of_expr h c (beside op) n b q) p
+      (λ q. of_expr h c Condition n a q) (λ q. of_expr h c Condition (given_anyway h c n a) b q) (λ q. of_expr h c (beside op) n a q) (λ q. of_expr h c (beside op) n b q) p
   of_expr h c k n (ObjectTest s t a x) p = deeper tested_part (of_expr h c Plain n a p)
 
   of_actuals : (h : Here) (c : Context) (n : Entities) (es : Exprs) {d : Deed} → Lists d (deeds_of_actuals h c n es) → DoneAmong h c n es d
@@ -207,10 +230,10 @@ mutual
   of_instr h n (Create s v k) (later p) = of_creation h n s v k p
   of_instr h n (If s e body bs other) p =
       in_either (deeds h context.Body Condition n e)
-      (where_known (judge_given h context.Body n e) (λ m. deeds_of_instrs h m body) ++ (deeds_of_branches h n bs ++ deeds_of_instrs h n other)) p
+      (deeds_of_instrs h (given_anyway h context.Body n e) body ++ (deeds_of_branches h n bs ++ deeds_of_instrs h n other)) p
       (λ q. deeper condition_part (of_expr h context.Body Condition n e q))
-      (λ q. in_either (where_known (judge_given h context.Body n e) (λ m. deeds_of_instrs h m body)) (deeds_of_branches h n bs ++ deeds_of_instrs h n other) q
-      (λ r. from_known (judge_given h context.Body n e) (λ m. deeds_of_instrs h m body) r (λ m g t. deeper (then_part (sound_given g)) (of_instrs h m body t)))
+      (λ q. in_either (deeds_of_instrs h (given_anyway h context.Body n e) body) (deeds_of_branches h n bs ++ deeds_of_instrs h n other) q
+      (λ r. farther (then_part (gives_anyway h context.Body n e)) (of_instrs h (given_anyway h context.Body n e) body r))
       (λ r. in_either (deeds_of_branches h n bs) (deeds_of_instrs h n other) r
       (λ t. deeper elseif_part (of_branches h n bs t))
       (λ t. deeper else_part (of_instrs h n other t))))
@@ -223,9 +246,9 @@ mutual
   of_instr h n (Check s ks) p = of_clauses h n s ks p
   of_instr h n (Block s ds body) first = done_here (does_act opens)
   of_instr h n (Block s ds body) (later p) =
-      in_either (deeds_of_heads h n ds) (where_known (judge_reserved h n n ds) (λ m. deeds_of_instrs h m body)) p
+      in_either (deeds_of_heads h n ds) (deeds_of_instrs h (reserved_anyway h n n ds) body) p
       (λ q. of_heads h n s ds body q)
-      (λ q. from_known (judge_reserved h n n ds) (λ m. deeds_of_instrs h m body) q (λ m g r. deeper (block_part (reserves h n n m ds g)) (of_instrs h m body r)))
+      (λ q. farther (block_part (reserves_anyway h n n ds)) (of_instrs h (reserved_anyway h n n ds) body q))
 
   of_instrs : (h : Here) (n : Entities) (is : Instrs) {d : Deed} → Lists d (deeds_of_instrs h n is) → Done h (instructions n is) d
   of_instrs h n no_instrs p = elim p [ ]
@@ -236,10 +259,10 @@ mutual
   of_branches : (h : Here) (n : Entities) (bs : Branches) {d : Deed} → Lists d (deeds_of_branches h n bs) → Done h (branches n bs) d
   of_branches h n no_branches p = elim p [ ]
   of_branches h n (branch_then e body bs) p =
-      in_either (deeds h context.Body Condition n e) (where_known (judge_given h context.Body n e) (λ m. deeds_of_instrs h m body) ++ deeds_of_branches h n bs) p
+      in_either (deeds h context.Body Condition n e) (deeds_of_instrs h (given_anyway h context.Body n e) body ++ deeds_of_branches h n bs) p
       (λ q. deeper branch_condition_part (of_expr h context.Body Condition n e q))
-      (λ q. in_either (where_known (judge_given h context.Body n e) (λ m. deeds_of_instrs h m body)) (deeds_of_branches h n bs) q
-      (λ r. from_known (judge_given h context.Body n e) (λ m. deeds_of_instrs h m body) r (λ m g t. deeper (branch_part (sound_given g)) (of_instrs h m body t)))
+      (λ q. in_either (deeds_of_instrs h (given_anyway h context.Body n e) body) (deeds_of_branches h n bs) q
+      (λ r. farther (branch_part (gives_anyway h context.Body n e)) (of_instrs h (given_anyway h context.Body n e) body r))
       (λ r. deeper later_branches_part (of_branches h n bs r)))
 
 -- what is listed is done there, or in a part

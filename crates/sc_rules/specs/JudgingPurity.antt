@@ -1,5 +1,5 @@
 -- What a routine's body does that bears on purity, as a list, by one walk over it. Public contracts don't speak of it.
-use Rattle.std.specs.Prelude.{◌≡◌, ℕ, Bool, true, false, not, ◌||◌, if◌then◌else◌, List, [], ◌∷◌, ◌++◌, Option, Some, None, is_some, Ok, Err}
+use Rattle.std.specs.Prelude.{◌≡◌, ℕ, Bool, true, false, not, ◌||◌, if◌then◌else◌, List, [], ◌∷◌, ◌++◌, Option, Some, None, is_some}
 use Rattle.std.specs.List.{flat_map, list_any}
 use Rattle.sc_tree.specs.Plain as plain
 use Rattle.sc_tree.specs.Plain.{System, Clause, Head, Name, Variable, CreationCall, Expr, Integer, Boolean, Void, Current, Call, Unary, Binary, ObjectTest, Target, no_target, target, Exprs, no_exprs, expr_then, Instr, Assign, PrintText, CallRoutine, Create, If, Loop, Check, Block, Instrs, no_instrs, instr_then, Branches, no_branches, branch_then, FeatureKind, Attribute, Routine}
@@ -11,12 +11,12 @@ use Rattle.sc_rules.specs.declared.position.Context.TheVariants as context
 use Rattle.sc_rules.specs.declared.position.Spot.{Spot}
 use Rattle.sc_rules.specs.declared.position.Spot.TheVariants.{Plain, Condition, Source}
 use Rattle.sc_rules.specs.declared.position.Role.TheVariants as role
-use Rattle.sc_rules.specs.Positions.{under, beside, joins}
-use Rattle.sc_rules.specs.Names.{RoutineName, Here, here_of, Entities, entity, blocks, block_type, formals_known, locals_known, Signature, Meaning, unknown, unresolved, stands, current, meaning_of, Assigned, no_such, fixed, to_local, to_attribute, assigned}
+use Rattle.sc_rules.specs.Positions.{is_and_then, under, beside, joins}
+use Rattle.sc_rules.specs.Names.{RoutineName, Here, here_of, Entities, entity, test_type, blocks, block_type, formals_known, locals_known, Signature, Meaning, unknown, unresolved, stands, current, meaning_of, Assigned, no_such, fixed, to_local, to_attribute, assigned}
 use Rattle.sc_rules.specs.Typing.{is_foreign_type}
-use Rattle.sc_rules.specs.Sites.{Site, expression, instruction, instructions, branches, Within}
-use Rattle.sc_rules.specs.Purity.{routine_named, is_fit_if_any, Calls, Acts}
-use Rattle.sc_rules.specs.Judging.{Judged, ◌>>=◌, type_found, judge, judge_given}
+use Rattle.sc_rules.specs.Sites.{Site, expression, instruction, instructions, branches}
+use Rattle.sc_rules.specs.Purity.{routine_named, is_fit_if_any, WithinAnyway, Calls, Acts}
+use Rattle.sc_rules.specs.Judging.{type_found, judge}
 
 -- What bears on purity: something that no pure function does, or a call of a routine.
 pub data Deed : Type 0 where
@@ -55,16 +55,17 @@ is_to_attribute fixed = false
 is_to_attribute (to_local t) = false
 is_to_attribute (to_attribute t) = true
 
--- what is done where these entities are known, if any are
-abbrev pub where_known : Judged Entities → (Entities → List Deed) → List Deed
-where_known (Ok m) f = f m
-where_known (Err e) f = []
+-- the entities that are known where the condition holds, whatever rule fails in it
+abbrev pub given_anyway : Here → Context → Entities → Expr → Entities
+given_anyway h c n (ObjectTest p d a x) = n ++ entity x.text (test_type h d (type_found (judge h c Plain n a))) role.Test ∷ []
+given_anyway h c n (Binary p op a b) = if is_and_then op then given_anyway h c (given_anyway h c n a) b else n
+given_anyway h c n _ = n
 
 -- the entities that are known in the body of a block with these heads, of which those before are known in m
-abbrev pub judge_reserved : Here → Entities → Entities → List Head → Judged Entities
-judge_reserved h n m [] = Ok m
-judge_reserved h n m (d ∷ ds) =
-    judge h context.Body Plain n d.value >>= λ t. judge_reserved h n (m ++ entity d.name.text (block_type (blocks m) t.type) role.Block ∷ []) ds
+abbrev pub reserved_anyway : Here → Entities → Entities → List Head → Entities
+reserved_anyway h n m [] = m
+reserved_anyway h n m (d ∷ ds) =
+    reserved_anyway h n (m ++ entity d.name.text (block_type (blocks m) (type_found (judge h context.Body Plain n d.value))) role.Block ∷ []) ds
 
 unfoldable mutual
   pub deeds : Here → Context → Spot → Entities → Expr → List Deed
@@ -77,7 +78,7 @@ unfoldable mutual
   deeds h c k n (Unary p op a) = deeds h (under op c) Plain n a
   deeds h c k n (Binary p op a b) =
       if joins k op
-      then deeds h c Condition n a ++ where_known (judge_given h c n a) (λ m. deeds h c Condition m b)
+      then deeds h c Condition n a ++ deeds h c Condition (given_anyway h c n a) b
       else deeds h c (beside op) n a ++ deeds h c (beside op) n b
   deeds h c k n (ObjectTest p d a x) = deeds h c Plain n a
 
@@ -109,10 +110,10 @@ unfoldable mutual
   deeds_of_instr h n (Create p v k) = acting ∷ deeds_of_creation h n k
   deeds_of_instr h n (If p e body bs other) =
       deeds h context.Body Condition n e ++
-      (where_known (judge_given h context.Body n e) (λ m. deeds_of_instrs h m body) ++ (deeds_of_branches h n bs ++ deeds_of_instrs h n other))
+      (deeds_of_instrs h (given_anyway h context.Body n e) body ++ (deeds_of_branches h n bs ++ deeds_of_instrs h n other))
   deeds_of_instr h n (Loop p initial e body) = deeds_of_instrs h n initial ++ (deeds h context.Body Plain n e ++ deeds_of_instrs h n body)
   deeds_of_instr h n (Check p ks) = deeds_of_clauses h n ks
-  deeds_of_instr h n (Block p ds body) = acting ∷ (deeds_of_heads h n ds ++ where_known (judge_reserved h n n ds) (λ m. deeds_of_instrs h m body))
+  deeds_of_instr h n (Block p ds body) = acting ∷ (deeds_of_heads h n ds ++ deeds_of_instrs h (reserved_anyway h n n ds) body)
 
   pub deeds_of_instrs : Here → Entities → Instrs → List Deed
   deeds_of_instrs h n no_instrs = []
@@ -121,7 +122,7 @@ unfoldable mutual
   pub deeds_of_branches : Here → Entities → Branches → List Deed
   deeds_of_branches h n no_branches = []
   deeds_of_branches h n (branch_then e body bs) =
-      deeds h context.Body Condition n e ++ (where_known (judge_given h context.Body n e) (λ m. deeds_of_instrs h m body) ++ deeds_of_branches h n bs)
+      deeds h context.Body Condition n e ++ (deeds_of_instrs h (given_anyway h context.Body n e) body ++ deeds_of_branches h n bs)
 
 -- what is done at the site, and in its parts
 abbrev pub deeds_at : Here → Site → List Deed
@@ -167,7 +168,7 @@ pub data Does (h : Here) (a : Site) : Deed → Type 0 where
 -- It is done there or in a part.
 pub record Done (h : Here) (a : Site) (d : Deed) : Type 0 where
   pub site : Site
-  pub within : Within h a site
+  pub within : WithinAnyway h a site
   pub does : Does h site d
 
 -- The first may run the second, as the list of the first one's deeds or the declarations of their classes say: the second is called, or is of

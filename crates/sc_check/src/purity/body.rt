@@ -1,19 +1,51 @@
 // What is done in instructions that bears on purity.
 
-ghost use Rattle.std.specs.Prelude.{map};
-ghost use Rattle.sc_tree.specs.View.{branches_of, clause_of, creation_call_of, expr_of, head_of, instr_of, instrs_of};
+ghost use Rattle.std.specs.Prelude.{◌≡◌, map, IfErr, IfOk, OnOk};
+ghost use Rattle.sc_tree.specs.View.{branches_of, clause_of, creation_call_of, expr_of, exprs_of, head_of, instr_of, instrs_of, name_of, target_of};
 ghost use Rattle.sc_rules.specs.JudgingPurity as spec;
+ghost use Rattle.sc_rules.specs.declared.position.Context.TheVariants.{Body};
 ghost use Rattle.sc_check.specs.Views.{here_in, entity_of};
-ghost use Rattle.sc_check.specs.Deeds.{Adds, deeds_of_create, deeds_under, deeds_reserved};
+ghost use Rattle.sc_check.specs.Deeds.{Adds, deeds_in_call, deeds_of_create, deeds_under, deeds_reserved};
+ghost use Rattle.sc_check.specs.declared.fault.CheckFault.TheVariants.{OutOfMemory};
 
 use crate::fault::CheckFault;
 use crate::here::Here;
-use crate::names::Entity;
+use crate::names::{Entity, block_type, blocks};
 use crate::purity::deeds::{Deed, add_if, is_to_attribute};
-use sc_rules::{Context, Spot};
-use sc_tree::{Branch, Clause, CreationCall, Expr, Head, Instr};
+use crate::typing::type_found;
+use sc_rules::{Context, Role, Spot};
+use sc_tree::{Branch, Call, Clause, CreationCall, Expr, Head, Instr};
+use std::alloc::Global;
+
+/// A copy of the names that are known.
+fn copied<'s>(alloc: Global, names: &[Entity<'s>]) -> Result<Vec<Entity<'s>>, CheckFault>
+    ensures names { IfOk result (λ copy. copy.items ≡ names.now) }
+    ensures memory { IfErr result (λ e. e ≡ OutOfMemory) }
+{
+    let mut copy = Vec::with_capacity(alloc, names.len())?;
+    for known in names {
+        copy.push(*known)?;
+    }
+    Ok(copy)
+}
 
 impl<'t, 's> Here<'t, 's> {
+    /// Adds what is done in a call that is an instruction.
+    #[tactic(auto, using(crate::proofs::Deeds::added_three))]
+    fn add_command(
+        self,
+        names: &[Entity<'s>],
+        call: &'s Call,
+        deeds: &mut Vec<Deed<'s>>,
+    ) -> Result<(), CheckFault>
+        ensures { Adds deeds.old.items deeds.new.items (deeds_in_call (here_in self.entry) Body (map entity_of names.now) (target_of call.now.target) (name_of call.now.name) (exprs_of call.now.actuals.items)) result }
+    {
+        let target = self.add_target(Context::Body, names, &call.target, deeds)?;
+        self.add_actuals(Context::Body, names, &call.actuals, deeds)?;
+        self.add_named(names, call, type_found(target), deeds)?;
+        Ok(())
+    }
+
     /// Adds what is done in a creation.
     #[tactic(auto, using(crate::proofs::Deeds::added_two))]
     fn add_creation(
@@ -45,29 +77,45 @@ impl<'t, 's> Here<'t, 's> {
         ensures { Adds deeds.old.items deeds.new.items (spec.deeds_of_clauses (here_in self.entry) (map entity_of names.now) (map clause_of clauses.now)) result }
     {
         for clause in clauses {
-            self.add_expression(Context::Check, Spot::Plain, names, &clause.condition, deeds)?;
+            let _ = self.add_expression(
+                Context::Check,
+                Spot::Plain,
+                names,
+                &clause.condition,
+                deeds,
+            )?;
         }
         Ok(())
     }
 
-    /// Adds what is done in the heads of a separate block.
+    /// Adds what is done in the heads of a separate block. The names that they give join those that are known in its body,
+    /// whatever rule fails in them.
     #[tactic(auto, unfolding(sc_tree::specs::View::head_of))]
     fn add_heads(
         self,
         names: &[Entity<'s>],
+        known: &mut Vec<Entity<'s>>,
         heads: &'s [Head],
         deeds: &mut Vec<Deed<'s>>,
     ) -> Result<(), CheckFault>
-        ensures { Adds deeds.old.items deeds.new.items (spec.deeds_of_heads (here_in self.entry) (map entity_of names.now) (map head_of heads.now)) result }
+        ensures deeds { Adds deeds.old.items deeds.new.items (spec.deeds_of_heads (here_in self.entry) (map entity_of names.now) (map head_of heads.now)) result }
+        ensures reserved { OnOk result (map entity_of known.new.items ≡ spec.reserved_anyway (here_in self.entry) (map entity_of names.now) (map entity_of known.old.items) (map head_of heads.now)) }
     {
         for head in heads {
-            self.add_expression(Context::Body, Spot::Plain, names, &head.value, deeds)?;
+            let value = self.add_expression(Context::Body, Spot::Plain, names, &head.value, deeds)?;
+            let number = blocks(known);
+            known.push(Entity {
+                name: head.name.text.as_str(),
+                entity_type: block_type(number, type_found(value)),
+                role: Role::Block,
+            })?;
         }
         Ok(())
     }
 
-    /// Adds what is done in what stands under a condition.
+    /// Adds what is done in a condition and in what stands under it.
     #[cycle(instruction_deeds)]
+    #[tactic(auto, using(crate::proofs::Deeds::added_two))]
     fn add_under(
         self,
         names: &[Entity<'s>],
@@ -77,13 +125,10 @@ impl<'t, 's> Here<'t, 's> {
     ) -> Result<(), CheckFault>
         ensures { Adds deeds.old.items deeds.new.items (deeds_under (here_in self.entry) (map entity_of names.now) (expr_of condition.now) (instrs_of body.now)) result }
     {
-        match self.given_names(Context::Body, names, condition)? {
-            None => Ok(()),
-            Some(known) => {
-                self.add_instructions(&known, body, deeds)?;
-                Ok(())
-            }
-        }
+        let mut known = copied(self.alloc, names)?;
+        self.add_condition(Context::Body, &mut known, condition, deeds)?;
+        self.add_instructions(&known, body, deeds)?;
+        Ok(())
     }
 
     /// Adds what is done in the `elseif`s.
@@ -98,15 +143,14 @@ impl<'t, 's> Here<'t, 's> {
         ensures { Adds deeds.old.items deeds.new.items (spec.deeds_of_branches (here_in self.entry) (map entity_of names.now) (branches_of branches.now)) result }
     {
         for branch in branches {
-            let condition = &branch.condition;
-            self.add_expression(Context::Body, Spot::Condition, names, condition, deeds)?;
-            self.add_under(names, &branch.body, condition, deeds)?;
+            self.add_under(names, &branch.body, &branch.condition, deeds)?;
         }
         Ok(())
     }
 
-    /// Adds what is done in the body of a separate block with these heads.
+    /// Adds what is done in the heads of a separate block and in its body.
     #[cycle(instruction_deeds)]
+    #[tactic(auto, using(crate::proofs::Deeds::added_two))]
     fn add_block(
         self,
         names: &[Entity<'s>],
@@ -116,13 +160,10 @@ impl<'t, 's> Here<'t, 's> {
     ) -> Result<(), CheckFault>
         ensures { Adds deeds.old.items deeds.new.items (deeds_reserved (here_in self.entry) (map entity_of names.now) (map head_of heads.now) (instrs_of body.now)) result }
     {
-        match self.reserved_names(names, heads)? {
-            None => Ok(()),
-            Some(known) => {
-                self.add_instructions(&known, body, deeds)?;
-                Ok(())
-            }
-        }
+        let mut known = copied(self.alloc, names)?;
+        self.add_heads(names, &mut known, heads, deeds)?;
+        self.add_instructions(&known, body, deeds)?;
+        Ok(())
     }
 
     /// Adds what is done in instructions.
@@ -156,14 +197,13 @@ impl<'t, 's> Here<'t, 's> {
         match instruction {
             Instr::Assign(_, variable, value) => {
                 add_if(deeds, is_to_attribute(self.assigned(names, variable)))?;
-                self.add_expression(Context::Body, Spot::Source, names, value, deeds)?;
+                let _ = self.add_expression(Context::Body, Spot::Source, names, value, deeds)?;
                 Ok(())
             }
             Instr::PrintText(_, _) => add_if(deeds, true),
-            Instr::Call(call) => self.add_call(Context::Body, names, call, deeds),
+            Instr::Call(call) => self.add_command(names, call, deeds),
             Instr::Create(_, _, call) => self.add_creation(names, call, deeds),
             Instr::If(_, condition, body, branches, other) => {
-                self.add_expression(Context::Body, Spot::Condition, names, condition, deeds)?;
                 self.add_under(names, body, condition, deeds)?;
                 self.add_branches(names, branches, deeds)?;
                 self.add_instructions(names, other, deeds)?;
@@ -171,14 +211,13 @@ impl<'t, 's> Here<'t, 's> {
             }
             Instr::Loop(_, initial, condition, body) => {
                 self.add_instructions(names, initial, deeds)?;
-                self.add_expression(Context::Body, Spot::Plain, names, condition, deeds)?;
+                let _ = self.add_expression(Context::Body, Spot::Plain, names, condition, deeds)?;
                 self.add_instructions(names, body, deeds)?;
                 Ok(())
             }
             Instr::Check(_, clauses) => self.add_clauses(names, clauses, deeds),
             Instr::Block(_, heads, body) => {
                 add_if(deeds, true)?;
-                self.add_heads(names, heads, deeds)?;
                 self.add_block(names, heads, body, deeds)?;
                 Ok(())
             }

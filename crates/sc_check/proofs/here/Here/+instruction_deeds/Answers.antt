@@ -8,8 +8,8 @@ add_instruction-returns-in_ok-add_instructions-in-If t c =
     in_if (here_in c.args.self) (map entity_of c.args.names.now) c.args.instruction.now
     c.in-If.field-0 c.in-If.condition c.in-If.body c.in-If.branches c.in-If.other c.in-If.is
     c.deref.result.now c.deref.ensures.value c.deref-in-If.result.now c.deref-in-If.ensures.value c.deref-in-If-2.result.now c.deref-in-If-2.ensures.value
-    c.args.deeds.now.items c.add_expression-in-If.new.deeds.items c.add_under.new.deeds.items c.add_branches.new.deeds.items c.add_instructions.new.deeds.items
-    c.in_ok-add_expression-in-If.ensures c.in_ok-add_under-in-If.ensures c.in_ok-add_branches-in-If.ensures c.in_ok-add_instructions-in-If.ensures
+    c.args.deeds.now.items c.add_under.new.deeds.items c.add_branches.new.deeds.items c.add_instructions.new.deeds.items
+    c.in_ok-add_under-in-If.ensures c.in_ok-add_branches-in-If.ensures c.in_ok-add_instructions-in-If.ensures
 
 pub add_instruction-returns-in_ok-add_instructions-in-Loop-2 : goal.add_instruction-returns-in_ok-add_instructions-in-Loop-2
 add_instruction-returns-in_ok-add_instructions-in-Loop-2 t c =
@@ -17,12 +17,12 @@ add_instruction-returns-in_ok-add_instructions-in-Loop-2 t c =
     c.in-Loop.field-0 c.in-Loop.initial c.in-Loop.condition c.in-Loop.body c.in-Loop.is
     c.deref-in-Loop.result.now c.deref-in-Loop.ensures.value c.deref-in-Loop-2.result.now c.deref-in-Loop-2.ensures.value
     c.args.deeds.now.items c.add_instructions-in-Loop.new.deeds.items c.add_expression-in-Loop.new.deeds.items c.add_instructions-in-Loop-2.new.deeds.items
-    c.in_ok-add_instructions-in-Loop.ensures c.in_ok-add_expression-in-Loop.ensures c.in_ok-add_instructions-in-Loop-2.ensures
+    c.in_ok-add_instructions-in-Loop.ensures c.in_ok-add_expression-in-Loop.ensures.deeds c.in_ok-add_instructions-in-Loop-2.ensures
 
 pub add_instruction-returns-in_ok-add_block-in-Block : goal.add_instruction-returns-in_ok-add_block-in-Block
 add_instruction-returns-in_ok-add_block-in-Block t c =
     in_block (here_in c.args.self) (map entity_of c.args.names.now) c.args.instruction.now
     c.in-Block.field-0 c.in-Block.heads c.in-Block.body c.in-Block.is
-    c.deref-in-Block.result.now c.deref-in-Block.ensures.value c.deref-in-Block-2.result.now c.deref-in-Block-2.ensures.value c.deref-in-Block-3.result.now c.deref-in-Block-3.ensures.value
-    c.args.deeds.now.items c.add_if-in-Block.new.deeds.items c.add_heads.new.deeds.items c.add_block.new.deeds.items
-    c.in_ok-add_if-in-Block.ensures c.in_ok-add_heads-in-Block.ensures c.in_ok-add_block-in-Block.ensures
+    c.deref-in-Block.result.now c.deref-in-Block.ensures.value c.deref-in-Block-2.result.now c.deref-in-Block-2.ensures.value
+    c.args.deeds.now.items c.add_if-in-Block.new.deeds.items c.add_block.new.deeds.items
+    c.in_ok-add_if-in-Block.ensures c.in_ok-add_block-in-Block.ensures
