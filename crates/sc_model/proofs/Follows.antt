@@ -39,11 +39,11 @@ follows_same x = record { grows = same_output x x refl; stays = λ why e. refl }
 
 pub follows_trans : {x y z : Handler} → Follows x y → Follows y z → Follows x z
 follows_trans {x} {y} {z} p q = record {
-    grows = grows_trans p.grows q.grows;
-    stays = λ why e.
+  grows = grows_trans p.grows q.grows;
+  stays = λ why e.
       let failed : y.failure ≡ Some why = ap (λ (u : Handler). u.failure) (p.stays why e) ∙ e in
       ap (λ (u : Handler). record u { sessions = x.sessions }) (q.stays why failed) ∙ p.stays why e;
-  }
+}
 
 pub session_follows : (b : Bool) (x : Handler) → Follows x (session_ended b x)
 session_follows false x = follows_same x
@@ -60,17 +60,17 @@ told_follows true x = answered_follows Failed x
 
 pub leads_same : (h : ℕ) (w v : World) → v.handlers ≡ w.handlers → w.count ≤ v.count → Leads h w v
 leads_same h w v e c = record {
-    own = same_output (w.handlers h) (v.handlers h) (ap (λ (f : ℕ → Handler). (f h).output) e);
-    others = λ k l ne. subst (λ (f : ℕ → Handler). Follows (w.handlers k) (f k)) (sym e) (follows_same (w.handlers k));
-    counts = c;
-  }
+  own = same_output (w.handlers h) (v.handlers h) (ap (λ (f : ℕ → Handler). (f h).output) e);
+  others = λ k l ne. subst (λ (f : ℕ → Handler). Follows (w.handlers k) (f k)) (sym e) (follows_same (w.handlers k));
+  counts = c;
+}
 
 pub leads_trans : {h : ℕ} {u v w : World} → Leads h u v → Leads h v w → Leads h u w
 leads_trans {h} {u} {v} {w} p q = record {
-    own = grows_trans p.own q.own;
-    others = λ k l ne. follows_trans (p.others k l ne) (q.others k (omega (arith, l, p.counts)) ne);
-    counts = omega (arith, p.counts, q.counts);
-  }
+  own = grows_trans p.own q.own;
+  others = λ k l ne. follows_trans (p.others k l ne) (q.others k (omega (arith, l, p.counts)) ne);
+  counts = omega (arith, p.counts, q.counts);
+}
 
 -- each handler follows
 pub leads_each : (h : ℕ) (w v : World) → ((k : ℕ) → Follows (w.handlers k) (v.handlers k)) → w.count ≤ v.count → Leads h w v
@@ -82,10 +82,10 @@ differs k h ne = grind (arith, nat_tests)
 -- the handler itself changes, and its output grows
 pub put_own : (h : ℕ) (x : Handler) (w : World) → Grows (w.handlers h) x → Leads h w (put h x w)
 put_own h x w g = record {
-    own = subst (λ (b : Bool). Grows (w.handlers h) (if b then x else w.handlers h)) (sym (eq-eqb h h refl)) g;
-    others = λ k l ne. subst (λ (b : Bool). Follows (w.handlers k) (if b then x else w.handlers k)) (sym (differs k h ne)) (follows_same (w.handlers k));
-    counts = omega arith;
-  }
+  own = subst (λ (b : Bool). Grows (w.handlers h) (if b then x else w.handlers h)) (sym (eq-eqb h h refl)) g;
+  others = λ k l ne. subst (λ (b : Bool). Follows (w.handlers k) (if b then x else w.handlers k)) (sym (differs k h ne)) (follows_same (w.handlers k));
+  counts = omega arith;
+}
 
 put_follows : (k : ℕ) (x : Handler) (w : World) (j : ℕ) (b : Bool) → (j == k) ≡ b → Follows (w.handlers k) x → Follows (w.handlers j) (if b then x else w.handlers j)
 put_follows k x w j true e f = subst (λ i. Follows (w.handlers i) x) (sym (eqb-true j k e)) f
@@ -128,10 +128,10 @@ other_fails b false d why x e = follows_trans (told_follows d x) (session_follow
 
 pub fails_leads : (h : ℕ) (why : Cause) (taken : List Request) (w : World) → Leads h w (fails_with h why taken w)
 fails_leads h why taken w = record {
-    own = own_fails _ (h == h) _ why (w.handlers h);
-    others = λ k l ne. other_fails _ (k == h) _ why (w.handlers k) (differs k h ne);
-    counts = omega arith;
-  }
+  own = own_fails _ (h == h) _ why (w.handlers h);
+  others = λ k l ne. other_fails _ (k == h) _ why (w.handlers k) (differs k h ne);
+  counts = omega arith;
+}
 
 pub fail_leads : (h : ℕ) (why : Cause) (w : World) → Leads h w (fail h why w)
 fail_leads h why w = fails_leads h why [] w

@@ -53,8 +53,8 @@ reserves_leads : (b : Bool) (h : ℕ) (ks : List ℕ) (f : Frame) (below : List 
 reserves_leads false h ks f below w = stays h w
 reserves_leads true h ks f below w =
     if_leads h w (reserve_fails (standing_in w) w.rights ks) (fail h cause.SupplierFailed w) _
-      (fail_leads h cause.SupplierFailed w)
-      (leads_trans (stack_leads h (f ∷ below) w) (reserve_leads h ks (with_stack h (f ∷ below) w)))
+    (fail_leads h cause.SupplierFailed w)
+    (leads_trans (stack_leads h (f ∷ below) w) (reserve_leads h ks (with_stack h (f ∷ below) w)))
 
 -- ---- posting and asking
 
@@ -81,7 +81,7 @@ asks_leads h r x us g passing waiting f below w e =
     let b : Bool = is_callback h r.handler w in
     let live : (w1.handlers r.handler).failure ≡ None = stack_failure h r.handler stack w (r.handler == h) refl ∙ e in
     leads_trans (leads_trans (stack_leads h stack w) (put_any h r.handler (placed b q (w1.handlers r.handler)) w1 (placed_follows b q (w1.handlers r.handler) live)))
-      (passes_leads h passing r.handler (send b r.handler q w1))
+    (passes_leads h passing r.handler (send b r.handler q w1))
 
 if_leads_where : (h : ℕ) (w : World) (b : Bool) (x y : World) → (b ≡ true → Leads h w x) → (b ≡ false → Leads h w y) → Leads h w (if b then x else y)
 if_leads_where h w true x y p q = p refl
@@ -94,26 +94,26 @@ none_left (Some why) e = cc
 request_leads : (h : ℕ) (r : Reference) (x : List ℕ) (us : List Operand) (g : Option EntityType) (passing : Bool) (f : Frame) (below : List Frame) (w : World) → Leads h w (request h r x us g passing f below w)
 request_leads h r x us g passing f below w =
     if_leads h w (not (held w.rights h r.handler)) (fail h cause.NotHeld w) _ (fail_leads h cause.NotHeld w)
-      (if_leads_where h w (is_some (w.handlers r.handler).failure) (fail h cause.SupplierFailed w) _ (λ e. fail_leads h cause.SupplierFailed w)
-        (λ e. if_leads h w (not (is_callback h r.handler w) && not (nat_lt (length (w.handlers r.handler).queue) max_queue)) (fail h cause.QueueFull w) _ (fail_leads h cause.QueueFull w)
-          (asks_leads h r x us g passing (passing || is_some g || is_callback h r.handler w) f below w (none_left (w.handlers r.handler).failure e))))
+    (if_leads_where h w (is_some (w.handlers r.handler).failure) (fail h cause.SupplierFailed w) _ (λ e. fail_leads h cause.SupplierFailed w)
+    (λ e. if_leads h w (not (is_callback h r.handler w) && not (nat_lt (length (w.handlers r.handler).queue) max_queue)) (fail h cause.QueueFull w) _ (fail_leads h cause.QueueFull w)
+    (asks_leads h r x us g passing (passing || is_some g || is_callback h r.handler w) f below w (none_left (w.handlers r.handler).failure e))))
 
 -- ---- creations of handlers
 
 -- a handler beyond the count changes
 put_beyond : (h k : ℕ) (x : Handler) (u w : World) → Leads h u w → h < u.count → u.count ≤ k → Leads h u (put k x w)
 put_beyond h k x u w p l m = record {
-    own = subst (λ (b : Bool). Grows (u.handlers h) (if b then x else w.handlers h)) (sym (differs h k (λ e. absurd (omega (arith, e, l, m))))) p.own;
-    others = λ j n ne. subst (λ (b : Bool). Follows (u.handlers j) (if b then x else w.handlers j)) (sym (differs j k (λ e. absurd (omega (arith, e, n, m))))) (p.others j n ne);
-    counts = p.counts;
-  }
+  own = subst (λ (b : Bool). Grows (u.handlers h) (if b then x else w.handlers h)) (sym (differs h k (λ e. absurd (omega (arith, e, l, m))))) p.own;
+  others = λ j n ne. subst (λ (b : Bool). Follows (u.handlers j) (if b then x else w.handlers j)) (sym (differs j k (λ e. absurd (omega (arith, e, n, m))))) (p.others j n ne);
+  counts = p.counts;
+}
 
 with_handler_leads : (h holder : ℕ) (w : World) → h < w.count → Leads h w (with_handler w.count holder w)
 with_handler_leads h holder w l = record {
-    own = subst (λ (b : Bool). Grows (w.handlers h) (if b then new_handler else w.handlers h)) (sym (differs h w.count (λ e. absurd (omega (arith, e, l))))) (same_output (w.handlers h) (w.handlers h) refl);
-    others = λ j n ne. subst (λ (b : Bool). Follows (w.handlers j) (if b then new_handler else w.handlers j)) (sym (differs j w.count (λ e. absurd (omega (arith, e, n))))) (follows_same (w.handlers j));
-    counts = omega arith;
-  }
+  own = subst (λ (b : Bool). Grows (w.handlers h) (if b then new_handler else w.handlers h)) (sym (differs h w.count (λ e. absurd (omega (arith, e, l))))) (same_output (w.handlers h) (w.handlers h) refl);
+  others = λ j n ne. subst (λ (b : Bool). Follows (w.handlers j) (if b then new_handler else w.handlers j)) (sym (differs j w.count (λ e. absurd (omega (arith, e, n))))) (follows_same (w.handlers j));
+  counts = omega arith;
+}
 
 released_leads : (h : ℕ) (b : Bool) (k : ℕ) (w : World) → Leads h w (passes_or_releases b h k w)
 released_leads h true k w = passes_leads h true k w
@@ -145,7 +145,7 @@ counted_grows false x stack = same_output x (counted_refusal false (record x { s
 refuses_leads : (s : System) (h : ℕ) (r : Request) (f : Frame) (below : List Frame) (w : World) → Leads h w (refuses s h r f below w)
 refuses_leads s h r f below w =
     if_leads h w (is_creation r.errand && not (object_meets s (object_numbered f.current.number (w.handlers h).objects))) (fail h cause.Invariant w) _ (fail_leads h cause.Invariant w)
-      (leads_trans (leads_trans (put_own h (counted_refusal r.is_waited (record (w.handlers h) { stack = below })) w (counted_grows r.is_waited (w.handlers h) below)) (release_leads h release_at.Refusal f.reserved _)) (finish_leads h r Refused _))
+    (leads_trans (leads_trans (put_own h (counted_refusal r.is_waited (record (w.handlers h) { stack = below })) w (counted_grows r.is_waited (w.handlers h) below)) (release_leads h release_at.Refusal f.reserved _)) (finish_leads h r Refused _))
 
 correctness_leads : (s : System) (h : ℕ) (o : Origin) (f : Frame) (below : List Frame) (w : World) → Leads h w (correctness_fails s h o f below w)
 correctness_leads s h (Called c) f below w = fail_leads h cause.Precondition w
@@ -165,8 +165,8 @@ leaves_to_leads h (Requested r) ks v below w = leads_trans (leads_trans (stack_l
 exits_leads : (s : System) (h : ℕ) (f : Frame) (below : List Frame) (w : World) → Leads h w (exits s h f below w)
 exits_leads s h f below w =
     if_leads h w (is_unset f.result) (fail h cause.UnsetEntity w) _ (fail_leads h cause.UnsetEntity w)
-      (if_leads h w (is_untested f.origin || object_meets s (object_numbered f.current.number (w.handlers h).objects)) _ (fail h cause.Invariant w)
-        (leaves_to_leads h f.origin f.reserved (option_map (λ (u : Operand). u.value) f.result) below w) (fail_leads h cause.Invariant w))
+    (if_leads h w (is_untested f.origin || object_meets s (object_numbered f.current.number (w.handlers h).objects)) _ (fail h cause.Invariant w)
+    (leaves_to_leads h f.origin f.reserved (option_map (λ (u : Operand). u.value) f.result) below w) (fail_leads h cause.Invariant w))
 
 block_leads : (h : ℕ) (kss : List (List ℕ)) (f : Frame) (below : List Frame) (w : World) → Leads h w (leaves_block h kss f below w)
 block_leads h [] f below w = fail_leads h cause.BadCode w
@@ -197,10 +197,10 @@ creation_leads s h r None below w =
 errand_leads : (s : System) (h : ℕ) (r : Request) (e : Errand) (below : List Frame) (w : World) → Leads h w (takes_errand s h r e below w)
 errand_leads s h r (Makes k) below w =
     leads_trans (put_own h (record (w.handlers h) { objects = (w.handlers h).objects ++ fresh_object s r.target.class ∷ [] }) w (same_output (w.handlers h) _ refl))
-      (creation_leads s h r k below (with_new_object s h r.target.class w))
+    (creation_leads s h r k below (with_new_object s h r.target.class w))
 errand_leads s h r (Calls x) below w =
     if_leads h w (r.target.handler == h) _ (fails_with h cause.ForeignObject (r ∷ []) w)
-      (version_leads s h r x below (object_numbered r.target.number (w.handlers h).objects) (version_of s r.target.class x) w) (fails_leads h cause.ForeignObject (r ∷ []) w)
+    (version_leads s h r x below (object_numbered r.target.number (w.handlers h).objects) (version_of s r.target.class x) w) (fails_leads h cause.ForeignObject (r ∷ []) w)
 
 next_leads : (s : System) (h : ℕ) (rs : List Request) (w : World) → Leads h w (takes_next s h rs w)
 next_leads s h [] w = stays h w
@@ -242,7 +242,7 @@ settles_leads : (most : ℕ) (s : System) (h : ℕ) (st : Step) (f : Frame) (bel
 settles_leads most s h (Goes p) f below w l = stays h w
 settles_leads most s h (Does a p) f below w l =
     leads_trans (put_own h (record (w.handlers h) { objects = p.objects; stack = frame_at f p ∷ below }) w (same_output (w.handlers h) _ refl))
-      (effect_leads most s h a (frame_at f p) below (put h (record (w.handlers h) { objects = p.objects; stack = frame_at f p ∷ below }) w) l)
+    (effect_leads most s h a (frame_at f p) below (put h (record (w.handlers h) { objects = p.objects; stack = frame_at f p ∷ below }) w) l)
 
 waits_leads : (s : System) (h : ℕ) (c : Option Request) (a : Option Answer) (k : ℕ) (g : Option EntityType) (b : Bool) (f : Frame) (below : List Frame) (w : World) → Leads h w (waits s h c a k g b f below w)
 waits_leads s h (Some r) a k g b f below w = callback_leads s h r (f ∷ below) w
@@ -264,7 +264,7 @@ with_leads most s h None (f ∷ below) w l = on_leads most s h f.stage f below w
 turn_leads : (most : ℕ) (s : System) (h : ℕ) (w : World) → Leads h w (turn most s h w)
 turn_leads most s h w =
     if_leads_where h w (nat_lt h w.count) (turn_with most s h (w.handlers h).failure (w.handlers h).stack w) w
-      (λ e. with_leads most s h (w.handlers h).failure (w.handlers h).stack w (ltb-true h w.count e)) (λ e. stays h w)
+    (λ e. with_leads most s h (w.handlers h).failure (w.handlers h).stack w (ltb-true h w.count e)) (λ e. stays h w)
 
 -- ---- what follows
 
@@ -276,11 +276,11 @@ same_or_not k h false e = inr (λ f. let yes : (k == h) ≡ true = eq-eqb k h f 
 pub output_grows : (most : ℕ) (s : System) (h : ℕ) (w : World) (k : ℕ) → k < w.count → (added : List ℕ) × (((turn most s h w).handlers k).output ≡ (w.handlers k).output ++ added)
 output_grows most s h w k l = by (same_or_not k h (k == h) refl)
   where
-  by : (k ≡ h) ⊎ (k ≢ h) → (added : List ℕ) × (((turn most s h w).handlers k).output ≡ (w.handlers k).output ++ added)
-  by (inl e) =
-      let g : Grows (w.handlers k) ((turn most s h w).handlers k) = subst (λ j. Grows (w.handlers j) ((turn most s h w).handlers j)) (sym e) (turn_leads most s h w).own in
-      (g.added, g.output_is)
-  by (inr ne) = let g : Grows (w.handlers k) ((turn most s h w).handlers k) = ((turn_leads most s h w).others k l ne).grows in (g.added, g.output_is)
+    by : (k ≡ h) ⊎ (k ≢ h) → (added : List ℕ) × (((turn most s h w).handlers k).output ≡ (w.handlers k).output ++ added)
+    by (inl e) =
+        let g : Grows (w.handlers k) ((turn most s h w).handlers k) = subst (λ j. Grows (w.handlers j) ((turn most s h w).handlers j)) (sym e) (turn_leads most s h w).own in
+        (g.added, g.output_is)
+    by (inr ne) = let g : Grows (w.handlers k) ((turn most s h w).handlers k) = ((turn_leads most s h w).others k l ne).grows in (g.added, g.output_is)
 
 -- a handler that has failed makes no turn
 failed_turn : (most : ℕ) (s : System) (h : ℕ) (w : World) (why : Cause) (b : Bool) → (w.handlers h).failure ≡ Some why
@@ -292,8 +292,8 @@ pub failed_stays : (most : ℕ) (s : System) (h : ℕ) (w : World) (k : ℕ) (wh
     → record ((turn most s h w).handlers k) { sessions = (w.handlers k).sessions } ≡ w.handlers k
 failed_stays most s h w k why l e = by (same_or_not k h (k == h) refl)
   where
-  by : (k ≡ h) ⊎ (k ≢ h) → record ((turn most s h w).handlers k) { sessions = (w.handlers k).sessions } ≡ w.handlers k
-  by (inl f) =
-      let same : turn most s h w ≡ w = failed_turn most s h w why (nat_lt h w.count) (ap (λ j. (w.handlers j).failure) (sym f) ∙ e) in
-      ap (λ (v : World). record (v.handlers k) { sessions = (w.handlers k).sessions }) same
-  by (inr ne) = ((turn_leads most s h w).others k l ne).stays why e
+    by : (k ≡ h) ⊎ (k ≢ h) → record ((turn most s h w).handlers k) { sessions = (w.handlers k).sessions } ≡ w.handlers k
+    by (inl f) =
+        let same : turn most s h w ≡ w = failed_turn most s h w why (nat_lt h w.count) (ap (λ j. (w.handlers j).failure) (sym f) ∙ e) in
+        ap (λ (v : World). record (v.handlers k) { sessions = (w.handlers k).sessions }) same
+    by (inr ne) = ((turn_leads most s h w).others k l ne).stays why e

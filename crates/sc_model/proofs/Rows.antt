@@ -23,9 +23,9 @@ is_equal e z = both e binary.Equal (number z)
 abbrev counter : List Instr → System
 counter is = system (application
     (attribute (codes "n") integer ∷ procedure (codes "make") [] is
-      ∷ procedure (codes "raise") [] (assign (codes "n") (both (entity (codes "n")) binary.Plus (number (pos 1))) ∷ [])
-      ∷ procedure (codes "dip") [] (assign (codes "n") (both (entity (codes "n")) binary.Minus (number (pos 1))) ∷ [])
-      ∷ procedure (codes "mend") [] (assign (codes "n") (number (pos 0)) ∷ []) ∷ [])
+    ∷ procedure (codes "raise") [] (assign (codes "n") (both (entity (codes "n")) binary.Plus (number (pos 1))) ∷ [])
+    ∷ procedure (codes "dip") [] (assign (codes "n") (both (entity (codes "n")) binary.Minus (number (pos 1))) ∷ [])
+    ∷ procedure (codes "mend") [] (assign (codes "n") (number (pos 0)) ∷ []) ∷ [])
     (both (entity (codes "n")) binary.GreaterEqual (number (pos 0)) ∷ []) ∷ [])
 
 abbrev raising : System
@@ -50,8 +50,8 @@ dipping_fails = refl
 abbrev guarded : System
 guarded = system (application
     (attribute (codes "n") integer ∷ procedure (codes "make") [] (call (codes "raise") [] ∷ [])
-      ∷ routine (codes "is_small") [] (Some (own (codes "boolean"))) [] (assign_result (both (entity (codes "n")) binary.Less (number (pos 3))) ∷ [])
-      ∷ routine (codes "raise") [] None (entity (codes "is_small") ∷ []) (assign (codes "n") (number (pos 3)) ∷ []) ∷ []) [] ∷ [])
+    ∷ routine (codes "is_small") [] (Some (own (codes "boolean"))) [] (assign_result (both (entity (codes "n")) binary.Less (number (pos 3))) ∷ [])
+    ∷ routine (codes "raise") [] None (entity (codes "is_small") ∷ []) (assign (codes "n") (number (pos 3)) ∷ []) ∷ []) [] ∷ [])
 
 pub guarded_ends : outcome (played guarded (0 ∷ 0 ∷ 0 ∷ 0 ∷ 0 ∷ 0 ∷ 0 ∷ [])) ≡ (false, (Free, 0, []) ∷ [])
 guarded_ends = refl
@@ -69,9 +69,9 @@ cell = class (codes "cell") (codes "set" ∷ [])
 abbrev setting : System
 setting = system (application
     (attribute (codes "s") (separate (codes "cell"))
-      ∷ procedure (codes "make") [] (create_by (codes "s") (codes "set") (number (pos 4) ∷ []) ∷ call (codes "use") (entity (codes "s") ∷ []) ∷ [])
-      ∷ procedure (codes "use") (declared (codes "c") (separate (codes "cell")) ∷ [])
-        (call_on (codes "c") (codes "set") (number (pos 5) ∷ []) ∷ print (on (codes "c") (codes "item") []) ∷ []) ∷ []) [] ∷ cell ∷ [])
+    ∷ procedure (codes "make") [] (create_by (codes "s") (codes "set") (number (pos 4) ∷ []) ∷ call (codes "use") (entity (codes "s") ∷ []) ∷ [])
+    ∷ procedure (codes "use") (declared (codes "c") (separate (codes "cell")) ∷ [])
+    (call_on (codes "c") (codes "set") (number (pos 5) ∷ []) ∷ print (on (codes "c") (codes "item") []) ∷ []) ∷ []) [] ∷ cell ∷ [])
 
 -- in the fourth turn the queue of handler 1 isn't empty
 pub setting_waits : has_turn 0 (played setting (0 ∷ 0 ∷ 0 ∷ [])) ≡ false
@@ -86,26 +86,26 @@ setting_ends = refl
 abbrev buffer : Class
 buffer = class (codes "buffer") []
     (attribute (codes "item") integer ∷ attribute (codes "count") integer
-      ∷ routine (codes "put") (declared (codes "v") integer ∷ []) None (is_equal (entity (codes "count")) (pos 0) ∷ [])
-        (assign (codes "item") (entity (codes "v")) ∷ assign (codes "count") (number (pos 1)) ∷ [])
-      ∷ routine (codes "remove") [] None (is_equal (entity (codes "count")) (pos 1) ∷ []) (assign (codes "count") (number (pos 0)) ∷ []) ∷ [])
+    ∷ routine (codes "put") (declared (codes "v") integer ∷ []) None (is_equal (entity (codes "count")) (pos 0) ∷ [])
+    (assign (codes "item") (entity (codes "v")) ∷ assign (codes "count") (number (pos 1)) ∷ [])
+    ∷ routine (codes "remove") [] None (is_equal (entity (codes "count")) (pos 1) ∷ []) (assign (codes "count") (number (pos 0)) ∷ []) ∷ [])
     (both (is_equal (entity (codes "count")) (pos 0)) binary.Or (is_equal (entity (codes "count")) (pos 1)) ∷ [])
 
 abbrev consumer : Class
 consumer = class (codes "consumer") (codes "make" ∷ [])
     (routine (codes "make") (declared (codes "x") (separate (codes "buffer")) ∷ []) None (is_equal (on (codes "x") (codes "count") []) (pos 1) ∷ [])
-      (print (on (codes "x") (codes "item") []) ∷ call_on (codes "x") (codes "remove") [] ∷ []) ∷ []) []
+    (print (on (codes "x") (codes "item") []) ∷ call_on (codes "x") (codes "remove") [] ∷ []) ∷ []) []
 
 abbrev producer : Class
 producer = class (codes "producer") (codes "make" ∷ [])
     (routine (codes "make") (declared (codes "x") (separate (codes "buffer")) ∷ []) None (is_equal (on (codes "x") (codes "count") []) (pos 0) ∷ [])
-      (call_on (codes "x") (codes "put") (number (pos 7) ∷ []) ∷ []) ∷ []) []
+    (call_on (codes "x") (codes "put") (number (pos 7) ∷ []) ∷ []) ∷ []) []
 
 abbrev exchanging : System
 exchanging = system (application
     (attribute (codes "b") (separate (codes "buffer")) ∷ attribute (codes "p") (separate (codes "producer")) ∷ attribute (codes "c") (separate (codes "consumer"))
-      ∷ procedure (codes "make") []
-        (create (codes "b") ∷ create_by (codes "c") (codes "make") (entity (codes "b") ∷ []) ∷ create_by (codes "p") (codes "make") (entity (codes "b") ∷ []) ∷ []) ∷ []) []
+    ∷ procedure (codes "make") []
+    (create (codes "b") ∷ create_by (codes "c") (codes "make") (entity (codes "b") ∷ []) ∷ create_by (codes "p") (codes "make") (entity (codes "b") ∷ []) ∷ []) ∷ []) []
     ∷ buffer ∷ consumer ∷ producer ∷ [])
 
 -- in its twelfth turn the consumer's entry waits, and it isn't tried again before the producer's session has ended
@@ -118,24 +118,24 @@ consumer_is_tried_again = refl
 
 pub exchanging_ends :
     outcome (played exchanging
-      (0 ∷ 0 ∷ 0 ∷ 0 ∷ 0 ∷ 1 ∷ 2 ∷ 2 ∷ 2 ∷ 1 ∷ 2 ∷ 2 ∷ 2 ∷ 3 ∷ 3 ∷ 3 ∷ 1 ∷ 3 ∷ 3 ∷ 3 ∷ 3 ∷ 1 ∷ 1 ∷ 1 ∷ 2 ∷ 2 ∷ 1 ∷ 2 ∷ 2 ∷ 2 ∷ 1 ∷ 2 ∷ 2 ∷ 2 ∷ 2 ∷ 1 ∷ 1 ∷ 1 ∷ []))
+    (0 ∷ 0 ∷ 0 ∷ 0 ∷ 0 ∷ 1 ∷ 2 ∷ 2 ∷ 2 ∷ 1 ∷ 2 ∷ 2 ∷ 2 ∷ 3 ∷ 3 ∷ 3 ∷ 1 ∷ 3 ∷ 3 ∷ 3 ∷ 3 ∷ 1 ∷ 1 ∷ 1 ∷ 2 ∷ 2 ∷ 1 ∷ 2 ∷ 2 ∷ 2 ∷ 1 ∷ 2 ∷ 2 ∷ 2 ∷ 2 ∷ 1 ∷ 1 ∷ 1 ∷ []))
     ≡ (false, (Free, 0, []) ∷ (Free, 0, []) ∷ (Free, 0, signed_decimal (pos 7)) ∷ (Free, 0, []) ∷ [])
 exchanging_ends = refl
 
 -- right after the verdict that starts its body its clause holds, by its evaluation over all objects at once
 pub consumer_starts_where_it_holds :
     (let w : World = played exchanging
-      (0 ∷ 0 ∷ 0 ∷ 0 ∷ 0 ∷ 1 ∷ 2 ∷ 2 ∷ 2 ∷ 1 ∷ 2 ∷ 2 ∷ 2 ∷ 3 ∷ 3 ∷ 3 ∷ 1 ∷ 3 ∷ 3 ∷ 3 ∷ 3 ∷ 1 ∷ 1 ∷ 1 ∷ 2 ∷ 2 ∷ 1 ∷ 2 ∷ 2 ∷ [])
+    (0 ∷ 0 ∷ 0 ∷ 0 ∷ 0 ∷ 1 ∷ 2 ∷ 2 ∷ 2 ∷ 1 ∷ 2 ∷ 2 ∷ 2 ∷ 3 ∷ 3 ∷ 3 ∷ 1 ∷ 3 ∷ 3 ∷ 3 ∷ 3 ∷ 1 ∷ 1 ∷ 1 ∷ 2 ∷ 2 ∷ 1 ∷ 2 ∷ 2 ∷ [])
     in clauses_of 12 exchanging w (w.handlers 2).stack) ≡ Comes (Boolean true) ∷ []
 consumer_starts_where_it_holds = refl
 
 abbrev holding : System
 holding = system (application
     (attribute (codes "b") (separate (codes "buffer"))
-      ∷ procedure (codes "make") [] (create (codes "b") ∷ call (codes "hold") (entity (codes "b") ∷ []) ∷ [])
-      ∷ procedure (codes "hold") (declared (codes "x") (separate (codes "buffer")) ∷ []) (call (codes "drain") (entity (codes "x") ∷ []) ∷ [])
-      ∷ routine (codes "drain") (declared (codes "x") (separate (codes "buffer")) ∷ []) None (is_equal (on (codes "x") (codes "count") []) (pos 1) ∷ [])
-        (call_on (codes "x") (codes "remove") [] ∷ []) ∷ []) [] ∷ buffer ∷ [])
+    ∷ procedure (codes "make") [] (create (codes "b") ∷ call (codes "hold") (entity (codes "b") ∷ []) ∷ [])
+    ∷ procedure (codes "hold") (declared (codes "x") (separate (codes "buffer")) ∷ []) (call (codes "drain") (entity (codes "x") ∷ []) ∷ [])
+    ∷ routine (codes "drain") (declared (codes "x") (separate (codes "buffer")) ∷ []) None (is_equal (on (codes "x") (codes "count") []) (pos 1) ∷ [])
+    (call_on (codes "x") (codes "remove") [] ∷ []) ∷ []) [] ∷ buffer ∷ [])
 
 -- what is held already makes no wait condition
 pub holding_fails : outcome (played holding (rounds 12 (0 ∷ 1 ∷ []))) ≡ (false, (Failed Precondition, 0, []) ∷ (Free, 0, []) ∷ [])
@@ -144,8 +144,8 @@ holding_fails = refl
 abbrev using : System
 using = system (application
     (attribute (codes "b") (separate (codes "buffer"))
-      ∷ procedure (codes "make") [] (create (codes "b") ∷ call (codes "use") (entity (codes "b") ∷ []) ∷ [])
-      ∷ procedure (codes "use") (declared (codes "x") (separate (codes "buffer")) ∷ []) (call_on (codes "x") (codes "remove") [] ∷ []) ∷ []) [] ∷ buffer ∷ [])
+    ∷ procedure (codes "make") [] (create (codes "b") ∷ call (codes "use") (entity (codes "b") ∷ []) ∷ [])
+    ∷ procedure (codes "use") (declared (codes "x") (separate (codes "buffer")) ∷ []) (call_on (codes "x") (codes "remove") [] ∷ []) ∷ []) [] ∷ buffer ∷ [])
 
 -- a refusal that nobody waits for is counted
 pub using_is_refused : outcome (played using (rounds 12 (0 ∷ 1 ∷ []))) ≡ (false, (Free, 0, []) ∷ (Free, 1, []) ∷ [])
@@ -156,13 +156,13 @@ using_is_refused = refl
 abbrev calling_back : List Instr → System
 calling_back is = system (application
     (attribute (codes "n") integer ∷ attribute (codes "w") (separate (codes "worker"))
-      ∷ procedure (codes "make") [] (create (codes "w") ∷ call (codes "go") (entity (codes "w") ∷ []) ∷ print (entity (codes "n")) ∷ [])
-      ∷ procedure (codes "go") (declared (codes "x") (separate (codes "worker")) ∷ []) is
-      ∷ procedure (codes "bump") [] (assign (codes "n") (both (entity (codes "n")) binary.Plus (number (pos 1))) ∷ print (entity (codes "n")) ∷ []) ∷ [])
+    ∷ procedure (codes "make") [] (create (codes "w") ∷ call (codes "go") (entity (codes "w") ∷ []) ∷ print (entity (codes "n")) ∷ [])
+    ∷ procedure (codes "go") (declared (codes "x") (separate (codes "worker")) ∷ []) is
+    ∷ procedure (codes "bump") [] (assign (codes "n") (both (entity (codes "n")) binary.Plus (number (pos 1))) ∷ print (entity (codes "n")) ∷ []) ∷ [])
     (both (entity (codes "n")) binary.GreaterEqual (number (pos 0)) ∷ [])
-  ∷ class (codes "worker") []
+    ∷ class (codes "worker") []
     (procedure (codes "serve") (declared (codes "a") (separate (codes "application")) ∷ []) (call_on (codes "a") (codes "bump") [] ∷ print (on (codes "a") (codes "n") []) ∷ []) ∷ []) []
-  ∷ [])
+    ∷ [])
 
 abbrev served : Instr
 served = call_on (codes "x") (codes "serve") (the_current ∷ [])
@@ -183,22 +183,22 @@ calling_back_fails = refl
 abbrev relaying : System
 relaying = system (application
     (attribute (codes "b") (separate (codes "node")) ∷ attribute (codes "c") (separate (codes "node")) ∷ attribute (codes "d") (separate (codes "node"))
-      ∷ attribute (codes "e") (separate (codes "late"))
-      ∷ procedure (codes "make") []
-        (create (codes "d") ∷ create (codes "b") ∷ create (codes "c") ∷ create_by (codes "e") (codes "run") (entity (codes "d") ∷ [])
-          ∷ call (codes "go") (entity (codes "b") ∷ entity (codes "c") ∷ entity (codes "d") ∷ []) ∷ [])
-      ∷ procedure (codes "go")
-        (declared (codes "x") (separate (codes "node")) ∷ declared (codes "y") (separate (codes "node")) ∷ declared (codes "z") (separate (codes "node")) ∷ [])
-        (call_on (codes "x") (codes "relay") (the_current ∷ entity (codes "y") ∷ []) ∷ []) ∷ []) []
-  ∷ class (codes "node") []
+    ∷ attribute (codes "e") (separate (codes "late"))
+    ∷ procedure (codes "make") []
+    (create (codes "d") ∷ create (codes "b") ∷ create (codes "c") ∷ create_by (codes "e") (codes "run") (entity (codes "d") ∷ [])
+    ∷ call (codes "go") (entity (codes "b") ∷ entity (codes "c") ∷ entity (codes "d") ∷ []) ∷ [])
+    ∷ procedure (codes "go")
+    (declared (codes "x") (separate (codes "node")) ∷ declared (codes "y") (separate (codes "node")) ∷ declared (codes "z") (separate (codes "node")) ∷ [])
+    (call_on (codes "x") (codes "relay") (the_current ∷ entity (codes "y") ∷ []) ∷ []) ∷ []) []
+    ∷ class (codes "node") []
     (attribute (codes "hits") integer
-      ∷ procedure (codes "hit") [] (assign (codes "hits") (both (entity (codes "hits")) binary.Plus (number (pos 1))) ∷ [])
-      ∷ procedure (codes "relay") (declared (codes "p") (separate (codes "application")) ∷ declared (codes "q") (separate (codes "node")) ∷ [])
-        (call_on (codes "q") (codes "fall") (entity (codes "p") ∷ []) ∷ [])
-      ∷ procedure (codes "fall") (declared (codes "p") (separate (codes "application")) ∷ []) (check (truth false) ∷ []) ∷ []) []
-  ∷ class (codes "late") (codes "run" ∷ [])
+    ∷ procedure (codes "hit") [] (assign (codes "hits") (both (entity (codes "hits")) binary.Plus (number (pos 1))) ∷ [])
+    ∷ procedure (codes "relay") (declared (codes "p") (separate (codes "application")) ∷ declared (codes "q") (separate (codes "node")) ∷ [])
+    (call_on (codes "q") (codes "fall") (entity (codes "p") ∷ []) ∷ [])
+    ∷ procedure (codes "fall") (declared (codes "p") (separate (codes "application")) ∷ []) (check (truth false) ∷ []) ∷ []) []
+    ∷ class (codes "late") (codes "run" ∷ [])
     (procedure (codes "run") (declared (codes "x") (separate (codes "node")) ∷ []) (call_on (codes "x") (codes "hit") [] ∷ print (on (codes "x") (codes "hits") []) ∷ []) ∷ []) []
-  ∷ [])
+    ∷ [])
 
 pub relaying_fails :
     outcome (played relaying (rounds 30 (0 ∷ 1 ∷ 2 ∷ 3 ∷ 4 ∷ [])))
@@ -210,11 +210,11 @@ relaying_fails = refl
 abbrev asking_each_other : System
 asking_each_other = system (application
     (attribute (codes "me") (separate (codes "application")) ∷ attribute (codes "w") (separate (codes "worker"))
-      ∷ procedure (codes "make") [] (assign (codes "me") the_current ∷ create (codes "w") ∷ call (codes "go") (entity (codes "w") ∷ []) ∷ [])
-      ∷ procedure (codes "go") (declared (codes "x") (separate (codes "worker")) ∷ []) (print (on (codes "x") (codes "ask") (entity (codes "me") ∷ [])) ∷ []) ∷ []) []
-  ∷ class (codes "worker") []
+    ∷ procedure (codes "make") [] (assign (codes "me") the_current ∷ create (codes "w") ∷ call (codes "go") (entity (codes "w") ∷ []) ∷ [])
+    ∷ procedure (codes "go") (declared (codes "x") (separate (codes "worker")) ∷ []) (print (on (codes "x") (codes "ask") (entity (codes "me") ∷ [])) ∷ []) ∷ []) []
+    ∷ class (codes "worker") []
     (routine (codes "ask") (declared (codes "p") (separate (codes "application")) ∷ []) (Some integer) [] (assign_result (number (pos 1)) ∷ []) ∷ []) []
-  ∷ [])
+    ∷ [])
 
 pub asking_each_other_waits : outcome (played asking_each_other (rounds 10 (0 ∷ 1 ∷ []))) ≡ (false, (Waiting, 0, []) ∷ (Waiting, 0, []) ∷ [])
 asking_each_other_waits = refl

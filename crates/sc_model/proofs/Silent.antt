@@ -228,8 +228,8 @@ unfolding Smaller
 object_smaller n s me r t x us g None p h = tt
 object_smaller n s me r t x us g (Some gives) p h =
     if_smaller n (r.handler == me.handler) (calls_version r x us gives (object_numbered r.number p.objects) (version_of s r.class x) p) (requests r t.tag x us gives (passes_rights g.formals us) p)
-      (version_smaller n r x us gives (object_numbered r.number p.objects) (version_of s r.class x) p h)
-      (requests_smaller n r t.tag x us gives (passes_rights g.formals us) p)
+    (version_smaller n r x us gives (object_numbered r.number p.objects) (version_of s r.class x) p h)
+    (requests_smaller n r t.tag x us gives (passes_rights g.formals us) p)
 
 on_value_smaller : (n : ℕ) (s : System) (me : Reference) (x : List ℕ) (v : Value) (t : EntityType) (f : Option DeclaredFeature) (us : List Operand) (p : Point) → size p.tasks < n → Smaller n (calls_on s me x v t f us p)
 unfolding Smaller
@@ -256,9 +256,9 @@ here_smaller : (n : ℕ) (s : System) (me : Reference) (k : ℕ) (t : EntityType
 unfolding Smaller
 here_smaller n s me k t call us p =
     if_smaller n (nat_lt (length p.objects) max_objects)
-      (creates_object s (record { handler = me.handler; number = length p.objects + 1; class = k }) t call us (record p { objects = p.objects ++ fresh_object s k ∷ [] }))
-      (fails cause.TooManyObjects p)
-      (new_object_smaller n s (record { handler = me.handler; number = length p.objects + 1; class = k }) t call us (record p { objects = p.objects ++ fresh_object s k ∷ [] })) tt
+    (creates_object s (record { handler = me.handler; number = length p.objects + 1; class = k }) t call us (record p { objects = p.objects ++ fresh_object s k ∷ [] }))
+    (fails cause.TooManyObjects p)
+    (new_object_smaller n s (record { handler = me.handler; number = length p.objects + 1; class = k }) t call us (record p { objects = p.objects ++ fresh_object s k ∷ [] })) tt
 
 creates_at_smaller : (n : ℕ) (s : System) (me : Reference) (call : Option (List ℕ)) (t : EntityType) (g : Tag) (c : ClassId) (us : List Operand) (p : Point) → Smaller n (creates_at s me call t g c us p)
 unfolding Smaller

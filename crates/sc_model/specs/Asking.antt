@@ -47,7 +47,7 @@ abbrev pub asks : ℕ → Reference → List ℕ → List Operand → Option Ent
 asks h r x us gives passing waits f below w =
     passes passing h r.handler
     (send (is_callback h r.handler w) r.handler (request_by h r (Calls x) us waits passing w)
-      (with_stack h (awaits_if waits r.handler gives false f ∷ below) w))
+    (with_stack h (awaits_if waits r.handler gives false f ∷ below) w))
 
 -- The target's handler is held, has not failed, and has room.
 abbrev pub request : ℕ → Reference → List ℕ → List Operand → Option EntityType → Bool → Frame → List Frame → World → World

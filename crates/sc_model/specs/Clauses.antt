@@ -108,10 +108,10 @@ after (suc n) s w o = after n s w (next s w o)
 -- a clause of the frame's contract before its evaluation, on its handler's objects; `old`s are there
 abbrev pub begun : World → Frame → Clause → Outcome
 begun w f k = Further (record {
-      current = f.current;
-      point = record (point_of f (w.handlers f.current.handler).objects) { text = f.routine.contract; tasks = Eval 0 k.condition ∷ []; values = [] };
-      gives = None;
-    }) []
+  current = f.current;
+  point = record (point_of f (w.handlers f.current.handler).objects) { text = f.routine.contract; tasks = Eval 0 k.condition ∷ []; values = [] };
+  gives = None;
+}) []
 
 -- The clause holds in the world for the frame.
 pub record Holds (s : System) (w : World) (f : Frame) (k : Clause) : Type 0 where

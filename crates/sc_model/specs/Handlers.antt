@@ -61,9 +61,9 @@ pub record Frame : Type 0 where
   pub olds : List Operand
   pub tasks : List Task
   pub values : List Operand
-  pub reserved : List ℕ              -- what its entry newly reserved
-  pub blocks : List (List ℕ)         -- what each of its open separate blocks newly reserved, the innermost first
-  pub mark : List Marked             -- of an entry that waits
+  pub reserved : List ℕ  -- what its entry newly reserved
+  pub blocks : List (List ℕ)  -- what each of its open separate blocks newly reserved, the innermost first
+  pub mark : List Marked  -- of an entry that waits
 
 -- where the frame stands, with these objects
 abbrev pub point_of : Frame → List Object → Point
@@ -78,14 +78,14 @@ frame_at f p = record f { text = p.text; environment = p.environment; result = p
 
 pub record Handler : Type 0 where
   pub objects : List Object
-  pub stack : List Frame             -- the topmost first
+  pub stack : List Frame  -- the topmost first
   pub output : List ℕ
   pub failure : Option Cause
-  pub queue : List Request           -- the next first
+  pub queue : List Request  -- the next first
   pub callback : Option Request
   pub answer : Option Answer
-  pub sessions : ℕ                   -- how many of its sessions have ended
-  pub refused : ℕ                    -- how many requests it refused for which nobody waited
+  pub sessions : ℕ  -- how many of its sessions have ended
+  pub refused : ℕ  -- how many requests it refused for which nobody waited
 
 abbrev pub new_handler : Handler
 new_handler = record { objects = []; stack = []; output = []; failure = None; queue = []; callback = None; answer = None; sessions = 0; refused = 0 }

@@ -16,10 +16,10 @@ pub record Point : Type 0 where
   pub objects : List Object
   pub text : Text
   pub environment : List Binding
-  pub result : Option Operand    -- its Result, of the type that its own text declares
+  pub result : Option Operand  -- its Result, of the type that its own text declares
   pub olds : List Operand
   pub tasks : List Task
-  pub values : List Operand      -- the last one first
+  pub values : List Operand  -- the last one first
 
 -- how a routine of the same handler is called
 pub data Calling : Type 0 where
@@ -30,14 +30,14 @@ pub data Calling : Type 0 where
 -- what is seen of a visible step
 pub data Act : Type 0 where
   Prints : (text : List ℕ) → Act
-  Tests : Act                                          -- an `until`
-  Creates : Act                                        -- an object of the current handler, without a call
+  Tests : Act  -- an `until`
+  Creates : Act  -- an object of the current handler, without a call
   CreatesHandler : (class : ℕ) (procedure : Option (List ℕ)) (actuals : List Operand) (type : EntityType) (passes : Bool) → Act
   Enters : (calling : Calling) (object : Reference) (name : List ℕ) (actuals : List Operand) (gives : Option EntityType) → Act
   Requests : (object : Reference) (name : List ℕ) (actuals : List Operand) (gives : Option EntityType) (passes : Bool) → Act
-  Starts : Act                                         -- each clause of the precondition holds
-  Refuses : (clause : Clause) → Act                    -- this is the first that doesn't
-  Opens : Act                                          -- a separate block
+  Starts : Act  -- each clause of the precondition holds
+  Refuses : (clause : Clause) → Act  -- this is the first that doesn't
+  Opens : Act  -- a separate block
   Leaves : Act
   Exits : Act
   Fails : (why : Cause) → Act

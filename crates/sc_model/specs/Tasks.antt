@@ -8,31 +8,31 @@ use Rattle.sc_model.specs.Olds.{olds_in, olds_of_clauses}
 
 -- A task is one layer of a tree. The number beside an expression is that of the `old`s of its postcondition before it.
 pub data Task : Type 0 where
-  Do : (body : Instrs) → Task                                     -- these instructions
-  In : (text : Text) → Task                                       -- what follows stands in this text
-  Declare : (locals : List Declaration) → Task                    -- they are known from now on, with their defaults
-  Forget : (depth : ℕ) → Task                                     -- of the known names so many stay known
-  Eval : (olds : ℕ) (expression : Expr) → Task                    -- its value comes onto the values
-  ApplyUnary : (operator : UnaryOperator) → Task                  -- to the last value
+  Do : (body : Instrs) → Task  -- these instructions
+  In : (text : Text) → Task  -- what follows stands in this text
+  Declare : (locals : List Declaration) → Task  -- they are known from now on, with their defaults
+  Forget : (depth : ℕ) → Task  -- of the known names so many stay known
+  Eval : (olds : ℕ) (expression : Expr) → Task  -- its value comes onto the values
+  ApplyUnary : (operator : UnaryOperator) → Task  -- to the last value
   EvalRight : (operator : BinaryOperator) (olds : ℕ) (right : Expr) → Task  -- the last value decides, or this operand is evaluated too
-  ApplyBinary : (operator : BinaryOperator) → Task                -- to the last two values
-  Conclude : Task                                                 -- the last value, a truth value, is that of the whole
-  Bind : (tested : Option DeclaredType) (name : List ℕ) → Task    -- an object test of the last value
-  CallUnqualified : (name : List ℕ) (count : ℕ) → Task            -- a routine of Current; its actuals are the last values
-  CallQualified : (name : List ℕ) (count : ℕ) → Task              -- a feature of the value under the actuals
-  AssignTo : (variable : Variable) → Task                         -- the last value
-  Print : Task                                                    -- the last value
+  ApplyBinary : (operator : BinaryOperator) → Task  -- to the last two values
+  Conclude : Task  -- the last value, a truth value, is that of the whole
+  Bind : (tested : Option DeclaredType) (name : List ℕ) → Task  -- an object test of the last value
+  CallUnqualified : (name : List ℕ) (count : ℕ) → Task  -- a routine of Current; its actuals are the last values
+  CallQualified : (name : List ℕ) (count : ℕ) → Task  -- a feature of the value under the actuals
+  AssignTo : (variable : Variable) → Task  -- the last value
+  Print : Task  -- the last value
   Choose : (depth : ℕ) (body : Instrs) (branches : Branches) (other : Instrs) → Task  -- by the last value
-  Repeat : (until : Expr) (body : Instrs) → Task                  -- a loop comes to its test
-  EndLoop : (until : Expr) (body : Instrs) → Task                 -- by the last value, or its body comes again
-  Checked : Task                                                  -- the last value is that of a clause of a `check`
+  Repeat : (until : Expr) (body : Instrs) → Task  -- a loop comes to its test
+  EndLoop : (until : Expr) (body : Instrs) → Task  -- by the last value, or its body comes again
+  Checked : Task  -- the last value is that of a clause of a `check`
   Require : (clauses : List Clause) → Task
-  Required : (clause : Clause) → Task                             -- the last value is that of the clause
-  KeepOld : Task                                                  -- the last value is that of the next `old`
-  Ensured : Task                                                  -- the last value is that of a clause of the postcondition
+  Required : (clause : Clause) → Task  -- the last value is that of the clause
+  KeepOld : Task  -- the last value is that of the next `old`
+  Ensured : Task  -- the last value is that of a clause of the postcondition
   CreateBy : (variable : Variable) (procedure : Option (List ℕ)) (count : ℕ) → Task  -- its actuals are the last values
-  Open : (names : List Name) (body : Instrs) → Task               -- a separate block; its heads are the last values
-  Leave : (depth : ℕ) → Task                                      -- the end of a separate block
+  Open : (names : List Name) (body : Instrs) → Task  -- a separate block; its heads are the last values
+  Leave : (depth : ℕ) → Task  -- the end of a separate block
 
 -- ---- what constructs set out
 
