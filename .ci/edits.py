@@ -226,7 +226,7 @@ def try_crate(crate, below):
     def told(name, what):
         print(f"{crate}/{name}: {what}", flush=True)
 
-    for file in sorted(os.listdir(f"{folder}/edits")):
+    for file in sorted(it for it in os.listdir(f"{folder}/edits") if it.endswith(".edit")):
         try:
             edits.append(Edit(f"{folder}/edits/{file}", folder))
         except (BadEdit, OSError) as error:
