@@ -30,7 +30,7 @@ OPEN_GOALS = re.compile(r"expected answers in (?:\./)?proofs/(\S+)/\w+\.antt; `s
 WRONG_ANSWER = re.compile(r"^(?:\./)?proofs/(\S+)/\w+\.antt:\d+:\d+: error: (.*)$", re.M)
 # What the prover says where a proof names what an edit took away: that shows nothing of the contract.
 TAKEN_AWAY = re.compile(r"has no field|is not in scope|has no `|was not admitted")
-UNREADABLE = re.compile(r"^(?:\./)?(?:src|specs)/\S+:\d+:\d+: error.*$", re.M)
+ERROR = re.compile(r"^\S+:\d+:\d+: error.*$", re.M)
 
 
 class BadEdit(Exception):
@@ -164,8 +164,9 @@ class Trial:
             return True, " ".join([*own, *found][:1]) + ": " + [*map(found.get, own), *found.values()][0]
         if re.search(r"^logic=proved", said, re.M):
             return False, "LET THROUGH: the crate is still proved"
-        unreadable = UNREADABLE.search(said)
-        return False, f"BAD EDIT: no goal is open: {unreadable[0] if unreadable else said.strip()[-300:]}"
+        # the text can't be read, or a proof names what the edit took away
+        error = ERROR.search(said)
+        return False, f"BAD EDIT: no goal is open: {(error[0] if error else said.strip())[:300]}"
 
 
 def open_goals(said):
@@ -226,7 +227,7 @@ def try_crate(crate, below):
     def told(name, what):
         print(f"{crate}/{name}: {what}", flush=True)
 
-    for file in sorted(os.listdir(f"{folder}/edits")):
+    for file in sorted(it for it in os.listdir(f"{folder}/edits") if it.endswith(".edit")):
         try:
             edits.append(Edit(f"{folder}/edits/{file}", folder))
         except (BadEdit, OSError) as error:
