@@ -6,7 +6,7 @@ use std::marker::Model;
 /// The rights that a client passed to its supplier, with their holders before.
 ///
 /// Only [`Rights::pass`](crate::Rights::pass) makes one, it can't be copied, and
-/// [`Rights::give_back`](crate::Rights::give_back) takes it. It takes 152 bytes, for any number of handlers.
+/// [`Rights::give_back`](crate::Rights::give_back) takes it. It takes 144 bytes, for any number of handlers.
 #[derive(Drop)]
 pub struct Passed {
     pub(crate) client: u16,
