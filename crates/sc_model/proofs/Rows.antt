@@ -1,13 +1,13 @@
 -- Systems played by the machine, with what must come of them.
-use Rattle.std.proofs.Common.{◌≡◌, true, false, List, [], ◌∷◌, ◌++◌, Some, None, refl}
+use Rattle.std.proofs.Common.{ℕ, ◌≡◌, true, false, List, [], ◌∷◌, ◌++◌, Some, None, refl}
 use Rattle.std.specs.Prelude.{ℤ, pos, neg_ℤ, codes}
 use Rattle.std.specs.Fmt.{signed_decimal}
 use Rattle.sc_tree.specs.declared.expression.BinaryOperator.TheVariants as binary
-use Rattle.sc_tree.specs.Plain.{System, Class, Expr, Instr}
-use Rattle.sc_model.specs.declared.cause.Cause.TheVariants.{Invariant, Check, Precondition, SupplierFailed}
+use Rattle.sc_tree.specs.Plain.{System, Class, Feature, Expr, Instr}
+use Rattle.sc_model.specs.declared.cause.Cause.TheVariants.{Invariant, Check, Precondition, UnsetEntity, SupplierFailed}
 use Rattle.sc_model.specs.declared.status.Status.TheVariants.{Failed, Busy, Waiting, Free}
 use Rattle.sc_model.specs.Runs.{has_turn}
-use Rattle.sc_model.proofs.Texts.{own, separate, integer, declared, number, truth, the_current, entity, on, both, assign, assign_result, call, print, call_on, create, create_by, check, attribute, routine, procedure, class, application, system}
+use Rattle.sc_model.proofs.Texts.{detachable, the_result, void, old, block, ensuring, heir_of, own, separate, integer, declared, number, truth, the_current, entity, on, both, assign, assign_result, call, print, call_on, create, create_by, check, attribute, routine, procedure, class, application, system}
 use Rattle.sc_model.specs.Values.{Boolean}
 use Rattle.sc_model.specs.Handlers.{World}
 use Rattle.sc_model.specs.Clauses.{Comes}
@@ -59,6 +59,30 @@ guarded_ends = refl
 -- as its body starts
 pub guard_holds : (let w : World = played guarded (0 ∷ 0 ∷ 0 ∷ 0 ∷ 0 ∷ []) in clauses_of 20 guarded w (w.handlers 0).stack) ≡ Comes (Boolean true) ∷ []
 guard_holds = refl
+
+-- `old` has the value before the body
+pub old_is_kept :
+    outcome (played (system (application
+      (attribute (codes "n") integer ∷ procedure (codes "make") [] (call (codes "raise") [] ∷ [])
+        ∷ ensuring (codes "raise") None (assign (codes "n") (number (pos 3)) ∷ []) (both (old (entity (codes "n"))) binary.Less (entity (codes "n")) ∷ []) ∷ []) [] ∷ []))
+      (0 ∷ 0 ∷ 0 ∷ 0 ∷ []))
+    ≡ (false, (Free, 0, []) ∷ [])
+old_is_kept = refl
+
+-- `f` gives Void, as its postcondition says; the heir may redefine it with an attached result
+abbrev giving_void : List (List ℕ) → List Feature → System
+giving_void redefined fs = system (
+    heir_of (codes "base") redefined (application (fs ++ procedure (codes "make") [] (print (both (entity (codes "f")) binary.Equal void) ∷ []) ∷ []) [])
+      ∷ class (codes "base") [] (ensuring (codes "f") (Some (detachable (codes "base"))) [] (both the_result binary.Equal void ∷ []) ∷ []) [] ∷ [])
+
+pub void_is_given : outcome (played (giving_void [] []) (0 ∷ 0 ∷ 0 ∷ 0 ∷ 0 ∷ [])) ≡ (false, (Free, 0, codes "True") ∷ [])
+void_is_given = refl
+
+-- in the contract that is kept Result has the redefinition's type
+pub result_is_unset :
+    outcome (played (giving_void (codes "f" ∷ []) (routine (codes "f") [] (Some (own (codes "base"))) [] [] ∷ [])) (0 ∷ 0 ∷ 0 ∷ []))
+    ≡ (false, (Failed UnsetEntity, 0, []) ∷ [])
+result_is_unset = refl
 
 -- ---- two handlers
 
@@ -150,6 +174,25 @@ using = system (application
 -- a refusal that nobody waits for is counted
 pub using_is_refused : outcome (played using (rounds 12 (0 ∷ 1 ∷ []))) ≡ (false, (Free, 0, []) ∷ (Free, 1, []) ∷ [])
 using_is_refused = refl
+
+-- ---- separate blocks
+
+abbrev blocking : System
+blocking = system (application
+    (attribute (codes "b") (separate (codes "buffer"))
+      ∷ procedure (codes "make") []
+        (create (codes "b") ∷ block (entity (codes "b")) (codes "x") (call_on (codes "x") (codes "put") (number (pos 7) ∷ []) ∷ print (on (codes "x") (codes "item") []) ∷ []) ∷ []) ∷ []) []
+    ∷ buffer ∷ [])
+
+pub blocking_ends : outcome (played blocking (rounds 14 (0 ∷ 1 ∷ []))) ≡ (false, (Free, 0, signed_decimal (pos 7)) ∷ (Free, 0, []) ∷ [])
+blocking_ends = refl
+
+-- the turns of handler 0 are: take, create, open, reserve, post, ask, answer, print, leave
+pub block_holds : (played blocking (0 ∷ 0 ∷ 0 ∷ 1 ∷ 0 ∷ 0 ∷ 0 ∷ 1 ∷ 1 ∷ 1 ∷ 1 ∷ 0 ∷ 0 ∷ [])).rights.queue 1 ≡ Some 0
+block_holds = refl
+
+pub block_releases : (played blocking (0 ∷ 0 ∷ 0 ∷ 1 ∷ 0 ∷ 0 ∷ 0 ∷ 1 ∷ 1 ∷ 1 ∷ 1 ∷ 0 ∷ 0 ∷ 0 ∷ [])).rights.queue 1 ≡ None
+block_releases = refl
 
 -- ---- callbacks
 

@@ -1,7 +1,8 @@
 -- Systems as terms, without spans, for the rows.
-use Rattle.std.specs.Prelude.{ℕ, ℤ, Bool, false, List, [], ◌∷◌, Option, Some, None, codes, map}
+use Rattle.std.specs.Prelude.{true, ℕ, ℤ, Bool, false, List, [], ◌∷◌, Option, Some, None, codes, map}
 use Rattle.sc_text.specs.declared.token.Span.{Span}
 use Rattle.sc_tree.specs.declared.expression.BinaryOperator.{BinaryOperator}
+use Rattle.sc_tree.specs.declared.expression.UnaryOperator.TheVariants as unary
 use Rattle.sc_tree.specs.Plain as tree
 use Rattle.sc_tree.specs.Plain.{System, Class, Feature, Name, DeclaredType, Declaration, HandlerTag, Own, Separate, Clause, Expr, Exprs, no_exprs, expr_then, no_target, target, Variable, Named, ResultVariable, Instr, Instrs, no_instrs, instr_then, no_branches}
 use Rattle.sc_class.specs.ClassNames.{Root}
@@ -27,6 +28,9 @@ separate c = type_with Separate c
 abbrev pub integer : DeclaredType
 integer = own (codes "integer")
 
+abbrev pub detachable : List ℕ → DeclaredType
+detachable c = record (own c) { is_detachable = true }
+
 abbrev pub declared : List ℕ → DeclaredType → Declaration
 declared x t = record { name = named x; declared_type = t }
 
@@ -44,6 +48,15 @@ truth b = tree.Boolean nowhere b
 
 abbrev pub the_current : Expr
 the_current = tree.Current nowhere
+
+abbrev pub the_result : Expr
+the_result = tree.Result nowhere
+
+abbrev pub void : Expr
+void = tree.Void nowhere
+
+abbrev pub old : Expr → Expr
+old e = tree.Unary nowhere unary.Old e
 
 -- a call without a target, an entity too
 abbrev pub name : List ℕ → List Expr → Expr
@@ -92,6 +105,10 @@ clause e = record { tag = None; condition = e }
 abbrev pub check : Expr → Instr
 check e = tree.Check nowhere (clause e ∷ [])
 
+-- a separate block of one name
+abbrev pub block : Expr → List ℕ → List Instr → Instr
+block e x is = tree.Block nowhere (record { value = e; name = named x } ∷ []) (body is)
+
 -- ---- features and classes
 
 abbrev pub attribute : List ℕ → DeclaredType → Feature
@@ -104,9 +121,17 @@ routine x formals result pre is = record { exports = []; name = named x; kind = 
 abbrev pub procedure : List ℕ → List Declaration → List Instr → Feature
 procedure x formals is = routine x formals None [] is
 
+-- a routine with the clauses of its postcondition
+abbrev pub ensuring : List ℕ → Option DeclaredType → List Instr → List Expr → Feature
+ensuring x result is post = record { exports = []; name = named x; kind = tree.Routine [] result [] [] (body is) (map clause post) }
+
 abbrev pub class : List ℕ → List (List ℕ) → List Feature → List Expr → Class
 class x creators fs invariant =
     record { span = nowhere; mark = None; name = named x; parents = []; creators = map named creators; features = fs; invariant = map clause invariant }
+
+-- a class that inherits from another and redefines these
+abbrev pub heir_of : List ℕ → List (List ℕ) → Class → Class
+heir_of parent redefined c = record c { parents = record { name = named parent; redefined = map named redefined } ∷ [] }
 
 abbrev pub system : List Class → System
 system classes = record { classes = classes }
