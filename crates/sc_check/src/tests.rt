@@ -5,6 +5,7 @@ use sc_rules::{Fault, Rule};
 use sc_text::Span;
 use sc_tree::{Call, Class, Feature, FeatureKind, Instr, Name, Routine, System};
 use std::alloc::{AllocError, Global};
+use std::rc::Rc;
 use std::test::Fail;
 
 /// Where each name of the systems stands.
@@ -34,7 +35,7 @@ fn caller(alloc: Global, called: &str) -> Result<Feature, AllocError> {
         postcondition: Vec::new(alloc),
     };
     Ok(Feature {
-        exports: Vec::new(alloc),
+        exports: Rc::new(alloc, Vec::new(alloc))?,
         name: name(alloc, "make")?,
         kind: FeatureKind::Routine(routine),
     })

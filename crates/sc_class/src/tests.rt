@@ -3,6 +3,7 @@ use crate::{ClassFault, ClassId, Root, Tables, tables};
 use sc_text::Span;
 use sc_tree::{Class, Feature, FeatureKind, Name, Parent, Routine, System};
 use std::alloc::{AllocError, Global};
+use std::rc::Rc;
 use std::test::Fail;
 
 fn name(alloc: Global, text: &str) -> Result<Name, AllocError> {
@@ -44,7 +45,7 @@ fn procedure(alloc: Global, text: &str) -> Result<Feature, AllocError> {
         postcondition: Vec::new(alloc),
     };
     Ok(Feature {
-        exports: Vec::new(alloc),
+        exports: Rc::new(alloc, Vec::new(alloc))?,
         name: name(alloc, text)?,
         kind: FeatureKind::Routine(routine),
     })

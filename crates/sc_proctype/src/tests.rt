@@ -4,6 +4,7 @@ use sc_class::{ClassId, Root, Tables, tables};
 use sc_text::Span;
 use sc_tree::{Class, Feature, FeatureKind, Name, Parent, Routine, System};
 use std::alloc::{AllocError, Global};
+use std::rc::Rc;
 use std::test::Fail;
 
 const X: Tag = Tag::With(Reserved::Formal(0));
@@ -83,7 +84,7 @@ fn routine(alloc: Global) -> Routine {
 /// A class without parents, whose creation procedure is `make`.
 fn root_class(alloc: Global) -> Result<Class, AllocError> {
     let make = Feature {
-        exports: Vec::new(alloc),
+        exports: Rc::new(alloc, Vec::new(alloc))?,
         name: name(alloc, "make")?,
         kind: FeatureKind::Routine(routine(alloc)),
     };

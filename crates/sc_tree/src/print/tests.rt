@@ -7,6 +7,7 @@ use crate::print::{Printer, print_system};
 use crate::system::{Class, ClassMark, Feature, FeatureKind, Parent, Routine, System};
 use sc_text::Span;
 use std::alloc::{AllocError, Global};
+use std::rc::Rc;
 use std::test::Fail;
 
 const NOWHERE: Span = Span { start: 0, end: 0 };
@@ -60,7 +61,7 @@ fn binary(
 
 /// An attribute of the class `INTEGER`.
 fn attribute(alloc: Global, exports: &[&str], text: &str) -> Result<Feature, AllocError> {
-    let exports = names(alloc, exports)?;
+    let exports = Rc::new(alloc, names(alloc, exports)?)?;
     let class = name(alloc, "integer")?;
     let name = name(alloc, text)?;
     let declared = DeclaredType {
@@ -88,7 +89,7 @@ fn procedure(alloc: Global, text: &str, body: Vec<Instr>) -> Result<Feature, All
         postcondition: Vec::new(alloc),
     };
     Ok(Feature {
-        exports: Vec::new(alloc),
+        exports: Rc::new(alloc, Vec::new(alloc))?,
         name,
         kind: FeatureKind::Routine(routine),
     })

@@ -6,6 +6,7 @@ use sc_tree::{
     Instr, Name, Routine, System, Variable,
 };
 use std::alloc::{AllocError, Global};
+use std::rc::Rc;
 
 const NOWHERE: Span = Span { start: 0, end: 0 };
 
@@ -105,7 +106,7 @@ pub fn print_text(alloc: Global, text: &str) -> Result<Instr, AllocError> {
 /// A procedure without formals, locals and contracts.
 pub fn procedure(alloc: Global, text: &str, body: Vec<Instr>) -> Result<Feature, AllocError> {
     Ok(Feature {
-        exports: Vec::new(alloc),
+        exports: Rc::new(alloc, Vec::new(alloc))?,
         name: name(alloc, text)?,
         kind: FeatureKind::Routine(Routine {
             formals: Vec::new(alloc),
@@ -127,7 +128,7 @@ fn attribute(alloc: Global) -> Result<Feature, AllocError> {
         class: name(alloc, "integer")?,
     };
     Ok(Feature {
-        exports: Vec::new(alloc),
+        exports: Rc::new(alloc, Vec::new(alloc))?,
         name: name(alloc, "n")?,
         kind: FeatureKind::Attribute(declared),
     })
