@@ -1,12 +1,12 @@
 -- The line of a class's ancestors, and the features along it.
-use Rattle.std.proofs.Common.{◌≡◌, ◌+◌, ℕ, suc, Bool, true, false, cond, List, [], ◌∷◌, ◌++◌, ◌||◌, Option, Some, None, refl, ap, sym, ◌∙◌, append_assoc}
+use Rattle.std.proofs.Common.{◌≡◌, ◌+◌, ◌-◌, ℕ, zero, suc, arith, drop, Bool, true, false, cond, List, [], ◌∷◌, ◌++◌, ◌||◌, Option, Some, None, refl, ap, sym, ◌∙◌, append_assoc}
 use Rattle.std.specs.Prelude.{bytes_eq, not, is_some}
-use Rattle.std.specs.Option.{option_map, option_map_or}
+use Rattle.std.specs.Option.{option_map}
 use Rattle.std.proofs.lemmas.List.Folds.{list_any-append}
 use Rattle.std.proofs.lemmas.List.{append-nil}
 use Rattle.sc_tree.specs.Plain.{System, Name}
 use Rattle.sc_class.specs.Names.{is_listed, number_among}
-use Rattle.sc_class.specs.Ancestors.{parent_number, line}
+use Rattle.sc_class.specs.Ancestors.{parent_number, line, onward}
 use Rattle.sc_class.specs.Features.{DeclaredFeature, own_features, redefined_names, not_redefined, features_along, named_among}
 use Rattle.sc_class.proofs.NameLemmas.{same_text}
 
@@ -20,10 +20,6 @@ listed-number x (n ∷ ns) = by (bytes_eq n.text x) (is_listed x ns) (number_amo
     by false c (Some k) e = e
 
 -- ---- the line
-
--- the class and those above it, where there is one
-abbrev pub onward : ℕ → System → Option ℕ → List ℕ
-onward n s o = option_map_or (line n s) o []
 
 pub line_more : (s : System) (items items' total : List ℕ) (k a b : ℕ) (o : Option ℕ) → a ≡ suc b → items' ≡ items ++ k ∷ [] → o ≡ Some k → items ++ onward a s o ≡ total → items' ++ onward b s (parent_number s k) ≡ total
 line_more s items items' total k a b o e f g h =
@@ -84,6 +80,36 @@ named-along s k ks x =
     by (Some f) b = refl
     by None true = refl
     by None false = refl
+
+-- one step of a search up from a class
+pub named-onward : (s : System) (x : List ℕ) (a b k : ℕ) (o : Option ℕ) (total : Option DeclaredFeature) → a ≡ suc b → o ≡ Some k → total ≡ named_among x (features_along s (onward a s o)) →
+    total ≡ then_named (named_among x (own_features s k)) (is_listed x (redefined_names s k)) (named_among x (features_along s (onward b s (parent_number s k))))
+named-onward s x a b k o total e g h =
+    h ∙ ap (λ p. named_among x (features_along s (onward a s p))) g ∙ ap (λ (n : ℕ). named_among x (features_along s (onward n s (Some k)))) e ∙ named-along s k (onward b s (parent_number s k)) x
+
+-- a search that has come to its end
+pub named_at_top : (s : System) (x : List ℕ) (a : ℕ) (o : Option ℕ) (total : Option DeclaredFeature) → o ≡ None → total ≡ named_among x (features_along s (onward a s o)) → None ≡ total
+named_at_top s x a o total e h = sym (h ∙ ap (λ p. named_among x (features_along s (onward a s p))) e)
+
+pub named_done : (s : System) (x : List ℕ) (a : ℕ) (o : Option ℕ) (total : Option DeclaredFeature) → a ≡ 0 → total ≡ named_among x (features_along s (onward a s o)) → None ≡ total
+named_done s x a o total e h = sym (h ∙ ap (λ (n : ℕ). named_among x (features_along s (onward n s o))) e ∙ by o)
+  where
+    by : (o : Option ℕ) → named_among x (features_along s (onward 0 s o)) ≡ None
+    by None = refl
+    by (Some k) = refl
+
+-- the ancestors above a class
+pub above-onward : (s : System) (n m k : ℕ) → m ≡ n - 1 → drop 1 (line n s k) ≡ onward m s (parent_number s k)
+above-onward s zero m k e = by (parent_number s k) m e
+  where
+    by : (o : Option ℕ) (m : ℕ) → m ≡ 0 - 1 → [] ≡ onward m s o
+    by o zero e = ends o
+      where
+        ends : (o : Option ℕ) → [] ≡ onward 0 s o
+        ends None = refl
+        ends (Some k) = refl
+    by o (suc m) e = absurd (omega (arith, e))
+above-onward s (suc n) m k e = let same : n ≡ m = omega (arith, e) in ap (λ (i : ℕ). onward i s (parent_number s k)) same
 
 -- ---- all features
 

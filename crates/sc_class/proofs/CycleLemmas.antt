@@ -13,9 +13,9 @@ use Rattle.sc_tree.specs.Plain.{System, Class, Parent, Name}
 use Rattle.sc_tree.specs.View.{class_of, parent_of, system_of}
 use Rattle.sc_class.specs.ClassNames.{class_names, number_in, number_of, is_built_in}
 use Rattle.sc_class.specs.Names.{number_among}
-use Rattle.sc_class.specs.Ancestors.{IsParent, names_parent, LeadsTo, itself, over, IsCyclic, cyclic, CycleAt}
+use Rattle.sc_class.specs.Ancestors.{IsParent, names_parent, LeadsTo, itself, over, NameLeadsTo, IsCyclic, cyclic, CycleAt}
 use Rattle.sc_class.specs.Found.{Finds}
-use Rattle.sc_class.specs.Search.{rank_of, IsNumberOf, AreRanks, FindsWayBack, IsSeen, IsTodo, left_over, Grows, IsSearch}
+use Rattle.sc_class.specs.Search.{rank_of, IsNumberOf, AreInOrder, FindsWayBack, IsSeen, IsTodo, left_over, Grows, IsSearch}
 use Rattle.sc_class.proofs.Anys.{any_none, any_left, any_right, any_parts, any_only, any_first}
 use Rattle.sc_class.proofs.Items.{some_is, item_in, items_more, items_all, contains_at, contained_at}
 use Rattle.sc_class.proofs.NameLemmas.{number_below}
@@ -41,20 +41,24 @@ number_in_range s x o k e g =
 
 -- ---- ranks
 
-module _ (s : System) (ranks : List ℕ) (are : AreRanks s ranks) where
-  parent_below : (k j : ℕ) → IsParent s k j → rank_of ranks j < rank_of ranks k
-  parent_below k j (names_parent {c = c} {p = q} e m n) = let (i, g) = contained_at c.parents q m in are k c e i q g j n
+module _ (s : System) (ranks : List ℕ) (are : AreInOrder s ranks) where
+  parent_not_above : (k j : ℕ) → IsParent s k j → rank_of ranks j ≤ rank_of ranks k
+  parent_not_above k j (names_parent {c = c} {p = q} e m n) = let (i, g) = contained_at c.parents q m in are k c e i q g j n
 
   leads_up : (k j : ℕ) → LeadsTo s k j → rank_of ranks k ≤ rank_of ranks j
   leads_up k j itself = omega arith
-  leads_up k j (over {i = i} p r) = let a = parent_below j i p in let b = leads_up k i r in omega (arith, a, b)
+  leads_up k j (over {i = i} p r) = let a = parent_not_above j i p in let b = leads_up k i r in omega (arith, a, b)
 
-  pub no_cycle : (p : Span) → CycleAt s p → ⊥
-  no_cycle p y =
-      let (j, n, r) = y.leads_back in
-      let a = are y.number y.class y.is_class y.parent_index y.parent y.is_parent j n in
-      let b = leads_up y.number j r in
-      absurd (omega (arith, a, b))
+  -- a parent below the class doesn't lead back to it
+  pub not_from_below : (x : List ℕ) (q : Parent) (o : Option ℕ) (k j a b : ℕ) → x ≡ q.name.text → o ≡ number_of s x → o ≡ Some j → a ≡ rank_of ranks j → b ≡ rank_of ranks k → a < b → NameLeadsTo s k q → ⊥
+  not_from_below x q o k j a b t e f ra rb l (i, n, r) =
+      let same : j ≡ i = some_is j i (sym f ∙ e ∙ ap (number_of s) t ∙ n) in
+      let up = leads_up k i r in
+      absurd (omega (arith, l, ra, rb, up, ap (rank_of ranks) same))
+
+-- where no class has a rank, none is below another
+pub none_ranked : (s : System) → AreInOrder s []
+none_ranked s k c e i q f j n = omega arith
 
 -- ---- ways back
 

@@ -1,10 +1,10 @@
 -- Features that are found by number, and those that are added along a line of classes.
-use Rattle.std.proofs.Common.{◌≡◌, ◌+◌, ◌<◌, ℕ, Bool, true, false, cond, List, [], ◌∷◌, ◌++◌, Option, Some, None, length, get_or, map, drop, refl, ap, sym, ◌∙◌, append_assoc, add-one}
+use Rattle.std.proofs.Common.{◌≡◌, ◌+◌, ◌<◌, ◌≤◌, ℕ, Bool, true, false, cond, List, [], ◌∷◌, ◌++◌, Option, Some, None, length, get_or, map, drop, refl, ap, sym, ◌∙◌, append_assoc, add-one}
 use Rattle.std.specs.Prelude.{bytes_eq, not, is_some, slice_get, string_bytes}
 use Rattle.std.specs.Option.{option_map, option_map_or, option_and_then, option_copied}
 use Rattle.std.specs.Borrow.{Bor}
 use Rattle.std.proofs.lemmas.Option.{slice_get-map}
-use Rattle.std.proofs.lemmas.List.{drop_more, map-append}
+use Rattle.std.proofs.lemmas.List.{drop_all, map-append, append-nil}
 use Rattle.sc_tree.specs.declared.system.Class as tree_class
 use Rattle.sc_tree.specs.declared.system.Feature as tree_feature
 use Rattle.sc_tree.specs.Plain.{System, Class, Feature, Name}
@@ -12,10 +12,10 @@ use Rattle.sc_tree.specs.View.{class_of, feature_of}
 use Rattle.sc_class.specs.declared.own.FeatureEntry.{FeatureEntry}
 use Rattle.sc_class.specs.Names.{is_listed, number_among}
 use Rattle.sc_class.specs.Own.{own_names, own_names_at, features_at}
-use Rattle.sc_class.specs.Features.{DeclaredFeature, declared_in, own_features, redefined_names, not_redefined, features_along, named_among}
+use Rattle.sc_class.specs.Features.{DeclaredFeature, declared_in, own_features, not_redefined, features_along, named_among}
 use Rattle.sc_class.specs.Entries.{entry_of}
 use Rattle.sc_class.proofs.Anys.{at}
-use Rattle.sc_class.proofs.AncestorLemmas.{then_named, named-along, visible_all}
+use Rattle.sc_class.proofs.AncestorLemmas.{then_named, visible_all}
 
 -- two lists that are alike through a view, read at one number
 pub at_same : {A B C : Type 0} (f : A → C) (g : B → C) (xs : List A) (ys : List B) → map f xs ≡ map g ys → (k : ℕ) (x : A) (d : C) → slice_get xs k ≡ Some x → f x ≡ option_map_or g (slice_get ys k) d
@@ -65,31 +65,29 @@ feature_in s k n c fs o e f g =
 
 -- ---- along a line
 
-module _ (s : System) (ks : List ℕ) (i : ℕ) (x : List ℕ) (total : Option DeclaredFeature) (o : Option FeatureEntry) (l : i < length ks)
-    (e : option_map entry_of o ≡ named_among x (own_features s (get_or ks i 0))) (inv : total ≡ named_among x (features_along s (drop i ks))) where
-  here : (b : Bool) → b ≡ is_listed x (redefined_names s (get_or ks i 0)) → total ≡ then_named (option_map entry_of o) b (named_among x (features_along s (drop (i + 1) ks)))
-  here b f =
-      inv ∙ ap (λ (l : List ℕ). named_among x (features_along s l)) (drop_more ks i 0 l) ∙ named-along s (get_or ks i 0) (drop (i + 1) ks) x
-      ∙ ap (λ d. then_named d (is_listed x (redefined_names s (get_or ks i 0))) (named_among x (features_along s (drop (i + 1) ks)))) (sym e) ∙ ap (λ b. then_named (option_map entry_of o) b (named_among x (features_along s (drop (i + 1) ks)))) (sym f)
+-- the search has come to a class that has this feature of its own or none, and that lists the name under `redefine` or doesn't
+module _ (total own rest : Option DeclaredFeature) (listed : Bool) (o : Option FeatureEntry) (e : option_map entry_of o ≡ own) (inv : total ≡ then_named own listed rest) where
+  here : (b : Bool) → b ≡ listed → total ≡ then_named (option_map entry_of o) b rest
+  here b f = inv ∙ ap (λ d. then_named d listed rest) (sym e) ∙ ap (λ b. then_named (option_map entry_of o) b rest) (sym f)
 
   pub named_found : is_some o ≡ true → option_map entry_of o ≡ total
-  named_found q = by o q ∙ sym (here (is_listed x (redefined_names s (get_or ks i 0))) refl)
+  named_found q = by o q ∙ sym (here listed refl)
     where
-      by : (o : Option FeatureEntry) → is_some o ≡ true → option_map entry_of o ≡ then_named (option_map entry_of o) (is_listed x (redefined_names s (get_or ks i 0))) (named_among x (features_along s (drop (i + 1) ks)))
+      by : (o : Option FeatureEntry) → is_some o ≡ true → option_map entry_of o ≡ then_named (option_map entry_of o) listed rest
       by None q = cc
       by (Some f) q = refl
 
-  pub named_hidden : (b : Bool) → b ≡ is_listed x (redefined_names s (get_or ks i 0)) → b ≡ true → option_map entry_of o ≡ total
-  named_hidden b f q = by o ∙ ap (λ b. then_named (option_map entry_of o) b (named_among x (features_along s (drop (i + 1) ks)))) (sym q) ∙ sym (here b f)
+  pub named_hidden : (b : Bool) → b ≡ listed → b ≡ true → option_map entry_of o ≡ total
+  named_hidden b f q = by o ∙ ap (λ b. then_named (option_map entry_of o) b rest) (sym q) ∙ sym (here b f)
     where
-      by : (o : Option FeatureEntry) → option_map entry_of o ≡ then_named (option_map entry_of o) true (named_among x (features_along s (drop (i + 1) ks)))
+      by : (o : Option FeatureEntry) → option_map entry_of o ≡ then_named (option_map entry_of o) true rest
       by None = refl
       by (Some f) = refl
 
-  pub named_on : is_some o ≡ false → (b : Bool) → b ≡ is_listed x (redefined_names s (get_or ks i 0)) → b ≡ false → total ≡ named_among x (features_along s (drop (i + 1) ks))
-  named_on q b f r = here b f ∙ ap (λ b. then_named (option_map entry_of o) b (named_among x (features_along s (drop (i + 1) ks)))) r ∙ by o q
+  pub named_on : is_some o ≡ false → (b : Bool) → b ≡ listed → b ≡ false → total ≡ rest
+  named_on q b f r = here b f ∙ ap (λ b. then_named (option_map entry_of o) b rest) r ∙ by o q
     where
-      by : (o : Option FeatureEntry) → is_some o ≡ false → then_named (option_map entry_of o) false (named_among x (features_along s (drop (i + 1) ks))) ≡ named_among x (features_along s (drop (i + 1) ks))
+      by : (o : Option FeatureEntry) → is_some o ≡ false → then_named (option_map entry_of o) false rest ≡ rest
       by None q = refl
       by (Some f) q = cc
 
@@ -125,3 +123,8 @@ module _ (hidden : List Name) (k : ℕ) (fs : List tree_feature.Feature) (i : �
 
 pub features_begin : (es : List FeatureEntry) (hidden : List Name) (fs : List DeclaredFeature) → es ≡ [] → hidden ≡ [] → map entry_of es ++ not_redefined hidden fs ≡ fs
 features_begin es hidden fs e h = ap (λ es. map entry_of es ++ not_redefined hidden fs) e ∙ ap (λ ns. not_redefined ns fs) h ∙ visible_all fs
+
+pub features_end : (s : System) (ks line : List ℕ) (i : ℕ) (fs total : List DeclaredFeature) (hidden : List Name) → length ks ≤ i → ks ≡ line → features_along s line ≡ total →
+    fs ++ not_redefined hidden (features_along s (drop i ks)) ≡ features_along s ks → fs ≡ total
+features_end s ks line i fs total hidden l e t inv =
+    sym (append-nil fs) ∙ ap (λ ds. fs ++ not_redefined hidden (features_along s ds)) (sym (drop_all i ks l)) ∙ inv ∙ ap (features_along s) e ∙ t

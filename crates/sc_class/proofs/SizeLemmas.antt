@@ -4,7 +4,6 @@ use Rattle.std.specs.Prelude.{Any, Result, Ok, Err, IfOk, nat_lt}
 use Rattle.std.specs.Bool.{MatchBool}
 use Rattle.std.specs.declared.alloc.AllocError.{AllocError}
 use Rattle.std.proofs.lemmas.List.{length-map}
-use Rattle.sc_tree.specs.declared.system.System as tree
 use Rattle.sc_tree.specs.declared.system.Class as tree_class
 use Rattle.sc_tree.specs.Plain.{System}
 use Rattle.sc_tree.specs.View.{class_of}
@@ -12,13 +11,6 @@ use Rattle.sc_class.specs.declared.own.FeatureEntry.{FeatureEntry}
 use Rattle.sc_class.specs.Entries.{entry_of}
 use Rattle.sc_class.specs.Features.{features}
 use Rattle.sc_class.specs.Limits.{is_large, has_many_features, TellsLargeClass, PassesLimit, many_classes, many_features, large_routine}
-
--- what is said of the class of a lineage, of the system and the number that it was made from
-pub at_lineage : (P : tree.System → ℕ → Type 0) (t t' : tree.System) (k k' : ℕ) → (t' ≡ t) × (k' ≡ k) → P t' k' → P t k
-at_lineage P t t' k k' (e, f) p = subst (λ (k : ℕ). P t k) f (subst (λ (t : tree.System). P t k') e p)
-
-pub from_lineage : (P : tree.System → ℕ → Type 0) (t t' : tree.System) (k k' : ℕ) → (t' ≡ t) × (k' ≡ k) → P t k → P t' k'
-from_lineage P t t' k k' (e, f) p = subst (λ (k : ℕ). P t' k) (sym f) (subst (λ (t : tree.System). P t k) (sym e) p)
 
 pub counted : (s : System) (k : ℕ) (items : List FeatureEntry) → map entry_of items ≡ features s k → nat_lt 256 (length items) ≡ has_many_features s k
 counted s k items e = ap (nat_lt 256) (sym (length-map items entry_of) ∙ ap length e)

@@ -19,7 +19,7 @@ use Rattle.sc_class.specs.Scopes.{ClassClashes}
 use Rattle.sc_class.specs.Redefinition.{BadlyRedefines}
 use Rattle.sc_class.specs.ClassNames.{Root}
 use Rattle.sc_class.specs.Ancestors.{ancestors, line, parent_of}
-use Rattle.sc_class.specs.Features.{declared_in, redefined_by, not_redefined, features_along, features, named_among, feature_named, invariant_along, invariant_of, own_invariant}
+use Rattle.sc_class.specs.Features.{invariant_along, invariant_of, own_invariant}
 use Rattle.sc_class.specs.ClassRules.{Fails, IsFaultless, duplicate_class, unknown_parent, cycle, duplicate_feature, bad_redefinition, no_root, limit, left_out}
 use Rattle.sc_class.specs.Lines.{line_in}
 use Rattle.sc_class.specs.Tables.{ClassesStand, FeaturesStand, RestStands, ancestors_of, joined_invariant}
@@ -91,15 +91,6 @@ module _ (s : System) (lines : List (Vec ℕ Global)) (as_many : length lines �
 -- ---- a number that no class has
 
 module _ (s : System) (k : ℕ) where
-  pub features_beyond : (n : ℕ) → slice_get s.classes k ≡ None → features_along s (line n s k) ≡ []
-  features_beyond zero e = refl
-  features_beyond (suc n) e = by (slice_get s.classes k) e
-    where
-      by : (o : Option Class) → o ≡ None →
-          option_map_or (λ (c : Class). map (declared_in k) c.features) o [] ++ not_redefined (option_map_or redefined_by o []) (features_along s (option_map_or (line n s) (option_and_then (parent_of s) o) [])) ≡ []
-      by None e = refl
-      by (Some c) e = cc
-
   pub invariant_beyond : (n : ℕ) → slice_get s.classes k ≡ None → invariant_along s (line n s k) ≡ []
   invariant_beyond zero e = refl
   invariant_beyond (suc n) e = by (slice_get s.classes k) e
@@ -107,14 +98,6 @@ module _ (s : System) (k : ℕ) where
       by : (o : Option Class) → o ≡ None → invariant_along s (option_map_or (line n s) (option_and_then (parent_of s) o) []) ++ option_map_or (λ (c : Class). c.invariant) o [] ≡ []
       by None e = refl
       by (Some c) e = cc
-
-  -- the features of a class, by its line in the tables
-  pub features_by_line : features_along s (cond (nat_lt k (length s.classes)) (ancestors s k) []) ≡ features s k
-  features_by_line = by (nat_lt k (length s.classes)) refl
-    where
-      by : (b : Bool) → nat_lt k (length s.classes) ≡ b → features_along s (cond b (ancestors s k) []) ≡ features s k
-      by true e = refl
-      by false e = let l : length s.classes ≤ k = grind arith in sym (features_beyond (length s.classes) (slice_get_past s.classes k l))
 
   pub invariant_by_line : invariant_along s (cond (nat_lt k (length s.classes)) (ancestors s k) []) ≡ invariant_of s k
   invariant_by_line = by (nat_lt k (length s.classes)) refl
@@ -127,13 +110,6 @@ module _ (s : System) (k : ℕ) where
 pub invariant_more : (s : System) (ks : List ℕ) (a b : ℕ) (old new : List Clause) → a ≡ b + 1 → b < length ks → new ≡ old ++ own_invariant s (get_or ks b 0) → old ≡ invariant_along s (drop a ks) → new ≡ invariant_along s (drop b ks)
 invariant_more s ks a b old new e l f g =
     f ∙ ap (λ cs. cs ++ own_invariant s (get_or ks b 0)) (g ∙ ap (λ (n : ℕ). invariant_along s (drop n ks)) e) ∙ sym (ap (invariant_along s) (drop_more ks b 0 l))
-
-pub named_by_line : (s : System) (of : ClassId) (x : List ℕ) → named_among x (features_along s (ancestors_of s of)) ≡ feature_named s of x
-named_by_line s (class.Declared k) x = ap (named_among x) (features_by_line s k)
-named_by_line s class.Any x = refl
-named_by_line s class.None x = refl
-named_by_line s class.Integer x = refl
-named_by_line s class.Boolean x = refl
 
 pub joined_by_line : (s : System) (of : ClassId) → invariant_along s (ancestors_of s of) ≡ joined_invariant s of
 joined_by_line s (class.Declared k) = invariant_by_line s k

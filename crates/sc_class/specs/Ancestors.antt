@@ -30,6 +30,10 @@ abbrev pub line : ℕ → System → ℕ → List ℕ
 line zero s k = []
 line (suc n) s k = k ∷ option_map_or (line n s) (parent_number s k) []
 
+-- the class and those above it, where there is one, at most so many of them
+abbrev pub onward : ℕ → System → Option ℕ → List ℕ
+onward n s o = option_map_or (line n s) o []
+
 -- the ancestors of a class, by number: the class itself, then its parent's
 abbrev pub ancestors : System → ℕ → List ℕ
 ancestors s k = line (length s.classes) s k

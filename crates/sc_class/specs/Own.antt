@@ -11,6 +11,10 @@ own_names c = map (λ f. f.name) c.features
 abbrev pub own_names_at : System → ℕ → List Name
 own_names_at s k = option_map_or own_names (slice_get s.classes k) []
 
+-- the names that a class lists under `create`
+abbrev pub created_by : Class → List Name
+created_by c = c.creators
+
 -- the features that the class at a number declares
 abbrev pub features_at : System → ℕ → List Feature
 features_at s k = option_map_or (λ (c : Class). c.features) (slice_get s.classes k) []

@@ -13,17 +13,17 @@ rank_of ranks k = unwrap_or (slice_get ranks k) 0
 abbrev pub IsNumberOf : System → Parent → ℕ → Type 0
 IsNumberOf s q j = number_of s q.name.text ≡ Some j
 
--- the class at the number is above this parent
-abbrev pub IsAbove : System → List ℕ → ℕ → Parent → Type 0
-IsAbove s ranks k q = (j : ℕ) → IsNumberOf s q j → rank_of ranks j < rank_of ranks k
+-- the class at the number isn't below this parent
+abbrev pub IsNotBelow : System → List ℕ → ℕ → Parent → Type 0
+IsNotBelow s ranks k q = (j : ℕ) → IsNumberOf s q j → rank_of ranks j ≤ rank_of ranks k
 
--- the class at the number is above each of these parents
-abbrev pub AreAbove : System → List ℕ → ℕ → List Parent → Type 0
-AreAbove s ranks k parents = (i : ℕ) (q : Parent) → slice_get parents i ≡ Some q → IsAbove s ranks k q
+-- the class at the number is below none of these parents
+abbrev pub IsBelowNone : System → List ℕ → ℕ → List Parent → Type 0
+IsBelowNone s ranks k parents = (i : ℕ) (q : Parent) → slice_get parents i ≡ Some q → IsNotBelow s ranks k q
 
--- each class is above each of its parents
-abbrev pub AreRanks : System → List ℕ → Type 0
-AreRanks s ranks = (k : ℕ) (c : Class) → slice_get s.classes k ≡ Some c → AreAbove s ranks k c.parents
+-- no class is below one of its parents
+abbrev pub AreInOrder : System → List ℕ → Type 0
+AreInOrder s ranks = (k : ℕ) (c : Class) → slice_get s.classes k ≡ Some c → IsBelowNone s ranks k c.parents
 
 -- The place is that of the first of the parents that leads to the class at the number, or none of them does.
 abbrev pub FindsWayBack : System → ℕ → List Parent → Option Span → Type 0

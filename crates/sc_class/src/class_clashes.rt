@@ -128,7 +128,7 @@ pub fn clash(alloc: Global, outline: &Outline) -> Result<Option<Span>, AllocErro
     let mut found = None;
     let classes = outline.hierarchy.classes();
     for (number, class) in classes.iter().enumerate() {
-        let lineage = Lineage::of(alloc, outline, number)?;
+        let lineage = Lineage { outline, number };
         let in_class = class_clash(alloc, &lineage, class)?;
         found = earliest(found, in_class);
     }

@@ -10,6 +10,7 @@ ghost use Rattle.sc_class.specs.Conformance as conformance_specs;
 ghost use Rattle.sc_class.specs.Features as class_features;
 ghost use Rattle.sc_class.specs.Entries.{entry_of, root_of};
 ghost use Rattle.sc_class.specs.Lines.{line_in};
+ghost use Rattle.sc_class.specs.Names.{is_listed};
 ghost use Rattle.sc_class.specs.Tables as tables_specs;
 
 use crate::conformance;
@@ -100,6 +101,13 @@ impl<'s> Tables<'s> {
         self.outline.creators(number)
     }
 
+    /// Whether the class at a number lists the name under `create`. It looks once by hash.
+    pub fn is_creator(&self, number: usize, name: &str) -> bool
+        ensures { result ≡ is_listed name.now (creators_of (system_of self.now.outline.hierarchy.system.now) number) }
+    {
+        self.outline.creates(number, name)
+    }
+
     /// The numbers of the ancestors of a class, itself first, at once (ECMA-367, 8.6.5). A class that every system
     /// has has none in the text.
     pub fn ancestors(&self, class: ClassId) -> &[usize]
@@ -126,7 +134,10 @@ impl<'s> Tables<'s> {
     pub fn feature(&self, class: ClassId, name: &str) -> Option<FeatureEntry<'s>>
         ensures { option_map entry_of result ≡ class_features.feature_named (system_of self.now.outline.hierarchy.system.now) class name.now }
     {
-        self.outline.named_along(self.ancestors(class), name)
+        match class {
+            ClassId::Declared(number) => self.outline.named(number, name),
+            ClassId::Any | ClassId::None | ClassId::Integer | ClassId::Boolean => None,
+        }
     }
 
     /// The features of a class, each with the class that declares it (ECMA-367, 8.6.6 and 8.10): its own in the

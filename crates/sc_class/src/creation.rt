@@ -1,29 +1,15 @@
 // The class and the procedure that a system is run from.
 
-ghost use Rattle.std.specs.Prelude.{◌≡◌, IfOk, map};
-ghost use Rattle.sc_tree.specs.View.{kind_of, name_of, system_of};
-ghost use Rattle.sc_class.specs.Names.{is_listed};
+ghost use Rattle.std.specs.Prelude.{◌≡◌, IfOk};
+ghost use Rattle.sc_tree.specs.View.{kind_of, system_of};
 ghost use Rattle.sc_class.specs.ClassRules as class_rules;
 ghost use Rattle.sc_class.specs.Entries.{root_of};
 
-use crate::conformance::is_same_text;
 use crate::lineage::Lineage;
 use crate::outline::Outline;
 use crate::root::Root;
-use sc_tree::{FeatureKind, Name};
+use sc_tree::FeatureKind;
 use std::alloc::{AllocError, Global};
-
-/// Whether the names have this text among them.
-fn lists(names: &[Name], text: &str) -> bool
-    ensures { result ≡ is_listed text.now (map name_of names.now) }
-{
-    for name in names {
-        if is_same_text(&name.text, text) {
-            return true;
-        }
-    }
-    false
-}
 
 /// Whether it is a procedure without formals.
 #[tactic(auto, unfolding(sc_tree::specs::View::kind_of))]
@@ -49,11 +35,10 @@ fn creates_by(
 ) -> Result<bool, AllocError>
     ensures { IfOk result (λ creates. creates ≡ class_rules.creates_by (system_of outline.now.hierarchy.system.now) procedure.now number) }
 {
-    let creators = outline.creators(number);
-    if !lists(creators, procedure) {
+    if !outline.creates(number, procedure) {
         return Ok(false);
     }
-    let lineage = Lineage::of(alloc, outline, number)?;
+    let lineage = Lineage { outline, number };
     match lineage.feature(procedure) {
         None => Ok(false),
         Some(entry) => Ok(is_plain_procedure(&entry.feature.kind)),

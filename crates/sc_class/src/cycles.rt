@@ -5,121 +5,84 @@ ghost use Rattle.std.specs.Bool.{OnTrue};
 ghost use Rattle.sc_tree.specs.View.{parent_of, system_of};
 ghost use Rattle.sc_class.specs.Ancestors.{CycleAt, IsParent, LeadsTo, NameLeadsTo};
 ghost use Rattle.sc_class.specs.Found.{Finds};
-ghost use Rattle.sc_class.specs.Search.{AreRanks, AreAbove, FindsWayBack, Grows, IsAbove, IsNumberOf, IsSeen};
+ghost use Rattle.sc_class.specs.Search.{AreInOrder, FindsWayBack, Grows, IsBelowNone, IsNotBelow, IsNumberOf, IsSeen};
 
 use crate::hierarchy::Hierarchy;
+use crate::ranks::ranks_of;
 use sc_text::Span;
 use sc_tree::{Class, Parent};
 use std::alloc::{AllocError, Global};
 
 /// The parent's name of the first class in the text that inherits from itself, if one does. It takes time
-/// in proportion to the text, unless a class inherits from itself or has a second parent.
+/// in proportion to the text.
+#[tactic(auto, using(crate::proofs::CycleLemmas::none_ranked))]
 pub fn cycle(alloc: Global, hierarchy: &Hierarchy) -> Result<Option<Span>, AllocError>
     ensures { IfOk result (Finds (CycleAt (system_of hierarchy.now.system.now))) }
 {
-    let ranks = ranks_of(alloc, hierarchy)?;
-    if are_ranks(hierarchy, &ranks) {
-        return Ok(None);
+    let found = ranks_of(alloc, hierarchy)?;
+    let ranks = found.as_slice();
+    if are_in_order(hierarchy, ranks) {
+        first_cycle(alloc, hierarchy, ranks)
+    } else {
+        first_cycle(alloc, hierarchy, &[])
     }
-    first_cycle(alloc, hierarchy)
 }
 
-/// A number for each class, above that of its parent where no class inherits from itself. `are_ranks`
-/// decides whether they are above.
-fn ranks_of(alloc: Global, hierarchy: &Hierarchy) -> Result<Vec<usize>, AllocError> {
-    let count = hierarchy.classes().len();
-    let mut children = children_of(alloc, hierarchy)?;
-    let mut leaves = Vec::new(alloc);
-    for (class, number) in children.iter().enumerate() {
-        if *number == 0 {
-            leaves.push(class)?;
-        }
-    }
-    let mut ranks = vec![in alloc; 0usize; count]?;
-    for rank in (0..count).rev() {
-        let Some(class) = leaves.pop() else {
-            return Ok(ranks);
-        };
-        if let Some(place) = ranks.get_mut(class) {
-            *place = rank;
-        }
-        if let Some(parent) = left_without(&mut children, hierarchy.parent(class)) {
-            leaves.push(parent)?;
-        }
-    }
-    Ok(ranks)
-}
-
-/// How many classes name each class as their first parent.
-fn children_of(alloc: Global, hierarchy: &Hierarchy) -> Result<Vec<usize>, AllocError> {
-    let mut children = vec![in alloc; 0usize; hierarchy.classes().len()]?;
-    for parent in &hierarchy.parents {
-        if let Some(number) = *parent {
-            if let Some(count) = children.get_mut(number) {
-                *count = count.saturating_add(1);
-            }
-        }
-    }
-    Ok(children)
-}
-
-/// Takes a child from a class, and gives that class where none is left.
-fn left_without(children: &mut [usize], parent: Option<usize>) -> Option<usize> {
-    let parent = parent?;
-    let count = children.get_mut(parent)?;
-    *count = count.saturating_sub(1);
-    if *count == 0 { Some(parent) } else { None }
-}
-
-/// The rank of a class.
+/// The rank of a class; 0 where it has none.
 fn rank(ranks: &[usize], class: usize) -> usize
     ensures { result ≡ unwrap_or (slice_get ranks.now class) 0 }
 {
     ranks.get(class).copied().unwrap_or(0)
 }
 
-/// Whether each class is above each of its parents: then none inherits from itself.
-fn are_ranks(hierarchy: &Hierarchy, ranks: &[usize]) -> bool
-    ensures { OnTrue result (AreRanks (system_of hierarchy.now.system.now) ranks.now) }
+/// Whether no class is below one of its parents: then a class that leads to another isn't below that one.
+fn are_in_order(hierarchy: &Hierarchy, ranks: &[usize]) -> bool
+    ensures { OnTrue result (AreInOrder (system_of hierarchy.now.system.now) ranks.now) }
 {
     let classes = hierarchy.classes();
     for (number, class) in classes.iter().enumerate() {
-        if !is_above(hierarchy, ranks, number, &class.parents) {
+        if !is_below_none(hierarchy, ranks, number, &class.parents) {
             return false;
         }
     }
     true
 }
 
-/// Whether the class at the number is above each of these parents.
-fn is_above(hierarchy: &Hierarchy, ranks: &[usize], number: usize, parents: &[Parent]) -> bool
-    ensures { OnTrue result (AreAbove (system_of hierarchy.now.system.now) ranks.now number (map parent_of parents.now)) }
+/// Whether the class at the number is below none of these parents.
+fn is_below_none(hierarchy: &Hierarchy, ranks: &[usize], number: usize, parents: &[Parent]) -> bool
+    ensures { OnTrue result (IsBelowNone (system_of hierarchy.now.system.now) ranks.now number (map parent_of parents.now)) }
 {
     for parent in parents {
-        if !is_above_parent(hierarchy, ranks, number, parent) {
+        if !is_not_below(hierarchy, ranks, number, parent) {
             return false;
         }
     }
     true
 }
 
-/// Whether the class at the number is above this parent.
-fn is_above_parent(hierarchy: &Hierarchy, ranks: &[usize], number: usize, parent: &Parent) -> bool
-    ensures { OnTrue result (IsAbove (system_of hierarchy.now.system.now) ranks.now number (parent_of parent.now)) }
+/// Whether the class at the number isn't below this parent.
+fn is_not_below(hierarchy: &Hierarchy, ranks: &[usize], number: usize, parent: &Parent) -> bool
+    ensures { OnTrue result (IsNotBelow (system_of hierarchy.now.system.now) ranks.now number (parent_of parent.now)) }
 {
     match hierarchy.number(&parent.name.text) {
         None => true,
-        Some(above) => rank(ranks, above) < rank(ranks, number),
+        Some(above) => rank(ranks, above) <= rank(ranks, number),
     }
 }
 
-/// The same as `cycle`, by a search from each class.
-fn first_cycle(alloc: Global, hierarchy: &Hierarchy) -> Result<Option<Span>, AllocError>
+/// The same as `cycle`. It searches up from the classes that are in no higher rank than one of their parents, until
+/// one of them leads back.
+fn first_cycle(
+    alloc: Global,
+    hierarchy: &Hierarchy,
+    ranks: &[usize],
+) -> Result<Option<Span>, AllocError>
+    requires { AreInOrder (system_of hierarchy.now.system.now) ranks.now }
     ensures { IfOk result (Finds (CycleAt (system_of hierarchy.now.system.now))) }
 {
     let classes = hierarchy.classes();
     for (number, class) in classes.iter().enumerate() {
-        let way_back = way_back(alloc, hierarchy, number, &class.parents)?;
+        let way_back = way_back(alloc, hierarchy, ranks, number, &class.parents)?;
         if way_back.is_some() {
             return Ok(way_back);
         }
@@ -131,31 +94,40 @@ fn first_cycle(alloc: Global, hierarchy: &Hierarchy) -> Result<Option<Span>, All
 fn way_back(
     alloc: Global,
     hierarchy: &Hierarchy,
+    ranks: &[usize],
     number: usize,
     parents: &[Parent],
 ) -> Result<Option<Span>, AllocError>
+    requires { AreInOrder (system_of hierarchy.now.system.now) ranks.now }
     ensures { IfOk result (FindsWayBack (system_of hierarchy.now.system.now) number (map parent_of parents.now)) }
 {
     for parent in parents {
-        if name_leads_to(alloc, hierarchy, number, parent)? {
+        if name_leads_to(alloc, hierarchy, ranks, number, parent)? {
             return Ok(Some(parent.name.span));
         }
     }
     Ok(None)
 }
 
-/// Whether the parent leads to the class at the number.
+/// Whether the parent leads to the class at the number. It can't where it is below that class.
 fn name_leads_to(
     alloc: Global,
     hierarchy: &Hierarchy,
+    ranks: &[usize],
     number: usize,
     parent: &Parent,
 ) -> Result<bool, AllocError>
+    requires { AreInOrder (system_of hierarchy.now.system.now) ranks.now }
     ensures { let way = NameLeadsTo (system_of hierarchy.now.system.now) number (parent_of parent.now) in IfOk result (λ b. MatchBool b way (way → ⊥)) }
 {
     match hierarchy.number(&parent.name.text) {
         None => Ok(false),
-        Some(start) => leads_to(alloc, hierarchy, number, start),
+        Some(start) => {
+            if rank(ranks, start) < rank(ranks, number) {
+                return Ok(false);
+            }
+            leads_to(alloc, hierarchy, number, start)
+        }
     }
 }
 

@@ -29,6 +29,7 @@ mod names;
 mod outline;
 mod own;
 mod parents;
+mod ranks;
 mod redefinition;
 mod root;
 mod scopes;

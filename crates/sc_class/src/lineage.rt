@@ -13,13 +13,11 @@ use crate::outline::Outline;
 use crate::own::FeatureEntry;
 use std::alloc::{AllocError, Global};
 
-/// The class at a number, with the numbers of its ancestors, itself first.
-#[derive(Drop)]
+/// The class at a number, with what it inherits.
+#[derive(Clone, Copy)]
 pub struct Lineage<'t, 's> {
     pub outline: &'t Outline<'s>,
     pub number: usize,
-    pub line: Vec<usize>,
-    ghost are_ancestors: { line.items ≡ ancestors (system_of outline.now.hierarchy.system.now) number },
 }
 
 /// The ancestors of the class at a number, itself first.
@@ -44,41 +42,28 @@ pub fn line_of(
 }
 
 impl<'t, 's> Lineage<'t, 's> {
-    pub fn of(alloc: Global, outline: &'t Outline<'s>, number: usize) -> Result<Self, AllocError>
-        ensures { IfOk result (λ lineage. (lineage.outline.now.hierarchy.system.now ≡ outline.now.hierarchy.system.now) × (lineage.number ≡ number)) }
-    {
-        let line = line_of(alloc, &outline.hierarchy, number)?;
-        Ok(Lineage {
-            outline,
-            number,
-            line,
-        })
-    }
-
     /// The feature of this name that the class has. It looks up to twice by hash for each ancestor.
     pub fn feature(&self, name: &str) -> Option<FeatureEntry<'s>>
         ensures { option_map entry_of result ≡ class_features.named_among name.now (class_features.features (system_of self.now.outline.now.hierarchy.system.now) self.now.number) }
     {
-        self.outline.named_along(&self.line, name)
+        self.outline.named(self.number, name)
     }
 
     /// The feature of this name that the class's parent has.
     pub fn inherited(&self, name: &str) -> Option<FeatureEntry<'s>>
         ensures { option_map entry_of result ≡ class_features.named_among name.now (class_features.inherited_features (system_of self.now.outline.now.hierarchy.system.now) self.now.number) }
     {
-        match self.line.as_slice() {
-            [] => None,
-            [_, above @ ..] => self.outline.named_along(above, name),
-        }
+        self.outline.inherited(self.number, name)
     }
 
     /// The features of the class: its own, then its parent's that it doesn't redefine.
     pub fn features(&self, alloc: Global) -> Result<Vec<FeatureEntry<'s>>, AllocError>
         ensures { IfOk result (λ features. map entry_of features.items ≡ class_features.features (system_of self.now.outline.now.hierarchy.system.now) self.now.number) }
     {
+        let line = line_of(alloc, &self.outline.hierarchy, self.number)?;
         let mut features = Vec::new(alloc);
         let mut hidden = NameIndex::new(alloc);
-        for class in &self.line {
+        for class in &line {
             self.outline.add_visible(&mut features, &hidden, *class)?;
             self.outline.hide(&mut hidden, *class)?;
         }
@@ -94,6 +79,6 @@ pub fn features_of<'s>(
 ) -> Result<Vec<FeatureEntry<'s>>, AllocError>
     ensures { IfOk result (λ features. map entry_of features.items ≡ class_features.features (system_of outline.now.hierarchy.system.now) number) }
 {
-    let lineage = Lineage::of(alloc, outline, number)?;
+    let lineage = Lineage { outline, number };
     lineage.features(alloc)
 }

@@ -3,10 +3,11 @@
 ghost use Rattle.std.specs.Prelude.{◌≡◌, ◌++◌, IfOk, OnOk, map, slice_get};
 ghost use Rattle.std.specs.Option.{option_map, option_copied};
 ghost use Rattle.sc_tree.specs.View.{name_of, feature_of, class_of, system_of};
+ghost use Rattle.sc_class.specs.Ancestors.{onward};
 ghost use Rattle.sc_class.specs.Names.{number_among, is_listed};
-ghost use Rattle.sc_class.specs.Own.{features_at, own_names, own_names_at};
+ghost use Rattle.sc_class.specs.Own.{created_by, features_at, own_names, own_names_at};
 ghost use Rattle.sc_class.specs.ClassRules.{creators_of};
-ghost use Rattle.sc_class.specs.Features.{redefined_by, redefined_names, own_features, features_along, named_among, not_redefined};
+ghost use Rattle.sc_class.specs.Features.{redefined_by, redefined_names, own_features, features, features_along, inherited_features, named_among, not_redefined};
 ghost use Rattle.sc_class.specs.Entries.{entry_of};
 
 use crate::hierarchy::Hierarchy;
@@ -22,11 +23,13 @@ pub struct Outline<'s> {
     own: Vec<OwnNames<'s>>,
     ghost have_features: { map (λ o. o.features) own.items ≡ map own_names (system_of hierarchy.system.now).classes },
     ghost have_redefined: { map (λ o. o.redefined) own.items ≡ map redefined_by (system_of hierarchy.system.now).classes },
+    ghost have_creators: { map (λ o. o.creators) own.items ≡ map created_by (system_of hierarchy.system.now).classes },
 }
 
 fn names_of_each<'s>(alloc: Global, classes: &'s [Class]) -> Result<Vec<OwnNames<'s>>, AllocError>
     ensures features { IfOk result (λ own. map (λ o. o.features) own.items ≡ map own_names (map class_of classes.now)) }
     ensures redefined { IfOk result (λ own. map (λ o. o.redefined) own.items ≡ map redefined_by (map class_of classes.now)) }
+    ensures creators { IfOk result (λ own. map (λ o. o.creators) own.items ≡ map created_by (map class_of classes.now)) }
 {
     let mut own = Vec::with_capacity(alloc, classes.len())?;
     for class in classes {
@@ -104,17 +107,51 @@ impl<'s> Outline<'s> {
         }
     }
 
-    /// The feature of this name of a class with these ancestors. It looks up to twice by hash for each of them.
-    pub fn named_along(&self, classes: &[usize], name: &str) -> Option<FeatureEntry<'s>>
-        ensures { option_map entry_of result ≡ named_among name.now (features_along (system_of self.now.hierarchy.system.now) classes.now) }
+    /// Whether the class at the number lists the name under `create`. It looks once by hash.
+    pub fn creates(&self, class: usize, name: &str) -> bool
+        ensures { result ≡ is_listed name.now (creators_of (system_of self.now.hierarchy.system.now) class) }
     {
-        for class in classes {
-            let declared = self.declared(*class, name);
-            if declared.is_some() || self.redefines(*class, name) {
+        match self.own.get(class) {
+            None => false,
+            Some(own) => own.creators.contains(name),
+        }
+    }
+
+    /// The feature of this name of a class, or of one of so many classes on the way up from it. It looks up to
+    /// twice by hash for each of them.
+    #[tactic(auto, using(crate::proofs::AncestorLemmas::named_at_top, crate::proofs::AncestorLemmas::named_done))]
+    fn named_from(&self, class: Option<usize>, most: usize, name: &str) -> Option<FeatureEntry<'s>>
+        ensures { option_map entry_of result ≡ named_among name.now (features_along (system_of self.now.hierarchy.system.now) (onward most (system_of self.now.hierarchy.system.now) class)) }
+    {
+        let mut next = class;
+        for _done in 0..most {
+            let Some(class) = next else {
+                return None;
+            };
+            let declared = self.declared(class, name);
+            if declared.is_some() || self.redefines(class, name) {
                 return declared;
             }
+            next = self.hierarchy.parent(class);
         }
         None
+    }
+
+    /// The feature of this name of the class at the number. It looks up to twice by hash for each ancestor, until it
+    /// is found.
+    pub fn named(&self, class: usize, name: &str) -> Option<FeatureEntry<'s>>
+        ensures { option_map entry_of result ≡ named_among name.now (features (system_of self.now.hierarchy.system.now) class) }
+    {
+        let count = self.hierarchy.classes().len();
+        self.named_from(Some(class), count, name)
+    }
+
+    /// The feature of this name of the parent of the class at the number.
+    pub fn inherited(&self, class: usize, name: &str) -> Option<FeatureEntry<'s>>
+        ensures { option_map entry_of result ≡ named_among name.now (inherited_features (system_of self.now.hierarchy.system.now) class) }
+    {
+        let above = self.hierarchy.classes().len().saturating_sub(1);
+        self.named_from(self.hierarchy.parent(class), above, name)
     }
 
     /// Adds the features that the class at the number declares itself, but for those of the hidden names.

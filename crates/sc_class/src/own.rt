@@ -16,11 +16,12 @@ pub struct FeatureEntry<'s> {
     pub feature: &'s Feature,
 }
 
-/// The names of the features that a class declares, and those that it lists under `redefine`.
+/// The names of the features that a class declares, and those that it lists under `redefine` and under `create`.
 #[derive(Drop)]
 pub struct OwnNames<'s> {
     pub features: NameIndex<'s>,
     pub redefined: NameIndex<'s>,
+    pub creators: NameIndex<'s>,
 }
 
 /// The names of the features.
@@ -62,11 +63,14 @@ pub fn redefined_in(class: &Class) -> &[Name]
 pub fn own_names_of<'s>(alloc: Global, class: &'s Class) -> Result<OwnNames<'s>, AllocError>
     ensures features { IfOk result (λ own. own.features ≡ own_names (class_of class.now)) }
     ensures redefined { IfOk result (λ own. own.redefined ≡ redefined_by (class_of class.now)) }
+    ensures creators { IfOk result (λ own. own.creators ≡ (class_of class.now).creators) }
 {
     let features = names_of(alloc, &class.features)?;
     let redefined = index_of(alloc, redefined_in(class))?;
+    let creators = index_of(alloc, &class.creators)?;
     Ok(OwnNames {
         features,
         redefined,
+        creators,
     })
 }

@@ -124,7 +124,7 @@ pub fn bad_redefinitions(alloc: Global, outline: &Outline) -> Result<Option<Span
     let mut found = None;
     let classes = outline.hierarchy.classes();
     for (number, class) in classes.iter().enumerate() {
-        let lineage = Lineage::of(alloc, outline, number)?;
+        let lineage = Lineage { outline, number };
         found = earliest(found, bad_redefinition(&lineage, class));
     }
     Ok(found)

@@ -19,7 +19,7 @@ const MOST_FEATURES: usize = 256;
 fn has_many_features(alloc: Global, outline: &Outline, number: usize) -> Result<bool, AllocError>
     ensures { IfOk result (λ many. many ≡ limits.has_many_features (system_of outline.now.hierarchy.system.now) number) }
 {
-    let lineage = Lineage::of(alloc, outline, number)?;
+    let lineage = Lineage { outline, number };
     let features = lineage.features(alloc)?;
     Ok(features.len() > MOST_FEATURES)
 }

@@ -3,14 +3,15 @@
 ghost use Rattle.std.specs.Prelude.{◌≡◌, ◌∷◌, ℕ, [], IfOk, length, map};
 ghost use Rattle.sc_tree.specs.Grammar.Classes as grammar;
 ghost use Rattle.sc_tree.specs.Reading.Classes as spec;
-ghost use Rattle.sc_parse.specs.Reads.{ahead, bare_names, opening_in, opening_ahead, closing_in, closing_ahead, feature_with, declarations_in, features_in, name_in, names_in, type_in, type_if_any_in, Gives, Takes};
+ghost use Rattle.sc_parse.specs.Reads.{ahead, opening_in, opening_ahead, closing_in, closing_ahead, feature_with, declarations_in, features_in, name_in, names_in, type_in, type_if_any_in, Gives, Takes};
 
 use crate::cursor::Parser;
 use crate::fault::ParseFault;
-use crate::types::{copied_names, copied_type};
+use crate::types::copied_type;
 use sc_text::Terminal;
 use sc_tree::{Clause, Declaration, DeclaredType, Feature, FeatureKind, Instr, Name, Routine};
 use std::alloc::{AllocError, Global};
+use std::rc::Rc;
 
 /// The classes that a feature is exported to by this list; `ANY` alone is the same as no list.
 fn exported_to(alloc: Global, names: Vec<Name>) -> Vec<Name>
@@ -25,15 +26,15 @@ fn exported_to(alloc: Global, names: Vec<Name>) -> Vec<Name>
 /// Each name as an attribute of the type.
 fn attributes_of(
     alloc: Global,
-    exports: &[Name],
+    exports: &Rc<Vec<Name>>,
     names: Vec<Name>,
     declared: &DeclaredType,
 ) -> Result<Vec<Feature>, AllocError>
-    ensures { IfOk result (λ features. features_in features ≡ map (grammar.attribute_of (bare_names exports.now) (type_in declared.now)) (names_in names)) }
+    ensures { IfOk result (λ features. features_in features ≡ map (grammar.attribute_of (names_in exports.now.value) (type_in declared.now)) (names_in names)) }
 {
     let mut features = Vec::new(alloc);
     for name in names {
-        let exports = copied_names(alloc, exports)?;
+        let exports = exports.clone()?;
         let kind = FeatureKind::Attribute(copied_type(declared)?);
         features.push(Feature {
             exports,
@@ -47,13 +48,13 @@ fn attributes_of(
 /// One feature, exported to the classes.
 fn one_feature(
     alloc: Global,
-    exports: &[Name],
+    exports: &Rc<Vec<Name>>,
     name: Name,
     kind: FeatureKind,
 ) -> Result<Vec<Feature>, AllocError>
-    ensures { IfOk result (λ features. features_in features ≡ feature_with (bare_names exports.now) (name_in name) kind ∷ []) }
+    ensures { IfOk result (λ features. features_in features ≡ feature_with (names_in exports.now.value) (name_in name) kind ∷ []) }
 {
-    let exports = copied_names(alloc, exports)?;
+    let exports = exports.clone()?;
     let mut features = Vec::new(alloc);
     features.push(Feature {
         exports,
@@ -120,13 +121,13 @@ impl<'a> Parser<'a> {
     #[tactic(auto, using(crate::proofs::Parts::routine_is))]
     fn routine(
         &mut self,
-        exports: &[Name],
+        exports: &Rc<Vec<Name>>,
         name: Name,
         formals: Vec<Declaration>,
         result_type: Option<DeclaredType>,
         room: u8,
     ) -> Result<Vec<Feature>, ParseFault>
-        ensures { Gives features_in (spec.routine room (bare_names exports.now) (name_in name) (declarations_in formals) (type_if_any_in result_type) (ahead self.old)) result (ahead self.new) }
+        ensures { Gives features_in (spec.routine room (names_in exports.now.value) (name_in name) (declarations_in formals) (type_if_any_in result_type) (ahead self.old)) result (ahead self.new) }
     {
         let (precondition, locals) = self.opening(room)?;
         let (body, postcondition) = self.closing(room)?;
@@ -145,13 +146,13 @@ impl<'a> Parser<'a> {
     /// What follows the name, the formals and the result type of a feature.
     fn attribute_or_routine(
         &mut self,
-        exports: &[Name],
+        exports: &Rc<Vec<Name>>,
         name: Name,
         formals: Vec<Declaration>,
         result_type: Option<DeclaredType>,
         room: u8,
     ) -> Result<Vec<Feature>, ParseFault>
-        ensures { Gives features_in (spec.attribute_or_routine room (bare_names exports.now) (name_in name) (declarations_in formals) (type_if_any_in result_type) (ahead self.old)) result (ahead self.new) }
+        ensures { Gives features_in (spec.attribute_or_routine room (names_in exports.now.value) (name_in name) (declarations_in formals) (type_if_any_in result_type) (ahead self.old)) result (ahead self.new) }
     {
         let is_attribute = formals.is_empty() && !self.begins_routine();
         match result_type {
@@ -168,11 +169,11 @@ impl<'a> Parser<'a> {
     #[tactic(auto, unfolding(sc_tree::specs::Reading::Classes::attributes))]
     fn attributes(
         &mut self,
-        exports: &[Name],
+        exports: &Rc<Vec<Name>>,
         first: Name,
         room: u8,
     ) -> Result<Vec<Feature>, ParseFault>
-        ensures { Gives features_in (spec.attributes room (bare_names exports.now) (name_in first) (ahead self.old)) result (ahead self.new) }
+        ensures { Gives features_in (spec.attributes room (names_in exports.now.value) (name_in first) (ahead self.old)) result (ahead self.new) }
     {
         let names = self.more_names(first)?;
         self.expect(Terminal::Colon)?;
@@ -183,8 +184,8 @@ impl<'a> Parser<'a> {
 
     /// A routine, or attributes of one type.
     #[tactic(auto, unfolding(sc_tree::specs::Reading::Classes::feature))]
-    fn feature(&mut self, exports: &[Name], room: u8) -> Result<Vec<Feature>, ParseFault>
-        ensures { Gives features_in (spec.feature room (bare_names exports.now) (ahead self.old)) result (ahead self.new) }
+    fn feature(&mut self, exports: &Rc<Vec<Name>>, room: u8) -> Result<Vec<Feature>, ParseFault>
+        ensures { Gives features_in (spec.feature room (names_in exports.now.value) (ahead self.old)) result (ahead self.new) }
     {
         let name = self.name()?;
         if self.sees(Terminal::Comma) {
@@ -199,11 +200,11 @@ impl<'a> Parser<'a> {
     #[tactic(auto, using(crate::proofs::Lists::features_begin, crate::proofs::Lists::features_end, crate::proofs::Lists::features_turn))]
     fn section(
         &mut self,
-        exports: &[Name],
+        exports: &Rc<Vec<Name>>,
         earlier: Vec<Feature>,
         room: u8,
     ) -> Result<Vec<Feature>, ParseFault>
-        ensures { (high : ℕ) → Gives features_in (spec.features_from room (bare_names exports.now) (length (ahead self.old)) (features_in earlier) high (ahead self.old)) result (ahead self.new) }
+        ensures { (high : ℕ) → Gives features_in (spec.features_from room (names_in exports.now.value) (length (ahead self.old)) (features_in earlier) high (ahead self.old)) result (ahead self.new) }
     {
         let mut found = earlier;
         for _turn in 0..self.rest.len() {
@@ -229,7 +230,8 @@ impl<'a> Parser<'a> {
             }
             self.take();
             let exports = self.exports()?;
-            found = self.section(&exports, found, room)?;
+            let shared = Rc::new(self.alloc, exports)?;
+            found = self.section(&shared, found, room)?;
         }
         Ok(found)
     }

@@ -2,13 +2,13 @@
 
 ghost use Rattle.std.specs.Prelude.{◌≡◌, ◌∷◌, [], IfOk, length};
 ghost use Rattle.sc_tree.specs.Reading.Types as spec;
-ghost use Rattle.sc_parse.specs.Reads.{ahead, bare_names, name_in, names_in, handler_tag_in, type_in, type_if_any_in, Takes};
+ghost use Rattle.sc_parse.specs.Reads.{ahead, name_in, names_in, handler_tag_in, type_in, type_if_any_in, Takes};
 
 use crate::cursor::Parser;
 use crate::fault::ParseFault;
 use sc_text::Terminal;
 use sc_tree::{DeclaredType, HandlerTag, Name};
-use std::alloc::{AllocError, Global};
+use std::alloc::AllocError;
 
 /// The same name once more, its place included.
 pub fn copied_name(name: &Name) -> Result<Name, AllocError>
@@ -19,18 +19,6 @@ pub fn copied_name(name: &Name) -> Result<Name, AllocError>
         text,
         span: name.span,
     })
-}
-
-/// The same names once more, in the same order.
-pub fn copied_names(alloc: Global, names: &[Name]) -> Result<Vec<Name>, AllocError>
-    ensures { IfOk result (λ copies. names_in copies ≡ bare_names names.now) }
-{
-    let mut copies = Vec::new(alloc);
-    for name in names {
-        let copy = copied_name(name)?;
-        copies.push(copy)?;
-    }
-    Ok(copies)
 }
 
 /// The same tag once more.

@@ -51,29 +51,29 @@ redefined_done (y ∷ ys) o o1 o2 o3 some p q r = bracketed o o1 o2 o3 _ _ (name
 -- ---- features
 
 pub features_more : (before : tree.Feature) (xs : List tree.Feature) (i : ℕ) (x : tree.Feature) (o o1 start : Output) →
-    i < length xs → x ≡ get_or xs i x → o1 ≡ put_lines o (further_feature_lines (map name_of before.exports.items) (feature_of x)) →
-    put_lines o (further_features_lines (map name_of before.exports.items) (map feature_of (drop i xs))) ≡ start →
-    put_lines o1 (further_features_lines (map name_of x.exports.items) (map feature_of (drop (i + 1) xs))) ≡ start
+    i < length xs → x ≡ get_or xs i x → o1 ≡ put_lines o (further_feature_lines (map name_of before.exports.value.items) (feature_of x)) →
+    put_lines o (further_features_lines (map name_of before.exports.value.items) (map feature_of (drop i xs))) ≡ start →
+    put_lines o1 (further_features_lines (map name_of x.exports.value.items) (map feature_of (drop (i + 1) xs))) ≡ start
 unfolding feature_of
 features_more before xs i x o o1 start h e p was =
-    let rest = further_features_lines (map name_of x.exports.items) (map feature_of (drop (i + 1) xs)) in
-    ap (λ u. put_lines u rest) p ∙ sym (put_lines-append o (further_feature_lines (map name_of before.exports.items) (feature_of x)) rest)
-    ∙ ap (λ ys. put_lines o (further_features_lines (map name_of before.exports.items) (map feature_of ys))) (sym (drop_at xs i x h e))
+    let rest = further_features_lines (map name_of x.exports.value.items) (map feature_of (drop (i + 1) xs)) in
+    ap (λ u. put_lines u rest) p ∙ sym (put_lines-append o (further_feature_lines (map name_of before.exports.value.items) (feature_of x)) rest)
+    ∙ ap (λ ys. put_lines o (further_features_lines (map name_of before.exports.value.items) (map feature_of ys))) (sym (drop_at xs i x h e))
     ∙ was
 
 pub features_done : (xs : List tree.Feature) (x : tree.Feature) (i : ℕ) (es : List Name) (o o1 o2 o3 : Output) →
     1 ≤ length xs → x ≡ get_or xs 0 x → length (take (length xs - 1) (drop 1 xs)) ≤ i →
-    o1 ≡ put_line o (section_line (map name_of x.exports.items)) → o2 ≡ put_lines o1 (feature_lines (feature_of x)) →
+    o1 ≡ put_line o (section_line (map name_of x.exports.value.items)) → o2 ≡ put_lines o1 (feature_lines (feature_of x)) →
     put_lines o3 (further_features_lines (map name_of es) (map feature_of (drop i (take (length xs - 1) (drop 1 xs)))))
-    ≡ put_lines o2 (further_features_lines (map name_of x.exports.items) (map feature_of (take (length xs - 1) (drop 1 xs)))) →
+    ≡ put_lines o2 (further_features_lines (map name_of x.exports.value.items) (map feature_of (take (length xs - 1) (drop 1 xs)))) →
     o3 ≡ put_lines o (sections_lines (map feature_of xs))
 unfolding feature_of
 features_done xs x i es o o1 o2 o3 some first end p q was =
     let rest = take (length xs - 1) (drop 1 xs) in
-    let more = further_features_lines (map name_of x.exports.items) (map feature_of rest) in
+    let more = further_features_lines (map name_of x.exports.value.items) (map feature_of rest) in
     ap (λ ys. put_lines o3 (further_features_lines (map name_of es) (map feature_of ys))) (sym (drop_all i rest end)) ∙ was
     ∙ ap (λ u. put_lines u more) (q ∙ ap (λ u. put_lines u (feature_lines (feature_of x))) p)
-    ∙ sym (put_lines-append (put_line o (section_line (map name_of x.exports.items))) (feature_lines (feature_of x)) more)
+    ∙ sym (put_lines-append (put_line o (section_line (map name_of x.exports.value.items))) (feature_lines (feature_of x)) more)
     ∙ ap (λ ys. put_lines o (sections_lines (map feature_of ys))) (sym (first_and_rest xs x some first))
 
 -- ---- classes

@@ -3,6 +3,7 @@ use Rattle.std.proofs.Common.{◌≡◌, ℤ, Bool, suc, List, [], ◌∷◌, �
 use Rattle.std.specs.Prelude.{string_bytes, map}
 use Rattle.std.specs.declared.string.String.{String}
 use Rattle.std.specs.declared.vec.Vec.{Vec}
+use Rattle.std.specs.declared.rc.Rc.{Rc}
 use Rattle.std.specs.declared.boxed.Box.{Box}
 use Rattle.std.specs.declared.alloc.Global.{Global}
 use Rattle.sc_text.specs.declared.token.Span.{Span}
@@ -27,7 +28,6 @@ use Rattle.sc_tree.specs.declared.instruction.Instr.TheBlock.{hidden-the_row-Ins
 use Rattle.sc_tree.specs.declared.instruction.Branch.{Branch}
 use Rattle.sc_tree.specs.declared.system.Parent.{Parent}
 use Rattle.sc_tree.specs.declared.system.FeatureKind.TheVariants as kind
-use Rattle.sc_tree.specs.declared.system.Routine.{Routine}
 use Rattle.sc_tree.specs.declared.system.Feature.{Feature}
 use Rattle.sc_tree.specs.declared.system.Class.{Class}
 use Rattle.sc_tree.specs.declared.system.System.{System}
@@ -297,22 +297,15 @@ unfolding head_of
 bare_head-is h = refl
 
 pub bare_feature-is : (f : Feature) →
-    bare_feature (feature_of f) ≡ record { exports = map bare_name (map name_of f.exports.items); name = named (string_bytes f.name.text); kind = bare_kind (kind_of f.kind) }
+    bare_feature (feature_of f) ≡ record { exports = map bare_name (map name_of f.exports.value.items); name = named (string_bytes f.name.text); kind = bare_kind (kind_of f.kind) }
 unfolding feature_of
 bare_feature-is f = refl
 
-pub bare_feature-attribute : (es : Vec Name Global) (n : Name) (t : DeclaredType) →
+pub bare_feature-attribute : (es : Rc (Vec Name Global) Global) (n : Name) (t : DeclaredType) →
     bare_feature (feature_of (record { exports = es; name = n; kind = kind.Attribute t }))
-    ≡ grammar.attribute_of (map bare_name (map name_of es.items)) (bare_type (type_of t)) (named (string_bytes n.text))
+    ≡ grammar.attribute_of (map bare_name (map name_of es.value.items)) (bare_type (type_of t)) (named (string_bytes n.text))
 unfolding feature_of kind_of
 bare_feature-attribute es n t = refl
-
-pub bare_feature-routine : (es : Vec Name Global) (n : Name) (r : Routine) →
-    bare_feature (feature_of (record { exports = es; name = n; kind = kind.Routine r }))
-    ≡ grammar.routine_of (map bare_name (map name_of es.items)) (named (string_bytes n.text)) (map bare_declaration (map declaration_of r.formals.items)) (bare_type_if_any (type_if_any r.result_type))
-    (map bare_clause (map clause_of r.precondition.items)) (map bare_declaration (map declaration_of r.locals.items)) (bare_instrs (instrs_of r.body.items)) (map bare_clause (map clause_of r.postcondition.items))
-unfolding feature_of kind_of
-bare_feature-routine es n r = refl
 
 pub bare_parent-is : (p : Parent) → bare_parent (parent_of p) ≡ record { name = named (string_bytes p.name.text); redefined = map bare_name (map name_of p.redefined.items) }
 bare_parent-is p = refl

@@ -125,7 +125,7 @@ kind_of (kind.Routine r) =
     plain.Routine (map declaration_of r.formals.items) (type_if_any r.result_type) (map clause_of r.precondition.items) (map declaration_of r.locals.items) (instrs_of r.body.items) (map clause_of r.postcondition.items)
 
 unfoldable pub feature_of : Feature → plain.Feature
-feature_of f = record { exports = map name_of f.exports.items; name = name_of f.name; kind = kind_of f.kind }
+feature_of f = record { exports = map name_of f.exports.value.items; name = name_of f.name; kind = kind_of f.kind }
 
 abbrev pub parent_of : Parent → plain.Parent
 parent_of p = record { name = name_of p.name; redefined = map name_of p.redefined.items }

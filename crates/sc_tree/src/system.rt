@@ -4,6 +4,7 @@ use crate::declaration::{Declaration, DeclaredType};
 use crate::expression::Name;
 use crate::instruction::{Clause, Instr};
 use sc_text::Span;
+use std::rc::Rc;
 
 /// The classes of a source text, in order.
 #[derive(Drop)]
@@ -43,8 +44,8 @@ pub struct Parent {
 #[derive(Drop)]
 pub struct Feature {
     /// The classes that it is exported to: to all where none stands here. `{ANY}` leaves none here, and
-    /// `{}` leaves `NONE`.
-    pub exports: Vec<Name>,
+    /// `{}` leaves `NONE`. Features that stand under one `feature` share their list.
+    pub exports: Rc<Vec<Name>>,
     pub name: Name,
     pub kind: FeatureKind,
 }

@@ -2,24 +2,20 @@ use Rattle.std.proofs.Common.{List, Some, ◌≡◌, subst}
 use Rattle.std.specs.Prelude.{slice_get}
 use Rattle.sc_tree.specs.Plain.{Class}
 use Rattle.sc_tree.specs.View.{class_of, system_of}
-use Rattle.sc_class.specs.Found.{Finds}
 use Rattle.sc_class.specs.Scopes.{ClassClashes}
 use Rattle.sc_class.proofs.Items.{item_in}
 use Rattle.sc_class.proofs.FaultLemmas.{one_more_at, all_seen_at}
-use Rattle.sc_class.proofs.SizeLemmas.{at_lineage, from_lineage}
 use Rattle.sc_class.proofs.class_clashes.clash.Goals as goal
 
 pub class_clash-requires : goal.class_clash-requires
 class_clash-requires c =
-    from_lineage (λ t k. slice_get (system_of t).classes k ≡ Some (class_of c.index-classes-number.result)) c.args.outline.now.hierarchy.system.now c.in_ok-lineage.lineage.outline.now.hierarchy.system.now c.loop-number.number c.in_ok-lineage.lineage.number c.in_ok-lineage.ensures
-    (subst (λ (cs : List Class). slice_get cs c.loop-number.number ≡ Some (class_of c.index-classes-number.result)) c.classes-classes.ensures (item_in class_of c.classes-classes.result.now c.loop-number.number c.index-classes-number.result c.loop-number-test.true c.index-classes-number.is))
+    subst (λ (cs : List Class). slice_get cs c.loop-number.number ≡ Some (class_of c.index-classes-number.result)) c.classes-classes.ensures (item_in class_of c.classes-classes.result.now c.loop-number.number c.index-classes-number.result c.loop-number-test.true c.index-classes-number.is)
 
 pub loop-number-preserved : goal.loop-number-preserved
 loop-number-preserved c =
     let s = system_of c.args.outline.now.hierarchy.system.now in
     one_more_at s c.classes-classes.result.now c.classes-classes.ensures (ClassClashes s) c.loop-number.number c.index-classes-number.result c.loop-number.found c.in_ok-in_class.in_class c.earliest-found.result c.loop-number-test.true c.index-classes-number.is c.loop-number.invariant
-    (at_lineage (λ t k. Finds (ClassClashes (system_of t) k (class_of c.index-classes-number.result)) c.in_ok-in_class.in_class) c.args.outline.now.hierarchy.system.now c.in_ok-lineage.lineage.outline.now.hierarchy.system.now c.loop-number.number c.in_ok-lineage.lineage.number
-    c.in_ok-lineage.ensures c.in_ok-in_class.ensures)
+    c.in_ok-in_class.ensures
     c.earliest-found.ensures
 
 pub returns : goal.returns

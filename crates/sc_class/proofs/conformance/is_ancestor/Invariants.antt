@@ -2,7 +2,7 @@ use Rattle.std.proofs.Common.{◌≡◌, ◌-◌, ◌==◌}
 use Rattle.std.specs.List.{list_any}
 use Rattle.sc_tree.specs.View.{system_of}
 use Rattle.sc_class.specs.Conformance.{is_ancestor}
-use Rattle.sc_class.proofs.AncestorLemmas.{onward}
+use Rattle.sc_class.specs.Ancestors.{onward}
 use Rattle.sc_class.proofs.conformance.is_ancestor.Given as goal
 
 abbrev pub invariant-loop-done : goal.invariant-loop-done

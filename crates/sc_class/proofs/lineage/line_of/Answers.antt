@@ -1,7 +1,7 @@
 use Rattle.std.proofs.Common.{ℕ, Option, List, ◌≡◌, ◌+◌, ◌-◌, ◌++◌, suc, length, sym, subst, arith}
 use Rattle.sc_tree.specs.View.{system_of}
-use Rattle.sc_class.specs.Ancestors.{line}
-use Rattle.sc_class.proofs.AncestorLemmas.{onward, line_more}
+use Rattle.sc_class.specs.Ancestors.{line, onward}
+use Rattle.sc_class.proofs.AncestorLemmas.{line_more}
 use Rattle.sc_class.proofs.lineage.line_of.Goals as goal
 
 pub loop-done-preserved : goal.loop-done-preserved

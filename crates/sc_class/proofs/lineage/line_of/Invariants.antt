@@ -1,7 +1,6 @@
 use Rattle.std.proofs.Common.{◌≡◌, ◌++◌, ◌-◌}
 use Rattle.sc_tree.specs.View.{system_of}
-use Rattle.sc_class.specs.Ancestors.{line}
-use Rattle.sc_class.proofs.AncestorLemmas.{onward}
+use Rattle.sc_class.specs.Ancestors.{line, onward}
 use Rattle.sc_class.proofs.lineage.line_of.Given as goal
 
 abbrev pub invariant-loop-done : goal.invariant-loop-done

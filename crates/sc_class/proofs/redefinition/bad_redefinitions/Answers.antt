@@ -1,16 +1,13 @@
-use Rattle.sc_tree.specs.View.{class_of, system_of}
-use Rattle.sc_class.specs.Found.{Finds}
+use Rattle.sc_tree.specs.View.{system_of}
 use Rattle.sc_class.specs.Redefinition.{BadlyRedefines}
 use Rattle.sc_class.proofs.FaultLemmas.{one_more_at, all_seen_at}
-use Rattle.sc_class.proofs.SizeLemmas.{at_lineage}
 use Rattle.sc_class.proofs.redefinition.bad_redefinitions.Goals as goal
 
 pub loop-number-preserved : goal.loop-number-preserved
 loop-number-preserved c =
     let s = system_of c.args.outline.now.hierarchy.system.now in
     one_more_at s c.classes-classes.result.now c.classes-classes.ensures (BadlyRedefines s) c.loop-number.number c.index-classes-number.result c.loop-number.found c.bad_redefinition.result c.earliest-found.result c.loop-number-test.true c.index-classes-number.is c.loop-number.invariant
-    (at_lineage (λ t k. Finds (BadlyRedefines (system_of t) k (class_of c.index-classes-number.result)) c.bad_redefinition.result) c.args.outline.now.hierarchy.system.now c.in_ok-lineage.lineage.outline.now.hierarchy.system.now c.loop-number.number c.in_ok-lineage.lineage.number
-    c.in_ok-lineage.ensures c.bad_redefinition.ensures)
+    c.bad_redefinition.ensures
     c.earliest-found.ensures
 
 pub returns : goal.returns

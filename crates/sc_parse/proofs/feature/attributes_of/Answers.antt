@@ -1,5 +1,6 @@
 use Rattle.std.proofs.Common.{◌≡◌, List, ap, ◌∙◌, map}
 use Rattle.std.specs.declared.vec.Vec.{Vec}
+use Rattle.std.specs.declared.rc.Rc.{Rc}
 use Rattle.std.specs.declared.alloc.Global.{Global}
 use Rattle.sc_tree.specs.declared.expression.Name.{Name}
 use Rattle.sc_tree.specs.declared.declaration.DeclaredType.{DeclaredType}
@@ -9,13 +10,13 @@ use Rattle.sc_tree.specs.Grammar.Classes.{attribute_of}
 use Rattle.sc_tree.specs.Bare.{bare_feature}
 use Rattle.sc_tree.specs.View.{feature_of}
 use Rattle.sc_tree.proofs.ViewLemmas.{bare_feature-attribute}
-use Rattle.sc_parse.specs.Reads.{bare_names, name_in, names_in, type_in}
+use Rattle.sc_parse.specs.Reads.{name_in, names_in, type_in}
 use Rattle.sc_parse.proofs.Lists.{named_push}
 use Rattle.sc_parse.proofs.feature.attributes_of.Goals as goal
 
--- a feature of copies of the export list and of the type
-attribute_is : (es : List plain.Name) (t : plain.DeclaredType) (exports : Vec Name Global) (n : Name) (d : DeclaredType) →
-    names_in exports ≡ es → type_in d ≡ t →
+-- a feature that shares the export list, with a copy of the type
+attribute_is : (es : List plain.Name) (t : plain.DeclaredType) (exports : Rc (Vec Name Global) Global) (n : Name) (d : DeclaredType) →
+    names_in exports.value ≡ es → type_in d ≡ t →
     bare_feature (feature_of (record { exports = exports; name = n; kind = kind.Attribute d })) ≡ attribute_of es t (name_in n)
 attribute_is es t exports n d e w =
     bare_feature-attribute exports n d ∙ ap (λ (xs : List plain.Name). attribute_of xs (type_in d) (name_in n)) e
@@ -24,6 +25,6 @@ attribute_is es t exports n d e w =
 pub loop-name-preserved : goal.loop-name-preserved
 loop-name-preserved c =
     ap (λ (fs : _). map bare_feature (map feature_of fs)) c.in_ok-push.ensures.items
-    ∙ named_push bare_feature feature_of (attribute_of (bare_names c.args.exports.now) (type_in c.args.declared.now))
+    ∙ named_push bare_feature feature_of (attribute_of (names_in c.args.exports.now.value) (type_in c.args.declared.now))
     c.loop-name.features.items c.loop-name.yielded _ c.in-Some.name c.loop-name.invariant
-    (attribute_is _ _ _ c.in-Some.name _ c.in_ok-exports.ensures c.in_ok-copied_type.ensures)
+    (attribute_is _ _ _ c.in-Some.name _ (ap names_in c.in_ok-exports.ensures.cases) c.in_ok-copied_type.ensures)

@@ -8,15 +8,14 @@ use Rattle.sc_tree.specs.Plain as plain
 use Rattle.sc_tree.specs.Bare.{bare_feature}
 use Rattle.sc_tree.specs.View.{feature_of}
 use Rattle.sc_tree.specs.Reading.Looks.{Taken}
-use Rattle.sc_parse.specs.Reads.{ahead, bare_names, features_in, names_in}
+use Rattle.sc_parse.specs.Reads.{ahead, features_in, names_in}
 use Rattle.sc_parse.proofs.Faults.{Fails-along}
 use Rattle.sc_parse.proofs.Lists.{sections_begin, exports_fail, sections_fail, sections_more}
 use Rattle.sc_parse.proofs.cursor.Parser.sections.Goals as goal
 
--- the list that was read, as the slice that is passed on
-as_slice : (r : Taken (List plain.Name)) (v : Vec Name Global) (ns : List Name) (s : List Kind) →
-    r ≡ Ok (names_in v, s) → ns ≡ v.items → r ≡ Ok (bare_names ns, s)
-as_slice r v ns s e q = rw q e
+-- the list that was read, as it is shared
+as_shared : (r : Taken (List plain.Name)) (v w : Vec Name Global) (s : List Kind) → r ≡ Ok (names_in v, s) → w ≡ v → r ≡ Ok (names_in w, s)
+as_shared r v w s e q = rw q e
 
 pub loop-turn-init : goal.loop-turn-init
 loop-turn-init c = (0, sections_begin _ _ _ (ap (λ (fs : _). map bare_feature (map feature_of fs)) c.new-found.ensures.items))
@@ -38,7 +37,7 @@ returns-in_err-found c =
     (Fails-along _ _ c.in_err-found.field-0.0 (sym q.1)
     (sections_fail c.args.room _ c.loop-turn._turn (features_in c.loop-turn.found) q.0 (ahead c.loop-turn.self) _ _ _ _
     c.in_err-found.field-0.0 c.loop-turn-test.true c.sees.ensures c.if-not-sees.false c.take.ensures.past
-    (as_slice _ c.in_ok-exports.exports _ _ c.in_ok-exports.ensures c.deref.ensures.value) (c.in_err-found.ensures q.0)))
+    (as_shared _ c.in_ok-exports.exports _ _ c.in_ok-exports.ensures c.in_ok-shared.ensures.ok) (c.in_err-found.ensures q.0)))
 
 pub loop-turn-preserved : goal.loop-turn-preserved
 loop-turn-preserved c =
@@ -47,5 +46,5 @@ loop-turn-preserved c =
       r.0,
       sections_more c.args.room _ c.loop-turn._turn (features_in c.loop-turn.found) q.0 (ahead c.loop-turn.self) _ _ _ _ _ _ _
           c.loop-turn-test.true c.sees.ensures c.if-not-sees.false c.take.ensures.past
-          (as_slice _ c.in_ok-exports.exports _ _ c.in_ok-exports.ensures c.deref.ensures.value) r.1 ∙ q.1,
+          (as_shared _ c.in_ok-exports.exports _ _ c.in_ok-exports.ensures c.in_ok-shared.ensures.ok) r.1 ∙ q.1,
     )

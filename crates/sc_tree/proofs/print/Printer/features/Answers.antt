@@ -9,11 +9,11 @@ pub loop-feature-preserved : goal.loop-feature-preserved
 loop-feature-preserved c =
     features_more c.loop-feature.before.now _ c.loop-feature.feature-index c.feature-item.result _ _ _ (omega arith) c.feature-item.is
     (c.in_ok-further_feature.ensures
-    ∙ ap (λ es. put_lines (output_of c.loop-feature.self) (further_feature_lines (map name_of es) (feature_of c.feature-item.result))) c.deref-in-loop-feature.ensures.value)
+    ∙ ap (λ es. put_lines (output_of c.loop-feature.self) (further_feature_lines (map name_of es) (feature_of c.feature-item.result))) (c.deref-in-loop-feature-2.ensures.value ∙ ap (λ v. v.items) c.deref-in-loop-feature.ensures))
     c.loop-feature.invariant
 
 pub returns : goal.returns
 returns c =
-    features_done c.args.features.now c.first-item.result c.loop-feature.feature-index c.loop-feature.before.now.exports.items _ _ _ _ c.in-len1-up.len_at_least c.first-item.is (omega arith)
-    (c.in_ok-section.ensures ∙ ap (λ es. put_line (output_of c.args.self.now) (section_line (map name_of es))) c.deref.ensures.value)
+    features_done c.args.features.now c.first-item.result c.loop-feature.feature-index c.loop-feature.before.now.exports.value.items _ _ _ _ c.in-len1-up.len_at_least c.first-item.is (omega arith)
+    (c.in_ok-section.ensures ∙ ap (λ es. put_line (output_of c.args.self.now) (section_line (map name_of es))) (c.deref-2.ensures.value ∙ ap (λ v. v.items) c.deref.ensures))
     c.in_ok-feature.ensures c.loop-feature.invariant

@@ -6,5 +6,5 @@ use Rattle.sc_tree.proofs.print.Printer.features.Given as goal
 
 abbrev pub invariant-loop-feature : goal.invariant-loop-feature
 invariant-loop-feature l =
-    put_lines (output_of l.self) (further_features_lines (map name_of l.before.exports.items) (map feature_of (drop l.feature-index l.rest)))
-    ≡ put_lines (output_of l.initial.self) (further_features_lines (map name_of l.initial.before.exports.items) (map feature_of l.rest))
+    put_lines (output_of l.self) (further_features_lines (map name_of l.before.exports.value.items) (map feature_of (drop l.feature-index l.rest)))
+    ≡ put_lines (output_of l.initial.self) (further_features_lines (map name_of l.initial.before.exports.value.items) (map feature_of l.rest))
