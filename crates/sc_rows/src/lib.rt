@@ -12,6 +12,8 @@ mod formulas;
 #[cfg(test)]
 mod grammar;
 #[cfg(test)]
+mod joining;
+#[cfg(test)]
 mod program;
 #[cfg(test)]
 mod reading;

@@ -1,6 +1,6 @@
 pub mod Calls
 pub mod ExecutionLemmas
-pub mod FileLemmas
+pub mod JoiningLemmas
 pub mod Found
 pub mod Known
 pub mod PlayLemmas

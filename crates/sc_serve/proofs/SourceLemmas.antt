@@ -4,7 +4,7 @@ use Rattle.std.proofs.lemmas.List.{length-take-le, take-append-le, drop-append-l
 use Rattle.std.proofs.Math.Seq.{take-append_seam, drop-append-add}
 use Rattle.std.proofs.lemmas.Grind.{common_steps}
 use Rattle.std.proofs.lemmas.Bool.Decides.{nat_tests}
-use Rattle.sc_serve.specs.Source.{File, joined, files_in, line_feed, place_of}
+use Rattle.sc_serve.specs.Source.{File, joined, files_in, line_feed, longest_source, place_of, room_after}
 use Rattle.sc_serve.specs.declared.source.SourceFile.{SourceFile}
 
 -- where a text is its first n bytes, one byte and what follows, it has more than n bytes
@@ -21,6 +21,14 @@ text_after n x text after e =
 pub joined-push : (fs : List File) (f : File) → joined (fs ++ f ∷ []) ≡ joined fs ++ (f.text ++ (line_feed ∷ []))
 joined-push [] f = refl
 joined-push (g ∷ gs) f = simp (joined-push gs f, append_assoc)
+
+-- one more file that there is room for
+pub short-push : (fs gs : List File) (f : File) → length f.text < room_after fs → gs ≡ fs ++ f ∷ [] →
+    length (joined gs) ≤ longest_source
+short-push fs gs f room added =
+    let text : joined gs ≡ joined fs ++ (f.text ++ (line_feed ∷ [])) = rw added (joined-push fs f) in
+    let size : length (joined gs) ≡ length (joined fs) + (length f.text + 1) = rw text (grind (arith, common_steps)) in
+    rw size (omega arith)
 
 -- one more file at the end of the source text
 pub files_in-push : (fs : List SourceFile) (text t : List ℕ) (f : SourceFile) →
@@ -78,3 +86,12 @@ pub joined-added : (fs all : List SourceFile) (text before whole t : List ℕ) (
     joined (files_in whole all) ≡ whole
 joined-added fs all text before whole t f e len ended pushed listed =
     rw (files-added fs all text before whole t f e len ended pushed listed, joined-push, e, ended, pushed, append_assoc) refl
+
+-- and it isn't too long where there was room
+pub short-added : (fs value : List File) (text before whole t : List ℕ) →
+    joined fs ≡ text → fs ≡ value → length t < room_after value →
+    whole ≡ before ++ (line_feed ∷ []) → before ≡ text ++ t → length whole ≤ longest_source
+short-added fs value text before whole t e viewed room ended pushed =
+    let same : length (joined value) ≡ length text = rw (← viewed, e) refl in
+    let size : length whole ≡ length text + (length t + 1) = rw (ended, pushed) (grind (arith, common_steps)) in
+    rw size (omega arith)

@@ -1,5 +1,6 @@
 pub mod Answer
 pub mod Execution
+pub mod Joining
 pub mod NotYet
 pub mod Refusal
 pub mod RootOption

@@ -1,5 +1,5 @@
 -- The source text of a system, and the places in its files. A text is the list of its bytes.
-use Rattle.std.specs.Prelude.{ℕ, ◌+◌, ◌-◌, ◌==◌, Bool, not, List, [], ◌∷◌, ◌++◌, Option, Some, None, if◌then◌else◌, length, take, drop, count_by, nat_eq, nat_le, string_bytes}
+use Rattle.std.specs.Prelude.{ℕ, ◌+◌, ◌-◌, ◌==◌, Bool, not, List, [], ◌∷◌, ◌++◌, Option, Some, None, if◌then◌else◌, length, map, take, drop, count_by, nat_eq, nat_le, string_bytes}
 use Rattle.std.specs.List.{starts_with, suffix_len}
 use Rattle.sc_serve.specs.declared.source.SourceFile.{SourceFile}
 use Rattle.sc_serve.specs.declared.source.Place as code
@@ -33,10 +33,26 @@ byte_order_mark = 239 ∷ 187 ∷ 191 ∷ []
 abbrev pub unmarked : List ℕ → List ℕ
 unmarked text = if starts_with nat_eq text byte_order_mark then drop 3 text else text
 
+-- texts one after the other, each with a line feed after it
+abbrev pub joined_texts : List (List ℕ) → List ℕ
+joined_texts [] = []
+joined_texts (t ∷ ts) = t ++ (line_feed ∷ joined_texts ts)
+
+-- the texts of files
+abbrev pub texts_of : List File → List (List ℕ)
+texts_of fs = map (λ f. f.text) fs
+
 -- The source text of files: the text of each in order, each with a line feed after it.
 abbrev pub joined : List File → List ℕ
-joined [] = []
-joined (f ∷ fs) = f.text ++ (line_feed ∷ joined fs)
+joined fs = joined_texts (texts_of fs)
+
+-- the most bytes that a source text may have
+abbrev pub longest_source : ℕ
+longest_source = 1048576
+
+-- How short the text of one more file has to be: it has fewer bytes than this, for the line feed after it.
+abbrev pub room_after : List File → ℕ
+room_after fs = longest_source - length (joined fs)
 
 -- the line on which a text ends
 abbrev pub line_after : List ℕ → ℕ

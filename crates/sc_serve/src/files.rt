@@ -1,11 +1,6 @@
-// Files by name, and their texts.
+// Files by name.
 
-ghost use Rattle.std.specs.Prelude.{◌≡◌, ◌<◌, length, IfOk, IfSome, IsOk, string_bytes};
-ghost use Rattle.std.specs.Str.{IsUtf8};
-
-use crate::source::LONGEST_SOURCE;
-use std::alloc::Global;
-use std::io::{self, ErrorKind, Read, Write};
+use std::io::{self, Read, Write};
 use std::{fs, rt};
 
 /// Files that are opened by name.
@@ -50,41 +45,44 @@ impl<'r, R: rt::Files> Files for SystemFiles<'r, R> {
     }
 }
 
-/// The most bytes that are read of one file: enough for the longest source with a byte order mark
-/// before it, and for one byte more where the last character is cut off.
-const READ_LIMIT: usize = LONGEST_SOURCE + 7;
-
-/// The text of a file. Of a file that is longer than any source may be, the text's beginning is
-/// answered, which is longer than any source may be too, and the rest isn't read.
-///
-/// Fails where the reader fails, where memory runs out and, as `InvalidData`, where what was read
-/// isn't UTF-8.
-pub fn read_text<R: Read + Drop>(alloc: Global, reader: R) -> io::Result<String>
-    ensures { IfOk result (λ text. IfSome (R.remaining reader) (λ bytes. length bytes < READ_LIMIT
-        → string_bytes text ≡ bytes)) }
-{
-    let mut bytes = Vec::new(alloc);
-    reader.take(READ_LIMIT as u64).read_to_end(&mut bytes)?;
-    decoded(bytes)
+/// A file by name, opened when it is first read and closed at its end.
+#[derive(Drop)]
+pub struct NamedFile<'a, F: Files> {
+    files: &'a F,
+    name: &'a str,
+    state: FileState<F::Reader>,
 }
 
-/// The bytes as text. Where they are as many as are read of one file, the last character may be cut
-/// off, and is left out then.
-fn decoded(bytes: Vec<u8>) -> io::Result<String>
-    ensures ok { length bytes.items < READ_LIMIT → IfOk result (λ text. string_bytes text ≡ bytes.items) }
-    ensures err { IsUtf8 bytes.items → IsOk result }
-{
-    let is_cut = bytes.len() == READ_LIMIT;
-    match String::from_utf8(bytes) {
-        Ok(text) => Ok(text),
-        Err(error) => {
-            let fault = error.utf8_error();
-            if !is_cut || fault.error_len().is_some() {
-                return Err(io::Error::from(ErrorKind::InvalidData));
-            }
-            let mut whole = error.into_bytes();
-            whole.truncate(fault.valid_up_to());
-            String::from_utf8(whole).map_err(|_| io::Error::from(ErrorKind::InvalidData))
+#[derive(Drop)]
+enum FileState<R> {
+    Unopened,
+    Open(R),
+    AtEnd,
+}
+
+impl<'a, F: Files> NamedFile<'a, F> {
+    pub fn new(files: &'a F, name: &'a str) -> Self {
+        NamedFile {
+            files,
+            name,
+            state: FileState::Unopened,
         }
+    }
+}
+
+impl<'a, F: Files> Read for NamedFile<'a, F> {
+    /// Fails where the file can't be opened too.
+    fn read(&mut self, buf: &mut [u8]) -> io::Result<usize> {
+        if let FileState::Unopened = self.state {
+            self.state = FileState::Open(self.files.reader(self.name)?);
+        }
+        let FileState::Open(reader) = &mut self.state else {
+            return Ok(0);
+        };
+        let count = reader.read(buf)?;
+        if count == 0 && !buf.is_empty() {
+            self.state = FileState::AtEnd;
+        }
+        Ok(count)
     }
 }

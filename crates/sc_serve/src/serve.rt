@@ -5,10 +5,12 @@ ghost use Rattle.sc_serve.specs.Answer as spec;
 ghost use Rattle.sc_serve.specs.Answer.{IsAnswerTo};
 
 use crate::execution::{check_text, print_text, run_text};
-use crate::files::{Files, read_text};
+use crate::files::{Files, NamedFile};
+use crate::reading::FileFault;
 use crate::refusal::Rejection;
-use crate::source::{LONGEST_SOURCE, Source};
+use crate::source::{JoinFault, Source};
 use crate::words::{Command, Invocation, UsageFault, read_words};
+use sc_text::LexFault;
 use sc_world::Status;
 use std::alloc::{AllocError, Global};
 use std::convert::AsStr;
@@ -44,6 +46,8 @@ pub enum Fault<'a> {
     Usage(UsageFault),
     /// A file that can't be opened or read, or isn't UTF-8.
     CannotRead(&'a str),
+    /// Standard output is closed or full.
+    CannotWrite,
     /// A word of the command line that isn't UTF-8.
     NotText,
     /// A system that uses what isn't run yet.
@@ -73,7 +77,7 @@ pub fn serve<R: AllocGlobal, S: AsStr, F: Files, O: Write, E: Write>(
     match write_out(answer.text.as_slice(), out) {
         Ok(()) => answer.exit as u8,
         Err(error) if error.kind() == ErrorKind::OutOfMemory => end_with(&Fault::OutOfMemory, err),
-        Err(_) => Exit::Usage as u8,
+        Err(_) => end_with(&Fault::CannotWrite, err),
     }
 }
 
@@ -99,6 +103,7 @@ fn say<E: Write>(fault: &Fault<'_>, err: &mut E) -> io::Result<()> {
         Fault::Usage(UsageFault::NoCommand) => writeln!(err, "no command"),
         Fault::Usage(UsageFault::BadRoot) => writeln!(err, "bad root"),
         Fault::CannotRead(name) => writeln!(err, "cannot read {name}"),
+        Fault::CannotWrite => writeln!(err, "cannot write standard output"),
         Fault::NotText => writeln!(err, "a word of the command line isn't UTF-8"),
         Fault::NotYet => writeln!(err, "not yet"),
         Fault::Usage(UsageFault::OutOfMemory) | Fault::OutOfMemory => writeln!(
@@ -125,42 +130,59 @@ fn respond<'a, S: AsStr, F: Files>(
         }
         Err(fault) => return Err(Fault::Usage(fault)),
     };
-    let source = read_source(alloc, files, invocation.files.as_slice())?;
+    let names = invocation.files.as_slice();
+    let source = match read_source(alloc, files, names) {
+        Ok(source) => source,
+        Err(fault) => return answer_unread(alloc, names, &fault),
+    };
     match examine(alloc, &invocation.command, source.text()) {
         Ok(answer) => Ok(answer),
-        Err(Rejection::NotYet) => Err(Fault::NotYet),
-        Err(rejection) => match rejection.refusal() {
-            Some(refusal) => Ok(Answer {
-                text: refusal.line(alloc, &source)?.into_bytes(),
-                exit: Exit::Refused,
-            }),
-            None => Err(Fault::OutOfMemory),
-        },
+        Err(rejection) => answer_rejected(alloc, &source, &rejection),
     }
 }
 
-/// The source text of the named files. Where it is too long already, further files are only looked at.
-fn read_source<'a, F: Files>(
-    alloc: Global,
-    files: &F,
-    names: &[&'a str],
-) -> Result<Source, Fault<'a>> {
-    let mut source = Source::new(alloc);
+/// The source text of the named files. They are opened and read in order, up to the first that is at fault.
+fn read_source<F: Files>(alloc: Global, files: &F, names: &[&str]) -> Result<Source, JoinFault> {
+    let mut readers = Vec::with_capacity(alloc, names.len())?;
     for name in names {
-        let read = match files.reader(name) {
-            Ok(reader) => read_text(alloc, reader),
-            Err(error) => Err(error),
-        };
-        let text = match read {
-            Ok(text) => text,
-            Err(error) if error.kind() == ErrorKind::OutOfMemory => return Err(Fault::OutOfMemory),
-            Err(_) => return Err(Fault::CannotRead(name)),
-        };
-        if source.text().len() <= LONGEST_SOURCE {
-            source.add(alloc, name, text.as_str())?;
+        readers.push(NamedFile::new(files, name))?;
+    }
+    Source::join(alloc, names, readers.as_mut_slice())
+}
+
+/// What is answered where the named files have no source text.
+fn answer_unread<'a>(
+    alloc: Global,
+    names: &[&'a str],
+    fault: &JoinFault,
+) -> Result<Answer, Fault<'a>> {
+    match fault.fault {
+        FileFault::TooLong => {
+            let rejection = Rejection::Text(LexFault::SourceTooLong);
+            answer_rejected(alloc, &Source::new(alloc), &rejection)
+        }
+        FileFault::OutOfMemory => Err(Fault::OutOfMemory),
+        FileFault::Unreadable(_) | FileFault::NotUtf8 { offset: _ } => {
+            let name = names.get(fault.file).copied().unwrap_or("");
+            Err(Fault::CannotRead(name))
         }
     }
-    Ok(source)
+}
+
+/// What is answered where nothing is made of the source text.
+fn answer_rejected<'a>(
+    alloc: Global,
+    source: &Source,
+    rejection: &Rejection,
+) -> Result<Answer, Fault<'a>> {
+    match rejection.refusal() {
+        Some(refusal) => Ok(Answer {
+            text: refusal.line(alloc, source)?.into_bytes(),
+            exit: Exit::Refused,
+        }),
+        None if matches!(rejection, Rejection::NotYet) => Err(Fault::NotYet),
+        None => Err(Fault::OutOfMemory),
+    }
 }
 
 /// Does with the system of a source text what is asked for.

@@ -1,10 +1,17 @@
 // The source text of a system: the texts of its files, one after the other.
 
-ghost use Rattle.std.specs.Prelude.{◌≡◌, ◌+◌, ◌∷◌, ◌++◌, [], List, OnOk, OnErr, option_map, string_bytes};
+ghost use Rattle.std.specs.Prelude.{◌≡◌, ◌+◌, ◌<◌, ◌≤◌, ◌∷◌, ◌++◌, [], ℕ, List, IfErr, IfSome, MatchResult, OnOk, OnErr, drop, length, map, option_map, string_bytes};
+ghost use Rattle.std.specs.List.{All};
+ghost use Rattle.std.specs.Str.{IsUtf8};
+ghost use Rattle.std.specs.Io.KnownBytes.{IsAtEnd};
+ghost use Rattle.sc_serve.specs.Joining.{AreJoined, AreTold, IsFileFault, IsJoinFault, TakesAtMost};
 ghost use Rattle.sc_serve.specs.Source as spec;
 
-use std::alloc::{AllocError, Global};
+use crate::reading::{FileFault, read_bytes};
+use std::alloc::{AllocError, AllocFailed, Global};
+use std::io::Read;
 use std::marker::Model;
+use std::str;
 
 /// The most bytes that a source text may have.
 pub const LONGEST_SOURCE: usize = 1_048_576;
@@ -15,6 +22,30 @@ pub const LONGEST_SOURCE: usize = 1_048_576;
 pub struct Source {
     text: String,
     files: Vec<SourceFile>,
+}
+
+/// Why files have no source text.
+#[derive(Debug, Drop)]
+pub struct JoinFault {
+    /// The number of the file at fault, from 0.
+    pub file: usize,
+    pub fault: FileFault,
+}
+
+impl From<AllocError> for JoinFault {
+    /// Memory ran out before any file.
+    fn from(error: AllocError) -> JoinFault {
+        JoinFault {
+            file: 0,
+            fault: FileFault::from(error),
+        }
+    }
+}
+
+impl<T: Drop> From<AllocFailed<T>> for JoinFault {
+    fn from(error: AllocFailed<T>) -> JoinFault {
+        JoinFault::from(AllocError::from(error))
+    }
 }
 
 /// A file's name, and the length of its text in bytes.
@@ -37,8 +68,8 @@ impl Model for Source {
 
     ghost view = { λ s. spec.files_in (string_bytes s.text) s.files.items };
 
-    ghost invariant = { λ s. spec.joined (spec.files_in (string_bytes s.text) s.files.items)
-        ≡ string_bytes s.text };
+    ghost invariant = { λ s. (spec.joined (spec.files_in (string_bytes s.text) s.files.items)
+        ≡ string_bytes s.text) × (length (string_bytes s.text) ≤ spec.longest_source) };
 }
 
 impl Source {
@@ -59,8 +90,60 @@ impl Source {
         self.text.as_str()
     }
 
+    /// The source text of the files that these readers give, which have these names: a file past the names has
+    /// none. The fault is the first one, file by file, and no reader after it is read from.
+    pub fn join<R: Read>(
+        alloc: Global,
+        names: &[&str],
+        readers: &mut [R],
+    ) -> Result<Self, JoinFault>
+        ensures answer { (files : List (List ℕ)) → AreTold (map R.remaining readers.old) files
+            → MatchResult result (AreJoined files) (IsJoinFault files) }
+        ensures ended { OnOk result (All (λ reader. IsAtEnd (R.remaining reader)) readers.new) }
+        ensures unread { IfErr result (λ fault. drop (fault.file + 1) readers.new ≡ drop (fault.file + 1) readers.old) }
+    {
+        let mut source = Source::new(alloc);
+        for (file, reader) in readers.iter_mut().enumerate() {
+            let name = names.get(file).copied().unwrap_or("");
+            if let Err(fault) = source.read_file(alloc, name, reader) {
+                return Err(JoinFault { file, fault });
+            }
+        }
+        Ok(source)
+    }
+
+    /// Reads a file of that name to its end and adds it. Where that fails nothing is added.
+    fn read_file<R: Read>(
+        &mut self,
+        alloc: Global,
+        name: &str,
+        reader: &mut R,
+    ) -> Result<(), FileFault>
+        ensures ok { OnOk result (IfSome (R.remaining reader.old) (λ file. IsUtf8 file
+            × ((length (spec.unmarked file) < spec.room_after self.old)
+            × (self.new ≡ self.old ++ record { name = name.now; text = spec.unmarked file } ∷ [])))) }
+        ensures err { IfErr result (λ fault. IfSome (R.remaining reader.old) (λ file. IsFileFault file (spec.room_after self.old) fault)) }
+        ensures unchanged { OnErr result (self.new ≡ self.old) }
+        ensures end { OnOk result (IsAtEnd (R.remaining reader.new)) }
+        ensures taken { TakesAtMost (spec.room_after self.old + 3) (R.remaining reader.old) (R.remaining reader.new) }
+    {
+        let room = LONGEST_SOURCE - self.text.len();
+        let bytes = read_bytes(alloc, reader, room)?;
+        let text = str::from_utf8(bytes.as_slice())?;
+        self.add(alloc, name, text)?;
+        Ok(())
+    }
+
+    /// The text by itself.
+    pub fn into_text(self) -> String
+        ensures { string_bytes result ≡ spec.joined self }
+    {
+        self.text
+    }
+
     /// Adds a file of that name and text. Where memory runs out nothing is added.
-    pub fn add(&mut self, alloc: Global, name: &str, text: &str) -> Result<(), AllocError>
+    fn add(&mut self, alloc: Global, name: &str, text: &str) -> Result<(), AllocError>
+        requires { length (spec.unmarked text.now) < spec.room_after self.old }
         ensures ok { OnOk result (self.new
             ≡ self.old ++ record { name = name.now; text = spec.unmarked text.now } ∷ []) }
         ensures err { OnErr result (self.new ≡ self.old) }

@@ -59,9 +59,29 @@ fn reads_a_file_no_further_than_a_source_may_be_long(rt: HostRuntime) -> Result<
         ];
         let too_long = refused("refused L5 SourceTooLong\n");
         expect_of(&rt, &["scoop", "check", "a.e"], &files, too_long)?;
-        // A file that can't be read comes before a source that is too long.
+        // The files are looked at in order.
         let words = ["scoop", "check", "a.e", "b.e"];
+        expect_of(&rt, &words, &files, too_long)?;
+        let words = ["scoop", "check", "b.e", "a.e"];
         expect_of(&rt, &words, &files, usage("cannot read b.e\n"))?;
+    }
+    Ok(())
+}
+
+#[test]
+fn takes_the_longest_source(rt: HostRuntime) -> Result<(), Fail> {
+    let mut bytes = Vec::with_capacity(rt.alloc(), LONGEST_SOURCE)?;
+    for _ in 1..LONGEST_SOURCE {
+        bytes.push(b' ')?;
+    }
+    for wanted in ["refused C6 NoRoot\n", "refused L5 SourceTooLong\n"] {
+        let file = FakeFile {
+            name: "a.e",
+            bytes: bytes.as_slice(),
+            is_broken: false,
+        };
+        expect_of(&rt, &["scoop", "check", "a.e"], &[file], refused(wanted))?;
+        bytes.push(b' ')?;
     }
     Ok(())
 }

@@ -61,7 +61,7 @@ fn ends_with_2_where_the_output_fails(rt: HostRuntime) -> Result<(), Fail> {
             };
             let mut err = FailingWriter {
                 bytes: Vec::new(rt.alloc()),
-                calls_left: 0,
+                calls_left: usize::MAX,
             };
             let got = serve(&rt, words, &FakeFiles { files: &files }, &mut out, &mut err);
             if got == Exit::OutOfMemory as u8 {
@@ -71,6 +71,16 @@ fn ends_with_2_where_the_output_fails(rt: HostRuntime) -> Result<(), Fail> {
             assert_eq!(rt;
                 got,
                 if is_whole { status } else { 2 },
+                "after {calls} calls"
+            );
+            let told = if is_whole {
+                ""
+            } else {
+                "cannot write standard output\n"
+            };
+            assert_eq!(rt;
+                err.bytes.as_slice(),
+                told.as_bytes(),
                 "after {calls} calls"
             );
             let count = calls.min(wanted.len());

@@ -1,0 +1,250 @@
+// The source text of files, one after the other.
+
+use sc_serve::source::LONGEST_SOURCE;
+use sc_serve::{SourceFault, join_sources};
+use std::io::{self, ErrorKind, Read};
+use std::process::Abort;
+use std::test::Fail;
+
+/// A file of a test, of which a call reads at most `piece` bytes. One that is broken fails in place of its end.
+#[derive(Clone, Copy)]
+struct Piecewise<'a> {
+    bytes: &'a [u8],
+    piece: usize,
+    is_broken: bool,
+}
+
+/// A file of a test whose reader fails once at a call, with a kind of error.
+#[derive(Clone, Copy)]
+struct FailingAt<'a> {
+    bytes: &'a [u8],
+    calls_left: usize,
+    kind: ErrorKind,
+}
+
+impl<'a> Read for Piecewise<'a> {
+    fn read(&mut self, buf: &mut [u8]) -> io::Result<usize> {
+        if self.bytes.is_empty() && self.is_broken {
+            return Err(io::Error::from(ErrorKind::Other));
+        }
+        let most = self.piece.min(buf.len());
+        self.bytes.read(&mut buf[..most])
+    }
+}
+
+impl<'a> Read for FailingAt<'a> {
+    fn read(&mut self, buf: &mut [u8]) -> io::Result<usize> {
+        if self.calls_left == 0 {
+            self.calls_left = usize::MAX;
+            return Err(io::Error::from(self.kind));
+        }
+        self.calls_left -= 1;
+        let most = buf.len().min(1);
+        self.bytes.read(&mut buf[..most])
+    }
+}
+
+fn expect_join<H: Abort + AllocGlobal, R: Read>(
+    rt: &H,
+    readers: &mut [R],
+    wanted: Result<&str, SourceFault>,
+) -> Result<(), Fail> {
+    match (join_sources(rt.alloc(), readers), wanted) {
+        (Err(SourceFault::OutOfMemory), _) => return Err(Fail::new("out of memory")),
+        (Ok(text), Ok(wanted)) => assert_eq!(rt; text.as_str(), wanted),
+        (Ok(text), Err(wanted)) => assert!(rt; false, "{wanted:?} is wanted, and not {text:?}"),
+        (Err(fault), wanted) => assert_eq!(rt; Err(fault), wanted),
+    }
+    Ok(())
+}
+
+#[test]
+fn joins_the_texts_of_files(rt: HostRuntime) -> Result<(), Fail> {
+    let rows: [(&[&[u8]], Result<&str, SourceFault>); 14] = [
+        (&[], Ok("")),
+        (&[b""], Ok("\n")),
+        (&[b"", b""], Ok("\n\n")),
+        (&[b"\xef\xbb\xbfa", b"b"], Ok("a\nb\n")),
+        (&[b"a", b"\xef\xbb\xbfb"], Ok("a\nb\n")),
+        (&[b"\xef\xbb\xbf"], Ok("\n")),
+        (&[b"\xef\xbb\xbf\xef\xbb\xbfa"], Ok("\u{feff}a\n")),
+        (&[b"a\xef\xbb\xbf"], Ok("a\u{feff}\n")),
+        (&[b"a\n", b"\r\n\xc3\xa9"], Ok("a\n\n\r\n\u{e9}\n")),
+        (
+            &[b"a", b"b\xff", b"\xff"],
+            Err(SourceFault::NotUtf8 { file: 1 }),
+        ),
+        (&[b"\xef\xbb", b"b"], Err(SourceFault::NotUtf8 { file: 0 })),
+        (&[b"\xef", b"b"], Err(SourceFault::NotUtf8 { file: 0 })),
+        // A character isn't begun in one file and ended in the next.
+        (
+            &[b"caf\xc3", b"\xa9"],
+            Err(SourceFault::NotUtf8 { file: 0 }),
+        ),
+        (
+            &[b"\xef\xbb\xbf\xed\xa0\x80"],
+            Err(SourceFault::NotUtf8 { file: 0 }),
+        ),
+    ];
+    for (files, wanted) in rows {
+        let mut readers = Vec::from_slice(rt.alloc(), files)?;
+        expect_join(&rt, readers.as_mut_slice(), wanted)?;
+        for piece in 1..5 {
+            let mut readers = Vec::new(rt.alloc());
+            for bytes in files {
+                readers.push(Piecewise {
+                    bytes,
+                    piece,
+                    is_broken: false,
+                })?;
+            }
+            expect_join(&rt, readers.as_mut_slice(), wanted)?;
+        }
+    }
+    Ok(())
+}
+
+/// So many spaces, between a beginning and an end.
+fn spaces<H: AllocGlobal>(
+    rt: &H,
+    before: &[u8],
+    count: usize,
+    after: &[u8],
+) -> Result<Vec<u8>, Fail> {
+    let mut bytes = Vec::from_slice(rt.alloc(), before)?;
+    for _ in 0..count {
+        bytes.push(b' ')?;
+    }
+    bytes.extend_from_slice(after)?;
+    Ok(bytes)
+}
+
+#[test]
+fn joins_no_more_than_a_source_may_be_long(rt: HostRuntime) -> Result<(), Fail> {
+    let most = LONGEST_SOURCE - 1;
+    let mark = b"\xef\xbb\xbf";
+    // What stands before and behind so many spaces in the first file, and whether it can be joined.
+    let rows: [(&[u8], usize, &[u8], Option<SourceFault>); 10] = [
+        (b"", most, b"", None),
+        (b"", most, b" ", Some(SourceFault::SourceTooLong)),
+        (mark, most, b"", None),
+        (mark, most, b" ", Some(SourceFault::SourceTooLong)),
+        (
+            b"",
+            most - 1,
+            b"\xff",
+            Some(SourceFault::NotUtf8 { file: 0 }),
+        ),
+        (b"", most, b"\xff", Some(SourceFault::SourceTooLong)),
+        (b"\xff", most, b"", Some(SourceFault::SourceTooLong)),
+        (
+            b"\xff",
+            most - 1,
+            b"",
+            Some(SourceFault::NotUtf8 { file: 0 }),
+        ),
+        (b"", most - 2, b"\xc3\xa9", None),
+        (b"", most - 1, b"\xc3\xa9", Some(SourceFault::SourceTooLong)),
+    ];
+    for (before, count, after, wanted) in rows {
+        let bytes = spaces(&rt, before, count, after)?;
+        let joined = join_sources(rt.alloc(), &mut [bytes.as_slice()]);
+        if let Err(SourceFault::OutOfMemory) = joined {
+            return Err(Fail::new("out of memory"));
+        }
+        assert_eq!(rt; joined.err(), wanted, "for {count} spaces after {before:?}");
+    }
+    Ok(())
+}
+
+#[test]
+fn finds_the_first_file_at_fault(rt: HostRuntime) -> Result<(), Fail> {
+    let long = spaces(&rt, b"", LONGEST_SOURCE, b"\xff")?;
+    let rest = spaces(&rt, b"", LONGEST_SOURCE - 2, b"")?;
+    let long = long.as_slice();
+    let rest = rest.as_slice();
+    let rows: [(&[&[u8]], Option<usize>, Option<SourceFault>); 9] = [
+        // The last of the files is the one whose reader fails at its end, if any is.
+        (
+            &[b"\xff", long],
+            None,
+            Some(SourceFault::NotUtf8 { file: 0 }),
+        ),
+        (&[long, b"\xff"], None, Some(SourceFault::SourceTooLong)),
+        (&[long], Some(0), Some(SourceFault::SourceTooLong)),
+        (
+            &[b"a", b"b"],
+            Some(1),
+            Some(SourceFault::Unreadable { file: 1 }),
+        ),
+        (
+            &[b"a\xff", b"b"],
+            Some(0),
+            Some(SourceFault::Unreadable { file: 0 }),
+        ),
+        (
+            &[b"a\xff", b"b"],
+            Some(1),
+            Some(SourceFault::NotUtf8 { file: 0 }),
+        ),
+        // With its line feed each of these files is just too long, or just not.
+        (&[rest, b""], None, None),
+        (&[rest, b"", b""], None, Some(SourceFault::SourceTooLong)),
+        (&[rest, b"", b""], Some(2), Some(SourceFault::SourceTooLong)),
+    ];
+    for (files, broken, wanted) in rows {
+        let mut readers = Vec::new(rt.alloc());
+        for (file, bytes) in files.iter().enumerate() {
+            readers.push(Piecewise {
+                bytes,
+                piece: usize::MAX,
+                is_broken: broken == Some(file),
+            })?;
+        }
+        let joined = join_sources(rt.alloc(), readers.as_mut_slice());
+        if let Err(SourceFault::OutOfMemory) = joined {
+            return Err(Fail::new("out of memory"));
+        }
+        assert_eq!(rt; joined.err(), wanted);
+    }
+    Ok(())
+}
+
+#[test]
+fn fails_where_a_reader_fails(rt: HostRuntime) -> Result<(), Fail> {
+    // Each file is read byte by byte, and one call more tells its end.
+    for calls_left in 0..8 {
+        for failing in 0..2 {
+            let file = |number, bytes| FailingAt {
+                bytes,
+                calls_left: if number == failing {
+                    calls_left
+                } else {
+                    usize::MAX
+                },
+                kind: ErrorKind::Other,
+            };
+            let mut readers = [file(0, b"\xef\xbb\xbfa"), file(1, b"bcde")];
+            let wanted = if calls_left < 5 {
+                Err(SourceFault::Unreadable { file: failing })
+            } else {
+                Ok("a\nbcde\n")
+            };
+            expect_join(&rt, &mut readers, wanted)?;
+        }
+    }
+    Ok(())
+}
+
+#[test]
+fn reads_on_where_a_read_was_interrupted(rt: HostRuntime) -> Result<(), Fail> {
+    for calls_left in 0..8 {
+        let mut readers = [FailingAt {
+            bytes: b"\xef\xbb\xbfab",
+            calls_left,
+            kind: ErrorKind::Interrupted,
+        }];
+        expect_join(&rt, &mut readers, Ok("ab\n"))?;
+    }
+    Ok(())
+}

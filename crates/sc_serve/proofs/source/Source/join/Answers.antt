@@ -1,0 +1,36 @@
+use Rattle.std.proofs.Common.{◌≡◌, length, take, arith}
+use Rattle.std.proofs.lemmas.List.{take_all}
+use Rattle.std.specs.Io.KnownBytes.{IsAtEnd}
+use Rattle.sc_serve.proofs.JoiningLemmas.{ended-more, fault-at, joined-more, told-length, told-now, unread-more}
+use Rattle.sc_serve.proofs.source.Source.join.Goals as goal
+
+pub loop-file-preserved : goal.loop-file-preserved
+loop-file-preserved g c = record {
+  joined = λ files told.
+      let at = told-now g.R.Read.remaining c.args.readers.now c.loop-file.readers files c.loop-file.file c.index-readers-file.result
+      told (omega arith) c.loop-file.auto.readers c.loop-file.invariant.unread in
+      joined-more files c.loop-file.file c.loop-file.source c.read_file.new.self _ _ at.0 at.1
+      (c.loop-file.invariant.joined files told) c.in_default.ensures.ok;
+  ended = ended-more (λ reader. IsAtEnd (g.R.Read.remaining reader)) c.loop-file.readers c.loop-file.file c.read_file.new.reader
+      (omega arith) c.loop-file.invariant.ended c.in_default.ensures.end;
+  unread = unread-more c.args.readers.now c.loop-file.readers c.loop-file.file c.read_file.new.reader c.loop-file.invariant.unread;
+}
+
+pub returns-in-Err-clause-answer : goal.returns-in-Err-clause-answer
+returns-in-Err-clause-answer g c = λ files told.
+    let at = told-now g.R.Read.remaining c.args.readers.now c.loop-file.readers files c.loop-file.file c.index-readers-file.result
+    told (omega arith) c.loop-file.auto.readers c.loop-file.invariant.unread in
+    fault-at files c.loop-file.file c.loop-file.source _ c.in-Err.fault at.0 at.1 (c.loop-file.invariant.joined files told) c.in-Err.ensures.err
+
+pub returns-clause-answer : goal.returns-clause-answer
+returns-clause-answer g c = λ files told.
+    let many = told-length g.R.Read.remaining c.args.readers.now files told in
+    let all : take c.loop-file.file files ≡ files = take_all c.loop-file.file files (omega arith) in
+    let now = c.loop-file.invariant.joined files told in
+    rw all at now
+
+pub returns-clause-ended : goal.returns-clause-ended
+returns-clause-ended g c =
+    let all : take c.loop-file.file c.loop-file.readers ≡ c.loop-file.readers = take_all c.loop-file.file c.loop-file.readers (omega arith) in
+    let now = c.loop-file.invariant.ended in
+    rw all at now
