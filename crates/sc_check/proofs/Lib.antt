@@ -1,5 +1,6 @@
 pub mod Passing
 pub mod Steps
+pub mod Undeclared
 pub mod CallSteps
 pub mod Behind
 pub mod BlockSteps

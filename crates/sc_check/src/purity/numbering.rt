@@ -73,7 +73,7 @@ impl<'t, 's> Numbering<'t, 's> {
     }
 
     /// The number of the feature of this name that the class at the number declares. It looks at the class's features in turn.
-    pub fn number(&self, class: usize, name: &str) -> Option<usize>
+    fn place_number(&self, class: usize, name: &str) -> Option<usize>
         ensures { result ≡ feature_number (system_in self.now.tables.now) (record { class = class; name = name.now }) }
     {
         let Some(text) = self.tables.class(class) else {
@@ -85,6 +85,17 @@ impl<'t, 's> Numbering<'t, 's> {
         match place_of(name, &text.features) {
             None => None,
             Some(place) => Some(*start + place),
+        }
+    }
+
+    /// The number of the feature of this name that the class at the number declares. It looks once by hash, and at the class's
+    /// features in turn where it is one of them.
+    pub fn number(&self, class: usize, name: &str) -> Option<usize>
+        ensures { result ≡ feature_number (system_in self.now.tables.now) (record { class = class; name = name.now }) }
+    {
+        match self.tables.outline.declared(class, name) {
+            None => None,
+            Some(_) => self.place_number(class, name),
         }
     }
 }
