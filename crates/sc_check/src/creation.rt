@@ -2,7 +2,6 @@
 
 ghost use Rattle.std.specs.Prelude.{◌≡◌, map};
 ghost use Rattle.sc_tree.specs.View.{creation_call_of, exprs_of, name_of};
-ghost use Rattle.sc_class.specs.Names as class_names;
 ghost use Rattle.sc_rules.specs.TextRules as text;
 ghost use Rattle.sc_rules.specs.JudgingText as judging_text;
 ghost use Rattle.sc_check.specs.Views.{here_in, entity_of, meaning_in};
@@ -57,23 +56,12 @@ fn is_made_plainly(tables: &Tables, class: ClassId) -> bool
     }
 }
 
-fn is_listed(name: &str, names: &[Name]) -> bool
-    ensures { result ≡ class_names.is_listed name.now (map name_of names.now) }
-{
-    for listed in names {
-        if listed.text.as_str() == name {
-            return true;
-        }
-    }
-    false
-}
-
 /// Whether the class lists the procedure under `create`.
 fn is_made_by(tables: &Tables, class: ClassId, name: &Name) -> bool
     ensures { result ≡ text.is_made_by (system_in tables.now) class (name_of name.now) }
 {
     match class {
-        ClassId::Declared(number) => is_listed(&name.text, tables.creators(number)),
+        ClassId::Declared(number) => tables.is_creator(number, &name.text),
         ClassId::Any | ClassId::None | ClassId::Integer | ClassId::Boolean => false,
     }
 }
