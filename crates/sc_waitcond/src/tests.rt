@@ -1,7 +1,9 @@
 // Rights at the edges of their tables, and the entries of a buffer of size 1 with a consumer and a producer.
 use crate::{ClauseKind, ClauseResult, Entry, Mark, Release, Verdict};
 use sc_lockpass::{Passed, Rights, Version};
+use std::alloc::AllocError;
 use std::process::Abort;
+use std::test::Fail;
 
 fn reserve(rt: &impl Abort, rights: &mut Rights, holder: u16, handler: u16) {
     assert!(rt; handler < rights.version().most_handlers());
@@ -22,217 +24,267 @@ fn pass(rt: &impl Abort, rights: &mut Rights, client: u16, supplier: u16) -> Pas
     rights.pass(client, supplier)
 }
 
-// ---- rights
+// ---- rights, step by step
 
-/// Reserves, passes, gives back and releases with the last handler of a version.
-fn play_last(rt: &impl Abort, version: Version, last: u16) {
+#[derive(Clone, Copy)]
+enum Step {
+    /// The first reserves the second.
+    Reserves(u16, u16),
+    /// The first releases the second.
+    Releases(u16, u16),
+    /// The first passes its rights to the second.
+    Passes(u16, u16),
+    /// What was passed last is given back.
+    GivesBack,
+    Fails(u16),
+    Holds(u16, u16),
+    Lacks(u16, u16),
+    /// Who may push on a handler's waiting stack.
+    Top(u16, Option<u16>),
+}
+
+fn play(
+    rt: &(impl Abort + AllocGlobal),
+    version: Version,
+    steps: &[Step],
+) -> Result<(), AllocError> {
     let mut rights = Rights::new(version);
-    assert_eq!(rt; u32::from(rights.version().most_handlers()), u32::from(last) + 1);
-    assert!(rt; !rights.held(0, last));
-    assert!(rt; rights.held(last, last));
-    reserve(rt, &mut rights, 0, last);
-    assert!(rt; rights.held(0, last));
-    assert!(rt; !rights.held(last, 0));
-
-    let passed = pass(rt, &mut rights, 0, last);
-    assert!(rt; !rights.held(0, last));
-    assert_eq!(rt; rights.queue(last), Some(last));
-    assert_eq!(rt; rights.top(0), Some(last));
-    assert!(rt; rights.held(last, 0));
-    rights.give_back(passed);
-    assert!(rt; rights.held(0, last));
-    assert_eq!(rt; rights.top(0), None);
-
-    release(rt, &mut rights, 0, last);
-    assert!(rt; !rights.held(0, last));
-    reserve(rt, &mut rights, last, 0);
-    assert!(rt; rights.held(last, 0));
-    rights.release_all(last);
-    assert!(rt; !rights.held(last, 0));
-    assert_eq!(rt; rights.queue(600), None);
-    assert_eq!(rt; rights.top(600), None);
-}
-
-#[test]
-fn first_and_last_handler(rt: HostRuntime) {
-    play_last(&rt, Version::One, 63);
-    play_last(&rt, Version::Two, 511);
-}
-
-#[test]
-fn passed_twice(rt: HostRuntime) {
-    let mut rights = Rights::new(Version::One);
-    reserve(&rt, &mut rights, 0, 1);
-    reserve(&rt, &mut rights, 0, 2);
-    reserve(&rt, &mut rights, 0, 3);
-    let first = pass(&rt, &mut rights, 0, 2);
-    let second = pass(&rt, &mut rights, 2, 3);
-    for handler in [0u16, 1, 2, 3] {
-        assert!(&rt; rights.held(3, handler));
+    let mut passed = Vec::new(rt.alloc());
+    for step in steps {
+        match *step {
+            Step::Reserves(holder, handler) => reserve(rt, &mut rights, holder, handler),
+            Step::Releases(holder, handler) => release(rt, &mut rights, holder, handler),
+            Step::Passes(client, supplier) => passed.push(pass(rt, &mut rights, client, supplier))?,
+            Step::GivesBack => {
+                if let Some(last) = passed.pop() {
+                    rights.give_back(last);
+                }
+            }
+            Step::Fails(handler) => rights.release_all(handler),
+            Step::Holds(holder, handler) => assert!(rt; rights.held(holder, handler)),
+            Step::Lacks(holder, handler) => assert!(rt; !rights.held(holder, handler)),
+            Step::Top(handler, holder) => assert!(rt; rights.top(handler) == holder),
+        }
     }
-    assert!(&rt; !rights.held(2, 1));
-    assert!(&rt; !rights.held(0, 1));
-    rights.give_back(second);
-    assert_eq!(&rt; rights.queue(1), Some(2));
-    assert_eq!(&rt; rights.top(0), Some(2));
-    assert_eq!(&rt; rights.top(2), None);
-    rights.give_back(first);
-    for handler in [1u16, 2, 3] {
-        assert_eq!(&rt; rights.queue(handler), Some(0));
-        assert_eq!(&rt; rights.top(handler), None);
-    }
-    assert_eq!(&rt; rights.top(0), None);
+    Ok(())
 }
 
-// 0 waits for 2, which calls 0 back: this passes the right on 0's own waiting stack, which 2 had, to 1, and returns it to 2
-#[test]
-fn given_back_over_a_third_top(rt: HostRuntime) {
-    let mut rights = Rights::new(Version::Two);
-    reserve(&rt, &mut rights, 0, 1);
-    reserve(&rt, &mut rights, 0, 2);
-    let first = pass(&rt, &mut rights, 0, 2);
-    assert_eq!(&rt; rights.top(0), Some(2));
-    let second = pass(&rt, &mut rights, 0, 1);
-    assert_eq!(&rt; rights.top(0), Some(1));
-    assert_eq!(&rt; rights.queue(1), Some(2));
-    rights.give_back(second);
-    assert_eq!(&rt; rights.top(0), Some(2));
-    rights.give_back(first);
-    assert_eq!(&rt; rights.top(0), None);
-    assert_eq!(&rt; rights.queue(1), Some(0));
+fn play_to_last(
+    rt: &(impl Abort + AllocGlobal),
+    version: Version,
+    last: u16,
+) -> Result<(), AllocError> {
+    let steps = [
+        Step::Lacks(0, last),
+        Step::Holds(last, last),
+        Step::Reserves(0, last),
+        Step::Holds(0, last),
+        Step::Lacks(last, 0),
+        Step::Passes(0, last),
+        Step::Lacks(0, last),
+        Step::Top(0, Some(last)),
+        Step::GivesBack,
+        Step::Holds(0, last),
+        Step::Top(0, None),
+        Step::Releases(0, last),
+        Step::Lacks(0, last),
+        Step::Reserves(last, 0),
+        Step::Fails(last),
+        Step::Lacks(last, 0),
+        Step::Top(600, None),
+    ];
+    play(rt, version, &steps)
 }
 
-// a failure in the middle: nothing is left with the one that failed, and others keep theirs
 #[test]
-fn passed_rights_are_released(rt: HostRuntime) {
-    let mut rights = Rights::new(Version::One);
-    reserve(&rt, &mut rights, 0, 1);
-    reserve(&rt, &mut rights, 4, 5);
-    let _lost = pass(&rt, &mut rights, 0, 1);
-    rights.release_all(1);
-    assert_eq!(&rt; rights.queue(1), None);
-    assert_eq!(&rt; rights.top(0), None);
-    assert!(&rt; !rights.held(0, 1));
-    assert!(&rt; rights.held(4, 5));
+fn first_and_last_handler(rt: HostRuntime) -> Result<(), Fail> {
+    play_to_last(&rt, Version::One, 63)?;
+    play_to_last(&rt, Version::Two, 511)?;
+    assert_eq!(&rt; Version::One.most_handlers(), 64);
+    assert_eq!(&rt; Version::Two.most_handlers(), 512);
+    Ok(())
+}
+
+// 0 asks 2, and 2 asks 3
+#[test]
+fn passed_twice(rt: HostRuntime) -> Result<(), Fail> {
+    let steps = [
+        Step::Reserves(0, 1),
+        Step::Reserves(0, 2),
+        Step::Reserves(0, 3),
+        Step::Passes(0, 2),
+        Step::Passes(2, 3),
+        Step::Holds(3, 0),
+        Step::Holds(3, 1),
+        Step::Holds(3, 2),
+        Step::Lacks(2, 1),
+        Step::Lacks(0, 1),
+        Step::GivesBack,
+        Step::Holds(2, 1),
+        Step::Top(0, Some(2)),
+        Step::Top(2, None),
+        Step::GivesBack,
+        Step::Holds(0, 1),
+        Step::Holds(0, 2),
+        Step::Holds(0, 3),
+        Step::Lacks(2, 1),
+        Step::Top(0, None),
+    ];
+    play(&rt, Version::One, &steps)?;
+    Ok(())
+}
+
+// 0 asks 2, which calls it back; in the callback 0 asks 1: the right on 0's waiting stack was 2's, and returns to 2
+#[test]
+fn given_back_over_a_third_top(rt: HostRuntime) -> Result<(), Fail> {
+    let steps = [
+        Step::Reserves(0, 1),
+        Step::Reserves(0, 2),
+        Step::Passes(0, 2),
+        Step::Top(0, Some(2)),
+        Step::Passes(0, 1),
+        Step::Top(0, Some(1)),
+        Step::Holds(2, 1),
+        Step::GivesBack,
+        Step::Top(0, Some(2)),
+        Step::GivesBack,
+        Step::Top(0, None),
+        Step::Holds(0, 1),
+    ];
+    play(&rt, Version::Two, &steps)?;
+    Ok(())
+}
+
+// 1 fails while it has the rights of 0; 4 keeps its own
+#[test]
+fn passed_rights_are_released(rt: HostRuntime) -> Result<(), Fail> {
+    let steps = [
+        Step::Reserves(0, 1),
+        Step::Reserves(0, 2),
+        Step::Reserves(4, 5),
+        Step::Passes(0, 1),
+        Step::Fails(1),
+        Step::Lacks(1, 2),
+        Step::Lacks(0, 2),
+        Step::Top(0, None),
+        Step::Holds(4, 5),
+        Step::Reserves(3, 2),
+    ];
+    play(&rt, Version::One, &steps)?;
+    Ok(())
 }
 
 // ---- entries
 
-/// A clause of an entry that needs these values: the formals that it names, whether it is true, and what it is.
+/// An entry with one formal, and one clause: what the formal's value lies on, whether the clause names it and is true.
 #[derive(Clone, Copy)]
-struct Clause {
+struct Row {
     entering: u16,
     value: Option<u16>,
-    names: Option<u16>,
     holds: bool,
-    newly: usize,
+    /// How many handlers the entry newly reserves.
+    reserves: usize,
     kind: ClauseKind,
     verdict: Verdict,
+    /// Whether they are released before the next row.
+    leaves: bool,
 }
 
-/// Enters, reserves what is needed and evaluates the clause.
-fn enter(rt: &impl Abort, rights: &mut Rights, row: &Clause) -> Entry {
+fn enter(rt: &impl Abort, rights: &mut Rights, row: Row) {
     let mut entry = Entry::new(row.entering);
-    let needed = entry.needed(&[row.value], rights);
-    assert_eq!(rt; needed.len(), row.newly);
-    for handler in &needed {
+    entry.reserved = entry.needed(&[row.value], rights);
+    assert_eq!(rt; entry.reserved.len(), row.reserves);
+    for handler in &entry.reserved {
         reserve(rt, rights, row.entering, *handler);
     }
-    entry.reserved = needed;
-    let kind = entry.clause_kind(&[row.names]);
+    let kind = entry.clause_kind(&[row.value]);
     assert_eq!(rt; kind, row.kind);
-    let evaluated = ClauseResult {
+    let clause = ClauseResult {
         kind,
         holds: row.holds,
     };
-    assert_eq!(rt; Entry::verdict(&[evaluated]), row.verdict);
-    entry
+    assert_eq!(rt; Entry::verdict(&[clause]), row.verdict);
+    if row.leaves {
+        for handler in &entry.reserved {
+            release(rt, rights, row.entering, *handler);
+        }
+    }
 }
 
-// the buffer is handler 1, the consumer 2, the producer 3
+// The buffer is handler 1, the consumer 2, the producer 3. The consumer waits, the producer starts, and so does the
+// consumer then; `remove` and `put` of the buffer itself name no formal on another handler; 0 holds the buffer while it
+// enters `drain`, so that its clause isn't waited for.
 #[test]
-fn consumer_waits_for_producer(rt: HostRuntime) {
-    let mut rights = Rights::new(Version::One);
-    let consumer = Clause {
+fn entries_of_a_buffer(rt: HostRuntime) {
+    let waits = Row {
         entering: 2,
         value: Some(1),
-        names: Some(1),
         holds: false,
-        newly: 1,
+        reserves: 1,
         kind: ClauseKind::WaitCondition,
         verdict: Verdict::Wait,
+        leaves: true,
     };
-    let entry = enter(&rt, &mut rights, &consumer);
-    let mut sessions = [0u64, 1, 1, 1];
-    assert_eq!(&rt; entry.reserved.len(), 1);
-    assert_eq!(&rt; entry.reserved.as_slice()[0], 1);
-    let mark = Mark::of(&[1], &sessions);
-    release(&rt, &mut rights, 2, 1);
-    assert!(&rt; !Release::FalseWaitCondition.ends_session());
-    assert!(&rt; !mark.allows(&sessions));
-
-    let producer = Clause {
-        entering: 3,
+    let starts = Row {
         holds: true,
         verdict: Verdict::Start,
-        ..consumer
+        ..waits
     };
-    enter(&rt, &mut rights, &producer);
-    release(&rt, &mut rights, 3, 1);
-    assert!(&rt; Release::Exit.ends_session());
-    sessions[1] += 1;
-    assert!(&rt; mark.allows(&sessions));
-    assert!(&rt; Mark::new().allows(&sessions));
-
-    let again = Clause {
-        holds: true,
-        verdict: Verdict::Start,
-        ..consumer
-    };
-    enter(&rt, &mut rights, &again);
-}
-
-// `put` and `remove` of the buffer name no formal on another handler: their clauses are correctness conditions
-#[test]
-fn buffer_refuses(rt: HostRuntime) {
-    let mut rights = Rights::new(Version::One);
-    let remove = Clause {
+    let refused = Row {
         entering: 1,
         value: None,
-        names: None,
-        holds: false,
-        newly: 0,
+        reserves: 0,
         kind: ClauseKind::CorrectnessCondition,
         verdict: Verdict::Refuse,
+        ..waits
     };
-    enter(&rt, &mut rights, &remove);
-    let put = Clause {
-        holds: true,
-        verdict: Verdict::Start,
-        ..remove
-    };
-    enter(&rt, &mut rights, &put);
-}
-
-// a routine whose caller has reserved the buffer already waits for nothing
-#[test]
-fn held_buffer_is_not_waited_for(rt: HostRuntime) {
+    let rows = [
+        waits,
+        Row {
+            entering: 3,
+            ..starts
+        },
+        starts,
+        refused,
+        Row {
+            holds: true,
+            verdict: Verdict::Start,
+            ..refused
+        },
+        Row {
+            entering: 0,
+            leaves: false,
+            ..starts
+        },
+        Row {
+            entering: 0,
+            value: Some(1),
+            ..refused
+        },
+    ];
     let mut rights = Rights::new(Version::One);
-    reserve(&rt, &mut rights, 0, 1);
-    let drain = Clause {
-        entering: 0,
-        value: Some(1),
-        names: Some(1),
-        holds: false,
-        newly: 0,
-        kind: ClauseKind::CorrectnessCondition,
-        verdict: Verdict::Refuse,
-    };
-    enter(&rt, &mut rights, &drain);
+    for row in rows {
+        enter(&rt, &mut rights, row);
+    }
+}
+
+// the consumer is tried again once the producer's session of the buffer has ended
+#[test]
+fn marked_entry(rt: HostRuntime) {
+    let mut sessions = [1u64, 1, 1, 1];
+    let mark = Mark::of(&[1], &sessions);
+    assert!(&rt; !mark.allows(&sessions));
+    sessions[3] = 2;
+    assert!(&rt; !mark.allows(&sessions));
+    sessions[1] = 2;
+    assert!(&rt; mark.allows(&sessions));
+    assert!(&rt; Mark::new().allows(&sessions));
+    assert!(&rt; Release::Exit.ends_session());
+    assert!(&rt; !Release::FalseWaitCondition.ends_session());
 }
 
 #[test]
-fn first_false_clause_decides(rt: HostRuntime) {
+fn first_false_clause(rt: HostRuntime) {
     let waited = ClauseResult {
         kind: ClauseKind::WaitCondition,
         holds: false,
@@ -250,18 +302,13 @@ fn first_false_clause_decides(rt: HostRuntime) {
     assert_eq!(&rt; Entry::verdict(&[kept, refused, waited]), Verdict::Refuse);
 }
 
-// 16 values on 16 handlers, and one handler named by several of them
 #[test]
 fn needed_each_once(rt: HostRuntime) {
-    let mut rights = Rights::new(Version::Two);
-    let entry = Entry::new(0);
-    let mut values = [None; 16];
-    for (place, value) in (496u16..512).zip(values.iter_mut()) {
-        *value = Some(place);
-    }
-    assert_eq!(&rt; entry.needed(&values, &rights).len(), 16);
-    reserve(&rt, &mut rights, 0, 500);
-    assert_eq!(&rt; entry.needed(&values, &rights).len(), 15);
-    let twice = [Some(7u16), Some(0), None, Some(9), Some(7)];
-    assert_eq!(&rt; entry.needed(&twice, &rights).as_slice(), &[7u16, 9][..]);
+    let rights = Rights::new(Version::Two);
+    let values = [Some(7u16), Some(0), None, Some(511), Some(7)];
+    assert_eq!(&rt;
+        Entry::new(0).needed(&values, &rights).as_slice(),
+        &[7u16, 511][..]
+    );
+    assert_eq!(&rt; Entry::new(0).needed(&[Some(9); 16], &rights).len(), 1);
 }
