@@ -63,9 +63,9 @@ guard_holds = refl
 -- `old` has the value before the body
 pub old_is_kept :
     outcome (played (system (application
-      (attribute (codes "n") integer ∷ procedure (codes "make") [] (call (codes "raise") [] ∷ [])
-        ∷ ensuring (codes "raise") None (assign (codes "n") (number (pos 3)) ∷ []) (both (old (entity (codes "n"))) binary.Less (entity (codes "n")) ∷ []) ∷ []) [] ∷ []))
-      (0 ∷ 0 ∷ 0 ∷ 0 ∷ []))
+    (attribute (codes "n") integer ∷ procedure (codes "make") [] (call (codes "raise") [] ∷ [])
+    ∷ ensuring (codes "raise") None (assign (codes "n") (number (pos 3)) ∷ []) (both (old (entity (codes "n"))) binary.Less (entity (codes "n")) ∷ []) ∷ []) [] ∷ []))
+    (0 ∷ 0 ∷ 0 ∷ 0 ∷ []))
     ≡ (false, (Free, 0, []) ∷ [])
 old_is_kept = refl
 
@@ -73,7 +73,7 @@ old_is_kept = refl
 abbrev giving_void : List (List ℕ) → List Feature → System
 giving_void redefined fs = system (
     heir_of (codes "base") redefined (application (fs ++ procedure (codes "make") [] (print (both (entity (codes "f")) binary.Equal void) ∷ []) ∷ []) [])
-      ∷ class (codes "base") [] (ensuring (codes "f") (Some (detachable (codes "base"))) [] (both the_result binary.Equal void ∷ []) ∷ []) [] ∷ [])
+    ∷ class (codes "base") [] (ensuring (codes "f") (Some (detachable (codes "base"))) [] (both the_result binary.Equal void ∷ []) ∷ []) [] ∷ [])
 
 pub void_is_given : outcome (played (giving_void [] []) (0 ∷ 0 ∷ 0 ∷ 0 ∷ 0 ∷ [])) ≡ (false, (Free, 0, codes "True") ∷ [])
 void_is_given = refl
@@ -180,8 +180,8 @@ using_is_refused = refl
 abbrev blocking : System
 blocking = system (application
     (attribute (codes "b") (separate (codes "buffer"))
-      ∷ procedure (codes "make") []
-        (create (codes "b") ∷ block (entity (codes "b")) (codes "x") (call_on (codes "x") (codes "put") (number (pos 7) ∷ []) ∷ print (on (codes "x") (codes "item") []) ∷ []) ∷ []) ∷ []) []
+    ∷ procedure (codes "make") []
+    (create (codes "b") ∷ block (entity (codes "b")) (codes "x") (call_on (codes "x") (codes "put") (number (pos 7) ∷ []) ∷ print (on (codes "x") (codes "item") []) ∷ []) ∷ []) ∷ []) []
     ∷ buffer ∷ [])
 
 pub blocking_ends : outcome (played blocking (rounds 14 (0 ∷ 1 ∷ []))) ≡ (false, (Free, 0, signed_decimal (pos 7)) ∷ (Free, 0, []) ∷ [])
