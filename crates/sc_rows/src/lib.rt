@@ -8,6 +8,8 @@ mod class_tables;
 #[cfg(test)]
 mod edited;
 #[cfg(test)]
+mod entries;
+#[cfg(test)]
 mod formulas;
 #[cfg(test)]
 mod grammar;

@@ -9,8 +9,6 @@ mod entry;
 pub mod laws;
 mod mark;
 mod session;
-#[cfg(test)]
-mod tests;
 
 pub use condition::{ClauseKind, ClauseResult, Verdict};
 pub use entry::Entry;

@@ -1,6 +1,6 @@
 // Rights at the edges of their tables, and the entries of a buffer of size 1 with a consumer and a producer.
-use crate::{ClauseKind, ClauseResult, Entry, Mark, Release, Verdict};
 use sc_lockpass::{Passed, Rights, Version};
+use sc_waitcond::{ClauseKind, ClauseResult, Entry, Mark, Release, Verdict};
 use std::alloc::AllocError;
 use std::process::Abort;
 use std::test::Fail;
