@@ -19,7 +19,8 @@ const THIRD_NAMES: [&str; 6] = [
 ];
 
 /// Names outside of the part in which they are known, and the type of an object test before what is tested.
-const UNKNOWN_NAMES: [&str; 10] = [
+const UNKNOWN_NAMES: [&str; 11] = [
+    "class A feature f require g do end g: BOOLEAN do if attached `absent as x then x.q end end q do end end",
     "class A feature s: separate A f do separate s as x do separate x.s as y do separate y.s as z do z.f end `z.f end end end end",
     "class A feature s: separate A f do separate s as x do separate x.s as y do separate y.s as z do z.f end y.f end end end end",
     "class A feature f (x, y: A) do if x = y then elseif attached x as z then else `z.f (x, y) end end end",
@@ -33,7 +34,11 @@ const UNKNOWN_NAMES: [&str; 10] = [
 ];
 
 /// A function that does what no pure function does, over each way that leads to it.
-const WAYS_OF_PURITY: [&str; 30] = [
+const WAYS_OF_PURITY: [&str; 34] = [
+    "class A feature n: INTEGER f require `g do end g: BOOLEAN do if attached absent as x then n := 1 end end end",
+    "class A feature n: INTEGER f require g do end g: BOOLEAN do if attached Current as x then Result := n = 1 end end end",
+    "class A feature f require `g do end g: BOOLEAN do if attached absent as x and then x.h then Result := k end end k: BOOLEAN do print (1) end end",
+    "class A feature f require g do end g: BOOLEAN do if attached Current as x and then x.h then Result := k end end h: BOOLEAN do end k: BOOLEAN do end end",
     "class A feature n: INTEGER f require `g do end g: BOOLEAN do if h then end end h: BOOLEAN do n := 1 end end",
     "class A feature n: INTEGER f require g do end g: BOOLEAN do if h then end end h: BOOLEAN do Result := n = 1 end end",
     "class A feature n: INTEGER f require `g do end g: BOOLEAN do if True then elseif h then end end h: BOOLEAN do n := 1 end end",
