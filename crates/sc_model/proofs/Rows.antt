@@ -248,6 +248,10 @@ pub relaying_fails :
     ≡ (false, (Failed SupplierFailed, 0, []) ∷ (Free, 0, []) ∷ (Failed SupplierFailed, 0, []) ∷ (Failed Check, 0, []) ∷ (Free, 0, signed_decimal (pos 1)) ∷ [])
 relaying_fails = refl
 
+-- a handler that fails releases what was passed to it
+pub passed_rights_are_released : (played relaying (rounds 30 (0 ∷ 1 ∷ 2 ∷ 3 ∷ 4 ∷ []))).rights.queue 2 ≡ None
+passed_rights_are_released = refl
+
 -- ---- two that wait for each other
 
 abbrev asking_each_other : System
