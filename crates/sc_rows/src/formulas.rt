@@ -48,6 +48,7 @@ fn arithmetic(rt: HostRuntime) {
 }
 
 /// `left operator right = third`, over no attributes.
+#[tactic(auto, unfolding(sc_formula::specs::Plain::plain_formula, sc_formula::specs::Plain::plain_term))]
 fn equation(
     alloc: Global,
     left: i64,
@@ -62,6 +63,7 @@ fn equation(
 }
 
 /// `left connective (1 // 0 = 1)`.
+#[tactic(auto, unfolding(sc_formula::specs::Plain::plain_formula, sc_formula::specs::Plain::plain_term))]
 fn before_zero_divisor(
     alloc: Global,
     left: bool,
@@ -74,6 +76,7 @@ fn before_zero_divisor(
 }
 
 /// `not` this many times before `True`.
+#[tactic(auto, unfolding(sc_formula::specs::Plain::plain_formula, sc_formula::specs::Plain::plain_term))]
 fn nested(alloc: Global, depth: u32) -> Result<Formula, AllocError>
     ensures { IfOk result (λ formula. IsFit (plain_formula formula) []) }
 {
@@ -131,6 +134,7 @@ fn sides_that_cannot_matter(rt: HostRuntime) -> Result<(), Fail> {
 }
 
 #[test]
+#[tactic(auto, unfolding(sc_formula::specs::Plain::plain_formula, sc_formula::specs::Plain::plain_term))]
 fn attributes(rt: HostRuntime) -> Result<(), Fail> {
     let atoms = [
         Atom::Integer(7),

@@ -157,57 +157,68 @@ fn joins_no_more_than_a_source_may_be_long(rt: HostRuntime) -> Result<(), Fail> 
     Ok(())
 }
 
+/// Joins these files, of which the reader of one may fail at its end, and compares what is at fault.
+fn expect_fault<R: Abort + AllocGlobal>(
+    rt: &R,
+    files: &[&[u8]],
+    broken: Option<usize>,
+    wanted: Option<SourceFault>,
+) -> Result<(), Fail> {
+    let mut readers = Vec::new(rt.alloc());
+    for (file, bytes) in files.iter().enumerate() {
+        readers.push(Piecewise {
+            bytes,
+            piece: usize::MAX,
+            is_broken: broken == Some(file),
+        })?;
+    }
+    let joined = join_sources(rt.alloc(), readers.as_mut_slice());
+    if let Err(SourceFault::OutOfMemory) = joined {
+        return Err(Fail::new("out of memory"));
+    }
+    assert_eq!(rt; joined.err(), wanted);
+    Ok(())
+}
+
 #[test]
 fn finds_the_first_file_at_fault(rt: HostRuntime) -> Result<(), Fail> {
     let long = spaces(&rt, b"", LONGEST_SOURCE, b"\xff")?;
-    let rest = spaces(&rt, b"", LONGEST_SOURCE - 2, b"")?;
     let long = long.as_slice();
+    let first = Some(SourceFault::NotUtf8 { file: 0 });
+    expect_fault(&rt, &[b"\xff", long], None, first)?;
+    expect_fault(
+        &rt,
+        &[long, b"\xff"],
+        None,
+        Some(SourceFault::SourceTooLong),
+    )?;
+    expect_fault(&rt, &[long], Some(0), Some(SourceFault::SourceTooLong))?;
+    let second = Some(SourceFault::Unreadable { file: 1 });
+    expect_fault(&rt, &[b"a", b"b"], Some(1), second)?;
+    let first = Some(SourceFault::Unreadable { file: 0 });
+    expect_fault(&rt, &[b"a\xff", b"b"], Some(0), first)?;
+    let first = Some(SourceFault::NotUtf8 { file: 0 });
+    expect_fault(&rt, &[b"a\xff", b"b"], Some(1), first)
+}
+
+/// With its line feed each of these files is just too long, or just not.
+#[test]
+fn counts_the_line_feed_of_each_file(rt: HostRuntime) -> Result<(), Fail> {
+    let rest = spaces(&rt, b"", LONGEST_SOURCE - 2, b"")?;
     let rest = rest.as_slice();
-    let rows: [(&[&[u8]], Option<usize>, Option<SourceFault>); 9] = [
-        // The last of the files is the one whose reader fails at its end, if any is.
-        (
-            &[b"\xff", long],
-            None,
-            Some(SourceFault::NotUtf8 { file: 0 }),
-        ),
-        (&[long, b"\xff"], None, Some(SourceFault::SourceTooLong)),
-        (&[long], Some(0), Some(SourceFault::SourceTooLong)),
-        (
-            &[b"a", b"b"],
-            Some(1),
-            Some(SourceFault::Unreadable { file: 1 }),
-        ),
-        (
-            &[b"a\xff", b"b"],
-            Some(0),
-            Some(SourceFault::Unreadable { file: 0 }),
-        ),
-        (
-            &[b"a\xff", b"b"],
-            Some(1),
-            Some(SourceFault::NotUtf8 { file: 0 }),
-        ),
-        // With its line feed each of these files is just too long, or just not.
-        (&[rest, b""], None, None),
-        (&[rest, b"", b""], None, Some(SourceFault::SourceTooLong)),
-        (&[rest, b"", b""], Some(2), Some(SourceFault::SourceTooLong)),
-    ];
-    for (files, broken, wanted) in rows {
-        let mut readers = Vec::new(rt.alloc());
-        for (file, bytes) in files.iter().enumerate() {
-            readers.push(Piecewise {
-                bytes,
-                piece: usize::MAX,
-                is_broken: broken == Some(file),
-            })?;
-        }
-        let joined = join_sources(rt.alloc(), readers.as_mut_slice());
-        if let Err(SourceFault::OutOfMemory) = joined {
-            return Err(Fail::new("out of memory"));
-        }
-        assert_eq!(rt; joined.err(), wanted);
-    }
-    Ok(())
+    expect_fault(&rt, &[rest, b""], None, None)?;
+    expect_fault(
+        &rt,
+        &[rest, b"", b""],
+        None,
+        Some(SourceFault::SourceTooLong),
+    )?;
+    expect_fault(
+        &rt,
+        &[rest, b"", b""],
+        Some(2),
+        Some(SourceFault::SourceTooLong),
+    )
 }
 
 #[test]
