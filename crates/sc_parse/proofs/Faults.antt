@@ -1,7 +1,7 @@
 -- A fault on the way is the fault of the whole.
-use Rattle.std.proofs.Common.{◌≡◌, ℕ, List, Result, Ok, Err, ◌∙◌}
-use Rattle.sc_text.specs.Kind.{Kind}
-use Rattle.sc_tree.specs.Reading.Looks.{Fault, Wrong, Deep, Read, ◌>>=◌}
+use Rattle.std.proofs.Common.{◌≡◌, ℕ, Result, Ok, Err, ◌∙◌}
+use Rattle.sc_tree.specs.Reading.Looks.{Fault, Wrong, Deep, ◌>>=◌}
+use Rattle.sc_parse.specs.Reading.Looks.{Ahead, Read}
 use Rattle.sc_tree.proofs.Combining.{bind_err}
 use Rattle.sc_parse.specs.declared.fault.ParseFault.{ParseFault}
 use Rattle.sc_parse.specs.declared.fault.ParseFault.TheVariants as fault
@@ -18,6 +18,6 @@ Fails-along a b (fault.TooDeep place) q h = q ∙ h
 Fails-along a b fault.OutOfMemory q h = tt
 
 -- what one reading gives, another that is the same gives too
-pub Reads-along : {A X : Type 0} (view : X → A) (a b : Read A) (r : Result (X × ℕ) ParseFault) (rest : List Kind) → a ≡ b → Reads view b r rest → Reads view a r rest
+pub Reads-along : {A X : Type 0} (view : X → A) (a b : Read A) (r : Result (X × ℕ) ParseFault) (rest : Ahead) → a ≡ b → Reads view b r rest → Reads view a r rest
 Reads-along view a b (Ok p) rest q h = q ∙ h
 Reads-along view a b (Err e) rest q h = Fails-along a b e q h

@@ -2,19 +2,15 @@
 use Rattle.std.proofs.Common.{◌≡◌, ℕ, suc, ◌+◌, ◌-◌, ◌≤◌, ◌<◌, max, ◌||◌, Bool, true, false, List, [], ◌∷◌, ◌++◌, length, Ok, Err, ap, sym, ◌∙◌, arith}
 use Rattle.std.specs.Prelude.{if◌then◌else◌, map}
 use Rattle.std.proofs.lemmas.List.{map-append}
-use Rattle.sc_text.specs.Kind.{Kind, kinds_of}
-use Rattle.sc_text.specs.declared.token.Token.{Token}
 use Rattle.sc_text.specs.declared.token.Terminal.TheVariants as terminal
-use Rattle.sc_tree.specs.Grammar.Assertions.{goes_on}
 use Rattle.sc_tree.specs.Plain.{Name, Declaration, Clause, Feature, Parent, Class}
 use Rattle.sc_tree.specs.declared.expression.Name as code_name
-use Rattle.sc_tree.specs.Bare.{bare_name}
 use Rattle.sc_tree.specs.View.{name_of}
-use Rattle.sc_tree.proofs.ViewLemmas.{mapped-push}
-use Rattle.sc_tree.specs.Reading.Looks.{Wrong, Read, Taken, ◌>>=◌, past, sees, skip, skip_semicolons, name, name_ahead, begins_expr}
-use Rattle.sc_tree.specs.Reading.Types.{more_names}
-use Rattle.sc_tree.specs.Reading.Assertions.{clause, clauses_from, clauses}
-use Rattle.sc_tree.specs.Reading.Classes.{is_done, declaration, more_declarations, locals_from, locals, exports, feature, features_from, sections_from, sections, parent, parents_from, class, classes_from}
+use Rattle.sc_tree.specs.Reading.Looks.{Wrong, ◌>>=◌}
+use Rattle.sc_parse.specs.Reading.Looks.{Ahead, left, goes_on, Read, Taken, past, sees, skip, skip_semicolons, name, name_ahead, begins_expr}
+use Rattle.sc_parse.specs.Reading.Types.{more_names}
+use Rattle.sc_parse.specs.Reading.Assertions.{clause, clauses_from, clauses}
+use Rattle.sc_parse.specs.Reading.Classes.{is_done, declaration, more_declarations, locals_from, locals, exports, feature, features_from, sections_from, sections, parent, parents_from, class, classes_from}
 use Rattle.sc_parse.proofs.Faults.{Fails-bind, Fails-along}
 use Rattle.sc_tree.proofs.Combining.{bind_ok, choose_true, choose_false}
 use Rattle.sc_parse.specs.Reads.{Fails}
@@ -23,13 +19,13 @@ use Rattle.sc_parse.proofs.Turns.{turns_of}
 
 -- ---- names, formals, locals and parents
 
-pub more_names_begin : (ts : List Token) (found : List Name) → more_names (length ts - 0) found (kinds_of ts) ≡ more_names (length (kinds_of ts)) found (kinds_of ts)
-more_names_begin ts found = ap (λ (f : ℕ). more_names f found (kinds_of ts)) (turns_of ts)
+pub more_names_begin : (ts : Ahead) (found : List Name) → more_names (length ts.rest - 0) found ts ≡ more_names (left ts) found ts
+more_names_begin ts found = ap (λ (f : ℕ). more_names f found ts) (turns_of ts)
 
-abbrev pub next_more_names : ℕ → List Name → Name × List Kind → Taken (List Name)
+abbrev pub next_more_names : ℕ → List Name → Name × Ahead → Taken (List Name)
 next_more_names f found x = more_names f (found ++ x.0 ∷ []) x.1
 
-module _ (n i : ℕ) (found : List Name) (ts : List Kind) where
+module _ (n i : ℕ) (found : List Name) (ts : Ahead) where
   pub more_names_end : n ≤ i → more_names (n - i) found ts ≡ Ok (found, ts)
   unfolding more_names
   more_names_end p = let z : n - i ≡ 0 = omega arith in ap (λ (f : ℕ). more_names f found ts) z
@@ -38,19 +34,19 @@ module _ (n i : ℕ) (found : List Name) (ts : List Kind) where
   unfolding more_names
   more_names_turn p = let z : n - i ≡ suc (n - (i + 1)) = omega arith in ap (λ (f : ℕ). more_names f found ts) z
 
-  pub more_names_more : (b : Bool) (r : List Kind) (x : Name) (rest : List Kind) (xs : List Name) → i < n → b ≡ sees terminal.Comma ts → b ≡ true → r ≡ past ts → name r ≡ Ok (x, rest) →
+  pub more_names_more : (b : Bool) (r : Ahead) (x : Name) (rest : Ahead) (xs : List Name) → i < n → b ≡ sees terminal.Comma ts → b ≡ true → r ≡ past ts → name r ≡ Ok (x, rest) →
       xs ≡ found ++ x ∷ [] → more_names (n - (i + 1)) xs rest ≡ more_names (n - i) found ts
   more_names_more b r x rest xs p q d w e u =
       ap (λ (xs : List Name). more_names (n - (i + 1)) xs rest) u
-      ∙ sym (more_names_turn p ∙ choose_true (sees terminal.Comma ts) _ _ (sym q ∙ d) ∙ ap (λ (r : List Kind). name r >>= next_more_names (n - (i + 1)) found) (sym w) ∙ bind_ok _ _ (next_more_names (n - (i + 1)) found) e)
+      ∙ sym (more_names_turn p ∙ choose_true (sees terminal.Comma ts) _ _ (sym q ∙ d) ∙ ap (λ (r : Ahead). name r >>= next_more_names (n - (i + 1)) found) (sym w) ∙ bind_ok _ _ (next_more_names (n - (i + 1)) found) e)
 
-pub declarations_begin : (ts : List Token) (found : List Declaration) → more_declarations (length ts - 0) found (kinds_of ts) ≡ more_declarations (length (kinds_of ts)) found (kinds_of ts)
-declarations_begin ts found = ap (λ (f : ℕ). more_declarations f found (kinds_of ts)) (turns_of ts)
+pub declarations_begin : (ts : Ahead) (found : List Declaration) → more_declarations (length ts.rest - 0) found ts ≡ more_declarations (left ts) found ts
+declarations_begin ts found = ap (λ (f : ℕ). more_declarations f found ts) (turns_of ts)
 
-abbrev pub next_declarations : ℕ → List Declaration → List Declaration × List Kind → Taken (List Declaration)
+abbrev pub next_declarations : ℕ → List Declaration → List Declaration × Ahead → Taken (List Declaration)
 next_declarations f found x = more_declarations f (found ++ x.0) x.1
 
-module _ (n i : ℕ) (found : List Declaration) (ts : List Kind) where
+module _ (n i : ℕ) (found : List Declaration) (ts : Ahead) where
   pub declarations_end : n ≤ i → more_declarations (n - i) found ts ≡ Ok (found, ts)
   unfolding more_declarations
   declarations_end p = let z : n - i ≡ 0 = omega arith in ap (λ (f : ℕ). more_declarations f found ts) z
@@ -59,23 +55,23 @@ module _ (n i : ℕ) (found : List Declaration) (ts : List Kind) where
   unfolding more_declarations
   declarations_turn p = let z : n - i ≡ suc (n - (i + 1)) = omega arith in ap (λ (f : ℕ). more_declarations f found ts) z
 
-  pub declarations_more : (b : Bool) (r : List Kind) (x : List Declaration) (rest : List Kind) (xs : List Declaration) → i < n → b ≡ sees terminal.Semicolon ts || name_ahead ts → b ≡ true → r ≡ skip terminal.Semicolon ts → declaration r ≡ Ok (x, rest) →
+  pub declarations_more : (b : Bool) (r : Ahead) (x : List Declaration) (rest : Ahead) (xs : List Declaration) → i < n → b ≡ sees terminal.Semicolon ts || name_ahead ts → b ≡ true → r ≡ skip terminal.Semicolon ts → declaration r ≡ Ok (x, rest) →
       xs ≡ found ++ x → more_declarations (n - (i + 1)) xs rest ≡ more_declarations (n - i) found ts
   declarations_more b r x rest xs p q d w e u =
       ap (λ (xs : List Declaration). more_declarations (n - (i + 1)) xs rest) u
-      ∙ sym (declarations_turn p ∙ choose_true (sees terminal.Semicolon ts || name_ahead ts) _ _ (sym q ∙ d) ∙ ap (λ (r : List Kind). declaration r >>= next_declarations (n - (i + 1)) found) (sym w) ∙ bind_ok _ _ (next_declarations (n - (i + 1)) found) e)
+      ∙ sym (declarations_turn p ∙ choose_true (sees terminal.Semicolon ts || name_ahead ts) _ _ (sym q ∙ d) ∙ ap (λ (r : Ahead). declaration r >>= next_declarations (n - (i + 1)) found) (sym w) ∙ bind_ok _ _ (next_declarations (n - (i + 1)) found) e)
 
-pub locals_begin : (ts : List Token) (before : List Kind) (found : List Declaration) (b : Bool) → b ≡ sees terminal.Local before → b ≡ true → kinds_of ts ≡ past before → found ≡ [] →
-    locals_from (length ts - 0) found (kinds_of ts) ≡ locals before
+pub locals_begin : (ts : Ahead) (before : Ahead) (found : List Declaration) (b : Bool) → b ≡ sees terminal.Local before → b ≡ true → ts ≡ past before → found ≡ [] →
+    locals_from (length ts.rest - 0) found ts ≡ locals before
 unfolding locals
 locals_begin ts before found b p q r e =
-    ap (λ (f : ℕ). locals_from f found (kinds_of ts)) (turns_of ts) ∙ ap (λ (ds : List Declaration). locals_from (length (kinds_of ts)) ds (kinds_of ts)) e ∙ ap (λ (ts : List Kind). locals_from (length ts) [] ts) r
+    ap (λ (f : ℕ). locals_from f found ts) (turns_of ts) ∙ ap (λ (ds : List Declaration). locals_from (left ts) ds ts) e ∙ ap (λ (ts : Ahead). locals_from (left ts) [] ts) r
     ∙ sym (choose_true (sees terminal.Local before) _ _ (sym p ∙ q))
 
-abbrev pub next_locals : ℕ → List Declaration → List Declaration × List Kind → Taken (List Declaration)
+abbrev pub next_locals : ℕ → List Declaration → List Declaration × Ahead → Taken (List Declaration)
 next_locals f found x = locals_from f (found ++ x.0) (skip terminal.Semicolon x.1)
 
-module _ (n i : ℕ) (found : List Declaration) (ts : List Kind) where
+module _ (n i : ℕ) (found : List Declaration) (ts : Ahead) where
   pub locals_end : n ≤ i → locals_from (n - i) found ts ≡ Ok (found, ts)
   unfolding locals_from
   locals_end p = let z : n - i ≡ 0 = omega arith in ap (λ (f : ℕ). locals_from f found ts) z
@@ -84,21 +80,21 @@ module _ (n i : ℕ) (found : List Declaration) (ts : List Kind) where
   unfolding locals_from
   locals_turn p = let z : n - i ≡ suc (n - (i + 1)) = omega arith in ap (λ (f : ℕ). locals_from f found ts) z
 
-  pub locals_more : (b : Bool) (x : List Declaration) (rest next : List Kind) (xs : List Declaration) → i < n → b ≡ name_ahead ts → b ≡ true → declaration ts ≡ Ok (x, rest) →
+  pub locals_more : (b : Bool) (x : List Declaration) (rest next : Ahead) (xs : List Declaration) → i < n → b ≡ name_ahead ts → b ≡ true → declaration ts ≡ Ok (x, rest) →
       xs ≡ found ++ x → next ≡ skip terminal.Semicolon rest → locals_from (n - (i + 1)) xs next ≡ locals_from (n - i) found ts
   locals_more b x rest next xs p q d e u v =
-      ap (λ (xs : List Declaration). locals_from (n - (i + 1)) xs next) u ∙ ap (λ (r : List Kind). locals_from (n - (i + 1)) (found ++ x) r) v
+      ap (λ (xs : List Declaration). locals_from (n - (i + 1)) xs next) u ∙ ap (λ (r : Ahead). locals_from (n - (i + 1)) (found ++ x) r) v
       ∙ sym (locals_turn p ∙ choose_true (name_ahead ts) _ _ (sym q ∙ d) ∙ bind_ok _ _ (next_locals (n - (i + 1)) found) e)
 
-pub parents_begin : (ts : List Token) (x : Parent) (found : List Parent) (r : List Kind) → found ≡ x ∷ [] → r ≡ skip terminal.Semicolon (kinds_of ts) →
-    parents_from (length ts - 0) found r ≡ parents_from (length (kinds_of ts)) (x ∷ []) (skip terminal.Semicolon (kinds_of ts))
+pub parents_begin : (ts : Ahead) (x : Parent) (found : List Parent) (r : Ahead) → found ≡ x ∷ [] → r ≡ skip terminal.Semicolon ts →
+    parents_from (length ts.rest - 0) found r ≡ parents_from (left ts) (x ∷ []) (skip terminal.Semicolon ts)
 parents_begin ts x found r e q =
-    ap (λ (f : ℕ). parents_from f found r) (turns_of ts) ∙ ap (λ (ps : List Parent). parents_from (length (kinds_of ts)) ps r) e ∙ ap (λ (r : List Kind). parents_from (length (kinds_of ts)) (x ∷ []) r) q
+    ap (λ (f : ℕ). parents_from f found r) (turns_of ts) ∙ ap (λ (ps : List Parent). parents_from (left ts) ps r) e ∙ ap (λ (r : Ahead). parents_from (left ts) (x ∷ []) r) q
 
-abbrev pub next_parents : ℕ → List Parent → Parent × List Kind → Taken (List Parent)
+abbrev pub next_parents : ℕ → List Parent → Parent × Ahead → Taken (List Parent)
 next_parents f found x = parents_from f (found ++ x.0 ∷ []) (skip terminal.Semicolon x.1)
 
-module _ (n i : ℕ) (found : List Parent) (ts : List Kind) where
+module _ (n i : ℕ) (found : List Parent) (ts : Ahead) where
   pub parents_end : n ≤ i → parents_from (n - i) found ts ≡ Ok (found, ts)
   unfolding parents_from
   parents_end p = let z : n - i ≡ 0 = omega arith in ap (λ (f : ℕ). parents_from f found ts) z
@@ -107,22 +103,22 @@ module _ (n i : ℕ) (found : List Parent) (ts : List Kind) where
   unfolding parents_from
   parents_turn p = let z : n - i ≡ suc (n - (i + 1)) = omega arith in ap (λ (f : ℕ). parents_from f found ts) z
 
-  pub parents_more : (b : Bool) (x : Parent) (rest next : List Kind) (xs : List Parent) → i < n → b ≡ name_ahead ts → b ≡ true → parent ts ≡ Ok (x, rest) →
+  pub parents_more : (b : Bool) (x : Parent) (rest next : Ahead) (xs : List Parent) → i < n → b ≡ name_ahead ts → b ≡ true → parent ts ≡ Ok (x, rest) →
       xs ≡ found ++ x ∷ [] → next ≡ skip terminal.Semicolon rest → parents_from (n - (i + 1)) xs next ≡ parents_from (n - i) found ts
   parents_more b x rest next xs p q d e u v =
-      ap (λ (xs : List Parent). parents_from (n - (i + 1)) xs next) u ∙ ap (λ (r : List Kind). parents_from (n - (i + 1)) (found ++ x ∷ []) r) v
+      ap (λ (xs : List Parent). parents_from (n - (i + 1)) xs next) u ∙ ap (λ (r : Ahead). parents_from (n - (i + 1)) (found ++ x ∷ []) r) v
       ∙ sym (parents_turn p ∙ choose_true (name_ahead ts) _ _ (sym q ∙ d) ∙ bind_ok _ _ (next_parents (n - (i + 1)) found) e)
 
 -- ---- features of one section
 
-pub features_begin : (room : ℕ) (es : List Name) (ts : List Token) (found : List Feature) (high : ℕ) →
-    features_from room es (length ts - 0) found high (kinds_of ts) ≡ features_from room es (length (kinds_of ts)) found high (kinds_of ts)
-features_begin room es ts found high = ap (λ (f : ℕ). features_from room es f found high (kinds_of ts)) (turns_of ts)
+pub features_begin : (room : ℕ) (es : List Name) (ts : Ahead) (found : List Feature) (high : ℕ) →
+    features_from room es (length ts.rest - 0) found high ts ≡ features_from room es (left ts) found high ts
+features_begin room es ts found high = ap (λ (f : ℕ). features_from room es f found high ts) (turns_of ts)
 
-abbrev pub next_features : ℕ → (List Name) → ℕ → List Feature → ℕ → List Feature × ℕ × List Kind → Read (List Feature)
+abbrev pub next_features : ℕ → (List Name) → ℕ → List Feature → ℕ → List Feature × ℕ × Ahead → Read (List Feature)
 next_features room es f found high x = features_from room es f (found ++ x.0) (max high x.1) (skip_semicolons x.2)
 
-module _ (room : ℕ) (es : List Name) (n i : ℕ) (found : List Feature) (high : ℕ) (ts : List Kind) where
+module _ (room : ℕ) (es : List Name) (n i : ℕ) (found : List Feature) (high : ℕ) (ts : Ahead) where
   pub features_end : n ≤ i → features_from room es (n - i) found high ts ≡ Ok (found, high, ts)
   unfolding features_from
   features_end p = let z : n - i ≡ 0 = omega arith in ap (λ (f : ℕ). features_from room es f found high ts) z
@@ -131,13 +127,13 @@ module _ (room : ℕ) (es : List Name) (n i : ℕ) (found : List Feature) (high 
   unfolding features_from
   features_turn p = let z : n - i ≡ suc (n - (i + 1)) = omega arith in ap (λ (f : ℕ). features_from room es f found high ts) z
 
-  pub features_more : (b : Bool) (x : List Feature) (h : ℕ) (rest next : List Kind) (xs : List Feature) → i < n → b ≡ name_ahead ts → b ≡ true → feature room es ts ≡ Ok (x, h, rest) →
+  pub features_more : (b : Bool) (x : List Feature) (h : ℕ) (rest next : Ahead) (xs : List Feature) → i < n → b ≡ name_ahead ts → b ≡ true → feature room es ts ≡ Ok (x, h, rest) →
       xs ≡ found ++ x → next ≡ skip_semicolons rest → features_from room es (n - (i + 1)) xs (max high h) next ≡ features_from room es (n - i) found high ts
   features_more b x h rest next xs p q d e u v =
-      ap (λ (xs : List Feature). features_from room es (n - (i + 1)) xs (max high h) next) u ∙ ap (λ (r : List Kind). features_from room es (n - (i + 1)) (found ++ x) (max high h) r) v
+      ap (λ (xs : List Feature). features_from room es (n - (i + 1)) xs (max high h) next) u ∙ ap (λ (r : Ahead). features_from room es (n - (i + 1)) (found ++ x) (max high h) r) v
       ∙ sym (features_turn p ∙ choose_true (name_ahead ts) _ _ (sym q ∙ d) ∙ bind_ok _ _ (next_features room es (n - (i + 1)) found high) e)
 
-module _ (room : ℕ) (es : List Name) (n i : ℕ) (found : List Feature) (high : ℕ) (ts : List Kind) where
+module _ (room : ℕ) (es : List Name) (n i : ℕ) (found : List Feature) (high : ℕ) (ts : Ahead) where
   pub features_none : (b : Bool) → i < n → b ≡ name_ahead ts → b ≡ false → features_from room es (n - i) found high ts ≡ Ok (found, high, ts)
   features_none b p q d = features_turn room es n i found high ts p ∙ choose_false (name_ahead ts) _ _ (sym q ∙ d)
 
@@ -147,19 +143,19 @@ module _ (room : ℕ) (es : List Name) (n i : ℕ) (found : List Feature) (high 
 
 -- ---- sections
 
-abbrev pub next_sections : ℕ → ℕ → List Feature × ℕ × List Kind → Read (List Feature)
+abbrev pub next_sections : ℕ → ℕ → List Feature × ℕ × Ahead → Read (List Feature)
 next_sections room f x = sections_from room f x.0 x.1 x.2
 
 -- the features that stand under one `feature`, and the sections after them
-abbrev pub next_section : ℕ → ℕ → List Feature → ℕ → List Name × List Kind → Read (List Feature)
-next_section room f found high es = features_from room es.0 (length es.1) found high es.1 >>= next_sections room f
+abbrev pub next_section : ℕ → ℕ → List Feature → ℕ → List Name × Ahead → Read (List Feature)
+next_section room f found high es = features_from room es.0 (left es.1) found high es.1 >>= next_sections room f
 
-pub sections_begin : (room : ℕ) (ts : List Token) (found : List Feature) → found ≡ [] → sections_from room (length ts - 0) found 0 (kinds_of ts) ≡ sections room (kinds_of ts)
+pub sections_begin : (room : ℕ) (ts : Ahead) (found : List Feature) → found ≡ [] → sections_from room (length ts.rest - 0) found 0 ts ≡ sections room ts
 unfolding sections
 sections_begin room ts found e =
-    ap (λ (f : ℕ). sections_from room f found 0 (kinds_of ts)) (turns_of ts) ∙ ap (λ (fs : List Feature). sections_from room (length (kinds_of ts)) fs 0 (kinds_of ts)) e
+    ap (λ (f : ℕ). sections_from room f found 0 ts) (turns_of ts) ∙ ap (λ (fs : List Feature). sections_from room (left ts) fs 0 ts) e
 
-module _ (room n i : ℕ) (found : List Feature) (high : ℕ) (ts : List Kind) where
+module _ (room n i : ℕ) (found : List Feature) (high : ℕ) (ts : Ahead) where
   pub sections_end : n ≤ i → sections_from room (n - i) found high ts ≡ Ok (found, high, ts)
   unfolding sections_from
   sections_end p = let z : n - i ≡ 0 = omega arith in ap (λ (f : ℕ). sections_from room f found high ts) z
@@ -168,39 +164,39 @@ module _ (room n i : ℕ) (found : List Feature) (high : ℕ) (ts : List Kind) w
   unfolding sections_from
   sections_turn p = let z : n - i ≡ suc (n - (i + 1)) = omega arith in ap (λ (f : ℕ). sections_from room f found high ts) z
 
-  sections_some : (b : Bool) (r : List Kind) → i < n → b ≡ sees terminal.Feature ts → b ≡ true → r ≡ past ts → sections_from room (n - i) found high ts ≡ (exports r >>= next_section room (n - (i + 1)) found high)
+  sections_some : (b : Bool) (r : Ahead) → i < n → b ≡ sees terminal.Feature ts → b ≡ true → r ≡ past ts → sections_from room (n - i) found high ts ≡ (exports r >>= next_section room (n - (i + 1)) found high)
   sections_some b r p q d w =
-      sections_turn p ∙ choose_true (sees terminal.Feature ts) _ _ (sym q ∙ d) ∙ ap (λ (r : List Kind). exports r >>= next_section room (n - (i + 1)) found high) (sym w)
+      sections_turn p ∙ choose_true (sees terminal.Feature ts) _ _ (sym q ∙ d) ∙ ap (λ (r : Ahead). exports r >>= next_section room (n - (i + 1)) found high) (sym w)
 
-  pub exports_fail : (b : Bool) (r : List Kind) (e : ParseFault) → i < n → b ≡ sees terminal.Feature ts → b ≡ true → r ≡ past ts → Fails (exports r) e → Fails (sections_from room (n - i) found high ts) e
+  pub exports_fail : (b : Bool) (r : Ahead) (e : ParseFault) → i < n → b ≡ sees terminal.Feature ts → b ≡ true → r ≡ past ts → Fails (exports r) e → Fails (sections_from room (n - i) found high ts) e
   exports_fail b r e p q d w f = Fails-along _ _ e (sections_some b r p q d w) (Fails-bind (exports r) (next_section room (n - (i + 1)) found high) e f)
 
-  sections_under : (b : Bool) (r : List Kind) (es : List Name) (s : List Kind) → i < n → b ≡ sees terminal.Feature ts → b ≡ true → r ≡ past ts → exports r ≡ Ok (es, s) →
-      sections_from room (n - i) found high ts ≡ (features_from room es (length s) found high s >>= next_sections room (n - (i + 1)))
+  sections_under : (b : Bool) (r : Ahead) (es : List Name) (s : Ahead) → i < n → b ≡ sees terminal.Feature ts → b ≡ true → r ≡ past ts → exports r ≡ Ok (es, s) →
+      sections_from room (n - i) found high ts ≡ (features_from room es (left s) found high s >>= next_sections room (n - (i + 1)))
   sections_under b r es s p q d w v = sections_some b r p q d w ∙ bind_ok _ _ (next_section room (n - (i + 1)) found high) v
 
-  pub sections_fail : (b : Bool) (r : List Kind) (es : List Name) (s : List Kind) (e : ParseFault) → i < n → b ≡ sees terminal.Feature ts → b ≡ true → r ≡ past ts → exports r ≡ Ok (es, s) →
-      Fails (features_from room es (length s) found high s) e → Fails (sections_from room (n - i) found high ts) e
+  pub sections_fail : (b : Bool) (r : Ahead) (es : List Name) (s : Ahead) (e : ParseFault) → i < n → b ≡ sees terminal.Feature ts → b ≡ true → r ≡ past ts → exports r ≡ Ok (es, s) →
+      Fails (features_from room es (left s) found high s) e → Fails (sections_from room (n - i) found high ts) e
   sections_fail b r es s e p q d w v f =
-      Fails-along _ _ e (sections_under b r es s p q d w v) (Fails-bind (features_from room es (length s) found high s) (next_sections room (n - (i + 1))) e f)
+      Fails-along _ _ e (sections_under b r es s p q d w v) (Fails-bind (features_from room es (left s) found high s) (next_sections room (n - (i + 1))) e f)
 
-  pub sections_more : (b : Bool) (r : List Kind) (es : List Name) (s : List Kind) (x : List Feature) (h : ℕ) (rest : List Kind) → i < n → b ≡ sees terminal.Feature ts → b ≡ true → r ≡ past ts → exports r ≡ Ok (es, s) →
-      features_from room es (length s) found high s ≡ Ok (x, h, rest) → sections_from room (n - (i + 1)) x h rest ≡ sections_from room (n - i) found high ts
+  pub sections_more : (b : Bool) (r : Ahead) (es : List Name) (s : Ahead) (x : List Feature) (h : ℕ) (rest : Ahead) → i < n → b ≡ sees terminal.Feature ts → b ≡ true → r ≡ past ts → exports r ≡ Ok (es, s) →
+      features_from room es (left s) found high s ≡ Ok (x, h, rest) → sections_from room (n - (i + 1)) x h rest ≡ sections_from room (n - i) found high ts
   sections_more b r es s x h rest p q d w v e = sym (sections_under b r es s p q d w v ∙ bind_ok _ _ (next_sections room (n - (i + 1))) e)
 
 -- ---- clauses
 
-abbrev pub next_clauses : ℕ → ℕ → List Clause → ℕ → Clause × ℕ × List Kind → Read (List Clause)
+abbrev pub next_clauses : ℕ → ℕ → List Clause → ℕ → Clause × ℕ × Ahead → Read (List Clause)
 next_clauses room f found high x = if goes_on x.2 then Err Wrong else clauses_from room f (found ++ x.0 ∷ []) (max high x.1) (skip_semicolons x.2)
 
-pub clauses_begin : (room : ℕ) (ts : List Token) (before : List Kind) (found : List Clause) → kinds_of ts ≡ skip_semicolons before → found ≡ [] →
-    clauses_from room (length ts - 0) found 0 (kinds_of ts) ≡ clauses room before
+pub clauses_begin : (room : ℕ) (ts : Ahead) (before : Ahead) (found : List Clause) → ts ≡ skip_semicolons before → found ≡ [] →
+    clauses_from room (length ts.rest - 0) found 0 ts ≡ clauses room before
 unfolding clauses
 clauses_begin room ts before found q e =
-    ap (λ (f : ℕ). clauses_from room f found 0 (kinds_of ts)) (turns_of ts) ∙ ap (λ (r : List Kind). clauses_from room (length r) found 0 r) q
-    ∙ ap (λ (xs : List Clause). clauses_from room (length (skip_semicolons before)) xs 0 (skip_semicolons before)) e
+    ap (λ (f : ℕ). clauses_from room f found 0 ts) (turns_of ts) ∙ ap (λ (r : Ahead). clauses_from room (left r) found 0 r) q
+    ∙ ap (λ (xs : List Clause). clauses_from room (left (skip_semicolons before)) xs 0 (skip_semicolons before)) e
 
-module _ (room n i : ℕ) (found : List Clause) (high : ℕ) (ts : List Kind) where
+module _ (room n i : ℕ) (found : List Clause) (high : ℕ) (ts : Ahead) where
   pub clauses_end : n ≤ i → clauses_from room (n - i) found high ts ≡ Ok (found, high, ts)
   unfolding clauses_from
   clauses_end p = let z : n - i ≡ 0 = omega arith in ap (λ (f : ℕ). clauses_from room f found high ts) z
@@ -209,22 +205,22 @@ module _ (room n i : ℕ) (found : List Clause) (high : ℕ) (ts : List Kind) wh
   unfolding clauses_from
   clauses_turn p = let z : n - i ≡ suc (n - (i + 1)) = omega arith in ap (λ (f : ℕ). clauses_from room f found high ts) z
 
-  pub clauses_more : (b : Bool) (x : Clause) (h : ℕ) (rest after : List Kind) (g : Bool) (xs : List Clause) → i < n → b ≡ begins_expr ts → b ≡ true → clause room ts ≡ Ok (x, h, rest) →
+  pub clauses_more : (b : Bool) (x : Clause) (h : ℕ) (rest after : Ahead) (g : Bool) (xs : List Clause) → i < n → b ≡ begins_expr ts → b ≡ true → clause room ts ≡ Ok (x, h, rest) →
       g ≡ goes_on rest → g ≡ false → xs ≡ found ++ x ∷ [] → after ≡ skip_semicolons rest → clauses_from room (n - (i + 1)) xs (max high h) after ≡ clauses_from room (n - i) found high ts
   clauses_more b x h rest after g xs p q d e o l u v =
-      ap (λ (xs : List Clause). clauses_from room (n - (i + 1)) xs (max high h) after) u ∙ ap (λ (r : List Kind). clauses_from room (n - (i + 1)) (found ++ x ∷ []) (max high h) r) v
+      ap (λ (xs : List Clause). clauses_from room (n - (i + 1)) xs (max high h) after) u ∙ ap (λ (r : Ahead). clauses_from room (n - (i + 1)) (found ++ x ∷ []) (max high h) r) v
       ∙ sym (clauses_turn p ∙ choose_true (begins_expr ts) _ _ (sym q ∙ d) ∙ bind_ok _ _ (next_clauses room (n - (i + 1)) found high) e ∙ choose_false (goes_on rest) _ _ (sym o ∙ l))
 
 -- ---- classes
 
-abbrev pub next_classes : ℕ → ℕ → List Class → ℕ → Class × ℕ × List Kind → Read (List Class)
+abbrev pub next_classes : ℕ → ℕ → List Class → ℕ → Class × ℕ × Ahead → Read (List Class)
 next_classes room f found high x = classes_from room f (found ++ x.0 ∷ []) (max high x.1) x.2
 
-pub classes_begin : (room : ℕ) (ts : List Token) (found : List Class) (high : ℕ) →
-    classes_from room (length ts - 0) found high (kinds_of ts) ≡ classes_from room (length (kinds_of ts)) found high (kinds_of ts)
-classes_begin room ts found high = ap (λ (f : ℕ). classes_from room f found high (kinds_of ts)) (turns_of ts)
+pub classes_begin : (room : ℕ) (ts : Ahead) (found : List Class) (high : ℕ) →
+    classes_from room (length ts.rest - 0) found high ts ≡ classes_from room (left ts) found high ts
+classes_begin room ts found high = ap (λ (f : ℕ). classes_from room f found high ts) (turns_of ts)
 
-module _ (room n i : ℕ) (found : List Class) (high : ℕ) (ts : List Kind) where
+module _ (room n i : ℕ) (found : List Class) (high : ℕ) (ts : Ahead) where
   pub classes_end : n ≤ i → classes_from room (n - i) found high ts ≡ Ok (found, high, ts)
   unfolding classes_from
   classes_end p = let z : n - i ≡ 0 = omega arith in ap (λ (f : ℕ). classes_from room f found high ts) z
@@ -233,7 +229,7 @@ module _ (room n i : ℕ) (found : List Class) (high : ℕ) (ts : List Kind) whe
   unfolding classes_from
   classes_turn p = let z : n - i ≡ suc (n - (i + 1)) = omega arith in ap (λ (f : ℕ). classes_from room f found high ts) z
 
-  pub classes_more : (b : Bool) (x : Class) (h : ℕ) (rest : List Kind) (xs : List Class) → i < n → b ≡ is_done ts → b ≡ false → class room ts ≡ Ok (x, h, rest) →
+  pub classes_more : (b : Bool) (x : Class) (h : ℕ) (rest : Ahead) (xs : List Class) → i < n → b ≡ is_done ts → b ≡ false → class room ts ≡ Ok (x, h, rest) →
       xs ≡ found ++ x ∷ [] → classes_from room (n - (i + 1)) xs (max high h) rest ≡ classes_from room (n - i) found high ts
   classes_more b x h rest xs p q d e u =
       ap (λ (xs : List Class). classes_from room (n - (i + 1)) xs (max high h) rest) u
@@ -241,12 +237,9 @@ module _ (room n i : ℕ) (found : List Class) (high : ℕ) (ts : List Kind) whe
 
 -- ---- lists in memory
 
-pub mapped-append : {A B C : Type 0} (f : B → C) (g : A → B) (xs ys : List A) → map f (map g (xs ++ ys)) ≡ map f (map g xs) ++ map f (map g ys)
-mapped-append f g xs ys = ap (map f) (map-append g xs ys) ∙ map-append f (map g xs) (map g ys)
-
 -- one more name, and one more of what each name becomes
-pub named_push : {A B C : Type 0} (f : B → A) (g : C → B) (k : Name → A) (cs : List C) (ns : List code_name.Name) (c : C) (x : code_name.Name) →
-    map f (map g cs) ≡ map k (map bare_name (map name_of ns)) → f (g c) ≡ k (bare_name (name_of x)) → map f (map g (cs ++ c ∷ [])) ≡ map k (map bare_name (map name_of (ns ++ x ∷ [])))
-named_push {A} f g k cs ns c x h e =
-    mapped-push f g cs c ∙ ap (λ (l : List A). l ++ f (g c) ∷ []) h ∙ ap (λ (a : A). map k (map bare_name (map name_of ns)) ++ a ∷ []) e
-    ∙ sym (ap (map k) (mapped-push bare_name name_of ns x) ∙ map-append k (map bare_name (map name_of ns)) (bare_name (name_of x) ∷ []))
+pub named_push : {A C : Type 0} (g : C → A) (k : Name → A) (cs : List C) (ns : List code_name.Name) (c : C) (x : code_name.Name) →
+    map g cs ≡ map k (map name_of ns) → g c ≡ k (name_of x) → map g (cs ++ c ∷ []) ≡ map k (map name_of (ns ++ x ∷ []))
+named_push {A} g k cs ns c x h e =
+    map-append g cs (c ∷ []) ∙ ap (λ (l : List A). l ++ g c ∷ []) h ∙ ap (λ (a : A). map k (map name_of ns) ++ a ∷ []) e
+    ∙ sym (ap (map k) (map-append name_of ns (x ∷ [])) ∙ map-append k (map name_of ns) (name_of x ∷ []))

@@ -1,13 +1,10 @@
 -- What a method of the parser gives: what the reading function gives, unless memory ran out.
-use Rattle.std.specs.Prelude.{◌≡◌, ◌||◌, ℕ, max, Bool, List, [], ◌∷◌, Option, Result, Ok, Err, string_bytes, map}
+use Rattle.std.specs.Prelude.{◌≡◌, ℕ, max, List, Option, Result, Ok, Err, string_bytes, map}
 use Rattle.std.specs.declared.vec.Vec.{Vec}
 use Rattle.std.specs.declared.boxed.Box.{Box}
 use Rattle.std.specs.declared.string.String.{String}
 use Rattle.std.specs.declared.alloc.Global.{Global}
-use Rattle.sc_text.specs.Kind.{Kind, kinds_of}
 use Rattle.sc_text.specs.declared.token.Terminal.TheVariants as terminal
-use Rattle.sc_text.specs.declared.token.Span.{Span}
-use Rattle.sc_text.specs.declared.token.Token.{Token}
 use Rattle.sc_tree.specs.declared.declaration.HandlerTag.{HandlerTag}
 use Rattle.sc_tree.specs.declared.declaration.DeclaredType.{DeclaredType}
 use Rattle.sc_tree.specs.declared.declaration.Declaration.{Declaration}
@@ -25,97 +22,82 @@ use Rattle.sc_tree.specs.declared.system.Parent.{Parent}
 use Rattle.sc_tree.specs.declared.system.Class.{Class}
 use Rattle.sc_tree.specs.declared.system.System.{System}
 use Rattle.sc_tree.specs.Plain as plain
-use Rattle.sc_tree.specs.Bare.{named, bare_name, bare_handler_tag, bare_type, bare_type_if_any, bare_declaration, bare_expr, bare_target, bare_exprs, bare_variable, bare_tag, bare_clause, bare_head, bare_instr, bare_instrs, bare_branches, bare_kind, bare_feature, bare_parent, bare_mark, bare_class, bare_system}
 use Rattle.sc_tree.specs.View.{name_of, handler_tag_of, type_of, type_if_any, declaration_of, expr_of, target_of, exprs_of, variable_of, tag_of, clause_of, head_of, instr_of, instrs_of, branches_of, kind_of, feature_of, parent_of, mark_if_any, class_of, system_of}
 use Rattle.sc_tree.specs.Grammar.Classes.{ends_class}
-use Rattle.sc_tree.specs.Reading.Looks.{Fault, Wrong, Deep, Read, Taken, ◌>>=◌, sees, skip, expect, name}
-use Rattle.sc_tree.specs.Reading.Assertions.{assertion}
-use Rattle.sc_tree.specs.Reading.Instructions.{instrs}
-use Rattle.sc_tree.specs.Reading.Classes.{locals, parents, creators, sections, past_note}
+use Rattle.sc_tree.specs.Reading.Looks.{Fault, Wrong, Deep, ◌>>=◌}
+use Rattle.sc_parse.specs.Reading.Looks.{Ahead, Read, Taken, skip, expect, name}
+use Rattle.sc_parse.specs.Reading.Assertions.{assertion}
+use Rattle.sc_parse.specs.Reading.Instructions.{instrs}
+use Rattle.sc_parse.specs.Reading.Classes.{locals, parents, creators, sections, past_note}
 use Rattle.sc_parse.specs.declared.cursor.Parser.{Parser}
 use Rattle.sc_parse.specs.declared.fault.ParseFault.{ParseFault}
 use Rattle.sc_parse.specs.declared.fault.ParseFault.TheVariants as fault
 
--- the kinds of the tokens that are still to be read
-abbrev pub ahead : Parser → List Kind
-ahead p = kinds_of p.rest.now
+-- the tokens that are still to be read, and where the one before them stands
+abbrev pub ahead : Parser → Ahead
+ahead p = record { last = p.last; rest = p.rest.now }
 
-abbrev pub place_of : List Token → ℕ → ℕ
-place_of [] end = end
-place_of (t ∷ ts) end = t.span.start
-
--- where the next token begins, or the last one ends
-abbrev pub place_ahead : Parser → ℕ
-place_ahead p = place_of p.rest.now p.last.end
-
--- whether a note begins here
-abbrev pub sees_note : List Kind → Bool
-sees_note ts = sees terminal.Note ts || sees terminal.Indexing ts
-
--- ---- the trees in memory, without places
+-- ---- the trees in memory
 
 abbrev pub name_in : Name → plain.Name
-name_in n = named (string_bytes n.text)
+name_in n = name_of n
 
 abbrev pub text_in : String Global → List ℕ
 text_in s = string_bytes s
 
-abbrev pub bare_names : List Name → List plain.Name
-bare_names ns = map bare_name (map name_of ns)
-
 abbrev pub names_in : Vec Name Global → List plain.Name
-names_in v = bare_names v.items
+names_in v = map name_of v.items
 
 abbrev pub handler_tag_in : HandlerTag → plain.HandlerTag
-handler_tag_in g = bare_handler_tag (handler_tag_of g)
+handler_tag_in g = handler_tag_of g
 
 abbrev pub type_in : DeclaredType → plain.DeclaredType
-type_in t = bare_type (type_of t)
+type_in t = type_of t
 
 abbrev pub type_if_any_in : Option DeclaredType → Option plain.DeclaredType
-type_if_any_in t = bare_type_if_any (type_if_any t)
+type_if_any_in t = type_if_any t
 
 abbrev pub declarations_in : Vec Declaration Global → List plain.Declaration
-declarations_in v = map bare_declaration (map declaration_of v.items)
+declarations_in v = map declaration_of v.items
 
 abbrev pub expr_in : Expr → plain.Expr
-expr_in e = bare_expr (expr_of e)
+expr_in e = expr_of e
 
 abbrev pub target_in : Option (Box Expr Global) → plain.Target
-target_in t = bare_target (target_of t)
+target_in t = target_of t
 
 abbrev pub exprs_in : Vec Expr Global → plain.Exprs
-exprs_in v = bare_exprs (exprs_of v.items)
+exprs_in v = exprs_of v.items
 
 abbrev pub variable_in : Variable → plain.Variable
-variable_in v = bare_variable (variable_of v)
+variable_in v = variable_of v
 
 abbrev pub tag_in : Option Name → Option plain.Name
-tag_in tag = bare_tag (tag_of tag)
+tag_in tag = tag_of tag
 
 abbrev pub clause_in : Clause → plain.Clause
-clause_in c = bare_clause (clause_of c)
+clause_in c = clause_of c
 
 abbrev pub clauses_in : Vec Clause Global → List plain.Clause
-clauses_in v = map bare_clause (map clause_of v.items)
+clauses_in v = map clause_of v.items
 
 abbrev pub head_in : Head → plain.Head
-head_in h = bare_head (head_of h)
+head_in h = head_of h
 
 abbrev pub heads_in : Vec Head Global → List plain.Head
-heads_in v = map bare_head (map head_of v.items)
+heads_in v = map head_of v.items
 
 abbrev pub instr_in : Instr → plain.Instr
-instr_in i = bare_instr (instr_of i)
+instr_in i = instr_of i
 
 abbrev pub instrs_in : Vec Instr Global → plain.Instrs
-instrs_in v = bare_instrs (instrs_of v.items)
+instrs_in v = instrs_of v.items
 
 abbrev pub branch_in : Branch → plain.Expr × plain.Instrs
 branch_in b = (expr_in b.condition, instrs_in b.body)
 
 abbrev pub branches_in : Vec Branch Global → plain.Branches
-branches_in v = bare_branches (branches_of v.items)
+branches_in v = branches_of v.items
 
 abbrev pub opening_in : Vec Clause Global × Vec Declaration Global → List plain.Clause × List plain.Declaration
 opening_in p = (clauses_in p.0, declarations_in p.1)
@@ -125,61 +107,50 @@ closing_in p = (instrs_in p.0, clauses_in p.1)
 
 -- a feature that is exported to these classes
 abbrev pub feature_with : List plain.Name → plain.Name → FeatureKind → plain.Feature
-feature_with es x k = record { exports = es; name = x; kind = bare_kind (kind_of k) }
+feature_with es x k = record { exports = es; name = x; kind = kind_of k }
 
 abbrev pub features_in : Vec Feature Global → List plain.Feature
-features_in v = map bare_feature (map feature_of v.items)
+features_in v = map feature_of v.items
 
 abbrev pub members_in : Vec Feature Global × Vec Clause Global → List plain.Feature × List plain.Clause
 members_in p = (features_in p.0, clauses_in p.1)
 
 abbrev pub mark_in : Option ClassMark → Option plain.ClassMark
-mark_in m = bare_mark (mark_if_any m)
+mark_in m = mark_if_any m
 
 abbrev pub parent_in : Parent → plain.Parent
-parent_in p = bare_parent (parent_of p)
+parent_in p = parent_of p
 
 abbrev pub parents_in : Vec Parent Global → List plain.Parent
-parents_in v = map bare_parent (map parent_of v.items)
+parents_in v = map parent_of v.items
 
 abbrev pub class_in : Class → plain.Class
-class_in c = bare_class (class_of c)
+class_in c = class_of c
 
 abbrev pub classes_in : Vec Class Global → List plain.Class
-classes_in v = map bare_class (map class_of v.items)
+classes_in v = map class_of v.items
 
 abbrev pub system_in : System → plain.System
-system_in s = bare_system (system_of s)
-
-abbrev pub span_in : plain.Expr → Span
-span_in (plain.Integer s n) = s
-span_in (plain.Boolean s b) = s
-span_in (plain.Void s) = s
-span_in (plain.Current s) = s
-span_in (plain.Result s) = s
-span_in (plain.Call s t n es) = s
-span_in (plain.Unary s op a) = s
-span_in (plain.Binary s op a b) = s
-span_in (plain.ObjectTest s t a n) = s
+system_in s = system_of s
 
 -- ---- what is read
 
 -- what a routine has before its body
-abbrev pub opening_ahead : ℕ → List Kind → Read (List plain.Clause × List plain.Declaration)
+abbrev pub opening_ahead : ℕ → Ahead → Read (List plain.Clause × List plain.Declaration)
 opening_ahead room ts =
     assertion room terminal.Require (skip terminal.Is ts) >>= λ pre. locals pre.2 >>= λ ls. expect terminal.Do ls.1 >>= λ rest. Ok ((pre.0, ls.0), pre.1, rest)
 
 -- the body of a routine and what follows it
-abbrev pub closing_ahead : ℕ → List Kind → Read (plain.Instrs × List plain.Clause)
+abbrev pub closing_ahead : ℕ → Ahead → Read (plain.Instrs × List plain.Clause)
 closing_ahead room ts =
     instrs room ts >>= λ b. assertion room terminal.Ensure b.2 >>= λ post. expect terminal.End post.2 >>= λ rest. Ok ((b.0, post.0), max b.1 post.1, rest)
 
 -- a class from `class` up to its features: its name, parents and creators
-abbrev pub header_ahead : List Kind → Taken (plain.Name × (List plain.Parent × List plain.Name))
+abbrev pub header_ahead : Ahead → Taken (plain.Name × (List plain.Parent × List plain.Name))
 header_ahead ts = expect terminal.Class ts >>= λ r. name r >>= λ x. parents x.1 >>= λ ps. creators ps.1 >>= λ ns. Ok ((x.0, (ps.0, ns.0)), ns.1)
 
 -- a class from its features on
-abbrev pub members_ahead : ℕ → List Kind → Read (List plain.Feature × List plain.Clause)
+abbrev pub members_ahead : ℕ → Ahead → Read (List plain.Feature × List plain.Clause)
 members_ahead room ts =
     sections room ts >>= λ fs. assertion room terminal.Invariant fs.2 >>= λ is. expect terminal.End (past_note ends_class is.2) >>= λ rest. Ok ((fs.0, is.0), max fs.1 is.1, rest)
 
@@ -190,17 +161,17 @@ Fails read (fault.TooDeep place) = read ≡ Err Deep
 Fails read fault.OutOfMemory = Unit {0}
 
 -- Reading gives the tree, its nesting and what is left.
-abbrev pub Reads : {A X : Type 0} → (X → A) → Read A → Result (X × ℕ) ParseFault → List Kind → Type 0
+abbrev pub Reads : {A X : Type 0} → (X → A) → Read A → Result (X × ℕ) ParseFault → Ahead → Type 0
 Reads view read (Ok p) rest = read ≡ Ok (view p.0, p.1, rest)
 Reads view read (Err e) rest = Fails read e
 
 -- Reading gives the tree, with some nesting, and what is left.
-abbrev pub Gives : {A X : Type 0} → (X → A) → Read A → Result X ParseFault → List Kind → Type 0
+abbrev pub Gives : {A X : Type 0} → (X → A) → Read A → Result X ParseFault → Ahead → Type 0
 Gives view read (Ok x) rest = (h : ℕ) × (read ≡ Ok (view x, h, rest))
 Gives view read (Err e) rest = Fails read e
 
 -- Reading gives what holds no nested token, and what is left.
-abbrev pub Takes : {A X : Type 0} → (X → A) → Taken A → Result X ParseFault → List Kind → Type 0
+abbrev pub Takes : {A X : Type 0} → (X → A) → Taken A → Result X ParseFault → Ahead → Type 0
 Takes view read (Ok x) rest = read ≡ Ok (view x, rest)
 Takes view read (Err e) rest = Fails read e
 

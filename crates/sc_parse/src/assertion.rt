@@ -1,7 +1,7 @@
 // Assertions (ECMA-367, 8.9).
 
 ghost use Rattle.std.specs.Prelude.{◌≡◌, ℕ, [], IfOk, length};
-ghost use Rattle.sc_tree.specs.Reading.Assertions as spec;
+ghost use Rattle.sc_parse.specs.Reading.Assertions as spec;
 ghost use Rattle.sc_parse.specs.Reads.{ahead, tag_in, clause_in, clauses_in, Gives};
 
 use crate::cursor::Parser;
@@ -37,7 +37,7 @@ impl<'a> Parser<'a> {
     }
 
     /// A condition with its tag.
-    #[tactic(auto, unfolding(sc_tree::specs::Reading::Assertions::clause, sc_tree::specs::View::clause_of))]
+    #[tactic(auto, unfolding(crate::specs::Reading::Assertions::clause, sc_tree::specs::View::clause_of))]
     fn clause(&mut self, room: u8) -> Result<Clause, ParseFault>
         ensures { Gives clause_in (spec.clause room (ahead self.old)) result (ahead self.new) }
     {
@@ -70,7 +70,7 @@ impl<'a> Parser<'a> {
     }
 
     /// The clauses after this word, if it is there.
-    #[tactic(auto, unfolding(sc_tree::specs::Reading::Assertions::assertion))]
+    #[tactic(auto, unfolding(crate::specs::Reading::Assertions::assertion))]
     pub fn assertion(&mut self, word: Terminal, room: u8) -> Result<Vec<Clause>, ParseFault>
         ensures { Gives clauses_in (spec.assertion room word (ahead self.old)) result (ahead self.new) }
     {

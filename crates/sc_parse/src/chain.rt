@@ -1,7 +1,8 @@
 // Chains of calls with their actuals, and object tests of them (ECMA-367, 8.23 and 8.24).
 
-ghost use Rattle.std.specs.Prelude.{◌≡◌, ◌≤◌, ◌<◌, IfOk, length};
-ghost use Rattle.sc_tree.specs.Reading.Expressions as spec;
+ghost use Rattle.std.specs.Prelude.{◌≡◌, ◌≤◌, ◌<◌, IfOk};
+ghost use Rattle.sc_parse.specs.Reading.Looks.{left};
+ghost use Rattle.sc_parse.specs.Reading.Expressions as spec;
 ghost use Rattle.sc_parse.specs.Reads.{ahead, expr_in, exprs_in, target_in, Reads};
 
 use crate::cursor::Parser;
@@ -13,7 +14,7 @@ use sc_tree::{Call, Expr};
 impl<'a> Parser<'a> {
     /// A name with actuals, `Current` or `Result`, and a call for each dot behind it.
     #[cycle(expression)]
-    #[tactic(auto, unfolding(sc_tree::specs::Reading::Expressions::chain, sc_tree::specs::Reading::Expressions::chain_head))]
+    #[tactic(auto, unfolding(crate::specs::Reading::Expressions::chain, crate::specs::Reading::Expressions::chain_head))]
     pub fn chain(&mut self, room: u8) -> Result<(Expr, u8), ParseFault>
         ensures read { Reads expr_in (spec.chain (spec.nested room) room (ahead self.old)) result (ahead self.new) }
         ensures high { IfOk result (λ p. p.1 ≤ room) }
@@ -36,7 +37,7 @@ impl<'a> Parser<'a> {
     #[tactic(auto, using(crate::proofs::Turns::calls_end, crate::proofs::Turns::calls_turn))]
     fn calls(&mut self, room: u8, first: Expr, first_height: u8) -> Result<(Expr, u8), ParseFault>
         requires { first_height ≤ room }
-        ensures read { Reads expr_in (spec.calls (spec.nested room) room (length (ahead self.old)) (expr_in first) first_height (ahead self.old)) result (ahead self.new) }
+        ensures read { Reads expr_in (spec.calls (spec.nested room) room (left (ahead self.old)) (expr_in first) first_height (ahead self.old)) result (ahead self.new) }
         ensures high { IfOk result (λ p. p.1 ≤ room) }
     {
         let mut chain = first;
@@ -62,14 +63,14 @@ impl<'a> Parser<'a> {
 
     /// A call of this target, which begins at `start`: a feature's name and its actuals.
     #[cycle(expression)]
-    #[tactic(auto, unfolding(sc_tree::specs::Reading::Expressions::calling))]
+    #[tactic(auto, unfolding(crate::specs::Reading::Expressions::calling))]
     fn calling(
         &mut self,
         target: Option<Box<Expr>>,
         start: usize,
         room: u8,
     ) -> Result<(Expr, u8), ParseFault>
-        ensures read { Reads expr_in (spec.calling (spec.nested room) (target_in target) (ahead self.old)) result (ahead self.new) }
+        ensures read { Reads expr_in (spec.calling (spec.nested room) start (target_in target) (ahead self.old)) result (ahead self.new) }
         ensures high { IfOk result (λ p. p.1 ≤ room) }
     {
         let name = self.name()?;
@@ -85,7 +86,7 @@ impl<'a> Parser<'a> {
 
     /// The actuals in parentheses, if they are there.
     #[cycle(expression)]
-    #[tactic(auto, unfolding(sc_tree::specs::Reading::Expressions::actuals))]
+    #[tactic(auto, unfolding(crate::specs::Reading::Expressions::actuals))]
     pub fn actuals(&mut self, room: u8) -> Result<(Vec<Expr>, u8), ParseFault>
         ensures read { Reads exprs_in (spec.actuals (spec.nested room) (ahead self.old)) result (ahead self.new) }
         ensures high { IfOk result (λ p. p.1 ≤ room) }
@@ -124,7 +125,7 @@ impl<'a> Parser<'a> {
 
     /// What follows `attached`.
     #[cycle(expression)]
-    #[tactic(auto, unfolding(sc_tree::specs::Reading::Expressions::object_test))]
+    #[tactic(auto, unfolding(crate::specs::Reading::Expressions::object_test))]
     pub fn object_test(&mut self, room: u8) -> Result<(Expr, u8), ParseFault>
         ensures read { Reads expr_in (spec.object_test (spec.nested room) room (ahead self.old)) result (ahead self.new) }
         ensures high { IfOk result (λ p. p.1 ≤ room) }

@@ -1,9 +1,10 @@
 // Classes (ECMA-367, 8.4 and 8.6).
 
-ghost use Rattle.std.specs.Prelude.{◌≡◌, ◌∷◌, [], length};
+ghost use Rattle.std.specs.Prelude.{◌≡◌, ◌∷◌, [], IfOk, IsTrue};
 ghost use Rattle.sc_tree.specs.Grammar.Classes as grammar;
-ghost use Rattle.sc_tree.specs.Reading.Classes as spec;
-ghost use Rattle.sc_tree.specs.Reading.Looks.{skip};
+ghost use Rattle.sc_parse.specs.Reading.Classes as spec;
+ghost use Rattle.sc_parse.specs.Reading.Looks.{left, skip};
+ghost use Rattle.sc_tree.specs.Sections.{share_lists};
 ghost use Rattle.sc_parse.specs.Reads.{ahead, mark_in, parent_in, parents_in, names_in, header_ahead, members_in, members_ahead, class_in, classes_in, Gives, Takes};
 
 use crate::cursor::Parser;
@@ -54,7 +55,7 @@ impl<'a> Parser<'a> {
     }
 
     /// Reads the word before `class`, if there is one.
-    #[tactic(auto, unfolding(sc_tree::specs::Reading::Classes::mark))]
+    #[tactic(auto, unfolding(crate::specs::Reading::Classes::mark))]
     fn mark(&mut self) -> Option<ClassMark>
         ensures { spec.mark (ahead self.old) ≡ (mark_in result, ahead self.new) }
     {
@@ -74,7 +75,7 @@ impl<'a> Parser<'a> {
     }
 
     /// One parent, with the names that it redefines.
-    #[tactic(auto, unfolding(sc_tree::specs::Reading::Classes::parent))]
+    #[tactic(auto, unfolding(crate::specs::Reading::Classes::parent))]
     fn parent(&mut self) -> Result<Parent, ParseFault>
         ensures { Takes parent_in (spec.parent (ahead self.old)) result (ahead self.new) }
     {
@@ -89,7 +90,7 @@ impl<'a> Parser<'a> {
     }
 
     /// The classes after `inherit`, if it is there.
-    #[tactic(auto, unfolding(sc_tree::specs::Reading::Classes::parents))]
+    #[tactic(auto, unfolding(crate::specs::Reading::Classes::parents))]
     fn parents(&mut self) -> Result<Vec<Parent>, ParseFault>
         ensures { Takes parents_in (spec.parents (ahead self.old)) result (ahead self.new) }
     {
@@ -104,7 +105,7 @@ impl<'a> Parser<'a> {
     /// The first parent and those that follow it, each with or without a semicolon behind it.
     #[tactic(auto, using(crate::proofs::Lists::parents_begin, crate::proofs::Lists::parents_end, crate::proofs::Lists::parents_turn))]
     fn more_parents(&mut self, first: Parent) -> Result<Vec<Parent>, ParseFault>
-        ensures { Takes parents_in (spec.parents_from (length (ahead self.old)) (parent_in first ∷ []) (skip Terminal.Semicolon (ahead self.old))) result (ahead self.new) }
+        ensures { Takes parents_in (spec.parents_from (left (ahead self.old)) (parent_in first ∷ []) (skip Terminal.Semicolon (ahead self.old))) result (ahead self.new) }
     {
         let mut found = Vec::new(self.alloc);
         found.push(first)?;
@@ -122,7 +123,7 @@ impl<'a> Parser<'a> {
     }
 
     /// The names after `create`, if it is there.
-    #[tactic(auto, unfolding(sc_tree::specs::Reading::Classes::creators))]
+    #[tactic(auto, unfolding(crate::specs::Reading::Classes::creators))]
     fn creators(&mut self) -> Result<Vec<Name>, ParseFault>
         ensures { Takes names_in (spec.creators (ahead self.old)) result (ahead self.new) }
     {
@@ -150,7 +151,8 @@ impl<'a> Parser<'a> {
 
     /// The features and the invariant of a class, up to its `end`.
     fn members(&mut self, room: u8) -> Result<(Vec<Feature>, Vec<Clause>), ParseFault>
-        ensures { Gives members_in (members_ahead room (ahead self.old)) result (ahead self.new) }
+        ensures read { Gives members_in (members_ahead room (ahead self.old)) result (ahead self.new) }
+        ensures shared { IfOk result (λ members. IsTrue (share_lists members.0.items)) }
     {
         let features = self.sections(room)?;
         let invariant = self.assertion(Terminal::Invariant, room)?;
@@ -160,7 +162,7 @@ impl<'a> Parser<'a> {
     }
 
     /// One class, from the note before it to its `end`.
-    #[tactic(auto, using(crate::proofs::Parts::class_is), unfolding(sc_tree::specs::Reading::Classes::class))]
+    #[tactic(auto, using(crate::proofs::Parts::class_is), unfolding(crate::specs::Reading::Classes::class))]
     fn class(&mut self, room: u8) -> Result<Class, ParseFault>
         ensures { Gives class_in (spec.class room (ahead self.old)) result (ahead self.new) }
     {
@@ -187,7 +189,7 @@ impl<'a> Parser<'a> {
     /// Classes, one after the other, up to the end of the tokens.
     #[tactic(auto, using(crate::proofs::Lists::classes_begin, crate::proofs::Lists::classes_end, crate::proofs::Lists::classes_turn))]
     pub fn classes(&mut self, room: u8) -> Result<Vec<Class>, ParseFault>
-        ensures { Gives classes_in (spec.classes_from room (length (ahead self.old)) [] 0 (ahead self.old)) result (ahead self.new) }
+        ensures { Gives classes_in (spec.classes_from room (left (ahead self.old)) [] 0 (ahead self.old)) result (ahead self.new) }
     {
         let mut found = Vec::new(self.alloc);
         for _turn in 0..self.rest.len() {

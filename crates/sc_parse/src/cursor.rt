@@ -1,8 +1,7 @@
 // The tokens that are still to be read, and how they are read one by one.
 
 ghost use Rattle.std.specs.Prelude.{◌≡◌, ◌∷◌, [], Ok, Err, MatchOption, MatchResult};
-ghost use Rattle.sc_text.specs.Kind.{kind_of, kinds_of};
-ghost use Rattle.sc_tree.specs.Reading.Looks as spec;
+ghost use Rattle.sc_parse.specs.Reading.Looks as spec;
 
 use crate::fault::ParseFault;
 use crate::look::{begins_with, is_word};
@@ -20,11 +19,12 @@ pub struct Parser<'a> {
 }
 
 impl<'a> Parser<'a> {
+    ghost use Rattle.sc_parse.specs.Reading.Classes.{opening};
     ghost use Rattle.sc_parse.specs.Reads.{ahead, name_in, text_in, Fails, Takes};
 
     /// The parser of these tokens.
     pub fn new(alloc: Global, tokens: &'a [Token]) -> Parser<'a>
-        ensures { ahead result ≡ kinds_of tokens.now }
+        ensures { ahead result ≡ opening tokens.now }
     {
         Parser {
             alloc,
@@ -34,7 +34,9 @@ impl<'a> Parser<'a> {
     }
 
     /// Where the next token begins, or the last ends where none is left.
-    pub fn next_start(&self) -> usize {
+    pub fn next_start(&self) -> usize
+        ensures { result ≡ spec.begin (ahead self.now) }
+    {
         match self.rest.first() {
             Some(token) => token.span.start,
             None => self.last.end,
@@ -42,7 +44,9 @@ impl<'a> Parser<'a> {
     }
 
     /// From where something began to the end of the last token.
-    pub fn span_from(&self, start: usize) -> Span {
+    pub fn span_from(&self, start: usize) -> Span
+        ensures { result ≡ spec.up_to start (ahead self.now) }
+    {
         Span {
             start,
             end: self.last.end,
@@ -51,7 +55,7 @@ impl<'a> Parser<'a> {
 
     /// Reads a token, if one is left.
     pub fn take(&mut self) -> Option<&'a Token>
-        ensures found { MatchOption result ((ahead self.old ≡ []) × (ahead self.new ≡ [])) (λ t. ahead self.old ≡ kind_of t.now.kind ∷ ahead self.new) }
+        ensures found { MatchOption result ((self.old.rest.now ≡ []) × (self.new.rest.now ≡ [])) (λ t. (self.old.rest.now ≡ t.now ∷ self.new.rest.now) × (self.new.last ≡ t.now.span)) }
         ensures past { ahead self.new ≡ spec.past (ahead self.old) }
     {
         match self.rest.split_first() {
@@ -75,7 +79,7 @@ impl<'a> Parser<'a> {
     }
 
     /// Reads this terminal.
-    #[tactic(auto, unfolding(sc_tree::specs::Reading::Looks::expect))]
+    #[tactic(auto, unfolding(crate::specs::Reading::Looks::expect))]
     pub fn expect(&mut self, terminal: Terminal) -> Result<(), ParseFault>
         ensures { MatchResult result (λ _. spec.expect terminal (ahead self.old) ≡ Ok (ahead self.new)) (Fails (spec.expect terminal (ahead self.old))) }
     {
@@ -90,7 +94,7 @@ impl<'a> Parser<'a> {
     }
 
     /// Reads the name that is spelled so.
-    #[tactic(auto, unfolding(sc_tree::specs::Reading::Looks::expect_word))]
+    #[tactic(auto, unfolding(crate::specs::Reading::Looks::expect_word))]
     pub fn expect_word(&mut self, word: &str) -> Result<(), ParseFault>
         ensures { MatchResult result (λ _. spec.expect_word word.now (ahead self.old) ≡ Ok (ahead self.new)) (Fails (spec.expect_word word.now (ahead self.old))) }
     {

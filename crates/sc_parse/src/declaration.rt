@@ -1,8 +1,9 @@
 // Formal arguments, locals and result types (ECMA-367, 8.5, 8.8 and 8.10).
 
-ghost use Rattle.std.specs.Prelude.{◌≡◌, [], IfOk, length, map};
+ghost use Rattle.std.specs.Prelude.{◌≡◌, [], IfOk, map};
+ghost use Rattle.sc_parse.specs.Reading.Looks.{left};
 ghost use Rattle.sc_tree.specs.Grammar.Classes as grammar;
-ghost use Rattle.sc_tree.specs.Reading.Classes as spec;
+ghost use Rattle.sc_parse.specs.Reading.Classes as spec;
 ghost use Rattle.sc_parse.specs.Reads.{ahead, declarations_in, names_in, type_in, type_if_any_in, Takes};
 
 use crate::cursor::Parser;
@@ -33,7 +34,7 @@ fn declared_with(
 
 impl<'a> Parser<'a> {
     /// Names with their type.
-    #[tactic(auto, unfolding(sc_tree::specs::Reading::Classes::declaration))]
+    #[tactic(auto, unfolding(crate::specs::Reading::Classes::declaration))]
     fn declaration(&mut self) -> Result<Vec<Declaration>, ParseFault>
         ensures { Takes declarations_in (spec.declaration (ahead self.old)) result (ahead self.new) }
     {
@@ -47,7 +48,7 @@ impl<'a> Parser<'a> {
     /// The formals of the first declaration and those of each that follows.
     #[tactic(auto, using(crate::proofs::Lists::declarations_begin, crate::proofs::Lists::declarations_end, crate::proofs::Lists::declarations_turn))]
     fn more_declarations(&mut self, first: Vec<Declaration>) -> Result<Vec<Declaration>, ParseFault>
-        ensures { Takes declarations_in (spec.more_declarations (length (ahead self.old)) (declarations_in first) (ahead self.old)) result (ahead self.new) }
+        ensures { Takes declarations_in (spec.more_declarations (left (ahead self.old)) (declarations_in first) (ahead self.old)) result (ahead self.new) }
     {
         let mut found = first;
         for _turn in 0..self.rest.len() {
@@ -62,7 +63,7 @@ impl<'a> Parser<'a> {
     }
 
     /// The formals in parentheses, if they are there.
-    #[tactic(auto, unfolding(sc_tree::specs::Reading::Classes::formals))]
+    #[tactic(auto, unfolding(crate::specs::Reading::Classes::formals))]
     pub fn formals(&mut self) -> Result<Vec<Declaration>, ParseFault>
         ensures { Takes declarations_in (spec.formals (ahead self.old)) result (ahead self.new) }
     {
@@ -77,7 +78,7 @@ impl<'a> Parser<'a> {
     }
 
     /// The locals after `local`, if it is there.
-    #[tactic(auto, using(crate::proofs::Lists::locals_begin, crate::proofs::Lists::locals_end, crate::proofs::Lists::locals_turn), unfolding(sc_tree::specs::Reading::Classes::locals))]
+    #[tactic(auto, using(crate::proofs::Lists::locals_begin, crate::proofs::Lists::locals_end, crate::proofs::Lists::locals_turn), unfolding(crate::specs::Reading::Classes::locals))]
     pub fn locals(&mut self) -> Result<Vec<Declaration>, ParseFault>
         ensures { Takes declarations_in (spec.locals (ahead self.old)) result (ahead self.new) }
     {
@@ -98,7 +99,7 @@ impl<'a> Parser<'a> {
     }
 
     /// The type after a colon, if it is there.
-    #[tactic(auto, unfolding(sc_tree::specs::Reading::Classes::result_type))]
+    #[tactic(auto, unfolding(crate::specs::Reading::Classes::result_type))]
     pub fn result_type(&mut self) -> Result<Option<DeclaredType>, ParseFault>
         ensures { Takes type_if_any_in (spec.result_type (ahead self.old)) result (ahead self.new) }
     {

@@ -1,9 +1,11 @@
 // Expressions (ECMA-367, 8.28).
 
-ghost use Rattle.std.specs.Prelude.{◌≡◌, ◌≤◌, ◌<◌, max, IfOk, length};
-ghost use Rattle.sc_tree.specs.Reading.Expressions as spec;
+ghost use Rattle.std.specs.Prelude.{◌≡◌, ◌≤◌, ◌<◌, max, IfOk};
+ghost use Rattle.sc_parse.specs.Places.{place_of};
+ghost use Rattle.sc_parse.specs.Reading.Looks.{left};
+ghost use Rattle.sc_parse.specs.Reading.Expressions as spec;
 ghost use Rattle.sc_tree.specs.View.{expr_of};
-ghost use Rattle.sc_parse.specs.Reads.{ahead, expr_in, span_in, Reads};
+ghost use Rattle.sc_parse.specs.Reads.{ahead, expr_in, Reads};
 
 use crate::cursor::Parser;
 use crate::fault::ParseFault;
@@ -24,7 +26,7 @@ pub fn deeper(a: u8, b: u8) -> u8
 /// Where an expression stands.
 #[tactic(auto, unfolding(sc_tree::specs::View::expr_of))]
 pub fn span_of(expr: &Expr) -> Span
-    ensures { result ≡ span_in (expr_of expr.now) }
+    ensures { result ≡ place_of (expr_of expr.now) }
 {
     match expr {
         Expr::Integer(span, _) => *span,
@@ -72,7 +74,7 @@ impl<'a> Parser<'a> {
 
     /// The first operand with the operators just above the class that follow it, and their right operands.
     #[cycle(expression)]
-    #[tactic(auto, using(crate::proofs::Turns::turns_of, crate::proofs::Turns::operators_end, crate::proofs::Turns::operators_turn), unfolding(sc_tree::specs::View::expr_of, sc_tree::specs::Bare::bare_expr))]
+    #[tactic(auto, using(crate::proofs::Turns::turns_of, crate::proofs::Turns::operators_end, crate::proofs::Turns::operators_turn), unfolding(sc_tree::specs::View::expr_of))]
     fn operators(
         &mut self,
         class: u8,
@@ -81,7 +83,7 @@ impl<'a> Parser<'a> {
         first_height: u8,
     ) -> Result<(Expr, u8), ParseFault>
         requires { first_height ≤ room }
-        ensures read { Reads expr_in (spec.operators (spec.nested room) room class (length (ahead self.old)) (expr_in first) first_height (ahead self.old)) result (ahead self.new) }
+        ensures read { Reads expr_in (spec.operators (spec.nested room) room class (left (ahead self.old)) (expr_in first) first_height (ahead self.old)) result (ahead self.new) }
         ensures high { IfOk result (λ p. p.1 ≤ room) }
     {
         let mut left = first;
@@ -117,7 +119,7 @@ impl<'a> Parser<'a> {
 
     /// A primary expression, or an operator with the operand behind it.
     #[cycle(expression)]
-    #[tactic(auto, unfolding(sc_tree::specs::Reading::Expressions::operand, sc_tree::specs::Reading::Expressions::prefixed, sc_tree::specs::View::expr_of, sc_tree::specs::Bare::bare_expr))]
+    #[tactic(auto, unfolding(crate::specs::Reading::Expressions::operand, crate::specs::Reading::Expressions::prefixed, sc_tree::specs::View::expr_of))]
     fn operand(&mut self, room: u8) -> Result<(Expr, u8), ParseFault>
         ensures read { Reads expr_in (spec.operand (spec.nested room) room (ahead self.old)) result (ahead self.new) }
         ensures high { IfOk result (λ p. p.1 ≤ room) }
@@ -138,7 +140,7 @@ impl<'a> Parser<'a> {
 
     /// A constant, an expression in parentheses, an object test or a chain of calls.
     #[cycle(expression)]
-    #[tactic(auto, unfolding(sc_tree::specs::Reading::Expressions::primary, sc_tree::specs::Reading::Expressions::parenthesized, sc_tree::specs::View::expr_of, sc_tree::specs::Bare::bare_expr))]
+    #[tactic(auto, unfolding(crate::specs::Reading::Expressions::primary, crate::specs::Reading::Expressions::parenthesized, sc_tree::specs::View::expr_of))]
     fn primary(&mut self, room: u8) -> Result<(Expr, u8), ParseFault>
         ensures read { Reads expr_in (spec.primary (spec.nested room) room (ahead self.old)) result (ahead self.new) }
         ensures high { IfOk result (λ p. p.1 ≤ room) }

@@ -1,9 +1,12 @@
 // Features, and whom they are exported to (ECMA-367, 8.5 to 8.7).
 
-ghost use Rattle.std.specs.Prelude.{◌≡◌, ◌∷◌, ℕ, [], IfOk, length, map};
+ghost use Rattle.std.specs.Prelude.{◌≡◌, ◌∷◌, ℕ, [], IfOk, IsTrue, map};
+ghost use Rattle.sc_parse.specs.Reading.Looks.{left};
 ghost use Rattle.sc_tree.specs.Grammar.Classes as grammar;
-ghost use Rattle.sc_tree.specs.Reading.Classes as spec;
+ghost use Rattle.sc_parse.specs.Reading.Classes as spec;
+ghost use Rattle.sc_tree.specs.Sections.{share_lists};
 ghost use Rattle.sc_parse.specs.Reads.{ahead, opening_in, opening_ahead, closing_in, closing_ahead, feature_with, declarations_in, features_in, name_in, names_in, type_in, type_if_any_in, Gives, Takes};
+ghost use Rattle.sc_parse.specs.Sections.{AddsExported, begun_at};
 
 use crate::cursor::Parser;
 use crate::fault::ParseFault;
@@ -38,6 +41,7 @@ fn attributes_of(
         let kind = FeatureKind::Attribute(copied_type(declared)?);
         features.push(Feature {
             exports,
+            is_further: true,
             name,
             kind,
         })?;
@@ -58,15 +62,25 @@ fn one_feature(
     let mut features = Vec::new(alloc);
     features.push(Feature {
         exports,
+        is_further: true,
         name,
         kind,
     })?;
     Ok(features)
 }
 
+/// The feature of this number, if there is one, begins what stands under its `feature`.
+fn begin_section(features: &mut Vec<Feature>, number: usize)
+    ensures { features.new.items ≡ begun_at number features.old.items }
+{
+    if number < features.len() {
+        features[number].is_further = false;
+    }
+}
+
 impl<'a> Parser<'a> {
     /// The classes in braces that features are exported to, if they are there.
-    #[tactic(auto, unfolding(sc_tree::specs::Reading::Classes::exports))]
+    #[tactic(auto, unfolding(crate::specs::Reading::Classes::exports))]
     fn exports(&mut self) -> Result<Vec<Name>, ParseFault>
         ensures { Takes names_in (spec.exports (ahead self.old)) result (ahead self.new) }
     {
@@ -78,7 +92,7 @@ impl<'a> Parser<'a> {
     }
 
     /// What follows the brace that opens an export list. An empty one is the same as `{NONE}`.
-    #[tactic(auto, unfolding(sc_tree::specs::Reading::Classes::export_list))]
+    #[tactic(auto, unfolding(crate::specs::Reading::Classes::export_list))]
     fn export_list(&mut self) -> Result<Vec<Name>, ParseFault>
         ensures { Takes names_in (spec.export_list (ahead self.old)) result (ahead self.new) }
     {
@@ -166,7 +180,7 @@ impl<'a> Parser<'a> {
     }
 
     /// What follows the first name of attributes.
-    #[tactic(auto, unfolding(sc_tree::specs::Reading::Classes::attributes))]
+    #[tactic(auto, unfolding(crate::specs::Reading::Classes::attributes))]
     fn attributes(
         &mut self,
         exports: &Rc<Vec<Name>>,
@@ -183,7 +197,7 @@ impl<'a> Parser<'a> {
     }
 
     /// A routine, or attributes of one type.
-    #[tactic(auto, unfolding(sc_tree::specs::Reading::Classes::feature))]
+    #[tactic(auto, unfolding(crate::specs::Reading::Classes::feature))]
     fn feature(&mut self, exports: &Rc<Vec<Name>>, room: u8) -> Result<Vec<Feature>, ParseFault>
         ensures { Gives features_in (spec.feature room (names_in exports.now.value) (ahead self.old)) result (ahead self.new) }
     {
@@ -204,7 +218,8 @@ impl<'a> Parser<'a> {
         earlier: Vec<Feature>,
         room: u8,
     ) -> Result<Vec<Feature>, ParseFault>
-        ensures { (high : ℕ) → Gives features_in (spec.features_from room (names_in exports.now.value) (length (ahead self.old)) (features_in earlier) high (ahead self.old)) result (ahead self.new) }
+        ensures read { (high : ℕ) → Gives features_in (spec.features_from room (names_in exports.now.value) (left (ahead self.old)) (features_in earlier) high (ahead self.old)) result (ahead self.new) }
+        ensures added { IfOk result (λ found. AddsExported (names_in exports.now.value) earlier.items found.items) }
     {
         let mut found = earlier;
         for _turn in 0..self.rest.len() {
@@ -221,7 +236,8 @@ impl<'a> Parser<'a> {
     /// The features that stand under each `feature`.
     #[tactic(auto, using(crate::proofs::Lists::sections_begin, crate::proofs::Lists::sections_end, crate::proofs::Lists::sections_turn))]
     pub fn sections(&mut self, room: u8) -> Result<Vec<Feature>, ParseFault>
-        ensures { Gives features_in (spec.sections room (ahead self.old)) result (ahead self.new) }
+        ensures read { Gives features_in (spec.sections room (ahead self.old)) result (ahead self.new) }
+        ensures shared { IfOk result (λ found. IsTrue (share_lists found.items)) }
     {
         let mut found = Vec::new(self.alloc);
         for _turn in 0..self.rest.len() {
@@ -231,7 +247,9 @@ impl<'a> Parser<'a> {
             self.take();
             let exports = self.exports()?;
             let shared = Rc::new(self.alloc, exports)?;
+            let number = found.len();
             found = self.section(&shared, found, room)?;
+            begin_section(&mut found, number);
         }
         Ok(found)
     }

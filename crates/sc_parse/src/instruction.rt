@@ -1,9 +1,9 @@
 // Instructions (ECMA-367, 8.9, 8.17, 8.20, 8.22 and 8.23), and separate blocks.
 
-ghost use Rattle.std.specs.Prelude.{◌≡◌, length};
+ghost use Rattle.std.specs.Prelude.{◌≡◌};
 ghost use Rattle.sc_tree.specs.Plain.{no_branches};
-ghost use Rattle.sc_tree.specs.Reading.Instructions as spec;
-ghost use Rattle.sc_tree.specs.Reading.Looks.{past};
+ghost use Rattle.sc_parse.specs.Reading.Instructions as spec;
+ghost use Rattle.sc_parse.specs.Reading.Looks.{begin, left, past};
 ghost use Rattle.sc_parse.specs.Reads.{ahead, variable_in, clauses_in, expr_in, head_in, heads_in, instr_in, instrs_in, branch_in, branches_in, Gives, Reads, Takes};
 
 use crate::cursor::Parser;
@@ -48,7 +48,7 @@ impl<'a> Parser<'a> {
 
     /// The instruction that begins here.
     #[cycle(instructions)]
-    #[tactic(auto, unfolding(sc_tree::specs::Reading::Instructions::instr))]
+    #[tactic(auto, unfolding(crate::specs::Reading::Instructions::instr))]
     fn instruction(&mut self, room: u8) -> Result<Instr, ParseFault>
         ensures { Gives instr_in (spec.instr room (spec.nested_instrs room) (ahead self.old)) result (ahead self.new) }
     {
@@ -82,7 +82,7 @@ impl<'a> Parser<'a> {
     }
 
     /// What an assignment or a creation changes.
-    #[tactic(auto, unfolding(sc_tree::specs::Reading::Instructions::variable))]
+    #[tactic(auto, unfolding(crate::specs::Reading::Instructions::variable))]
     fn variable(&mut self) -> Result<Variable, ParseFault>
         ensures { Takes variable_in (spec.variable (ahead self.old)) result (ahead self.new) }
     {
@@ -95,7 +95,7 @@ impl<'a> Parser<'a> {
     }
 
     /// A variable, and the value that it is assigned.
-    #[tactic(auto, unfolding(sc_tree::specs::Reading::Instructions::assignment))]
+    #[tactic(auto, unfolding(crate::specs::Reading::Instructions::assignment))]
     fn assignment(&mut self, room: u8) -> Result<Instr, ParseFault>
         ensures { Gives instr_in (spec.assignment room (spec.nested_instrs room) (ahead self.old)) result (ahead self.new) }
     {
@@ -111,9 +111,9 @@ impl<'a> Parser<'a> {
     }
 
     /// `print` of a manifest string.
-    #[tactic(auto, unfolding(sc_tree::specs::Reading::Instructions::printing))]
+    #[tactic(auto, unfolding(crate::specs::Reading::Instructions::printing))]
     fn printing(&mut self, room: u8) -> Result<Instr, ParseFault>
-        ensures { Gives instr_in (spec.printing room (spec.nested_instrs room) (past (past (ahead self.old)))) result (ahead self.new) }
+        ensures { Gives instr_in (spec.printing room (spec.nested_instrs room) (begin (ahead self.old)) (past (past (ahead self.old)))) result (ahead self.new) }
     {
         let start = self.next_start();
         self.take();
@@ -129,7 +129,7 @@ impl<'a> Parser<'a> {
     }
 
     /// A chain of calls that ends in a call.
-    #[tactic(auto, unfolding(sc_tree::specs::Reading::Instructions::routine_call))]
+    #[tactic(auto, unfolding(crate::specs::Reading::Instructions::routine_call))]
     fn routine_call(&mut self, room: u8) -> Result<Instr, ParseFault>
         ensures { Gives instr_in (spec.routine_call room (spec.nested_instrs room) (ahead self.old)) result (ahead self.new) }
     {
@@ -143,7 +143,7 @@ impl<'a> Parser<'a> {
     }
 
     /// What follows `create`.
-    #[tactic(auto, unfolding(sc_tree::specs::Reading::Instructions::creation))]
+    #[tactic(auto, unfolding(crate::specs::Reading::Instructions::creation))]
     fn creation(&mut self, room: u8) -> Result<Instr, ParseFault>
         ensures { Gives instr_in (spec.creation room (spec.nested_instrs room) (ahead self.old)) result (ahead self.new) }
     {
@@ -166,7 +166,7 @@ impl<'a> Parser<'a> {
 
     /// A condition and what stands under it.
     #[cycle(instructions)]
-    #[tactic(auto, unfolding(sc_tree::specs::Reading::Instructions::guarded))]
+    #[tactic(auto, unfolding(crate::specs::Reading::Instructions::guarded))]
     fn guarded(&mut self, room: u8) -> Result<Branch, ParseFault>
         ensures { Gives branch_in (spec.guarded room (spec.nested_instrs room) (ahead self.old)) result (ahead self.new) }
     {
@@ -180,7 +180,7 @@ impl<'a> Parser<'a> {
     #[cycle(instructions)]
     #[tactic(auto, using(crate::proofs::Turns::branches_begin, crate::proofs::Turns::branches_end, crate::proofs::Turns::branches_turn))]
     fn branches(&mut self, room: u8) -> Result<Vec<Branch>, ParseFault>
-        ensures { Gives branches_in (spec.branches room (spec.nested_instrs room) (length (ahead self.old)) no_branches 0 (ahead self.old)) result (ahead self.new) }
+        ensures { Gives branches_in (spec.branches room (spec.nested_instrs room) (left (ahead self.old)) no_branches 0 (ahead self.old)) result (ahead self.new) }
     {
         let mut found = Vec::new(self.alloc);
         for _turn in 0..self.rest.len() {
@@ -196,7 +196,7 @@ impl<'a> Parser<'a> {
 
     /// What stands under `else`, if it is there.
     #[cycle(instructions)]
-    #[tactic(auto, unfolding(sc_tree::specs::Reading::Instructions::other, sc_tree::specs::Bare::bare_instr))]
+    #[tactic(auto, unfolding(crate::specs::Reading::Instructions::other))]
     fn other(&mut self, room: u8) -> Result<Vec<Instr>, ParseFault>
         ensures { Gives instrs_in (spec.other room (spec.nested_instrs room) (ahead self.old)) result (ahead self.new) }
     {
@@ -209,7 +209,7 @@ impl<'a> Parser<'a> {
 
     /// What follows `if`, up to its `end`.
     #[cycle(instructions)]
-    #[tactic(auto, unfolding(sc_tree::specs::Reading::Instructions::conditional))]
+    #[tactic(auto, unfolding(crate::specs::Reading::Instructions::conditional))]
     fn conditional(&mut self, room: u8) -> Result<Instr, ParseFault>
         ensures { Gives instr_in (spec.conditional room (spec.nested_instrs room) (ahead self.old)) result (ahead self.new) }
     {
@@ -224,7 +224,7 @@ impl<'a> Parser<'a> {
 
     /// What follows `from`, up to its `end`.
     #[cycle(instructions)]
-    #[tactic(auto, unfolding(sc_tree::specs::Reading::Instructions::iteration))]
+    #[tactic(auto, unfolding(crate::specs::Reading::Instructions::iteration))]
     fn iteration(&mut self, room: u8) -> Result<Instr, ParseFault>
         ensures { Gives instr_in (spec.iteration room (spec.nested_instrs room) (ahead self.old)) result (ahead self.new) }
     {
@@ -240,7 +240,7 @@ impl<'a> Parser<'a> {
     }
 
     /// The clauses of a `check`.
-    #[tactic(auto, using(crate::proofs::Turns::clauses_none, crate::proofs::Turns::clauses_some), unfolding(sc_tree::specs::Reading::Instructions::checked))]
+    #[tactic(auto, using(crate::proofs::Turns::clauses_none, crate::proofs::Turns::clauses_some), unfolding(crate::specs::Reading::Instructions::checked))]
     fn checked(&mut self, room: u8) -> Result<Vec<Clause>, ParseFault>
         ensures { Gives clauses_in (spec.checked room (spec.nested_instrs room) (ahead self.old)) result (ahead self.new) }
     {
@@ -256,7 +256,7 @@ impl<'a> Parser<'a> {
     }
 
     /// What follows `check`, up to its `end`.
-    #[tactic(auto, unfolding(sc_tree::specs::Reading::Instructions::checking))]
+    #[tactic(auto, unfolding(crate::specs::Reading::Instructions::checking))]
     fn checking(&mut self, room: u8) -> Result<Instr, ParseFault>
         ensures { Gives instr_in (spec.checking room (spec.nested_instrs room) (ahead self.old)) result (ahead self.new) }
     {
@@ -280,7 +280,7 @@ impl<'a> Parser<'a> {
     }
 
     /// What a block reserves, with its name there.
-    #[tactic(auto, unfolding(sc_tree::specs::Reading::Instructions::head))]
+    #[tactic(auto, unfolding(crate::specs::Reading::Instructions::head))]
     fn head(&mut self, room: u8) -> Result<Head, ParseFault>
         ensures { Gives head_in (spec.head room (spec.nested_instrs room) (ahead self.old)) result (ahead self.new) }
     {
@@ -311,7 +311,7 @@ impl<'a> Parser<'a> {
 
     /// What follows `separate`, up to its `end`.
     #[cycle(instructions)]
-    #[tactic(auto, unfolding(sc_tree::specs::Reading::Instructions::block))]
+    #[tactic(auto, unfolding(crate::specs::Reading::Instructions::block))]
     fn block(&mut self, room: u8) -> Result<Instr, ParseFault>
         ensures { Gives instr_in (spec.block room (spec.nested_instrs room) (ahead self.old)) result (ahead self.new) }
     {

@@ -2,11 +2,11 @@
 
 ghost use Rattle.std.specs.Prelude.{◌≡◌};
 ghost use Rattle.sc_text.specs.Kind.{kind_of, kinds_of};
-ghost use Rattle.sc_tree.specs.Grammar.Assertions as assertions;
 ghost use Rattle.sc_tree.specs.Grammar.Classes as grammar;
-ghost use Rattle.sc_tree.specs.Reading.Looks as spec;
-ghost use Rattle.sc_tree.specs.Reading.Classes as classes;
-ghost use Rattle.sc_tree.specs.Reading.Instructions as instructions;
+ghost use Rattle.sc_parse.specs.Reading.Looks as spec;
+ghost use Rattle.sc_tree.specs.Reading.Looks as looks;
+ghost use Rattle.sc_parse.specs.Reading.Classes as classes;
+ghost use Rattle.sc_parse.specs.Reading.Instructions as instructions;
 
 use crate::cursor::Parser;
 use sc_text::{Terminal, Token, TokenKind};
@@ -14,7 +14,7 @@ use sc_text::{Terminal, Token, TokenKind};
 /// Whether the first of the tokens is this terminal.
 #[tactic(auto, unfolding(sc_tree::specs::Reading::Looks::same_terminal))]
 pub fn begins_with(tokens: &[Token], terminal: Terminal) -> bool
-    ensures { result ≡ spec.sees terminal (kinds_of tokens.now) }
+    ensures { result ≡ looks.sees terminal (kinds_of tokens.now) }
 {
     match tokens.first() {
         Some(
@@ -29,7 +29,7 @@ pub fn begins_with(tokens: &[Token], terminal: Terminal) -> bool
 
 /// Whether the first of the tokens is the name that is spelled so.
 pub fn is_word(tokens: &[Token], word: &str) -> bool
-    ensures { result ≡ spec.sees_word word.now (kinds_of tokens.now) }
+    ensures { result ≡ looks.sees_word word.now (kinds_of tokens.now) }
 {
     match tokens.first() {
         Some(
@@ -44,7 +44,7 @@ pub fn is_word(tokens: &[Token], word: &str) -> bool
 
 /// Whether the first of the tokens is a manifest string.
 fn is_text(tokens: &[Token]) -> bool
-    ensures { result ≡ spec.text_ahead (kinds_of tokens.now) }
+    ensures { result ≡ looks.text_ahead (kinds_of tokens.now) }
 {
     match tokens.first() {
         Some(
@@ -59,7 +59,7 @@ fn is_text(tokens: &[Token]) -> bool
 
 /// The tokens after the first.
 fn past(tokens: &[Token]) -> &[Token]
-    ensures { kinds_of result.now ≡ spec.past (kinds_of tokens.now) }
+    ensures { result.now ≡ spec.rest_past tokens.now }
 {
     match tokens.split_first() {
         Some((_, rest)) => rest,
@@ -91,7 +91,7 @@ pub fn ends_class(token: &Token) -> bool
 }
 
 impl<'a> Parser<'a> {
-    ghost use Rattle.sc_parse.specs.Reads.{ahead, sees_note};
+    ghost use Rattle.sc_parse.specs.Reads.{ahead};
 
     /// Whether no token is left.
     pub fn is_done(&self) -> bool
@@ -204,7 +204,7 @@ impl<'a> Parser<'a> {
 
     /// Whether the next token would go on with an expression before it, and might begin one.
     pub fn goes_on(&self) -> bool
-        ensures { result ≡ assertions.goes_on (ahead self.now) }
+        ensures { result ≡ spec.goes_on (ahead self.now) }
     {
         match self.rest.first() {
             Some(
@@ -232,7 +232,7 @@ impl<'a> Parser<'a> {
 
     /// Whether a note begins here.
     pub fn sees_note(&self) -> bool
-        ensures { result ≡ sees_note (ahead self.now) }
+        ensures { result ≡ spec.sees_note (ahead self.now) }
     {
         self.sees(Terminal::Note) || self.sees(Terminal::Indexing)
     }

@@ -2,7 +2,8 @@
 
 ghost use Rattle.std.specs.Prelude.{◌≡◌};
 ghost use Rattle.sc_tree.specs.Grammar.Operators as grammar;
-ghost use Rattle.sc_tree.specs.Reading.Looks as spec;
+ghost use Rattle.sc_parse.specs.Reading.Looks as spec;
+ghost use Rattle.sc_tree.specs.Reading.Looks as looks;
 
 use crate::cursor::Parser;
 use crate::look::begins_with;
@@ -44,7 +45,7 @@ pub fn is_grouped(class: u8) -> bool
 
 /// The operator between two operands that a terminal is, with no second word.
 fn operator_of(terminal: Terminal) -> Option<BinaryOperator>
-    ensures { result ≡ spec.operator_by terminal }
+    ensures { result ≡ looks.operator_by terminal }
 {
     match terminal {
         Terminal::Times => Some(BinaryOperator::Times),

@@ -1,10 +1,13 @@
 // Systems of classes (ECMA-367, 8.3).
 
-ghost use Rattle.std.specs.Prelude.{ℕ, ◌≤◌};
+ghost use Rattle.std.specs.Prelude.{ℕ, ◌≤◌, IfOk};
 ghost use Rattle.sc_text.specs.Kind.{kinds_of};
+ghost use Rattle.sc_text.specs.Spelling.{lexemes_of};
 ghost use Rattle.sc_tree.specs.Grammar.Classes.{IsSystem};
 ghost use Rattle.sc_tree.specs.Plain as plain;
-ghost use Rattle.sc_tree.specs.Reading.Classes as spec;
+ghost use Rattle.sc_tree.specs.View.{system_of};
+ghost use Rattle.sc_parse.specs.Places.{IsPlaced};
+ghost use Rattle.sc_parse.specs.Reading.Classes as spec;
 ghost use Rattle.sc_parse.specs.Parses.{Parses, ParsesWithin, IsParsedTo};
 ghost use Rattle.sc_parse.specs.Reads.{ParsesAs};
 
@@ -20,9 +23,9 @@ use std::alloc::Global;
 pub const MAX_NESTING: u8 = 64;
 
 /// The system that the tokens spell, where its nesting is at most `room`.
-#[tactic(auto, unfolding(sc_tree::specs::Reading::Classes::system, sc_tree::specs::View::system_of))]
+#[tactic(auto, unfolding(crate::specs::Reading::Classes::system, sc_tree::specs::View::system_of))]
 fn read_within(alloc: Global, tokens: &[Token], room: u8) -> Result<System, ParseFault>
-    ensures { ParsesAs (spec.system room (kinds_of tokens.now)) result }
+    ensures { ParsesAs (spec.system room tokens.now) result }
 {
     let mut parser = Parser::new(alloc, tokens);
     let classes = parser.classes(room)?;
@@ -46,6 +49,7 @@ fn read_within(alloc: Global, tokens: &[Token], room: u8) -> Result<System, Pars
 pub fn parse_within(alloc: Global, tokens: &[Token], room: u8) -> Result<System, ParseFault>
     ensures answer { ParsesWithin room (kinds_of tokens.now) result }
     ensures found { (t : plain.System) (h : ℕ) → h ≤ room → IsSystem t (kinds_of tokens.now) h → IsParsedTo t result }
+    ensures placed { IfOk result (λ s. IsPlaced (system_of s) (lexemes_of tokens.now)) }
 {
     read_within(alloc, tokens, room)
 }
@@ -61,6 +65,7 @@ pub fn parse_within(alloc: Global, tokens: &[Token], room: u8) -> Result<System,
 pub fn parse(alloc: Global, tokens: &[Token]) -> Result<System, ParseFault>
     ensures answer { Parses (kinds_of tokens.now) result }
     ensures found { (t : plain.System) (h : ℕ) → h ≤ 64 → IsSystem t (kinds_of tokens.now) h → IsParsedTo t result }
+    ensures placed { IfOk result (λ s. IsPlaced (system_of s) (lexemes_of tokens.now)) }
 {
     parse_within(alloc, tokens, MAX_NESTING)
 }

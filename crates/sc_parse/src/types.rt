@@ -1,7 +1,8 @@
 // Names, and the types that entities are declared with (ECMA-367, 8.8 and 8.11).
 
-ghost use Rattle.std.specs.Prelude.{◌≡◌, ◌∷◌, [], IfOk, length};
-ghost use Rattle.sc_tree.specs.Reading.Types as spec;
+ghost use Rattle.std.specs.Prelude.{◌≡◌, ◌∷◌, [], IfOk};
+ghost use Rattle.sc_parse.specs.Reading.Looks.{left};
+ghost use Rattle.sc_parse.specs.Reading.Types as spec;
 ghost use Rattle.sc_parse.specs.Reads.{ahead, name_in, names_in, handler_tag_in, type_in, type_if_any_in, Takes};
 
 use crate::cursor::Parser;
@@ -51,7 +52,7 @@ pub fn copied_type(declared: &DeclaredType) -> Result<DeclaredType, AllocError>
 
 impl<'a> Parser<'a> {
     /// Names with a comma between each two.
-    #[tactic(auto, unfolding(sc_tree::specs::Reading::Types::names))]
+    #[tactic(auto, unfolding(crate::specs::Reading::Types::names))]
     pub fn names(&mut self) -> Result<Vec<Name>, ParseFault>
         ensures { Takes names_in (spec.names (ahead self.old)) result (ahead self.new) }
     {
@@ -62,7 +63,7 @@ impl<'a> Parser<'a> {
     /// The first name and those that follow it, with a comma before each.
     #[tactic(auto, using(crate::proofs::Lists::more_names_begin, crate::proofs::Lists::more_names_end, crate::proofs::Lists::more_names_turn))]
     pub fn more_names(&mut self, first: Name) -> Result<Vec<Name>, ParseFault>
-        ensures { Takes names_in (spec.more_names (length (ahead self.old)) (name_in first ∷ []) (ahead self.old)) result (ahead self.new) }
+        ensures { Takes names_in (spec.more_names (left (ahead self.old)) (name_in first ∷ []) (ahead self.old)) result (ahead self.new) }
     {
         let mut names = Vec::new(self.alloc);
         names.push(first)?;
@@ -78,7 +79,7 @@ impl<'a> Parser<'a> {
     }
 
     /// Reads a type's mark, if it has one: whether the type is detachable.
-    #[tactic(auto, unfolding(sc_tree::specs::Reading::Types::attachment))]
+    #[tactic(auto, unfolding(crate::specs::Reading::Types::attachment))]
     fn attachment(&mut self) -> bool
         ensures { spec.attachment (ahead self.old) ≡ (result, ahead self.new) }
     {
@@ -93,7 +94,7 @@ impl<'a> Parser<'a> {
     }
 
     /// What a type says of handlers, from `separate` on.
-    #[tactic(auto, unfolding(sc_tree::specs::Reading::Types::handler_tag))]
+    #[tactic(auto, unfolding(crate::specs::Reading::Types::handler_tag))]
     fn handler_tag(&mut self) -> Result<HandlerTag, ParseFault>
         ensures { Takes handler_tag_in (spec.handler_tag (ahead self.old)) result (ahead self.new) }
     {
@@ -105,7 +106,7 @@ impl<'a> Parser<'a> {
     }
 
     /// What follows `separate`: a handler, if one is named.
-    #[tactic(auto, unfolding(sc_tree::specs::Reading::Types::handler_of))]
+    #[tactic(auto, unfolding(crate::specs::Reading::Types::handler_of))]
     fn handler_of(&mut self) -> Result<HandlerTag, ParseFault>
         ensures { Takes handler_tag_in (spec.handler_of (ahead self.old)) result (ahead self.new) }
     {
@@ -121,7 +122,7 @@ impl<'a> Parser<'a> {
     }
 
     /// A type, from its mark to its class.
-    #[tactic(auto, unfolding(sc_tree::specs::Reading::Types::declared_type))]
+    #[tactic(auto, unfolding(crate::specs::Reading::Types::declared_type))]
     pub fn declared_type(&mut self) -> Result<DeclaredType, ParseFault>
         ensures { Takes type_in (spec.declared_type (ahead self.old)) result (ahead self.new) }
     {
@@ -138,7 +139,7 @@ impl<'a> Parser<'a> {
     }
 
     /// The type in braces that an object test asks for, if it is there.
-    #[tactic(auto, unfolding(sc_tree::specs::Reading::Types::tested_type))]
+    #[tactic(auto, unfolding(crate::specs::Reading::Types::tested_type))]
     pub fn tested_type(&mut self) -> Result<Option<DeclaredType>, ParseFault>
         ensures { Takes type_if_any_in (spec.tested_type (ahead self.old)) result (ahead self.new) }
     {

@@ -20,6 +20,7 @@ pub mod Whole
 pub mod Depths
 pub mod Printing
 pub mod PrintingInstructions
+pub mod PrintingParts
 pub mod PrintingClasses
 pub mod CanonicalRows
 pub mod CanonicalTokens

@@ -1,5 +1,5 @@
 -- Putting the lines of classes behind what a printer holds.
-use Rattle.std.proofs.Common.{◌≡◌, ℕ, suc, ◌+◌, ◌-◌, ◌≤◌, ◌<◌, ◌==◌, ◌&&◌, Bool, true, false, not, List, [], ◌∷◌, ◌++◌, map, length, get_or, take, drop, replicate, refl, ap, sym, ◌∙◌, arith, append_assoc, append-nil}
+use Rattle.std.proofs.Common.{◌≡◌, ℕ, suc, ◌+◌, ◌-◌, ◌≤◌, ◌<◌, ◌==◌, ◌&&◌, ◌||◌, Bool, true, false, not, List, [], ◌∷◌, ◌++◌, map, length, get_or, take, drop, replicate, refl, ap, sym, ◌∙◌, arith, subst, append_assoc, append-nil}
 use Rattle.std.proofs.lemmas.List.{drop_all}
 use Rattle.std.specs.Str.{bytes_eq}
 use Rattle.sc_text.specs.Characters.{tab, line_feed}
@@ -8,6 +8,7 @@ use Rattle.sc_tree.specs.declared.expression.Name.{Name}
 use Rattle.sc_tree.specs.declared.declaration.Declaration.{Declaration}
 use Rattle.sc_tree.specs.declared.system.Feature as tree
 use Rattle.sc_tree.specs.declared.system.Class as tree_class
+use Rattle.sc_tree.specs.Sections.{same_list, shares_list, further_share, share_lists}
 use Rattle.sc_tree.specs.View.{name_of, declaration_of, feature_of, class_of}
 use Rattle.sc_tree.specs.Canonical.Layout.{Part, Line, line, word, separated, row, line_text, text_of_lines, text_of_part, opens, closes}
 use Rattle.sc_tree.specs.Canonical.Expressions.{names_parts, class_names_parts}
@@ -25,6 +26,37 @@ same_names-length (x ∷ xs) (y ∷ ys) h =
     and_none : (b : Bool) → (b && false) ≡ false
     and_none true = refl
     and_none false = refl
+
+-- ---- export lists
+
+same_list-names : (xs ys : List Name) → same_list xs ys ≡ same_names (map name_of xs) (map name_of ys)
+same_list-names [] [] = refl
+same_list-names [] (y ∷ ys) = refl
+same_list-names (x ∷ xs) [] = refl
+same_list-names (x ∷ xs) (y ∷ ys) = ap (λ b. bytes_eq (name_of x).text (name_of y).text && b) (same_list-names xs ys)
+
+-- of two that are both true, each is
+pub both_true : (b c : Bool) → (b && c) ≡ true → (b ≡ true) × (c ≡ true)
+both_true true c h = (refl, h)
+both_true false c h = cc
+
+implied : (b c : Bool) → b ≡ true → (not b || c) ≡ true → c ≡ true
+implied true c e h = h
+implied false c e h = cc
+
+-- what a feature that stands with the one before it has for its list
+pub shared_names : (es : List Name) (f : tree.Feature) → f.is_further ≡ true → shares_list es f ≡ true → f.is_further ≡ same_names (map name_of es) (map name_of f.exports.value.items)
+shared_names es f e h =
+    e ∙ sym (implied f.is_further (same_list es f.exports.value.items) e h) ∙ same_list-names es f.exports.value.items
+
+pub share_lists-rest : (xs : List tree.Feature) (x : tree.Feature) → 1 ≤ length xs → x ≡ get_or xs 0 x → share_lists xs ≡ true →
+    further_share x.exports.value.items (drop 0 (take (length xs - 1) (drop 1 xs))) ≡ true
+share_lists-rest xs x some first h = subst (λ ys. share_lists ys ≡ true) (first_and_rest xs x some first) h
+
+pub further_share-more : (before : List Name) (xs : List tree.Feature) (i : ℕ) (x : tree.Feature) → i < length xs → x ≡ get_or xs i x →
+    further_share before (drop i xs) ≡ true → (shares_list before x ≡ true) × (further_share x.exports.value.items (drop (i + 1) xs) ≡ true)
+further_share-more before xs i x p e h =
+    both_true (shares_list before x) (further_share x.exports.value.items (drop (i + 1) xs)) (subst (λ ys. further_share before ys ≡ true) (drop_at xs i x p e) h)
 
 -- parts between two others
 bracketed : (o o1 o2 o3 : Output) (a b : Part) (ps : List Part) → o1 ≡ put o a → o2 ≡ puts o1 ps → o3 ≡ put o2 b → o3 ≡ puts o (a ∷ (ps ++ b ∷ []))

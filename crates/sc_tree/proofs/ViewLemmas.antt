@@ -301,11 +301,11 @@ pub bare_feature-is : (f : Feature) →
 unfolding feature_of
 bare_feature-is f = refl
 
-pub bare_feature-attribute : (es : Rc (Vec Name Global) Global) (n : Name) (t : DeclaredType) →
-    bare_feature (feature_of (record { exports = es; name = n; kind = kind.Attribute t }))
+pub bare_feature-attribute : (es : Rc (Vec Name Global) Global) (is_further : Bool) (n : Name) (t : DeclaredType) →
+    bare_feature (feature_of (record { exports = es; is_further = is_further; name = n; kind = kind.Attribute t }))
     ≡ grammar.attribute_of (map bare_name (map name_of es.value.items)) (bare_type (type_of t)) (named (string_bytes n.text))
 unfolding feature_of kind_of
-bare_feature-attribute es n t = refl
+bare_feature-attribute es is_further n t = refl
 
 pub bare_parent-is : (p : Parent) → bare_parent (parent_of p) ≡ record { name = named (string_bytes p.name.text); redefined = map bare_name (map name_of p.redefined.items) }
 bare_parent-is p = refl

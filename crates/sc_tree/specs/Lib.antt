@@ -1,4 +1,5 @@
 pub mod Plain
+pub mod Sections
 pub mod View
 pub mod Bare
 pub mod Grammar

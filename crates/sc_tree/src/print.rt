@@ -139,14 +139,15 @@ impl Printer {
         ensures text { OnOk result (self.new.text.items ≡ self.old.text.items ++ marked byte) }
         ensures same { self.new.is_apart ≡ self.old.is_apart }
     {
-        match byte {
-            b'\n' => self.text.extend_from_slice(b"%N")?,
-            b'\t' => self.text.extend_from_slice(b"%T")?,
-            b'%' => self.text.extend_from_slice(b"%%")?,
-            b'"' => self.text.extend_from_slice(b"%\"")?,
-            _ => self.text.push(byte)?,
-        }
-        Ok(())
+        let plain = [byte];
+        let written: &[u8] = match byte {
+            b'\n' => b"%N",
+            b'\t' => b"%T",
+            b'%' => b"%%",
+            b'"' => b"%\"",
+            _ => &plain,
+        };
+        self.text.extend_from_slice(written)
     }
 
     fn manifest(&mut self, text: &[u8]) -> Result<(), AllocError>

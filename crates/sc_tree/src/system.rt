@@ -1,5 +1,8 @@
 // Systems, classes and features (ECMA-367, 8.4 to 8.6).
 
+ghost use Rattle.std.specs.Prelude.{IsTrue};
+ghost use Rattle.sc_tree.specs.Sections.{share_lists};
+
 use crate::declaration::{Declaration, DeclaredType};
 use crate::expression::Name;
 use crate::instruction::{Clause, Instr};
@@ -31,6 +34,9 @@ pub struct Class {
     pub creators: Vec<Name>,
     pub features: Vec<Feature>,
     pub invariant: Vec<Clause>,
+
+    // Each feature that stands under the same `feature` as the one before it has the same export list.
+    ghost shared: { IsTrue (share_lists features.items) },
 }
 
 /// A class that another inherits from, and the names of the features that it redefines.
@@ -46,6 +52,8 @@ pub struct Feature {
     /// The classes that it is exported to: to all where none stands here. `{ANY}` leaves none here, and
     /// `{}` leaves `NONE`. Features that stand under one `feature` share their list.
     pub exports: Rc<Vec<Name>>,
+    /// Whether it stands under the same `feature` as the one before it.
+    pub is_further: bool,
     pub name: Name,
     pub kind: FeatureKind,
 }

@@ -1,10 +1,11 @@
 // Features and classes in canonical text.
 
-ghost use Rattle.std.specs.Prelude.{◌≡◌, ◌∷◌, [], map, OnOk};
+ghost use Rattle.std.specs.Prelude.{◌≡◌, ◌∷◌, [], map, IsTrue, OnOk};
 ghost use Rattle.sc_tree.specs.Canonical.Layout.{line};
 ghost use Rattle.sc_tree.specs.Canonical.Classes.{class_lines, classes_lines, creators_lines, declaration_parts, exports_parts, feature_lines, formals_parts, kind_lines, further_feature_lines, heading_line, local_line, locals_lines, mark_parts, parent_line, parents_lines, redefined_parts, result_type_parts, same_names, section_line, sections_lines, signature_line};
 ghost use Rattle.sc_tree.specs.Canonical.Expressions.{class_names_parts, names_parts};
 ghost use Rattle.sc_tree.specs.Printer.{output_of, put_line, put_lines, puts};
+ghost use Rattle.sc_tree.specs.Sections.{share_lists, shares_list};
 ghost use Rattle.sc_tree.specs.View.{class_of, declaration_of, feature_of, kind_of, mark_if_any, name_of, parent_of, type_if_any, type_of};
 
 use crate::declaration::{Declaration, DeclaredType};
@@ -27,6 +28,14 @@ fn same_names(names: &[Name], others: &[Name]) -> bool
         }
     }
     true
+}
+
+/// Whether a feature has this export list, which is that of the one before it.
+fn has_exports(exports: &[Name], feature: &Feature) -> bool
+    requires { IsTrue (shares_list exports.now feature.now) }
+    ensures { result ≡ same_names (map name_of exports.now) (map name_of feature.now.exports.value.items) }
+{
+    feature.is_further || same_names(exports, &feature.exports)
 }
 
 impl Printer {
@@ -186,10 +195,11 @@ impl Printer {
     /// A feature behind one that is exported to these classes.
     #[tactic(auto, using(crate::proofs::Printing::putting), unfolding(crate::specs::View::feature_of))]
     fn further_feature(&mut self, exports: &[Name], feature: &Feature) -> Result<(), AllocError>
+        requires { IsTrue (shares_list exports.now feature.now) }
         ensures { OnOk result (output_of self.new ≡ put_lines (output_of self.old)
             (further_feature_lines (map name_of exports.now) (feature_of feature.now))) }
     {
-        if !same_names(exports, &feature.exports) {
+        if !has_exports(exports, feature) {
             self.section(&feature.exports)?;
         }
         self.feature(feature)
@@ -198,6 +208,7 @@ impl Printer {
     /// Features that follow each other with the same export list stand under one `feature`.
     #[tactic(auto, using(crate::proofs::Printing::putting), unfolding(crate::specs::View::feature_of))]
     fn features(&mut self, features: &[Feature]) -> Result<(), AllocError>
+        requires { IsTrue (share_lists features.now) }
         ensures { OnOk result (output_of self.new ≡ put_lines (output_of self.old) (sections_lines (map feature_of features.now))) }
     {
         let [first, rest @ ..] = features else {

@@ -1,7 +1,8 @@
 use Rattle.std.proofs.Common.{◌≡◌, map}
 use Rattle.sc_tree.specs.Grammar.Classes.{declared_as}
-use Rattle.sc_parse.specs.Reads.{bare_names, declarations_in, type_in}
+use Rattle.sc_tree.specs.View.{name_of}
+use Rattle.sc_parse.specs.Reads.{declarations_in, type_in}
 use Rattle.sc_parse.proofs.declaration.declared_with.Given as goal
 
 abbrev pub invariant-loop-name : goal.invariant-loop-name
-invariant-loop-name l = declarations_in l.declarations ≡ map (declared_as (type_in l.declared)) (bare_names l.yielded)
+invariant-loop-name l = declarations_in l.declarations ≡ map (declared_as (type_in l.declared)) (map name_of l.yielded)

@@ -1,5 +1,6 @@
-use Rattle.std.proofs.Common.{◌≡◌, ◌≤◌, ◌<◌, ◌+◌, ◌-◌, ◌*◌, length}
-use Rattle.sc_tree.specs.Reading.Expressions as spec
+use Rattle.std.proofs.Common.{◌≡◌, ◌≤◌, ◌<◌, ◌+◌, ◌-◌, ◌*◌}
+use Rattle.sc_parse.specs.Reading.Looks.{left, left}
+use Rattle.sc_parse.specs.Reading.Expressions as spec
 use Rattle.sc_parse.specs.Reads.{ahead, expr_in, exprs_in}
 use Rattle.sc_parse.proofs.cursor.Parser.+expression.Given as goal
 
@@ -40,14 +41,14 @@ abbrev pub invariant-operators-loop-turn : goal.invariant-operators-loop-turn
 invariant-operators-loop-turn l = record {
   high : l.height ≤ l.room;
   same : spec.operators (spec.nested l.room) l.room l.class (l._turn-end - l._turn) (expr_in l.left) l.height (ahead l.self)
-      ≡ spec.operators (spec.nested l.room) l.room l.class (length (ahead l.fn.self)) (expr_in l.fn.first) l.first_height (ahead l.fn.self);
+      ≡ spec.operators (spec.nested l.room) l.room l.class (left (ahead l.fn.self)) (expr_in l.fn.first) l.first_height (ahead l.fn.self);
 }
 
 abbrev pub invariant-calls-loop-turn : goal.invariant-calls-loop-turn
 invariant-calls-loop-turn l = record {
   high : l.height ≤ l.room;
   same : spec.calls (spec.nested l.room) l.room (l._turn-end - l._turn) (expr_in l.chain) l.height (ahead l.self)
-      ≡ spec.calls (spec.nested l.room) l.room (length (ahead l.fn.self)) (expr_in l.fn.first) l.first_height (ahead l.fn.self);
+      ≡ spec.calls (spec.nested l.room) l.room (left (ahead l.fn.self)) (expr_in l.fn.first) l.first_height (ahead l.fn.self);
 }
 
 abbrev pub invariant-exprs-loop-turn : goal.invariant-exprs-loop-turn

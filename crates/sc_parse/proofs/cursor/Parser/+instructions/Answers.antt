@@ -1,22 +1,24 @@
 use Rattle.std.proofs.Common.{ap, sym, ◌∙◌, max, suc, arith}
 use Rattle.std.proofs.lemmas.Grind.{common_steps}
-use Rattle.sc_tree.proofs.ViewLemmas.{bare_instr-if, bare_instr-loop, bare_instr-block, bare_instrs-none, bare_instrs-push, bare_branches-none, bare_branches-push}
-use Rattle.sc_tree.specs.Bare.{bare_instrs, bare_branches}
-use Rattle.sc_tree.specs.Reading.Instructions.{guarded, conditional, nested_instrs}
+use Rattle.sc_tree.proofs.ViewLemmas.{instr_of-if, instr_of-loop, instr_of-block}
+use Rattle.sc_parse.proofs.Views.{instrs_of-push, branches_of-push}
+use Rattle.sc_parse.specs.Reading.Instructions.{guarded, conditional, nested_instrs}
 use Rattle.sc_tree.specs.View.{instrs_of, branches_of}
-use Rattle.sc_parse.specs.Reads.{ahead, instrs_in, branches_in}
+use Rattle.sc_text.specs.declared.token.Span.{Span}
+use Rattle.sc_tree.specs.Plain.{Loop, Block}
+use Rattle.sc_parse.specs.Reads.{ahead, expr_in, heads_in, instrs_in, branches_in}
 use Rattle.sc_parse.proofs.Turns.{instrs_begin, instrs_end, instrs_more, branches_begin, branches_more}
 use Rattle.sc_parse.proofs.Steps.{iteration_is, block_is}
 use Rattle.sc_parse.proofs.cursor.Parser.+instructions.Goals as goal
 
 pub instructions-loop-turn-init : goal.instructions-loop-turn-init
-instructions-loop-turn-init t c = (0, instrs_begin _ _ _ _ c.skip_semicolons.ensures (ap (λ (is : _). bare_instrs (instrs_of is)) c.new-found.ensures.items ∙ bare_instrs-none))
+instructions-loop-turn-init t c = (0, instrs_begin _ _ _ _ c.skip_semicolons.ensures (ap instrs_of c.new-found.ensures.items))
 
 pub instructions-loop-turn-preserved : goal.instructions-loop-turn-preserved
 instructions-loop-turn-preserved t c = (
   max c.loop-turn.invariant.0 c.in_ok-instr.ensures.0,
   instrs_more c.args.room _ c.loop-turn._turn (instrs_in c.loop-turn.found) c.loop-turn.invariant.0 (ahead c.loop-turn.self) _ _ _ _ _ _ c.loop-turn-test.true c.begins_instruction.ensures c.if-not-begins_instruction.false
-      c.in_ok-instr.ensures.1 (ap (λ (is : _). bare_instrs (instrs_of is)) c.in_ok-push.ensures.items ∙ bare_instrs-push _ _) c.skip_semicolons-in-loop-turn.ensures
+      c.in_ok-instr.ensures.1 (ap (λ (is : _). instrs_of is) c.in_ok-push.ensures.items ∙ instrs_of-push _ _) c.skip_semicolons-in-loop-turn.ensures
       ∙ c.loop-turn.invariant.1,
 )
 
@@ -25,13 +27,13 @@ instructions-returns t c =
     (c.loop-turn.invariant.0, sym c.loop-turn.invariant.1 ∙ instrs_end c.args.room _ c.loop-turn._turn (instrs_in c.loop-turn.found) c.loop-turn.invariant.0 (ahead c.loop-turn.self) c.loop-turn-test.false)
 
 pub branches-loop-turn-init : goal.branches-loop-turn-init
-branches-loop-turn-init t c = (0, branches_begin _ _ _ (ap (λ (bs : _). bare_branches (branches_of bs)) c.new-found.ensures.items ∙ bare_branches-none))
+branches-loop-turn-init t c = (0, branches_begin _ _ _ (ap branches_of c.new-found.ensures.items))
 
 pub branches-loop-turn-preserved : goal.branches-loop-turn-preserved
 branches-loop-turn-preserved t c = (
   max c.loop-turn.invariant.0 c.in_ok-branch.ensures.0,
   branches_more c.args.room _ c.loop-turn._turn (branches_in c.loop-turn.found) c.loop-turn.invariant.0 (ahead c.loop-turn.self) _ _ _ _ _ _ c.loop-turn-test.true c.sees.ensures c.if-not-sees.false c.take.ensures.past
-      c.in_ok-branch.ensures.1 (ap (λ (bs : _). bare_branches (branches_of bs)) c.in_ok-push.ensures.items ∙ bare_branches-push _ _)
+      c.in_ok-branch.ensures.1 (ap (λ (bs : _). branches_of bs) c.in_ok-push.ensures.items ∙ branches_of-push _ _)
       ∙ c.loop-turn.invariant.1,
 )
 
@@ -42,17 +44,17 @@ guarded-returns t c = (max c.in_ok-condition.field-0-1 c.in_ok-body.ensures.0, g
 pub conditional-returns : goal.conditional-returns
 unfolding conditional
 conditional-returns t c =
-    (suc (max c.in_ok-condition.ensures.0 (max c.in_ok-branches.ensures.0 c.in_ok-other.ensures.0)), grind (arith, common_steps, bare_instr-if))
+    (suc (max c.in_ok-condition.ensures.0 (max c.in_ok-branches.ensures.0 c.in_ok-other.ensures.0)), grind (arith, common_steps, instr_of-if))
 
 pub iteration-returns : goal.iteration-returns
 iteration-returns t c = (
   suc (max c.in_ok-initial.ensures.0 (max c.in_ok-condition.field-0-1 c.in_ok-body.ensures.0)),
   iteration_is c.args.room (nested_instrs c.args.room) (ahead c.args.self.now) _ _ _ _ _ _ _ _ _ _ _ _ _ c.in_ok-initial.ensures.1 c.in_ok-expect.ensures c.in_ok-condition.ensures.read c.in_ok-expect-2.ensures
-      c.in_ok-body.ensures.1 c.in_ok-expect-3.ensures (bare_instr-loop _ _ _ _),
+      c.in_ok-body.ensures.1 c.in_ok-expect-3.ensures (instr_of-loop _ _ _ _ ∙ ap (λ (s : Span). Loop s (instrs_in c.in_ok-initial.initial) (expr_in c.in_ok-condition.condition) (instrs_in c.in_ok-body.body)) c.span_from-span.ensures),
 )
 
 pub block-returns : goal.block-returns
 block-returns t c = (
   suc (max c.in_ok-heads.ensures.0 c.in_ok-body.ensures.0),
-  block_is c.args.room (nested_instrs c.args.room) (ahead c.args.self.now) _ _ _ _ _ _ _ _ _ c.in_ok-heads.ensures.1 c.in_ok-expect.ensures c.in_ok-body.ensures.1 c.in_ok-expect-2.ensures (bare_instr-block _ _ _),
+  block_is c.args.room (nested_instrs c.args.room) (ahead c.args.self.now) _ _ _ _ _ _ _ _ _ c.in_ok-heads.ensures.1 c.in_ok-expect.ensures c.in_ok-body.ensures.1 c.in_ok-expect-2.ensures (instr_of-block _ _ _ ∙ ap (λ (s : Span). Block s (heads_in c.in_ok-heads.heads) (instrs_in c.in_ok-body.body)) c.span_from.ensures),
 )

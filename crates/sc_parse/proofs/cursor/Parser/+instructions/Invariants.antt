@@ -1,6 +1,7 @@
-use Rattle.std.proofs.Common.{◌≡◌, ◌+◌, ◌-◌, ◌*◌, ℕ, length}
+use Rattle.std.proofs.Common.{◌≡◌, ◌+◌, ◌-◌, ◌*◌, ℕ}
+use Rattle.sc_parse.specs.Reading.Looks.{left, left}
 use Rattle.sc_tree.specs.Plain.{no_branches}
-use Rattle.sc_tree.specs.Reading.Instructions as spec
+use Rattle.sc_parse.specs.Reading.Instructions as spec
 use Rattle.sc_parse.specs.Reads.{ahead, instrs_in, branches_in}
 use Rattle.sc_parse.proofs.cursor.Parser.+instructions.Given as goal
 
@@ -39,4 +40,4 @@ abbrev pub invariant-branches-loop-turn : goal.invariant-branches-loop-turn
 invariant-branches-loop-turn l =
     (high : ℕ)
     × (spec.branches l.room (spec.nested_instrs l.room) (l._turn-end - l._turn) (branches_in l.found) high (ahead l.self)
-    ≡ spec.branches l.room (spec.nested_instrs l.room) (length (ahead l.fn.self)) no_branches 0 (ahead l.fn.self))
+    ≡ spec.branches l.room (spec.nested_instrs l.room) (left (ahead l.fn.self)) no_branches 0 (ahead l.fn.self))

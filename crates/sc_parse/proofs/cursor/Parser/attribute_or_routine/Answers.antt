@@ -2,13 +2,12 @@ use Rattle.std.proofs.Common.{◌≡◌, ℕ, false, List, [], ◌∷◌, Option
 use Rattle.std.specs.Prelude.{vec_len}
 use Rattle.std.proofs.lemmas.Bool.{eqb-true, not-true}
 use Rattle.std.proofs.lemmas.List.{nil_from_length}
-use Rattle.sc_text.specs.Kind.{Kind}
+use Rattle.sc_parse.specs.Reading.Looks.{Ahead}
 use Rattle.sc_tree.specs.declared.declaration.Declaration.{Declaration}
 use Rattle.sc_tree.specs.declared.declaration.DeclaredType.{DeclaredType}
 use Rattle.sc_tree.specs.declared.system.FeatureKind.TheVariants as kind
-use Rattle.sc_tree.specs.Bare.{bare_declaration}
 use Rattle.sc_tree.specs.Plain as plain
-use Rattle.sc_tree.specs.Reading.Classes as spec
+use Rattle.sc_parse.specs.Reading.Classes as spec
 use Rattle.sc_tree.specs.View.{declaration_of, kind_of}
 use Rattle.sc_tree.proofs.Combining.{choose_false, not_both}
 use Rattle.sc_parse.specs.Reads.{ahead, type_if_any_in, feature_with}
@@ -16,9 +15,9 @@ use Rattle.sc_parse.proofs.cursor.Parser.attribute_or_routine.Goals as goal
 use Rattle.sc_parse.proofs.cursor.Parser.attribute_or_routine.Goals.{then-is_empty, else-is_empty}
 
 attribute_read : (room : ℕ) (es : List plain.Name) (x : plain.Name) (formals : List Declaration) (t : Option DeclaredType) (d : DeclaredType)
-    (ts : List Kind) (fs : List plain.Feature) →
+    (ts : Ahead) (fs : List plain.Feature) →
     formals ≡ [] → t ≡ Some d → spec.begins_routine ts ≡ false → fs ≡ feature_with es x (kind.Attribute d) ∷ [] →
-    spec.attribute_or_routine room es x (map bare_declaration (map declaration_of formals)) (type_if_any_in t) ts ≡ Ok (fs, 0, ts)
+    spec.attribute_or_routine room es x (map declaration_of formals) (type_if_any_in t) ts ≡ Ok (fs, 0, ts)
 unfolding kind_of
 attribute_read room es x formals t d ts fs e s b q = rw (e, s, q) (choose_false (spec.begins_routine ts) _ _ b)
 

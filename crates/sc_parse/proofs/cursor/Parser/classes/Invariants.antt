@@ -1,5 +1,6 @@
-use Rattle.std.proofs.Common.{◌≡◌, ◌-◌, ℕ, [], length}
-use Rattle.sc_tree.specs.Reading.Classes as spec
+use Rattle.std.proofs.Common.{◌≡◌, ◌-◌, ℕ, []}
+use Rattle.sc_parse.specs.Reading.Looks.{left, left}
+use Rattle.sc_parse.specs.Reading.Classes as spec
 use Rattle.sc_parse.specs.Reads.{ahead, classes_in}
 use Rattle.sc_parse.proofs.cursor.Parser.classes.Given as goal
 
@@ -7,4 +8,4 @@ abbrev pub invariant-loop-turn : goal.invariant-loop-turn
 invariant-loop-turn l =
     (high : ℕ)
     × (spec.classes_from l.room (l._turn-end - l._turn) (classes_in l.found) high (ahead l.self)
-    ≡ spec.classes_from l.room (length (ahead l.fn.self)) [] 0 (ahead l.fn.self))
+    ≡ spec.classes_from l.room (left (ahead l.fn.self)) [] 0 (ahead l.fn.self))

@@ -1,5 +1,5 @@
 use Rattle.std.proofs.Common.{◌≡◌, ◌-◌, ℕ}
-use Rattle.sc_tree.specs.Reading.Assertions as spec
+use Rattle.sc_parse.specs.Reading.Assertions as spec
 use Rattle.sc_parse.specs.Reads.{ahead, clauses_in}
 use Rattle.sc_parse.proofs.cursor.Parser.clauses.Given as goal
 

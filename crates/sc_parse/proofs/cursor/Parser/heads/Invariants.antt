@@ -1,5 +1,5 @@
 use Rattle.std.proofs.Common.{◌≡◌, ◌-◌, ℕ}
-use Rattle.sc_tree.specs.Reading.Instructions as spec
+use Rattle.sc_parse.specs.Reading.Instructions as spec
 use Rattle.sc_parse.specs.Reads.{ahead, heads_in}
 use Rattle.sc_parse.proofs.cursor.Parser.heads.Given as goal
 

@@ -1,5 +1,5 @@
 use Rattle.std.proofs.Common.{◌≡◌, ◌-◌}
-use Rattle.sc_tree.specs.Reading.Classes as spec
+use Rattle.sc_parse.specs.Reading.Classes as spec
 use Rattle.sc_parse.specs.Reads.{ahead, declarations_in}
 use Rattle.sc_parse.proofs.cursor.Parser.locals.Given as goal
 

@@ -1,10 +1,10 @@
 use Rattle.std.proofs.Common.{◌≡◌, Bool, true, false, ◌||◌, ap, sym, ◌∙◌, map}
+use Rattle.std.proofs.lemmas.List.{map-append}
 use Rattle.sc_text.specs.declared.token.Terminal.TheVariants as terminal
-use Rattle.sc_tree.specs.Bare.{bare_declaration}
-use Rattle.sc_tree.specs.Reading.Looks.{sees, name_ahead}
+use Rattle.sc_parse.specs.Reading.Looks.{sees, name_ahead}
 use Rattle.sc_tree.specs.View.{declaration_of}
 use Rattle.sc_parse.specs.Reads.{ahead, declarations_in}
-use Rattle.sc_parse.proofs.Lists.{declarations_more, mapped-append}
+use Rattle.sc_parse.proofs.Lists.{declarations_more}
 use Rattle.sc_parse.proofs.cursor.Parser.more_declarations.Goals as goal
 use Rattle.sc_parse.proofs.cursor.Parser.more_declarations.Goals.{then-sees, else-sees}
 
@@ -24,5 +24,5 @@ loop-turn-preserved c =
     ] in
     declarations_more _ c.loop-turn._turn (declarations_in c.loop-turn.found) ts _ _ _ _ _
     c.loop-turn-test.true seen c.if-not-sees_name.false c.skip.ensures c.in_ok-declarations.ensures
-    (ap (λ (ds : _). map bare_declaration (map declaration_of ds)) c.in_ok-append.ensures.items ∙ mapped-append bare_declaration declaration_of _ _)
+    (ap (λ (ds : _). map declaration_of ds) c.in_ok-append.ensures.items ∙ map-append declaration_of _ _)
     ∙ c.loop-turn.invariant

@@ -1,16 +1,16 @@
 use Rattle.std.proofs.Common.{◌≡◌, ℕ, max, List, [], ◌∷◌, Ok, ◌∙◌}
-use Rattle.sc_text.specs.Kind.{Kind}
+use Rattle.sc_parse.specs.Reading.Looks.{Ahead}
 use Rattle.sc_tree.specs.declared.system.FeatureKind.TheVariants as kind
 use Rattle.sc_tree.specs.declared.system.Routine.{Routine}
 use Rattle.sc_tree.specs.Plain as plain
-use Rattle.sc_tree.specs.Reading.Classes as spec
+use Rattle.sc_parse.specs.Reading.Classes as spec
 use Rattle.sc_tree.specs.View.{kind_of}
 use Rattle.sc_tree.proofs.Combining.{bind_ok}
 use Rattle.sc_parse.specs.Reads.{ahead, clauses_in, declarations_in, instrs_in, type_if_any_in, feature_with, opening_ahead, closing_ahead}
 use Rattle.sc_parse.proofs.Parts.{routine_is, routine_with, after_opening}
 use Rattle.sc_parse.proofs.cursor.Parser.routine.Goals as goal
 
-routine_read : (room : ℕ) (es : List plain.Name) (x : plain.Name) (r : Routine) (ts body rest : List Kind) (g h : ℕ) (fs : List plain.Feature) →
+routine_read : (room : ℕ) (es : List plain.Name) (x : plain.Name) (r : Routine) (ts body rest : Ahead) (g h : ℕ) (fs : List plain.Feature) →
     opening_ahead room ts ≡ Ok ((clauses_in r.precondition, declarations_in r.locals), g, body) →
     closing_ahead room body ≡ Ok ((instrs_in r.body, clauses_in r.postcondition), h, rest) → fs ≡ feature_with es x (kind.Routine r) ∷ [] →
     spec.routine room es x (declarations_in r.formals) (type_if_any_in r.result_type) ts ≡ Ok (fs, max g h, rest)

@@ -1,6 +1,6 @@
 use Rattle.std.proofs.Common.{ap, ◌∙◌}
-use Rattle.sc_tree.proofs.ViewLemmas.{bare_expr-call, bare_instr-call}
-use Rattle.sc_tree.specs.Reading.Instructions.{nested_instrs}
+use Rattle.sc_tree.proofs.ViewLemmas.{expr_of-call, instr_of-call}
+use Rattle.sc_parse.specs.Reading.Instructions.{nested_instrs}
 use Rattle.sc_parse.specs.Reads.{ahead, expr_in}
 use Rattle.sc_parse.proofs.Steps.{routine_call_is, routine_call_fails}
 use Rattle.sc_parse.proofs.cursor.Parser.routine_call.Goals as goal
@@ -8,7 +8,7 @@ use Rattle.sc_parse.proofs.cursor.Parser.routine_call.Goals as goal
 pub returns-in-Call : goal.returns-in-Call
 returns-in-Call c = (
   c.in_ok-chain.field-0-1,
-  routine_call_is c.args.room (nested_instrs c.args.room) (ahead c.args.self.now) _ _ _ _ _ _ _ c.in_ok-chain.ensures.read (ap expr_in c.in-Call.is ∙ bare_expr-call _) (bare_instr-call _),
+  routine_call_is c.args.room (nested_instrs c.args.room) (ahead c.args.self.now) _ _ _ _ _ _ _ _ c.in_ok-chain.ensures.read (ap expr_in c.in-Call.is ∙ expr_of-call _) (instr_of-call _),
 )
 
 pub returns : goal.returns

@@ -1,11 +1,12 @@
-use Rattle.std.proofs.Common.{◌≡◌, length}
+use Rattle.std.proofs.Common.{◌≡◌}
+use Rattle.sc_parse.specs.Reading.Looks.{left}
 use Rattle.sc_tree.specs.Grammar.Classes.{heads_class}
-use Rattle.sc_tree.specs.Reading.Classes as spec
+use Rattle.sc_parse.specs.Reading.Classes as spec
 use Rattle.sc_parse.specs.Reads.{ahead}
 use Rattle.sc_parse.proofs.cursor.Parser.skip_first_note.Given as goal
 
 abbrev pub invariant-loop-token : goal.invariant-loop-token
-invariant-loop-token l = spec.past_free heads_class (ahead l.self) ≡ spec.past_note heads_class (ahead l.fn.self)
+invariant-loop-token l = spec.past_free heads_class l.self.last l.self.rest.now ≡ spec.past_note heads_class (ahead l.fn.self)
 
 abbrev pub decreases-loop-token : goal.decreases-loop-token
-decreases-loop-token l = length (ahead l.self)
+decreases-loop-token l = left (ahead l.self)

@@ -1,5 +1,6 @@
-use Rattle.std.proofs.Common.{◌≡◌, length}
-use Rattle.sc_tree.specs.Reading.Looks as spec
+use Rattle.std.proofs.Common.{◌≡◌}
+use Rattle.sc_parse.specs.Reading.Looks.{left}
+use Rattle.sc_parse.specs.Reading.Looks as spec
 use Rattle.sc_parse.specs.Reads.{ahead}
 use Rattle.sc_parse.proofs.cursor.Parser.skip_semicolons.Given as goal
 
@@ -7,4 +8,4 @@ abbrev pub invariant-loop-self : goal.invariant-loop-self
 invariant-loop-self l = spec.skip_semicolons (ahead l.self) ≡ spec.skip_semicolons (ahead l.fn.self)
 
 abbrev pub decreases-loop-self : goal.decreases-loop-self
-decreases-loop-self l = length (ahead l.self)
+decreases-loop-self l = left (ahead l.self)
