@@ -5,11 +5,11 @@ use Rattle.std.specs.Option.{option_map}
 use Rattle.std.proofs.lemmas.List.{append-nil}
 use Rattle.sc_text.specs.declared.token.Span.{Span}
 use Rattle.sc_tree.specs.Plain.{System, Feature, Name}
-use Rattle.sc_class.specs.Found.{Finds, earliest}
+use Rattle.sc_class.specs.Internal.Found.{Finds, earliest}
 use Rattle.sc_class.specs.Names.{first_like, is_print, is_listed, later_of, IsLikeOne, Clashes, is_print_itself, is_like, OneClashes, first, further}
 use Rattle.sc_class.specs.Features.{DeclaredFeature, redefined_names, not_redefined, inherited_features, named_among}
 use Rattle.sc_class.specs.Scopes.{feature_names}
-use Rattle.sc_class.specs.InheritedClash.{like_clash, name_clash, names_clash, IsLikeInherited, inherited_clash}
+use Rattle.sc_class.specs.Internal.InheritedClash.{like_clash, name_clash, names_clash, IsLikeInherited, inherited_clash}
 use Rattle.sc_class.proofs.Anys.{any_none, any_first, any_later, any_split, at, drop_end}
 use Rattle.sc_class.proofs.Finding.{finds_same, finds_either}
 use Rattle.sc_class.proofs.AncestorLemmas.{named-visible}

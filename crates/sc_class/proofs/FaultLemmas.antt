@@ -8,12 +8,12 @@ use Rattle.sc_text.specs.declared.token.Span.{Span}
 use Rattle.sc_tree.specs.declared.system.Class as tree_class
 use Rattle.sc_tree.specs.Plain.{System, Class, Feature, Name}
 use Rattle.sc_tree.specs.View.{class_of}
-use Rattle.sc_class.specs.Found.{Finds, earliest}
-use Rattle.sc_class.specs.FaultAt.{FaultAt, FaultBefore}
+use Rattle.sc_class.specs.Internal.Found.{Finds, earliest}
+use Rattle.sc_class.specs.Internal.FaultAt.{FaultAt, FaultBefore}
 use Rattle.sc_class.specs.Names.{IsLikeOne, OneClashes}
 use Rattle.sc_class.specs.Features.{redefined_by, redefined_names, not_redefined, inherited_features, features}
-use Rattle.sc_class.specs.Scopes.{ClassClashes, own_features_clash, inherited_clash, in_routine, InheritedClashes, like_inherited, RoutineClashes, feature_names}
-use Rattle.sc_class.specs.InheritedClash.{IsLikeInherited, names_clash}
+use Rattle.sc_class.specs.Scopes.{ClassClashes, own_features_clash, inherited_clash, in_routine, in_invariant, InheritedClashes, like_inherited, RoutineClashes, ClausesClash, feature_names}
+use Rattle.sc_class.specs.Internal.InheritedClash.{IsLikeInherited, names_clash}
 use Rattle.sc_class.proofs.Finding.{finds_same}
 use Rattle.sc_class.proofs.Items.{some_is, item_in}
 use Rattle.sc_class.proofs.ClashLemmas.{either, names_found}
@@ -70,19 +70,28 @@ module _ (s : System) (k : ℕ) (c : Class) (is_class : slice_get s.classes k �
   one_like : (p : Span) → InheritedClashes s k c p → Any (λ (f : Feature). IsLikeInherited s k f p) c.features
   one_like p (like_inherited {f = f} (i, l, e) y) = (i, f, l, e, subst (λ (ns : List Name). IsLikeOne (feature_names (not_redefined ns (inherited_features s k))) f.name p) (sym names_are) y)
 
-  pub class_found : (a b d : Option Span) → a ≡ names_clash [] (map (λ (f : Feature). f.name) c.features) → Finds (λ p. Any (λ f. IsLikeInherited s k f p) c.features) b →
-      Finds (λ p. Any (λ f. RoutineClashes (feature_names (features s k)) f.kind p) c.features) d → (bd all : Option Span) → bd ≡ earliest b d → all ≡ earliest a bd → Finds (ClassClashes s k c) all
-  class_found a b d e f h bd all i j =
-      subst (Finds (ClassClashes s k c)) (sym (j ∙ ap (earliest a) i))
-      (either {P = OneClashes [] (map (λ (f : Feature). f.name) c.features)} {Q = λ p. InheritedClashes s k c p ⊎ Any (λ (f : Feature). RoutineClashes (feature_names (features s k)) f.kind p) c.features} {R = ClassClashes s k c} a (earliest b d)
-      (λ p. own_features_clash) (λ p. within) (λ p. parts) (subst (Finds (OneClashes [] (map (λ (f : Feature). f.name) c.features))) (sym e) (names_found [] (map (λ (f : Feature). f.name) c.features)))
-      (either {P = InheritedClashes s k c} {Q = λ p. Any (λ (f : Feature). RoutineClashes (feature_names (features s k)) f.kind p) c.features} b d (λ p. inl) (λ p. inr) (λ p y. y) (finds_same b like_one one_like f) h))
-    where
-      within : {p : Span} → InheritedClashes s k c p ⊎ Any (λ (f : Feature). RoutineClashes (feature_names (features s k)) f.kind p) c.features → ClassClashes s k c p
-      within (inl y) = inherited_clash y
-      within (inr y) = in_routine y
+  -- in one of its own routines, or in its invariant
+  abbrev InTexts : Span → Type 0
+  InTexts p = Any (λ (f : Feature). RoutineClashes (feature_names (features s k)) f.kind p) c.features ⊎ ClausesClash (feature_names (features s k)) c.invariant p
 
-      parts : {p : Span} → ClassClashes s k c p → OneClashes [] (map (λ (f : Feature). f.name) c.features) p ⊎ (InheritedClashes s k c p ⊎ Any (λ (f : Feature). RoutineClashes (feature_names (features s k)) f.kind p) c.features)
+  pub class_found : (a b d e : Option Span) → a ≡ names_clash [] (map (λ (f : Feature). f.name) c.features) → Finds (λ p. Any (λ f. IsLikeInherited s k f p) c.features) b →
+      Finds (λ p. Any (λ f. RoutineClashes (feature_names (features s k)) f.kind p) c.features) d → Finds (ClausesClash (feature_names (features s k)) c.invariant) e →
+      (de bd all : Option Span) → de ≡ earliest d e → bd ≡ earliest b de → all ≡ earliest a bd → Finds (ClassClashes s k c) all
+  class_found a b d e own f h v de bd all i j l =
+      subst (Finds (ClassClashes s k c)) (sym (l ∙ ap (earliest a) (j ∙ ap (earliest b) i)))
+      (either {P = OneClashes [] (map (λ (f : Feature). f.name) c.features)} {Q = λ p. InheritedClashes s k c p ⊎ InTexts p} {R = ClassClashes s k c} a (earliest b (earliest d e))
+      (λ p. own_features_clash) (λ p. within) (λ p. parts) (subst (Finds (OneClashes [] (map (λ (f : Feature). f.name) c.features))) (sym own) (names_found [] (map (λ (f : Feature). f.name) c.features)))
+      (either {P = InheritedClashes s k c} {Q = InTexts} b (earliest d e) (λ p. inl) (λ p. inr) (λ p y. y) (finds_same b like_one one_like f)
+      (either {P = λ p. Any (λ (f : Feature). RoutineClashes (feature_names (features s k)) f.kind p) c.features} {Q = ClausesClash (feature_names (features s k)) c.invariant} {R = InTexts} d e
+      (λ p. inl) (λ p. inr) (λ p y. y) h v)))
+    where
+      within : {p : Span} → InheritedClashes s k c p ⊎ InTexts p → ClassClashes s k c p
+      within (inl y) = inherited_clash y
+      within (inr (inl y)) = in_routine y
+      within (inr (inr y)) = in_invariant y
+
+      parts : {p : Span} → ClassClashes s k c p → OneClashes [] (map (λ (f : Feature). f.name) c.features) p ⊎ (InheritedClashes s k c p ⊎ InTexts p)
       parts (own_features_clash y) = inl y
       parts (inherited_clash y) = inr (inl y)
-      parts (in_routine y) = inr (inr y)
+      parts (in_routine y) = inr (inr (inl y))
+      parts (in_invariant y) = inr (inr (inr y))

@@ -17,11 +17,11 @@ use Rattle.sc_class.specs.Entries.{entry_of}
 use Rattle.sc_class.proofs.Anys.{at}
 use Rattle.sc_class.proofs.AncestorLemmas.{then_named, visible_all}
 
--- two lists that are alike through a view, read at one number
-pub at_same : {A B C : Type 0} (f : A → C) (g : B → C) (xs : List A) (ys : List B) → map f xs ≡ map g ys → (k : ℕ) (x : A) (d : C) → slice_get xs k ≡ Some x → f x ≡ option_map_or g (slice_get ys k) d
-at_same {A} {B} {C} f g xs ys e k x d i = by (slice_get ys k) (sym (slice_get-map g ys k) ∙ ap (λ (zs : List C). slice_get zs k) (sym e) ∙ slice_get-map f xs k ∙ ap (option_map f) i)
+-- a list that is the image of another, read at one number
+pub at_image : {A B C : Type 0} (f : B → A) (g : A → C) (xs : List A) (ys : List B) → xs ≡ map f ys → (k : ℕ) (x : A) (d : C) → slice_get xs k ≡ Some x → g x ≡ option_map_or (λ y. g (f y)) (slice_get ys k) d
+at_image {A} {B} {C} f g xs ys e k x d i = by (slice_get ys k) (sym (slice_get-map f ys k) ∙ ap (λ (zs : List A). slice_get zs k) (sym e) ∙ i)
   where
-    by : (o : Option B) → option_map g o ≡ Some (f x) → f x ≡ option_map_or g o d
+    by : (o : Option B) → option_map f o ≡ Some x → g x ≡ option_map_or (λ y. g (f y)) o d
     by None h = cc
     by (Some y) h = cc
 
@@ -124,7 +124,5 @@ module _ (hidden : List Name) (k : ℕ) (fs : List tree_feature.Feature) (i : �
 pub features_begin : (es : List FeatureEntry) (hidden : List Name) (fs : List DeclaredFeature) → es ≡ [] → hidden ≡ [] → map entry_of es ++ not_redefined hidden fs ≡ fs
 features_begin es hidden fs e h = ap (λ es. map entry_of es ++ not_redefined hidden fs) e ∙ ap (λ ns. not_redefined ns fs) h ∙ visible_all fs
 
-pub features_end : (s : System) (ks line : List ℕ) (i : ℕ) (fs total : List DeclaredFeature) (hidden : List Name) → length ks ≤ i → ks ≡ line → features_along s line ≡ total →
-    fs ++ not_redefined hidden (features_along s (drop i ks)) ≡ features_along s ks → fs ≡ total
-features_end s ks line i fs total hidden l e t inv =
-    sym (append-nil fs) ∙ ap (λ ds. fs ++ not_redefined hidden (features_along s ds)) (sym (drop_all i ks l)) ∙ inv ∙ ap (features_along s) e ∙ t
+pub features_end : (s : System) (ks : List ℕ) (i : ℕ) (fs total : List DeclaredFeature) (hidden : List Name) → length ks ≤ i → fs ++ not_redefined hidden (features_along s (drop i ks)) ≡ total → fs ≡ total
+features_end s ks i fs total hidden l inv = sym (append-nil fs) ∙ ap (λ ds. fs ++ not_redefined hidden (features_along s ds)) (sym (drop_all i ks l)) ∙ inv

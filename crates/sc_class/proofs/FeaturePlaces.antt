@@ -10,7 +10,7 @@ use Rattle.sc_class.specs.Names.{first_like}
 use Rattle.sc_class.specs.Features.{DeclaredFeature, named_among}
 use Rattle.sc_class.specs.Entries.{entry_of}
 use Rattle.sc_class.specs.Scopes.{feature_names}
-use Rattle.sc_class.specs.ScopeSearch.{place_among}
+use Rattle.sc_class.specs.Internal.ScopeSearch.{place_among}
 
 abbrev place_of : DeclaredFeature → Span
 place_of f = f.feature.name.span

@@ -1,7 +1,7 @@
 -- What searches find, one behind the other.
 use Rattle.std.proofs.Common.{◌≡◌, ◌<◌, ◌≤◌, ◌+◌, ℕ, Bool, true, false, List, [], ◌∷◌, length, take, get_or, map, Option, Some, None, sym, subst, ◌⊎◌, inl, inr}
 use Rattle.std.specs.Prelude.{Any, nat_lt, if◌then◌else◌}
-use Rattle.sc_class.specs.Found.{Finds, first_by}
+use Rattle.sc_class.specs.Internal.Found.{Finds, first_by}
 use Rattle.sc_class.proofs.Anys.{any_none, any_left, any_right, any_parts, any_only, any_first, map_seen, take_end}
 
 -- the same things

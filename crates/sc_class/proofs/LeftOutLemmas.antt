@@ -8,7 +8,7 @@ use Rattle.sc_tree.specs.Plain.{Class, ClassMark}
 use Rattle.sc_class.specs.declared.fault.LeftOut.{LeftOut}
 use Rattle.sc_class.specs.declared.left_out.Exclusion.{Exclusion}
 use Rattle.std.specs.Prelude.{Any}
-use Rattle.sc_class.specs.Found.{Finds, first_by}
+use Rattle.sc_class.specs.Internal.Found.{Finds, first_by}
 use Rattle.sc_class.specs.LeftOut.{excluded, left_out_mark, MarkLeftOut, mark, ParentLeftOut, ExportLeftOut, ClassLeftOut, by_mark, by_parent, by_export}
 use Rattle.sc_class.proofs.Finding.{finds_either}
 

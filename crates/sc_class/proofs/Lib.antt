@@ -21,3 +21,5 @@ pub mod Acyclic
 pub mod Standing
 pub mod Heirs
 pub mod Origins
+mod InheritedFeatures
+pub mod KnownLemmas

@@ -12,7 +12,7 @@ use Rattle.sc_tree.specs.declared.expression.Name.{Name}
 use Rattle.sc_tree.specs.Plain as plain
 use Rattle.sc_tree.specs.View.{name_of}
 use Rattle.sc_class.specs.Names.{number_among, first_like}
-use Rattle.sc_class.specs.NameIndex.{names_at, IsIndex}
+use Rattle.sc_class.specs.Internal.NameIndex.{names_at, IsIndex}
 
 -- the number of a name behind the others: as before, or the last
 abbrev pub number_then : Option ℕ → Bool → ℕ → Option ℕ

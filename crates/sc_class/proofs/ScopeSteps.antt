@@ -1,4 +1,4 @@
--- What the functions of `specs/ScopeSearch` give at each exit of the code that follows them.
+-- What the functions of `specs/Internal/ScopeSearch` give at each exit of the code that follows them.
 use Rattle.std.proofs.Common.{◌≡◌, ◌<◌, ◌≤◌, ◌+◌, ℕ, Bool, true, false, List, [], ◌∷◌, ◌++◌, length, get_or, drop, map, Option, Some, None, refl, ap, sym, ◌∙◌, arith}
 use Rattle.std.specs.Prelude.{nat_lt, if◌then◌else◌}
 use Rattle.std.proofs.lemmas.Bool.Decides.{nat_tests}
@@ -16,9 +16,9 @@ use Rattle.sc_tree.specs.declared.instruction.Branch.{Branch}
 use Rattle.sc_tree.specs.Plain.{Name}
 use Rattle.sc_tree.specs.View.{expr_of, target_of, exprs_of, head_of, instr_of, instrs_of, branches_of}
 use Rattle.sc_tree.proofs.ViewLemmas.{expr_of-call, instr_of-if, instr_of-loop, instr_of-block}
-use Rattle.sc_class.specs.Found.{earliest}
+use Rattle.sc_class.specs.Internal.Found.{earliest}
 use Rattle.sc_class.specs.Scopes.{tests_of, head_names}
-use Rattle.sc_class.specs.ScopeSearch.{name_clash, names_clash, expr_clash, target_clash, exprs_clash, condition_clash, values_clash, instr_clash, instrs_clash, branches_clash}
+use Rattle.sc_class.specs.Internal.ScopeSearch.{name_clash, names_clash, expr_clash, target_clash, exprs_clash, condition_clash, values_clash, instr_clash, instrs_clash, branches_clash}
 use Rattle.sc_class.proofs.Anys.{at, drop_end}
 
 -- ---- the earliest of several places
@@ -116,14 +116,11 @@ module _ (fs ns : List Name) (i : Instr) where
       ∙ ap (λ c. earliest (instrs_clash fs ns (instrs_of initial.items)) (earliest (expr_clash fs ns (expr_of e)) c)) (z ∙ ap (λ (is : List Instr). instrs_clash fs ns (instrs_of is)) v)
       ∙ sym (ap (λ (i : Instr). instr_clash fs ns (instr_of i)) q ∙ ap (instr_clash fs ns) (instr_of-loop s initial e body))
 
-  pub block_found : (s : Span) (heads : Vec Head Global) (body : Vec Instr Global) (hs gs : List Head) (is : List Instr) (more : List Name) (a b c d r : Option Span) →
-      i ≡ instr.Block s heads body → hs ≡ heads.items → gs ≡ heads.items → is ≡ body.items → more ≡ ns ++ head_names (map head_of gs) →
-      a ≡ values_clash fs ns (map head_of hs) → b ≡ names_clash fs ns (head_names (map head_of gs)) → c ≡ instrs_clash fs more (instrs_of is) →
-      d ≡ earliest b c → r ≡ earliest a d → r ≡ instr_clash fs ns (instr_of i)
+  pub block_found : (s : Span) (heads : Vec Head Global) (body : Vec Instr Global) (hs : List Head) (is : List Instr) (r : Option Span) →
+      i ≡ instr.Block s heads body → hs ≡ heads.items → is ≡ body.items →
+      r ≡ earliest (values_clash fs ns (map head_of hs)) (earliest (names_clash fs ns (head_names (map head_of hs))) (instrs_clash fs (ns ++ head_names (map head_of hs)) (instrs_of is))) → r ≡ instr_clash fs ns (instr_of i)
   unfolding instr_clash
-  block_found s heads body hs gs is more a b c d r q u v w k x y z m o =
-      o ∙ ap (earliest a) m ∙ ap (λ a. earliest a (earliest b c)) (x ∙ ap (λ (hs : List Head). values_clash fs ns (map head_of hs)) u)
-      ∙ ap (λ b. earliest (values_clash fs ns (map head_of heads.items)) (earliest b c)) (y ∙ ap (λ (hs : List Head). names_clash fs ns (head_names (map head_of hs))) v)
-      ∙ ap (λ c. earliest (values_clash fs ns (map head_of heads.items)) (earliest (names_clash fs ns (head_names (map head_of heads.items))) c))
-      (z ∙ ap (λ ms. instrs_clash fs ms (instrs_of is)) (k ∙ ap (λ (hs : List Head). ns ++ head_names (map head_of hs)) v) ∙ ap (λ (is : List Instr). instrs_clash fs (ns ++ head_names (map head_of heads.items)) (instrs_of is)) w)
+  block_found s heads body hs is r q u v o =
+      o ∙ ap (λ (hs : List Head). earliest (values_clash fs ns (map head_of hs)) (earliest (names_clash fs ns (head_names (map head_of hs))) (instrs_clash fs (ns ++ head_names (map head_of hs)) (instrs_of is)))) u
+      ∙ ap (λ (is : List Instr). earliest (values_clash fs ns (map head_of heads.items)) (earliest (names_clash fs ns (head_names (map head_of heads.items))) (instrs_clash fs (ns ++ head_names (map head_of heads.items)) (instrs_of is)))) v
       ∙ sym (ap (λ (i : Instr). instr_clash fs ns (instr_of i)) q ∙ ap (instr_clash fs ns) (instr_of-block s heads body))

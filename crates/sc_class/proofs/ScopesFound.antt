@@ -1,4 +1,4 @@
--- What the functions of `specs/ScopeSearch` give is a clash, and where they give none there is none.
+-- What the functions of `specs/Internal/ScopeSearch` give is a clash, and where they give none there is none.
 use Rattle.std.proofs.Common.{◌≡◌, Bool, true, false, cond, List, [], ◌∷◌, ◌++◌, Option, Some, None, refl, sym, subst, ◌⊎◌, inl, inr}
 use Rattle.std.specs.Prelude.{Any, IfOk, Ok, Err, bytes_eq, if◌then◌else◌}
 use Rattle.std.specs.Prelude as result
@@ -10,10 +10,10 @@ use Rattle.sc_tree.specs.declared.expression.UnaryOperator.{UnaryOperator}
 use Rattle.sc_tree.specs.declared.expression.BinaryOperator.{BinaryOperator}
 use Rattle.sc_tree.specs.declared.expression.BinaryOperator.TheVariants.{AndThen}
 use Rattle.sc_tree.specs.Plain.{FeatureKind, Attribute, Routine, Declaration, DeclaredType, Clause, Head, Name, Variable, CreationCall, Expr, Integer, Boolean, Void, Current, Result, Call, Unary, Binary, ObjectTest, Target, no_target, target, Exprs, no_exprs, expr_then, Instr, Assign, PrintText, CallRoutine, Create, If, Loop, Check, Block, Instrs, no_instrs, instr_then, Branches, no_branches, branch_then}
-use Rattle.sc_class.specs.Found.{Finds, earliest}
+use Rattle.sc_class.specs.Internal.Found.{Finds, earliest}
 use Rattle.sc_class.specs.Names.{IsLikeOne, Clashes, is_print_itself, is_like, OneClashes, first, further, first_like, is_print, later_of}
 use Rattle.sc_class.specs.Scopes.{tests_of, head_names, declared_names, ExprClashes, in_target, in_actuals, in_operand, in_left, in_right, in_tested, test_name, TargetClashes, in_target_value, ExprsClash, in_first, in_others, ConditionClashes, in_whole, in_left_test, in_right_test, ClausesClash, InstrClashes, in_source, in_call_target, in_call_actuals, in_creation, in_if, in_then, in_elseif, in_else, in_from, in_until, in_loop, in_check, in_heads, head_name, in_block, InstrsClash, in_first_instr, in_other_instrs, BranchesClash, in_branch_condition, in_branch, in_later_branch, RoutineClashes, entity, in_precondition, in_body, in_postcondition}
-use Rattle.sc_class.specs.ScopeSearch.{like_place, name_clash, names_clash, expr_clash, target_clash, exprs_clash, is_and_then, condition_clash, clauses_clash, values_clash, instr_clash, instrs_clash, branches_clash, kind_clash}
+use Rattle.sc_class.specs.Internal.ScopeSearch.{like_place, name_clash, names_clash, expr_clash, target_clash, exprs_clash, is_and_then, condition_clash, clauses_clash, values_clash, instr_clash, instrs_clash, branches_clash, kind_clash}
 use Rattle.sc_class.proofs.Anys.{any_none, any_first, any_later, any_split, any_left, any_right, any_parts}
 use Rattle.sc_class.proofs.Finding.{finds_same, finds_either}
 

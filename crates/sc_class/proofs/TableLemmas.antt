@@ -1,6 +1,6 @@
 -- What tables say of classes, and that a system with tables has no fault.
-use Rattle.std.proofs.Common.{◌≡◌, ◌<◌, ◌≤◌, ◌+◌, ℕ, zero, suc, Bool, true, false, cond, List, [], ◌∷◌, ◌++◌, Option, Some, None, length, get_or, map, drop, refl, ap, sym, ◌∙◌, arith, below_more}
-use Rattle.std.specs.Prelude.{slice_get, nat_lt}
+use Rattle.std.proofs.Common.{◌≡◌, ◌<◌, ◌≤◌, ◌+◌, ℕ, zero, suc, Bool, true, false, cond, List, [], ◌∷◌, ◌++◌, Option, Some, None, length, get_or, map, drop, refl, ap, sym, ◌∙◌, arith, below_more, subst, ◌⊎◌, inl, inr, Ok, Err}
+use Rattle.std.specs.Prelude.{Any, IfErr, IsErrAnd, Result, slice_get, nat_lt}
 use Rattle.std.specs.Option.{option_map_or, option_and_then}
 use Rattle.std.specs.declared.vec.Vec.{Vec}
 use Rattle.std.specs.declared.alloc.Global.{Global}
@@ -13,15 +13,18 @@ use Rattle.sc_tree.specs.View.{class_of, clause_of}
 use Rattle.sc_class.specs.declared.identity.ClassId.{ClassId}
 use Rattle.sc_class.specs.declared.identity.ClassId.TheVariants as class
 use Rattle.sc_text.specs.declared.token.Span.{Span}
+use Rattle.sc_class.specs.declared.fault.ClassFault.{ClassFault}
+use Rattle.sc_class.specs.declared.fault.LeftOut.{LeftOut}
 use Rattle.sc_class.specs.declared.fault.ClassFault.TheVariants as fault
-use Rattle.sc_class.specs.FaultAt.{FaultAt}
+use Rattle.sc_class.specs.Internal.FaultAt.{FaultAt}
 use Rattle.sc_class.specs.Scopes.{ClassClashes}
 use Rattle.sc_class.specs.Redefinition.{BadlyRedefines}
-use Rattle.sc_class.specs.ClassNames.{Root}
-use Rattle.sc_class.specs.Ancestors.{ancestors, line, parent_of}
 use Rattle.sc_class.specs.Features.{invariant_along, invariant_of, own_invariant}
-use Rattle.sc_class.specs.ClassRules.{Fails, IsFaultless, duplicate_class, unknown_parent, cycle, duplicate_feature, bad_redefinition, no_root, limit, left_out}
-use Rattle.sc_class.specs.Lines.{line_in}
+use Rattle.sc_class.specs.ClassRules.{Fails, IsFaultless, has_root, duplicate_class, unknown_parent, cycle, duplicate_feature, bad_redefinition, no_root, limit, left_out, code_number, HasLeastCode}
+use Rattle.sc_class.specs.Limits.{PassesLimit}
+use Rattle.sc_class.specs.Ancestors.{ancestors, line, parent_of, UnknownParentAt, CycleAt}
+use Rattle.sc_class.specs.ClassNames.{Root, RepeatedAt}
+use Rattle.sc_class.specs.Internal.Lines.{line_in}
 use Rattle.sc_class.specs.Tables.{ClassesStand, FeaturesStand, RestStands, ancestors_of, joined_invariant}
 
 pub faultless : (s : System) (root : Root) → ClassesStand s → FeaturesStand s root → RestStands s → IsFaultless s root
@@ -34,9 +37,73 @@ faultless s root a b d f (no_root e) = let q : true ≡ false = sym b.rooted ∙
 faultless s root a b d f (limit y) = d.within_limits y
 faultless s root a b d f (left_out {x} y) = d.none_left_out x y
 
+-- ---- the least code
+
+at_least : (n k : ℕ) → (k < n → ⊥) → n ≤ k
+at_least n k h = omega (arith, h)
+
+never : {A : Type 0} (n k : ℕ) → n ≤ k → k < n → A
+never n k l m = absurd (omega arith)
+
+-- where none of the faults of a code below n is in the system
+least : (s : System) (root : Root) (n : ℕ) → n ≤ 8 → (1 < n → (p : Span) → RepeatedAt [] s.classes p → ⊥) → (2 < n → (p : Span) → Any (λ c. Any (λ q. UnknownParentAt s q p) c.parents) s.classes → ⊥) →
+    (3 < n → (p : Span) → CycleAt s p → ⊥) → (4 < n → (p : Span) → FaultAt s (ClassClashes s) p → ⊥) → (5 < n → (p : Span) → FaultAt s (BadlyRedefines s) p → ⊥) →
+    (6 < n → has_root s root ≡ false → ⊥) → (7 < n → PassesLimit s → ⊥) → (g : ClassFault) → Fails s root g → n ≤ code_number g
+least s root n l a b d e f h i g (duplicate_class {p} y) = at_least n 1 (λ m. a m p y)
+least s root n l a b d e f h i g (unknown_parent {p} y) = at_least n 2 (λ m. b m p y)
+least s root n l a b d e f h i g (cycle {p} y) = at_least n 3 (λ m. d m p y)
+least s root n l a b d e f h i g (duplicate_feature {p} {k} {c} q y) = at_least n 4 (λ m. e m p (k, c, q, y))
+least s root n l a b d e f h i g (bad_redefinition {p} {k} {c} q y) = at_least n 5 (λ m. f m p (k, c, q, y))
+least s root n l a b d e f h i g (no_root y) = at_least n 6 (λ m. h m y)
+least s root n l a b d e f h i g (limit y) = at_least n 7 (λ m. i m y)
+least s root n l a b d e f h i g (left_out y) = l
+
+module _ (s : System) (root : Root) where
+  pub least_1 : (p : Span) → HasLeastCode s root (fault.DuplicateClass p)
+  least_1 p = least s root 1 (omega arith) (never 1 1 (omega arith)) (never 1 2 (omega arith)) (never 1 3 (omega arith)) (never 1 4 (omega arith)) (never 1 5 (omega arith)) (never 1 6 (omega arith)) (never 1 7 (omega arith))
+
+  pub least_2 : ((p : Span) → RepeatedAt [] s.classes p → ⊥) → (p : Span) → HasLeastCode s root (fault.UnknownParent p)
+  least_2 a p = least s root 2 (omega arith) (λ m. a) (never 2 2 (omega arith)) (never 2 3 (omega arith)) (never 2 4 (omega arith)) (never 2 5 (omega arith)) (never 2 6 (omega arith)) (never 2 7 (omega arith))
+
+  pub least_3 : ((p : Span) → RepeatedAt [] s.classes p → ⊥) → ((p : Span) → Any (λ c. Any (λ q. UnknownParentAt s q p) c.parents) s.classes → ⊥) → (p : Span) → HasLeastCode s root (fault.Cycle p)
+  least_3 a b p = least s root 3 (omega arith) (λ m. a) (λ m. b) (never 3 3 (omega arith)) (never 3 4 (omega arith)) (never 3 5 (omega arith)) (never 3 6 (omega arith)) (never 3 7 (omega arith))
+
+  pub least_4 : (p : Span) → ClassesStand s → HasLeastCode s root (fault.DuplicateFeature p)
+  least_4 p a =
+      least s root 4 (omega arith) (λ m. a.none_repeated) (λ m. a.none_unknown) (λ m. a.none_cyclic) (never 4 4 (omega arith)) (never 4 5 (omega arith)) (never 4 6 (omega arith)) (never 4 7 (omega arith))
+
+  pub least_5 : ((p : Span) → FaultAt s (ClassClashes s) p → ⊥) → (p : Span) → ClassesStand s → HasLeastCode s root (fault.BadRedefinition p)
+  least_5 b p a = least s root 5 (omega arith) (λ m. a.none_repeated) (λ m. a.none_unknown) (λ m. a.none_cyclic) (λ m. b) (never 5 5 (omega arith)) (never 5 6 (omega arith)) (never 5 7 (omega arith))
+
+  pub least_6 : ((p : Span) → FaultAt s (ClassClashes s) p → ⊥) → ((p : Span) → FaultAt s (BadlyRedefines s) p → ⊥) → ClassesStand s → HasLeastCode s root fault.NoRoot
+  least_6 b d a = least s root 6 (omega arith) (λ m. a.none_repeated) (λ m. a.none_unknown) (λ m. a.none_cyclic) (λ m. b) (λ m. d) (never 6 6 (omega arith)) (never 6 7 (omega arith))
+
+  module _ (a : ClassesStand s) (b : FeaturesStand s root) where
+    has_one : has_root s root ≡ false → ⊥
+    has_one e = let q : true ≡ false = sym b.rooted ∙ e in cc
+
+    pub least_7 : HasLeastCode s root fault.Limit
+    least_7 = least s root 7 (omega arith) (λ m. a.none_repeated) (λ m. a.none_unknown) (λ m. a.none_cyclic) (λ m. b.none_clashes) (λ m. b.none_redefines_badly) (λ m. has_one) (never 7 7 (omega arith))
+
+    pub least_8 : (PassesLimit s → ⊥) → (what : LeftOut) (p : Span) → HasLeastCode s root (fault.LeftOut what p)
+    least_8 d what p = least s root 8 (omega arith) (λ m. a.none_repeated) (λ m. a.none_unknown) (λ m. a.none_cyclic) (λ m. b.none_clashes) (λ m. b.none_redefines_badly) (λ m. has_one) (λ m. d)
+
+-- an error that is passed on
+pub err_same : {A E : Type 0} (P : E → Type 0) (r : Result A E) (e : E) → IsErrAnd r (λ g. g ≡ e) → P e → IfErr r P
+err_same P (Ok x) e i p = absurd i
+err_same P (Err g) e i p = subst P (sym i) p
+
+pub behind : {A B C D : Type 0} → D ⊎ (A → B → C) → B → D ⊎ (A → C)
+behind (inl d) b = inl d
+behind (inr f) b = inr (λ a. f a b)
+
+pub applied : {A B D : Type 0} → D ⊎ (A → B) → A → D ⊎ B
+applied (inl d) a = inl d
+applied (inr f) a = inr (f a)
+
 -- ---- lines
 
-read_append : {A : Type 0} (xs : List A) (x : A) (k : ℕ) → k < length xs → slice_get (xs ++ x ∷ []) k ≡ slice_get xs k
+pub read_append : {A : Type 0} (xs : List A) (x : A) (k : ℕ) → k < length xs → slice_get (xs ++ x ∷ []) k ≡ slice_get xs k
 read_append [] x k l = absurd (omega arith)
 read_append (y ∷ xs) x zero l = refl
 read_append (y ∷ xs) x (suc k) l = read_append xs x k (less l)
@@ -44,7 +111,7 @@ read_append (y ∷ xs) x (suc k) l = read_append xs x k (less l)
     less : suc k < suc (length xs) → k < length xs
     less l = omega arith
 
-read_last : {A : Type 0} (xs : List A) (x : A) → slice_get (xs ++ x ∷ []) (length xs) ≡ Some x
+pub read_last : {A : Type 0} (xs : List A) (x : A) → slice_get (xs ++ x ∷ []) (length xs) ≡ Some x
 read_last [] x = refl
 read_last (y ∷ xs) x = read_last xs x
 

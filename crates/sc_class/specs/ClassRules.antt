@@ -1,5 +1,5 @@
 -- The faults of a system's classes.
-use Rattle.std.specs.Prelude.{◌≡◌, ℕ, Bool, true, false, List, [], ◌&&◌, Some, None, Any, slice_get}
+use Rattle.std.specs.Prelude.{◌≡◌, ◌≤◌, ℕ, Bool, true, false, List, [], ◌&&◌, Some, None, Any, slice_get}
 use Rattle.std.specs.Option.{option_map_or}
 use Rattle.sc_text.specs.declared.token.Span.{Span}
 use Rattle.sc_tree.specs.Plain.{System, Class, FeatureKind, Routine, Name}
@@ -45,3 +45,19 @@ pub data Fails (s : System) (root : Root) : ClassFault → Type 0 where
 -- No fault is in the system.
 abbrev pub IsFaultless : System → Root → Type 0
 IsFaultless s root = (f : ClassFault) → Fails s root f → ⊥
+
+-- the number of a fault's code, C1 to C9
+abbrev pub code_number : ClassFault → ℕ
+code_number (fault.DuplicateClass p) = 1
+code_number (fault.UnknownParent p) = 2
+code_number (fault.Cycle p) = 3
+code_number (fault.DuplicateFeature p) = 4
+code_number (fault.BadRedefinition p) = 5
+code_number fault.NoRoot = 6
+code_number fault.Limit = 7
+code_number (fault.LeftOut what p) = 8
+code_number fault.OutOfMemory = 9
+
+-- No fault of a lower code is in the system.
+abbrev pub HasLeastCode : System → Root → ClassFault → Type 0
+HasLeastCode s root f = (g : ClassFault) → Fails s root g → code_number f ≤ code_number g

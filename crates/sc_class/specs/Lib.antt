@@ -8,15 +8,10 @@ pub mod Redefinition
 pub mod Limits
 pub mod LeftOut
 pub mod ClassRules
-pub mod NameIndex
-pub mod Found
+pub mod Internal
 pub mod Search
 pub mod Entries
 pub mod Own
-pub mod FaultAt
-pub mod ScopeSearch
-pub mod InheritedClash
-pub mod Lines
 pub mod Tables
 pub mod Entities
 pub mod Heirs

@@ -96,8 +96,10 @@ pub data RoutineClashes (known : List Name) : FeatureKind → Span → Type 0 wh
 pub data InheritedClashes (s : System) (k : ℕ) (c : Class) : Span → Type 0 where
   like_inherited : {f : Feature} {p : Span} → Contains c.features f → IsLikeOne (feature_names (not_redefined (redefined_by c) (inherited_features s k))) f.name p → InheritedClashes s k c p
 
--- In the class at the number, two features that it declares are alike, or one of them is like one that it inherits, or names clash in a routine of its own text.
+-- In the class at the number, two features that it declares are alike, or one of them is like one that it inherits, or names clash in a
+-- routine of its own text or in its invariant, where its features are known.
 pub data ClassClashes (s : System) (k : ℕ) (c : Class) : Span → Type 0 where
   own_features_clash : {p : Span} → OneClashes [] (map (λ f. f.name) c.features) p → ClassClashes s k c p
   inherited_clash : {p : Span} → InheritedClashes s k c p → ClassClashes s k c p
   in_routine : {p : Span} → Any (λ f. RoutineClashes (feature_names (features s k)) f.kind p) c.features → ClassClashes s k c p
+  in_invariant : {p : Span} → ClausesClash (feature_names (features s k)) c.invariant p → ClassClashes s k c p

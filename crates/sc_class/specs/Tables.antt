@@ -13,7 +13,7 @@ use Rattle.sc_class.specs.Redefinition.{BadlyRedefines}
 use Rattle.sc_class.specs.Limits.{PassesLimit}
 use Rattle.sc_class.specs.LeftOut.{ClassLeftOut}
 use Rattle.sc_class.specs.ClassRules.{has_root}
-use Rattle.sc_class.specs.FaultAt.{FaultAt}
+use Rattle.sc_class.specs.Internal.FaultAt.{FaultAt}
 
 -- the ancestors of a class that the text declares; a class that every system has has none there
 abbrev pub ancestors_of : System → ClassId → List ℕ

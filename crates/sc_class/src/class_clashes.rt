@@ -1,20 +1,20 @@
 // Names of features that clash in the classes of a system.
 
 ghost use Rattle.std.specs.Prelude.{◌≡◌, ◌++◌, ◌∷◌, [], IfOk, Some, Any, map, slice_get};
-ghost use Rattle.sc_tree.specs.View.{class_of, feature_of, name_of, system_of};
+ghost use Rattle.sc_tree.specs.View.{class_of, clause_of, feature_of, name_of, system_of};
 ghost use Rattle.sc_class.specs.Features.{features};
-ghost use Rattle.sc_class.specs.Found.{Finds};
-ghost use Rattle.sc_class.specs.FaultAt.{FaultAt};
-ghost use Rattle.sc_class.specs.Scopes.{ClassClashes, RoutineClashes, feature_names};
-ghost use Rattle.sc_class.specs.InheritedClash as clash;
+ghost use Rattle.sc_class.specs.Internal.Found.{Finds};
+ghost use Rattle.sc_class.specs.Internal.FaultAt.{FaultAt};
+ghost use Rattle.sc_class.specs.Scopes.{ClassClashes, ClausesClash, RoutineClashes, feature_names};
+ghost use Rattle.sc_class.specs.Internal.InheritedClash as clash;
 
 use crate::found::earliest;
 use crate::lineage::Lineage;
 use crate::names::NameIndex;
 use crate::outline::Outline;
-use crate::scopes::{Features, is_print, later_of, routine_clash};
+use crate::scopes::{Features, in_clauses, is_print, later_of, routine_clash};
 use sc_text::Span;
-use sc_tree::{Class, Feature, Name};
+use sc_tree::{Class, Clause, Feature, Name};
 use std::alloc::{AllocError, Global};
 
 /// Where the name clashes with one of the known ones. It looks once by hash.
@@ -109,6 +109,16 @@ fn routines_clash(
     Ok(found)
 }
 
+/// Where the name of an object test in an invariant clashes with that of a feature.
+fn invariant_clash(alloc: Global, lineage: &Lineage, clauses: &[Clause]) -> Option<Span>
+    ensures { let known = feature_names (features (system_of lineage.now.outline.now.hierarchy.system.now) lineage.now.number) in
+        Finds (ClausesClash known (map clause_of clauses.now)) result }
+{
+    let names = Features::of(lineage);
+    let known = NameIndex::new(alloc);
+    in_clauses(&names, &known, clauses)
+}
+
 /// Where names clash in a class.
 fn class_clash(alloc: Global, lineage: &Lineage, class: &Class) -> Result<Option<Span>, AllocError>
     requires { slice_get (system_of lineage.now.outline.now.hierarchy.system.now).classes lineage.now.number ≡ Some (class_of class.now) }
@@ -117,7 +127,8 @@ fn class_clash(alloc: Global, lineage: &Lineage, class: &Class) -> Result<Option
     let twice = own_clash(alloc, &class.features)?;
     let inherited = inherited_clashes(lineage, &class.features);
     let inside = routines_clash(alloc, lineage, &class.features)?;
-    let behind = earliest(inherited, inside);
+    let invariant = invariant_clash(alloc, lineage, &class.invariant);
+    let behind = earliest(inherited, earliest(inside, invariant));
     Ok(earliest(twice, behind))
 }
 

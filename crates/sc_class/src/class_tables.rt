@@ -9,7 +9,7 @@ ghost use Rattle.sc_class.specs.ClassRules.{creators_of, IsFaultless};
 ghost use Rattle.sc_class.specs.Conformance as conformance_specs;
 ghost use Rattle.sc_class.specs.Features as class_features;
 ghost use Rattle.sc_class.specs.Entries.{entry_of, root_of};
-ghost use Rattle.sc_class.specs.Lines.{line_in};
+ghost use Rattle.sc_class.specs.Internal.Lines.{line_in};
 ghost use Rattle.sc_class.specs.Names.{is_listed};
 ghost use Rattle.sc_class.specs.Tables as tables_specs;
 
@@ -129,8 +129,7 @@ impl<'s> Tables<'s> {
         conformance::class_conforms(&self.outline.hierarchy, class, other)
     }
 
-    /// The feature of this name that a class has. It looks up to twice by hash for each ancestor, until it is
-    /// found.
+    /// The feature of this name that a class has. It looks twice by hash.
     pub fn feature(&self, class: ClassId, name: &str) -> Option<FeatureEntry<'s>>
         ensures { option_map entry_of result ≡ class_features.feature_named (system_of self.now.outline.hierarchy.system.now) class name.now }
     {

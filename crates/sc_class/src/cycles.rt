@@ -4,7 +4,7 @@ ghost use Rattle.std.specs.Prelude.{◌≡◌, ◌<◌, ℕ, [], IfOk, OnOk, Mat
 ghost use Rattle.std.specs.Bool.{OnTrue};
 ghost use Rattle.sc_tree.specs.View.{parent_of, system_of};
 ghost use Rattle.sc_class.specs.Ancestors.{CycleAt, IsParent, LeadsTo, NameLeadsTo};
-ghost use Rattle.sc_class.specs.Found.{Finds};
+ghost use Rattle.sc_class.specs.Internal.Found.{Finds};
 ghost use Rattle.sc_class.specs.Search.{AreInOrder, FindsWayBack, Grows, IsBelowNone, IsNotBelow, IsNumberOf, IsSeen};
 
 use crate::hierarchy::Hierarchy;

@@ -8,7 +8,7 @@ use std::alloc::{AllocError, AllocFailed};
 use thiserror::Error;
 
 /// What a system has that this language leaves out of Eiffel.
-#[derive(Clone, Copy, Debug, PartialEq, Eq)]
+#[derive(Clone, Copy, Debug)]
 pub enum LeftOut {
     /// A class that is marked `deferred`.
     Deferred,
@@ -23,7 +23,7 @@ pub enum LeftOut {
 }
 
 /// A fault of a system's classes, and the name that it stands at.
-#[derive(Clone, Copy, Debug, PartialEq, Eq, Error)]
+#[derive(Clone, Copy, Debug, Error)]
 pub enum ClassFault {
     /// C1: the class has the name of an earlier one, or that of a class that every system has (ECMA-367, 8.5).
     #[error("a class has the name of another")]

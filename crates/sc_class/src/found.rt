@@ -1,7 +1,7 @@
 // What a search for a fault finds.
 
 ghost use Rattle.std.specs.Prelude.{◌≡◌};
-ghost use Rattle.sc_class.specs.Found as found;
+ghost use Rattle.sc_class.specs.Internal.Found as found;
 
 use sc_text::Span;
 

@@ -2,7 +2,7 @@
 
 ghost use Rattle.std.specs.Prelude.{◌≡◌, Any, map};
 ghost use Rattle.sc_tree.specs.View.{name_of, feature_of, class_of, mark_of, mark_if_any, parent_of, system_of};
-ghost use Rattle.sc_class.specs.Found.{Finds, first_by};
+ghost use Rattle.sc_class.specs.Internal.Found.{Finds, first_by};
 ghost use Rattle.sc_class.specs.LeftOut as left_out;
 
 use crate::built_in::{is_any, is_none};
@@ -12,7 +12,7 @@ use sc_text::Span;
 use sc_tree::{Class, ClassMark, Feature, Name};
 
 /// Something that is left out, and where it stands.
-#[derive(Clone, Copy, Debug, PartialEq, Eq)]
+#[derive(Clone, Copy)]
 pub struct Exclusion {
     pub what: LeftOut,
     pub place: Span,

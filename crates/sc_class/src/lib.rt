@@ -22,6 +22,7 @@ mod found;
 pub mod heir_laws;
 mod hierarchy;
 mod identity;
+mod known;
 mod left_out;
 mod limits;
 mod lineage;

@@ -42,7 +42,8 @@ pub fn line_of(
 }
 
 impl<'t, 's> Lineage<'t, 's> {
-    /// The feature of this name that the class has. It looks up to twice by hash for each ancestor.
+    /// The feature of this name that the class has. It looks twice by hash where the limits
+    /// are kept, and else up to twice for each ancestor.
     pub fn feature(&self, name: &str) -> Option<FeatureEntry<'s>>
         ensures { option_map entry_of result ≡ class_features.named_among name.now (class_features.features (system_of self.now.outline.now.hierarchy.system.now) self.now.number) }
     {
@@ -63,10 +64,7 @@ impl<'t, 's> Lineage<'t, 's> {
         let line = line_of(alloc, &self.outline.hierarchy, self.number)?;
         let mut features = Vec::new(alloc);
         let mut hidden = NameIndex::new(alloc);
-        for class in &line {
-            self.outline.add_visible(&mut features, &hidden, *class)?;
-            self.outline.hide(&mut hidden, *class)?;
-        }
+        self.outline.add_along(&mut features, &mut hidden, &line)?;
         Ok(features)
     }
 }

@@ -5,8 +5,8 @@ ghost use Rattle.std.specs.Option.{option_map, option_copied};
 ghost use Rattle.sc_tree.specs.Plain as plain;
 ghost use Rattle.sc_tree.specs.View.{name_of};
 ghost use Rattle.sc_class.specs.Names.{number_among, is_listed, first_like};
-ghost use Rattle.sc_class.specs.NameIndex.{names_at, IsIndex};
-ghost use Rattle.sc_class.specs.ScopeSearch.{place_among};
+ghost use Rattle.sc_class.specs.Internal.NameIndex.{names_at, IsIndex};
+ghost use Rattle.sc_class.specs.Internal.ScopeSearch.{place_among};
 
 use indexmap::IndexMap;
 use sc_text::Span;

@@ -1,41 +1,64 @@
 // What each class declares itself, by name.
 
-ghost use Rattle.std.specs.Prelude.{◌≡◌, ◌++◌, IfOk, OnOk, map, slice_get};
+ghost use Rattle.std.specs.Prelude.{◌≡◌, ◌<◌, ◌++◌, ℕ, List, IfOk, OnOk, map, length, slice_get};
 ghost use Rattle.std.specs.Option.{option_map, option_copied};
 ghost use Rattle.sc_tree.specs.View.{name_of, feature_of, class_of, system_of};
 ghost use Rattle.sc_class.specs.Ancestors.{onward};
 ghost use Rattle.sc_class.specs.Names.{number_among, is_listed};
-ghost use Rattle.sc_class.specs.Own.{created_by, features_at, own_names, own_names_at};
+ghost use Rattle.sc_class.specs.Own.{features_at, own_names_at};
+ghost use Rattle.sc_class.specs.Internal.OwnNames.{own_of};
 ghost use Rattle.sc_class.specs.ClassRules.{creators_of};
-ghost use Rattle.sc_class.specs.Features.{redefined_by, redefined_names, own_features, features, features_along, inherited_features, named_among, not_redefined};
+ghost use Rattle.sc_class.specs.Features.{redefined_names, own_features, features, features_along, inherited_features, named_among, not_redefined};
 ghost use Rattle.sc_class.specs.Entries.{entry_of};
+ghost use Rattle.sc_class.specs.Internal.Known.{declarer, declarer_known};
 
 use crate::hierarchy::Hierarchy;
+use crate::known::KnownFeatures;
+use crate::lineage::features_of;
 use crate::names::NameIndex;
 use crate::own::{FeatureEntry, OwnNames, own_names_of, redefined_in};
+use crate::size::{MOST_CLASSES, MOST_FEATURES};
 use sc_tree::{Class, Feature, Name};
 use std::alloc::{AllocError, Global};
 
-/// The classes of a system, with the names of what each declares itself.
+/// The classes of a system, with the names of what each declares itself. Of the first ones all features are found by
+/// hash, of every class where the limits are kept.
 #[derive(Drop)]
 pub struct Outline<'s> {
     pub hierarchy: Hierarchy<'s>,
     own: Vec<OwnNames<'s>>,
-    ghost have_features: { map (λ o. o.features) own.items ≡ map own_names (system_of hierarchy.system.now).classes },
-    ghost have_redefined: { map (λ o. o.redefined) own.items ≡ map redefined_by (system_of hierarchy.system.now).classes },
-    ghost have_creators: { map (λ o. o.creators) own.items ≡ map created_by (system_of hierarchy.system.now).classes },
+    known: Vec<KnownFeatures<'s>>,
+    ghost have_own: { own.items ≡ map own_of (system_of hierarchy.system.now).classes },
+    ghost are_known: { (k : ℕ) → k < length known.items → (x : List ℕ) → declarer_known known.items k x ≡ declarer (system_of hierarchy.system.now) k x },
 }
 
 fn names_of_each<'s>(alloc: Global, classes: &'s [Class]) -> Result<Vec<OwnNames<'s>>, AllocError>
-    ensures features { IfOk result (λ own. map (λ o. o.features) own.items ≡ map own_names (map class_of classes.now)) }
-    ensures redefined { IfOk result (λ own. map (λ o. o.redefined) own.items ≡ map redefined_by (map class_of classes.now)) }
-    ensures creators { IfOk result (λ own. map (λ o. o.creators) own.items ≡ map created_by (map class_of classes.now)) }
+    ensures { IfOk result (λ own. own.items ≡ map own_of (map class_of classes.now)) }
 {
-    let mut own = Vec::with_capacity(alloc, classes.len())?;
+    let mut own = Vec::new(alloc);
     for class in classes {
         own.push(own_names_of(alloc, class)?)?;
     }
     Ok(own)
+}
+
+/// The features of the classes, by number, as far as the limits on classes and features are kept.
+fn known_features<'s>(
+    alloc: Global,
+    outline: &Outline<'s>,
+) -> Result<Vec<KnownFeatures<'s>>, AllocError>
+    ensures { IfOk result (λ known. (k : ℕ) → k < length known.items → (x : List ℕ) → declarer_known known.items k x ≡ declarer (system_of outline.now.hierarchy.system.now) k x) }
+{
+    let count = outline.hierarchy.classes().len().min(MOST_CLASSES);
+    let mut known = Vec::new(alloc);
+    for number in 0..count {
+        let entries = features_of(alloc, outline, number)?;
+        if entries.len() > MOST_FEATURES {
+            return Ok(known);
+        }
+        known.push(KnownFeatures::of(alloc, entries)?)?;
+    }
+    Ok(known)
 }
 
 impl<'s> Outline<'s> {
@@ -43,7 +66,21 @@ impl<'s> Outline<'s> {
         ensures { IfOk result (λ outline. outline.hierarchy.system.now ≡ hierarchy.entry.system.now) }
     {
         let own = names_of_each(alloc, hierarchy.classes())?;
-        Ok(Outline { hierarchy, own })
+        let mut outline = Outline {
+            hierarchy,
+            own,
+            known: Vec::new(alloc),
+        };
+        outline.know_features(alloc)?;
+        Ok(outline)
+    }
+
+    /// Finds out the features of the classes.
+    fn know_features(&mut self, alloc: Global) -> Result<(), AllocError>
+        ensures { self.new.hierarchy ≡ self.old.hierarchy }
+    {
+        self.known = known_features(alloc, self)?;
+        Ok(())
     }
 
     /// The class at a number.
@@ -137,9 +174,22 @@ impl<'s> Outline<'s> {
         None
     }
 
-    /// The feature of this name of the class at the number. It looks up to twice by hash for each ancestor, until it
-    /// is found.
+    /// The feature of this name of the class at the number. It looks twice by hash, and where a limit is passed up to
+    /// twice for each ancestor, until it is found.
     pub fn named(&self, class: usize, name: &str) -> Option<FeatureEntry<'s>>
+        ensures { option_map entry_of result ≡ named_among name.now (features (system_of self.now.hierarchy.system.now) class) }
+    {
+        match self.known.get(class) {
+            None => self.named_above(class, name),
+            Some(known) => match known.named(name) {
+                None => None,
+                Some(entry) => self.declared(entry.class, name),
+            },
+        }
+    }
+
+    /// The same, by a walk up the ancestors.
+    fn named_above(&self, class: usize, name: &str) -> Option<FeatureEntry<'s>>
         ensures { option_map entry_of result ≡ named_among name.now (features (system_of self.now.hierarchy.system.now) class) }
     {
         let count = self.hierarchy.classes().len();
@@ -186,6 +236,24 @@ impl<'s> Outline<'s> {
         let redefined = redefined_in(text);
         for name in redefined {
             hidden.push(name)?;
+        }
+        Ok(())
+    }
+
+    /// Adds the features along a line of classes, each of which is the parent of the one before it, but for those of
+    /// the hidden names. The names that the classes redefine are hidden then too.
+    pub fn add_along(
+        &self,
+        features: &mut Vec<FeatureEntry<'s>>,
+        hidden: &mut NameIndex<'s>,
+        line: &[usize],
+    ) -> Result<(), AllocError>
+        ensures { let along = features_along (system_of self.now.hierarchy.system.now) line.now in
+            OnOk result (map entry_of features.new.items ≡ map entry_of features.old.items ++ not_redefined hidden.old along) }
+    {
+        for class in line {
+            self.add_visible(features, hidden, *class)?;
+            self.hide(hidden, *class)?;
         }
         Ok(())
     }

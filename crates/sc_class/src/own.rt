@@ -1,9 +1,10 @@
 // The names of what a class declares itself.
 
-ghost use Rattle.std.specs.Prelude.{◌≡◌, IfOk, map};
+ghost use Rattle.std.specs.Prelude.{◌≡◌, ◌++◌, [], IfOk, OnOk, map};
 ghost use Rattle.sc_tree.specs.View.{name_of, feature_of, class_of};
 ghost use Rattle.sc_class.specs.Features.{redefined_by};
-ghost use Rattle.sc_class.specs.Own.{own_names};
+ghost use Rattle.sc_class.specs.Own.{created_by, own_names};
+ghost use Rattle.sc_class.specs.Internal.OwnNames.{own_of};
 
 use crate::names::NameIndex;
 use sc_tree::{Class, Feature, Name};
@@ -24,27 +25,25 @@ pub struct OwnNames<'s> {
     pub creators: NameIndex<'s>,
 }
 
-/// The names of the features.
+/// Adds the names of the features.
 #[tactic(auto, unfolding(sc_tree::specs::View::feature_of))]
-fn names_of<'s>(alloc: Global, features: &'s [Feature]) -> Result<NameIndex<'s>, AllocError>
-    ensures { IfOk result (λ names. names ≡ map (λ f. f.name) (map feature_of features.now)) }
+fn add_features<'s>(names: &mut NameIndex<'s>, features: &'s [Feature]) -> Result<(), AllocError>
+    ensures { OnOk result (names.new ≡ names.old ++ map (λ f. f.name) (map feature_of features.now)) }
 {
-    let mut names = NameIndex::new(alloc);
     for feature in features {
         names.push(&feature.name)?;
     }
-    Ok(names)
+    Ok(())
 }
 
-/// The names, by hash.
-fn index_of<'s>(alloc: Global, names: &'s [Name]) -> Result<NameIndex<'s>, AllocError>
-    ensures { IfOk result (λ index. index ≡ map name_of names.now) }
+/// Adds the names.
+fn add_names<'s>(index: &mut NameIndex<'s>, names: &'s [Name]) -> Result<(), AllocError>
+    ensures { OnOk result (index.new ≡ index.old ++ map name_of names.now) }
 {
-    let mut index = NameIndex::new(alloc);
     for name in names {
         index.push(name)?;
     }
-    Ok(index)
+    Ok(())
 }
 
 /// The names that a class lists under `redefine`, of its first parent.
@@ -58,19 +57,36 @@ pub fn redefined_in(class: &Class) -> &[Name]
     }
 }
 
+impl<'s> OwnNames<'s> {
+    /// No names.
+    fn none(alloc: Global) -> Self
+        ensures { result ≡ record { features = []; redefined = []; creators = [] } }
+    {
+        OwnNames {
+            features: NameIndex::new(alloc),
+            redefined: NameIndex::new(alloc),
+            creators: NameIndex::new(alloc),
+        }
+    }
+
+    /// Adds the names of a class.
+    #[tactic(auto, unfolding(sc_tree::specs::View::class_of))]
+    fn add(&mut self, class: &'s Class) -> Result<(), AllocError>
+        ensures features { OnOk result (self.new.features ≡ self.old.features ++ own_names (class_of class.now)) }
+        ensures redefined { OnOk result (self.new.redefined ≡ self.old.redefined ++ redefined_by (class_of class.now)) }
+        ensures creators { OnOk result (self.new.creators ≡ self.old.creators ++ created_by (class_of class.now)) }
+    {
+        add_features(&mut self.features, &class.features)?;
+        add_names(&mut self.redefined, redefined_in(class))?;
+        add_names(&mut self.creators, &class.creators)
+    }
+}
+
 /// The names of a class.
-#[tactic(auto, unfolding(sc_tree::specs::View::class_of))]
 pub fn own_names_of<'s>(alloc: Global, class: &'s Class) -> Result<OwnNames<'s>, AllocError>
-    ensures features { IfOk result (λ own. own.features ≡ own_names (class_of class.now)) }
-    ensures redefined { IfOk result (λ own. own.redefined ≡ redefined_by (class_of class.now)) }
-    ensures creators { IfOk result (λ own. own.creators ≡ (class_of class.now).creators) }
+    ensures { IfOk result (λ own. own ≡ own_of (class_of class.now)) }
 {
-    let features = names_of(alloc, &class.features)?;
-    let redefined = index_of(alloc, redefined_in(class))?;
-    let creators = index_of(alloc, &class.creators)?;
-    Ok(OwnNames {
-        features,
-        redefined,
-        creators,
-    })
+    let mut own = OwnNames::none(alloc);
+    own.add(class)?;
+    Ok(own)
 }

@@ -6,7 +6,7 @@ ghost use Rattle.sc_tree.specs.View.{class_of, parent_of, system_of};
 ghost use Rattle.sc_class.specs.ClassNames.{is_built_in, RepeatedAt};
 ghost use Rattle.sc_class.specs.Names.{number_among};
 ghost use Rattle.sc_class.specs.Ancestors.{UnknownParentAt};
-ghost use Rattle.sc_class.specs.Found.{Finds};
+ghost use Rattle.sc_class.specs.Internal.Found.{Finds};
 
 use crate::built_in::{is_any, is_built_in};
 use crate::found::earliest;

@@ -22,16 +22,8 @@ pub fn ranks_of(alloc: Global, hierarchy: &Hierarchy) -> Result<Vec<usize>, Allo
     let down = ways_down(alloc, &up)?;
     let steps = steps_along(&up);
     let order = parents_first(alloc, &up, steps)?;
-    let mut groups = Groups {
-        ranks: vec![in alloc; 0usize; up.len()]?,
-        seen: vec![in alloc; false; up.len()]?,
-        todo: Vec::new(alloc),
-    };
-    let mut rank = order.len();
-    for class in order.iter().rev() {
-        groups.gather(&down, steps, *class, rank)?;
-        rank = rank.saturating_sub(1);
-    }
+    let mut groups = Groups::new(alloc, up.len())?;
+    groups.gather_all(&down, steps, &order)?;
     Ok(groups.ranks)
 }
 
@@ -148,6 +140,32 @@ struct Groups {
 }
 
 impl Groups {
+    /// So many classes, none of which has a rank.
+    fn new(alloc: Global, count: usize) -> Result<Groups, AllocError> {
+        let ranks = vec![in alloc; 0usize; count]?;
+        let seen = vec![in alloc; false; count]?;
+        Ok(Groups {
+            ranks,
+            seen,
+            todo: Vec::new(alloc),
+        })
+    }
+
+    /// Gives a rank to each of the classes, the last first, and to those that it leads to.
+    fn gather_all(
+        &mut self,
+        down: &[Vec<usize>],
+        steps: usize,
+        order: &[usize],
+    ) -> Result<(), AllocError> {
+        let mut rank = order.len();
+        for class in order.iter().rev() {
+            self.gather(down, steps, *class, rank)?;
+            rank = rank.saturating_sub(1);
+        }
+        Ok(())
+    }
+
     /// Gives the rank to a class and to those that it leads to, where they have none.
     fn gather(
         &mut self,

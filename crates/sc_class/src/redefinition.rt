@@ -2,8 +2,8 @@
 
 ghost use Rattle.std.specs.Prelude.{◌≡◌, IfOk, map};
 ghost use Rattle.sc_tree.specs.View.{clause_of, class_of, declaration_of, kind_of, name_of, system_of, type_if_any};
-ghost use Rattle.sc_class.specs.FaultAt.{FaultAt};
-ghost use Rattle.sc_class.specs.Found.{Finds};
+ghost use Rattle.sc_class.specs.Internal.FaultAt.{FaultAt};
+ghost use Rattle.sc_class.specs.Internal.Found.{Finds};
 ghost use Rattle.sc_class.specs.Redefinition as redefinition;
 
 use crate::conformance::{is_same_text, is_same_type, type_conforms};

@@ -6,6 +6,7 @@ mod instructions;
 mod names;
 mod routine;
 
+pub use expressions::in_clauses;
 pub use features::Features;
 pub use names::{is_print, later_of};
 pub use routine::routine_clash;

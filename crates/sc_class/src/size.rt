@@ -11,9 +11,9 @@ use crate::outline::Outline;
 use std::alloc::{AllocError, Global};
 
 /// How many classes a system may have.
-const MOST_CLASSES: usize = 256;
+pub const MOST_CLASSES: usize = 256;
 /// How many features a class may have, inherited ones too.
-const MOST_FEATURES: usize = 256;
+pub const MOST_FEATURES: usize = 256;
 
 /// Whether the class at the number has too many features.
 fn has_many_features(alloc: Global, outline: &Outline, number: usize) -> Result<bool, AllocError>

@@ -3,7 +3,7 @@
 ghost use Rattle.std.specs.Prelude.{◌≡◌, ◌++◌, IfOk, OnOk, map};
 ghost use Rattle.sc_tree.specs.View.{name_of, expr_of, target_of, exprs_of, clause_of, head_of};
 ghost use Rattle.sc_class.specs.Scopes.{tests_of};
-ghost use Rattle.sc_class.specs.ScopeSearch as search;
+ghost use Rattle.sc_class.specs.Internal.ScopeSearch as search;
 
 use crate::found::earliest;
 use crate::names::NameIndex;
@@ -15,7 +15,7 @@ use std::alloc::AllocError;
 
 /// In an expression.
 #[cycle(expressions)]
-#[tactic(auto, unfolding(crate::specs::ScopeSearch::expr_clash, sc_tree::specs::View::expr_of))]
+#[tactic(auto, unfolding(crate::specs::Internal::ScopeSearch::expr_clash, sc_tree::specs::View::expr_of))]
 pub fn in_expression(features: &Features, known: &NameIndex, e: &Expr) -> Option<Span>
     ensures { result ≡ search.expr_clash features.now known.now (expr_of e.now) }
 {
@@ -40,7 +40,7 @@ pub fn in_expression(features: &Features, known: &NameIndex, e: &Expr) -> Option
 
 /// In what stands before the dot of a call.
 #[cycle(expressions)]
-#[tactic(auto, unfolding(crate::specs::ScopeSearch::expr_clash))]
+#[tactic(auto, unfolding(crate::specs::Internal::ScopeSearch::expr_clash))]
 pub fn in_target(features: &Features, known: &NameIndex, target: &Option<Box<Expr>>) -> Option<Span>
     ensures { result ≡ search.target_clash features.now known.now (target_of target.now) }
 {
@@ -52,7 +52,7 @@ pub fn in_target(features: &Features, known: &NameIndex, target: &Option<Box<Exp
 
 /// In one of several expressions.
 #[cycle(expressions)]
-#[tactic(auto, unfolding(crate::specs::ScopeSearch::expr_clash))]
+#[tactic(auto, unfolding(crate::specs::Internal::ScopeSearch::expr_clash))]
 pub fn in_expressions(features: &Features, known: &NameIndex, expressions: &[Expr]) -> Option<Span>
     ensures { result ≡ search.exprs_clash features.now known.now (exprs_of expressions.now) }
 {
@@ -93,7 +93,7 @@ fn is_and_then(operator: BinaryOperator) -> bool
 
 /// In the condition of an `if`, whose object tests are known behind it, and behind the left operand of
 /// an `and then` those of that operand.
-#[tactic(auto, unfolding(crate::specs::ScopeSearch::condition_clash, sc_tree::specs::View::expr_of))]
+#[tactic(auto, unfolding(crate::specs::Internal::ScopeSearch::condition_clash, sc_tree::specs::View::expr_of))]
 pub fn in_condition<'s>(
     features: &Features,
     known: &mut NameIndex<'s>,

@@ -5,7 +5,7 @@ ghost use Rattle.sc_tree.specs.Plain as plain;
 ghost use Rattle.sc_tree.specs.View.{system_of};
 ghost use Rattle.sc_class.specs.Features.{features};
 ghost use Rattle.sc_class.specs.Scopes.{feature_names};
-ghost use Rattle.sc_class.specs.ScopeSearch.{place_among};
+ghost use Rattle.sc_class.specs.Internal.ScopeSearch.{place_among};
 
 use crate::lineage::Lineage;
 use sc_text::Span;
@@ -31,7 +31,8 @@ impl<'l, 't, 's> Features<'l, 't, 's> {
         Features { lineage }
     }
 
-    /// Where the feature of a name is declared. It looks up to twice by hash for each ancestor.
+    /// Where the feature of a name is declared. It looks twice by hash where the limits are kept, and else up
+    /// to twice for each ancestor.
     pub fn place(&self, name: &str) -> Option<Span>
         ensures { result ≡ place_among name.now self.now }
     {

@@ -1,11 +1,11 @@
 // Instructions: where the name of an object test or of a block's head clashes. What they make known is
 // known no more behind them.
 
-ghost use Rattle.std.specs.Prelude.{◌≡◌, ◌++◌, IfOk, OnOk};
-ghost use Rattle.sc_tree.specs.View.{expr_of, creation_call_of, instr_of, instrs_of, branches_of};
-ghost use Rattle.sc_class.specs.Found as found;
-ghost use Rattle.sc_class.specs.Scopes.{tests_of};
-ghost use Rattle.sc_class.specs.ScopeSearch as search;
+ghost use Rattle.std.specs.Prelude.{◌≡◌, ◌++◌, IfOk, OnOk, map};
+ghost use Rattle.sc_tree.specs.View.{expr_of, creation_call_of, head_of, instr_of, instrs_of, branches_of};
+ghost use Rattle.sc_class.specs.Internal.Found as found;
+ghost use Rattle.sc_class.specs.Scopes.{head_names, tests_of};
+ghost use Rattle.sc_class.specs.Internal.ScopeSearch as search;
 
 use crate::found::earliest;
 use crate::names::NameIndex;
@@ -15,7 +15,7 @@ use crate::scopes::expressions::{
 use crate::scopes::features::Features;
 use crate::scopes::names::declare_heads;
 use sc_text::Span;
-use sc_tree::{Branch, CreationCall, Expr, Instr};
+use sc_tree::{Branch, CreationCall, Expr, Head, Instr};
 use std::alloc::AllocError;
 
 /// In the actuals of a creation.
@@ -30,7 +30,7 @@ fn in_creation(features: &Features, known: &NameIndex, call: &Option<CreationCal
 
 /// In an instruction.
 #[cycle(instructions)]
-#[tactic(auto, unfolding(crate::specs::ScopeSearch::instr_clash, sc_tree::specs::View::instr_of))]
+#[tactic(auto, unfolding(crate::specs::Internal::ScopeSearch::instr_clash, sc_tree::specs::View::instr_of))]
 pub fn in_instruction<'s>(
     features: &Features,
     known: &mut NameIndex<'s>,
@@ -61,15 +61,28 @@ pub fn in_instruction<'s>(
             Ok(earliest(initial, earliest(until, body)))
         }
         Instr::Check(_, clauses) => Ok(in_clauses(features, known, clauses)),
-        Instr::Block(_, heads, body) => {
-            let values = in_values(features, known, heads);
-            let outer = known.len();
-            let names = declare_heads(features, known, heads)?;
-            let body = in_instructions(features, known, body)?;
-            known.truncate(outer);
-            Ok(earliest(values, earliest(names, body)))
-        }
+        Instr::Block(_, heads, body) => in_block(features, known, heads, body),
     }
+}
+
+/// In a block: in what its heads reserve, in their names, and in what stands under them.
+#[cycle(instructions)]
+fn in_block<'s>(
+    features: &Features,
+    known: &mut NameIndex<'s>,
+    heads: &'s [Head],
+    body: &'s [Instr],
+) -> Result<Option<Span>, AllocError>
+    ensures found { let fs = features.now in let ns = known.old in let hs = map head_of heads.now in
+        IfOk result (λ place. place ≡ found.earliest (search.values_clash fs ns hs) (found.earliest (search.names_clash fs ns (head_names hs)) (search.instrs_clash fs (ns ++ head_names hs) (instrs_of body.now)))) }
+    ensures kept { OnOk result (known.new ≡ known.old) }
+{
+    let values = in_values(features, known, heads);
+    let outer = known.len();
+    let names = declare_heads(features, known, heads)?;
+    let body = in_instructions(features, known, body)?;
+    known.truncate(outer);
+    Ok(earliest(values, earliest(names, body)))
 }
 
 /// In what stands under a condition, and in that condition.

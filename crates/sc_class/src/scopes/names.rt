@@ -5,7 +5,7 @@ ghost use Rattle.std.specs.Option.{option_map};
 ghost use Rattle.sc_tree.specs.View.{name_of, head_of, declaration_of};
 ghost use Rattle.sc_class.specs.Names as names;
 ghost use Rattle.sc_class.specs.Scopes.{head_names, declared_names};
-ghost use Rattle.sc_class.specs.ScopeSearch as search;
+ghost use Rattle.sc_class.specs.Internal.ScopeSearch as search;
 
 use crate::found::earliest;
 use crate::names::NameIndex;
@@ -38,7 +38,7 @@ fn later(one: Option<Span>, other: Span) -> Option<Span>
 }
 
 /// Where a name clashes with a known one: the later one of the two, which is the first such place.
-#[tactic(auto, unfolding(crate::specs::ScopeSearch::name_clash))]
+#[tactic(auto, unfolding(crate::specs::Internal::ScopeSearch::name_clash))]
 pub fn name_clash(features: &Features, known: &NameIndex, name: &Name) -> Option<Span>
     ensures { result ≡ search.name_clash features.now known.now (name_of name.now) }
 {

@@ -1,11 +1,11 @@
 // Routines: where the name of a formal, a local, an object test or a block's head clashes.
 
-ghost use Rattle.std.specs.Prelude.{◌≡◌, IfOk};
+ghost use Rattle.std.specs.Prelude.{◌≡◌, [], IfOk};
 ghost use Rattle.sc_tree.specs.View.{kind_of};
 ghost use Rattle.sc_tree.specs.declared.system.FeatureKind.TheVariants as kind;
-ghost use Rattle.sc_class.specs.Found.{Finds};
+ghost use Rattle.sc_class.specs.Internal.Found.{Finds};
 ghost use Rattle.sc_class.specs.Scopes.{RoutineClashes};
-ghost use Rattle.sc_class.specs.ScopeSearch as search;
+ghost use Rattle.sc_class.specs.Internal.ScopeSearch as search;
 
 use crate::found::earliest;
 use crate::names::NameIndex;
@@ -29,7 +29,7 @@ pub fn routine_clash(
     in_kind(alloc, features, kind)
 }
 
-#[tactic(auto, unfolding(crate::specs::ScopeSearch::kind_clash, sc_tree::specs::View::kind_of))]
+#[tactic(auto, unfolding(crate::specs::Internal::ScopeSearch::kind_clash, sc_tree::specs::View::kind_of))]
 fn in_kind(
     alloc: Global,
     features: &Features,
@@ -43,7 +43,6 @@ fn in_kind(
     }
 }
 
-#[tactic(auto, unfolding(crate::specs::ScopeSearch::kind_clash, sc_tree::specs::View::kind_of))]
 fn in_routine(
     alloc: Global,
     features: &Features,
@@ -52,11 +51,24 @@ fn in_routine(
     ensures { IfOk result (λ place. place ≡ search.kind_clash features.now (kind_of (kind.Routine routine.now))) }
 {
     let mut known = NameIndex::new(alloc);
-    let formals = declare_entities(features, &mut known, &routine.formals)?;
-    let before = in_clauses(features, &known, &routine.precondition);
-    let after = in_clauses(features, &known, &routine.postcondition);
-    let locals = declare_entities(features, &mut known, &routine.locals)?;
-    let body = in_instructions(features, &mut known, &routine.body)?;
+    in_parts(features, &mut known, routine)
+}
+
+/// In a routine, where no names but those of its class's features are known yet.
+#[tactic(auto, unfolding(crate::specs::Internal::ScopeSearch::kind_clash, sc_tree::specs::View::kind_of))]
+fn in_parts<'s>(
+    features: &Features,
+    known: &mut NameIndex<'s>,
+    routine: &'s Routine,
+) -> Result<Option<Span>, AllocError>
+    requires { known.old ≡ [] }
+    ensures { IfOk result (λ place. place ≡ search.kind_clash features.now (kind_of (kind.Routine routine.now))) }
+{
+    let formals = declare_entities(features, known, &routine.formals)?;
+    let before = in_clauses(features, known, &routine.precondition);
+    let after = in_clauses(features, known, &routine.postcondition);
+    let locals = declare_entities(features, known, &routine.locals)?;
+    let body = in_instructions(features, known, &routine.body)?;
     let parts = earliest(before, earliest(body, after));
     Ok(earliest(earliest(formals, locals), parts))
 }

@@ -1,8 +1,10 @@
 use Rattle.std.proofs.Common.{inr, subst}
 use Rattle.sc_tree.specs.View.{system_of}
-use Rattle.sc_class.specs.Found.{Finds}
+use Rattle.sc_class.specs.Internal.Found.{Finds}
 use Rattle.sc_class.specs.Ancestors.{CycleAt}
 use Rattle.sc_class.specs.ClassRules.{duplicate_class, unknown_parent, cycle}
+use Rattle.sc_class.specs.Entries.{root_of}
+use Rattle.sc_class.proofs.TableLemmas.{least_2, least_3}
 use Rattle.sc_class.proofs.checking.refuse_classes.Goals as goal
 
 pub returns-in-Some-clause-fault : goal.returns-in-Some-clause-fault
@@ -13,3 +15,9 @@ returns-in-Some-unknown_parent-clause-fault c = inr (unknown_parent c.in-Some-un
 
 pub returns-in-Some-2-clause-fault : goal.returns-in-Some-2-clause-fault
 returns-in-Some-2-clause-fault c = inr (cycle (subst (Finds (CycleAt (system_of c.args.hierarchy.now.system.now))) c.in-Some-2.is c.in_ok-place.ensures))
+
+pub returns-in-Some-unknown_parent-clause-first : goal.returns-in-Some-unknown_parent-clause-first
+returns-in-Some-unknown_parent-clause-first c = inr (least_2 (system_of c.args.hierarchy.now.system.now) (root_of c.args.root.now) c.in_default.ensures c.in-Some-unknown_parent.place)
+
+pub returns-in-Some-2-clause-first : goal.returns-in-Some-2-clause-first
+returns-in-Some-2-clause-first c = inr (least_3 (system_of c.args.hierarchy.now.system.now) (root_of c.args.root.now) c.in_default.ensures c.in_default-unknown_parent.ensures c.in-Some-2.place)

@@ -3,6 +3,8 @@ use Rattle.std.specs.Bool.{MatchBool}
 use Rattle.sc_tree.specs.View.{system_of}
 use Rattle.sc_class.specs.Limits.{PassesLimit}
 use Rattle.sc_class.specs.ClassRules.{limit, left_out}
+use Rattle.sc_class.specs.Entries.{root_of}
+use Rattle.sc_class.proofs.TableLemmas.{least_7, least_8}
 use Rattle.sc_class.proofs.checking.refuse_rest.Goals as goal
 
 pub returns-then-branch-clause-fault : goal.returns-then-branch-clause-fault
@@ -12,3 +14,12 @@ returns-then-branch-clause-fault c =
 
 pub returns-in-Some-clause-fault : goal.returns-in-Some-clause-fault
 returns-in-Some-clause-fault c = inr (left_out {x = c.in-Some.excluded} c.in-Some.ensures)
+
+pub returns-then-branch-clause-first : goal.returns-then-branch-clause-first
+returns-then-branch-clause-first c = inr (least_7 (system_of c.args.outline.now.hierarchy.system.now) (root_of c.args.root.now))
+
+pub returns-in-Some-clause-first : goal.returns-in-Some-clause-first
+returns-in-Some-clause-first c =
+    let s = system_of c.args.outline.now.hierarchy.system.now in
+    let passes = PassesLimit s in
+    inr (λ a b. least_8 s (root_of c.args.root.now) a b (subst (λ (b : Bool). MatchBool b passes (passes → ⊥)) c.if-branch.false c.in_ok-passes_limit.ensures) c.in-Some.excluded.what c.in-Some.excluded.place)

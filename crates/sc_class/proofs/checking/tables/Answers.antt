@@ -1,18 +1,32 @@
-use Rattle.std.proofs.Common.{subst, sym}
+use Rattle.std.proofs.Common.{◌≡◌, ◌⊎◌, subst, sym, ◌∙◌}
 use Rattle.sc_tree.specs.declared.system.System as tree
 use Rattle.sc_tree.specs.View.{system_of}
+use Rattle.sc_class.specs.declared.fault.ClassFault.{ClassFault}
+use Rattle.sc_class.specs.declared.fault.ClassFault.TheVariants.{OutOfMemory}
+use Rattle.sc_class.specs.ClassRules.{HasLeastCode}
 use Rattle.sc_class.specs.Entries.{root_of}
 use Rattle.sc_class.specs.Tables.{ClassesStand, FeaturesStand, RestStands}
-use Rattle.sc_class.proofs.TableLemmas.{faultless}
+use Rattle.sc_class.proofs.TableLemmas.{faultless, err_same, applied}
 use Rattle.sc_class.proofs.checking.tables.Goals as goal
 
-pub of-requires-3 : goal.of-requires-3
-of-requires-3 c =
-    faultless (system_of c.in_ok-outline.outline.hierarchy.system.now) (root_of c.args.root.now)
-    (subst (λ (t : tree.System). ClassesStand (system_of t)) (sym c.in_ok-outline.ensures) c.in_ok-refuse_classes.ensures.none) c.in_ok-refuse_features.ensures.none c.in_ok-refuse_rest.ensures.none
+pub of-requires : goal.of-requires
+of-requires c =
+    let root = root_of c.args.root.now in
+    faultless (system_of c.in_ok-outline.outline.hierarchy.system.now) root
+    (subst (λ (t : tree.System). ClassesStand (system_of t)) (sym (c.in_ok-outline.ensures.of_it ∙ c.in_ok-hierarchy.ensures.of_it)) c.in_ok-hierarchy.ensures.none)
+    (subst (λ (t : tree.System). FeaturesStand (system_of t) root) (sym c.in_ok-outline.ensures.of_it) c.in_ok-outline.ensures.features)
+    (subst (λ (t : tree.System). RestStands (system_of t)) (sym c.in_ok-outline.ensures.of_it) c.in_ok-outline.ensures.rest)
 
 pub returns-clause-faultless : goal.returns-clause-faultless
 returns-clause-faultless c =
-    faultless (system_of c.args.system.now) (root_of c.args.root.now) (subst (λ (t : tree.System). ClassesStand (system_of t)) c.in_ok-hierarchy.ensures c.in_ok-refuse_classes.ensures.none)
-    (subst (λ (t : tree.System). FeaturesStand (system_of t) (root_of c.args.root.now)) c.in_ok-hierarchy.ensures (subst (λ (t : tree.System). FeaturesStand (system_of t) (root_of c.args.root.now)) c.in_ok-outline.ensures c.in_ok-refuse_features.ensures.none))
-    (subst (λ (t : tree.System). RestStands (system_of t)) c.in_ok-hierarchy.ensures (subst (λ (t : tree.System). RestStands (system_of t)) c.in_ok-outline.ensures c.in_ok-refuse_rest.ensures.none))
+    let root = root_of c.args.root.now in
+    faultless (system_of c.args.system.now) root c.in_ok-hierarchy.ensures.none
+    (subst (λ (t : tree.System). FeaturesStand (system_of t) root) c.in_ok-hierarchy.ensures.of_it c.in_ok-outline.ensures.features)
+    (subst (λ (t : tree.System). RestStands (system_of t)) c.in_ok-hierarchy.ensures.of_it c.in_ok-outline.ensures.rest)
+
+pub returns-in_err-outline-clause-first : goal.returns-in_err-outline-clause-first
+returns-in_err-outline-clause-first c =
+    let root = root_of c.args.root.now in
+    err_same (λ (f : ClassFault). (f ≡ OutOfMemory) ⊎ HasLeastCode (system_of c.args.system.now) root f) c.from_residual-in_err-outline.result c.in_err-outline.field-0.0 c.from_residual-in_err-outline.ensures.1
+    (applied (subst (λ (t : tree.System). (c.in_err-outline.field-0.0 ≡ OutOfMemory) ⊎ (ClassesStand (system_of t) → HasLeastCode (system_of t) root c.in_err-outline.field-0.0)) c.in_ok-hierarchy.ensures.of_it c.in_err-outline.ensures.first)
+    c.in_ok-hierarchy.ensures.none)

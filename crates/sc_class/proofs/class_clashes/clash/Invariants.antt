@@ -1,6 +1,6 @@
 use Rattle.sc_tree.specs.View.{system_of}
-use Rattle.sc_class.specs.Found.{Finds}
-use Rattle.sc_class.specs.FaultAt.{FaultBefore}
+use Rattle.sc_class.specs.Internal.Found.{Finds}
+use Rattle.sc_class.specs.Internal.FaultAt.{FaultBefore}
 use Rattle.sc_class.specs.Scopes.{ClassClashes}
 use Rattle.sc_class.proofs.class_clashes.clash.Given as goal
 

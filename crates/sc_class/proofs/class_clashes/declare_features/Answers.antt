@@ -1,6 +1,6 @@
 use Rattle.std.proofs.Common.{◌++◌, map}
 use Rattle.sc_tree.specs.View.{feature_of}
-use Rattle.sc_class.specs.InheritedClash.{names_clash}
+use Rattle.sc_class.specs.Internal.InheritedClash.{names_clash}
 use Rattle.sc_class.proofs.ClashLemmas.{names_more, names_done}
 use Rattle.sc_class.proofs.class_clashes.declare_features.Goals as goal
 

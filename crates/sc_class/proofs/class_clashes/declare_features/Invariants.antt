@@ -1,7 +1,7 @@
 use Rattle.std.proofs.Common.{◌≡◌, ◌++◌, drop, map}
 use Rattle.sc_tree.specs.View.{feature_of}
-use Rattle.sc_class.specs.Found.{earliest}
-use Rattle.sc_class.specs.InheritedClash.{names_clash}
+use Rattle.sc_class.specs.Internal.Found.{earliest}
+use Rattle.sc_class.specs.Internal.InheritedClash.{names_clash}
 use Rattle.sc_class.proofs.class_clashes.declare_features.Given as goal
 
 abbrev pub invariant-loop-feature : goal.invariant-loop-feature

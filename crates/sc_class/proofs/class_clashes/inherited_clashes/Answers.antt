@@ -1,7 +1,7 @@
 use Rattle.std.proofs.Common.{sym, subst}
 use Rattle.sc_tree.specs.View.{feature_of, system_of}
-use Rattle.sc_class.specs.Found.{Finds}
-use Rattle.sc_class.specs.InheritedClash.{IsLikeInherited}
+use Rattle.sc_class.specs.Internal.Found.{Finds}
+use Rattle.sc_class.specs.Internal.InheritedClash.{IsLikeInherited}
 use Rattle.sc_class.proofs.Finding.{one_more, all_seen}
 use Rattle.sc_class.proofs.ClashLemmas.{inherited_found}
 use Rattle.sc_class.proofs.class_clashes.inherited_clashes.Goals as goal

@@ -1,6 +1,6 @@
 use Rattle.sc_tree.specs.View.{feature_of, system_of}
-use Rattle.sc_class.specs.Found.{Finds}
-use Rattle.sc_class.specs.InheritedClash.{IsLikeInherited}
+use Rattle.sc_class.specs.Internal.Found.{Finds}
+use Rattle.sc_class.specs.Internal.InheritedClash.{IsLikeInherited}
 use Rattle.sc_class.proofs.Finding.{Among}
 use Rattle.sc_class.proofs.class_clashes.inherited_clashes.Given as goal
 

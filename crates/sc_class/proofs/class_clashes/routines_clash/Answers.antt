@@ -2,7 +2,7 @@ use Rattle.std.proofs.Common.{List, subst}
 use Rattle.sc_text.specs.declared.token.Span.{Span}
 use Rattle.sc_tree.specs.Plain.{Feature, Name}
 use Rattle.sc_tree.specs.View.{feature_of, kind_of, system_of}
-use Rattle.sc_class.specs.Found.{Finds}
+use Rattle.sc_class.specs.Internal.Found.{Finds}
 use Rattle.sc_class.specs.Features.{features}
 use Rattle.sc_class.specs.Scopes.{RoutineClashes, feature_names}
 use Rattle.sc_class.proofs.Finding.{one_more, all_seen}

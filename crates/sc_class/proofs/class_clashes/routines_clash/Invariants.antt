@@ -1,5 +1,5 @@
 use Rattle.sc_tree.specs.View.{feature_of, system_of}
-use Rattle.sc_class.specs.Found.{Finds}
+use Rattle.sc_class.specs.Internal.Found.{Finds}
 use Rattle.sc_class.specs.Features.{features}
 use Rattle.sc_class.specs.Scopes.{RoutineClashes, feature_names}
 use Rattle.sc_class.proofs.Finding.{Among}

@@ -1,6 +1,6 @@
 use Rattle.std.proofs.Common.{List, ap, map, subst, ◌∙◌}
 use Rattle.sc_tree.specs.Plain.{Feature}
-use Rattle.sc_class.specs.Found.{Finds}
+use Rattle.sc_class.specs.Internal.Found.{Finds}
 use Rattle.sc_tree.specs.View.{name_of, feature_of}
 use Rattle.sc_class.specs.declared.left_out.Exclusion.{Exclusion}
 use Rattle.sc_class.specs.LeftOut.{ExportLeftOut}

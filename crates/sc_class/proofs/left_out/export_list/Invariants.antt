@@ -2,7 +2,7 @@ use Rattle.sc_tree.specs.Plain.{Feature}
 use Rattle.sc_tree.specs.View.{feature_of}
 use Rattle.sc_class.specs.declared.left_out.Exclusion.{Exclusion}
 use Rattle.sc_class.specs.LeftOut.{ExportLeftOut}
-use Rattle.sc_class.specs.Found.{Finds}
+use Rattle.sc_class.specs.Internal.Found.{Finds}
 use Rattle.sc_class.proofs.Finding.{Among}
 use Rattle.sc_class.proofs.left_out.export_list.Given as goal
 

@@ -1,7 +1,7 @@
 use Rattle.std.proofs.Common.{List, map, subst}
 use Rattle.std.specs.Prelude.{Any}
 use Rattle.sc_tree.specs.View.{class_of, feature_of}
-use Rattle.sc_class.specs.Found.{Finds}
+use Rattle.sc_class.specs.Internal.Found.{Finds}
 use Rattle.sc_class.specs.LeftOut.{ExportLeftOut}
 use Rattle.sc_class.proofs.LeftOutLemmas.{in_class_either}
 use Rattle.sc_class.proofs.left_out.in_class.Goals as goal

@@ -2,7 +2,7 @@ use Rattle.std.proofs.Common.{List, subst}
 use Rattle.std.specs.Prelude.{Any}
 use Rattle.sc_tree.specs.Plain.{Class}
 use Rattle.sc_tree.specs.View.{class_of}
-use Rattle.sc_class.specs.Found.{Finds}
+use Rattle.sc_class.specs.Internal.Found.{Finds}
 use Rattle.sc_class.specs.LeftOut.{ClassLeftOut}
 use Rattle.sc_class.proofs.Finding.{one_more, all_seen}
 use Rattle.sc_class.proofs.left_out.left_out.Goals as goal

@@ -1,6 +1,6 @@
 use Rattle.sc_tree.specs.View.{class_of}
 use Rattle.sc_class.specs.LeftOut.{ClassLeftOut}
-use Rattle.sc_class.specs.Found.{Finds}
+use Rattle.sc_class.specs.Internal.Found.{Finds}
 use Rattle.sc_class.proofs.Finding.{Among}
 use Rattle.sc_class.proofs.left_out.left_out.Given as goal
 

@@ -1,6 +1,6 @@
 use Rattle.sc_tree.specs.View.{parent_of, system_of}
 use Rattle.sc_class.specs.Ancestors.{UnknownParentAt}
-use Rattle.sc_class.specs.Found.{Finds}
+use Rattle.sc_class.specs.Internal.Found.{Finds}
 use Rattle.sc_class.proofs.Finding.{Among}
 use Rattle.sc_class.proofs.parents.unknown_among.Given as goal
 

@@ -4,7 +4,7 @@ use Rattle.sc_text.specs.declared.token.Span.{Span}
 use Rattle.sc_tree.specs.Plain.{Class}
 use Rattle.sc_tree.specs.View.{class_of, parent_of, system_of}
 use Rattle.sc_class.specs.Ancestors.{UnknownParentAt}
-use Rattle.sc_class.specs.Found.{Finds}
+use Rattle.sc_class.specs.Internal.Found.{Finds}
 use Rattle.sc_class.proofs.Finding.{one_more, all_seen}
 use Rattle.sc_class.proofs.parents.unknown_parent.Goals as goal
 

@@ -1,7 +1,7 @@
 use Rattle.sc_tree.specs.View.{class_of, system_of}
 use Rattle.std.specs.Prelude.{Any}
 use Rattle.sc_class.specs.Ancestors.{UnknownParentAt}
-use Rattle.sc_class.specs.Found.{Finds}
+use Rattle.sc_class.specs.Internal.Found.{Finds}
 use Rattle.sc_class.proofs.Finding.{Among}
 use Rattle.sc_class.proofs.parents.unknown_parent.Given as goal
 

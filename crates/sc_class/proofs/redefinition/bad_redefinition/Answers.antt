@@ -2,7 +2,7 @@ use Rattle.std.proofs.Common.{List, subst}
 use Rattle.std.specs.Prelude.{Any}
 use Rattle.sc_tree.specs.Plain.{Name}
 use Rattle.sc_tree.specs.View.{name_of, system_of}
-use Rattle.sc_class.specs.Found.{Finds}
+use Rattle.sc_class.specs.Internal.Found.{Finds}
 use Rattle.sc_class.specs.Redefinition.{NameBadlyRedefined}
 use Rattle.sc_class.proofs.Finding.{one_more, all_seen}
 use Rattle.sc_class.proofs.redefinition.bad_redefinition.Goals as goal

@@ -1,5 +1,5 @@
 use Rattle.sc_tree.specs.View.{name_of, system_of}
-use Rattle.sc_class.specs.Found.{Finds}
+use Rattle.sc_class.specs.Internal.Found.{Finds}
 use Rattle.sc_class.specs.Redefinition.{NameBadlyRedefined}
 use Rattle.sc_class.proofs.Finding.{Among}
 use Rattle.sc_class.proofs.redefinition.bad_redefinition.Given as goal

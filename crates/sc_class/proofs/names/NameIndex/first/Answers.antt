@@ -5,7 +5,7 @@ use Rattle.sc_tree.specs.declared.expression.Name.{Name}
 use Rattle.sc_tree.specs.Plain as plain
 use Rattle.sc_tree.specs.View.{name_of}
 use Rattle.sc_class.specs.Names.{first_like}
-use Rattle.sc_class.specs.NameIndex.{names_at}
+use Rattle.sc_class.specs.Internal.NameIndex.{names_at}
 use Rattle.sc_class.proofs.NameLemmas.{number_below, first_at, no_first}
 use Rattle.sc_class.proofs.names.NameIndex.first.Goals as goal
 

@@ -1,5 +1,5 @@
 use Rattle.std.proofs.Common.{ap, sym, subst, ◌∙◌, ◌≡◌, ℕ, Some, length, arith}
-use Rattle.sc_class.specs.NameIndex.{IsIndex}
+use Rattle.sc_class.specs.Internal.NameIndex.{IsIndex}
 use Rattle.sc_class.proofs.NameLemmas.{indexed_without, indexed_still, is_that, is_not_that}
 use Rattle.sc_class.proofs.names.NameIndex.pop.Goals as goal
 

@@ -3,7 +3,7 @@ use Rattle.std.specs.Borrow.{Bor}
 use Rattle.std.specs.declared.vec.Vec.{Vec}
 use Rattle.std.specs.declared.alloc.Global.{Global}
 use Rattle.sc_tree.specs.declared.expression.Name.{Name}
-use Rattle.sc_class.specs.NameIndex.{IsIndex}
+use Rattle.sc_class.specs.Internal.NameIndex.{IsIndex}
 use Rattle.sc_class.proofs.NameLemmas.{indexed_new, indexed_again}
 use Rattle.sc_class.proofs.names.NameIndex.push.Goals as goal
 use Rattle.sc_class.proofs.names.NameIndex.push.Goals.{then-not-contains_key+in_ok-insert, else-not-contains_key}

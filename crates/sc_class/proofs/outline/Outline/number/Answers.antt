@@ -1,14 +1,14 @@
 use Rattle.std.proofs.Common.{ap, [], ◌∙◌}
 use Rattle.sc_tree.specs.View.{system_of}
 use Rattle.sc_class.specs.Names.{number_among}
-use Rattle.sc_class.specs.Own.{own_names}
+use Rattle.sc_class.specs.Internal.OwnNames.{own_of}
 use Rattle.sc_class.proofs.Anys.{got}
-use Rattle.sc_class.proofs.FeatureLemmas.{at_same, got_item}
+use Rattle.sc_class.proofs.FeatureLemmas.{at_image, got_item}
 use Rattle.sc_class.proofs.outline.Outline.number.Goals as goal
 
 pub returns-in-Some : goal.returns-in-Some
 returns-in-Some c =
     c.number.ensures
     ∙ ap (number_among c.args.name.now)
-    (at_same (λ o. o.features) own_names c.args.self.now.own.items (system_of c.args.self.now.hierarchy.system.now).classes c.args.self.now.have_features c.args.class c.in-Some.own.now []
+    (at_image own_of (λ o. o.features) c.args.self.now.own.items (system_of c.args.self.now.hierarchy.system.now).classes c.args.self.now.have_own c.args.class c.in-Some.own.now []
     (got_item c.deref.result.now c.args.self.now.own.items c.args.class c.get.result c.in-Some.own (got c.deref.result.now c.args.class c.get.result c.get.ensures.lookup) c.in-Some.is c.deref.ensures.value))

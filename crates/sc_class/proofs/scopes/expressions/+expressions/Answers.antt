@@ -1,7 +1,7 @@
 use Rattle.std.proofs.Common.{refl, List}
 use Rattle.sc_tree.specs.declared.expression.Expr.{Expr}
 use Rattle.sc_tree.specs.View.{expr_of, exprs_of}
-use Rattle.sc_class.specs.ScopeSearch.{expr_clash, exprs_clash}
+use Rattle.sc_class.specs.Internal.ScopeSearch.{expr_clash, exprs_clash}
 use Rattle.sc_class.proofs.ScopeSteps.{search_more, search_end, call_found}
 use Rattle.sc_class.proofs.scopes.expressions.+expressions.Goals as goal
 

@@ -1,7 +1,7 @@
 use Rattle.std.proofs.Common.{◌≡◌, drop}
 use Rattle.sc_tree.specs.View.{exprs_of}
-use Rattle.sc_class.specs.Found.{earliest}
-use Rattle.sc_class.specs.ScopeSearch as search
+use Rattle.sc_class.specs.Internal.Found.{earliest}
+use Rattle.sc_class.specs.Internal.ScopeSearch as search
 use Rattle.sc_class.proofs.scopes.expressions.+expressions.Given as goal
 
 abbrev pub invariant-in_expressions-loop-expression : goal.invariant-in_expressions-loop-expression

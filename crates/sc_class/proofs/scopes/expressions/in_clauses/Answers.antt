@@ -1,7 +1,7 @@
 use Rattle.std.proofs.Common.{refl, List, map}
 use Rattle.sc_tree.specs.declared.instruction.Clause.{Clause}
 use Rattle.sc_tree.specs.View.{expr_of, clause_of}
-use Rattle.sc_class.specs.ScopeSearch.{expr_clash, clauses_clash}
+use Rattle.sc_class.specs.Internal.ScopeSearch.{expr_clash, clauses_clash}
 use Rattle.sc_class.proofs.ScopeSteps.{search_more, search_end}
 use Rattle.sc_class.proofs.scopes.expressions.in_clauses.Goals as goal
 

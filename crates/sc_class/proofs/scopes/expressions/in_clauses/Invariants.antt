@@ -1,7 +1,7 @@
 use Rattle.std.proofs.Common.{◌≡◌, drop, map}
 use Rattle.sc_tree.specs.View.{clause_of}
-use Rattle.sc_class.specs.Found.{earliest}
-use Rattle.sc_class.specs.ScopeSearch as search
+use Rattle.sc_class.specs.Internal.Found.{earliest}
+use Rattle.sc_class.specs.Internal.ScopeSearch as search
 use Rattle.sc_class.proofs.scopes.expressions.in_clauses.Given as goal
 
 abbrev pub invariant-loop-clause : goal.invariant-loop-clause

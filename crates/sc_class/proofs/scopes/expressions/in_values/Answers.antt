@@ -1,7 +1,7 @@
 use Rattle.std.proofs.Common.{refl, List, map}
 use Rattle.sc_tree.specs.declared.instruction.Head.{Head}
 use Rattle.sc_tree.specs.View.{expr_of, head_of}
-use Rattle.sc_class.specs.ScopeSearch.{expr_clash, values_clash}
+use Rattle.sc_class.specs.Internal.ScopeSearch.{expr_clash, values_clash}
 use Rattle.sc_class.proofs.ScopeSteps.{search_more, search_end}
 use Rattle.sc_class.proofs.scopes.expressions.in_values.Goals as goal
 

@@ -1,7 +1,7 @@
 use Rattle.std.proofs.Common.{◌≡◌, drop, map}
 use Rattle.sc_tree.specs.View.{head_of}
-use Rattle.sc_class.specs.Found.{earliest}
-use Rattle.sc_class.specs.ScopeSearch as search
+use Rattle.sc_class.specs.Internal.Found.{earliest}
+use Rattle.sc_class.specs.Internal.ScopeSearch as search
 use Rattle.sc_class.proofs.scopes.expressions.in_values.Given as goal
 
 abbrev pub invariant-loop-head : goal.invariant-loop-head

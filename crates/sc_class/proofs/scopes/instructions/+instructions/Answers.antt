@@ -1,10 +1,12 @@
-use Rattle.std.proofs.Common.{◌++◌, refl, ap, ◌∙◌, List}
+use Rattle.std.proofs.Common.{◌≡◌, ◌++◌, refl, ap, subst, ◌∙◌, List, Option}
+use Rattle.std.specs.Prelude.{IfOk}
+use Rattle.sc_text.specs.declared.token.Span.{Span}
 use Rattle.sc_tree.specs.declared.instruction.Instr.{Instr}
 use Rattle.sc_tree.specs.declared.instruction.Branch.{Branch}
 use Rattle.sc_tree.specs.View.{expr_of, instr_of, instrs_of, branches_of}
-use Rattle.sc_class.specs.Found.{earliest}
+use Rattle.sc_class.specs.Internal.Found.{earliest}
 use Rattle.sc_class.specs.Scopes.{tests_of}
-use Rattle.sc_class.specs.ScopeSearch.{expr_clash, condition_clash, instr_clash, instrs_clash, branches_clash}
+use Rattle.sc_class.specs.Internal.ScopeSearch.{expr_clash, condition_clash, instr_clash, instrs_clash, branches_clash}
 use Rattle.sc_class.proofs.ScopeSteps.{search_more, search_end, if_found, loop_found, block_found}
 use Rattle.sc_class.proofs.scopes.instructions.+instructions.Goals as goal
 
@@ -68,9 +70,9 @@ in_instruction-returns-in_ok-body-in-Loop-clause-found t c =
     (c.in_ok-body-in-Loop.ensures.found ∙ ap (λ ns. instrs_clash fs ns (instrs_of c.deref-in-Loop-2.result.now)) c.in_ok-initial-in-Loop.ensures.kept)
     c.earliest-in-Loop.ensures c.earliest-in-Loop-2.ensures
 
-pub in_instruction-returns-in_ok-body-in-Block-clause-found : goal.in_instruction-returns-in_ok-body-in-Block-clause-found
-in_instruction-returns-in_ok-body-in-Block-clause-found t c =
-    block_found c.args.features.now c.args.known.now c.args.instruction.now c.in-Block.field-0 c.in-Block.heads c.in-Block.body c.deref-in-Block.result.now c.deref-in-Block-2.result.now c.deref-in-Block-3.result.now c.declare_heads.new.known
-    c.in_values-values.result c.in_ok-names-in-Block.names c.in_ok-body-in-Block.body c.earliest-in-Block.result c.earliest-in-Block-2.result
-    c.in-Block.is c.deref-in-Block.ensures.value c.deref-in-Block-2.ensures.value c.deref-in-Block-3.ensures.value c.in_ok-names-in-Block.ensures.added
-    c.in_values-values.ensures c.in_ok-names-in-Block.ensures.found c.in_ok-body-in-Block.ensures.found c.earliest-in-Block.ensures c.earliest-in-Block-2.ensures
+pub in_instruction-returns-in-Block-clause-found : goal.in_instruction-returns-in-Block-clause-found
+in_instruction-returns-in-Block-clause-found t c =
+    subst (λ (y : Option Span). IfOk c.in_block.result (λ place. place ≡ y))
+    (block_found c.args.features.now c.args.known.now c.args.instruction.now c.in-Block.field-0 c.in-Block.heads c.in-Block.body c.deref-in-Block.result.now c.deref-in-Block-2.result.now _
+    c.in-Block.is c.deref-in-Block.ensures.value c.deref-in-Block-2.ensures.value refl)
+    c.in_block.ensures.found

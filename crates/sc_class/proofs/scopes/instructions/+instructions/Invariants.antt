@@ -1,7 +1,7 @@
 use Rattle.std.proofs.Common.{◌≡◌, drop}
 use Rattle.sc_tree.specs.View.{instrs_of, branches_of}
-use Rattle.sc_class.specs.Found.{earliest}
-use Rattle.sc_class.specs.ScopeSearch as search
+use Rattle.sc_class.specs.Internal.Found.{earliest}
+use Rattle.sc_class.specs.Internal.ScopeSearch as search
 use Rattle.sc_class.proofs.scopes.instructions.+instructions.Given as goal
 
 abbrev pub invariant-in_instructions-loop-instruction : goal.invariant-in_instructions-loop-instruction

@@ -1,8 +1,8 @@
 use Rattle.std.proofs.Common.{◌≡◌, ◌++◌, drop, map}
 use Rattle.sc_tree.specs.View.{declaration_of}
-use Rattle.sc_class.specs.Found.{earliest}
+use Rattle.sc_class.specs.Internal.Found.{earliest}
 use Rattle.sc_class.specs.Scopes.{declared_names}
-use Rattle.sc_class.specs.ScopeSearch as search
+use Rattle.sc_class.specs.Internal.ScopeSearch as search
 use Rattle.sc_class.proofs.scopes.names.declare_entities.Given as goal
 
 abbrev pub invariant-loop-declaration : goal.invariant-loop-declaration

@@ -2,7 +2,7 @@ use Rattle.std.proofs.Common.{◌++◌, refl, List, map}
 use Rattle.sc_tree.specs.declared.instruction.Head.{Head}
 use Rattle.sc_tree.specs.View.{name_of, head_of}
 use Rattle.sc_class.specs.Scopes.{head_names}
-use Rattle.sc_class.specs.ScopeSearch.{names_clash}
+use Rattle.sc_class.specs.Internal.ScopeSearch.{names_clash}
 use Rattle.sc_class.proofs.ScopeSteps.{names_more, names_end, known_more, known_end}
 use Rattle.sc_class.proofs.scopes.names.declare_heads.Goals as goal
 

@@ -3,7 +3,7 @@ use Rattle.std.specs.Option.{option_map}
 use Rattle.sc_tree.specs.View.{system_of}
 use Rattle.sc_class.specs.Features.{features}
 use Rattle.sc_class.specs.Entries.{entry_of}
-use Rattle.sc_class.specs.ScopeSearch.{place_among}
+use Rattle.sc_class.specs.Internal.ScopeSearch.{place_among}
 use Rattle.sc_class.proofs.FeaturePlaces.{found_place, no_place}
 use Rattle.sc_class.proofs.scopes.features.Features.place.Goals as goal
 

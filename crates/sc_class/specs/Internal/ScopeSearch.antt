@@ -6,7 +6,7 @@ use Rattle.sc_text.specs.declared.token.Span.{Span}
 use Rattle.sc_tree.specs.declared.expression.BinaryOperator.{BinaryOperator}
 use Rattle.sc_tree.specs.declared.expression.BinaryOperator.TheVariants.{AndThen}
 use Rattle.sc_tree.specs.Plain.{FeatureKind, Attribute, Routine, Clause, Head, Name, CreationCall, Expr, Integer, Boolean, Void, Current, Result, Call, Unary, Binary, ObjectTest, Target, no_target, target, Exprs, no_exprs, expr_then, Instr, Assign, PrintText, CallRoutine, Create, If, Loop, Check, Block, Instrs, no_instrs, instr_then, Branches, no_branches, branch_then}
-use Rattle.sc_class.specs.Found.{earliest}
+use Rattle.sc_class.specs.Internal.Found.{earliest}
 use Rattle.sc_class.specs.Names.{first_like, is_print, later_of}
 use Rattle.sc_class.specs.Scopes.{tests_of, head_names, declared_names}
 

@@ -3,7 +3,7 @@ use Rattle.std.specs.Prelude.{ℕ, List, [], ◌∷◌, ◌++◌, Option, Some, 
 use Rattle.std.specs.Option.{option_map}
 use Rattle.sc_text.specs.declared.token.Span.{Span}
 use Rattle.sc_tree.specs.Plain.{System, Feature, Name}
-use Rattle.sc_class.specs.Found.{earliest}
+use Rattle.sc_class.specs.Internal.Found.{earliest}
 use Rattle.sc_class.specs.Names.{IsLikeOne, first_like, is_print, is_listed, later_of}
 use Rattle.sc_class.specs.Features.{DeclaredFeature, redefined_names, not_redefined, inherited_features, named_among}
 use Rattle.sc_class.specs.Scopes.{feature_names}

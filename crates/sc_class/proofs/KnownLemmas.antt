@@ -1,0 +1,79 @@
+-- Features that are found by the names of all that a class has.
+use Rattle.std.proofs.Common.{◌≡◌, ◌<◌, ◌+◌, ℕ, Bool, true, false, cond, List, [], ◌∷◌, ◌++◌, Option, Some, None, length, map, refl, ap, sym, ◌∙◌, arith, add-one, below_more}
+use Rattle.std.specs.Prelude.{bytes_eq, slice_get}
+use Rattle.std.specs.Option.{option_map, option_and_then, option_copied}
+use Rattle.std.specs.Borrow.{Bor}
+use Rattle.std.proofs.lemmas.List.{length-append}
+use Rattle.std.proofs.lemmas.Option.{slice_get-map, slice_get_within}
+use Rattle.sc_tree.specs.Plain.{System}
+use Rattle.sc_class.specs.declared.identity.ClassId.TheVariants as class
+use Rattle.sc_class.specs.declared.own.FeatureEntry.{FeatureEntry}
+use Rattle.sc_class.specs.declared.known.KnownFeatures.{KnownFeatures}
+use Rattle.sc_class.specs.Names.{number_among}
+use Rattle.sc_class.specs.Features.{DeclaredFeature, features, own_features, named_among}
+use Rattle.sc_class.specs.Scopes.{feature_names}
+use Rattle.sc_class.specs.Entries.{entry_of}
+use Rattle.sc_class.specs.Internal.Known.{entries_of, class_of_first, declarer_known, declarer}
+use Rattle.sc_class.specs.Heirs.{StandsInText}
+use Rattle.sc_class.proofs.TableLemmas.{read_append, read_last}
+use Rattle.sc_class.proofs.Standing.{found_stands}
+
+-- ---- by number
+
+by_number : (x : List ℕ) (fs : List DeclaredFeature) → named_among x fs ≡ option_and_then (slice_get fs) (number_among x (feature_names fs))
+by_number x [] = refl
+by_number x (f ∷ fs) = by (bytes_eq f.feature.name.text x) (number_among x (feature_names fs)) (by_number x fs)
+  where
+    next : (j : ℕ) → slice_get (f ∷ fs) (j + 1) ≡ slice_get fs j
+    next j = ap (slice_get (f ∷ fs)) (add-one j)
+
+    by : (b : Bool) (o : Option ℕ) → named_among x fs ≡ option_and_then (slice_get fs) o → cond b (Some f) (named_among x fs) ≡ option_and_then (slice_get (f ∷ fs)) (cond b (Some 0) (option_map (λ k. k + 1) o))
+    by true o e = refl
+    by false None e = e
+    by false (Some j) e = e ∙ sym (next j)
+
+module _ (x : List ℕ) (es : List FeatureEntry) (o : Option ℕ) (e : o ≡ number_among x (feature_names (map entry_of es))) where
+  pub none_by_number : o ≡ None → None ≡ named_among x (map entry_of es)
+  none_by_number f = sym (by_number x (map entry_of es) ∙ ap (option_and_then (slice_get (map entry_of es))) (sym e ∙ f))
+
+  pub entry_by_number : (n : ℕ) (r : Option FeatureEntry) → o ≡ Some n → r ≡ slice_get es n → option_map entry_of r ≡ named_among x (map entry_of es)
+  entry_by_number n r f g = ap (option_map entry_of) g ∙ sym (slice_get-map entry_of es n) ∙ sym (by_number x (map entry_of es) ∙ ap (option_and_then (slice_get (map entry_of es))) (sym e ∙ f))
+
+-- ---- one class more
+
+pub known_more : (s : System) (ts ts' : List KnownFeatures) (t : KnownFeatures) (n : ℕ) → entries_of t ≡ features s n → ts' ≡ ts ++ t ∷ [] →
+    (length ts ≡ n) × ((k : ℕ) → k < n → (x : List ℕ) → declarer_known ts k x ≡ declarer s k x) → (length ts' ≡ n + 1) × ((k : ℕ) → k < n + 1 → (x : List ℕ) → declarer_known ts' k x ≡ declarer s k x)
+known_more s ts ts' t n e f (l, below) = (ap length f ∙ length-append ts (t ∷ []) ∙ ap (λ k. k + 1) l, below_more (λ k. (x : List ℕ) → declarer_known ts' k x ≡ declarer s k x) n before here)
+  where
+    before : (k : ℕ) → k < n → (x : List ℕ) → declarer_known ts' k x ≡ declarer s k x
+    before k m x =
+        let m' : k < length ts = omega (arith, l, m) in
+        ap (λ (us : List KnownFeatures). declarer_known us k x) f ∙ ap (λ (o : Option KnownFeatures). option_and_then (λ (t : KnownFeatures). class_of_first x (entries_of t)) o) (read_append ts t k m') ∙ below k m x
+
+    here : (x : List ℕ) → declarer_known ts' n x ≡ declarer s n x
+    here x =
+        ap (λ (us : List KnownFeatures). declarer_known us n x) f
+        ∙ ap (λ (o : Option KnownFeatures). option_and_then (λ (t : KnownFeatures). class_of_first x (entries_of t)) o) (ap (slice_get (ts ++ t ∷ [])) (sym l) ∙ read_last ts t) ∙ ap (class_of_first x) e
+
+-- ---- by the class that declares it
+
+module _ (s : System) (k : ℕ) (x : List ℕ) (o : Option DeclaredFeature) (known : option_map (λ (f : DeclaredFeature). f.class) o ≡ declarer s k x) where
+  pub not_declared : o ≡ None → None ≡ named_among x (features s k)
+  not_declared e = by (named_among x (features s k)) (ap (option_map (λ (f : DeclaredFeature). f.class)) (sym e) ∙ known)
+    where
+      by : (r : Option DeclaredFeature) → None ≡ option_map (λ (f : DeclaredFeature). f.class) r → None ≡ r
+      by None q = refl
+      by (Some f) q = cc
+
+  pub declared_there : (g : DeclaredFeature) → o ≡ Some g → named_among x (own_features s g.class) ≡ named_among x (features s k)
+  declared_there g e = by (named_among x (features s k)) refl (ap (option_map (λ (f : DeclaredFeature). f.class)) (sym e) ∙ known)
+    where
+      by : (r : Option DeclaredFeature) → named_among x (features s k) ≡ r → Some g.class ≡ option_map (λ (f : DeclaredFeature). f.class) r → named_among x (own_features s g.class) ≡ r
+      by None h q = cc
+      by (Some f) h q = let same : g.class ≡ f.class = cc in ap (λ (c : ℕ). named_among x (own_features s c)) same ∙ (found_stands s k x f h).is_own
+
+pub known_at : (s : System) (ts : List KnownFeatures) → ((k : ℕ) → k < length ts → (x : List ℕ) → declarer_known ts k x ≡ declarer s k x) → (k : ℕ) (t : KnownFeatures) → slice_get ts k ≡ Some t →
+    (x : List ℕ) (o : Option DeclaredFeature) → o ≡ named_among x (entries_of t) → option_map (λ (f : DeclaredFeature). f.class) o ≡ declarer s k x
+known_at s ts are k t e x o f =
+    ap (option_map (λ (f : DeclaredFeature). f.class)) f ∙ sym (ap (λ (o : Option KnownFeatures). option_and_then (λ (t : KnownFeatures). class_of_first x (entries_of t)) o) e)
+    ∙ are k (slice_get_within ts k t e) x
