@@ -11,6 +11,7 @@ pub mod PurityComplete
 pub mod PuritySound
 pub mod PurityRoutines
 pub mod PurityHeirs
+pub mod PurityStands
 pub mod SystemComplete
 pub mod SystemSound
 pub mod SystemLaws
@@ -26,3 +27,4 @@ pub mod TextsStand
 pub mod InvariantHeirs
 pub mod PureHeirs
 pub mod TextLaws
+pub mod Numbers

@@ -22,7 +22,7 @@ use Rattle.sc_rules.proofs.PurityRoutines.{body_deeds, offence_judged, judged_of
 
 -- ---- features by name
 
-named_text : (x : List ℕ) (fs : List DeclaredFeature) (d : DeclaredFeature) → named_among x fs ≡ Some d → bytes_eq d.feature.name.text x ≡ true
+pub named_text : (x : List ℕ) (fs : List DeclaredFeature) (d : DeclaredFeature) → named_among x fs ≡ Some d → bytes_eq d.feature.name.text x ≡ true
 named_text x [] d e = cc
 named_text x (f ∷ fs) d e = by_first (bytes_eq f.feature.name.text x) refl (λ e. named_text x fs d e) e
   where
@@ -31,7 +31,7 @@ named_text x (f ∷ fs) d e = by_first (bytes_eq f.feature.name.text x) refl (λ
     by_first true i further e = subst (λ f. bytes_eq f.feature.name.text x ≡ true) (some_is f d e) i
     by_first false i further e = further e
 
-own_class : (s : System) (k : ℕ) (x : List ℕ) (d : DeclaredFeature) → named_among x (own_features s k) ≡ Some d → d.class ≡ k
+pub own_class : (s : System) (k : ℕ) (x : List ℕ) (d : DeclaredFeature) → named_among x (own_features s k) ≡ Some d → d.class ≡ k
 own_class s k x d e = of_some _ (sym (named_own s k x) ∙ e)
   where
     of_some : (o : Option Feature) → option_map (declared_in k) o ≡ Some d → d.class ≡ k
@@ -123,14 +123,14 @@ own_first s x (suc n) k c d j e =
 
 -- ---- what a routine may run
 
-is_there : {A : Type 0} (o : Option A) (x : A) → o ≡ Some x → is_some o ≡ true
+pub is_there : {A : Type 0} (o : Option A) (x : A) → o ≡ Some x → is_some o ≡ true
 is_there o x e = ap is_some e
 
-one_there : {A : Type 0} (o : Option A) → is_some o ≡ true → (x : A) × (o ≡ Some x)
+pub one_there : {A : Type 0} (o : Option A) → is_some o ≡ true → (x : A) × (o ≡ Some x)
 one_there None e = cc
 one_there (Some x) e = (x, refl)
 
-same_routine : (f g : RoutineName) → f.class ≡ g.class → f.name ≡ g.name → f ≡ g
+pub same_routine : (f g : RoutineName) → f.class ≡ g.class → f.name ≡ g.name → f ≡ g
 same_routine f g e i = ap (λ (k : ℕ). of f.name k) e ∙ ap (λ (x : List ℕ). of x g.class) i
   where
     of : List ℕ → ℕ → RoutineName
@@ -164,7 +164,7 @@ runs_leads {s} {f} {g} (redeclared a n i j) = by_own (one_there (routine_named s
 
 -- ---- marks
 
-fit_there : (o : Option DeclaredFeature) (b : Bool) → (not (is_fit_if_any o) || b) ≡ false → is_some o ≡ true
+pub fit_there : (o : Option DeclaredFeature) (b : Bool) → (not (is_fit_if_any o) || b) ≡ false → is_some o ≡ true
 fit_there None b e = cc
 fit_there (Some g) b e = refl
 

@@ -41,14 +41,17 @@ required false r p = Err (fault r p)
 -- each of them, in order
 abbrev pub judge_each : {A : Type 0} → (A → Judged (Unit {0})) → List A → Judged (Unit {0})
 judge_each judge [] = Ok tt
-judge_each judge (x ∷ xs) = judge x >>= λ u. judge_each judge xs
+judge_each judge (x ∷ xs) = do
+  _ ← judge x
+  judge_each judge xs
 
 -- ---- types
 
 -- the class of a declared type, then its tag and its mark
 abbrev pub judge_type : System → List Declaration → DeclaredType → Judged (Unit {0})
-judge_type s formals d =
-    required (is_some (type_class s d.class.text)) UnknownName d.class.span >>= λ u. required (is_some (declared_type s formals d)) TagName d.span
+judge_type s formals d = do
+  _ ← required (is_some (type_class s d.class.text)) UnknownName d.class.span
+  required (is_some (declared_type s formals d)) TagName d.span
 
 abbrev pub judge_tested : Here → Option DeclaredType → Judged (Unit {0})
 judge_tested h None = Ok tt
@@ -59,7 +62,9 @@ judge_tested h (Some d) = judge_type h.system h.formals d
 -- a target that has a type is attached and controlled
 abbrev pub judge_target : Span → Option EntityType → Judged (Unit {0})
 judge_target p None = Ok tt
-judge_target p (Some t) = required t.attached TargetDetachable p >>= λ u. required (is_controlling t.tag) TargetUncontrolled p
+judge_target p (Some t) = do
+  _ ← required t.attached TargetDetachable p
+  required (is_controlling t.tag) TargetUncontrolled p
 
 -- an actual: where it stands, and what judging it gives
 abbrev pub Found : Type 0
@@ -98,12 +103,12 @@ may_pass c r a = not (is_require c && is_foreign_type r) || is_value a
 -- the actuals in order, each with its formal, before the next one; r is the type of the target
 abbrev pub judge_actuals : Here → Context → Option EntityType → EntityType → List (Option EntityType) → List FormalType → List Found → Judged (List Typing)
 judge_actuals h c r t ts fs [] = Ok []
-judge_actuals h c r t ts fs (a ∷ rs) =
-    a.1 >>= λ b.
-    required (is_taken h.system t ts fs b.type) ArgumentType a.0 >>= λ u.
-    required (may_pass c r b.type) PreconditionArgument a.0 >>= λ u.
-    judge_actuals h c r t ts (rest fs) rs >>= λ bs.
-    Ok (b ∷ bs)
+judge_actuals h c r t ts fs (a ∷ rs) = do
+  b ← a.1
+  _ ← required (is_taken h.system t ts fs b.type) ArgumentType a.0
+  _ ← required (may_pass c r b.type) PreconditionArgument a.0
+  bs ← judge_actuals h c r t ts (rest fs) rs
+  Ok (b ∷ bs)
 
 -- a query is a value, a procedure an instruction
 abbrev pub judge_use : Use → Option (Option EntityType) → Span → Judged (Option EntityType)
@@ -116,19 +121,19 @@ judge_use Instruction (Some t) p = Err (fault ResultType p)
 abbrev pub judge_name : Here → Context → Use → Target → Meaning → ℕ → Span → Judged (Option EntityType)
 judge_name h c u a unknown k p = Err (fault UnknownName p)
 judge_name h c u a unresolved k p = Ok None
-judge_name h c u a (stands g) k p =
-    required (k == length g.formals) WrongArity p >>= λ w.
-    judge_use u g.gives p >>= λ t.
-    required (may_call h c g.routine) ImpureContract p >>= λ w.
-    required (is_exported_to a g) NotExported p >>= λ w.
-    Ok t
+judge_name h c u a (stands g) k p = do
+  _ ← required (k == length g.formals) WrongArity p
+  t ← judge_use u g.gives p
+  _ ← required (may_call h c g.routine) ImpureContract p
+  _ ← required (is_exported_to a g) NotExported p
+  Ok t
 
 -- the actuals and the name, where this is meant
 abbrev pub judge_meant : Here → Context → Use → Target → Meaning → Span → List Found → Typing → Judged Typing
-judge_meant h c u a m p rs r =
-    judge_actuals h c r.type (target_of h m) (types_found rs) (formals_of m) rs >>= λ ts.
-    judge_name h c u a m (length ts) p >>= λ t.
-    Ok (typing t (r.is_separate || list_any (λ (b : Typing). b.is_separate) ts))
+judge_meant h c u a m p rs r = do
+  ts ← judge_actuals h c r.type (target_of h m) (types_found rs) (formals_of m) rs
+  t ← judge_name h c u a m (length ts) p
+  Ok (typing t (r.is_separate || list_any (λ (b : Typing). b.is_separate) ts))
 
 -- what is judged of a call behind its target, of which this was found
 abbrev pub judge_called : Here → Context → Entities → Use → Target → Name → List Found → Typing → Judged Typing
@@ -149,35 +154,43 @@ unfoldable mutual
   pub judge : Here → Context → Spot → Entities → Expr → Judged Typing
   judge h c k n (Integer p v) = Ok (plainly integer)
   judge h c k n (Boolean p v) = Ok (plainly boolean)
-  judge h c k n (Void p) = required (takes_void k) VoidUse p >>= λ u. Ok (plainly void)
+  judge h c k n (Void p) = do
+    _ ← required (takes_void k) VoidUse p
+    Ok (plainly void)
   judge h c k n (Current p) = Ok (plainly (current h))
-  judge h c k n (plain.Result p) = judge_result p h.result >>= λ t. Ok (typing t false)
-  judge h c k n (Call p a x es) = judge_receiver h c n a >>= λ r. judge_called h c n Value a x (found h c n es) r
-  judge h c k n (Unary p op a) =
-      judge h (under op c) Plain n a >>= λ t.
-      required (old_stands c op t) OldPlace p >>= λ u.
-      operated p t.is_separate (unary_result op t.type)
+  judge h c k n (plain.Result p) = do
+    t ← judge_result p h.result
+    Ok (typing t false)
+  judge h c k n (Call p a x es) = do
+    r ← judge_receiver h c n a
+    judge_called h c n Value a x (found h c n es) r
+  judge h c k n (Unary p op a) = do
+    t ← judge h (under op c) Plain n a
+    _ ← required (old_stands c op t) OldPlace p
+    operated p t.is_separate (unary_result op t.type)
   judge h c k n (Binary p op a b) =
       if joins k op
-      then (judge h c Condition n a >>= λ t.
-      judge_given h c n a >>= λ m.
-      judge h c Condition m b >>= λ u.
-      operated p (t.is_separate || u.is_separate) (binary_result op t.type u.type))
-      else (judge h c (beside op) n a >>= λ t.
-      judge h c (beside op) n b >>= λ u.
-      operated p (t.is_separate || u.is_separate) (binary_result op t.type u.type))
-  judge h c k n (ObjectTest p d a x) =
-      judge_tested h d >>= λ u.
-      judge h c Plain n a >>= λ t.
-      required (is_condition k) ObjectTestPlace p >>= λ u.
-      Ok (typing (Some boolean) t.is_separate)
+      then (do
+        t ← judge h c Condition n a
+        m ← judge_given h c n a
+        u ← judge h c Condition m b
+        operated p (t.is_separate || u.is_separate) (binary_result op t.type u.type))
+      else (do
+        t ← judge h c (beside op) n a
+        u ← judge h c (beside op) n b
+        operated p (t.is_separate || u.is_separate) (binary_result op t.type u.type))
+  judge h c k n (ObjectTest p d a x) = do
+    _ ← judge_tested h d
+    t ← judge h c Plain n a
+    _ ← required (is_condition k) ObjectTestPlace p
+    Ok (typing (Some boolean) t.is_separate)
 
   pub judge_receiver : Here → Context → Entities → Target → Judged Typing
   judge_receiver h c n no_target = Ok (plainly (current h))
-  judge_receiver h c n (target a) =
-      judge h c Plain n a >>= λ t.
-      judge_target (span_of a) t.type >>= λ u.
-      Ok (typing t.type (t.is_separate || is_foreign_type t.type))
+  judge_receiver h c n (target a) = do
+    t ← judge h c Plain n a
+    _ ← judge_target (span_of a) t.type
+    Ok (typing t.type (t.is_separate || is_foreign_type t.type))
 
   pub found : Here → Context → Entities → Exprs → List Found
   found h c n no_exprs = []
@@ -185,6 +198,13 @@ unfoldable mutual
 
   -- the entities that are known where the condition holds
   pub judge_given : Here → Context → Entities → Expr → Judged Entities
-  judge_given h c n (ObjectTest p d a x) = judge h c Plain n a >>= λ t. Ok (n ++ entity x.text (test_type h d t.type) role.Test ∷ [])
-  judge_given h c n (Binary p op a b) = if is_and_then op then (judge_given h c n a >>= λ m. judge_given h c m b) else Ok n
+  judge_given h c n (ObjectTest p d a x) = do
+    t ← judge h c Plain n a
+    Ok (n ++ entity x.text (test_type h d t.type) role.Test ∷ [])
+  judge_given h c n (Binary p op a b) =
+      if is_and_then op
+      then (do
+        m ← judge_given h c n a
+        judge_given h c m b)
+      else Ok n
   judge_given h c n e = Ok n

@@ -24,13 +24,13 @@ judge_result_type s (Some d) = judge_type s [] d
 -- a feature of the class at the number: its types, precondition, locals, body and postcondition
 abbrev pub judge_feature : System → (RoutineName → Bool) → ℕ → FeatureKind → Judged (Unit {0})
 judge_feature s pure k (Attribute d) = judge_type s [] d
-judge_feature s pure k (Routine formals result pre locals is post) =
-    judge_declarations s formals formals >>= λ u.
-    judge_result_type s result >>= λ u.
-    judge_each (judge_clause (here_of s pure k formals result) context.Require (formals_known s formals)) pre >>= λ u.
-    judge_declarations s formals locals >>= λ u.
-    judge_instrs (here_of s pure k formals result) (formals_known s formals ++ locals_known s formals locals) is >>= λ u.
-    judge_each (judge_clause (here_of s pure k formals result) context.Ensure (formals_known s formals)) post
+judge_feature s pure k (Routine formals result pre locals is post) = do
+  _ ← judge_declarations s formals formals
+  _ ← judge_result_type s result
+  _ ← judge_each (judge_clause (here_of s pure k formals result) context.Require (formals_known s formals)) pre
+  _ ← judge_declarations s formals locals
+  _ ← judge_instrs (here_of s pure k formals result) (formals_known s formals ++ locals_known s formals locals) is
+  judge_each (judge_clause (here_of s pure k formals result) context.Ensure (formals_known s formals)) post
 
 -- the rules that stand behind the one on the form of an invariant's clause, where several fail at one place
 abbrev pub is_late : Rule → Bool
@@ -65,15 +65,17 @@ judge_creator s k x = judge_listed x.span (feature_named s (class.Declared k) x.
 
 -- the text of the class at the number
 abbrev pub judge_class : System → (RoutineName → Bool) → ℕ → Class → Judged (Unit {0})
-judge_class s pure k c =
-    judge_each (judge_creator s k) c.creators >>= λ u.
-    judge_each (λ (f : Feature). judge_feature s pure k f.kind) c.features >>= λ u.
-    judge_each (judge_invariant s pure k) c.invariant
+judge_class s pure k c = do
+  _ ← judge_each (judge_creator s k) c.creators
+  _ ← judge_each (λ (f : Feature). judge_feature s pure k f.kind) c.features
+  judge_each (judge_invariant s pure k) c.invariant
 
 -- these classes, of which the first is at the number
 abbrev pub judge_classes : System → (RoutineName → Bool) → ℕ → List Class → Judged (Unit {0})
 judge_classes s pure k [] = Ok tt
-judge_classes s pure k (c ∷ cs) = judge_class s pure k c >>= λ u. judge_classes s pure (k + 1) cs
+judge_classes s pure k (c ∷ cs) = do
+  _ ← judge_class s pure k c
+  judge_classes s pure (k + 1) cs
 
 abbrev pub judge_system : System → (RoutineName → Bool) → Judged (Unit {0})
 judge_system s pure = judge_classes s pure 0 s.classes

@@ -29,7 +29,9 @@ is_boolean_if_any None = true
 is_boolean_if_any (Some t) = is_boolean t.class
 
 abbrev pub judge_condition : Here → Context → Spot → Entities → Expr → Judged (Unit {0})
-judge_condition h c k n e = judge h c k n e >>= λ t. required (is_boolean_if_any t.type) NotBoolean (span_of e)
+judge_condition h c k n e = do
+  t ← judge h c k n e
+  required (is_boolean_if_any t.type) NotBoolean (span_of e)
 
 abbrev pub judge_clause : Here → Context → Entities → Clause → Judged (Unit {0})
 judge_clause h c n k = judge_condition h c Plain n k.condition
@@ -63,51 +65,61 @@ creation_meaning h (Some t) x = far h t x.text
 
 -- the creation of an object for an entity of this type, if it has one
 abbrev pub judge_creation : Here → Entities → Span → Option EntityType → Option CreationCall → Judged (Unit {0})
-judge_creation h n p t None =
-    required (is_made_plainly_if_any h.system t) NotCreation p >>= λ u.
-    required (is_untagged t) CreationTag p
-judge_creation h n p t (Some k) =
-    required (is_untagged t) CreationTag p >>= λ u.
-    judge_meant h context.Body Instruction no_target (creation_meaning h t k.name) k.name.span (found h context.Body n k.actuals) (typing t false) >>= λ u.
-    required (is_made_by_if_any h.system t k.name) NotCreation k.name.span
+judge_creation h n p t None = do
+  _ ← required (is_made_plainly_if_any h.system t) NotCreation p
+  required (is_untagged t) CreationTag p
+judge_creation h n p t (Some k) = do
+  _ ← required (is_untagged t) CreationTag p
+  _ ← judge_meant h context.Body Instruction no_target (creation_meaning h t k.name) k.name.span (found h context.Body n k.actuals) (typing t false)
+  required (is_made_by_if_any h.system t k.name) NotCreation k.name.span
 
 -- the heads of a block, each where its own names aren't known; the entities that its body knows
 abbrev pub judge_heads : Here → Entities → Entities → List Head → Judged Entities
 judge_heads h n m [] = Ok m
-judge_heads h n m (d ∷ ds) =
-    judge h context.Body Plain n d.value >>= λ t.
-    required (conforms_if_any h.system t.type (Some separate_any)) ArgumentType (span_of d.value) >>= λ u.
-    judge_heads h n (m ++ entity d.name.text (block_type (blocks m) t.type) role.Block ∷ []) ds
+judge_heads h n m (d ∷ ds) = do
+  t ← judge h context.Body Plain n d.value
+  _ ← required (conforms_if_any h.system t.type (Some separate_any)) ArgumentType (span_of d.value)
+  judge_heads h n (m ++ entity d.name.text (block_type (blocks m) t.type) role.Block ∷ []) ds
 
 unfoldable mutual
   pub judge_instr : Here → Entities → Instr → Judged (Unit {0})
-  judge_instr h n (Assign p v e) =
-      judge_variable h n v >>= λ t.
-      judge h context.Body Source n e >>= λ a.
-      required (conforms_if_any h.system a.type t) AssignType (span_of e)
+  judge_instr h n (Assign p v e) = do
+    t ← judge_variable h n v
+    a ← judge h context.Body Source n e
+    required (conforms_if_any h.system a.type t) AssignType (span_of e)
   judge_instr h n (PrintText p x) = Ok tt
-  judge_instr h n (CallRoutine p a x es) =
-      judge_receiver h context.Body n a >>= λ r. judge_called h context.Body n Instruction a x (found h context.Body n es) r >>= λ t. Ok tt
-  judge_instr h n (Create p v k) = judge_variable h n v >>= λ t. judge_creation h n (variable_span v) t k
-  judge_instr h n (If p e body bs other) =
-      judge_condition h context.Body Condition n e >>= λ u.
-      judge_given h context.Body n e >>= λ m.
-      judge_instrs h m body >>= λ u.
-      judge_branches h n bs >>= λ u.
-      judge_instrs h n other
-  judge_instr h n (Loop p initial e body) =
-      judge_instrs h n initial >>= λ u. judge_condition h context.Body Plain n e >>= λ u. judge_instrs h n body
+  judge_instr h n (CallRoutine p a x es) = do
+    r ← judge_receiver h context.Body n a
+    _ ← judge_called h context.Body n Instruction a x (found h context.Body n es) r
+    Ok tt
+  judge_instr h n (Create p v k) = do
+    t ← judge_variable h n v
+    judge_creation h n (variable_span v) t k
+  judge_instr h n (If p e body bs other) = do
+    _ ← judge_condition h context.Body Condition n e
+    m ← judge_given h context.Body n e
+    _ ← judge_instrs h m body
+    _ ← judge_branches h n bs
+    judge_instrs h n other
+  judge_instr h n (Loop p initial e body) = do
+    _ ← judge_instrs h n initial
+    _ ← judge_condition h context.Body Plain n e
+    judge_instrs h n body
   judge_instr h n (Check p ks) = judge_each (judge_clause h context.Check n) ks
-  judge_instr h n (Block p ds body) = judge_heads h n n ds >>= λ m. judge_instrs h m body
+  judge_instr h n (Block p ds body) = do
+    m ← judge_heads h n n ds
+    judge_instrs h m body
 
   pub judge_instrs : Here → Entities → Instrs → Judged (Unit {0})
   judge_instrs h n no_instrs = Ok tt
-  judge_instrs h n (instr_then i is) = judge_instr h n i >>= λ u. judge_instrs h n is
+  judge_instrs h n (instr_then i is) = do
+    _ ← judge_instr h n i
+    judge_instrs h n is
 
   pub judge_branches : Here → Entities → Branches → Judged (Unit {0})
   judge_branches h n no_branches = Ok tt
-  judge_branches h n (branch_then e body bs) =
-      judge_condition h context.Body Condition n e >>= λ u.
-      judge_given h context.Body n e >>= λ m.
-      judge_instrs h m body >>= λ u.
-      judge_branches h n bs
+  judge_branches h n (branch_then e body bs) = do
+    _ ← judge_condition h context.Body Condition n e
+    m ← judge_given h context.Body n e
+    _ ← judge_instrs h m body
+    judge_branches h n bs

@@ -85,6 +85,10 @@ NeverBoth = (s : System) (f : RoutineName) → Pure s f → Impure s f → ⊥
 abbrev pub OnePurity : Type 0
 OnePurity = (s : System) (p q : RoutineName → Bool) → IsPurity s p → IsPurity s q → p ≡ q
 
+-- And there is one, for every system.
+abbrev pub SomePurity : Type 0
+SomePurity = (s : System) → (pure : RoutineName → Bool) × IsPurity s pure
+
 -- ---- systems
 
 -- A system is well formed, or some rule fails at some place.

@@ -1,7 +1,8 @@
 -- Laws of the contracts, invariants, conditions and separate blocks of well-formed systems.
 use Rattle.std.specs.Prelude.{◌≡◌, ℕ, Bool, true, List, Some, Contains, slice_get}
 use Rattle.sc_text.specs.declared.token.Span.{Span}
-use Rattle.sc_tree.specs.Plain.{System, Class, Clause, Head, Name, Expr, Target, Exprs, Instrs, Block}
+use Rattle.std.specs.Option.{option_map}
+use Rattle.sc_tree.specs.Plain.{System, Class, Clause, Declaration, Head, Name, Expr, Target, Exprs, Instrs, Block}
 use Rattle.sc_class.specs.Conformance.{is_expanded}
 use Rattle.sc_proctype.specs.declared.entity_type.EntityType.{EntityType}
 use Rattle.sc_proctype.specs.Conformance.{conforms}
@@ -9,11 +10,12 @@ use Rattle.sc_rules.specs.declared.position.Context.{Context}
 use Rattle.sc_rules.specs.declared.position.Context.TheVariants as context
 use Rattle.sc_rules.specs.declared.position.Spot.{Spot}
 use Rattle.sc_rules.specs.declared.position.Spot.TheVariants.{Plain, Condition, Source}
+use Rattle.sc_rules.specs.declared.position.Role.TheVariants as role
 use Rattle.sc_rules.specs.declared.position.Use.{Use}
-use Rattle.sc_rules.specs.Types.{is_boolean}
-use Rattle.sc_rules.specs.Names.{RoutineName, Here, Entities, of_expanded, Signature, stands, meaning_of}
+use Rattle.sc_rules.specs.Types.{is_boolean, declared_type}
+use Rattle.sc_rules.specs.Names.{RoutineName, Here, Entity, Entities, entity, reserved, is_block, of_expanded, Signature, stands, meaning_of}
 use Rattle.sc_rules.specs.Typing.{Typing, typing, HasType, HasReceiver, Gives}
-use Rattle.sc_rules.specs.Sites.{Site, expression, instruction, Reserves}
+use Rattle.sc_rules.specs.Sites.{Site, expression, instruction, instructions, branches, Reserves}
 use Rattle.sc_rules.specs.Purity.{IsClosed, IsPurity}
 use Rattle.sc_rules.specs.CallRules.{ActualAt}
 use Rattle.sc_rules.specs.TextRules.{separate_any}
@@ -57,3 +59,24 @@ BlocksReserve = WhereWellFormed λ s pure. (h : Here) (n : Entities) (p : Span) 
 -- The pure functions are a closed set, in every system.
 abbrev pub PureIsClosed : Type 0
 PureIsClosed = (s : System) (pure : RoutineName → Bool) → IsPurity s pure → IsClosed s pure
+
+-- ---- numbers of names
+
+-- the entities that are known there
+abbrev pub known_at : Site → Entities
+known_at (expression c k n e) = n
+known_at (instruction n i) = n
+known_at (instructions n is) = n
+known_at (branches n bs) = n
+
+-- The names of separate blocks that are known at one place have different tags.
+abbrev pub BlocksDiffer : Type 0
+BlocksDiffer = (s : System) (pure : RoutineName → Bool) (h : Here) (b : Site) → Stands s pure h b →
+    (i j : ℕ) (d e : Entity) (t u : EntityType) → slice_get (known_at b) i ≡ Some d → slice_get (known_at b) j ≡ Some e →
+    is_block d.role ≡ true → is_block e.role ≡ true → d.type ≡ Some t → e.type ≡ Some u → t.tag ≡ u.tag → i ≡ j
+
+-- Each formal is known wherever its routine's text goes, and its number is its place among the formals.
+abbrev pub FormalsKnown : Type 0
+FormalsKnown = (s : System) (pure : RoutineName → Bool) (h : Here) (b : Site) → Stands s pure h b →
+    (i : ℕ) (d : Declaration) → slice_get h.formals i ≡ Some d →
+    slice_get (known_at b) i ≡ Some (entity d.name.text (option_map (reserved i) (declared_type s h.formals d.declared_type)) role.Formal)

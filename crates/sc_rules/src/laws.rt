@@ -1,5 +1,5 @@
 //! Laws of types, of purity and of well-formed systems, each the contract of a function that does nothing.
-ghost use Rattle.sc_rules.specs.Laws.{DeclaredIfWellFormed, EveryTyped, NamesTyped, NeverBoth, NoneWhereARuleFails, OnePurity, OneType, TypeOrFault, WellFormedOrFault};
+ghost use Rattle.sc_rules.specs.Laws.{DeclaredIfWellFormed, EveryTyped, NamesTyped, NeverBoth, NoneWhereARuleFails, OnePurity, OneType, SomePurity, TypeOrFault, WellFormedOrFault};
 
 /// An expression has one type at most.
 pub fn one_type()
@@ -39,6 +39,11 @@ pub fn never_pure_and_impure()
 /// One test alone tells the pure functions from all others.
 pub fn purity_is_one()
     ensures { OnePurity }
+{}
+
+/// Every system has a test that tells the pure functions from all others.
+pub fn purity_is_known()
+    ensures { SomePurity }
 {}
 
 /// A system is well formed, or a rule fails at some place of it.
