@@ -14,10 +14,10 @@ use Rattle.sc_rules.specs.Typing as typing
 use Rattle.sc_rules.specs.TextRules.{separate_any}
 use Rattle.sc_rules.specs.Judging.{Judged, ◌>>=◌, required, judge}
 use Rattle.sc_rules.specs.JudgingText.{conforms_if_any, judge_heads}
-use Rattle.sc_check.specs.declared.fault.CheckFault.{CheckFault}
-use Rattle.sc_check.specs.Judges.{Faults}
+use Rattle.sc_typing.specs.declared.fault.CheckFault.{CheckFault}
+use Rattle.sc_typing.specs.Judges.{Faults}
 use Rattle.sc_check.specs.Parts.{judge_head}
-use Rattle.sc_check.proofs.Steps.{faults_along, faults_first}
+use Rattle.sc_typing.proofs.Steps.{faults_along, faults_first}
 
 -- a head, then those behind it
 pub first_head : (h : Here) (n m : Entities) (d : Head) (ds : List Head) →

@@ -7,10 +7,10 @@ use Rattle.sc_rules.specs.Purity.{IsPurity}
 use Rattle.sc_rules.specs.SystemRules.{WellFormed}
 use Rattle.sc_rules.specs.JudgingSystem.{judge_system}
 use Rattle.sc_rules.proofs.SystemLaws.{well_formed, ill_formed}
-use Rattle.sc_check.specs.declared.fault.CheckFault.{CheckFault}
-use Rattle.sc_check.specs.declared.fault.CheckFault.TheVariants.{Refused, OutOfMemory}
-use Rattle.sc_check.specs.CheckFaults.{IsTrueOf}
-use Rattle.sc_check.specs.Judges.{Passes}
+use Rattle.sc_typing.specs.declared.fault.CheckFault.{CheckFault}
+use Rattle.sc_typing.specs.declared.fault.CheckFault.TheVariants.{Refused, OutOfMemory}
+use Rattle.sc_check.specs.CheckFaults.{IsTrueOf, IsFirstOf}
+use Rattle.sc_typing.specs.Judges.{Passes}
 
 pub passed : (s : System) (pure : RoutineName → Bool) (r : Result Unit CheckFault) → IsPurity s pure → Passes (judge_system s pure) r → OnOk r (WellFormed s)
 passed s pure (Ok u) i p = well_formed s pure p i
@@ -21,10 +21,19 @@ refused s pure (Ok u) i p = tt
 refused s pure (Err OutOfMemory) i p = tt
 refused s pure (Err (Refused f)) i p = ill_formed s pure f p i
 
+pub first : (s : System) (pure : RoutineName → Bool) (r : Result Unit CheckFault) → IsPurity s pure → Passes (judge_system s pure) r → IfErr r (IsFirstOf s)
+first s pure (Ok u) i p = tt
+first s pure (Err OutOfMemory) i p = tt
+first s pure (Err (Refused f)) i p = record { pure = pure; tells = i; is_met = p }
+
 -- want of memory is true of any system
 pub memory_is_true : (s : System) (e : CheckFault) → e ≡ OutOfMemory → IsTrueOf s e
 memory_is_true s OutOfMemory q = tt
 memory_is_true s (Refused f) q = cc
+
+pub memory_is_first : (s : System) (e : CheckFault) → e ≡ OutOfMemory → IsFirstOf s e
+memory_is_first s OutOfMemory q = tt
+memory_is_first s (Refused f) q = cc
 
 -- a well-formed system is refused for want of memory alone
 pub memory_alone : (s : System) → WellFormed s → (e : CheckFault) → IsTrueOf s e → e ≡ OutOfMemory

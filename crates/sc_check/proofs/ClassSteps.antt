@@ -7,9 +7,9 @@ use Rattle.sc_class.proofs.Anys.{at, drop_end}
 use Rattle.sc_rules.specs.Names.{RoutineName}
 use Rattle.sc_rules.specs.Judging.{Judged, ◌>>=◌}
 use Rattle.sc_rules.specs.JudgingSystem.{judge_class, judge_classes}
-use Rattle.sc_check.specs.declared.fault.CheckFault.{CheckFault}
-use Rattle.sc_check.specs.Judges.{Faults}
-use Rattle.sc_check.proofs.Steps.{faults_along, faults_first}
+use Rattle.sc_typing.specs.declared.fault.CheckFault.{CheckFault}
+use Rattle.sc_typing.specs.Judges.{Faults}
+use Rattle.sc_typing.proofs.Steps.{faults_along, faults_first}
 
 module _ (s : System) (pure : RoutineName → Bool) (cs : List tree.Class) (k : ℕ) (c : tree.Class) (total : Judged (Unit {0}))
     (l : k < length cs) (g : c ≡ get_or cs k c) (inv : total ≡ judge_classes s pure k (map class_of (drop k cs))) where

@@ -16,13 +16,13 @@ use Rattle.sc_rules.specs.SystemRules.{is_formula, clause_span}
 use Rattle.sc_rules.specs.Judging.{Judged, ◌>>=◌, judge_each}
 use Rattle.sc_rules.specs.JudgingText.{judge_clause, judge_instrs}
 use Rattle.sc_rules.specs.JudgingSystem.{judge_declarations, judge_result_type, judge_feature, judge_invariant, formed}
-use Rattle.sc_check.specs.declared.fault.CheckFault.{CheckFault}
-use Rattle.sc_check.specs.declared.names.Entity.{Entity}
-use Rattle.sc_check.specs.Views.{entity_of}
-use Rattle.sc_check.specs.Judges.{Passes, Faults}
+use Rattle.sc_typing.specs.declared.fault.CheckFault.{CheckFault}
+use Rattle.sc_typing.specs.declared.names.Entity.{Entity}
+use Rattle.sc_typing.specs.Views.{entity_of}
+use Rattle.sc_typing.specs.Judges.{Passes, Faults}
 use Rattle.sc_check.specs.Parts.{Forms, judge_text}
 use Rattle.sc_check.proofs.Behind.{had_back}
-use Rattle.sc_check.proofs.Steps.{faults_along, faults_first, passes_along}
+use Rattle.sc_typing.proofs.Steps.{faults_along, faults_first, passes_along}
 
 -- what was known is had back by cutting off what came behind it
 pub had_out : (es fs gs : List Entity) (j : ℕ) (o : Entities) → j ≡ length es → map entity_of fs ≡ map entity_of es ++ o → gs ≡ take j fs →

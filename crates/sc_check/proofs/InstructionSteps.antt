@@ -1,5 +1,5 @@
 -- What follows of judging an instruction from what is ensured of its parts.
-use Rattle.std.proofs.Common.{◌≡◌, ℕ, List, Result, Ok, Err, ◌+◌, ◌<◌, refl, ap, sym, subst, ◌∙◌, length, get_or, drop, take, map}
+use Rattle.std.proofs.Common.{◌≡◌, ℕ, List, Option, Result, Ok, Err, ◌+◌, ◌<◌, refl, ap, sym, subst, ◌∙◌, length, get_or, drop, take, map}
 use Rattle.std.proofs.lemmas.List.{length-map, take-map}
 use Rattle.std.specs.declared.vec.Vec.{Vec}
 use Rattle.std.specs.declared.alloc.Global.{Global}
@@ -9,21 +9,27 @@ use Rattle.sc_tree.specs.declared.instruction.Head.{Head}
 use Rattle.sc_tree.specs.declared.instruction.Instr.{Instr}
 use Rattle.sc_tree.specs.declared.instruction.Instr.TheVariants as instr
 use Rattle.sc_tree.specs.declared.instruction.Branch.{Branch}
+use Rattle.sc_tree.specs.declared.instruction.Clause.{Clause}
+use Rattle.sc_tree.specs.declared.instruction.CreationCall.{CreationCall}
+use Rattle.sc_tree.specs.declared.instruction.Variable.{Variable}
+use Rattle.sc_tree.specs.declared.expression.Call.{Call}
 use Rattle.sc_tree.specs.Plain as plain
-use Rattle.sc_tree.specs.View.{expr_of, head_of, instr_of, instrs_of, branches_of}
-use Rattle.sc_tree.proofs.ViewLemmas.{instr_of-if, instr_of-loop, instr_of-block}
+use Rattle.sc_tree.specs.View.{branches_of, clause_of, creation_call_of, expr_of, exprs_of, head_of, instr_of, instrs_of, name_of, target_of, variable_of}
+use Rattle.sc_tree.proofs.ViewLemmas.{instr_of-assign, instr_of-call, instr_of-create, instr_of-if, instr_of-loop, instr_of-check, instr_of-block}
 use Rattle.sc_class.proofs.Anys.{at}
 use Rattle.sc_rules.specs.declared.position.Context.TheVariants as context
 use Rattle.sc_rules.specs.declared.position.Spot.TheVariants.{Plain, Condition}
-use Rattle.sc_rules.specs.Names.{Here, Entities}
-use Rattle.sc_rules.specs.Judging.{Judged, ◌>>=◌, judge_given}
-use Rattle.sc_rules.specs.JudgingText.{judge_condition, judge_heads, judge_instr, judge_instrs, judge_branches}
-use Rattle.sc_check.specs.declared.fault.CheckFault.{CheckFault}
-use Rattle.sc_check.specs.declared.names.Entity.{Entity}
-use Rattle.sc_check.specs.Views.{entity_of}
-use Rattle.sc_check.specs.Judges.{Faults, Passes}
-use Rattle.sc_check.specs.Parts.{judge_if, judge_loop, judge_part, judge_block}
-use Rattle.sc_check.proofs.Steps.{faults_along, faults_first, passes_along}
+use Rattle.sc_rules.specs.declared.position.Use.TheVariants.{Instruction}
+use Rattle.sc_rules.specs.Names.{Here, Entities, variable_span}
+use Rattle.sc_proctype.specs.declared.entity_type.EntityType.{EntityType}
+use Rattle.sc_rules.specs.Judging.{Judged, ◌>>=◌, found, judge_called, judge_each, judge_given, judge_receiver}
+use Rattle.sc_rules.specs.JudgingText.{judge_clause, judge_condition, judge_creation, judge_variable, judge_heads, judge_instr, judge_instrs, judge_branches}
+use Rattle.sc_typing.specs.declared.fault.CheckFault.{CheckFault}
+use Rattle.sc_typing.specs.declared.names.Entity.{Entity}
+use Rattle.sc_typing.specs.Views.{entity_of}
+use Rattle.sc_typing.specs.Judges.{Faults, Passes}
+use Rattle.sc_check.specs.Parts.{judge_assignment, judge_command, judge_if, judge_loop, judge_part, judge_block}
+use Rattle.sc_typing.proofs.Steps.{faults_along, faults_first, passes_along}
 use Rattle.sc_check.proofs.Behind.{Behind, given, heads_given, had_back}
 
 -- ---- what is had back
@@ -68,6 +74,66 @@ if_is h n e body rest =
     ∙ in_turn (judge_condition h context.Body Condition n e) (λ u. judge_given h context.Body n e >>= λ m. judge_instrs h m body) (λ u. rest)
 
 module _ (h : Here) (n : Entities) (i : Instr) where
+  assign_plain : (s : Span) (v : Variable) (e : Expr) → judge_instr h n (instr_of (instr.Assign s v e)) ≡ judge_assignment h n (variable_of v) (expr_of e)
+  unfolding judge_instr
+  assign_plain s v e = ap (judge_instr h n) (instr_of-assign s v e)
+
+  pub assign_passes : (s : Span) (v : Variable) (e : Expr) (m : Entities) (r : Result Unit CheckFault) → i ≡ instr.Assign s v e → m ≡ n →
+      Passes (judge_assignment h m (variable_of v) (expr_of e)) r → Passes (judge_instr h n (instr_of i)) r
+  assign_passes s v e m r q mq f =
+      passes_along _ (judge_assignment h m (variable_of v) (expr_of e)) r
+      (ap (λ (i : Instr). judge_instr h n (instr_of i)) q ∙ assign_plain s v e ∙ ap (λ m. judge_assignment h m (variable_of v) (expr_of e)) (sym mq)) f
+
+  call_plain : (d : Call) → judge_instr h n (instr_of (instr.Call d)) ≡ judge_command h n (target_of d.target) (name_of d.name) (exprs_of d.actuals.items)
+  unfolding judge_instr
+  call_plain d =
+      ap (judge_instr h n) (instr_of-call d)
+      ∙ in_turn (judge_receiver h context.Body n (target_of d.target))
+      (λ r. judge_called h context.Body n Instruction (target_of d.target) (name_of d.name) (found h context.Body n (exprs_of d.actuals.items)) r) (λ u. Ok tt)
+
+  pub call_passes : (d : Call) (m : Entities) (r : Result Unit CheckFault) → i ≡ instr.Call d → m ≡ n →
+      Passes (judge_command h m (target_of d.target) (name_of d.name) (exprs_of d.actuals.items)) r → Passes (judge_instr h n (instr_of i)) r
+  call_passes d m r q mq f =
+      passes_along _ (judge_command h m (target_of d.target) (name_of d.name) (exprs_of d.actuals.items)) r
+      (ap (λ (i : Instr). judge_instr h n (instr_of i)) q ∙ call_plain d
+      ∙ ap (λ m. judge_command h m (target_of d.target) (name_of d.name) (exprs_of d.actuals.items)) (sym mq)) f
+
+  create_plain : (s : Span) (v : Variable) (k : Option CreationCall) →
+      judge_instr h n (instr_of (instr.Create s v k)) ≡ judge_variable h n (variable_of v) >>= λ t. judge_creation h n (variable_span (variable_of v)) t (creation_call_of k)
+  unfolding judge_instr
+  create_plain s v k = ap (judge_instr h n) (instr_of-create s v k)
+
+  module _ (s : Span) (v : Variable) (k : Option CreationCall) (q : i ≡ instr.Create s v k) (m : Entities) (mq : m ≡ n) where
+    create_same : judge_instr h n (instr_of i) ≡ judge_variable h m (variable_of v) >>= λ t. judge_creation h n (variable_span (variable_of v)) t (creation_call_of k)
+    create_same =
+        ap (λ (i : Instr). judge_instr h n (instr_of i)) q ∙ create_plain s v k
+        ∙ ap (λ m. judge_variable h m (variable_of v) >>= λ t. judge_creation h n (variable_span (variable_of v)) t (creation_call_of k)) (sym mq)
+
+    pub create_fails : (f : CheckFault) → Faults (judge_variable h m (variable_of v)) f → Faults (judge_instr h n (instr_of i)) f
+    create_fails f g =
+        faults_along _ (judge_variable h m (variable_of v) >>= λ t. judge_creation h n (variable_span (variable_of v)) t (creation_call_of k)) f create_same
+        (faults_first (judge_variable h m (variable_of v)) (λ t. judge_creation h n (variable_span (variable_of v)) t (creation_call_of k)) f g)
+
+    pub create_passes : (t : Option EntityType) (p : Span) (o : Entities) (r : Result Unit CheckFault) → judge_variable h m (variable_of v) ≡ Ok t →
+        p ≡ variable_span (variable_of v) → o ≡ n → Passes (judge_creation h o p t (creation_call_of k)) r → Passes (judge_instr h n (instr_of i)) r
+    create_passes t p o r g pq oq f =
+        passes_along _ (judge_creation h o p t (creation_call_of k)) r
+        (create_same ∙ ap (λ j. j >>= λ t. judge_creation h n (variable_span (variable_of v)) t (creation_call_of k)) g
+        ∙ ap (λ o. judge_creation h o (variable_span (variable_of v)) t (creation_call_of k)) (sym oq)
+        ∙ ap (λ p. judge_creation h o p t (creation_call_of k)) (sym pq)) f
+
+  check_plain : (s : Span) (ks : Vec Clause Global) → judge_instr h n (instr_of (instr.Check s ks)) ≡ judge_each (judge_clause h context.Check n) (map clause_of ks.items)
+  unfolding judge_instr
+  check_plain s ks = ap (judge_instr h n) (instr_of-check s ks)
+
+  pub check_passes : (s : Span) (ks : Vec Clause Global) (m : Entities) (cs : List Clause) (r : Result Unit CheckFault) → i ≡ instr.Check s ks → m ≡ n → cs ≡ ks.items →
+      Passes (judge_each (judge_clause h context.Check m) (map clause_of cs)) r → Passes (judge_instr h n (instr_of i)) r
+  check_passes s ks m cs r q mq a f =
+      passes_along _ (judge_each (judge_clause h context.Check m) (map clause_of cs)) r
+      (ap (λ (i : Instr). judge_instr h n (instr_of i)) q ∙ check_plain s ks
+      ∙ ap (λ m. judge_each (judge_clause h context.Check m) (map clause_of ks.items)) (sym mq)
+      ∙ ap (λ (cs : List Clause). judge_each (judge_clause h context.Check m) (map clause_of cs)) (sym a)) f
+
   if_plain : (s : Span) (e : Expr) (body : Vec Instr Global) (bs : Vec Branch Global) (other : Vec Instr Global) →
       judge_instr h n (instr_of (instr.If s e body bs other)) ≡ judge_if h n (expr_of e) (instrs_of body.items) (branches_of bs.items) (instrs_of other.items)
   unfolding judge_instr

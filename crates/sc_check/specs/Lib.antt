@@ -1,11 +1,4 @@
 pub mod CheckFaults
 pub mod CheckedTables
-pub mod Deeds
-pub mod FeatureNumbers
-pub mod Judges
-pub mod Marks
 pub mod Parts
-pub mod Searching
-pub mod Spreading
-pub mod SystemIn
-pub mod Views
+pub use Rattle.sc_typing.specs.SystemIn

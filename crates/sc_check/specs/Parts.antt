@@ -14,8 +14,8 @@ use Rattle.sc_rules.specs.Names.{RoutineName, Here, Entities, Entity, entity, bl
 use Rattle.sc_rules.specs.Typing.{typing}
 use Rattle.sc_rules.specs.Judging.{Judged, ◌>>=◌, required, judge_each, found, judge, judge_given, judge_meant}
 use Rattle.sc_rules.specs.JudgingSystem.{judge_declarations, judge_feature, formed}
-use Rattle.sc_check.specs.declared.fault.CheckFault.{CheckFault}
-use Rattle.sc_check.specs.Judges.{Passes, judge_call}
+use Rattle.sc_typing.specs.declared.fault.CheckFault.{CheckFault}
+use Rattle.sc_typing.specs.Judges.{Passes, judge_call}
 use Rattle.sc_rules.specs.JudgingText.{conforms_if_any, creation_meaning, is_made_by_if_any, judge_condition, judge_clause, judge_variable, judge_heads, judge_instrs, judge_branches}
 
 -- an assignment

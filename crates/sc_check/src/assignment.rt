@@ -3,22 +3,17 @@
 ghost use Rattle.std.specs.Prelude.{◌≡◌, map};
 ghost use Rattle.sc_tree.specs.View.{expr_of, variable_of};
 ghost use Rattle.sc_rules.specs.JudgingText as judging_text;
-ghost use Rattle.sc_check.specs.Views.{assigned_in, here_in, entity_of};
-ghost use Rattle.sc_check.specs.SystemIn.{system_in};
-ghost use Rattle.sc_check.specs.Judges.{Judges, Passes};
+ghost use Rattle.sc_typing.specs.Views.{assigned_in, here_in, entity_of};
+ghost use Rattle.sc_typing.specs.SystemIn.{system_in};
+ghost use Rattle.sc_typing.specs.Judges.{Judges, Passes};
 ghost use Rattle.sc_check.specs.Parts as parts;
 
-use crate::assigned::Assigned;
-use crate::fault::{CheckFault, refusal, required};
-use crate::here::Here;
-use crate::names::Entity;
-use crate::positions::span_of;
-use crate::typing::judge_result;
 use sc_class::Tables;
 use sc_proctype::{EntityType, conforms};
 use sc_rules::{Context, Rule, Spot};
 use sc_text::Span;
 use sc_tree::{Expr, Variable};
+use sc_typing::{Assigned, CheckFault, Entity, Here, judge_result, refusal, required, span_of};
 
 /// Whether what has a type conforms.
 pub fn conforms_if_any(tables: &Tables, actual: Option<EntityType>, to: Option<EntityType>) -> bool
@@ -45,33 +40,31 @@ fn judge_assigned(span: Span, assigned: Assigned) -> Result<Option<EntityType>, 
     }
 }
 
-impl<'t, 's> Here<'t, 's> {
-    /// The type of what is assigned or created.
-    pub fn judge_variable(
-        self,
-        names: &[Entity<'s>],
-        variable: &Variable,
-    ) -> Result<Option<EntityType>, CheckFault>
-        ensures { Judges (λ t. t) (judging_text.judge_variable (here_in self.entry) (map entity_of names.now) (variable_of variable.now)) result }
-    {
-        match variable {
-            Variable::Named(name) => judge_assigned(name.span, self.assigned(names, variable)),
-            Variable::Result(span) => judge_result(*span, self.result),
-        }
+/// The type of what is assigned or created.
+pub fn judge_variable<'s>(
+    here: &Here<'_, 's>,
+    names: &[Entity<'s>],
+    variable: &Variable,
+) -> Result<Option<EntityType>, CheckFault>
+    ensures { Judges (λ t. t) (judging_text.judge_variable (here_in here.now) (map entity_of names.now) (variable_of variable.now)) result }
+{
+    match variable {
+        Variable::Named(name) => judge_assigned(name.span, here.assigned(names, variable)),
+        Variable::Result(span) => judge_result(*span, here.result),
     }
+}
 
-    /// Judges an assignment: its left side, then its right side.
-    pub fn judge_assignment(
-        self,
-        names: &[Entity<'s>],
-        variable: &Variable,
-        value: &Expr,
-    ) -> Result<(), CheckFault>
-        ensures { Passes (parts.judge_assignment (here_in self.entry) (map entity_of names.now) (variable_of variable.now) (expr_of value.now)) result }
-    {
-        let assigned = self.judge_variable(names, variable)?;
-        let actual = self.expression(Context::Body, Spot::Source, names, value)?;
-        let conforms = conforms_if_any(self.tables, actual.entity_type, assigned);
-        required(conforms, Rule::AssignType, span_of(value))
-    }
+/// Judges an assignment: its left side, then its right side.
+pub fn judge_assignment<'s>(
+    here: &Here<'_, 's>,
+    names: &[Entity<'s>],
+    variable: &Variable,
+    value: &Expr,
+) -> Result<(), CheckFault>
+    ensures { Passes (parts.judge_assignment (here_in here.now) (map entity_of names.now) (variable_of variable.now) (expr_of value.now)) result }
+{
+    let assigned = judge_variable(here, names, variable)?;
+    let actual = here.expression(Context::Body, Spot::Source, names, value)?;
+    let conforms = conforms_if_any(here.tables, actual.entity_type, assigned);
+    required(conforms, Rule::AssignType, span_of(value))
 }

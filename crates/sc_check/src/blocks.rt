@@ -4,19 +4,16 @@ ghost use Rattle.std.specs.Prelude.{◌≡◌, map};
 ghost use Rattle.sc_tree.specs.View.{head_of};
 ghost use Rattle.sc_rules.specs.TextRules as text;
 ghost use Rattle.sc_rules.specs.JudgingText as judging_text;
-ghost use Rattle.sc_check.specs.Views.{here_in, entity_of};
-ghost use Rattle.sc_check.specs.Judges.{Judges, Knows};
+ghost use Rattle.sc_typing.specs.Views.{here_in, entity_of};
+ghost use Rattle.sc_typing.specs.Judges.{Judges, Knows};
 ghost use Rattle.sc_check.specs.Parts as parts;
 
 use crate::assignment::conforms_if_any;
-use crate::fault::{CheckFault, required};
-use crate::here::Here;
-use crate::names::{Entity, block_type, blocks};
-use crate::positions::span_of;
 use sc_class::ClassId;
 use sc_proctype::{EntityType, Tag};
 use sc_rules::{Context, Role, Rule, Spot};
 use sc_tree::Head;
+use sc_typing::{CheckFault, Entity, Here, block_type, blocks, required, span_of};
 
 /// The type that the head of a separate block has.
 fn separate_any() -> EntityType
@@ -29,40 +26,38 @@ fn separate_any() -> EntityType
     }
 }
 
-impl<'t, 's> Here<'t, 's> {
-    /// Judges a head of a block, where so many names of blocks are known in its body, and gives the name that it has there.
-    #[tactic(auto, unfolding(sc_tree::specs::View::head_of))]
-    fn judge_head(
-        self,
-        names: &[Entity<'s>],
-        number: usize,
-        head: &'s Head,
-    ) -> Result<Entity<'s>, CheckFault>
-        ensures { Judges entity_of (parts.judge_head (here_in self.entry) (map entity_of names.now) number (head_of head.now)) result }
-    {
-        let value = self.expression(Context::Body, Spot::Plain, names, &head.value)?;
-        let conforms = conforms_if_any(self.tables, value.entity_type, Some(separate_any()));
-        required(conforms, Rule::ArgumentType, span_of(&head.value))?;
-        Ok(Entity {
-            name: head.name.text.as_str(),
-            entity_type: block_type(number, value.entity_type),
-            role: Role::Block,
-        })
-    }
+/// Judges a head of a block, where so many names of blocks are known in its body, and gives the name that it has there.
+#[tactic(auto, unfolding(sc_tree::specs::View::head_of))]
+fn judge_head<'s>(
+    here: &Here<'_, 's>,
+    names: &[Entity<'s>],
+    number: usize,
+    head: &'s Head,
+) -> Result<Entity<'s>, CheckFault>
+    ensures { Judges entity_of (parts.judge_head (here_in here.now) (map entity_of names.now) number (head_of head.now)) result }
+{
+    let value = here.expression(Context::Body, Spot::Plain, names, &head.value)?;
+    let conforms = conforms_if_any(here.tables, value.entity_type, Some(separate_any()));
+    required(conforms, Rule::ArgumentType, span_of(&head.value))?;
+    Ok(Entity {
+        name: head.name.text.as_str(),
+        entity_type: block_type(number, value.entity_type),
+        role: Role::Block,
+    })
+}
 
-    /// Judges the heads of a block, each where its own names aren't known, and makes these names known.
-    pub fn judge_heads(
-        self,
-        names: &mut Vec<Entity<'s>>,
-        heads: &'s [Head],
-    ) -> Result<(), CheckFault>
-        ensures { Knows (judging_text.judge_heads (here_in self.entry) (map entity_of names.old.items) (map entity_of names.old.items) (map head_of heads.now)) result (map entity_of names.new.items) }
-    {
-        let known = names.len();
-        for head in heads {
-            let entity = self.judge_head(&names[..known], blocks(names), head)?;
-            names.push(entity)?;
-        }
-        Ok(())
+/// Judges the heads of a block, each where its own names aren't known, and makes these names known.
+pub fn judge_heads<'s>(
+    here: &Here<'_, 's>,
+    names: &mut Vec<Entity<'s>>,
+    heads: &'s [Head],
+) -> Result<(), CheckFault>
+    ensures { Knows (judging_text.judge_heads (here_in here.now) (map entity_of names.old.items) (map entity_of names.old.items) (map head_of heads.now)) result (map entity_of names.new.items) }
+{
+    let known = names.len();
+    for head in heads {
+        let entity = judge_head(here, &names[..known], blocks(names), head)?;
+        names.push(entity)?;
     }
+    Ok(())
 }

@@ -6,17 +6,13 @@ ghost use Rattle.sc_rules.specs.Judging as judging;
 ghost use Rattle.sc_rules.specs.JudgingText as judging_text;
 ghost use Rattle.sc_rules.specs.declared.position.Context.TheVariants.{Body};
 ghost use Rattle.sc_rules.specs.declared.position.Spot.TheVariants.{Condition, Plain};
-ghost use Rattle.sc_check.specs.Views.{here_in, entity_of};
-ghost use Rattle.sc_check.specs.Judges.{Passes};
+ghost use Rattle.sc_typing.specs.Views.{here_in, entity_of};
+ghost use Rattle.sc_typing.specs.Judges.{Passes};
 
-use crate::fault::{CheckFault, required};
-use crate::here::Here;
-use crate::names::Entity;
-use crate::operators::is_boolean;
-use crate::positions::span_of;
 use sc_proctype::EntityType;
 use sc_rules::{Context, Rule, Spot};
 use sc_tree::{Clause, Expr};
+use sc_typing::{CheckFault, Entity, Here, is_boolean, required, span_of};
 
 fn is_boolean_if_any(condition: Option<EntityType>) -> bool
     ensures { result ≡ judging_text.is_boolean_if_any condition }
@@ -27,60 +23,58 @@ fn is_boolean_if_any(condition: Option<EntityType>) -> bool
     }
 }
 
-impl<'t, 's> Here<'t, 's> {
-    /// Judges a condition that gives no names.
-    pub fn judge_condition(
-        self,
-        context: Context,
-        names: &[Entity<'s>],
-        e: &Expr,
-    ) -> Result<(), CheckFault>
-        ensures { Passes (judging_text.judge_condition (here_in self.entry) context Plain (map entity_of names.now) (expr_of e.now)) result }
-    {
-        let condition = self.expression(context, Spot::Plain, names, e)?;
-        let is_boolean = is_boolean_if_any(condition.entity_type);
-        required(is_boolean, Rule::NotBoolean, span_of(e))
-    }
+/// Judges a condition that gives no names.
+pub fn judge_condition<'s>(
+    here: &Here<'_, 's>,
+    context: Context,
+    names: &[Entity<'s>],
+    e: &Expr,
+) -> Result<(), CheckFault>
+    ensures { Passes (judging_text.judge_condition (here_in here.now) context Plain (map entity_of names.now) (expr_of e.now)) result }
+{
+    let condition = here.expression(context, Spot::Plain, names, e)?;
+    let is_boolean = is_boolean_if_any(condition.entity_type);
+    required(is_boolean, Rule::NotBoolean, span_of(e))
+}
 
-    /// Judges the condition of an `if`, and makes the names known that it gives.
-    pub fn judge_if_condition(
-        self,
-        names: &mut Vec<Entity<'s>>,
-        e: &'s Expr,
-    ) -> Result<(), CheckFault>
-        ensures judged { Passes (judging_text.judge_condition (here_in self.entry) Body Condition (map entity_of names.old.items) (expr_of e.now)) result }
-        ensures given { OnOk result (judging.judge_given (here_in self.entry) Body (map entity_of names.old.items) (expr_of e.now) ≡ Ok (map entity_of names.new.items)) }
-    {
-        let condition = self.condition(Context::Body, names, e)?;
-        let is_boolean = is_boolean_if_any(condition.entity_type);
-        required(is_boolean, Rule::NotBoolean, span_of(e))
-    }
+/// Judges the condition of an `if`, and makes the names known that it gives.
+pub fn judge_if_condition<'s>(
+    here: &Here<'_, 's>,
+    names: &mut Vec<Entity<'s>>,
+    e: &'s Expr,
+) -> Result<(), CheckFault>
+    ensures judged { Passes (judging_text.judge_condition (here_in here.now) Body Condition (map entity_of names.old.items) (expr_of e.now)) result }
+    ensures given { OnOk result (judging.judge_given (here_in here.now) Body (map entity_of names.old.items) (expr_of e.now) ≡ Ok (map entity_of names.new.items)) }
+{
+    let condition = here.condition(Context::Body, names, e)?;
+    let is_boolean = is_boolean_if_any(condition.entity_type);
+    required(is_boolean, Rule::NotBoolean, span_of(e))
+}
 
-    /// Judges a clause.
-    #[tactic(auto, unfolding(sc_tree::specs::View::clause_of))]
-    pub fn judge_clause(
-        self,
-        context: Context,
-        names: &[Entity<'s>],
-        clause: &Clause,
-    ) -> Result<(), CheckFault>
-        ensures { Passes (judging_text.judge_clause (here_in self.entry) context (map entity_of names.now) (clause_of clause.now)) result }
-    {
-        self.judge_condition(context, names, &clause.condition)
-    }
+/// Judges a clause.
+#[tactic(auto, unfolding(sc_tree::specs::View::clause_of))]
+pub fn judge_clause<'s>(
+    here: &Here<'_, 's>,
+    context: Context,
+    names: &[Entity<'s>],
+    clause: &Clause,
+) -> Result<(), CheckFault>
+    ensures { Passes (judging_text.judge_clause (here_in here.now) context (map entity_of names.now) (clause_of clause.now)) result }
+{
+    judge_condition(here, context, names, &clause.condition)
+}
 
-    /// Judges clauses, one after the other.
-    pub fn judge_clauses(
-        self,
-        context: Context,
-        names: &[Entity<'s>],
-        clauses: &[Clause],
-    ) -> Result<(), CheckFault>
-        ensures { Passes (judging.judge_each (judging_text.judge_clause (here_in self.entry) context (map entity_of names.now)) (map clause_of clauses.now)) result }
-    {
-        for clause in clauses {
-            self.judge_clause(context, names, clause)?;
-        }
-        Ok(())
+/// Judges clauses, one after the other.
+pub fn judge_clauses<'s>(
+    here: &Here<'_, 's>,
+    context: Context,
+    names: &[Entity<'s>],
+    clauses: &[Clause],
+) -> Result<(), CheckFault>
+    ensures { Passes (judging.judge_each (judging_text.judge_clause (here_in here.now) context (map entity_of names.now)) (map clause_of clauses.now)) result }
+{
+    for clause in clauses {
+        judge_clause(here, context, names, clause)?;
     }
+    Ok(())
 }

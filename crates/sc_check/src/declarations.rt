@@ -1,32 +1,28 @@
 // Features and classes: the first rule that fails (ECMA-367, 8.5, 8.8 and 8.20).
 
-ghost use Rattle.std.specs.Prelude.{◌≡◌, [], map};
-ghost use Rattle.std.specs.Option.{option_map};
+ghost use Rattle.std.specs.Prelude.{◌≡◌, map};
 ghost use Rattle.sc_tree.specs.declared.system.FeatureKind.TheVariants as kind;
 ghost use Rattle.sc_tree.specs.View.{clause_of, class_of, declaration_of, feature_of, instrs_of, kind_of, name_of, type_if_any};
-ghost use Rattle.sc_rules.specs.Types as types;
 ghost use Rattle.sc_rules.specs.Names as spec;
 ghost use Rattle.sc_rules.specs.SystemRules as rules;
 ghost use Rattle.sc_rules.specs.Judging as judging;
 ghost use Rattle.sc_rules.specs.JudgingSystem as judging_system;
-ghost use Rattle.sc_check.specs.Marks.{is_marked};
-ghost use Rattle.sc_check.specs.Views.{here_in};
-ghost use Rattle.sc_check.specs.SystemIn.{system_in};
-ghost use Rattle.sc_check.specs.Judges.{Passes};
+ghost use Rattle.sc_typing.specs.Marks.{is_marked};
+ghost use Rattle.sc_typing.specs.Views.{here_in};
+ghost use Rattle.sc_typing.specs.SystemIn.{system_in};
+ghost use Rattle.sc_typing.specs.Judges.{Passes};
 ghost use Rattle.sc_check.specs.Parts as parts;
 
-use crate::expressions::judge_type;
-use crate::fault::{CheckFault, refusal, required};
+use crate::conditions::{judge_clause, judge_clauses};
 use crate::formulas::{clause_span, formed, is_formula};
-use crate::here::Here;
-use crate::names::{add_formals, add_locals};
-use crate::purity::Purity;
-use crate::types::declared_type;
+use crate::instructions::judge_instructions;
 use sc_class::{ClassId, Tables};
-use sc_proctype::EntityType;
 use sc_rules::{Context, Rule};
 use sc_tree::{
     Class, Clause, Declaration, DeclaredType, Feature, FeatureKind, Instr, Name, Routine,
+};
+use sc_typing::{
+    CheckFault, Here, Purity, add_formals, add_locals, judge_type, refusal, required, result_type,
 };
 use std::alloc::Global;
 
@@ -61,15 +57,6 @@ fn judge_result_type(tables: &Tables, declared: &Option<DeclaredType>) -> Result
     }
 }
 
-fn result_of(tables: &Tables, declared: &Option<DeclaredType>) -> Option<Option<EntityType>>
-    ensures { result ≡ option_map (types.declared_type (system_in tables.now) []) (type_if_any declared.now) }
-{
-    match declared {
-        None => None,
-        Some(declared) => Some(declared_type(tables, &[], declared)),
-    }
-}
-
 #[tactic(auto, unfolding(sc_tree::specs::View::kind_of))]
 fn is_query(kind: &FeatureKind) -> bool
     ensures { result ≡ rules.is_query (kind_of kind.now) }
@@ -83,53 +70,52 @@ fn is_query(kind: &FeatureKind) -> bool
     }
 }
 
-impl<'t, 's> Here<'t, 's> {
-    /// Judges the text of a routine behind its types: precondition, locals, body and postcondition.
-    fn judge_text(
-        self,
-        precondition: &[Clause],
-        locals: &'s [Declaration],
-        body: &'s [Instr],
-        postcondition: &[Clause],
-    ) -> Result<(), CheckFault>
-        ensures { Passes (parts.judge_text (here_in self.entry) (map clause_of precondition.now) (map declaration_of locals.now) (instrs_of body.now) (map clause_of postcondition.now)) result }
-    {
-        let mut names = Vec::new(self.alloc);
-        add_formals(self.tables, self.formals, &mut names)?;
-        self.judge_clauses(Context::Require, &names, precondition)?;
-        judge_declarations(self.tables, self.formals, locals)?;
-        let known = names.len();
-        add_locals(self.tables, self.formals, locals, &mut names)?;
-        self.judge_instructions(&mut names, body)?;
-        names.truncate(known);
-        self.judge_clauses(Context::Ensure, &names, postcondition)
-    }
+/// Judges the text of a routine behind its types: precondition, locals, body and postcondition.
+fn judge_text<'s>(
+    here: &Here<'_, 's>,
+    precondition: &[Clause],
+    locals: &'s [Declaration],
+    body: &'s [Instr],
+    postcondition: &[Clause],
+) -> Result<(), CheckFault>
+    ensures { Passes (parts.judge_text (here_in here.now) (map clause_of precondition.now) (map declaration_of locals.now) (instrs_of body.now) (map clause_of postcondition.now)) result }
+{
+    let mut names = Vec::new(here.alloc);
+    add_formals(here.tables, here.formals, &mut names)?;
+    judge_clauses(here, Context::Require, &names, precondition)?;
+    judge_declarations(here.tables, here.formals, locals)?;
+    let known = names.len();
+    add_locals(here.tables, here.formals, locals, &mut names)?;
+    judge_instructions(here, &mut names, body)?;
+    names.truncate(known);
+    judge_clauses(here, Context::Ensure, &names, postcondition)
 }
 
 impl<'t, 's> ClassText<'t, 's> {
     /// A routine of the class with these formals and this result type.
-    fn here(self, formals: &'s [Declaration], declared: &Option<DeclaredType>) -> Here<'t, 's>
-        ensures { here_in result ≡ spec.here_of (system_in self.entry.tables.now) (is_marked self.entry.purity.now) self.entry.class (map declaration_of formals.now) (type_if_any declared.now) }
+    fn here(&self, formals: &'s [Declaration], declared: &Option<DeclaredType>) -> Here<'t, 's>
+        ensures { here_in result ≡ spec.here_of (system_in self.now.tables.now) (is_marked self.now.purity.now) self.now.class (map declaration_of formals.now) (type_if_any declared.now) }
     {
         Here {
             alloc: self.alloc,
             tables: self.tables,
             class: self.class,
             formals,
-            result: result_of(self.tables, declared),
+            result: result_type(self.tables, declared),
             purity: self.purity,
         }
     }
 
     /// Judges a routine: its types, precondition, locals, body and postcondition.
     #[tactic(auto, unfolding(sc_tree::specs::View::kind_of))]
-    fn judge_routine(self, routine: &'s Routine) -> Result<(), CheckFault>
-        ensures { Passes (judging_system.judge_feature (system_in self.entry.tables.now) (is_marked self.entry.purity.now) self.entry.class (kind_of (kind.Routine routine.now))) result }
+    fn judge_routine(&self, routine: &'s Routine) -> Result<(), CheckFault>
+        ensures { Passes (judging_system.judge_feature (system_in self.now.tables.now) (is_marked self.now.purity.now) self.now.class (kind_of (kind.Routine routine.now))) result }
     {
         judge_declarations(self.tables, &routine.formals, &routine.formals)?;
         judge_result_type(self.tables, &routine.result_type)?;
         let here = self.here(&routine.formals, &routine.result_type);
-        here.judge_text(
+        judge_text(
+            &here,
             &routine.precondition,
             &routine.locals,
             &routine.body,
@@ -139,8 +125,8 @@ impl<'t, 's> ClassText<'t, 's> {
 
     /// Judges a feature.
     #[tactic(auto, unfolding(sc_tree::specs::View::kind_of))]
-    fn judge_feature(self, kind: &'s FeatureKind) -> Result<(), CheckFault>
-        ensures { Passes (judging_system.judge_feature (system_in self.entry.tables.now) (is_marked self.entry.purity.now) self.entry.class (kind_of kind.now)) result }
+    fn judge_feature(&self, kind: &'s FeatureKind) -> Result<(), CheckFault>
+        ensures { Passes (judging_system.judge_feature (system_in self.now.tables.now) (is_marked self.now.purity.now) self.now.class (kind_of kind.now)) result }
     {
         match kind {
             FeatureKind::Attribute(declared) => judge_type(self.tables, &[], declared),
@@ -150,19 +136,19 @@ impl<'t, 's> ClassText<'t, 's> {
 
     /// Judges a clause of the invariant.
     #[tactic(auto, unfolding(sc_tree::specs::View::clause_of))]
-    fn judge_invariant(self, clause: &Clause) -> Result<(), CheckFault>
-        ensures { Passes (judging_system.judge_invariant (system_in self.entry.tables.now) (is_marked self.entry.purity.now) self.entry.class (clause_of clause.now)) result }
+    fn judge_invariant(&self, clause: &Clause) -> Result<(), CheckFault>
+        ensures { Passes (judging_system.judge_invariant (system_in self.now.tables.now) (is_marked self.now.purity.now) self.now.class (clause_of clause.now)) result }
     {
         let is_formula = is_formula(self.tables, self.class, &clause.condition);
         let here = self.here(&[], &None);
-        let judged = here.judge_clause(Context::Invariant, &[], clause);
+        let judged = judge_clause(&here, Context::Invariant, &[], clause);
         formed(is_formula, clause_span(clause), judged)
     }
 
     /// Judges a name that the class lists under `create`.
     #[tactic(auto, unfolding(sc_tree::specs::View::feature_of))]
-    fn judge_creator(self, name: &Name) -> Result<(), CheckFault>
-        ensures { Passes (judging_system.judge_creator (system_in self.entry.tables.now) self.entry.class (name_of name.now)) result }
+    fn judge_creator(&self, name: &Name) -> Result<(), CheckFault>
+        ensures { Passes (judging_system.judge_creator (system_in self.now.tables.now) self.now.class (name_of name.now)) result }
     {
         match self
             .tables
@@ -173,8 +159,8 @@ impl<'t, 's> ClassText<'t, 's> {
         }
     }
 
-    fn judge_creators(self, names: &[Name]) -> Result<(), CheckFault>
-        ensures { Passes (judging.judge_each (judging_system.judge_creator (system_in self.entry.tables.now) self.entry.class) (map name_of names.now)) result }
+    fn judge_creators(&self, names: &[Name]) -> Result<(), CheckFault>
+        ensures { Passes (judging.judge_each (judging_system.judge_creator (system_in self.now.tables.now) self.now.class) (map name_of names.now)) result }
     {
         for name in names {
             self.judge_creator(name)?;
@@ -183,8 +169,8 @@ impl<'t, 's> ClassText<'t, 's> {
     }
 
     #[tactic(auto, unfolding(sc_tree::specs::View::feature_of))]
-    fn judge_features(self, features: &'s [Feature]) -> Result<(), CheckFault>
-        ensures { Passes (judging.judge_each (parts.judge_declared (system_in self.entry.tables.now) (is_marked self.entry.purity.now) self.entry.class) (map feature_of features.now)) result }
+    fn judge_features(&self, features: &'s [Feature]) -> Result<(), CheckFault>
+        ensures { Passes (judging.judge_each (parts.judge_declared (system_in self.now.tables.now) (is_marked self.now.purity.now) self.now.class) (map feature_of features.now)) result }
     {
         for feature in features {
             self.judge_feature(&feature.kind)?;
@@ -192,8 +178,8 @@ impl<'t, 's> ClassText<'t, 's> {
         Ok(())
     }
 
-    fn judge_invariants(self, clauses: &[Clause]) -> Result<(), CheckFault>
-        ensures { Passes (judging.judge_each (judging_system.judge_invariant (system_in self.entry.tables.now) (is_marked self.entry.purity.now) self.entry.class) (map clause_of clauses.now)) result }
+    fn judge_invariants(&self, clauses: &[Clause]) -> Result<(), CheckFault>
+        ensures { Passes (judging.judge_each (judging_system.judge_invariant (system_in self.now.tables.now) (is_marked self.now.purity.now) self.now.class) (map clause_of clauses.now)) result }
     {
         for clause in clauses {
             self.judge_invariant(clause)?;
@@ -203,8 +189,8 @@ impl<'t, 's> ClassText<'t, 's> {
 
     /// Judges the text of the class: its `create` list, its features, then its invariant.
     #[tactic(auto, unfolding(sc_tree::specs::View::class_of))]
-    pub fn judge_class(self, text: &'s Class) -> Result<(), CheckFault>
-        ensures { Passes (judging_system.judge_class (system_in self.entry.tables.now) (is_marked self.entry.purity.now) self.entry.class (class_of text.now)) result }
+    pub fn judge_class(&self, text: &'s Class) -> Result<(), CheckFault>
+        ensures { Passes (judging_system.judge_class (system_in self.now.tables.now) (is_marked self.now.purity.now) self.now.class (class_of text.now)) result }
     {
         self.judge_creators(&text.creators)?;
         self.judge_features(&text.features)?;

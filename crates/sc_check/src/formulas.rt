@@ -5,18 +5,18 @@ ghost use Rattle.sc_tree.specs.Plain as plain;
 ghost use Rattle.sc_tree.specs.View.{expr_of, exprs_of, kind_of, name_of, tag_of, target_of};
 ghost use Rattle.sc_rules.specs.SystemRules as rules;
 ghost use Rattle.sc_rules.specs.JudgingSystem as judging_system;
-ghost use Rattle.sc_check.specs.Views.{entry_if_any};
-ghost use Rattle.sc_check.specs.SystemIn.{system_in};
+ghost use Rattle.sc_typing.specs.Views.{entry_if_any};
+ghost use Rattle.sc_typing.specs.SystemIn.{system_in};
 ghost use Rattle.sc_check.specs.Parts as parts;
 
-use crate::fault::{CheckFault, refusal, required};
-use crate::positions::{is_equality, is_old, span_of};
-use crate::types::{declared_type, is_expanded};
 use sc_class::{ClassId, FeatureEntry, Tables};
 use sc_proctype::EntityType;
 use sc_rules::Rule;
 use sc_text::Span;
 use sc_tree::{Call, Clause, Expr, FeatureKind};
+use sc_typing::{
+    CheckFault, declared_type, is_equality, is_expanded, is_old, refusal, required, span_of,
+};
 
 #[tactic(auto, unfolding(sc_tree::specs::View::kind_of))]
 fn attribute_type_of(tables: &Tables, kind: &FeatureKind) -> Option<EntityType>

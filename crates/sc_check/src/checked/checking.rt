@@ -3,18 +3,18 @@
 ghost use Rattle.std.specs.Prelude.{◌≡◌, IfErr, IfOk, OnOk};
 ghost use Rattle.sc_rules.specs.JudgingSystem as judging_system;
 ghost use Rattle.sc_rules.specs.SystemRules.{WellFormed};
-ghost use Rattle.sc_check.specs.CheckFaults.{IsTrueOf};
+ghost use Rattle.sc_check.specs.CheckFaults.{IsFirstOf, IsTrueOf};
 ghost use Rattle.sc_check.specs.CheckedTables.{tables_of};
-ghost use Rattle.sc_check.specs.Judges.{Passes};
-ghost use Rattle.sc_check.specs.Marks.{is_marked};
-ghost use Rattle.sc_check.specs.SystemIn.{system_in};
-ghost use Rattle.sc_check.specs.declared.fault.CheckFault.TheVariants.{OutOfMemory};
+ghost use Rattle.sc_typing.specs.Judges.{Passes};
+ghost use Rattle.sc_typing.specs.Marks.{is_marked};
+ghost use Rattle.sc_typing.specs.SystemIn.{system_in};
+ghost use Rattle.sc_typing.specs.declared.fault.CheckFault.TheVariants.{OutOfMemory};
 
 use crate::checked::Checked;
 use crate::declarations::ClassText;
-use crate::fault::CheckFault;
-use crate::purity::Purity;
 use sc_class::Tables;
+use sc_purity::pure_functions;
+use sc_typing::{CheckFault, Purity};
 use std::alloc::Global;
 
 /// The text of each class, in the order of the source.
@@ -42,8 +42,9 @@ fn judge_classes<'t, 's>(
 fn judge_system(alloc: Global, tables: &Tables) -> Result<(), CheckFault>
     ensures accepted { OnOk result (WellFormed (system_in tables.now)) }
     ensures refused { IfErr result (IsTrueOf (system_in tables.now)) }
+    ensures first { IfErr result (IsFirstOf (system_in tables.now)) }
 {
-    let purity = Purity::of(alloc, tables)?;
+    let purity = pure_functions(alloc, tables)?;
     judge_classes(alloc, tables, &purity)
 }
 
@@ -58,6 +59,7 @@ pub fn check<'s>(alloc: Global, tables: Tables<'s>) -> Result<Checked<'s>, Check
     ensures accepted { OnOk result (WellFormed (system_in tables.entry)) }
     ensures of_it { IfOk result (λ checked. tables_of checked ≡ tables.entry) }
     ensures refused { IfErr result (IsTrueOf (system_in tables.entry)) }
+    ensures first { IfErr result (IsFirstOf (system_in tables.entry)) }
     ensures complete { WellFormed (system_in tables.entry) → IfErr result (λ fault. fault ≡ OutOfMemory) }
 {
     judge_system(alloc, &tables)?;

@@ -3,7 +3,7 @@ use Rattle.sc_tree.specs.declared.expression.Expr.{Expr}
 use Rattle.sc_tree.specs.View.{expr_of}
 use Rattle.sc_tree.proofs.ViewLemmas.{expr_of-call}
 use Rattle.sc_rules.specs.SystemRules.{is_formula}
-use Rattle.sc_check.specs.SystemIn.{system_in}
+use Rattle.sc_typing.specs.SystemIn.{system_in}
 use Rattle.sc_check.proofs.formulas.+is_formula.Goals as goal
 
 pub returns-in-Call : goal.returns-in-Call

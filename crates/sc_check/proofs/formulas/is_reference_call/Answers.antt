@@ -1,6 +1,6 @@
 use Rattle.std.proofs.Common.{sym}
 use Rattle.sc_tree.specs.View.{name_of, target_of}
-use Rattle.sc_check.specs.SystemIn.{system_in}
+use Rattle.sc_typing.specs.SystemIn.{system_in}
 use Rattle.sc_check.proofs.FormulaSteps.{no_reference_attribute}
 use Rattle.sc_check.proofs.formulas.is_reference_call.Goals as goal
 

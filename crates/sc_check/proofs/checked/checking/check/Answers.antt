@@ -1,5 +1,5 @@
 use Rattle.std.proofs.lemmas.Result.{err_from_is_err_and}
-use Rattle.sc_check.specs.SystemIn.{system_in}
+use Rattle.sc_typing.specs.SystemIn.{system_in}
 use Rattle.sc_check.proofs.Checking.{memory_alone}
 use Rattle.sc_check.proofs.checked.checking.check.Goals as goal
 
@@ -7,6 +7,11 @@ pub returns-in_err-judge_system-clause-refused : goal.returns-in_err-judge_syste
 returns-in_err-judge_system-clause-refused c =
     let q = err_from_is_err_and c.from_residual.result c.from_residual.ensures.1 in
     rw (q.1, q.2) c.in_err-judge_system.ensures.refused
+
+pub returns-in_err-judge_system-clause-first : goal.returns-in_err-judge_system-clause-first
+returns-in_err-judge_system-clause-first c =
+    let q = err_from_is_err_and c.from_residual.result c.from_residual.ensures.1 in
+    rw (q.1, q.2) c.in_err-judge_system.ensures.first
 
 -- a well-formed system isn't refused
 pub returns-in_err-judge_system-clause-complete : goal.returns-in_err-judge_system-clause-complete

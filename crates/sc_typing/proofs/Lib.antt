@@ -1,0 +1,8 @@
+pub mod Passing
+pub mod Steps
+pub mod FeatureLemmas
+pub mod FeatureNumbers
+pub mod Undeclared
+pub mod CallSteps
+pub mod Numbers
+pub mod ExpressionSteps

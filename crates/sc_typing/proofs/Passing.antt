@@ -1,0 +1,45 @@
+-- Actuals and formals, read by number.
+use Rattle.std.proofs.Common.{◌≡◌, ℕ, zero, suc, true, List, [], ◌∷◌, drop, map, Option, Some, None, refl, ap, ◌∙◌}
+use Rattle.std.specs.Prelude.{is_some, slice_get}
+use Rattle.std.specs.Option.{option_map, option_map_or}
+use Rattle.std.specs.Borrow.{Bor}
+use Rattle.std.proofs.lemmas.Option.{slice_get-map}
+use Rattle.sc_tree.specs.declared.declaration.Declaration.{Declaration}
+use Rattle.sc_tree.specs.Plain as plain
+use Rattle.sc_tree.specs.View.{declaration_of, type_of}
+use Rattle.sc_proctype.specs.declared.entity_type.EntityType.{EntityType}
+use Rattle.sc_rules.specs.Types.{declared_type}
+use Rattle.sc_rules.specs.Names.{FormalType, formal_type}
+use Rattle.sc_rules.specs.Typing.{has_type, takes_if_any}
+use Rattle.sc_rules.specs.Judging as judging
+use Rattle.sc_rules.specs.Judging.{type_found, is_taken}
+use Rattle.sc_typing.specs.declared.here.Formals.{Formals}
+use Rattle.sc_typing.specs.declared.here.Formals.TheVariants.{Declared}
+use Rattle.sc_typing.specs.declared.typing.Found.{Found}
+use Rattle.sc_typing.specs.Views.{formals_in, judged_in, found_in, types_in}
+
+-- the type of the actual at a number
+pub type_at : (fs : List Found) (i : ℕ) (f : Found) → slice_get fs i ≡ Some f → slice_get (types_in fs) i ≡ Some (type_found (judged_in f.judged))
+type_at fs i f e =
+    slice_get-map (λ (r : judging.Found). type_found r.1) (map found_in fs) i
+    ∙ ap (option_map (λ (r : judging.Found). type_found r.1)) (slice_get-map found_in fs i ∙ ap (option_map found_in) e)
+
+pub has_type-some : (t : Option EntityType) → is_some t ≡ has_type (Some t)
+has_type-some None = refl
+has_type-some (Some t) = refl
+
+-- the formal at a number
+pub formal_is : (s : plain.System) (fs : Formals) (ds : Bor (List Declaration)) (i : ℕ) (d : Declaration) → fs ≡ Declared ds → slice_get ds.now i ≡ Some d →
+    slice_get (formals_in s fs) i ≡ Some (formal_type (declared_type s (map declaration_of ds.now) (type_of d.declared_type)))
+formal_is s fs ds i d e g =
+    ap (λ fs. slice_get (formals_in s fs) i) e
+    ∙ slice_get-map (λ (d : plain.Declaration). formal_type (declared_type s (map declaration_of ds.now) d.declared_type)) (map declaration_of ds.now) i
+    ∙ ap (option_map (λ (d : plain.Declaration). formal_type (declared_type s (map declaration_of ds.now) d.declared_type))) (slice_get-map declaration_of ds.now i ∙ ap (option_map declaration_of) g)
+
+-- an actual is taken by the formal at its number, if there is one
+pub taken_at : (s : plain.System) (t : EntityType) (ts : List (Option EntityType)) (fs : List FormalType) (i : ℕ) (a : Option EntityType) →
+    is_taken s t ts (drop i fs) a ≡ option_map_or (λ f. takes_if_any s t ts f a) (slice_get fs i) true
+taken_at s t ts [] zero a = refl
+taken_at s t ts [] (suc i) a = refl
+taken_at s t ts (f ∷ fs) zero a = refl
+taken_at s t ts (f ∷ fs) (suc i) a = taken_at s t ts fs i a

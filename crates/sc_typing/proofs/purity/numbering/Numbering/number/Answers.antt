@@ -1,0 +1,11 @@
+use Rattle.std.proofs.Common.{ap}
+use Rattle.std.specs.Option.{option_map}
+use Rattle.sc_class.specs.Entries.{entry_of}
+use Rattle.sc_typing.specs.SystemIn.{system_in}
+use Rattle.sc_typing.proofs.Undeclared.{undeclared}
+use Rattle.sc_typing.proofs.purity.numbering.Numbering.number.Goals as goal
+
+pub returns-in-None : goal.returns-in-None
+returns-in-None c =
+    undeclared (system_in c.args.self.now.tables.now) (record { class = c.args.class; name = c.args.name.now }) (option_map entry_of c.declared.result)
+    c.declared.ensures (ap (option_map entry_of) c.in-None.is)

@@ -1,0 +1,9 @@
+use Rattle.std.proofs.Common.{◌≡◌, map, drop, ◌++◌}
+use Rattle.sc_class.specs.Entries.{entry_of}
+use Rattle.sc_class.specs.Features.{declared_in}
+use Rattle.sc_tree.specs.View.{feature_of}
+use Rattle.sc_typing.proofs.purity.numbering.add_features.Given as goal
+
+abbrev pub invariant-loop-feature : goal.invariant-loop-feature
+invariant-loop-feature l =
+    map entry_of l.features.items ++ map (declared_in l.class) (map feature_of (drop l.feature-index l.declared)) ≡ map entry_of l.initial.features.items ++ map (declared_in l.class) (map feature_of l.declared)

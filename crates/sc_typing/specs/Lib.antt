@@ -1,0 +1,5 @@
+pub mod FeatureNumbers
+pub mod Judges
+pub mod Marks
+pub mod SystemIn
+pub mod Views
