@@ -1,0 +1,12 @@
+pub mod World
+pub mod Steps
+pub mod Consistent
+pub mod Provided
+pub mod Served
+pub mod Chains
+pub mod Returns
+pub mod Lawful
+pub mod Laws
+pub mod Stands
+pub mod Headline
+pub mod Formals
