@@ -17,23 +17,29 @@ use Rattle.sc_class.specs.declared.fault.ClassFault.TheVariants as classes
 use Rattle.sc_class.specs.ClassNames.{Root}
 use Rattle.sc_class.specs.ClassRules.{Fails, IsFaultless, duplicate_class, unknown_parent, cycle, duplicate_feature, bad_redefinition, no_root, limit, left_out}
 use Rattle.sc_rules.specs.SystemRules.{SystemFails}
-use Rattle.sc_check.specs.declared.fault.CheckFault.{CheckFault}
-use Rattle.sc_check.specs.declared.fault.CheckFault.TheVariants as checking
+use Rattle.sc_typing.specs.declared.fault.CheckFault.{CheckFault}
+use Rattle.sc_typing.specs.declared.fault.CheckFault.TheVariants as checking
 use Rattle.sc_check.specs.CheckFaults.{IsTrueOf}
 use Rattle.sc_serve.specs.declared.refusal.Rejection.{Rejection}
 use Rattle.sc_serve.specs.declared.refusal.Rejection.TheVariants as rejection
 use Rattle.sc_serve.specs.Refusal.{of_tokens, of_classes, of_system}
-use Rattle.sc_serve.specs.Execution.{kinds, IsSpelled, IsSound, IsAtFault, IsRefusedFor, IsNotRunFor, IsUnreadable}
+use Rattle.sc_parse.specs.Places.{IsPlaced}
+use Rattle.sc_serve.specs.Execution.{kinds, IsSpelled, IsRead, IsSound, IsAtFault, IsRefusedFor, IsNotRunFor, IsUnreadable}
 
 -- the kinds of tokens, with their places or without
 pub kinds-lexemes_of : (ts : List Token) → kinds (lexemes_of ts) ≡ kinds_of ts
 kinds-lexemes_of [] = refl
 kinds-lexemes_of (t ∷ ts) = ap (λ ks. (lexeme_of t).kind ∷ ks) (kinds-lexemes_of ts)
 
--- tokens of a text that spell a tree: the text spells it
-pub tree-spelled : (text : List ℕ) (ts : List Token) (tree : System) (nesting : ℕ) → Spells text (lexemes_of ts) →
-    (1048576 < length text → ⊥) → nesting ≤ 64 → IsSystem tree (kinds_of ts) nesting → IsSpelled text tree
-tree-spelled text ts tree nesting spelled short shallow grammar =
+-- a text that spells a system where its tokens stand spells its tree
+pub read-spelled : (text : List ℕ) (s : System) → IsRead text s → IsSpelled text (bare_system s)
+read-spelled text s is =
+    record { tokens = is.tokens; nesting = is.nesting; spelled = is.spelled; short = is.short; shallow = is.shallow; grammar = is.grammar }
+
+-- tokens of a text that spell a system, and where it stands: the text spells it
+pub system-read : (text : List ℕ) (ts : List Token) (s : System) (nesting : ℕ) → Spells text (lexemes_of ts) →
+    (1048576 < length text → ⊥) → nesting ≤ 64 → IsSystem (bare_system s) (kinds_of ts) nesting → IsPlaced s (lexemes_of ts) → IsRead text s
+system-read text ts s nesting spelled short shallow grammar placed =
     record {
       tokens = lexemes_of ts;
       nesting = nesting;
@@ -41,6 +47,7 @@ tree-spelled text ts tree nesting spelled short shallow grammar =
       short = omega (arith, short);
       shallow = shallow;
       grammar = rw (kinds-lexemes_of ts) grammar;
+      placed = placed;
     }
 
 -- tokens of a text that are refused
@@ -58,17 +65,17 @@ unreadable-refused text root (rejection.Text fault) is = is
 unreadable-refused text root (rejection.Grammar fault) is = is
 unreadable-refused text root (rejection.Classes fault) is = absurd is
 unreadable-refused text root (rejection.Rules fault) is = absurd is
-unreadable-refused text root rejection.NotYet is = absurd is
+unreadable-refused text root (rejection.NotYet unrun) is = absurd is
 unreadable-refused text root rejection.OutOfMemory is = is
 
 -- what is at fault in the system that it spells is a refusal of the text
-pub fault-refused : (text : List ℕ) (root : Root) (s : System) → IsSpelled text (bare_system s) → (e : Rejection) → IsAtFault s root e →
+pub fault-refused : (text : List ℕ) (root : Root) (s : System) → IsRead text s → (e : Rejection) → IsAtFault s root e →
     IsRefusedFor text root e
 fault-refused text root s is (rejection.Text fault) at = absurd at
 fault-refused text root s is (rejection.Grammar fault) at = absurd at
-fault-refused text root s is (rejection.Classes fault) at = record { system = s; spelled = is; fault = at }
-fault-refused text root s is (rejection.Rules fault) at = record { system = s; spelled = is; fault = at }
-fault-refused text root s is rejection.NotYet at = absurd at
+fault-refused text root s is (rejection.Classes fault) at = record { system = s; read = is; fault = at }
+fault-refused text root s is (rejection.Rules fault) at = record { system = s; read = is; fault = at }
+fault-refused text root s is (rejection.NotYet unrun) at = absurd at
 fault-refused text root s is rejection.OutOfMemory at = tt
 
 -- what is refused isn't run
@@ -77,7 +84,7 @@ refused-not_run text root (rejection.Text fault) is = is
 refused-not_run text root (rejection.Grammar fault) is = is
 refused-not_run text root (rejection.Classes fault) is = is
 refused-not_run text root (rejection.Rules fault) is = is
-refused-not_run text root rejection.NotYet is = absurd is
+refused-not_run text root (rejection.NotYet unrun) is = absurd is
 refused-not_run text root rejection.OutOfMemory is = is
 
 -- in a sound system nothing is at fault
@@ -86,7 +93,7 @@ sound-in_memory s root sound (rejection.Text fault) at = absurd at
 sound-in_memory s root sound (rejection.Grammar fault) at = absurd at
 sound-in_memory s root sound (rejection.Classes fault) at = absurd (sound.faultless fault at)
 sound-in_memory s root sound (rejection.Rules fault) at = absurd (sound.well_formed fault.rule fault.span at.fails)
-sound-in_memory s root sound rejection.NotYet at = absurd at
+sound-in_memory s root sound (rejection.NotYet unrun) at = absurd at
 sound-in_memory s root sound rejection.OutOfMemory at = refl
 
 -- a rule that fails in a system of tables, which is this one, as a rejection

@@ -8,6 +8,7 @@ use Rattle.sc_tree.specs.Bare.{bare_system}
 use Rattle.sc_tree.specs.Grammar.Classes.{IsSystem}
 use Rattle.sc_tree.specs.Canonical.{canonical_text}
 use Rattle.sc_parse.specs.Parses.{Refuses}
+use Rattle.sc_parse.specs.Places.{IsPlaced}
 use Rattle.sc_parse.specs.declared.fault.ParseFault.{ParseFault}
 use Rattle.sc_text.specs.declared.token.Span.{Span}
 use Rattle.sc_class.specs.ClassNames.{Root}
@@ -37,6 +38,16 @@ pub record IsSpelled (text : List ℕ) (tree : System) : Type 0 where
   pub shallow : nesting ≤ 64
   pub grammar : IsSystem tree (kinds tokens) nesting
 
+-- The text spells tokens that spell the system, and each part of it stands where its tokens do.
+pub record IsRead (text : List ℕ) (system : System) : Type 0 where
+  pub tokens : List Lexeme
+  pub nesting : ℕ
+  pub spelled : Spells text tokens
+  pub short : length text ≤ 1048576
+  pub shallow : nesting ≤ 64
+  pub grammar : IsSystem (bare_system system) (kinds tokens) nesting
+  pub placed : IsPlaced system tokens
+
 -- No class fault is in the system, which is run from this root, and no rule fails in it.
 pub record IsSound (system : System) (root : Root) : Type 0 where
   pub faultless : IsFaultless system root
@@ -50,20 +61,20 @@ pub record IsRunnable (system : System) (root : Root) : Type 0 where
 -- The text spells a system that is sound.
 pub record IsAccepted (text : List ℕ) (root : Root) : Type 0 where
   pub system : System
-  pub spelled : IsSpelled text (bare_system system)
+  pub read : IsRead text system
   pub sound : IsSound system root
 
--- The text spells a tree that is sound, wherever its parts stand.
+-- The text spells a tree, and with its places it is sound.
 pub record MustBeAccepted (text : List ℕ) (root : Root) : Type 0 where
   pub tree : System
   pub spelled : IsSpelled text tree
-  pub sound : (system : System) → bare_system system ≡ tree → IsSound system root
+  pub sound : (system : System) → IsRead text system → IsSound system root
 
 -- The same, and it uses only what is run.
 pub record MustBeRun (text : List ℕ) (root : Root) : Type 0 where
   pub tree : System
   pub spelled : IsSpelled text tree
-  pub runnable : (system : System) → bare_system system ≡ tree → IsRunnable system root
+  pub runnable : (system : System) → IsRead text system → IsRunnable system root
 
 -- ---- refusals
 
@@ -79,7 +90,7 @@ IsUnreadable text (rejection.Text fault) = IsRefused text fault
 IsUnreadable text (rejection.Grammar fault) = IsNoSystem text fault
 IsUnreadable text (rejection.Classes fault) = ⊥
 IsUnreadable text (rejection.Rules fault) = ⊥
-IsUnreadable text rejection.NotYet = ⊥
+IsUnreadable text (rejection.NotYet unrun) = ⊥
 IsUnreadable text rejection.OutOfMemory = Unit {0}
 
 -- The system has no class fault, and the rule fails in it at the place.
@@ -92,14 +103,14 @@ abbrev pub IsAtFault : System → Root → Rejection → Type 0
 IsAtFault system root (rejection.Classes fault) = class_rules.Fails system root fault
 IsAtFault system root (rejection.Rules fault) = HasFailing system root fault.rule fault.span
 IsAtFault system root rejection.OutOfMemory = Unit {0}
-IsAtFault system root rejection.NotYet = ⊥
+IsAtFault system root (rejection.NotYet unrun) = ⊥
 IsAtFault system root (rejection.Text fault) = ⊥
 IsAtFault system root (rejection.Grammar fault) = ⊥
 
 -- The text spells a system in which this is at fault.
 pub record HasFault (text : List ℕ) (root : Root) (why : Rejection) : Type 0 where
   pub system : System
-  pub spelled : IsSpelled text (bare_system system)
+  pub read : IsRead text system
   pub fault : IsAtFault system root why
 
 -- A refusal is true of the text.
@@ -109,12 +120,12 @@ IsRefusedFor text root (rejection.Grammar fault) = IsNoSystem text fault
 IsRefusedFor text root (rejection.Classes fault) = HasFault text root (rejection.Classes fault)
 IsRefusedFor text root (rejection.Rules fault) = HasFault text root (rejection.Rules fault)
 IsRefusedFor text root rejection.OutOfMemory = Unit {0}
-IsRefusedFor text root rejection.NotYet = ⊥
+IsRefusedFor text root (rejection.NotYet unrun) = ⊥
 
 -- The text spells a system that is sound, and uses what isn't run yet.
 pub record IsNotYet (text : List ℕ) (root : Root) : Type 0 where
   pub system : System
-  pub spelled : IsSpelled text (bare_system system)
+  pub read : IsRead text system
   pub sound : IsSound system root
   pub not_yet : is_not_yet system ≡ true
 
@@ -124,7 +135,7 @@ IsNotRunFor text root (rejection.Text fault) = IsRefused text fault
 IsNotRunFor text root (rejection.Grammar fault) = IsNoSystem text fault
 IsNotRunFor text root (rejection.Classes fault) = HasFault text root (rejection.Classes fault)
 IsNotRunFor text root (rejection.Rules fault) = HasFault text root (rejection.Rules fault)
-IsNotRunFor text root rejection.NotYet = IsNotYet text root
+IsNotRunFor text root (rejection.NotYet unrun) = IsNotYet text root
 IsNotRunFor text root rejection.OutOfMemory = Unit {0}
 
 -- ---- runs
@@ -149,7 +160,7 @@ pub record IsRun (system : System) (root : lookup.Root) (limit : ℕ) (text : Li
 -- The text spells a system that is sound and uses only what is run, and the report and the status are those of its run.
 pub record IsRunOf (text : List ℕ) (root : Root) (limit : ℕ) (output : List ℕ) (status : Option Status) : Type 0 where
   pub system : System
-  pub spelled : IsSpelled text (bare_system system)
+  pub read : IsRead text system
   pub runnable : IsRunnable system root
   pub is_run : IsRun system (run_root root) limit output status
 

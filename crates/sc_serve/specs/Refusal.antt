@@ -8,8 +8,8 @@ use Rattle.sc_class.specs.declared.fault.ClassFault.{ClassFault}
 use Rattle.sc_class.specs.declared.fault.ClassFault.TheVariants as classes
 use Rattle.sc_rules.specs.declared.fault.Fault.{Fault}
 use Rattle.sc_rules.specs.RuleText.{code_of, name_of}
-use Rattle.sc_check.specs.declared.fault.CheckFault.{CheckFault}
-use Rattle.sc_check.specs.declared.fault.CheckFault.TheVariants as checking
+use Rattle.sc_typing.specs.declared.fault.CheckFault.{CheckFault}
+use Rattle.sc_typing.specs.declared.fault.CheckFault.TheVariants as checking
 use Rattle.sc_serve.specs.declared.refusal.Refusal.{Refusal}
 use Rattle.sc_serve.specs.declared.refusal.Rejection.{Rejection}
 use Rattle.sc_serve.specs.declared.refusal.Rejection.TheVariants as rejection
@@ -70,7 +70,7 @@ told (rejection.Text fault) = told_of_text fault
 told (rejection.Grammar fault) = told_of_tokens fault
 told (rejection.Classes fault) = told_of_classes fault
 told (rejection.Rules fault) = Some (told_of_system fault)
-told rejection.NotYet = None
+told (rejection.NotYet unrun) = None
 told rejection.OutOfMemory = None
 
 -- ---- what is made of faults

@@ -9,11 +9,12 @@ ghost use Rattle.sc_class.specs.ClassRules.{IsFaultless};
 ghost use Rattle.sc_class.specs.Entries.{root_of};
 ghost use Rattle.sc_check.specs.SystemIn.{system_in};
 ghost use Rattle.sc_check.specs.CheckedTables.{tables_of};
-ghost use Rattle.sc_serve.specs.Execution.{IsAccepted, IsAtFault, IsNotRunFor, IsPrinted, IsRefusedFor, IsRun, IsRunOf, IsSound, IsSpelled, IsUnreadable, MustBeAccepted, MustBeRun, run_root};
+ghost use Rattle.sc_serve.specs.Execution.{IsAccepted, IsAtFault, IsNotRunFor, IsPrinted, IsRead, IsRefusedFor, IsRun, IsRunOf, IsSound, IsSpelled, IsUnreadable, MustBeAccepted, MustBeRun, run_root};
 
 use crate::not_yet::not_yet;
 use crate::refusal::Rejection;
 use crate::root::start_of;
+use crate::unrun::first_unrun;
 use sc_check::{Checked, check};
 use sc_class::{Root, tables};
 use sc_parse::parse;
@@ -50,7 +51,7 @@ pub fn run_text(alloc: Global, text: &str, root: &Root, turns: u32) -> Result<Ou
     let system = read(alloc, text)?;
     let checked = judge(alloc, &system, root)?;
     if not_yet(checked.tables()) {
-        return Err(Rejection::NotYet);
+        return Err(Rejection::NotYet(first_unrun(checked.tables())));
     }
     Ok(play(alloc, &system, root, turns)?)
 }
@@ -68,7 +69,7 @@ pub fn print_text(alloc: Global, text: &str) -> Result<Vec<u8>, Rejection>
 
 /// The system of a source text.
 fn read(alloc: Global, text: &str) -> Result<System, Rejection>
-    ensures spelled { IfOk result (λ system. IsSpelled text.now (bare_system (system_of system))) }
+    ensures read { IfOk result (λ system. IsRead text.now (system_of system)) }
     ensures refused { IfErr result (IsUnreadable text.now) }
     ensures found { (tree : plain.System) → IsSpelled text.now tree
         → MatchResult result (λ system. bare_system (system_of system) ≡ tree) (λ e. e ≡ Rejection.OutOfMemory) }

@@ -1,6 +1,6 @@
 // Files by name.
 
-use std::io::{self, Read, Write};
+use std::io::{self, Input, Read, Write};
 use std::{fs, rt};
 
 /// Files that are opened by name.
@@ -19,7 +19,8 @@ pub trait Files {
     fn writer(&self, name: &str) -> io::Result<Self::Writer>;
 }
 
-/// The files of the system that the program runs on.
+/// The files of the system that the program runs on. Of the name `-` what is read is standard input; a file of that name
+/// is `./-`.
 #[derive(Drop)]
 pub struct SystemFiles<'r, R> {
     rt: &'r R,
@@ -31,17 +32,36 @@ impl<'r, R: rt::Files> SystemFiles<'r, R> {
     }
 }
 
-impl<'r, R: rt::Files> Files for SystemFiles<'r, R> {
-    type Reader = R::File;
+impl<'r, R: rt::Files + Input> Files for SystemFiles<'r, R> {
+    type Reader = SystemReader<R::File, R::Reader>;
 
     type Writer = R::File;
 
-    fn reader(&self, name: &str) -> io::Result<R::File> {
-        fs::open(self.rt, name)
+    fn reader(&self, name: &str) -> io::Result<SystemReader<R::File, R::Reader>> {
+        if name == "-" {
+            return Ok(SystemReader::Input(self.rt.reader()));
+        }
+        Ok(SystemReader::File(fs::open(self.rt, name)?))
     }
 
     fn writer(&self, name: &str) -> io::Result<R::File> {
         fs::create(self.rt, name)
+    }
+}
+
+/// A reader of a file or of standard input.
+#[derive(Drop)]
+pub enum SystemReader<F, I> {
+    File(F),
+    Input(I),
+}
+
+impl<F: Read, I: Read> Read for SystemReader<F, I> {
+    fn read(&mut self, buf: &mut [u8]) -> io::Result<usize> {
+        match self {
+            SystemReader::File(file) => file.read(buf),
+            SystemReader::Input(input) => input.read(buf),
+        }
     }
 }
 

@@ -9,6 +9,7 @@
 //! [`files`] has what a file is opened by.
 #![tactic(auto)]
 
+mod excerpt;
 pub mod execution;
 pub mod files;
 mod join;
@@ -18,6 +19,7 @@ pub mod refusal;
 mod root;
 pub mod serve;
 pub mod source;
+pub mod unrun;
 mod words;
 
 pub use join::{SourceFault, join_sources};

@@ -67,7 +67,7 @@ fn is_known_kind(tables: &Tables, kind: &FeatureKind) -> bool
 }
 
 /// Whether the type is INTEGER or BOOLEAN.
-fn is_known_type(tables: &Tables, declared: &DeclaredType) -> bool
+pub fn is_known_type(tables: &Tables, declared: &DeclaredType) -> bool
     ensures { result ≡ known.is_known_type (system_of tables.now.outline.hierarchy.system.now) (type_of declared.now) }
 {
     is_of_values(tables.class_named(&declared.class.text))
@@ -115,7 +115,7 @@ fn is_print(name: &str) -> bool
 }
 
 /// What the call prints: the only actual of `print`.
-fn printed(call: &Call) -> Option<&Expr>
+pub fn printed(call: &Call) -> Option<&Expr>
     ensures { let actuals = exprs_of call.now.actuals.items in
         option_map expr_of (option_copied result) ≡ known.printed (target_of call.now.target) (name_of call.now.name) actuals }
 {

@@ -6,6 +6,7 @@ ghost use Rattle.sc_serve.specs.Source.{place_of};
 ghost use Rattle.sc_serve.specs.Refusal as spec;
 
 use crate::source::{Place, Source};
+use crate::unrun::Unrun;
 use sc_check::CheckFault;
 use sc_class::ClassFault;
 use sc_parse::ParseFault;
@@ -24,8 +25,8 @@ pub enum Rejection {
     Classes(ClassFault),
     /// A rule fails in its system.
     Rules(Fault),
-    /// Its system is sound, and uses what isn't run yet.
-    NotYet,
+    /// Its system is sound, and uses what isn't run yet: this first, where it is found.
+    NotYet(Option<Unrun>),
     OutOfMemory,
 }
 
@@ -71,7 +72,7 @@ impl Rejection {
             Rejection::Grammar(fault) => grammar_refusal(*fault),
             Rejection::Classes(fault) => class_refusal(*fault),
             Rejection::Rules(fault) => Some(rules_refusal(*fault)),
-            Rejection::NotYet | Rejection::OutOfMemory => None,
+            Rejection::NotYet(_) | Rejection::OutOfMemory => None,
         }
     }
 }

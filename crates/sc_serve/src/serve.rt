@@ -2,14 +2,16 @@
 
 ghost use Rattle.std.specs.Prelude.{◌≡◌, IfOk};
 ghost use Rattle.sc_serve.specs.Answer as spec;
-ghost use Rattle.sc_serve.specs.Answer.{IsAnswerTo};
+ghost use Rattle.sc_serve.specs.Answer.{IsAnswerTo, IsRefusalOf};
 
+use crate::excerpt::excerpt;
 use crate::execution::{check_text, print_text, run_text};
 use crate::files::{Files, NamedFile};
 use crate::reading::FileFault;
 use crate::refusal::Rejection;
 use crate::source::{JoinFault, Source};
 use crate::words::{Command, Invocation, UsageFault, read_words};
+use sc_explain::{find, list};
 use sc_text::LexFault;
 use sc_world::Status;
 use std::alloc::{AllocError, Global};
@@ -33,25 +35,42 @@ pub enum Exit {
     Done = 0,
 }
 
-/// What the program writes on standard output, and what it ends with.
+/// What the program writes on standard output, what it ends with, and what it adds on standard error.
 #[derive(Drop)]
 struct Answer {
     text: Vec<u8>,
     exit: Exit,
+    note: Vec<u8>,
+}
+
+impl Answer {
+    /// With nothing added.
+    fn new(alloc: Global, text: Vec<u8>, exit: Exit) -> Self
+        ensures text { result.text ≡ text }
+        ensures exit { result.exit ≡ exit }
+    {
+        Answer {
+            text,
+            exit,
+            note: Vec::new(alloc),
+        }
+    }
 }
 
 /// Why the program ends without an answer.
 #[derive(Drop)]
 pub enum Fault<'a> {
     Usage(UsageFault),
-    /// A file that can't be opened or read, or isn't UTF-8.
-    CannotRead(&'a str),
+    /// A word that is no code and no code's name.
+    NoCode(&'a str),
+    /// A file that can't be opened or read, or isn't UTF-8, and what is wrong with it.
+    CannotRead(&'a str, FileFault),
     /// Standard output is closed or full.
     CannotWrite,
     /// A word of the command line that isn't UTF-8.
     NotText,
-    /// A system that uses what isn't run yet.
-    NotYet,
+    /// A system that uses what isn't run yet, and the line that says what it is and where it stands.
+    NotYet(String),
     OutOfMemory,
 }
 
@@ -75,9 +94,16 @@ pub fn serve<R: AllocGlobal, S: AsStr, F: Files, O: Write, E: Write>(
         Err(fault) => return end_with(&fault, err),
     };
     match write_out(answer.text.as_slice(), out) {
-        Ok(()) => answer.exit as u8,
-        Err(error) if error.kind() == ErrorKind::OutOfMemory => end_with(&Fault::OutOfMemory, err),
-        Err(_) => end_with(&Fault::CannotWrite, err),
+        Ok(()) => {}
+        Err(error) if error.kind() == ErrorKind::OutOfMemory => {
+            return end_with(&Fault::OutOfMemory, err);
+        }
+        Err(_) => return end_with(&Fault::CannotWrite, err),
+    }
+    // That `err` failed is told as in `end_with`.
+    match write_out(answer.note.as_slice(), err) {
+        Err(error) if error.kind() == ErrorKind::OutOfMemory => Exit::OutOfMemory as u8,
+        _ => answer.exit as u8,
     }
 }
 
@@ -102,16 +128,35 @@ fn say<E: Write>(fault: &Fault<'_>, err: &mut E) -> io::Result<()> {
         Fault::Usage(UsageFault::Words(error)) => write!(err, "{error}"),
         Fault::Usage(UsageFault::NoCommand) => writeln!(err, "no command"),
         Fault::Usage(UsageFault::BadRoot) => writeln!(err, "bad root"),
-        Fault::CannotRead(name) => writeln!(err, "cannot read {name}"),
+        Fault::NoCode(word) => writeln!(err, "no code {word}\n`scoop explain` lists the codes"),
+        Fault::CannotRead(name, fault) => {
+            writeln!(err, "cannot read {name}")?;
+            say_reason(fault, err)
+        }
         Fault::CannotWrite => writeln!(err, "cannot write standard output"),
         Fault::NotText => writeln!(err, "a word of the command line isn't UTF-8"),
-        Fault::NotYet => writeln!(err, "not yet"),
+        Fault::NotYet(line) => write!(err, "not yet\n{line}"),
         Fault::Usage(UsageFault::OutOfMemory) | Fault::OutOfMemory => writeln!(
             err,
             "out of memory"
         ),
     }?;
     err.flush()
+}
+
+/// Says on a line what is wrong with a file.
+fn say_reason<E: Write>(fault: &FileFault, err: &mut E) -> io::Result<()> {
+    match fault {
+        FileFault::Unreadable(error) => match error.kind() {
+            ErrorKind::NotFound => writeln!(err, "there is no such file"),
+            ErrorKind::IsADirectory => writeln!(err, "it is a folder"),
+            ErrorKind::PermissionDenied => writeln!(err, "there is no right to read it"),
+            _ => writeln!(err, "{error}"),
+        },
+        FileFault::NotUtf8 { offset } => writeln!(err, "it isn't UTF-8 at offset {offset}"),
+        FileFault::TooLong => writeln!(err, "it is too long"),
+        FileFault::OutOfMemory => writeln!(err, "out of memory"),
+    }
 }
 
 fn respond<'a, S: AsStr, F: Files>(
@@ -123,22 +168,75 @@ fn respond<'a, S: AsStr, F: Files>(
         Ok(invocation) => invocation,
         Err(UsageFault::Words(error)) if !error.use_stderr() => {
             let text = error.to_string(alloc)?.into_bytes();
-            return Ok(Answer {
-                text,
-                exit: Exit::Done,
-            });
+            return Ok(Answer::new(alloc, text, Exit::Done));
         }
         Err(fault) => return Err(Fault::Usage(fault)),
     };
-    let names = invocation.files.as_slice();
+    match invocation {
+        Invocation::OnFiles(command, names) => {
+            answer_on_files(alloc, &command, files, names.as_slice())
+        }
+        Invocation::Explain(None) => {
+            Ok(Answer::new(alloc, list(alloc)?.into_bytes(), Exit::Done))
+        }
+        Invocation::Explain(Some(word)) => match find(word) {
+            Some(page) => {
+                let text = Vec::from_slice(alloc, page.as_bytes())?;
+                Ok(Answer::new(alloc, text, Exit::Done))
+            }
+            None => Err(Fault::NoCode(word)),
+        },
+    }
+}
+
+/// Does with the system of the named files what is asked for.
+fn answer_on_files<'a, F: Files>(
+    alloc: Global,
+    command: &Command,
+    files: &F,
+    names: &[&'a str],
+) -> Result<Answer, Fault<'a>> {
     let source = match read_source(alloc, files, names) {
         Ok(source) => source,
-        Err(fault) => return answer_unread(alloc, names, &fault),
+        Err(fault) => return answer_unread(alloc, names, fault),
     };
-    match examine(alloc, &invocation.command, source.text()) {
-        Ok(answer) => Ok(answer),
-        Err(rejection) => answer_rejected(alloc, &source, &rejection),
+    let rejection = match examine(alloc, command, source.text()) {
+        Ok(answer) => return Ok(answer),
+        Err(rejection) => rejection,
+    };
+    let mut answer = answer_rejected(alloc, &source, &rejection)?;
+    if is_explained(command) {
+        answer.note = explanation(alloc, &source, &rejection)?;
     }
+    Ok(answer)
+}
+
+/// Whether a refusal is to be shown in its line of the text too.
+fn is_explained(command: &Command) -> bool {
+    match command {
+        Command::Check(options) => options.is_explained,
+        Command::Run(options) => options.is_explained,
+        Command::Print => false,
+    }
+}
+
+/// The line of the source text in which something is refused, with a caret, and where more is said of it.
+fn explanation(
+    alloc: Global,
+    source: &Source,
+    rejection: &Rejection,
+) -> Result<Vec<u8>, AllocError> {
+    let Some(refusal) = rejection.refusal() else {
+        return Ok(Vec::new(alloc));
+    };
+    let mut lines = match refusal.offset {
+        Some(offset) => excerpt(alloc, source.text().as_bytes(), offset)?,
+        None => Vec::new(alloc),
+    };
+    let code = refusal.code;
+    let more = format!(in alloc; "`scoop explain {code}` says more\n")?;
+    lines.extend_from_slice(more.as_bytes())?;
+    Ok(lines)
 }
 
 /// The source text of the named files. They are opened and read in order, up to the first that is at fault.
@@ -154,17 +252,18 @@ fn read_source<F: Files>(alloc: Global, files: &F, names: &[&str]) -> Result<Sou
 fn answer_unread<'a>(
     alloc: Global,
     names: &[&'a str],
-    fault: &JoinFault,
+    unread: JoinFault,
 ) -> Result<Answer, Fault<'a>> {
-    match fault.fault {
+    let JoinFault { file, fault } = unread;
+    match fault {
         FileFault::TooLong => {
             let rejection = Rejection::Text(LexFault::SourceTooLong);
             answer_rejected(alloc, &Source::new(alloc), &rejection)
         }
         FileFault::OutOfMemory => Err(Fault::OutOfMemory),
         FileFault::Unreadable(_) | FileFault::NotUtf8 { offset: _ } => {
-            let name = names.get(fault.file).copied().unwrap_or("");
-            Err(Fault::CannotRead(name))
+            let name = names.get(file).copied().unwrap_or("");
+            Err(Fault::CannotRead(name, fault))
         }
     }
 }
@@ -174,14 +273,19 @@ fn answer_rejected<'a>(
     alloc: Global,
     source: &Source,
     rejection: &Rejection,
-) -> Result<Answer, Fault<'a>> {
+) -> Result<Answer, Fault<'a>>
+    ensures { IfOk result (λ answer. IsRefusalOf source.now rejection.now answer.text.items answer.exit) }
+{
     match rejection.refusal() {
-        Some(refusal) => Ok(Answer {
-            text: refusal.line(alloc, source)?.into_bytes(),
-            exit: Exit::Refused,
-        }),
-        None if matches!(rejection, Rejection::NotYet) => Err(Fault::NotYet),
-        None => Err(Fault::OutOfMemory),
+        Some(refusal) => {
+            let line = refusal.line(alloc, source)?.into_bytes();
+            Ok(Answer::new(alloc, line, Exit::Refused))
+        }
+        None => match rejection {
+            Rejection::NotYet(Some(unrun)) => Err(Fault::NotYet(unrun.line(alloc, source)?)),
+            Rejection::NotYet(None) => Err(Fault::NotYet(String::new(alloc))),
+            _ => Err(Fault::OutOfMemory),
+        },
     }
 }
 
@@ -192,22 +296,18 @@ fn examine(alloc: Global, command: &Command, text: &str) -> Result<Answer, Rejec
     match command {
         Command::Check(options) => {
             check_text(alloc, text, &options.root)?;
-            Ok(Answer {
-                text: Vec::from_slice(alloc, b"ok\n")?,
-                exit: Exit::Done,
-            })
+            let text = Vec::from_slice(alloc, b"ok\n")?;
+            Ok(Answer::new(alloc, text, Exit::Done))
         }
         Command::Run(options) => {
             let outcome = run_text(alloc, text, &options.root, options.turns)?;
-            Ok(Answer {
-                text: outcome.report,
-                exit: exit_of(outcome.status),
-            })
+            let exit = exit_of(outcome.status);
+            Ok(Answer::new(alloc, outcome.report, exit))
         }
-        Command::Print => Ok(Answer {
-            text: print_text(alloc, text)?,
-            exit: Exit::Done,
-        }),
+        Command::Print => {
+            let text = print_text(alloc, text)?;
+            Ok(Answer::new(alloc, text, Exit::Done))
+        }
     }
 }
 

@@ -8,11 +8,13 @@ use sc_class::Root;
 use std::alloc::{AllocError, Global};
 use std::convert::AsStr;
 
-/// What the words of a command line ask for, and the files of the system.
+/// What the words of a command line ask for.
 #[derive(Drop)]
-pub struct Invocation<'a> {
-    pub command: Command,
-    pub files: Vec<&'a str>,
+pub enum Invocation<'a> {
+    /// To do something with the system of these files.
+    OnFiles(Command, Vec<&'a str>),
+    /// To explain the code or name that this word gives, or to list all codes.
+    Explain(Option<&'a str>),
 }
 
 /// What is to be done with a system.
@@ -29,6 +31,8 @@ pub enum Command {
 #[derive(Drop)]
 pub struct CheckOptions {
     pub root: Root,
+    /// Whether a refusal is to be shown in its line of the text too.
+    pub is_explained: bool,
 }
 
 #[derive(Drop)]
@@ -36,6 +40,8 @@ pub struct RunOptions {
     pub root: Root,
     /// The most turns that are played, from 1 to 10,000,000.
     pub turns: u32,
+    /// Whether a refusal is to be shown in its line of the text too.
+    pub is_explained: bool,
 }
 
 /// Why the words ask for nothing that can be done.
@@ -80,9 +86,50 @@ const STATUS_HELP: &str = "\
 Exit status:
   0  done, and every handler is free
   1  the system is refused
-  2  the words, a file or the output is at fault
+  2  the words, a file or the output is at fault, or the system uses what isn't
+     run yet
   3  a handler has failed
   4  a handler is waiting or busy
+  5  memory ran out";
+
+const CHECK_AFTER_HELP: &str = "\
+Limits:
+  1048576 bytes of all files together, 64 constructs around a token, 256 classes,
+  256 features of a class, 16 formals and 256 locals of a routine
+
+Exit status:
+  0  the system is well formed
+  1  it is refused: `scoop explain CODE` says why
+  2  the words, a file or the output is at fault
+  5  memory ran out";
+
+const RUN_AFTER_HELP: &str = "\
+Limits:
+  those of `scoop check`; 1024 routines running at once
+
+Exit status:
+  0  done, and every handler is free
+  1  the system is refused
+  2  the words, a file or the output is at fault, or the system uses what isn't
+     run yet: the second line says what, and where it stands
+  3  a handler has failed
+  4  a handler is waiting or busy
+  5  memory ran out";
+
+const PRINT_AFTER_HELP: &str = "\
+Limits:
+  1048576 bytes of all files together, 64 constructs around a token
+
+Exit status:
+  0  the text is printed
+  1  it is no system
+  2  the words, a file or the output is at fault
+  5  memory ran out";
+
+const EXPLAIN_AFTER_HELP: &str = "\
+Exit status:
+  0  done
+  2  there is no such code, or the output is at fault
   5  memory ran out";
 
 const CHECK_ABOUT: &str = "Says whether a system is well formed";
@@ -118,7 +165,19 @@ The text is read, but not checked. Comments and notes are left out, and there
 are no more parentheses than the grammar needs. Printed again, the text stays
 as it is.";
 
-const FILE_HELP: &str = "The files of the system's classes, in order";
+const EXPLAIN_ABOUT: &str = "Says what a code stands for, and why";
+
+const EXPLAIN_LONG_ABOUT: &str = "\
+Says what a code stands for, and why: the code of a refusal or of a failure.
+
+Each page has a smallest text that is refused, or that fails, and the nearest
+one that isn't. Without a code all codes are listed with their names.";
+
+const EXPLAIN_HELP: &str = "Shows where a refusal stands, on standard error";
+
+const CODE_HELP: &str = "The code, as V6, or its name, in any letter case";
+
+const FILE_HELP: &str = "The files of the system's classes, in order; `-` is standard input";
 
 const ROOT_HELP: &str = "The root class and its creation procedure";
 
@@ -134,17 +193,19 @@ pub fn read_words<'a, S: AsStr>(
         return Err(UsageFault::NoCommand);
     };
     let command = match name {
+        "explain" => return Ok(Invocation::Explain(options.get_str("CODE"))),
         "print" => Command::Print,
         "run" => Command::Run(RunOptions {
             root: read_root(alloc, options)?,
             turns: options.get_one("turns").unwrap_or(DEFAULT_TURNS),
+            is_explained: options.get_flag("explain"),
         }),
         _ => Command::Check(CheckOptions {
             root: read_root(alloc, options)?,
+            is_explained: options.get_flag("explain"),
         }),
     };
-    let files = read_files(alloc, options)?;
-    Ok(Invocation { command, files })
+    Ok(Invocation::OnFiles(command, read_files(alloc, options)?))
 }
 
 fn read_root(alloc: Global, options: &ArgMatches<'_>) -> Result<Root, UsageFault> {
@@ -167,13 +228,16 @@ fn scoop_command<'a>(alloc: Global) -> Result<clap::Command<'a>, AllocError> {
         .arg_required_else_help(true)
         .subcommand(check_command(alloc)?)?
         .subcommand(run_command(alloc)?)?
-        .subcommand(print_command(alloc)?)
+        .subcommand(print_command(alloc)?)?
+        .subcommand(explain_command(alloc)?)
 }
 
 fn check_command<'a>(alloc: Global) -> Result<clap::Command<'a>, AllocError> {
     clap::Command::new(alloc, "check")
         .about(CHECK_ABOUT)
         .long_about(CHECK_LONG_ABOUT)
+        .after_help(CHECK_AFTER_HELP)
+        .arg(explain_argument(alloc))?
         .arg(root_argument(alloc))?
         .arg(file_argument(alloc))
 }
@@ -188,8 +252,9 @@ fn run_command<'a>(alloc: Global) -> Result<clap::Command<'a>, AllocError> {
     clap::Command::new(alloc, "run")
         .about(RUN_ABOUT)
         .long_about(RUN_LONG_ABOUT)
-        .after_help(STATUS_HELP)
+        .after_help(RUN_AFTER_HELP)
         .arg(turns)?
+        .arg(explain_argument(alloc))?
         .arg(root_argument(alloc))?
         .arg(file_argument(alloc))
 }
@@ -198,7 +263,17 @@ fn print_command<'a>(alloc: Global) -> Result<clap::Command<'a>, AllocError> {
     clap::Command::new(alloc, "print")
         .about(PRINT_ABOUT)
         .long_about(PRINT_LONG_ABOUT)
+        .after_help(PRINT_AFTER_HELP)
         .arg(file_argument(alloc))
+}
+
+fn explain_command<'a>(alloc: Global) -> Result<clap::Command<'a>, AllocError> {
+    let code = Arg::new(alloc, "CODE").help(CODE_HELP);
+    clap::Command::new(alloc, "explain")
+        .about(EXPLAIN_ABOUT)
+        .long_about(EXPLAIN_LONG_ABOUT)
+        .after_help(EXPLAIN_AFTER_HELP)
+        .arg(code)
 }
 
 fn root_argument<'a>(alloc: Global) -> Arg<'a> {
@@ -207,6 +282,13 @@ fn root_argument<'a>(alloc: Global) -> Arg<'a> {
         .value_name("CLASS.PROCEDURE")
         .default_value("APPLICATION.make")
         .help(ROOT_HELP)
+}
+
+fn explain_argument<'a>(alloc: Global) -> Arg<'a> {
+    Arg::new(alloc, "explain")
+        .long("explain")
+        .action(ArgAction::SetTrue)
+        .help(EXPLAIN_HELP)
 }
 
 fn file_argument<'a>(alloc: Global) -> Arg<'a> {

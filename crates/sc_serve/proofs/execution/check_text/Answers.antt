@@ -19,11 +19,11 @@ returns-in_err-system-clause-complete c = λ must.
 pub returns-in_err-judge-clause-refused : goal.returns-in_err-judge-clause-refused
 returns-in_err-judge-clause-refused c =
     err-is (IsRefusedFor c.args.text.now (root_of c.args.root.now)) c.from_residual-in_err-judge.result _ c.from_residual-in_err-judge.ensures.1
-    (fault-refused c.args.text.now (root_of c.args.root.now) (system_of c.in_ok-system.system) c.in_ok-system.ensures.spelled _ c.in_err-judge.ensures.fault)
+    (fault-refused c.args.text.now (root_of c.args.root.now) (system_of c.in_ok-system.system) c.in_ok-system.ensures.read _ c.in_err-judge.ensures.fault)
 
 -- what must be accepted is sound
 pub returns-in_err-judge-clause-complete : goal.returns-in_err-judge-clause-complete
 returns-in_err-judge-clause-complete c = λ must.
     err-is (λ e. e ≡ out_of_memory) c.from_residual-in_err-judge.result _ c.from_residual-in_err-judge.ensures.1
     (sound-in_memory (system_of c.in_ok-system.system) (root_of c.args.root.now)
-    (must.sound _ (c.in_ok-system.ensures.found must.tree must.spelled)) _ c.in_err-judge.ensures.fault)
+    (must.sound _ c.in_ok-system.ensures.read) _ c.in_err-judge.ensures.fault)

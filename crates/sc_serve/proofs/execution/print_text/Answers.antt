@@ -4,7 +4,7 @@ use Rattle.sc_tree.specs.View.{system_of}
 use Rattle.sc_tree.specs.Canonical.{canonical_text}
 use Rattle.sc_serve.specs.Execution.{IsUnreadable}
 use Rattle.sc_serve.specs.Refusal.{out_of_memory}
-use Rattle.sc_serve.proofs.ExecutionLemmas.{canonical-bare, err-is, only-err-is}
+use Rattle.sc_serve.proofs.ExecutionLemmas.{canonical-bare, read-spelled, err-is, only-err-is}
 use Rattle.sc_serve.proofs.execution.print_text.Goals as goal
 
 pub returns-in_err-system-clause-refused : goal.returns-in_err-system-clause-refused
@@ -18,7 +18,7 @@ pub returns-clause-printed : goal.returns-clause-printed
 returns-clause-printed c =
     record {
       tree = bare_system (system_of c.in_ok-system.system);
-      spelled = c.in_ok-system.ensures.spelled;
+      spelled = read-spelled c.args.text.now _ c.in_ok-system.ensures.read;
       printed = c.in_ok-print_system.ensures ∙ sym (canonical-bare (system_of c.in_ok-system.system));
     }
 

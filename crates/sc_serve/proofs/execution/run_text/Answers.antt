@@ -23,28 +23,28 @@ pub returns-in_err-checked-clause-refused : goal.returns-in_err-checked-clause-r
 returns-in_err-checked-clause-refused c =
     err-is (IsNotRunFor c.args.text.now (root_of c.args.root.now)) c.from_residual-in_err-checked.result _ c.from_residual-in_err-checked.ensures.1
     (refused-not_run c.args.text.now (root_of c.args.root.now) _
-    (fault-refused c.args.text.now (root_of c.args.root.now) (system_of c.in_ok-system.system) c.in_ok-system.ensures.spelled _ c.in_err-checked.ensures.fault))
+    (fault-refused c.args.text.now (root_of c.args.root.now) (system_of c.in_ok-system.system) c.in_ok-system.ensures.read _ c.in_err-checked.ensures.fault))
 
 -- what must be run is sound
 pub returns-in_err-checked-clause-complete : goal.returns-in_err-checked-clause-complete
 returns-in_err-checked-clause-complete c = λ must.
     err-is (λ e. e ≡ out_of_memory) c.from_residual-in_err-checked.result _ c.from_residual-in_err-checked.ensures.1
     (sound-in_memory (system_of c.in_ok-system.system) (root_of c.args.root.now)
-    (must.runnable _ (c.in_ok-system.ensures.found must.tree must.spelled)).sound _ c.in_err-checked.ensures.fault)
+    (must.runnable _ c.in_ok-system.ensures.read).sound _ c.in_err-checked.ensures.fault)
 
 -- what isn't run yet
 pub returns-then-not_yet-clause-refused : goal.returns-then-not_yet-clause-refused
 returns-then-not_yet-clause-refused c =
     record {
       system = system_of c.in_ok-system.system;
-      spelled = c.in_ok-system.ensures.spelled;
+      read = c.in_ok-system.ensures.read;
       sound = c.in_ok-checked.ensures.sound;
       not_yet = ap is_not_yet (sym (ap system_in c.tables.ensures.same ∙ c.in_ok-checked.ensures.of_it)) ∙ sym c.not_yet.ensures ∙ c.if-not_yet.true;
     }
 
 pub returns-then-not_yet-clause-complete : goal.returns-then-not_yet-clause-complete
 returns-then-not_yet-clause-complete c = λ must.
-    let known = (must.runnable _ (c.in_ok-system.ensures.found must.tree must.spelled)).supported in
+    let known = (must.runnable _ c.in_ok-system.ensures.read).supported in
     let unknown = ap is_not_yet (sym (ap system_in c.tables.ensures.same ∙ c.in_ok-checked.ensures.of_it)) ∙ sym c.not_yet.ensures ∙ c.if-not_yet.true in
     cc
 
@@ -55,7 +55,7 @@ pub returns-clause-ok : goal.returns-clause-ok
 returns-clause-ok c =
     record {
       system = system_of c.in_ok-system.system;
-      spelled = c.in_ok-system.ensures.spelled;
+      read = c.in_ok-system.ensures.read;
       runnable =
           record {
             sound = c.in_ok-checked.ensures.sound;

@@ -1,4 +1,4 @@
-use Rattle.std.proofs.Common.{◌≡◌, length, take, arith}
+use Rattle.std.proofs.Common.{◌≡◌, take, arith}
 use Rattle.std.proofs.lemmas.List.{take_all}
 use Rattle.std.specs.Io.KnownBytes.{IsAtEnd}
 use Rattle.sc_serve.proofs.JoiningLemmas.{ended-more, fault-at, joined-more, told-length, told-now, unread-more}

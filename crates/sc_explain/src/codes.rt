@@ -1,0 +1,70 @@
+// The pages, and how one is found.
+
+ghost use Rattle.std.specs.Prelude.{IfSome, IsTrue};
+ghost use Rattle.sc_explain.specs.Page.{IsPageOf};
+
+use crate::classes::CLASSES;
+use crate::failures::FAILURES;
+use crate::grammar::GRAMMAR;
+use crate::rules::RULES;
+use crate::text::TEXT;
+use std::alloc::{AllocError, Global};
+
+/// The pages in groups, in the order in which what they tell of is looked for.
+fn groups() -> [&'static [&'static str]; 5] {
+    [TEXT, GRAMMAR, CLASSES, RULES, FAILURES]
+}
+
+/// The page of this code or this name, in any letter case.
+pub fn find(word: &str) -> Option<&'static str>
+    ensures { IfSome result (λ page. IsPageOf page.now word.now) }
+{
+    for pages in groups() {
+        if let Some(page) = find_among(pages, word) {
+            return Some(page);
+        }
+    }
+    None
+}
+
+/// The first of these pages that the word asks for.
+fn find_among(pages: &'static [&'static str], word: &str) -> Option<&'static str>
+    ensures { IfSome result (λ page. IsPageOf page.now word.now) }
+{
+    for page in pages {
+        if is_page_of(page, word) {
+            return Some(page);
+        }
+    }
+    None
+}
+
+/// Whether the page begins with a line of a code and a name, and the word is one of these, in any letter case.
+fn is_page_of(page: &str, word: &str) -> bool
+    ensures { IsTrue result → IsPageOf page.now word.now }
+{
+    let Some((heading, _)) = page.split_once('\n') else {
+        return false;
+    };
+    let Some((code, name)) = heading.split_once(' ') else {
+        return false;
+    };
+    code.eq_ignore_ascii_case(word) || name.eq_ignore_ascii_case(word)
+}
+
+/// The first line of each page.
+pub fn list(alloc: Global) -> Result<String, AllocError> {
+    let mut lines = String::new(alloc);
+    for pages in groups() {
+        push_headings(&mut lines, pages)?;
+    }
+    Ok(lines)
+}
+
+fn push_headings(lines: &mut String, pages: &[&str]) -> Result<(), AllocError> {
+    for page in pages {
+        lines.push_str(page.lines().next().unwrap_or(""))?;
+        lines.push('\n')?;
+    }
+    Ok(())
+}

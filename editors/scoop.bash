@@ -1,0 +1,21 @@
+# Completions of scoop for bash: source this file.
+_scoop() {
+    local word=${COMP_WORDS[COMP_CWORD]} before=${COMP_WORDS[COMP_CWORD - 1]} command=${COMP_WORDS[1]}
+    COMPREPLY=()
+    if [ "$COMP_CWORD" = 1 ]; then
+        mapfile -t COMPREPLY < <(compgen -W 'check run print explain help --help --version' -- "$word")
+        return
+    fi
+    case $before in
+    --root | --turns) return ;;
+    esac
+    case $command:$word in
+    check:-*) mapfile -t COMPREPLY < <(compgen -W '--root --explain --help' -- "$word") ;;
+    run:-*) mapfile -t COMPREPLY < <(compgen -W '--turns --root --explain --help' -- "$word") ;;
+    print:-* | explain:-*) mapfile -t COMPREPLY < <(compgen -W '--help' -- "$word") ;;
+    explain:*) mapfile -t COMPREPLY < <(compgen -W "$("${COMP_WORDS[0]}" explain 2>/dev/null)" -- "$word") ;;
+    help:*) mapfile -t COMPREPLY < <(compgen -W 'check run print explain' -- "$word") ;;
+    *) mapfile -t COMPREPLY < <(compgen -f -X '!*.e' -- "$word" && compgen -d -- "$word") ;;
+    esac
+}
+complete -o filenames -F _scoop scoop

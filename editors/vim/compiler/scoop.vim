@@ -1,0 +1,7 @@
+" Checks the file of the buffer by scoop.
+if exists("current_compiler")
+  finish
+endif
+let current_compiler = "scoop"
+CompilerSet makeprg=scoop\ check\ %
+CompilerSet errorformat=refused\ %m\ %f:%l:%c,%f:%l:%c:\ %m

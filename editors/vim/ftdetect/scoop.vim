@@ -1,0 +1,1 @@
+autocmd BufNewFile,BufRead *.e set filetype=scoop

@@ -1,0 +1,66 @@
+-- An account with contracts.
+--
+-- `require` says what a caller has to see to, `ensure` what a routine has done, and `old` is a value from before it. The
+-- invariant holds for each account that is left alone: it is tested where a call with a target, or a creation, ends.
+--
+--     ./scoop check examples/account.e
+
+class APPLICATION
+
+create make
+
+feature
+
+	account: ACCOUNT
+
+	make
+		do
+			create account.open (100)
+			account.deposit (50)
+			account.withdraw (30)
+			print (account.balance)
+		end
+
+end
+
+class ACCOUNT
+
+create open
+
+feature
+
+	balance: INTEGER
+
+	open (sum: INTEGER)
+		require
+			not_negative: sum >= 0
+		do
+			balance := sum
+		ensure
+			balance = sum
+		end
+
+	deposit (sum: INTEGER)
+		require
+			positive: sum > 0
+		do
+			balance := balance + sum
+		ensure
+			added: balance = old balance + sum
+		end
+
+	withdraw (sum: INTEGER)
+		require
+			positive: sum > 0;
+			covered: sum <= balance
+		do
+			balance := balance - sum
+		ensure
+			taken: balance = old balance - sum
+		end
+
+invariant
+
+	never_overdrawn: balance >= 0
+
+end
