@@ -1,8 +1,9 @@
 // What the checker lends of a well-formed system, and what it says of another.
 
-use crate::reading::{root_of, system_of};
 use sc_check::{CheckFault, Checked, check};
-use sc_class::tables;
+use sc_class::{Root, tables};
+use sc_parse::parse;
+use sc_text::lex;
 use std::alloc::{AllocError, Global};
 use std::test::Fail;
 
@@ -37,9 +38,14 @@ fn told(alloc: Global, checked: &Result<Checked<'_>, CheckFault>) -> Result<Stri
 #[test]
 fn systems_are_lent_or_refused(rt: HostRuntime) -> Result<(), Fail> {
     let alloc = rt.alloc();
-    for (source, wanted) in CHECKS {
-        let system = system_of(alloc, source)?;
-        let tables = tables(alloc, &system, &root_of(alloc, "a", "make")?)?;
+    for &(source, wanted) in &CHECKS {
+        let tokens = lex(alloc, source)?;
+        let system = parse(alloc, &tokens)?;
+        let root = Root {
+            class: String::from_str(alloc, "a")?,
+            procedure: String::from_str(alloc, "make")?,
+        };
+        let tables = tables(alloc, &system, &root)?;
         let told = told(alloc, &check(alloc, tables))?;
         assert_eq!(rt; told.as_str(), wanted, "of {source}");
     }

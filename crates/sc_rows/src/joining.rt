@@ -2,6 +2,7 @@
 
 use sc_serve::source::LONGEST_SOURCE;
 use sc_serve::{SourceFault, join_sources};
+use std::alloc::{AllocError, Global};
 use std::io::{self, ErrorKind, Read};
 use std::process::Abort;
 use std::test::Fail;
@@ -58,46 +59,59 @@ fn expect_join<H: Abort + AllocGlobal, R: Read>(
     Ok(())
 }
 
+/// The files of a system, and their text or what is at fault.
+const JOINED: [(&[&[u8]], Result<&str, SourceFault>); 14] = [
+    (&[], Ok("")),
+    (&[b""], Ok("\n")),
+    (&[b"", b""], Ok("\n\n")),
+    (&[b"\xef\xbb\xbfa", b"b"], Ok("a\nb\n")),
+    (&[b"a", b"\xef\xbb\xbfb"], Ok("a\nb\n")),
+    (&[b"\xef\xbb\xbf"], Ok("\n")),
+    (&[b"\xef\xbb\xbf\xef\xbb\xbfa"], Ok("\u{feff}a\n")),
+    (&[b"a\xef\xbb\xbf"], Ok("a\u{feff}\n")),
+    (&[b"a\n", b"\r\n\xc3\xa9"], Ok("a\n\n\r\n\u{e9}\n")),
+    (
+        &[b"a", b"b\xff", b"\xff"],
+        Err(SourceFault::NotUtf8 { file: 1 }),
+    ),
+    (&[b"\xef\xbb", b"b"], Err(SourceFault::NotUtf8 { file: 0 })),
+    (&[b"\xef", b"b"], Err(SourceFault::NotUtf8 { file: 0 })),
+    // A character isn't begun in one file and ended in the next.
+    (
+        &[b"caf\xc3", b"\xa9"],
+        Err(SourceFault::NotUtf8 { file: 0 }),
+    ),
+    (
+        &[b"\xef\xbb\xbf\xed\xa0\x80"],
+        Err(SourceFault::NotUtf8 { file: 0 }),
+    ),
+];
+
+/// Readers of these files, of which a call reads so many bytes at most. The reader of one may fail at its end.
+fn readers_of<'a>(
+    alloc: Global,
+    files: &[&'a [u8]],
+    piece: usize,
+    broken: Option<usize>,
+) -> Result<Vec<Piecewise<'a>>, AllocError> {
+    let mut readers = Vec::new(alloc);
+    for (file, bytes) in files.iter().enumerate() {
+        readers.push(Piecewise {
+            bytes,
+            piece,
+            is_broken: broken == Some(file),
+        })?;
+    }
+    Ok(readers)
+}
+
 #[test]
 fn joins_the_texts_of_files(rt: HostRuntime) -> Result<(), Fail> {
-    let rows: [(&[&[u8]], Result<&str, SourceFault>); 14] = [
-        (&[], Ok("")),
-        (&[b""], Ok("\n")),
-        (&[b"", b""], Ok("\n\n")),
-        (&[b"\xef\xbb\xbfa", b"b"], Ok("a\nb\n")),
-        (&[b"a", b"\xef\xbb\xbfb"], Ok("a\nb\n")),
-        (&[b"\xef\xbb\xbf"], Ok("\n")),
-        (&[b"\xef\xbb\xbf\xef\xbb\xbfa"], Ok("\u{feff}a\n")),
-        (&[b"a\xef\xbb\xbf"], Ok("a\u{feff}\n")),
-        (&[b"a\n", b"\r\n\xc3\xa9"], Ok("a\n\n\r\n\u{e9}\n")),
-        (
-            &[b"a", b"b\xff", b"\xff"],
-            Err(SourceFault::NotUtf8 { file: 1 }),
-        ),
-        (&[b"\xef\xbb", b"b"], Err(SourceFault::NotUtf8 { file: 0 })),
-        (&[b"\xef", b"b"], Err(SourceFault::NotUtf8 { file: 0 })),
-        // A character isn't begun in one file and ended in the next.
-        (
-            &[b"caf\xc3", b"\xa9"],
-            Err(SourceFault::NotUtf8 { file: 0 }),
-        ),
-        (
-            &[b"\xef\xbb\xbf\xed\xa0\x80"],
-            Err(SourceFault::NotUtf8 { file: 0 }),
-        ),
-    ];
-    for (files, wanted) in rows {
+    for &(files, wanted) in &JOINED {
         let mut readers = Vec::from_slice(rt.alloc(), files)?;
         expect_join(&rt, readers.as_mut_slice(), wanted)?;
         for piece in 1..5 {
-            let mut readers = Vec::new(rt.alloc());
-            for bytes in files {
-                readers.push(Piecewise {
-                    bytes,
-                    piece,
-                    is_broken: false,
-                })?;
-            }
+            let mut readers = readers_of(rt.alloc(), files, piece, None)?;
             expect_join(&rt, readers.as_mut_slice(), wanted)?;
         }
     }
@@ -119,34 +133,37 @@ fn spaces<H: AllocGlobal>(
     Ok(bytes)
 }
 
+const MOST: usize = LONGEST_SOURCE - 1;
+
+const MARK: &[u8] = b"\xef\xbb\xbf";
+
+/// What stands before and behind so many spaces in the first file, and whether it can be joined.
+const LONG: [(&[u8], usize, &[u8], Option<SourceFault>); 10] = [
+    (b"", MOST, b"", None),
+    (b"", MOST, b" ", Some(SourceFault::SourceTooLong)),
+    (MARK, MOST, b"", None),
+    (MARK, MOST, b" ", Some(SourceFault::SourceTooLong)),
+    (
+        b"",
+        MOST - 1,
+        b"\xff",
+        Some(SourceFault::NotUtf8 { file: 0 }),
+    ),
+    (b"", MOST, b"\xff", Some(SourceFault::SourceTooLong)),
+    (b"\xff", MOST, b"", Some(SourceFault::SourceTooLong)),
+    (
+        b"\xff",
+        MOST - 1,
+        b"",
+        Some(SourceFault::NotUtf8 { file: 0 }),
+    ),
+    (b"", MOST - 2, b"\xc3\xa9", None),
+    (b"", MOST - 1, b"\xc3\xa9", Some(SourceFault::SourceTooLong)),
+];
+
 #[test]
 fn joins_no_more_than_a_source_may_be_long(rt: HostRuntime) -> Result<(), Fail> {
-    let most = LONGEST_SOURCE - 1;
-    let mark = b"\xef\xbb\xbf";
-    // What stands before and behind so many spaces in the first file, and whether it can be joined.
-    let rows: [(&[u8], usize, &[u8], Option<SourceFault>); 10] = [
-        (b"", most, b"", None),
-        (b"", most, b" ", Some(SourceFault::SourceTooLong)),
-        (mark, most, b"", None),
-        (mark, most, b" ", Some(SourceFault::SourceTooLong)),
-        (
-            b"",
-            most - 1,
-            b"\xff",
-            Some(SourceFault::NotUtf8 { file: 0 }),
-        ),
-        (b"", most, b"\xff", Some(SourceFault::SourceTooLong)),
-        (b"\xff", most, b"", Some(SourceFault::SourceTooLong)),
-        (
-            b"\xff",
-            most - 1,
-            b"",
-            Some(SourceFault::NotUtf8 { file: 0 }),
-        ),
-        (b"", most - 2, b"\xc3\xa9", None),
-        (b"", most - 1, b"\xc3\xa9", Some(SourceFault::SourceTooLong)),
-    ];
-    for (before, count, after, wanted) in rows {
+    for &(before, count, after, wanted) in &LONG {
         let bytes = spaces(&rt, before, count, after)?;
         let joined = join_sources(rt.alloc(), &mut [bytes.as_slice()]);
         if let Err(SourceFault::OutOfMemory) = joined {
@@ -164,14 +181,7 @@ fn expect_fault<R: Abort + AllocGlobal>(
     broken: Option<usize>,
     wanted: Option<SourceFault>,
 ) -> Result<(), Fail> {
-    let mut readers = Vec::new(rt.alloc());
-    for (file, bytes) in files.iter().enumerate() {
-        readers.push(Piecewise {
-            bytes,
-            piece: usize::MAX,
-            is_broken: broken == Some(file),
-        })?;
-    }
+    let mut readers = readers_of(rt.alloc(), files, usize::MAX, broken)?;
     let joined = join_sources(rt.alloc(), readers.as_mut_slice());
     if let Err(SourceFault::OutOfMemory) = joined {
         return Err(Fail::new("out of memory"));

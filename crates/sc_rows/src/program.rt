@@ -3,6 +3,7 @@
 mod checker;
 mod class_faults;
 mod command_line;
+mod explain;
 mod fake;
 mod gaps;
 mod input;
@@ -10,12 +11,14 @@ mod meanings;
 mod not_yet;
 mod output;
 mod print;
+mod reasons;
 mod refusals;
 mod runs;
 mod sources;
 
 use crate::program::fake::{FakeFile, FakeFiles};
 use sc_serve::serve::{Exit, serve};
+use std::alloc::{AllocError, Global};
 use std::process::Abort;
 use std::test::Fail;
 
@@ -59,6 +62,11 @@ fn usage(err: &str) -> Wanted<'_> {
     }
 }
 
+/// The two columns of a row, between which its first bar stands.
+fn columns(row: &str) -> Result<(&str, &str), Fail> {
+    Ok(row.split_once('|').ok_or("a row without a bar")?)
+}
+
 /// Calls the program. A call for which memory runs out has no outcome: the test ends there and says so.
 fn call<R: AllocGlobal>(rt: &R, words: &[&str], files: &[FakeFile<'_>]) -> Result<Outcome, Fail> {
     let mut out = Vec::new(rt.alloc());
@@ -74,6 +82,23 @@ fn call<R: AllocGlobal>(rt: &R, words: &[&str], files: &[FakeFile<'_>]) -> Resul
     })
 }
 
+/// Compares what a call wrote and its status, for such a row.
+fn compare<R: Abort>(rt: &R, outcome: &Outcome, wanted: Wanted<'_>, row: &str) {
+    assert_eq!(rt; outcome.err.as_str(), wanted.err, "for {row}");
+    assert_eq!(rt; outcome.out.as_str(), wanted.out, "for {row}");
+    assert_eq!(rt; outcome.status, wanted.status, "for {row}");
+}
+
+/// The words of a call, one after the other.
+fn line_of(alloc: Global, words: &[&str]) -> Result<String, AllocError> {
+    let mut line = String::new(alloc);
+    for word in words {
+        line.push_str(word)?;
+        line.push_str(" ")?;
+    }
+    Ok(line)
+}
+
 /// Calls the program, and compares what it writes and its status.
 fn expect_of<R: Abort + AllocGlobal>(
     rt: &R,
@@ -82,9 +107,7 @@ fn expect_of<R: Abort + AllocGlobal>(
     wanted: Wanted<'_>,
 ) -> Result<(), Fail> {
     let outcome = call(rt, words, files)?;
-    assert_eq!(rt; outcome.err.as_str(), wanted.err, "for {words:?}");
-    assert_eq!(rt; outcome.out.as_str(), wanted.out, "for {words:?}");
-    assert_eq!(rt; outcome.status, wanted.status, "for {words:?}");
+    compare(rt, &outcome, wanted, &line_of(rt.alloc(), words)?);
     Ok(())
 }
 
@@ -96,8 +119,6 @@ fn expect<R: Abort + AllocGlobal>(
     wanted: Wanted<'_>,
 ) -> Result<(), Fail> {
     let outcome = call(rt, words, &[FakeFile::new("app.e", text)])?;
-    assert_eq!(rt; outcome.err.as_str(), wanted.err, "for {text}");
-    assert_eq!(rt; outcome.out.as_str(), wanted.out, "for {text}");
-    assert_eq!(rt; outcome.status, wanted.status, "for {text}");
+    compare(rt, &outcome, wanted, text);
     Ok(())
 }

@@ -3,9 +3,9 @@
 mod calls;
 mod texts;
 
-use super::refusals::CHECK;
+use super::refusals::{CHECK, expect_line};
 use super::sources::{BLOCK, BUFFER, CALLBACK, HANDLER_TESTS, SEPARATE_CALL};
-use super::{done, expect, expect_of, refused};
+use super::{columns, done, expect, expect_of, refused};
 use crate::program::fake::FakeFile;
 use std::process::Abort;
 use std::test::Fail;
@@ -97,73 +97,37 @@ const FIRST_FAULTS: [&str; 79] = [
 ];
 
 /// Bodies of the root procedure of a class on one line, and what follows `refused` in their answers.
-const BODIES: [(&str, &str); 13] = [
-    ("n := m", "V1 UnknownName a.e:1:63"),
-    ("make (1)", "V2 WrongArity a.e:1:58"),
-    ("n := True", "V4 AssignType a.e:1:63"),
-    ("if n then end", "V8 NotBoolean a.e:1:61"),
-    ("make := 1", "V10 NotAssignable a.e:1:58"),
-    ("print (attached n as a)", "V18 ObjectTestPlace a.e:1:65"),
-    ("n := -Void", "V20 VoidUse a.e:1:64"),
-    ("k := 1", "V1 UnknownName a.e:1:58"),
-    ("print (Void)", "V3 ArgumentType a.e:1:65"),
-    ("n := make", "V7 ResultType a.e:1:63"),
-    ("n := 1 + True", "V9 OperatorType a.e:1:63"),
-    ("create n", "V11 NotCreation a.e:1:65"),
-    ("n := old n", "V19 OldPlace a.e:1:63"),
+const BODIES: [&str; 13] = [
+    "n := m|V1 UnknownName a.e:1:63",
+    "make (1)|V2 WrongArity a.e:1:58",
+    "n := True|V4 AssignType a.e:1:63",
+    "if n then end|V8 NotBoolean a.e:1:61",
+    "make := 1|V10 NotAssignable a.e:1:58",
+    "print (attached n as a)|V18 ObjectTestPlace a.e:1:65",
+    "n := -Void|V20 VoidUse a.e:1:64",
+    "k := 1|V1 UnknownName a.e:1:58",
+    "print (Void)|V3 ArgumentType a.e:1:65",
+    "n := make|V7 ResultType a.e:1:63",
+    "n := 1 + True|V9 OperatorType a.e:1:63",
+    "create n|V11 NotCreation a.e:1:65",
+    "n := old n|V19 OldPlace a.e:1:63",
 ];
 
 /// The attribute and the routines of a class that uses a cell of another handler, and what follows `refused` in the answer.
-const ON_CELLS: [(&str, &str, &str); 5] = [
-    (
-        "s: separate CELL",
-        "make do create s.set (4) s.set (5) end",
-        "V6 TargetUncontrolled app.e:4:27",
-    ),
-    (
-        "s: separate CELL",
-        "make do create s.set (4) use (s) end\n\tuse (c: separate CELL) do c.set (5) print (c.item) end",
-        "",
-    ),
-    (
-        "s: separate CELL",
-        "make do create s.set (4) separate s as c do c.set (5) print (c.item) end end",
-        "",
-    ),
-    (
-        "s: separate CELL",
-        "make do create s.set (4) separate s as c do end c.set (6) end",
-        "V1 UnknownName app.e:4:50",
-    ),
-    (
-        "s: detachable separate CELL",
-        "make do create s.set (4) separate s as c do end end",
-        "V3 ArgumentType app.e:4:36",
-    ),
+const ON_CELLS: [&str; 5] = [
+    "s: separate CELL|make do create s.set (4) s.set (5) end|V6 TargetUncontrolled app.e:4:27",
+    "s: separate CELL|make do create s.set (4) use (s) end\n\tuse (c: separate CELL) do c.set (5) print (c.item) end|",
+    "s: separate CELL|make do create s.set (4) separate s as c do c.set (5) print (c.item) end end|",
+    "s: separate CELL|make do create s.set (4) separate s as c do end c.set (6) end|V1 UnknownName app.e:4:50",
+    "s: detachable separate CELL|make do create s.set (4) separate s as c do end end|V3 ArgumentType app.e:4:36",
 ];
 
 /// Routines over nodes, what a node has besides the next one, and what follows `refused` in the answer.
-const ON_NODES: [(&str, &str, &str); 4] = [
-    (
-        "f (x: separate NODE)\n\t\tlocal y: NODE\n\t\tdo y := x.next end",
-        "",
-        "V4 AssignType app.e:6:11",
-    ),
-    (
-        "f (x: separate NODE)\n\t\tlocal y: separate <x.handler> NODE\n\t\tdo y := x.next end",
-        "",
-        "",
-    ),
-    (
-        "f (x: detachable separate NODE) do x.run end",
-        " run do end",
-        "V5 TargetDetachable app.e:4:37",
-    ),
-    (
-        "f (x: detachable separate NODE) do if attached x as a then g (a) end end\n\tg (y: separate NODE) do y.run end",
-        " run do end",
-        "",
-    ),
+const ON_NODES: [&str; 4] = [
+    "f (x: separate NODE)\n\t\tlocal y: NODE\n\t\tdo y := x.next end||V4 AssignType app.e:6:11",
+    "f (x: separate NODE)\n\t\tlocal y: separate <x.handler> NODE\n\t\tdo y := x.next end||",
+    "f (x: detachable separate NODE) do x.run end| run do end|V5 TargetDetachable app.e:4:37",
+    "f (x: detachable separate NODE) do if attached x as a then g (a) end end\n\tg (y: separate NODE) do y.run end| run do end|",
 ];
 
 /// An own object that is passed to another handler as its own.
@@ -318,30 +282,58 @@ pub fn expect_answer<R: Abort + AllocGlobal>(
     }
 }
 
-#[test]
-fn tells_where_each_rule_fails(rt: HostRuntime) -> Result<(), Fail> {
-    for (refusal, sources) in calls::TABLES {
-        for source in sources {
-            expect_answer(&rt, refusal, source)?;
-        }
+/// The same of each source of a table, one a line.
+pub fn expect_answers<R: Abort + AllocGlobal>(
+    rt: &R,
+    refusal: &str,
+    sources: &str,
+) -> Result<(), Fail> {
+    for source in sources.lines() {
+        expect_answer(rt, refusal, source)?;
     }
-    for (refusal, sources) in texts::TABLES {
-        for source in sources {
-            expect_answer(&rt, refusal, source)?;
-        }
+    Ok(())
+}
+
+#[test]
+fn tells_where_rules_of_names_fail(rt: HostRuntime) -> Result<(), Fail> {
+    for &(refusal, sources) in &calls::NAMES {
+        expect_answers(&rt, refusal, sources)?;
+    }
+    Ok(())
+}
+
+#[test]
+fn tells_where_rules_of_uses_fail(rt: HostRuntime) -> Result<(), Fail> {
+    for &(refusal, sources) in &calls::USES {
+        expect_answers(&rt, refusal, sources)?;
+    }
+    Ok(())
+}
+
+#[test]
+fn tells_where_rules_of_types_fail(rt: HostRuntime) -> Result<(), Fail> {
+    for &(refusal, sources) in &texts::TYPES {
+        expect_answers(&rt, refusal, sources)?;
+    }
+    Ok(())
+}
+
+#[test]
+fn tells_where_rules_of_places_fail(rt: HostRuntime) -> Result<(), Fail> {
+    for &(refusal, sources) in &texts::PLACES {
+        expect_answers(&rt, refusal, sources)?;
     }
     Ok(())
 }
 
 #[test]
 fn tells_the_first_fault(rt: HostRuntime) -> Result<(), Fail> {
-    for row in FIRST_FAULTS {
-        let Some((refusal, marked)) = row.split_once('|') else {
-            return Err(Fail::new("a row without a refusal"));
-        };
+    for &row in &FIRST_FAULTS {
+        let (refusal, marked) = columns(row)?;
         expect_answer(&rt, refusal, marked)?;
     }
-    for (body, refusal) in BODIES {
+    for row in &BODIES {
+        let (body, refusal) = columns(row)?;
         let text = format!(in rt.alloc();
             "class APPLICATION create make feature n: INTEGER make do {body} end end"
         )?;
@@ -357,31 +349,26 @@ fn tells_the_first_fault(rt: HostRuntime) -> Result<(), Fail> {
     Ok(())
 }
 
-/// Checks a source that is refused so, or accepted where nothing follows `refused`.
-fn expect_line<R: Abort + AllocGlobal>(rt: &R, text: &str, refusal: &str) -> Result<(), Fail> {
-    if refusal.is_empty() {
-        return expect(rt, &CHECK, text, done("ok\n"));
-    }
-    let line = format!(in rt.alloc(); "refused {refusal}\n")?;
-    expect(rt, &CHECK, text, refused(line.as_str()))
-}
-
 #[test]
 fn judges_whole_systems(rt: HostRuntime) -> Result<(), Fail> {
-    for (attribute, routines, refusal) in ON_CELLS {
+    for row in &ON_CELLS {
+        let (attribute, more) = columns(row)?;
+        let (routines, refusal) = columns(more)?;
         let text = format!(in rt.alloc();
             "class APPLICATION create make\nfeature\n\t{attribute}\n\t{routines}\nend\nclass CELL create set\nfeature\n\titem: INTEGER\n\tset (v: INTEGER) do item := v end\nend\n"
         )?;
         expect_line(&rt, text.as_str(), refusal)?;
     }
-    for (routines, more, refusal) in ON_NODES {
+    for row in &ON_NODES {
+        let (routines, rest) = columns(row)?;
+        let (more, refusal) = columns(rest)?;
         let text = format!(in rt.alloc();
             "class APPLICATION create make\nfeature\n\tmake do end\n\t{routines}\nend\nclass NODE feature next: NODE{more} end\n"
         )?;
         expect_line(&rt, text.as_str(), refusal)?;
     }
     expect_line(&rt, OWN_ARGUMENT, "V3 ArgumentType app.e:5:34")?;
-    for text in ACCEPTED {
+    for &text in &ACCEPTED {
         expect_line(&rt, text, "")?;
     }
     Ok(())

@@ -1,6 +1,6 @@
 // The words of the command line.
 
-use super::{Wanted, call, done, expect_of, usage};
+use super::{Wanted, call, done, expect_of, line_of, usage};
 use crate::program::fake::FakeFile;
 use std::test::Fail;
 
@@ -49,38 +49,41 @@ fn takes_options_in_any_place(rt: HostRuntime) -> Result<(), Fail> {
             },
         ),
     ];
-    for (words, wanted) in cases {
+    for &(words, wanted) in &cases {
         expect_of(&rt, words, &files, wanted)?;
     }
     Ok(())
 }
 
+/// Words that the command line doesn't have.
+const OTHER_WORDS: [&[&str]; 16] = [
+    &["scoop"],
+    &["scoop", "a.e"],
+    &["scoop", "run"],
+    &["scoop", "check", "--root", "A.f"],
+    &["scoop", "check", "--turns", "1", "a.e"],
+    &["scoop", "print"],
+    &["scoop", "print", "--root", "A.f", "a.e"],
+    &["scoop", "run", "--turns", "0", "a.e"],
+    &["scoop", "run", "--turns", "10000001", "a.e"],
+    &["scoop", "run", "--turns", "-1", "a.e"],
+    &["scoop", "run", "--turns", "1e3", "a.e"],
+    &["scoop", "run", "--turns", "", "a.e"],
+    &["scoop", "run", "--turns", "1", "--turns", "1", "a.e"],
+    &["scoop", "run", "a.e", "--turns"],
+    &["scoop", "run", "--fast", "a.e"],
+    // Other faults of the words come before a bad root.
+    &["scoop", "run", "--root", "A", "--turns", "0", "a.e"],
+];
+
 #[test]
 fn refuses_other_words(rt: HostRuntime) -> Result<(), Fail> {
     let files = [FakeFile::new("a.e", TEXT)];
-    let cases: [&[&str]; 16] = [
-        &["scoop"],
-        &["scoop", "a.e"],
-        &["scoop", "run"],
-        &["scoop", "check", "--root", "A.f"],
-        &["scoop", "check", "--turns", "1", "a.e"],
-        &["scoop", "print"],
-        &["scoop", "print", "--root", "A.f", "a.e"],
-        &["scoop", "run", "--turns", "0", "a.e"],
-        &["scoop", "run", "--turns", "10000001", "a.e"],
-        &["scoop", "run", "--turns", "-1", "a.e"],
-        &["scoop", "run", "--turns", "1e3", "a.e"],
-        &["scoop", "run", "--turns", "", "a.e"],
-        &["scoop", "run", "--turns", "1", "--turns", "1", "a.e"],
-        &["scoop", "run", "a.e", "--turns"],
-        &["scoop", "run", "--fast", "a.e"],
-        // Other faults of the words come before a bad root.
-        &["scoop", "run", "--root", "A", "--turns", "0", "a.e"],
-    ];
-    for words in cases {
+    for &words in &OTHER_WORDS {
         let outcome = call(&rt, words, &files)?;
-        assert_eq!(rt; outcome.status, 2, "for {words:?}");
-        assert_eq!(rt; outcome.out.as_str(), "", "for {words:?}");
+        let line = line_of(rt.alloc(), words)?;
+        assert_eq!(rt; outcome.status, 2, "for {line}");
+        assert_eq!(rt; outcome.out.as_str(), "", "for {line}");
         assert!(rt;
             outcome.err.as_str().contains("Usage: ") || outcome.err.as_str().starts_with("error: ")
         );
@@ -94,7 +97,7 @@ fn tells_a_bad_root(rt: HostRuntime) -> Result<(), Fail> {
         "", "A", "A.", ".f", "A.f.g", "A..f", "A .f", " A.f", "A.f ", "A.f\n", "A.f--", "A:f",
         "A.1", "1A.f", "_A.f", "A.class", "class.f", "A.\u{e9}", "A-B.f",
     ];
-    for root in roots {
+    for &root in &roots {
         // The root is at fault before the file, which isn't there.
         let words = ["scoop", "check", "--root", root, "a.e"];
         expect_of(&rt, &words, &[], usage("bad root\n"))?;
@@ -102,21 +105,24 @@ fn tells_a_bad_root(rt: HostRuntime) -> Result<(), Fail> {
     Ok(())
 }
 
+/// Words that ask for help, and what it has.
+const HELPS: [(&[&str], &str); 6] = [
+    (&["scoop", "--help"], "Usage: scoop <COMMAND>"),
+    (&["scoop", "run", "--help"], "--turns <N>"),
+    (&["scoop", "check", "--help"], "[default: APPLICATION.make]"),
+    (&["scoop", "help", "run"], "stopped limit"),
+    (&["scoop", "print", "--help"], "canonical"),
+    (&["scoop", "--version"], "scoop 0.1.0\n"),
+];
+
 #[test]
 fn helps(rt: HostRuntime) -> Result<(), Fail> {
-    let cases: [(&[&str], &str); 6] = [
-        (&["scoop", "--help"], "Usage: scoop <COMMAND>"),
-        (&["scoop", "run", "--help"], "--turns <N>"),
-        (&["scoop", "check", "--help"], "[default: APPLICATION.make]"),
-        (&["scoop", "help", "run"], "stopped limit"),
-        (&["scoop", "print", "--help"], "canonical"),
-        (&["scoop", "--version"], "scoop 0.1.0\n"),
-    ];
-    for (words, wanted) in cases {
+    for &(words, wanted) in &HELPS {
         let outcome = call(&rt, words, &[])?;
-        assert!(rt; outcome.out.as_str().contains(wanted), "for {words:?}");
-        assert_eq!(rt; outcome.err.as_str(), "", "for {words:?}");
-        assert_eq!(rt; outcome.status, 0, "for {words:?}");
+        let line = line_of(rt.alloc(), words)?;
+        assert!(rt; outcome.out.as_str().contains(wanted), "for {line}");
+        assert_eq!(rt; outcome.err.as_str(), "", "for {line}");
+        assert_eq!(rt; outcome.status, 0, "for {line}");
     }
     Ok(())
 }

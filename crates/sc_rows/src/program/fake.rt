@@ -41,13 +41,15 @@ impl<'a> Files for FakeFiles<'a> {
     type Writer = Sink;
 
     fn reader(&self, name: &str) -> io::Result<FakeReader<'a>> {
-        match self.files.iter().find(|file| file.name == name) {
-            Some(file) => Ok(FakeReader {
-                bytes: file.bytes,
-                is_broken: file.is_broken,
-            }),
-            None => Err(io::Error::from(ErrorKind::NotFound)),
+        for file in self.files {
+            if file.name == name {
+                return Ok(FakeReader {
+                    bytes: file.bytes,
+                    is_broken: file.is_broken,
+                });
+            }
         }
+        Err(io::Error::from(ErrorKind::NotFound))
     }
 
     fn writer(&self, _name: &str) -> io::Result<Sink> {

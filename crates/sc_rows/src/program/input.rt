@@ -1,6 +1,6 @@
 // Files that can't be read.
 
-use super::{expect_of, refused, usage};
+use super::{columns, expect_of, refused, usage};
 use crate::program::fake::FakeFile;
 use sc_serve::source::LONGEST_SOURCE;
 use std::test::Fail;
@@ -26,9 +26,16 @@ fn tells_the_file_that_cannot_be_read(rt: HostRuntime) -> Result<(), Fail> {
             is_broken: true,
         },
     ];
-    for name in ["none.e", "latin.e", "cut.e", "broken.e", "dir/a.e"] {
+    for row in &[
+        "none.e|there is no such file",
+        "latin.e|it isn't UTF-8 at offset 6",
+        "cut.e|it isn't UTF-8 at offset 6",
+        "broken.e|other error",
+        "dir/a.e|there is no such file",
+    ] {
+        let (name, reason) = columns(row)?;
         let words = ["scoop", "run", "a.e", name, "a.e"];
-        let err = format!(in rt.alloc(); "cannot read {name}\n")?;
+        let err = format!(in rt.alloc(); "cannot read {name}\n{reason}\n")?;
         expect_of(&rt, &words, &files, usage(err.as_str()))?;
     }
     Ok(())
@@ -63,7 +70,12 @@ fn reads_a_file_no_further_than_a_source_may_be_long(rt: HostRuntime) -> Result<
         let words = ["scoop", "check", "a.e", "b.e"];
         expect_of(&rt, &words, &files, too_long)?;
         let words = ["scoop", "check", "b.e", "a.e"];
-        expect_of(&rt, &words, &files, usage("cannot read b.e\n"))?;
+        expect_of(
+            &rt,
+            &words,
+            &files,
+            usage("cannot read b.e\nit isn't UTF-8 at offset 0\n"),
+        )?;
     }
     Ok(())
 }
@@ -74,7 +86,7 @@ fn takes_the_longest_source(rt: HostRuntime) -> Result<(), Fail> {
     for _ in 1..LONGEST_SOURCE {
         bytes.push(b' ')?;
     }
-    for wanted in ["refused C6 NoRoot\n", "refused L5 SourceTooLong\n"] {
+    for &wanted in &["refused C6 NoRoot\n", "refused L5 SourceTooLong\n"] {
         let file = FakeFile {
             name: "a.e",
             bytes: bytes.as_slice(),

@@ -1,6 +1,6 @@
 // What operators, instructions, defaults and invariants mean, each row worked out by hand from the language's rules.
 
-use super::{Wanted, expect};
+use super::{Wanted, columns, expect};
 use std::process::Abort;
 use std::test::Fail;
 
@@ -165,93 +165,57 @@ const PRINTED: [&[&str]; 9] = [
 ];
 
 /// Expressions over the same attributes, and the failure of the handler that evaluates each.
-const FAILING: [(&str, &str); 22] = [
-    ("9223372036854775807 + 1", "F5"),
-    ("- 9223372036854775807 - 1 + -1", "F5"),
-    ("- 9223372036854775807 - 2", "F5"),
-    ("9223372036854775807 - -1", "F5"),
-    ("0 - (- 9223372036854775807 - 1)", "F5"),
-    ("3037000500 * 3037000500", "F5"),
-    ("4611686018427387904 * 2", "F5"),
-    ("-1 * (- 9223372036854775807 - 1)", "F5"),
-    ("- (- 9223372036854775807 - 1)", "F5"),
-    ("(- 9223372036854775807 - 1) // -1", "F5"),
-    ("1 // n", "F6"),
-    ("0 // n", "F6"),
-    ("1 \\\\ n", "F6"),
-    ("(- 9223372036854775807 - 1) \\\\ n", "F6"),
+const FAILING: [&str; 22] = [
+    "9223372036854775807 + 1|F5",
+    "- 9223372036854775807 - 1 + -1|F5",
+    "- 9223372036854775807 - 2|F5",
+    "9223372036854775807 - -1|F5",
+    "0 - (- 9223372036854775807 - 1)|F5",
+    "3037000500 * 3037000500|F5",
+    "4611686018427387904 * 2|F5",
+    "-1 * (- 9223372036854775807 - 1)|F5",
+    "- (- 9223372036854775807 - 1)|F5",
+    "(- 9223372036854775807 - 1) // -1|F5",
+    "1 // n|F6",
+    "0 // n|F6",
+    "1 \\\\ n|F6",
+    "(- 9223372036854775807 - 1) \\\\ n|F6",
     // Both sides of these are evaluated.
-    ("False and 1 // n = 0", "F6"),
-    ("True or 1 // n = 0", "F6"),
-    ("True xor 1 // n = 0", "F6"),
-    ("False = (1 // n = 0)", "F6"),
+    "False and 1 // n = 0|F6",
+    "True or 1 // n = 0|F6",
+    "True xor 1 // n = 0|F6",
+    "False = (1 // n = 0)|F6",
     // A right side that matters.
-    ("True and then 1 // n = 0", "F6"),
-    ("False or else 1 // n = 0", "F6"),
-    ("True implies 1 // n = 0", "F6"),
+    "True and then 1 // n = 0|F6",
+    "False or else 1 // n = 0|F6",
+    "True implies 1 // n = 0|F6",
     // The left operand goes first.
-    ("(9223372036854775807 + 1) * (1 // n)", "F5"),
+    "(9223372036854775807 + 1) * (1 // n)|F5",
 ];
 
 /// Routines of a class with the attributes `n`, `m` (INTEGER) and `b` (BOOLEAN), and what is printed.
-const INSTRUCTIONS: [(&str, &str); 21] = [
-    ("make do if True then print (1) end print (2) end", "12"),
-    ("make do if False then print (1) end print (2) end", "2"),
-    ("make do if True then print (1) else print (2) end end", "1"),
-    (
-        "make do if False then print (1) else print (2) end end",
-        "2",
-    ),
-    (
-        "make do if True then print (1) elseif True then print (2) else print (3) end end",
-        "1",
-    ),
-    (
-        "make do if False then print (1) elseif True then print (2) else print (3) end end",
-        "2",
-    ),
-    (
-        "make do if False then print (1) elseif False then print (2) else print (3) end end",
-        "3",
-    ),
-    (
-        "make do if False then print (1) elseif False then print (2) elseif True then print (3) else print (4) end end",
-        "3",
-    ),
-    (
-        "make do if False then print (1) elseif False then print (2) elseif False then print (3) end print (4) end",
-        "4",
-    ),
-    (
-        "make do if False then print (1) elseif True then print (2) elseif True then print (3) else print (4) end end",
-        "2",
-    ),
-    ("make do n := 3 print (n) n := n + 1 print (n) end", "34"),
-    ("make do n := 3 m := n n := 4 print (m) print (n) end", "34"),
-    (
-        "make do b := True print (b) b := not b print (b) end",
-        "TrueFalse",
-    ),
-    ("make do b := n = 0 print (b) end", "True"),
-    (
-        "make do p print (n) p print (n) end p do n := n + 2 end",
-        "24",
-    ),
-    (
-        "make do if n < 5 then n := n + 1 make print (n) end end",
-        "55555",
-    ),
-    ("make do print (\"\") end", ""),
-    (
-        "make do print (\"a%Nb%Tc%%d%\"e%'f\") end",
-        "a\nb\tc%d\"e'f",
-    ),
-    ("make do print (\"é\") end", "é"),
-    ("make do print (\"\u{1f600}\") print (1) end", "\u{1f600}1"),
-    (
-        "make do print (-1) print (True) print (\" \") print (False) end",
-        "-1True False",
-    ),
+const INSTRUCTIONS: [&str; 21] = [
+    "make do if True then print (1) end print (2) end|12",
+    "make do if False then print (1) end print (2) end|2",
+    "make do if True then print (1) else print (2) end end|1",
+    "make do if False then print (1) else print (2) end end|2",
+    "make do if True then print (1) elseif True then print (2) else print (3) end end|1",
+    "make do if False then print (1) elseif True then print (2) else print (3) end end|2",
+    "make do if False then print (1) elseif False then print (2) else print (3) end end|3",
+    "make do if False then print (1) elseif False then print (2) elseif True then print (3) else print (4) end end|3",
+    "make do if False then print (1) elseif False then print (2) elseif False then print (3) end print (4) end|4",
+    "make do if False then print (1) elseif True then print (2) elseif True then print (3) else print (4) end end|2",
+    "make do n := 3 print (n) n := n + 1 print (n) end|34",
+    "make do n := 3 m := n n := 4 print (m) print (n) end|34",
+    "make do b := True print (b) b := not b print (b) end|TrueFalse",
+    "make do b := n = 0 print (b) end|True",
+    "make do p print (n) p print (n) end p do n := n + 2 end|24",
+    "make do if n < 5 then n := n + 1 make print (n) end end|55555",
+    "make do print (\"\") end|",
+    "make do print (\"a%Nb%Tc%%d%\"e%'f\") end|a\nb\tc%d\"e'f",
+    "make do print (\"é\") end|é",
+    "make do print (\"\u{1f600}\") print (1) end|\u{1f600}1",
+    "make do print (-1) print (True) print (\" \") print (False) end|-1True False",
 ];
 
 /// Routines and invariants of such a class, and whether its creation ends well.
@@ -327,11 +291,9 @@ fn expect_run<R: Abort + AllocGlobal>(
 
 #[test]
 fn prints_expressions(rt: HostRuntime) -> Result<(), Fail> {
-    for table in PRINTED {
+    for &table in &PRINTED {
         for row in table {
-            let Some((expression, output)) = row.split_once('|') else {
-                return Err(Fail::new("a row without an output"));
-            };
+            let (expression, output) = columns(row)?;
             let features = format!(in rt.alloc(); "make do print ({expression}) end")?;
             expect_run(&rt, features.as_str(), "", output)?;
         }
@@ -341,7 +303,8 @@ fn prints_expressions(rt: HostRuntime) -> Result<(), Fail> {
 
 #[test]
 fn fails_in_expressions(rt: HostRuntime) -> Result<(), Fail> {
-    for (expression, cause) in FAILING {
+    for row in &FAILING {
+        let (expression, cause) = columns(row)?;
         let features = format!(in rt.alloc(); "make do print ({expression}) end")?;
         expect_run(&rt, features.as_str(), cause, "")?;
     }
@@ -350,7 +313,8 @@ fn fails_in_expressions(rt: HostRuntime) -> Result<(), Fail> {
 
 #[test]
 fn plays_instructions(rt: HostRuntime) -> Result<(), Fail> {
-    for (routines, output) in INSTRUCTIONS {
+    for row in &INSTRUCTIONS {
+        let (routines, output) = columns(row)?;
         expect_run(&rt, routines, "", output)?;
     }
     Ok(())
@@ -358,7 +322,7 @@ fn plays_instructions(rt: HostRuntime) -> Result<(), Fail> {
 
 #[test]
 fn tests_invariants(rt: HostRuntime) -> Result<(), Fail> {
-    for (routines, clauses, holds) in INVARIANTS {
+    for &(routines, clauses, holds) in &INVARIANTS {
         let features = format!(in rt.alloc(); "{routines} invariant {clauses}")?;
         expect_run(&rt, features.as_str(), if holds { "" } else { "F1" }, "")?;
     }

@@ -2,7 +2,8 @@
 
 use super::refusals::CHECK;
 use super::sources::{BLOCK, BUFFER, CALLBACK, HANDLER_TESTS, SEPARATE_CALL, TRAITOR};
-use super::{done, expect, refused, usage};
+use super::{call, columns, done, expect, refused};
+use crate::program::fake::FakeFile;
 use std::process::Abort;
 use std::test::Fail;
 
@@ -48,30 +49,24 @@ const BODIES: [&str; 10] = [
 ];
 
 /// Bodies that are more, in which a rule fails, and what follows `refused` in their answers.
-const FAULTY_BODIES: [(&str, &str); 17] = [
-    ("n.make", "V1 UnknownName app.e:1:60"),
-    ("make (1)", "V2 WrongArity app.e:1:58"),
-    ("print (1, 2)", "V2 WrongArity app.e:1:58"),
-    ("n.print (1)", "V1 UnknownName app.e:1:60"),
-    ("Result := 1", "V7 ResultType app.e:1:58"),
-    ("create n", "V11 NotCreation app.e:1:65"),
-    ("separate n as x do end", "V3 ArgumentType app.e:1:67"),
-    ("print (Void)", "V3 ArgumentType app.e:1:65"),
-    ("print (Current)", "V3 ArgumentType app.e:1:65"),
-    ("print (Result)", "V7 ResultType app.e:1:65"),
-    ("print (n.n)", "V1 UnknownName app.e:1:67"),
-    ("print (n (1))", "V2 WrongArity app.e:1:65"),
-    ("print (old n)", "V19 OldPlace app.e:1:65"),
-    ("print (attached n as x)", "V18 ObjectTestPlace app.e:1:65"),
-    (
-        "if True then elseif True then n := -Void end",
-        "V20 VoidUse app.e:1:94",
-    ),
-    (
-        "if True then else print (1 = Void) end",
-        "V9 OperatorType app.e:1:83",
-    ),
-    ("if not Void then end", "V20 VoidUse app.e:1:65"),
+const FAULTY_BODIES: [&str; 17] = [
+    "n.make|V1 UnknownName app.e:1:60",
+    "make (1)|V2 WrongArity app.e:1:58",
+    "print (1, 2)|V2 WrongArity app.e:1:58",
+    "n.print (1)|V1 UnknownName app.e:1:60",
+    "Result := 1|V7 ResultType app.e:1:58",
+    "create n|V11 NotCreation app.e:1:65",
+    "separate n as x do end|V3 ArgumentType app.e:1:67",
+    "print (Void)|V3 ArgumentType app.e:1:65",
+    "print (Current)|V3 ArgumentType app.e:1:65",
+    "print (Result)|V7 ResultType app.e:1:65",
+    "print (n.n)|V1 UnknownName app.e:1:67",
+    "print (n (1))|V2 WrongArity app.e:1:65",
+    "print (old n)|V19 OldPlace app.e:1:65",
+    "print (attached n as x)|V18 ObjectTestPlace app.e:1:65",
+    "if True then elseif True then n := -Void end|V20 VoidUse app.e:1:94",
+    "if True then else print (1 = Void) end|V9 OperatorType app.e:1:83",
+    "if not Void then end|V20 VoidUse app.e:1:65",
 ];
 
 /// Systems that are more, in which a rule fails, and what follows `refused` in their answers.
@@ -98,21 +93,27 @@ const FAULTY_SYSTEMS: [(&str, &str); 5] = [
 /// Checks a system that is well formed, and asks for a run of it.
 fn expect_not_yet<R: Abort + AllocGlobal>(rt: &R, text: &str) -> Result<(), Fail> {
     expect(rt, &CHECK, text, done("ok\n"))?;
-    expect(rt, &RUN, text, usage("not yet\n"))
+    let outcome = call(rt, &RUN, &[FakeFile::new("app.e", text)])?;
+    let err = outcome.err.as_str();
+    assert!(rt; err.starts_with("not yet\napp.e:"), "for {text}");
+    assert!(rt; err.ends_with(" isn't run yet\n"), "for {text}");
+    assert_eq!(rt; outcome.status, 2, "for {text}");
+    assert_eq!(rt; outcome.out.as_str(), "", "for {text}");
+    Ok(())
 }
 
 #[test]
 fn checks_what_is_not_run_yet(rt: HostRuntime) -> Result<(), Fail> {
-    for text in SYSTEMS {
+    for &text in &SYSTEMS {
         expect_not_yet(&rt, text)?;
     }
-    for feature in FEATURES {
+    for &feature in &FEATURES {
         let text = format!(in rt.alloc();
             "class APPLICATION create make feature make do end {feature} end"
         )?;
         expect_not_yet(&rt, text.as_str())?;
     }
-    for body in BODIES {
+    for &body in &BODIES {
         let text = format!(in rt.alloc();
             "class APPLICATION create make feature n: INTEGER make do {body} end end"
         )?;
@@ -130,10 +131,11 @@ fn expect_fault<R: Abort + AllocGlobal>(rt: &R, text: &str, refusal: &str) -> Re
 
 #[test]
 fn says_what_fails_before_what_is_not_run_yet(rt: HostRuntime) -> Result<(), Fail> {
-    for (text, refusal) in FAULTY_SYSTEMS {
+    for &(text, refusal) in &FAULTY_SYSTEMS {
         expect_fault(&rt, text, refusal)?;
     }
-    for (body, refusal) in FAULTY_BODIES {
+    for row in &FAULTY_BODIES {
+        let (body, refusal) = columns(row)?;
         let text = format!(in rt.alloc();
             "class APPLICATION create make feature n: INTEGER make do {body} end end"
         )?;

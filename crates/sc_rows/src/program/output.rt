@@ -1,8 +1,10 @@
 // Writers that fail.
 
+use super::line_of;
 use crate::program::fake::{FakeFile, FakeFiles};
 use sc_serve::serve::{Exit, serve};
 use std::io::{self, ErrorKind, Write};
+use std::process::Abort;
 use std::test::Fail;
 
 /// A writer that takes one byte a call, and fails from some call on.
@@ -39,81 +41,95 @@ impl Write for FailingWriter {
     }
 }
 
+/// What a call writes to writers that fail after so many calls, and its status.
+fn call_failing<R: AllocGlobal>(
+    rt: &R,
+    words: &[&str],
+    files: &[FakeFile<'_>],
+    calls: [usize; 2],
+) -> Result<(u8, Vec<u8>, Vec<u8>), Fail> {
+    let mut out = FailingWriter {
+        bytes: Vec::new(rt.alloc()),
+        calls_left: calls[0],
+    };
+    let mut err = FailingWriter {
+        bytes: Vec::new(rt.alloc()),
+        calls_left: calls[1],
+    };
+    let status = serve(rt, words, &FakeFiles { files }, &mut out, &mut err);
+    if status == Exit::OutOfMemory as u8 {
+        return Err(Fail::new("out of memory"));
+    }
+    Ok((status, out.bytes, err.bytes))
+}
+
+/// Compares what such a call writes, and its status, with those of a call whose output doesn't fail.
+fn expect_cut<R: Abort + AllocGlobal>(
+    rt: &R,
+    words: &[&str],
+    files: &[FakeFile<'_>],
+    calls: usize,
+    (status, wanted): (u8, &str),
+) -> Result<(), Fail> {
+    let (got, out, err) = call_failing(rt, words, files, [calls, usize::MAX])?;
+    let is_whole = calls > wanted.len();
+    let status = if is_whole { status } else { 2 };
+    assert_eq!(rt; got, status, "after {calls} calls");
+    let told = if is_whole {
+        ""
+    } else {
+        "cannot write standard output\n"
+    };
+    assert_eq!(rt; err.as_slice(), told.as_bytes(), "after {calls} calls");
+    let count = calls.min(wanted.len());
+    assert_eq!(rt;
+        out.as_slice(),
+        &wanted.as_bytes()[..count],
+        "after {calls} calls"
+    );
+    Ok(())
+}
+
+const TEXT: &str = "class APPLICATION create make feature make do print (8) end end";
+
+/// Words, and the status and the output of their call.
+const CALLS: [(&[&str], u8, &str); 3] = [
+    (&["scoop", "check", "a.e"], 0, "ok\n"),
+    (&["scoop", "check", "b.e"], 1, "refused C6 NoRoot\n"),
+    (
+        &["scoop", "run", "a.e"],
+        0,
+        "handler 0 free refused 0 output 1\n8\nstopped idle\n",
+    ),
+];
+
 #[test]
 fn ends_with_2_where_the_output_fails(rt: HostRuntime) -> Result<(), Fail> {
-    let text = "class APPLICATION create make feature make do print (8) end end";
-    let cases: [(&[&str], u8, &str); 3] = [
-        (&["scoop", "check", "a.e"], 0, "ok\n"),
-        (&["scoop", "check", "b.e"], 1, "refused C6 NoRoot\n"),
-        (
-            &["scoop", "run", "a.e"],
-            0,
-            "handler 0 free refused 0 output 1\n8\nstopped idle\n",
-        ),
-    ];
-    let files = [FakeFile::new("a.e", text), FakeFile::new("b.e", "")];
-    for (words, status, wanted) in cases {
+    let files = [FakeFile::new("a.e", TEXT), FakeFile::new("b.e", "")];
+    for &(words, status, wanted) in &CALLS {
         // One call for each byte, and one to flush.
         for calls in 0..wanted.len() + 2 {
-            let mut out = FailingWriter {
-                bytes: Vec::new(rt.alloc()),
-                calls_left: calls,
-            };
-            let mut err = FailingWriter {
-                bytes: Vec::new(rt.alloc()),
-                calls_left: usize::MAX,
-            };
-            let got = serve(&rt, words, &FakeFiles { files: &files }, &mut out, &mut err);
-            if got == Exit::OutOfMemory as u8 {
-                return Err(Fail::new("out of memory"));
-            }
-            let is_whole = calls > wanted.len();
-            assert_eq!(rt;
-                got,
-                if is_whole { status } else { 2 },
-                "after {calls} calls"
-            );
-            let told = if is_whole {
-                ""
-            } else {
-                "cannot write standard output\n"
-            };
-            assert_eq!(rt;
-                err.bytes.as_slice(),
-                told.as_bytes(),
-                "after {calls} calls"
-            );
-            let count = calls.min(wanted.len());
-            assert_eq!(rt;
-                out.bytes.as_slice(),
-                &wanted.as_bytes()[..count],
-                "after {calls} calls"
-            );
+            expect_cut(&rt, words, &files, calls, (status, wanted))?;
         }
     }
     Ok(())
 }
 
+/// Words whose calls tell a fault.
+const FAULTY: [&[&str]; 3] = [
+    &["scoop", "run"],
+    &["scoop", "run", "--root", "A", "a.e"],
+    &["scoop", "run", "a.e"],
+];
+
 #[test]
 fn keeps_its_status_where_standard_error_fails(rt: HostRuntime) -> Result<(), Fail> {
-    let cases: [&[&str]; 3] = [
-        &["scoop", "run"],
-        &["scoop", "run", "--root", "A", "a.e"],
-        &["scoop", "run", "a.e"],
-    ];
-    for words in cases {
+    for &words in &FAULTY {
         for calls in 0..40 {
-            let mut out = Vec::new(rt.alloc());
-            let mut err = FailingWriter {
-                bytes: Vec::new(rt.alloc()),
-                calls_left: calls,
-            };
-            let got = serve(&rt, words, &FakeFiles { files: &[] }, &mut out, &mut err);
-            if got == Exit::OutOfMemory as u8 {
-                return Err(Fail::new("out of memory"));
-            }
-            assert_eq!(rt; got, 2, "for {words:?} after {calls} calls");
-            assert!(rt; out.is_empty(), "for {words:?}");
+            let (status, out, _) = call_failing(&rt, words, &[], [usize::MAX, calls])?;
+            let line = line_of(rt.alloc(), words)?;
+            assert_eq!(rt; status, 2, "for {line}after {calls} calls");
+            assert!(rt; out.is_empty(), "for {line}");
         }
     }
     Ok(())

@@ -3,7 +3,7 @@
 use super::sources::{
     ANOTHER_LAYOUT, BLOCK, BUFFER, CALLBACK, CANONICAL, HANDLER_TESTS, SEPARATE_CALL, TRAITOR,
 };
-use super::{call, done, expect, expect_of, refused};
+use super::{call, columns, done, expect, expect_of, refused};
 use crate::program::fake::FakeFile;
 use std::test::Fail;
 
@@ -27,33 +27,34 @@ const LAYOUTS: [(&str, &str); 6] = [
 ];
 
 /// What is printed by a routine, and how it is laid out.
-const PRINTED: [(&str, &str); 18] = [
-    ("1*1", "1 * 1"),
-    ("1//1", "1 // 1"),
-    ("1\\\\1", "1 \\\\ 1"),
-    ("1+1", "1 + 1"),
-    ("1-1", "1 - 1"),
-    ("1=1", "1 = 1"),
-    ("1/=1", "1 /= 1"),
-    ("1<1", "1 < 1"),
-    ("1>1", "1 > 1"),
-    ("1<=1", "1 <= 1"),
-    ("1>=1", "1 >= 1"),
-    ("1 AND 1", "1 and 1"),
-    ("1 and\nTHEN 1", "1 and then 1"),
-    ("1 Or 1", "1 or 1"),
-    ("1 or\telse 1", "1 or else 1"),
-    ("1 XOR 1", "1 xor 1"),
-    ("1 implieS 1", "1 implies 1"),
-    ("\"\t%%%\"%N%%N\"", "\"%T%%%\"%N%%N\""),
+const PRINTED: [&str; 18] = [
+    "1*1|1 * 1",
+    "1//1|1 // 1",
+    "1\\\\1|1 \\\\ 1",
+    "1+1|1 + 1",
+    "1-1|1 - 1",
+    "1=1|1 = 1",
+    "1/=1|1 /= 1",
+    "1<1|1 < 1",
+    "1>1|1 > 1",
+    "1<=1|1 <= 1",
+    "1>=1|1 >= 1",
+    "1 AND 1|1 and 1",
+    "1 and\nTHEN 1|1 and then 1",
+    "1 Or 1|1 or 1",
+    "1 or\telse 1|1 or else 1",
+    "1 XOR 1|1 xor 1",
+    "1 implieS 1|1 implies 1",
+    "\"\t%%%\"%N%%N\"|\"%T%%%\"%N%%N\"",
 ];
 
 #[test]
 fn prints_one_layout(rt: HostRuntime) -> Result<(), Fail> {
-    for (text, wanted) in LAYOUTS {
+    for &(text, wanted) in &LAYOUTS {
         expect(&rt, &PRINT, text, done(wanted))?;
     }
-    for (printed, wanted) in PRINTED {
+    for row in &PRINTED {
+        let (printed, wanted) = columns(row)?;
         let text = format!(in rt.alloc(); "class a feature f do print ({printed}) end end")?;
         let layout = format!(in rt.alloc();
             "class A\nfeature\n\tf\n\t\tdo\n\t\t\tprint ({wanted})\n\t\tend\nend\n"
@@ -65,7 +66,7 @@ fn prints_one_layout(rt: HostRuntime) -> Result<(), Fail> {
 
 #[test]
 fn prints_again_what_it_printed(rt: HostRuntime) -> Result<(), Fail> {
-    for text in [
+    for &text in &[
         SEPARATE_CALL,
         BLOCK,
         TRAITOR,
@@ -101,7 +102,7 @@ fn refuses_to_print_what_is_no_system(rt: HostRuntime) -> Result<(), Fail> {
         ),
         ("class A @", "refused L1 BadCharacter app.e:1:9\n"),
     ];
-    for (text, wanted) in cases {
+    for &(text, wanted) in &cases {
         expect(&rt, &PRINT, text, refused(wanted))?;
     }
     Ok(())

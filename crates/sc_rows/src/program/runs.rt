@@ -65,7 +65,7 @@ const RUNS: [(&str, u8, &str); 9] = [
 
 #[test]
 fn reports_what_became_of_the_handler(rt: HostRuntime) -> Result<(), Fail> {
-    for (routines, status, report) in RUNS {
+    for &(routines, status, report) in &RUNS {
         let text = format!(in rt.alloc();
             "class APPLICATION create make\nfeature\n\tn: INTEGER\n\t{routines}\ninvariant n >= 0\nend\n"
         )?;
@@ -85,24 +85,30 @@ const ROOTS: &str = "class A create f, G feature f do print (1) end g do print (
 class B create h feature h do print (3) end end
 ";
 
+const BUSY: &str = "handler 0 busy refused 0 output 1\n1\nstopped limit\n";
+
+const ONE: &str = "handler 0 free refused 0 output 1\n1\nstopped idle\n";
+
+const TWO: &str = "handler 0 free refused 0 output 1\n2\nstopped idle\n";
+
+const THREE: &str = "handler 0 free refused 0 output 1\n3\nstopped idle\n";
+
+/// An option and its value, a text, and the status and the output of its run.
+const TURNS_AND_ROOTS: [(&str, &str, &str, u8, &str); 9] = [
+    ("--turns", "4", COUNTER, 4, BUSY),
+    ("--turns", "5", COUNTER, 0, ONE),
+    ("--turns", "+6", COUNTER, 0, ONE),
+    ("--turns", "010", COUNTER, 0, ONE),
+    ("--root", "A.f", ROOTS, 0, ONE),
+    ("--root", "a.g", ROOTS, 0, TWO),
+    ("--root", "b.H", ROOTS, 0, THREE),
+    ("--root", "A.h", ROOTS, 1, "refused C6 NoRoot\n"),
+    ("--root", "any.f", ROOTS, 1, "refused C6 NoRoot\n"),
+];
+
 #[test]
 fn takes_turns_and_a_root(rt: HostRuntime) -> Result<(), Fail> {
-    let busy = "handler 0 busy refused 0 output 1\n1\nstopped limit\n";
-    let one = "handler 0 free refused 0 output 1\n1\nstopped idle\n";
-    let two = "handler 0 free refused 0 output 1\n2\nstopped idle\n";
-    let three = "handler 0 free refused 0 output 1\n3\nstopped idle\n";
-    let cases = [
-        ("--turns", "4", COUNTER, 4, busy),
-        ("--turns", "5", COUNTER, 0, one),
-        ("--turns", "+6", COUNTER, 0, one),
-        ("--turns", "010", COUNTER, 0, one),
-        ("--root", "A.f", ROOTS, 0, one),
-        ("--root", "a.g", ROOTS, 0, two),
-        ("--root", "b.H", ROOTS, 0, three),
-        ("--root", "A.h", ROOTS, 1, "refused C6 NoRoot\n"),
-        ("--root", "any.f", ROOTS, 1, "refused C6 NoRoot\n"),
-    ];
-    for (option, value, text, status, out) in cases {
+    for &(option, value, text, status, out) in &TURNS_AND_ROOTS {
         let wanted = Wanted {
             status,
             out,
@@ -116,7 +122,7 @@ fn takes_turns_and_a_root(rt: HostRuntime) -> Result<(), Fail> {
 #[test]
 fn bounds_nesting(rt: HostRuntime) -> Result<(), Fail> {
     let idle = "handler 0 free refused 0 output 0\n\nstopped idle\n";
-    for (count, wanted) in [
+    for &(count, wanted) in &[
         (64, done(idle)),
         (65, refused("refused P2 TooDeep app.e:4:79\n")),
     ] {

@@ -144,8 +144,7 @@ fn told(alloc: Global, text: &str) -> Result<String, AllocError> {
         let comma = if out.is_empty() { "" } else { ", " };
         let Span { start, end } = token.span;
         let kind = kind_text(alloc, &token.kind)?;
-        let token = format!(in alloc; "{comma}{start}..{end} {kind}")?;
-        out.push_str(&token)?;
+        write!(out, "{comma}{start}..{end} {kind}")?;
     }
     Ok(out)
 }
@@ -158,13 +157,13 @@ fn expect_told<R: Abort + AllocGlobal>(rt: &R, text: &str, wanted: &str) -> Resu
 
 #[test]
 fn tells_tokens_and_faults(rt: HostRuntime) -> Result<(), Fail> {
-    for (text, wanted) in TOKENS {
+    for &(text, wanted) in &TOKENS {
         expect_told(&rt, text, wanted)?;
     }
-    for (text, wanted) in FAULTS {
+    for &(text, wanted) in &FAULTS {
         expect_told(&rt, text, wanted)?;
     }
-    for (count, wanted) in SPACES {
+    for &(count, wanted) in &SPACES {
         let text = " ".repeat(rt.alloc(), count)?;
         let got = told(rt.alloc(), &text)?;
         assert_eq!(rt; got.as_str(), wanted, "of {count} spaces");
@@ -175,7 +174,7 @@ fn tells_tokens_and_faults(rt: HostRuntime) -> Result<(), Fail> {
 #[test]
 fn tells_reserved_words(rt: HostRuntime) -> Result<(), Fail> {
     let alloc = rt.alloc();
-    for word in RESERVED {
+    for &word in &RESERVED {
         let length = word.len();
         let wanted = format!(in alloc; "0..{length} {word}")?;
         expect_told(&rt, word, &wanted)?;

@@ -42,7 +42,7 @@ fn arithmetic(rt: HostRuntime) {
             Err(ArithmeticFault::DivideByZero),
         ),
     ];
-    for (what, got, wanted) in rows {
+    for &(what, got, wanted) in &rows {
         assert_eq!(rt; got, wanted, "{what}");
     }
 }
@@ -89,7 +89,7 @@ fn nested(alloc: Global, depth: u32) -> Result<Formula, AllocError>
 
 #[test]
 fn equations(rt: HostRuntime) -> Result<(), Fail> {
-    for (left, operator, right, third, want) in [
+    for &(left, operator, right, third, want) in &[
         (-7, ArithmeticOperator::Quotient, 2, -3, Some(true)),
         (-7, ArithmeticOperator::Remainder, 2, -1, Some(true)),
         (9223372036854775807, ArithmeticOperator::Plus, 1, 0, None),
@@ -115,7 +115,7 @@ fn equations(rt: HostRuntime) -> Result<(), Fail> {
 
 #[test]
 fn sides_that_cannot_matter(rt: HostRuntime) -> Result<(), Fail> {
-    for (left, connective, want) in [
+    for &(left, connective, want) in &[
         (false, Connective::AndThen, Some(false)),
         (true, Connective::AndThen, None),
         (false, Connective::And, None),
@@ -153,7 +153,7 @@ fn attributes(rt: HostRuntime) -> Result<(), Fail> {
 
 #[test]
 fn deep_formulas(rt: HostRuntime) -> Result<(), Fail> {
-    for (depth, want) in [(64, true), (3_000, true), (3_001, false)] {
+    for &(depth, want) in &[(64, true), (3_000, true), (3_001, false)] {
         let formula = nested(rt.alloc(), depth)?;
         assert_eq!(rt; eval(&formula, &[]), Some(want), "at depth {depth}");
     }

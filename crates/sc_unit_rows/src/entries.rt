@@ -263,7 +263,7 @@ fn entries_of_a_buffer(rt: HostRuntime) {
         },
     ];
     let mut rights = Rights::new(Version::One);
-    for row in rows {
+    for &row in &rows {
         enter(&rt, &mut rights, row);
     }
 }

@@ -46,7 +46,7 @@ const TAGS: [(Tag, Tag, bool); 19] = [
 
 #[test]
 fn tags_conform(rt: HostRuntime) {
-    for (from, to, wanted) in TAGS {
+    for &(from, to, wanted) in &TAGS {
         assert_eq!(rt; from.conforms_to(to), wanted, "{from:?} to {to:?}");
     }
 }
@@ -62,7 +62,7 @@ fn marks_conform(rt: HostRuntime) {
         (detachable, detachable, true),
         (detachable, attached, false),
     ];
-    for (from, to, wanted) in marks {
+    for &(from, to, wanted) in &marks {
         assert_eq!(rt; from.mark_conforms_to(to), wanted, "{from:?} to {to:?}");
     }
     // A type, and whether it is expanded.
@@ -71,7 +71,7 @@ fn marks_conform(rt: HostRuntime) {
         (EntityType::boolean(), true),
         (detachable, false),
     ];
-    for (entity, wanted) in types {
+    for &(entity, wanted) in &types {
         assert_eq!(rt; entity.is_expanded(), wanted, "{entity:?}");
     }
 }
@@ -126,14 +126,22 @@ fn detachable(tag: Tag, class: ClassId) -> EntityType {
 }
 
 #[test]
+fn classes_conform(rt: HostRuntime) -> Result<(), Fail> {
+    let alloc = rt.alloc();
+    let system = system_of(alloc, LINE)?;
+    let tables = tables(alloc, &system, &root_of(alloc, "application", "make")?)?;
+    for &(from, to, wanted) in &CLASSES {
+        let told = conforms(&tables, attached(Tag::Own, from), attached(Tag::Own, to));
+        assert_eq!(rt; told, wanted, "{from:?} to {to:?}");
+    }
+    Ok(())
+}
+
+#[test]
 fn types_conform(rt: HostRuntime) -> Result<(), Fail> {
     let alloc = rt.alloc();
     let system = system_of(alloc, LINE)?;
     let tables = tables(alloc, &system, &root_of(alloc, "application", "make")?)?;
-    for (from, to, wanted) in CLASSES {
-        let told = conforms(&tables, attached(Tag::Own, from), attached(Tag::Own, to));
-        assert_eq!(rt; told, wanted, "{from:?} to {to:?}");
-    }
     let heir = attached(X, HEIR);
     let separate = detachable(Tag::Any, APPLICATION);
     let void = EntityType::void();
@@ -145,7 +153,7 @@ fn types_conform(rt: HostRuntime) -> Result<(), Fail> {
         (void, heir, false),
         (void, EntityType::integer(), false),
     ];
-    for (from, to, wanted) in types {
+    for &(from, to, wanted) in &types {
         assert_eq!(rt; conforms(&tables, from, to), wanted, "{from:?} to {to:?}");
     }
     Ok(())
@@ -183,7 +191,7 @@ const ARGUMENTS: [(Tag, Tag, Tag); 11] = [
 
 #[test]
 fn tags_are_combined(rt: HostRuntime) {
-    for (target, declared, wanted) in RESULTS {
+    for &(target, declared, wanted) in &RESULTS {
         let seen = combine_result(
             attached(target, APPLICATION),
             attached(declared, APPLICATION),
@@ -191,7 +199,7 @@ fn tags_are_combined(rt: HostRuntime) {
         assert_eq!(rt; seen.tag, wanted, "{declared:?} of {target:?}");
     }
     let actuals = [Known::Neither, Known::Own, Known::of(OTHER_BLOCK)];
-    for (target, formal, wanted) in ARGUMENTS {
+    for &(target, formal, wanted) in &ARGUMENTS {
         let target_type = attached(target, APPLICATION);
         let seen = combine_argument(target_type, attached(formal, APPLICATION), &actuals);
         assert_eq!(rt; seen.tag, wanted, "{formal:?} of {target:?}");
@@ -212,7 +220,7 @@ fn marks_and_classes_are_kept(rt: HostRuntime) {
         (target, EntityType::integer(), EntityType::integer()),
         (any_target, EntityType::boolean(), EntityType::boolean()),
     ];
-    for (target, declared, wanted) in results {
+    for &(target, declared, wanted) in &results {
         assert_eq!(rt; combine_result(target, declared), wanted, "of {declared:?}");
     }
     let last = ClassId::Declared(255);
@@ -221,7 +229,7 @@ fn marks_and_classes_are_kept(rt: HostRuntime) {
         (detachable(Tag::Own, last), detachable(X, last)),
         (EntityType::integer(), EntityType::integer()),
     ];
-    for (formal, wanted) in arguments {
+    for &(formal, wanted) in &arguments {
         let target = attached(X, APPLICATION);
         let seen = combine_argument(target, formal, &[Known::Neither]);
         assert_eq!(rt; seen, wanted, "of {formal:?}");
@@ -238,7 +246,7 @@ const KNOWN: [(Tag, Known); 4] = [
 
 #[test]
 fn handlers_are_known(rt: HostRuntime) {
-    for (tag, wanted) in KNOWN {
+    for &(tag, wanted) in &KNOWN {
         assert_eq!(rt; Known::of(tag), wanted, "of {tag:?}");
     }
 }

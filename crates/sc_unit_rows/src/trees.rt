@@ -103,7 +103,7 @@ const INSTRUCTIONS: [(&str, &str); 16] = [
 
 #[test]
 fn nodes_stand_where_their_words_do(rt: HostRuntime) -> Result<(), Fail> {
-    for (source, wanted) in TREES {
+    for &(source, wanted) in &TREES {
         let outline = outline_of(rt.alloc(), source)?;
         assert_eq!(rt; outline.as_str(), wanted, "of {source}");
     }
@@ -135,7 +135,7 @@ fn expect_answer<R: Abort + AllocGlobal>(
 #[test]
 fn nesting_is_limited(rt: HostRuntime) -> Result<(), Fail> {
     let alloc = rt.alloc();
-    for (count, before, middle, after, wanted) in EXPRESSIONS {
+    for &(count, before, middle, after, wanted) in &EXPRESSIONS {
         let left = before.repeat(alloc, count)?;
         let right = after.repeat(alloc, count)?;
         let body = format!(in alloc; "n := {left}{middle}{right}")?;
@@ -144,7 +144,7 @@ fn nesting_is_limited(rt: HostRuntime) -> Result<(), Fail> {
     }
     let ifs = "if x then ".repeat(alloc, 64)?;
     let ends = " end".repeat(alloc, 64)?;
-    for (inner, wanted) in INSTRUCTIONS {
+    for &(inner, wanted) in &INSTRUCTIONS {
         let body = format!(in alloc; "{ifs}{inner}{ends}")?;
         expect_answer(&rt, &body, inner, wanted)?;
     }

@@ -43,8 +43,7 @@ fn class_text(alloc: Global, tables: &Tables<'_>, name: &str) -> Result<String, 
     for entry in &tables.features(alloc, ClassId::Declared(number))? {
         let feature = entry.feature.name.text.as_str();
         let class = entry.class;
-        let told = format!(in alloc; " {feature} {class}")?;
-        text.push_str(&told)?;
+        write!(text, " {feature} {class}")?;
     }
     Ok(text)
 }
@@ -70,15 +69,15 @@ fn tables_know_classes_and_features(rt: HostRuntime) -> Result<(), Fail> {
     let alloc = rt.alloc();
     let system = system_of(alloc, SOURCE)?;
     let tables = tables(alloc, &system, &root_of(alloc, "a", "make")?)?;
-    for (name, wanted) in CLASSES {
+    for &(name, wanted) in &CLASSES {
         let told = class_text(alloc, &tables, name)?;
         assert_eq!(rt; told.as_str(), wanted, "of {name}");
     }
-    for (class, name, wanted) in FEATURES {
+    for &(class, name, wanted) in &FEATURES {
         let told = feature_text(alloc, &tables, class, name)?;
         assert_eq!(rt; told.as_str(), wanted, "of {name}");
     }
-    for (from, to, wanted) in CONFORMANCE {
+    for &(from, to, wanted) in &CONFORMANCE {
         assert_eq!(rt;
             tables.class_conforms(from, to),
             wanted,

@@ -235,25 +235,38 @@ impl Charts {
     }
 }
 
+/// Compares what is answered for a source and for edits at each of its places.
+fn expect_edits<R: Abort + AllocGlobal>(
+    rt: &R,
+    source: &str,
+    words: &[&'static str],
+    others: &[&'static str],
+    seed: &mut u64,
+) -> Result<(), Fail> {
+    let alloc = rt.alloc();
+    let tokens = lex(alloc, source)?;
+    assert_eq!(rt; words.len(), tokens.len(), "{source}");
+    assert_eq!(rt; fault_of(alloc, &tokens, MAX_NESTING)?, None, "{source}");
+    let mut charts = Charts::new(alloc, source, &tokens)?;
+    for place in (0..words.len()).rev() {
+        for time in 0..4 {
+            // First the beginning up to there.
+            let edit = if time == 0 { 3 } else { drawn(seed, 9) };
+            let text = edited(alloc, words, others, place, edit, seed)?;
+            charts.expect(rt, place, &text)?;
+        }
+    }
+    Ok(())
+}
+
 #[test]
 fn edited_sources_are_told_as_the_written_grammar_says(rt: HostRuntime) -> Result<(), Fail> {
     let alloc = rt.alloc();
     let others: Vec<&'static str> = WORDS.split(' ').collect(alloc)?;
     let mut seed: u64 = 1;
-    for source in SOURCES {
-        let tokens = lex(alloc, source)?;
+    for source in &SOURCES {
         let words: Vec<&'static str> = source.split(' ').collect(alloc)?;
-        assert_eq!(rt; words.len(), tokens.len(), "{source}");
-        let mut charts = Charts::new(alloc, source, &tokens)?;
-        assert_eq!(rt; fault_of(alloc, &tokens, MAX_NESTING)?, None, "{source}");
-        for place in (0..words.len()).rev() {
-            for time in 0..4 {
-                // First the beginning up to there.
-                let edit = if time == 0 { 3 } else { drawn(&mut seed, 9) };
-                let text = edited(alloc, &words, &others, place, edit, &mut seed)?;
-                charts.expect(&rt, place, &text)?;
-            }
-        }
+        expect_edits(&rt, source, &words, &others, &mut seed)?;
     }
     Ok(())
 }

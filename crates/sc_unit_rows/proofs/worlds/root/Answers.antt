@@ -6,7 +6,7 @@ use Rattle.sc_tree.specs.Plain as plain
 use Rattle.sc_tree.specs.View.{class_of}
 use Rattle.sc_world.specs.Lookup.{class_named}
 use Rattle.sc_world.proofs.Views.{system_classes}
-use Rattle.sc_rows.proofs.worlds.root.Goals as goal
+use Rattle.sc_unit_rows.proofs.worlds.root.Goals as goal
 
 -- the first class is the first of its name
 first_named : (classes : List Class) (class : Class) → Some class ≡ slice_get classes 0 → class_named (class_of class).name.text (map class_of classes) ≡ Some (class_of class)

@@ -95,7 +95,7 @@ fn run(alloc: Global, system: &System, turns: usize) -> Result<(usize, Vec<u8>),
 #[test]
 fn turns_move_as_far_as_there_is_something_to_do(rt: HostRuntime) -> Result<(), Fail> {
     let alloc = rt.alloc();
-    for (procedures, turns, moves, wanted) in RUNS {
+    for &(procedures, turns, moves, wanted) in &RUNS {
         let system = system_with(alloc, procedures)?;
         let (moved, report) = run(alloc, &system, turns)?;
         let wanted = format!(in alloc; "handler 0 {wanted}")?;

@@ -1,0 +1,23 @@
+//! Tests alone: rows of texts, types and steps, and what each crate below the checker makes of them.
+#![tactic(auto)]
+
+#[cfg(test)]
+mod class_tables;
+#[cfg(test)]
+mod edited;
+#[cfg(test)]
+mod entries;
+#[cfg(test)]
+mod formulas;
+#[cfg(test)]
+mod grammar;
+#[cfg(test)]
+mod reading;
+#[cfg(test)]
+mod tokens;
+#[cfg(test)]
+mod trees;
+#[cfg(test)]
+mod types;
+#[cfg(test)]
+mod worlds;
