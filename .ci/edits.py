@@ -27,7 +27,7 @@ Body = namedtuple("Body", "start end type_name trait_name name")
 # calls have one folder of answers, whose name begins with +, and their goals begin with the function's name.
 FUNCTION = re.compile(r"^fn (\S+): (?!proved)(.*)$", re.M)
 OPEN_GOALS = re.compile(r"expected answers in (?:\./)?proofs/(\S+)/\w+\.antt; `search` did not prove ((?:`[^`]+`(?:, | and )?)+)")
-WRONG_ANSWER = re.compile(r"^(?:\./)?proofs/(\S+)/\w+\.antt:\d+:\d+: error: (.*)$", re.M)
+WRONG_ANSWER = re.compile(r"^(?:\./)?proofs/(\S+?)(?:/(?:Answers|Invariants|Proof))?\.antt:\d+:\d+: error: (.*)$", re.M)
 # What the prover says where a proof names what an edit took away: that shows nothing of the contract.
 TAKEN_AWAY = re.compile(r"has no field|is not in scope|has no `|was not admitted")
 ERROR = re.compile(r"^\S+:\d+:\d+: error.*$", re.M)
