@@ -12,9 +12,9 @@ use Rattle.sc_tree.specs.Plain.{Name}
 use Rattle.sc_tree.specs.Bare.{bare_name, bare_handler_tag, bare_type, bare_type_if_any}
 use Rattle.sc_tree.specs.Grammar.Operators.{terminals_of}
 use Rattle.sc_tree.specs.Grammar.Types.{handler_name, type_of}
-use Rattle.sc_tree.specs.Reading.Looks as looks
-use Rattle.sc_tree.specs.Reading.Looks.{Fault, ◌>>=◌}
-use Rattle.sc_tree.specs.Reading.Types as plainly
+use Rattle.sc_tree.specs.Internal.Reading.Looks as looks
+use Rattle.sc_tree.specs.Internal.Reading.Looks.{Fault, ◌>>=◌}
+use Rattle.sc_tree.specs.Internal.Reading.Types as unplaced
 use Rattle.sc_tree.proofs.ViewLemmas.{length-kinds_of}
 use Rattle.sc_parse.specs.Reading.Looks.{Ahead, kinds, left, past, rest_past, sees, expect, expect_word, skip, past_semicolons, skip_semicolons, past_all, past_operator, name, name_by, name_of, text, text_by, text_of}
 use Rattle.sc_parse.specs.Reading.Types.{more_names, names, attachment, handler_of, handler_tag, declared_type, tested_type}
@@ -119,54 +119,54 @@ forget_text q = texts_are q.rest
 
 -- ---- names and types
 
-pub forget_more_names : (f : ℕ) (found : List Name) (q : Ahead) → forget (taken (map bare_name)) (more_names f found q) ≡ plainly.more_names f (map bare_name found) (kinds q)
-unfolding more_names plainly.more_names
+pub forget_more_names : (f : ℕ) (found : List Name) (q : Ahead) → forget (taken (map bare_name)) (more_names f found q) ≡ unplaced.more_names f (map bare_name found) (kinds q)
+unfolding more_names unplaced.more_names
 forget_more_names zero found q = refl
 forget_more_names (suc f) found q =
     forget_if (forget (taken (map bare_name))) (sees terminal.Comma q)
     (forget_then _ _ _ _ _ (forget_name_past q) λ x.
-    forget_more_names f (found ++ x.0 ∷ []) x.1 ∙ ap (λ (ns : List Name). plainly.more_names f ns (kinds x.1)) (map-append bare_name found (x.0 ∷ [])))
+    forget_more_names f (found ++ x.0 ∷ []) x.1 ∙ ap (λ (ns : List Name). unplaced.more_names f ns (kinds x.1)) (map-append bare_name found (x.0 ∷ [])))
     refl
 
-pub forget_names : (q : Ahead) → forget (taken (map bare_name)) (names q) ≡ plainly.names (kinds q)
-unfolding names plainly.names
+pub forget_names : (q : Ahead) → forget (taken (map bare_name)) (names q) ≡ unplaced.names (kinds q)
+unfolding names unplaced.names
 forget_names q =
     forget_then _ _ _ _ _ (forget_name q) λ x.
-    forget_more_names (left x.1) (x.0 ∷ []) x.1 ∙ ap (λ (f : ℕ). plainly.more_names f (bare_name x.0 ∷ []) (kinds x.1)) (left_is x.1)
+    forget_more_names (left x.1) (x.0 ∷ []) x.1 ∙ ap (λ (f : ℕ). unplaced.more_names f (bare_name x.0 ∷ []) (kinds x.1)) (left_is x.1)
 
-pub forget_names_past : (q : Ahead) → forget (taken (map bare_name)) (names (past q)) ≡ plainly.names (looks.past (kinds q))
-forget_names_past q = forget_names (past q) ∙ ap plainly.names (kinds-past q)
+pub forget_names_past : (q : Ahead) → forget (taken (map bare_name)) (names (past q)) ≡ unplaced.names (looks.past (kinds q))
+forget_names_past q = forget_names (past q) ∙ ap unplaced.names (kinds-past q)
 
-same_attachment : (q : Ahead) → taken itself (attachment q) ≡ plainly.attachment (kinds q)
-unfolding attachment plainly.attachment
+same_attachment : (q : Ahead) → taken itself (attachment q) ≡ unplaced.attachment (kinds q)
+unfolding attachment unplaced.attachment
 same_attachment q =
     forget_if (taken itself) (sees terminal.Detachable q || sees terminal.Question q) (ap (λ (r : List Kind). (true, r)) (kinds-past q))
     (forget_if (taken itself) (sees terminal.Attached q || sees terminal.Exclamation q) (ap (λ (r : List Kind). (false, r)) (kinds-past q)) refl)
 
-forget_handler_of : (q : Ahead) → forget (taken bare_handler_tag) (handler_of q) ≡ plainly.handler_of (kinds q)
-unfolding handler_of plainly.handler_of
+forget_handler_of : (q : Ahead) → forget (taken bare_handler_tag) (handler_of q) ≡ unplaced.handler_of (kinds q)
+unfolding handler_of unplaced.handler_of
 forget_handler_of q =
     forget_if (forget (taken bare_handler_tag)) (sees terminal.Less q)
     (forget_then _ _ _ _ _ (forget_name_past q) λ x. forget_then _ _ _ _ _ (forget_expect terminal.Dot x.1) λ s. forget_then _ _ _ _ _ (forget_expect_word handler_name s) λ u.
     forget_then _ _ _ _ _ (forget_expect terminal.Greater u) λ r. refl)
     refl
 
-forget_handler_tag : (q : Ahead) → forget (taken bare_handler_tag) (handler_tag q) ≡ plainly.handler_tag (kinds q)
-unfolding handler_tag plainly.handler_tag
+forget_handler_tag : (q : Ahead) → forget (taken bare_handler_tag) (handler_tag q) ≡ unplaced.handler_tag (kinds q)
+unfolding handler_tag unplaced.handler_tag
 forget_handler_tag q =
-    forget_if (forget (taken bare_handler_tag)) (sees terminal.Separate q) (forget_handler_of (past q) ∙ ap plainly.handler_of (kinds-past q)) refl
+    forget_if (forget (taken bare_handler_tag)) (sees terminal.Separate q) (forget_handler_of (past q) ∙ ap unplaced.handler_of (kinds-past q)) refl
 
-pub forget_declared_type : (q : Ahead) → forget (taken bare_type) (declared_type q) ≡ plainly.declared_type (kinds q)
-unfolding declared_type plainly.declared_type
+pub forget_declared_type : (q : Ahead) → forget (taken bare_type) (declared_type q) ≡ unplaced.declared_type (kinds q)
+unfolding declared_type unplaced.declared_type
 forget_declared_type q =
-    forget_then _ _ _ _ _ (forget_handler_tag (attachment q).1 ∙ ap (λ (a : Bool × List Kind). plainly.handler_tag a.1) (same_attachment q)) λ g.
+    forget_then _ _ _ _ _ (forget_handler_tag (attachment q).1 ∙ ap (λ (a : Bool × List Kind). unplaced.handler_tag a.1) (same_attachment q)) λ g.
     forget_then _ _ _ _ _ (forget_name g.1) λ x. ap (λ (a : Bool × List Kind). Ok (type_of a.0 (bare_handler_tag g.0) (bare_name x.0), kinds x.1)) (same_attachment q)
 
-pub forget_declared_type_past : (q : Ahead) → forget (taken bare_type) (declared_type (past q)) ≡ plainly.declared_type (looks.past (kinds q))
-forget_declared_type_past q = forget_declared_type (past q) ∙ ap plainly.declared_type (kinds-past q)
+pub forget_declared_type_past : (q : Ahead) → forget (taken bare_type) (declared_type (past q)) ≡ unplaced.declared_type (looks.past (kinds q))
+forget_declared_type_past q = forget_declared_type (past q) ∙ ap unplaced.declared_type (kinds-past q)
 
-pub forget_tested_type : (q : Ahead) → forget (taken bare_type_if_any) (tested_type q) ≡ plainly.tested_type (kinds q)
-unfolding tested_type plainly.tested_type
+pub forget_tested_type : (q : Ahead) → forget (taken bare_type_if_any) (tested_type q) ≡ unplaced.tested_type (kinds q)
+unfolding tested_type unplaced.tested_type
 forget_tested_type q =
     forget_if (forget (taken bare_type_if_any)) (sees terminal.OpenBrace q)
     (forget_then _ _ _ _ _ (forget_declared_type_past q) λ t. forget_then _ _ _ _ _ (forget_expect terminal.CloseBrace t.1) λ r. refl)

@@ -16,3 +16,8 @@ pub mod PlacingInstructions
 pub mod PlacingClasses
 pub mod WorkedPlaces
 pub mod Verdict
+pub mod KeptTokens
+pub mod LaidExpressions
+pub mod LaidInstructions
+pub mod LaidFeatures
+pub mod LaidClasses

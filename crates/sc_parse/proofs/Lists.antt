@@ -6,14 +6,14 @@ use Rattle.sc_text.specs.declared.token.Terminal.TheVariants as terminal
 use Rattle.sc_tree.specs.Plain.{Name, Declaration, Clause, Feature, Parent, Class}
 use Rattle.sc_tree.specs.declared.expression.Name as code_name
 use Rattle.sc_tree.specs.View.{name_of}
-use Rattle.sc_tree.specs.Reading.Looks.{Wrong, ◌>>=◌}
+use Rattle.sc_tree.specs.Internal.Reading.Looks.{Wrong, ◌>>=◌}
 use Rattle.sc_parse.specs.Reading.Looks.{Ahead, left, goes_on, Read, Taken, past, sees, skip, skip_semicolons, name, name_ahead, begins_expr}
 use Rattle.sc_parse.specs.Reading.Types.{more_names}
 use Rattle.sc_parse.specs.Reading.Assertions.{clause, clauses_from, clauses}
 use Rattle.sc_parse.specs.Reading.Classes.{is_done, declaration, more_declarations, locals_from, locals, exports, feature, features_from, sections_from, sections, parent, parents_from, class, classes_from}
 use Rattle.sc_parse.proofs.Faults.{Fails-bind, Fails-along}
 use Rattle.sc_tree.proofs.Combining.{bind_ok, choose_true, choose_false}
-use Rattle.sc_parse.specs.Reads.{Fails}
+use Rattle.sc_parse.specs.Reading.Reads.{Fails}
 use Rattle.sc_parse.specs.declared.fault.ParseFault.{ParseFault}
 use Rattle.sc_parse.proofs.Turns.{turns_of}
 

@@ -3,12 +3,12 @@ use Rattle.std.proofs.Common.{◌≡◌, ℕ, max, List, [], ◌∷◌, Option, 
 use Rattle.sc_text.specs.declared.token.Terminal.TheVariants as terminal
 use Rattle.sc_tree.specs.Grammar.Classes.{routine_of, ends_class}
 use Rattle.sc_tree.specs.Plain.{Name, DeclaredType, Declaration, Clause, Instrs, Feature, Parent, ClassMark, Class}
-use Rattle.sc_tree.specs.Reading.Looks.{Fault, ◌>>=◌}
+use Rattle.sc_tree.specs.Internal.Reading.Looks.{Fault, ◌>>=◌}
 use Rattle.sc_parse.specs.Reading.Looks.{Ahead, up_to, Read, expect, skip, name}
 use Rattle.sc_parse.specs.Reading.Assertions.{assertion}
 use Rattle.sc_parse.specs.Reading.Instructions.{instrs}
 use Rattle.sc_parse.specs.Reading.Classes.{locals, routine, parents, creators, sections, past_note, class_of, class_marked}
-use Rattle.sc_parse.specs.Reads.{opening_ahead, closing_ahead, header_ahead, members_ahead}
+use Rattle.sc_parse.specs.Reading.Reads.{opening_ahead, closing_ahead, header_ahead, members_ahead}
 
 bind_assoc : {A B C : Type 0} (a : Result A Fault) (f : A → Result B Fault) (g : B → Result C Fault) → ((a >>= f) >>= g) ≡ (a >>= λ x. f x >>= g)
 bind_assoc (Ok x) f g = refl
@@ -20,7 +20,7 @@ bind_same (Err e) f g h = refl
 
 -- a routine of what stands before its body, and of the body with what follows it
 abbrev pub routine_with : List Name → Name → List Declaration → Option DeclaredType → (List Clause × List Declaration) × ℕ × Ahead → (Instrs × List Clause) × ℕ × Ahead → Read (List Feature)
-routine_with es x fs t a b = Ok (routine_of es x fs t a.0.0 a.0.1 b.0.0 b.0.1 ∷ [], max a.1 b.1, b.2)
+routine_with es x fs t a b = Ok (routine_of es x (record { formals = fs; result_type = t; precondition = a.0.0; locals = a.0.1; body = b.0.0; postcondition = b.0.1 }) ∷ [], max a.1 b.1, b.2)
 
 abbrev pub after_opening : ℕ → List Name → Name → List Declaration → Option DeclaredType → (List Clause × List Declaration) × ℕ × Ahead → Read (List Feature)
 after_opening room es x fs t a = closing_ahead room a.2 >>= routine_with es x fs t a

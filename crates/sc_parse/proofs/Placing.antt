@@ -9,8 +9,8 @@ use Rattle.sc_text.specs.declared.token.Terminal.{Terminal}
 use Rattle.sc_text.specs.declared.token.Terminal.TheVariants as terminal
 use Rattle.sc_tree.specs.Plain.{Name}
 use Rattle.sc_tree.specs.Grammar.Types.{handler_name}
-use Rattle.sc_tree.specs.Reading.Looks as looks
-use Rattle.sc_tree.specs.Reading.Looks.{Fault, ◌>>=◌}
+use Rattle.sc_tree.specs.Internal.Reading.Looks as looks
+use Rattle.sc_tree.specs.Internal.Reading.Looks.{Fault, ◌>>=◌}
 use Rattle.std.proofs.Common.{zero, suc, append-nil}
 use Rattle.sc_tree.proofs.Looks.{sees_is, sees_word_is}
 use Rattle.sc_tree.proofs.Combining.{Holds, holds, nothing, holds_then, holds_if}
@@ -165,20 +165,21 @@ module _ {X : Type 0} (P : List X → Point → Point → Type 0) where
 
 -- ---- names and types
 
+push_name : {x : Name} {xs : List Name} {p q r u : Point} → ArePlacedNames xs p q → IsWord terminal.Comma q r → IsPlacedName x r u → ArePlacedNames (xs ++ x ∷ []) p u
+push_name (places.one_name m) w n = places.more_names m w (places.one_name n)
+push_name (places.more_names m v d) w n = places.more_names m v (push_name d w n)
+
 pub place_more_names : (f : ℕ) (found : List Name) (q : Ahead) (p : Point) → ArePlacedNames found p (spot q) → Holds (λ x. ArePlacedNames x.0 p (spot x.1)) (more_names f found q)
 unfolding more_names
 place_more_names zero found q p d = holds d
 place_more_names (suc f) found q p d =
     holds_if (sees terminal.Comma q) _ _
-    (λ b. holds_then _ (named (past q)) λ x n. place_more_names f (found ++ x.0 ∷ []) x.1 p (row_push _ _ (row_separated _ _ d (a_word terminal.Comma q b)) (one n)))
+    (λ b. holds_then _ (named (past q)) λ x n. place_more_names f (found ++ x.0 ∷ []) x.1 p (push_name d (a_word terminal.Comma q b) n))
     (λ _. holds d)
-
-pub first_name : {x : Name} {p q : Point} → IsPlacedName x p q → ArePlacedNames (x ∷ []) p q
-first_name n = part (one n) no_part
 
 pub place_names : (q : Ahead) → Holds (λ x. ArePlacedNames x.0 (spot q) (spot x.1)) (names q)
 unfolding names
-place_names q = holds_then _ (named q) λ x n. place_more_names (left x.1) (x.0 ∷ []) x.1 (spot q) (first_name n)
+place_names q = holds_then _ (named q) λ x n. place_more_names (left x.1) (x.0 ∷ []) x.1 (spot q) (places.one_name n)
 
 place_attachment : (q : Ahead) → IsTypeMark (spot q) (spot (attachment q).1)
 unfolding attachment

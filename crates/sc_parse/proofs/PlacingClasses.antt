@@ -7,14 +7,14 @@ use Rattle.sc_text.specs.declared.token.Token.{Token}
 use Rattle.sc_text.specs.declared.token.Terminal.TheVariants as terminal
 use Rattle.sc_tree.specs.Grammar.Classes.{none_name, heads_class, ends_class}
 use Rattle.sc_tree.specs.Plain.{Name, DeclaredType, Declaration, Feature, Parent, Class, ClassMark, System}
-use Rattle.sc_tree.specs.Reading.Looks.{Fault}
+use Rattle.sc_tree.specs.Internal.Reading.Looks.{Fault}
 use Rattle.sc_tree.proofs.Combining.{Holds, holds, nothing, holds_then, holds_if, holds_also}
 use Rattle.sc_parse.specs.Reading.Looks as reading
 use Rattle.sc_parse.specs.Reading.Looks.{Ahead, kinds, left, past, sees, sees_note, skip, skip_semicolons, name_ahead, up_to}
 use Rattle.sc_parse.specs.Reading.Classes.{declaration, more_declarations, formals, locals_from, locals, result_type, begins_routine, export_list, exports, past_free, past_note, mark, parent, parents_from, parents, creators, is_done, class_of, routine, attribute_or_routine, attributes, feature, features_from, sections_from, sections, class_marked, class, classes_from, whole_of, opening, system}
 use Rattle.sc_parse.specs.Places as places
 use Rattle.sc_parse.specs.Places.{Point, begin, between, IsToken, IsWord, IsRow, no_part, part, AreParts, none, IsOne, one, IsPlacedName, ArePlacedNames, IsPlacedType, IsPlacedDeclaration, ArePlacedDeclarations, ArePlacedFormals, ArePlacedLocals, IsPlacedResult, IsPlacedFeature, ArePlacedExports, IsPlacedSection, AreFree, IsPlacedNote, IsPlacedMark, IsPlacedParent, ArePlacedParents, ArePlacedCreators, IsPlacedClass, IsPlaced}
-use Rattle.sc_parse.proofs.Placing.{spot, when, either, seen, a_word, expected, named, begun, from_there, skipped, semicolons, row_push, row_skipped, row_semicolons, parts_push, first_name, place_more_names, place_names, place_declared_type}
+use Rattle.sc_parse.proofs.Placing.{spot, when, either, seen, a_word, expected, named, begun, from_there, skipped, semicolons, row_push, row_skipped, row_semicolons, parts_push, place_more_names, place_names, place_declared_type}
 use Rattle.sc_parse.proofs.PlacingInstructions.{place_assertion, place_instrs}
 
 -- ---- formals and locals
@@ -146,7 +146,7 @@ module _ (room : ℕ) where
   place_routine es x fs t q p r s n d e =
       holds_then _ (place_assertion room terminal.Require (skip terminal.Is q)) λ pre a. holds_then _ (place_locals pre.2) λ ls g. holds_then _ (expected terminal.Do ls.1) λ u w.
       holds_then _ (place_instrs room u) λ b i. holds_then _ (place_assertion room terminal.Ensure b.2) λ post c. holds_then _ (expected terminal.End post.2) λ v y.
-      holds (places.routine n d e (skipped terminal.Is q) a g w i c y)
+      holds (places.routine {d = record { formals = fs; result_type = t; precondition = pre.0; locals = ls.0; body = b.0; postcondition = post.0 }} n d e (skipped terminal.Is q) a g w i c y)
 
   place_attribute_or_routine : (es : List Name) (x : Name) (fs : List Declaration) (t : Option DeclaredType) (q : Ahead) (p r s : Point) →
       IsPlacedName x p r → ArePlacedFormals fs r s → IsPlacedResult t s (spot q) → Holds (λ y. IsPlacedFeature es y.0 p (spot y.2)) (attribute_or_routine room es x fs t q)
@@ -161,7 +161,7 @@ module _ (room : ℕ) where
   place_feature es q =
       holds_then _ (named q) λ x n.
       holds_if (sees terminal.Comma x.1) _ _
-      (λ _. holds_then _ (place_more_names (left x.1) (x.0 ∷ []) x.1 (spot q) (first_name n)) λ ns d. holds_then _ (expected terminal.Colon ns.1) λ s w. holds_then _ (place_declared_type s) λ t e.
+      (λ _. holds_then _ (place_more_names (left x.1) (x.0 ∷ []) x.1 (spot q) (places.one_name n)) λ ns d. holds_then _ (expected terminal.Colon ns.1) λ s w. holds_then _ (place_declared_type s) λ t e.
       holds (places.attributes d w e))
       (λ _. holds_then _ (place_formals x.1) λ fs d. holds_then _ (place_result_type fs.1) λ t e. place_attribute_or_routine es x.0 fs.0 t.0 t.1 (spot q) (spot x.1) (spot fs.1) n d e)
 

@@ -7,11 +7,12 @@ use Rattle.sc_tree.specs.declared.expression.UnaryOperator.{UnaryOperator}
 use Rattle.sc_tree.specs.declared.expression.BinaryOperator.{BinaryOperator}
 use Rattle.sc_tree.specs.Grammar.Operators.{top, groups, prefix_of}
 use Rattle.sc_tree.specs.Plain.{Name, Expr, Call, Binary, Exprs, no_exprs, expr_then, Target, no_target, target}
-use Rattle.sc_tree.specs.Reading.Looks as looks
-use Rattle.sc_tree.specs.Reading.Looks.{Fault, Deep, ◌>>=◌}
-use Rattle.sc_tree.specs.Reading.Expressions.{exprs_push}
+use Rattle.sc_tree.specs.Internal.Reading.Looks as looks
+use Rattle.sc_tree.specs.Internal.Reading.Looks.{Fault, Deep, ◌>>=◌}
+use Rattle.sc_tree.specs.Internal.Reading.Expressions.{exprs_push}
 use Rattle.sc_tree.proofs.Looks as facts
 use Rattle.sc_tree.proofs.Combining.{Holds, holds, nothing, holds_then, holds_if, holds_also}
+use Rattle.sc_tree.specs.Properties.{span_of}
 use Rattle.sc_parse.specs.Reading.Looks as reading
 use Rattle.sc_parse.specs.Reading.Looks.{Ahead, Read, kinds, left, past, past_operator, sees, up_to, integer_ahead, prefix_ahead, operator_ahead}
 use Rattle.sc_parse.specs.Reading.Expressions.{across, parenthesized, more_exprs, exprs, actuals, calling, chain_head, calls, chain, object_test, integer_or_chain, primary, prefixed, operand_by, operand, with_operator, operators, level, beyond, expr, nested}
@@ -68,7 +69,7 @@ module _ (inner : ℕ → Ahead → Read Expr) (S : (k : ℕ) (q : Ahead) → Ho
       (λ _. holds_also (place_calling (reading.begin q) no_target q) (place_unqualified q)))
 
   place_qualified : (t : Expr) (p : Point) (q : Ahead) → IsPlacedExpr t p (spot q) → sees terminal.Dot q ≡ true → (x : Expr × ℕ × Ahead) →
-      IsCalled (places.place_of t).start (target t) (spot (past q)) x → PlacesExpr p x
+      IsCalled (span_of t).start (target t) (spot (past q)) x → PlacesExpr p x
   place_qualified t p q d b _ (called n e) = places.qualified d (a_word terminal.Dot q b) n e refl refl
 
   place_calls : (room f : ℕ) (t : Expr) (h : ℕ) (q : Ahead) (p : Point) → IsPlacedExpr t p (spot q) → Holds (PlacesExpr p) (calls inner room f t h q)
@@ -77,7 +78,7 @@ module _ (inner : ℕ → Ahead → Read Expr) (S : (k : ℕ) (q : Ahead) → Ho
   place_calls room (suc f) t h q p d =
       holds_if (sees terminal.Dot q) _ _
       (λ b. holds_if (nat_le room h) _ _ (λ _. nothing)
-      (λ _. holds_then _ (place_calling (places.place_of t).start (target t) (past q)) λ x e. place_calls room f x.0 (max (suc h) x.1) x.2 p (place_qualified t p q d b x e)))
+      (λ _. holds_then _ (place_calling (span_of t).start (target t) (past q)) λ x e. place_calls room f x.0 (max (suc h) x.1) x.2 p (place_qualified t p q d b x e)))
       (λ _. holds d)
 
   pub place_chain : (room : ℕ) (q : Ahead) → Holds (PlacesExpr (spot q)) (chain inner room q)

@@ -11,16 +11,16 @@ use Rattle.sc_tree.specs.Grammar.Operators.{top}
 use Rattle.sc_tree.specs.Grammar.Instructions.{print_name}
 use Rattle.sc_tree.specs.Plain as plain
 use Rattle.sc_tree.specs.Plain.{Name, Expr, Integer, Boolean, Void, Current, Call, Unary, Binary, ObjectTest, Variable, Clause, Head, Instr, Instrs, no_instrs, Branches, no_branches}
-use Rattle.sc_tree.specs.Reading.Looks as looks
-use Rattle.sc_tree.specs.Reading.Looks.{Fault, Wrong, Deep, ◌>>=◌}
-use Rattle.sc_tree.specs.Reading.Instructions.{instrs_push, branches_push}
+use Rattle.sc_tree.specs.Internal.Reading.Looks as looks
+use Rattle.sc_tree.specs.Internal.Reading.Looks.{Fault, Wrong, Deep, ◌>>=◌}
+use Rattle.sc_tree.specs.Internal.Reading.Instructions.{instrs_push, branches_push}
 use Rattle.sc_tree.proofs.Looks.{sees_word_is}
 use Rattle.sc_tree.proofs.Combining.{Holds, holds, nothing, holds_then, holds_if, holds_also}
 use Rattle.sc_parse.specs.Reading.Looks as reading
 use Rattle.sc_parse.specs.Reading.Looks.{Ahead, Read, kinds, left, past, sees, skip_semicolons, begins_expr, begins_instr, goes_on, up_to}
 use Rattle.sc_parse.specs.Reading.Expressions.{expr, nested}
 use Rattle.sc_parse.specs.Reading.Assertions.{tag_by, tag_of, tag_ahead, past_tag, clause, clauses_from, clauses, assertion, nested_clauses}
-use Rattle.sc_parse.specs.Reading.Instructions.{variable, assigns, prints, nested_chain, assignment, printing, called, routine_call, creation, guarded, branches, other, conditional, iteration, checked, checking, head, more_heads, heads, block, instr, instrs_from, body, instrs}
+use Rattle.sc_parse.specs.Reading.Instructions.{variable, assigns, prints, nested_chain, assignment, printing, called, routine_call, creation, branch, branches, other, conditional, iteration, checked, checking, head, more_heads, heads, block, instr, instrs_from, body, instrs}
 use Rattle.sc_parse.specs.Places as places
 use Rattle.sc_parse.specs.Places.{Point, begin, IsToken, IsWord, IsRow, no_part, part, IsOne, one, IsPlacedName, IsPlacedExpr, IsPlacedClause, ArePlacedClauses, IsPlacedAssertion, IsPlacedVariable, IsPlacedHead, ArePlacedHeads, IsPlacedInstr, ArePlacedInstrs, ArePlacedBranches, IsPlacedElse}
 use Rattle.sc_parse.proofs.Placing.{spot, step, seen, a_word, expected, named, texted, begin_is, from_there, AreSemicolons, no_semicolon, one_more, semicolons, row_push, row_separated, row_semicolons}
@@ -190,12 +190,12 @@ module _ (room : ℕ) (inner : Ahead → Read Instrs) (S : (q : Ahead) → Holds
       holds_if (sees terminal.Dot v.1) _ _
       (λ b. holds_if (room == 0) _ _ (λ _. nothing)
       (λ _. holds_then _ (named (past v.1)) λ x n. holds_then _ (place_actuals (nested room) (place_nested room) x.1) λ es e.
-      holds (places.create_by (q.last, k) d (a_word terminal.Dot v.1 b) n e (from_there _ p q es.2 k))))
-      (λ _. holds (places.create (q.last, k) d (from_there _ p q v.1 k)))
+      holds (places.create (q.last, k) d (places.creation_call (a_word terminal.Dot v.1 b) n e) (from_there _ p q es.2 k))))
+      (λ _. holds (places.create (q.last, k) d places.no_call (from_there _ p q v.1 k)))
 
-  place_guarded : (q : Ahead) → Holds (PlacesBranch (spot q)) (guarded room inner q)
-  unfolding guarded
-  place_guarded q =
+  place_branch : (q : Ahead) → Holds (PlacesBranch (spot q)) (branch room inner q)
+  unfolding branch
+  place_branch q =
       holds_then _ (place_nested room top q) λ t d. holds_then _ (expected terminal.Then t.2) λ r w. holds_then _ (S r) λ b e. holds (spot t.2, (spot r, (d, w, e)))
 
   place_branches : (f : ℕ) (found : Branches) (high : ℕ) (q : Ahead) (p : Point) → ArePlacedBranches found p (spot q) →
@@ -204,7 +204,7 @@ module _ (room : ℕ) (inner : Ahead → Read Instrs) (S : (q : Ahead) → Holds
   place_branches zero found high q p d = holds d
   place_branches (suc f) found high q p d =
       holds_if (sees terminal.Elseif q) _ _
-      (λ b. holds_then _ (place_guarded (past q)) λ x g.
+      (λ b. holds_then _ (place_branch (past q)) λ x g.
       place_branches f (branches_push found x.0.0 x.0.1) (max high x.1) x.2 p (push_branch d (a_word terminal.Elseif q b) g.1.1.0 g.1.1.1 g.1.1.2))
       (λ _. holds d)
 
@@ -215,15 +215,15 @@ module _ (room : ℕ) (inner : Ahead → Read Instrs) (S : (q : Ahead) → Holds
   place_conditional : (p : Point) (q : Ahead) → IsToken (TERMINAL terminal.If) q.last p (spot q) → Holds (PlacesInstr p) (conditional room inner q)
   unfolding conditional
   place_conditional p q k =
-      holds_then _ (place_guarded q) λ g d. holds_then _ (place_branches (left g.2) no_branches 0 g.2 (spot g.2) places.no_branch) λ bs e.
+      holds_then _ (place_branch q) λ g d. holds_then _ (place_branches (left g.2) no_branches 0 g.2 (spot g.2) places.no_branch) λ bs e.
       holds_then _ (place_other bs.2) λ o u. holds_then _ (expected terminal.End o.2) λ r w.
-      holds (places.conditional (q.last, k) d.1.1.0 d.1.1.1 d.1.1.2 e u w (from_there _ p q r k))
+      holds (places.conditional {i = record { condition = g.0.0; body = g.0.1; branches = bs.0; other = o.0 }} (q.last, k) d.1.1.0 d.1.1.1 d.1.1.2 e u w (from_there _ p q r k))
 
   place_iteration : (p : Point) (q : Ahead) → IsToken (TERMINAL terminal.From) q.last p (spot q) → Holds (PlacesInstr p) (iteration room inner q)
   unfolding iteration
   place_iteration p q k =
       holds_then _ (S q) λ i d. holds_then _ (expected terminal.Until i.2) λ r w. holds_then _ (place_nested room top r) λ t e. holds_then _ (expected terminal.Loop t.2) λ s v.
-      holds_then _ (S s) λ b g. holds_then _ (expected terminal.End b.2) λ u y. holds (places.loop (q.last, k) d w e v g y (from_there _ p q u k))
+      holds_then _ (S s) λ b g. holds_then _ (expected terminal.End b.2) λ u y. holds (places.loop {i = record { initial = i.0; until = t.0; body = b.0 }} (q.last, k) d w e v g y (from_there _ p q u k))
 
   place_checked : (q : Ahead) → Holds (λ x. ArePlacedClauses x.0 (spot q) (spot x.2)) (checked room inner q)
   unfolding checked
@@ -258,7 +258,7 @@ module _ (room : ℕ) (inner : Ahead → Read Instrs) (S : (q : Ahead) → Holds
   unfolding block
   place_block p q k =
       holds_then _ (place_heads q) λ xs d. holds_then _ (expected terminal.Do xs.2) λ r w. holds_then _ (S r) λ b e. holds_then _ (expected terminal.End b.2) λ u v.
-      holds (places.block (q.last, k) d w e v (from_there _ p q u k))
+      holds (places.block {i = record { heads = xs.0; body = b.0 }} (q.last, k) d w e v (from_there _ p q u k))
 
   place_instr : (q : Ahead) → Holds (PlacesInstr (spot q)) (instr room inner q)
   unfolding instr

@@ -11,7 +11,7 @@ use Rattle.sc_tree.specs.Sections.{same_list, shares_list, further_share, share_
 use Rattle.sc_parse.specs.Reading.Classes.{feature}
 use Rattle.sc_parse.proofs.SharedExports as plain_exports
 use Rattle.sc_parse.proofs.Views.{feature_of-is}
-use Rattle.sc_parse.specs.Sections.{AllExported, AddsExported, begun_at}
+use Rattle.sc_parse.specs.Reading.Sections.{AllExported, AddsExported, begun_at}
 
 bytes_same : (bs : List ℕ) → bytes_eq bs bs ≡ true
 bytes_same [] = refl

@@ -4,7 +4,7 @@ use Rattle.std.specs.Prelude.{if◌then◌else◌}
 use Rattle.sc_text.specs.declared.token.Terminal.TheVariants as terminal
 use Rattle.sc_tree.specs.Plain.{Name, DeclaredType, Declaration, Feature}
 use Rattle.sc_tree.specs.Grammar.Classes.{attribute_of}
-use Rattle.sc_tree.specs.Reading.Looks.{Fault, ◌>>=◌}
+use Rattle.sc_tree.specs.Internal.Reading.Looks.{Fault, ◌>>=◌}
 use Rattle.sc_parse.specs.Reading.Looks.{Ahead, Read, sees, expect, skip, name, left}
 use Rattle.sc_parse.specs.Reading.Types.{more_names, declared_type}
 use Rattle.sc_parse.specs.Reading.Assertions.{assertion}

@@ -11,13 +11,13 @@ use Rattle.sc_text.specs.declared.token.Span.{Span}
 use Rattle.sc_tree.specs.View.{expr_of}
 use Rattle.sc_tree.specs.Grammar.Operators.{top}
 use Rattle.sc_tree.specs.Plain.{Name, DeclaredType, Expr, Call, ObjectTest, Target, Exprs, Variable, Clause, Head, Instr, Assign, PrintText, CallRoutine, Create, Loop, Check, Block, Instrs}
-use Rattle.sc_tree.specs.Reading.Looks.{Wrong}
-use Rattle.sc_parse.specs.Places.{place_of}
+use Rattle.sc_tree.specs.Internal.Reading.Looks.{Wrong}
+use Rattle.sc_tree.specs.Properties.{span_of}
 use Rattle.sc_parse.specs.Reading.Looks.{Ahead, begin, up_to, Read, past, sees, expect, name, text}
 use Rattle.sc_parse.specs.Reading.Types.{tested_type}
 use Rattle.sc_parse.specs.Reading.Expressions.{actuals, calling, chain, object_test, expr, nested}
 use Rattle.sc_parse.specs.Reading.Instructions.{variable, assignment, printing, called, routine_call, creation, iteration, checked, checking, nested_chain, head, heads, block}
-use Rattle.sc_parse.specs.Reads.{expr_in}
+use Rattle.sc_parse.specs.Reading.Reads.{expr_in}
 
 -- ---- expressions
 
@@ -37,7 +37,7 @@ object_test_is inner room ts o r t h s u x rest e p q v w y = rw (p, q, v, w, y)
 
 module _ (room : ℕ) (inner : Ahead → Read Instrs) (ts : Ahead) (i : Instr) where
   pub assignment_is : (v : Variable) (r s : Ahead) (t : Expr) (h : ℕ) (rest : Ahead) →
-      variable ts ≡ Ok (v, r) → expect terminal.Becomes r ≡ Ok s → expr room top s ≡ Ok (t, h, rest) → i ≡ Assign (record { start = begin ts; end = (place_of t).end }) v t → assignment room inner ts ≡ Ok (i, h, rest)
+      variable ts ≡ Ok (v, r) → expect terminal.Becomes r ≡ Ok s → expr room top s ≡ Ok (t, h, rest) → i ≡ Assign (record { start = begin ts; end = (span_of t).end }) v t → assignment room inner ts ≡ Ok (i, h, rest)
   unfolding assignment
   assignment_is v r s t h rest p q w e = rw (p, q, w, e) refl
 
@@ -46,7 +46,7 @@ module _ (room : ℕ) (inner : Ahead → Read Instrs) (ts : Ahead) (i : Instr) w
   unfolding routine_call
   routine_call_is t h rest s a x es p q e = rw (p, q, e) refl
 
-  pub create_is : (v : Variable) (r : Ahead) (b : Bool) → variable ts ≡ Ok (v, r) → b ≡ sees terminal.Dot r → b ≡ false → i ≡ Create (up_to ts.last.start r) v None → creation room inner ts ≡ Ok (i, 0, r)
+  pub create_is : (v : Variable) (r : Ahead) (b : Bool) → variable ts ≡ Ok (v, r) → b ≡ sees terminal.Dot r → b ≡ false → i ≡ Create (up_to ts.last.start r) (record { variable = v; call = None }) → creation room inner ts ≡ Ok (i, 0, r)
   unfolding creation
   create_is v r b p q d e = let f = sym q ∙ d in rw (p, f, e) refl
 
@@ -76,7 +76,7 @@ printing_is room inner start ts r s u rest i a w p q e = rw (not_zero room a, sy
 
 pub creation_is : (room : ℕ) (inner : Ahead → Read Instrs) (ts : Ahead) (v : Variable) (r : Ahead) (b : Bool) (s : Ahead) (x : Name) (u : Ahead) (es : Exprs) (h : ℕ) (rest : Ahead) (i : Instr) →
     0 < room → variable ts ≡ Ok (v, r) → b ≡ sees terminal.Dot r → b ≡ true → s ≡ past r → name s ≡ Ok (x, u) → actuals (nested room) u ≡ Ok (es, h, rest) →
-    i ≡ Create (up_to ts.last.start rest) v (Some (record { name = x; actuals = es })) → creation room inner ts ≡ Ok (i, max 1 h, rest)
+    i ≡ Create (up_to ts.last.start rest) (record { variable = v; call = Some (record { name = x; actuals = es }) }) → creation room inner ts ≡ Ok (i, max 1 h, rest)
 unfolding creation
 creation_is room inner ts v r b s x u es h rest i a p q d w y z e = let f = sym q ∙ d in let k : name (past r) ≡ Ok (x, u) = ap name (sym w) ∙ y in rw (p, f, not_zero room a, k, z, e) refl
 

@@ -9,17 +9,17 @@ use Rattle.sc_tree.specs.Grammar.Operators.{groups, top}
 use Rattle.sc_tree.specs.Plain as plain
 use Rattle.sc_tree.specs.Plain.{Name, DeclaredType, Clause, Expr, Current, Call, Binary, ObjectTest, Target, no_target, target, Exprs, no_exprs, expr_then, Head, Instr, Instrs, no_instrs, Branches, no_branches}
 use Rattle.sc_parse.specs.declared.fault.ParseFault.{ParseFault}
-use Rattle.sc_parse.specs.Reads.{Fails}
+use Rattle.sc_parse.specs.Reading.Reads.{Fails}
 use Rattle.sc_parse.proofs.Faults.{Fails-bind, Fails-along}
 use Rattle.sc_tree.proofs.Combining.{bind_ok, choose_true, choose_false, le_true, le_false}
-use Rattle.sc_tree.specs.Reading.Looks.{Deep, ◌>>=◌}
-use Rattle.sc_parse.specs.Places.{place_of}
+use Rattle.sc_tree.specs.Internal.Reading.Looks.{Deep, ◌>>=◌}
+use Rattle.sc_tree.specs.Properties.{span_of}
 use Rattle.sc_parse.specs.Reading.Looks.{Ahead, begin, left, Read, past, sees, skip_semicolons, past_semicolons, begins_instr, operator_ahead, past_operator}
-use Rattle.sc_tree.specs.Reading.Expressions.{exprs_push}
+use Rattle.sc_tree.specs.Internal.Reading.Expressions.{exprs_push}
 use Rattle.sc_parse.specs.Reading.Expressions.{across, with_operator, more_exprs, exprs, calling, chain_head, calls, chain, operators, operand, level, expr, nested}
 use Rattle.sc_parse.specs.Reading.Assertions.{clauses, nested_clauses}
-use Rattle.sc_tree.specs.Reading.Instructions.{instrs_push, branches_push}
-use Rattle.sc_parse.specs.Reading.Instructions.{nested_chain, guarded, branches, head, more_heads, heads, instr, instrs_from, body, instrs, nested_instrs}
+use Rattle.sc_tree.specs.Internal.Reading.Instructions.{instrs_push, branches_push}
+use Rattle.sc_parse.specs.Reading.Instructions.{nested_chain, branch, branches, head, more_heads, heads, instr, instrs_from, body, instrs, nested_instrs}
 
 -- a list's turns are as many as the tokens that are left
 pub turns_of : (ts : Ahead) → length ts.rest - 0 ≡ left ts
@@ -143,17 +143,17 @@ module _ (inner : ℕ → Ahead → Read Expr) (room n i : ℕ) (t : Expr) (h : 
   calls_end p = let z : n - i ≡ 0 = omega arith in ap (λ (f : ℕ). calls inner room f t h ts) z
 
   pub calls_turn : i < n →
-      calls inner room (n - i) t h ts ≡ (if sees terminal.Dot ts then (if nat_le room h then Err Deep else (calling inner (place_of t).start (target t) (past ts) >>= after_call)) else Ok (t, h, ts))
+      calls inner room (n - i) t h ts ≡ (if sees terminal.Dot ts then (if nat_le room h then Err Deep else (calling inner (span_of t).start (target t) (past ts) >>= after_call)) else Ok (t, h, ts))
   unfolding calls
   calls_turn p = let z : n - i ≡ suc (n - (i + 1)) = omega arith in ap (λ (f : ℕ). calls inner room f t h ts) z
 
 module _ (inner : ℕ → Ahead → Read Expr) (room n i : ℕ) (t : Expr) (h : ℕ) (ts : Ahead) (all : Read Expr) (same : calls inner room (n - i) t h ts ≡ all)
     (c : Bool) (r : Ahead) (a : Target) (p : i < n) (q : c ≡ sees terminal.Dot ts) (d : c ≡ true) (b : h < room) (w : r ≡ past ts) (l : a ≡ target t)
-    (start : ℕ) (z : start ≡ (place_of t).start) where
+    (start : ℕ) (z : start ≡ (span_of t).start) where
   called : all ≡ (calling inner start a r >>= after_call inner room n i t h ts)
   called =
       sym same ∙ calls_turn inner room n i t h ts p ∙ choose_true (sees terminal.Dot ts) _ _ (sym q ∙ d) ∙ choose_false (nat_le room h) _ _ (le_false room h b)
-      ∙ ap (λ (r : Ahead). calling inner (place_of t).start (target t) r >>= after_call inner room n i t h ts) (sym w) ∙ ap (λ (a : Target). calling inner (place_of t).start a r >>= after_call inner room n i t h ts) (sym l)
+      ∙ ap (λ (r : Ahead). calling inner (span_of t).start (target t) r >>= after_call inner room n i t h ts) (sym w) ∙ ap (λ (a : Target). calling inner (span_of t).start a r >>= after_call inner room n i t h ts) (sym l)
       ∙ ap (λ (s : ℕ). calling inner s a r >>= after_call inner room n i t h ts) (sym z)
 
   pub calls_fail : (e : ParseFault) → Fails (calling inner start a r) e → Fails all e
@@ -287,15 +287,15 @@ module _ (room : ℕ) (n i : ℕ) (found : Branches) (high : ℕ) (ts : Ahead) w
   unfolding branches
   branches_end p = let z : n - i ≡ 0 = omega arith in ap (λ (f : ℕ). branches room (nested_instrs room) f found high ts) z
 
-  pub branches_turn : i < n → branches room (nested_instrs room) (n - i) found high ts ≡ (if sees terminal.Elseif ts then (guarded room (nested_instrs room) (past ts) >>= next_branches room (n - (i + 1)) found high) else Ok (found, high, ts))
+  pub branches_turn : i < n → branches room (nested_instrs room) (n - i) found high ts ≡ (if sees terminal.Elseif ts then (branch room (nested_instrs room) (past ts) >>= next_branches room (n - (i + 1)) found high) else Ok (found, high, ts))
   unfolding branches
   branches_turn p = let z : n - i ≡ suc (n - (i + 1)) = omega arith in ap (λ (f : ℕ). branches room (nested_instrs room) f found high ts) z
 
-  pub branches_more : (b : Bool) (r : Ahead) (x : (Expr × Instrs)) (h : ℕ) (rest : Ahead) (xs : Branches) → i < n → b ≡ sees terminal.Elseif ts → b ≡ true → r ≡ past ts → guarded room (nested_instrs room) r ≡ Ok (x, h, rest) →
+  pub branches_more : (b : Bool) (r : Ahead) (x : (Expr × Instrs)) (h : ℕ) (rest : Ahead) (xs : Branches) → i < n → b ≡ sees terminal.Elseif ts → b ≡ true → r ≡ past ts → branch room (nested_instrs room) r ≡ Ok (x, h, rest) →
       xs ≡ branches_push found x.0 x.1 → branches room (nested_instrs room) (n - (i + 1)) xs (max high h) rest ≡ branches room (nested_instrs room) (n - i) found high ts
   branches_more b r x h rest xs p q d w e u =
       ap (λ (xs : Branches). branches room (nested_instrs room) (n - (i + 1)) xs (max high h) rest) u
-      ∙ sym (branches_turn p ∙ choose_true (sees terminal.Elseif ts) _ _ (sym q ∙ d) ∙ ap (λ (r : Ahead). guarded room (nested_instrs room) r >>= next_branches room (n - (i + 1)) found high) (sym w) ∙ bind_ok _ _ (next_branches room (n - (i + 1)) found high) e)
+      ∙ sym (branches_turn p ∙ choose_true (sees terminal.Elseif ts) _ _ (sym q ∙ d) ∙ ap (λ (r : Ahead). branch room (nested_instrs room) r >>= next_branches room (n - (i + 1)) found high) (sym w) ∙ bind_ok _ _ (next_branches room (n - (i + 1)) found high) e)
 
 -- what follows the first head
 abbrev pub then_heads : ℕ → Head × ℕ × Ahead → Read (List Head)

@@ -8,8 +8,8 @@ use Rattle.sc_tree.specs.declared.instruction.Branch.{Branch}
 use Rattle.sc_tree.specs.declared.system.Feature.{Feature}
 use Rattle.sc_tree.specs.declared.system.Class.{Class}
 use Rattle.sc_tree.specs.Plain as plain
-use Rattle.sc_tree.specs.Reading.Expressions.{exprs_push}
-use Rattle.sc_tree.specs.Reading.Instructions.{instrs_push, branches_push}
+use Rattle.sc_tree.specs.Internal.Reading.Expressions.{exprs_push}
+use Rattle.sc_tree.specs.Internal.Reading.Instructions.{instrs_push, branches_push}
 use Rattle.sc_tree.specs.View.{name_of, expr_of, exprs_of, instr_of, instrs_of, branches_of, head_of, clause_of, kind_of, feature_of, mark_if_any, parent_of, class_of}
 
 pub map-push : {A B : Type 0} (f : A → B) (xs : List A) (x : A) → map f (xs ++ x ∷ []) ≡ map f xs ++ f x ∷ []

@@ -11,7 +11,7 @@ use Rattle.sc_text.specs.declared.token.Terminal.TheVariants as terminal
 use Rattle.sc_tree.specs.declared.expression.UnaryOperator.TheVariants as unary
 use Rattle.sc_tree.specs.declared.expression.BinaryOperator.TheVariants as binary
 use Rattle.sc_tree.specs.Plain.{Name, Expr, Integer, Call, Unary, Binary, no_target, target, no_exprs, expr_then}
-use Rattle.sc_tree.specs.Reading.Looks.{same_terminal}
+use Rattle.sc_tree.specs.Internal.Reading.Looks.{same_terminal}
 use Rattle.sc_parse.specs.Reading.Looks.{Ahead, expect}
 use Rattle.sc_parse.specs.Reading.Types.{tested_type}
 use Rattle.sc_parse.specs.Reading.Expressions.{parenthesized, more_exprs, exprs, actuals, calling, chain_head, calls, chain, primary, prefixed, operand, operators, level, expr}

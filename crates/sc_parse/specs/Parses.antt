@@ -11,8 +11,8 @@ use Rattle.sc_parse.specs.declared.fault.ParseFault.TheVariants as fault
 
 -- There is no tree of the tokens, or none that is nested at most so deep, as the fault says.
 abbrev pub RefusesWithin : ℕ → List Kind → ParseFault → Type 0
-RefusesWithin room ts (fault.NotInGrammar place) = (t : plain.System) (h : ℕ) → IsSystem t ts h → ⊥
-RefusesWithin room ts (fault.TooDeep place) = (t : plain.System) (h : ℕ) → h ≤ room → IsSystem t ts h → ⊥
+RefusesWithin room ts (fault.NotInGrammar span) = (t : plain.System) (h : ℕ) → IsSystem t ts h → ⊥
+RefusesWithin room ts (fault.TooDeep span) = (t : plain.System) (h : ℕ) → h ≤ room → IsSystem t ts h → ⊥
 RefusesWithin room ts fault.OutOfMemory = Unit {0}
 
 -- The tokens spell the tree, nested at most so deep, or the fault is true of them.

@@ -14,8 +14,9 @@ use Rattle.sc_tree.specs.Grammar.Operators.{prefix_of, terminals_of}
 use Rattle.sc_tree.specs.Grammar.Types.{handler_name}
 use Rattle.sc_tree.specs.Grammar.Instructions.{print_name}
 use Rattle.sc_tree.specs.Grammar.Classes.{declared_as, attribute_of, routine_of, none_name, exported_to, heads_class, ends_class}
+use Rattle.sc_tree.specs.Properties.{span_of}
 use Rattle.sc_tree.specs.Plain as plain
-use Rattle.sc_tree.specs.Plain.{Name, HandlerTag, Own, Separate, HandlerOf, DeclaredType, Declaration, Expr, Integer, Boolean, Void, Current, Call, Unary, Binary, ObjectTest, Target, no_target, target, Exprs, no_exprs, expr_then, Variable, Named, ResultVariable, CreationCall, Clause, Head, Instr, Assign, PrintText, CallRoutine, Create, If, Loop, Check, Block, Instrs, no_instrs, instr_then, Branches, no_branches, branch_then, Feature, Parent, ClassMark, Deferred, Expanded, Frozen, Class, System}
+use Rattle.sc_tree.specs.Plain.{Name, HandlerTag, Own, Separate, HandlerOf, DeclaredType, Declaration, Expr, Integer, Boolean, Void, Current, Call, Unary, Binary, ObjectTest, Target, no_target, target, Exprs, no_exprs, expr_then, Variable, Named, ResultVariable, CreationCall, Creation, Clause, Head, Instr, Assign, PrintText, CallRoutine, Create, Check, Conditional, if_instr, Iteration, loop_instr, SeparateBlock, block_instr, RoutineDeclaration, Instrs, no_instrs, instr_then, Branches, no_branches, branch_then, Feature, Parent, ClassMark, Deferred, Expanded, Frozen, Class, System}
 
 -- a point between two tokens: where the one before it stands, and the ones behind it
 pub record Point : Type 0 where
@@ -71,8 +72,10 @@ pub data IsOne {X : Type 0} (Is : X → Point → Point → Type 0) : List X →
 abbrev pub IsPlacedName : Name → Point → Point → Type 0
 IsPlacedName x p q = IsToken (NAME x.text) x.span p q
 
-abbrev pub ArePlacedNames : List Name → Point → Point → Type 0
-ArePlacedNames = IsRow (IsOne IsPlacedName) terminal.Comma
+-- at least one
+pub data ArePlacedNames : List Name → Point → Point → Type 0 where
+  one_name : {x : Name} {p q : Point} → IsPlacedName x p q → ArePlacedNames (x ∷ []) p q
+  more_names : {x : Name} {xs : List Name} {p q r u : Point} → IsPlacedName x p q → IsWord terminal.Comma q r → ArePlacedNames xs r u → ArePlacedNames (x ∷ xs) p u
 
 pub data IsTypeMark : Point → Point → Type 0 where
   unmarked : {p : Point} → IsTypeMark p p
@@ -97,17 +100,6 @@ pub data IsPlacedTest : Option DeclaredType → Point → Point → Type 0 where
 
 -- ---- expressions
 
-abbrev pub place_of : Expr → Span
-place_of (Integer s n) = s
-place_of (Boolean s b) = s
-place_of (Void s) = s
-place_of (Current s) = s
-place_of (plain.Result s) = s
-place_of (Call s t x es) = s
-place_of (Unary s op a) = s
-place_of (Binary s op a b) = s
-place_of (ObjectTest s t a x) = s
-
 mutual
   pub data IsPlacedExpr : Expr → Point → Point → Type 0 where
     integer : {n : ℤ} {s : Span} {p q : Point} → IsToken (INTEGER n) s p q → IsPlacedExpr (Integer s n) p q
@@ -119,13 +111,13 @@ mutual
     parenthesized : {t : Expr} {p q r u : Point} → IsWord terminal.OpenParenthesis p q → IsPlacedExpr t q r → IsWord terminal.CloseParenthesis r u → IsPlacedExpr t p u
     unqualified : {x : Name} {es : Exprs} {s : Span} {p q r : Point} → IsPlacedName x p q → ArePlacedActuals es q r → s ≡ between p r → IsPlacedExpr (Call s no_target x es) p r
     qualified : {t : Expr} {x : Name} {es : Exprs} {s : Span} {p q r u v : Point} → IsPlacedExpr t p q → IsWord terminal.Dot q r → IsPlacedName x r u → ArePlacedActuals es u v →
-        s.start ≡ (place_of t).start → s.end ≡ v.last.end → IsPlacedExpr (Call s (target t) x es) p v
+        s.start ≡ (span_of t).start → s.end ≡ v.last.end → IsPlacedExpr (Call s (target t) x es) p v
     object_test : {o : Option DeclaredType} {t : Expr} {x : Name} {s : Span} {p q r u v w : Point} →
         IsWord terminal.Attached p q → IsPlacedTest o q r → IsPlacedExpr t r u → IsWord terminal.As u v → IsPlacedName x v w → s ≡ between p w → IsPlacedExpr (ObjectTest s o t x) p w
     prefixed : {op : UnaryOperator} {a : Expr} {s : Span} {p q r : Point} → IsWord (prefix_of op) p q → IsPlacedExpr a q r →
-        s.start ≡ begin p → s.end ≡ (place_of a).end → IsPlacedExpr (Unary s op a) p r
+        s.start ≡ begin p → s.end ≡ (span_of a).end → IsPlacedExpr (Unary s op a) p r
     infixed : {op : BinaryOperator} {a b : Expr} {s : Span} {p q r u : Point} → IsPlacedExpr a p q → AreWords (terminals_of op) q r → IsPlacedExpr b r u →
-        s.start ≡ (place_of a).start → s.end ≡ (place_of b).end → IsPlacedExpr (Binary s op a b) p u
+        s.start ≡ (span_of a).start → s.end ≡ (span_of b).end → IsPlacedExpr (Binary s op a b) p u
 
   pub data ArePlacedActuals : Exprs → Point → Point → Type 0 where
     no_actuals : {p : Point} → ArePlacedActuals no_exprs p p
@@ -156,6 +148,11 @@ pub data IsPlacedVariable : Variable → Point → Point → Type 0 where
   named_variable : {x : Name} {p q : Point} → IsPlacedName x p q → IsPlacedVariable (Named x) p q
   result_variable : {s : Span} {p q : Point} → IsToken (TERMINAL terminal.Result) s p q → IsPlacedVariable (ResultVariable s) p q
 
+-- the call by which an object is created, if there is one
+pub data IsPlacedCreationCall : Option CreationCall → Point → Point → Type 0 where
+  no_call : {p : Point} → IsPlacedCreationCall None p p
+  creation_call : {c : CreationCall} {p q r u : Point} → IsWord terminal.Dot p q → IsPlacedName c.name q r → ArePlacedActuals c.actuals r u → IsPlacedCreationCall (Some c) p u
+
 pub data IsPlacedHead : Head → Point → Point → Type 0 where
   head : {t : Expr} {x : Name} {p q r u : Point} → IsPlacedExpr t p q → IsWord terminal.As q r → IsPlacedName x r u → IsPlacedHead (record { value = t; name = x }) p u
 
@@ -165,24 +162,22 @@ ArePlacedHeads = IsRow (IsOne IsPlacedHead) terminal.Comma
 mutual
   pub data IsPlacedInstr : Instr → Point → Point → Type 0 where
     assign : {v : Variable} {t : Expr} {s : Span} {p q r u : Point} → IsPlacedVariable v p q → IsWord terminal.Becomes q r → IsPlacedExpr t r u →
-        s.start ≡ begin p → s.end ≡ (place_of t).end → IsPlacedInstr (Assign s v t) p u
+        s.start ≡ begin p → s.end ≡ (span_of t).end → IsPlacedInstr (Assign s v t) p u
     print_text : {text : List ℕ} {s n m : Span} {p q r u v : Point} →
         IsToken (NAME print_name) n p q → IsWord terminal.OpenParenthesis q r → IsToken (STRING text) m r u → IsWord terminal.CloseParenthesis u v → s ≡ between p v → IsPlacedInstr (PrintText s text) p v
     call : {s : Span} {t : Target} {x : Name} {es : Exprs} {p q : Point} → IsPlacedExpr (Call s t x es) p q → IsPlacedInstr (CallRoutine s t x es) p q
-    create : {v : Variable} {s : Span} {p q r : Point} → IsWord terminal.Create p q → IsPlacedVariable v q r → s ≡ between p r → IsPlacedInstr (Create s v None) p r
-    create_by : {v : Variable} {x : Name} {es : Exprs} {s : Span} {p q r u w z : Point} →
-        IsWord terminal.Create p q → IsPlacedVariable v q r → IsWord terminal.Dot r u → IsPlacedName x u w → ArePlacedActuals es w z → s ≡ between p z →
-        IsPlacedInstr (Create s v (Some (record { name = x; actuals = es }))) p z
-    conditional : {t : Expr} {body other : Instrs} {bs : Branches} {s : Span} {p q r u v w y z : Point} →
-        IsWord terminal.If p q → IsPlacedExpr t q r → IsWord terminal.Then r u → ArePlacedInstrs body u v → ArePlacedBranches bs v w → IsPlacedElse other w y → IsWord terminal.End y z →
-        s ≡ between p z → IsPlacedInstr (If s t body bs other) p z
-    loop : {initial body : Instrs} {t : Expr} {s : Span} {p q r u v w y z : Point} →
-        IsWord terminal.From p q → ArePlacedInstrs initial q r → IsWord terminal.Until r u → IsPlacedExpr t u v → IsWord terminal.Loop v w → ArePlacedInstrs body w y → IsWord terminal.End y z →
-        s ≡ between p z → IsPlacedInstr (Loop s initial t body) p z
+    create : {c : Creation} {s : Span} {p q r u : Point} →
+        IsWord terminal.Create p q → IsPlacedVariable c.variable q r → IsPlacedCreationCall c.call r u → s ≡ between p u → IsPlacedInstr (Create s c) p u
+    conditional : {i : Conditional} {s : Span} {p q r u v w y z : Point} →
+        IsWord terminal.If p q → IsPlacedExpr i.condition q r → IsWord terminal.Then r u → ArePlacedInstrs i.body u v → ArePlacedBranches i.branches v w → IsPlacedElse i.other w y → IsWord terminal.End y z →
+        s ≡ between p z → IsPlacedInstr (if_instr s i) p z
+    loop : {i : Iteration} {s : Span} {p q r u v w y z : Point} →
+        IsWord terminal.From p q → ArePlacedInstrs i.initial q r → IsWord terminal.Until r u → IsPlacedExpr i.until u v → IsWord terminal.Loop v w → ArePlacedInstrs i.body w y → IsWord terminal.End y z →
+        s ≡ between p z → IsPlacedInstr (loop_instr s i) p z
     check : {xs : List Clause} {s : Span} {p q r u : Point} →
         IsWord terminal.Check p q → ArePlacedClauses xs q r → IsWord terminal.End r u → s ≡ between p u → IsPlacedInstr (Check s xs) p u
-    block : {xs : List Head} {body : Instrs} {s : Span} {p q r u v w : Point} →
-        IsWord terminal.Separate p q → ArePlacedHeads xs q r → IsWord terminal.Do r u → ArePlacedInstrs body u v → IsWord terminal.End v w → s ≡ between p w → IsPlacedInstr (Block s xs body) p w
+    block : {i : SeparateBlock} {s : Span} {p q r u v w : Point} →
+        IsWord terminal.Separate p q → ArePlacedHeads i.heads q r → IsWord terminal.Do r u → ArePlacedInstrs i.body u v → IsWord terminal.End v w → s ≡ between p w → IsPlacedInstr (block_instr s i) p w
 
   pub data ArePlacedInstrs : Instrs → Point → Point → Type 0 where
     no_instr : {p : Point} → ArePlacedInstrs no_instrs p p
@@ -225,10 +220,10 @@ pub data IsPlacedResult : Option DeclaredType → Point → Point → Type 0 whe
 pub data IsPlacedFeature (es : List Name) : List Feature → Point → Point → Type 0 where
   attributes : {xs : List Name} {t : DeclaredType} {p q r u : Point} → ArePlacedNames xs p q → IsWord terminal.Colon q r → IsPlacedType t r u → IsPlacedFeature es (map (attribute_of es t) xs) p u
   attribute : {x : Name} {t : DeclaredType} {p q r u : Point} → IsPlacedName x p q → ArePlacedFormals [] q r → IsPlacedResult (Some t) r u → IsPlacedFeature es (attribute_of es t x ∷ []) p u
-  routine : {x : Name} {fs ls : List Declaration} {t : Option DeclaredType} {pre post : List Clause} {body : Instrs} {p q r u v w y z a b c : Point} →
-      IsPlacedName x p q → ArePlacedFormals fs q r → IsPlacedResult t r u → IsOptional terminal.Is u v → IsPlacedAssertion terminal.Require pre v w → ArePlacedLocals ls w y →
-      IsWord terminal.Do y z → ArePlacedInstrs body z a → IsPlacedAssertion terminal.Ensure post a b → IsWord terminal.End b c →
-      IsPlacedFeature es (routine_of es x fs t pre ls body post ∷ []) p c
+  routine : {x : Name} {d : RoutineDeclaration} {p q r u v w y z a b c : Point} →
+      IsPlacedName x p q → ArePlacedFormals d.formals q r → IsPlacedResult d.result_type r u → IsOptional terminal.Is u v → IsPlacedAssertion terminal.Require d.precondition v w → ArePlacedLocals d.locals w y →
+      IsWord terminal.Do y z → ArePlacedInstrs d.body z a → IsPlacedAssertion terminal.Ensure d.postcondition a b → IsWord terminal.End b c →
+      IsPlacedFeature es (routine_of es x d ∷ []) p c
 
 -- The list `{}` leaves the name NONE, at the braces.
 pub data ArePlacedExports : List Name → Point → Point → Type 0 where

@@ -2,7 +2,7 @@
 
 ghost use Rattle.std.specs.Prelude.{◌≡◌, ℕ, [], IfOk, length};
 ghost use Rattle.sc_parse.specs.Reading.Assertions as spec;
-ghost use Rattle.sc_parse.specs.Reads.{ahead, tag_in, clause_in, clauses_in, Gives};
+ghost use Rattle.sc_parse.specs.Reading.Reads.{ahead, tag_in, clause_in, clauses_in, Gives};
 
 use crate::cursor::Parser;
 use crate::expression::TOP;
@@ -61,7 +61,7 @@ impl<'a> Parser<'a> {
             found.push(clause)?;
             if self.goes_on() {
                 return Err(ParseFault::NotInGrammar {
-                    place: self.next_start(),
+                    span: self.next_span(),
                 });
             }
             self.skip_semicolons();

@@ -3,10 +3,10 @@
 ghost use Rattle.std.specs.Prelude.{◌≡◌, ◌≤◌, ◌<◌, IfOk};
 ghost use Rattle.sc_parse.specs.Reading.Looks.{left};
 ghost use Rattle.sc_parse.specs.Reading.Expressions as spec;
-ghost use Rattle.sc_parse.specs.Reads.{ahead, expr_in, exprs_in, target_in, Reads};
+ghost use Rattle.sc_parse.specs.Reading.Reads.{ahead, expr_in, exprs_in, target_in, Reads};
 
 use crate::cursor::Parser;
-use crate::expression::{TOP, deeper, span_of};
+use crate::expression::{TOP, deeper};
 use crate::fault::ParseFault;
 use sc_text::Terminal;
 use sc_tree::{Call, Expr};
@@ -48,11 +48,11 @@ impl<'a> Parser<'a> {
             }
             if room <= height {
                 return Err(ParseFault::TooDeep {
-                    place: self.next_start(),
+                    span: self.next_span(),
                 });
             }
             self.take();
-            let start = span_of(&chain).start;
+            let start = chain.span().start;
             let target = Box::new(self.alloc, chain)?;
             let (call, call_height) = self.calling(Some(target), start, room)?;
             chain = call;

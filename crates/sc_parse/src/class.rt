@@ -5,7 +5,7 @@ ghost use Rattle.sc_tree.specs.Grammar.Classes as grammar;
 ghost use Rattle.sc_parse.specs.Reading.Classes as spec;
 ghost use Rattle.sc_parse.specs.Reading.Looks.{left, skip};
 ghost use Rattle.sc_tree.specs.Sections.{share_lists};
-ghost use Rattle.sc_parse.specs.Reads.{ahead, mark_in, parent_in, parents_in, names_in, header_ahead, members_in, members_ahead, class_in, classes_in, Gives, Takes};
+ghost use Rattle.sc_parse.specs.Reading.Reads.{ahead, mark_in, parent_in, parents_in, names_in, header_ahead, members_in, members_ahead, class_in, classes_in, Gives, Takes};
 
 use crate::cursor::Parser;
 use crate::fault::ParseFault;
@@ -22,7 +22,7 @@ struct Header {
 }
 
 impl<'a> Parser<'a> {
-    ghost use Rattle.sc_parse.specs.Header.{header_in};
+    ghost use Rattle.sc_parse.specs.Reading.Header.{header_in};
 
     /// Reads a note before a class, if there is one.
     fn skip_first_note(&mut self)

@@ -20,7 +20,7 @@ pub struct Parser<'a> {
 
 impl<'a> Parser<'a> {
     ghost use Rattle.sc_parse.specs.Reading.Classes.{opening};
-    ghost use Rattle.sc_parse.specs.Reads.{ahead, name_in, text_in, Fails, Takes};
+    ghost use Rattle.sc_parse.specs.Reading.Reads.{ahead, name_in, text_in, Fails, Takes};
 
     /// The parser of these tokens.
     pub fn new(alloc: Global, tokens: &'a [Token]) -> Parser<'a>
@@ -40,6 +40,16 @@ impl<'a> Parser<'a> {
         match self.rest.first() {
             Some(token) => token.span.start,
             None => self.last.end,
+        }
+    }
+
+    /// Where the next token stands, or nothing at the end of the last where none is left.
+    pub fn next_span(&self) -> Span
+        ensures { result ≡ (spec.past (ahead self.now)).last }
+    {
+        match self.rest.first() {
+            Some(token) => token.span,
+            None => self.span_from(self.last.end),
         }
     }
 
@@ -88,7 +98,7 @@ impl<'a> Parser<'a> {
             Ok(())
         } else {
             Err(ParseFault::NotInGrammar {
-                place: self.next_start(),
+                span: self.next_span(),
             })
         }
     }
@@ -103,7 +113,7 @@ impl<'a> Parser<'a> {
             Ok(())
         } else {
             Err(ParseFault::NotInGrammar {
-                place: self.next_start(),
+                span: self.next_span(),
             })
         }
     }
@@ -118,7 +128,7 @@ impl<'a> Parser<'a> {
     }
 
     /// Reads the semicolons ahead.
-    #[tactic(auto, unfolding(sc_tree::specs::Reading::Looks::same_terminal))]
+    #[tactic(auto, unfolding(sc_tree::specs::Internal::Reading::Looks::same_terminal))]
     pub fn skip_semicolons(&mut self)
         ensures { ahead self.new ≡ spec.skip_semicolons (ahead self.old) }
     {
@@ -141,9 +151,7 @@ impl<'a> Parser<'a> {
                 let text = text.clone()?;
                 Ok(Name { text, span: *span })
             }
-            _ => Err(ParseFault::NotInGrammar {
-                place: self.last.start,
-            }),
+            _ => Err(ParseFault::NotInGrammar { span: self.last }),
         }
     }
 
@@ -161,9 +169,7 @@ impl<'a> Parser<'a> {
                 let text = text.clone()?;
                 Ok(text)
             }
-            _ => Err(ParseFault::NotInGrammar {
-                place: self.last.start,
-            }),
+            _ => Err(ParseFault::NotInGrammar { span: self.last }),
         }
     }
 }

@@ -4,7 +4,7 @@ ghost use Rattle.std.specs.Prelude.{◌≡◌, [], IfOk, map};
 ghost use Rattle.sc_parse.specs.Reading.Looks.{left};
 ghost use Rattle.sc_tree.specs.Grammar.Classes as grammar;
 ghost use Rattle.sc_parse.specs.Reading.Classes as spec;
-ghost use Rattle.sc_parse.specs.Reads.{ahead, declarations_in, names_in, type_in, type_if_any_in, Takes};
+ghost use Rattle.sc_parse.specs.Reading.Reads.{ahead, declarations_in, names_in, type_in, type_if_any_in, Takes};
 
 use crate::cursor::Parser;
 use crate::fault::ParseFault;

@@ -1,11 +1,9 @@
 // Expressions (ECMA-367, 8.28).
 
 ghost use Rattle.std.specs.Prelude.{◌≡◌, ◌≤◌, ◌<◌, max, IfOk};
-ghost use Rattle.sc_parse.specs.Places.{place_of};
 ghost use Rattle.sc_parse.specs.Reading.Looks.{left};
 ghost use Rattle.sc_parse.specs.Reading.Expressions as spec;
-ghost use Rattle.sc_tree.specs.View.{expr_of};
-ghost use Rattle.sc_parse.specs.Reads.{ahead, expr_in, Reads};
+ghost use Rattle.sc_parse.specs.Reading.Reads.{ahead, expr_in, Reads};
 
 use crate::cursor::Parser;
 use crate::fault::ParseFault;
@@ -21,24 +19,6 @@ pub fn deeper(a: u8, b: u8) -> u8
     ensures { result ≡ max a b }
 {
     if a < b { b } else { a }
-}
-
-/// Where an expression stands.
-#[tactic(auto, unfolding(sc_tree::specs::View::expr_of))]
-pub fn span_of(expr: &Expr) -> Span
-    ensures { result ≡ place_of (expr_of expr.now) }
-{
-    match expr {
-        Expr::Integer(span, _) => *span,
-        Expr::Boolean(span, _) => *span,
-        Expr::Void(span) => *span,
-        Expr::Current(span) => *span,
-        Expr::Result(span) => *span,
-        Expr::Call(call) => call.span,
-        Expr::Unary(span, _, _) => *span,
-        Expr::Binary(span, _, _, _) => *span,
-        Expr::ObjectTest(span, _, _, _) => *span,
-    }
 }
 
 impl<'a> Parser<'a> {
@@ -65,9 +45,7 @@ impl<'a> Parser<'a> {
         ensures high { IfOk result (λ p. p.1 < room) }
     {
         if room == 0 {
-            return Err(ParseFault::TooDeep {
-                place: self.last.start,
-            });
+            return Err(ParseFault::TooDeep { span: self.last });
         }
         self.expr(class, room - 1)
     }
@@ -94,14 +72,14 @@ impl<'a> Parser<'a> {
             };
             if room <= height {
                 return Err(ParseFault::TooDeep {
-                    place: self.next_start(),
+                    span: self.next_span(),
                 });
             }
             self.take_operator(operator);
             let (right, right_height) = self.nested(class, room)?;
             let span = Span {
-                start: span_of(&left).start,
-                end: span_of(&right).end,
+                start: left.span().start,
+                end: right.span().end,
             };
             left = Expr::Binary(
                 span,
@@ -132,7 +110,7 @@ impl<'a> Parser<'a> {
         let (operand, height) = self.nested(0, room)?;
         let span = Span {
             start,
-            end: span_of(&operand).end,
+            end: operand.span().end,
         };
         let operand = Box::new(self.alloc, operand)?;
         Ok((Expr::Unary(span, operator, operand), height + 1))

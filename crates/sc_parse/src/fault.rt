@@ -3,20 +3,21 @@
 ghost use Rattle.std.specs.Prelude.{◌≡◌};
 ghost use Rattle.sc_parse.specs.declared.fault.ParseFault.TheVariants.{OutOfMemory};
 
+use sc_text::Span;
 use std::alloc::{AllocError, AllocFailed};
 use thiserror::Error;
 
-/// Why there is no tree of the tokens. A place is the offset of a byte in the text: where the token at
-/// fault begins, or where the last one ends if what is at fault is that no more follow.
+/// Why there is no tree of the tokens, and the token that is at fault: nothing, at the end of the last
+/// one, if what is at fault is that no more follow.
 #[derive(Clone, Copy, Debug, PartialEq, Eq, Error)]
 pub enum ParseFault {
-    /// P1: the tokens spell no system, and none begins with the tokens up to the one at `place`.
-    #[error("no system goes on with the token at {place}")]
-    NotInGrammar { place: usize },
+    /// P1: the tokens spell no system, and none begins with the tokens up to the one at `span`.
+    #[error("no system goes on with the token at {}", .span.start)]
+    NotInGrammar { span: Span },
     /// P2: the tokens spell no system of nesting at most 64, and none begins with the tokens up to the
-    /// one at `place`.
-    #[error("the token at {place} is nested too deep")]
-    TooDeep { place: usize },
+    /// one at `span`.
+    #[error("the token at {} is nested too deep", .span.start)]
+    TooDeep { span: Span },
     /// P9: no memory was left for the tree.
     #[error("out of memory")]
     OutOfMemory,

@@ -5,8 +5,8 @@ ghost use Rattle.sc_parse.specs.Reading.Looks.{left};
 ghost use Rattle.sc_tree.specs.Grammar.Classes as grammar;
 ghost use Rattle.sc_parse.specs.Reading.Classes as spec;
 ghost use Rattle.sc_tree.specs.Sections.{share_lists};
-ghost use Rattle.sc_parse.specs.Reads.{ahead, opening_in, opening_ahead, closing_in, closing_ahead, feature_with, declarations_in, features_in, name_in, names_in, type_in, type_if_any_in, Gives, Takes};
-ghost use Rattle.sc_parse.specs.Sections.{AddsExported, begun_at};
+ghost use Rattle.sc_parse.specs.Reading.Reads.{ahead, opening_in, opening_ahead, closing_in, closing_ahead, feature_with, declarations_in, features_in, name_in, names_in, type_in, type_if_any_in, Gives, Takes};
+ghost use Rattle.sc_parse.specs.Reading.Sections.{AddsExported, begun_at};
 
 use crate::cursor::Parser;
 use crate::fault::ParseFault;

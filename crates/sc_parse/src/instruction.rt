@@ -4,10 +4,10 @@ ghost use Rattle.std.specs.Prelude.{◌≡◌};
 ghost use Rattle.sc_tree.specs.Plain.{no_branches};
 ghost use Rattle.sc_parse.specs.Reading.Instructions as spec;
 ghost use Rattle.sc_parse.specs.Reading.Looks.{begin, left, past};
-ghost use Rattle.sc_parse.specs.Reads.{ahead, variable_in, clauses_in, expr_in, head_in, heads_in, instr_in, instrs_in, branch_in, branches_in, Gives, Reads, Takes};
+ghost use Rattle.sc_parse.specs.Reading.Reads.{ahead, variable_in, clauses_in, expr_in, head_in, heads_in, instr_in, instrs_in, branch_in, branches_in, Gives, Reads, Takes};
 
 use crate::cursor::Parser;
-use crate::expression::{TOP, span_of};
+use crate::expression::TOP;
 use crate::fault::ParseFault;
 use sc_text::{Span, Terminal};
 use sc_tree::{Branch, Clause, CreationCall, Expr, Head, Instr, Variable};
@@ -39,9 +39,7 @@ impl<'a> Parser<'a> {
         ensures { Gives instrs_in (spec.nested_instrs room (ahead self.old)) result (ahead self.new) }
     {
         if room == 0 {
-            return Err(ParseFault::TooDeep {
-                place: self.last.start,
-            });
+            return Err(ParseFault::TooDeep { span: self.last });
         }
         self.instructions(room - 1)
     }
@@ -105,7 +103,7 @@ impl<'a> Parser<'a> {
         let (value, _) = self.expr(TOP, room)?;
         let span = Span {
             start,
-            end: span_of(&value).end,
+            end: value.span().end,
         };
         Ok(Instr::Assign(span, variable, value))
     }
@@ -119,9 +117,7 @@ impl<'a> Parser<'a> {
         self.take();
         self.take();
         if room == 0 {
-            return Err(ParseFault::TooDeep {
-                place: self.last.start,
-            });
+            return Err(ParseFault::TooDeep { span: self.last });
         }
         let text = self.text()?;
         self.expect(Terminal::CloseParenthesis)?;
@@ -137,7 +133,7 @@ impl<'a> Parser<'a> {
         match chain {
             Expr::Call(call) => Ok(Instr::Call(call)),
             _ => Err(ParseFault::NotInGrammar {
-                place: self.next_start(),
+                span: self.next_span(),
             }),
         }
     }
@@ -154,7 +150,7 @@ impl<'a> Parser<'a> {
         }
         if room == 0 {
             return Err(ParseFault::TooDeep {
-                place: self.next_start(),
+                span: self.next_span(),
             });
         }
         self.take();
@@ -166,9 +162,9 @@ impl<'a> Parser<'a> {
 
     /// A condition and what stands under it.
     #[cycle(instructions)]
-    #[tactic(auto, unfolding(crate::specs::Reading::Instructions::guarded))]
-    fn guarded(&mut self, room: u8) -> Result<Branch, ParseFault>
-        ensures { Gives branch_in (spec.guarded room (spec.nested_instrs room) (ahead self.old)) result (ahead self.new) }
+    #[tactic(auto, unfolding(crate::specs::Reading::Instructions::branch))]
+    fn branch(&mut self, room: u8) -> Result<Branch, ParseFault>
+        ensures { Gives branch_in (spec.branch room (spec.nested_instrs room) (ahead self.old)) result (ahead self.new) }
     {
         let (condition, _) = self.nested(TOP, room)?;
         self.expect(Terminal::Then)?;
@@ -188,7 +184,7 @@ impl<'a> Parser<'a> {
                 return Ok(found);
             }
             self.take();
-            let branch = self.guarded(room)?;
+            let branch = self.branch(room)?;
             found.push(branch)?;
         }
         Ok(found)
@@ -214,7 +210,7 @@ impl<'a> Parser<'a> {
         ensures { Gives instr_in (spec.conditional room (spec.nested_instrs room) (ahead self.old)) result (ahead self.new) }
     {
         let start = self.last.start;
-        let Branch { condition, body } = self.guarded(room)?;
+        let Branch { condition, body } = self.branch(room)?;
         let branches = self.branches(room)?;
         let other = self.other(room)?;
         self.expect(Terminal::End)?;
@@ -249,7 +245,7 @@ impl<'a> Parser<'a> {
         }
         if room == 0 {
             return Err(ParseFault::TooDeep {
-                place: self.next_start(),
+                span: self.next_span(),
             });
         }
         self.clauses(room - 1)
@@ -272,9 +268,7 @@ impl<'a> Parser<'a> {
         ensures { Reads expr_in (spec.nested_chain room (ahead self.old)) result (ahead self.new) }
     {
         if room == 0 {
-            return Err(ParseFault::TooDeep {
-                place: self.last.start,
-            });
+            return Err(ParseFault::TooDeep { span: self.last });
         }
         self.chain(room - 1)
     }

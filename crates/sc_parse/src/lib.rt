@@ -14,10 +14,12 @@ mod expression;
 mod fault;
 mod feature;
 mod instruction;
+mod laws;
 mod look;
 mod operator;
 mod system;
 mod types;
 
 pub use fault::ParseFault;
+pub use laws::one_placed_tree;
 pub use system::{MAX_NESTING, parse, parse_within};

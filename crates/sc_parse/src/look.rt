@@ -4,7 +4,7 @@ ghost use Rattle.std.specs.Prelude.{◌≡◌};
 ghost use Rattle.sc_text.specs.Kind.{kind_of, kinds_of};
 ghost use Rattle.sc_tree.specs.Grammar.Classes as grammar;
 ghost use Rattle.sc_parse.specs.Reading.Looks as spec;
-ghost use Rattle.sc_tree.specs.Reading.Looks as looks;
+ghost use Rattle.sc_tree.specs.Internal.Reading.Looks as looks;
 ghost use Rattle.sc_parse.specs.Reading.Classes as classes;
 ghost use Rattle.sc_parse.specs.Reading.Instructions as instructions;
 
@@ -12,7 +12,7 @@ use crate::cursor::Parser;
 use sc_text::{Terminal, Token, TokenKind};
 
 /// Whether the first of the tokens is this terminal.
-#[tactic(auto, unfolding(sc_tree::specs::Reading::Looks::same_terminal))]
+#[tactic(auto, unfolding(sc_tree::specs::Internal::Reading::Looks::same_terminal))]
 pub fn begins_with(tokens: &[Token], terminal: Terminal) -> bool
     ensures { result ≡ looks.sees terminal (kinds_of tokens.now) }
 {
@@ -91,7 +91,7 @@ pub fn ends_class(token: &Token) -> bool
 }
 
 impl<'a> Parser<'a> {
-    ghost use Rattle.sc_parse.specs.Reads.{ahead};
+    ghost use Rattle.sc_parse.specs.Reading.Reads.{ahead};
 
     /// Whether no token is left.
     pub fn is_done(&self) -> bool

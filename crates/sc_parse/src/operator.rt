@@ -3,7 +3,7 @@
 ghost use Rattle.std.specs.Prelude.{◌≡◌};
 ghost use Rattle.sc_tree.specs.Grammar.Operators as grammar;
 ghost use Rattle.sc_parse.specs.Reading.Looks as spec;
-ghost use Rattle.sc_tree.specs.Reading.Looks as looks;
+ghost use Rattle.sc_tree.specs.Internal.Reading.Looks as looks;
 
 use crate::cursor::Parser;
 use crate::look::begins_with;
@@ -12,8 +12,8 @@ use sc_tree::{BinaryOperator, UnaryOperator};
 
 /// The class below the operator's own. Operators of one class bind equally, those of a lower one
 /// tighter.
-fn class_under(operator: BinaryOperator) -> u8
-    ensures { result ≡ grammar.under operator }
+fn class_below(operator: BinaryOperator) -> u8
+    ensures { result ≡ grammar.class_below operator }
 {
     match operator {
         BinaryOperator::Times => 0,
@@ -68,7 +68,7 @@ fn operator_of(terminal: Terminal) -> Option<BinaryOperator>
 }
 
 impl<'a> Parser<'a> {
-    ghost use Rattle.sc_parse.specs.Reads.{ahead};
+    ghost use Rattle.sc_parse.specs.Reading.Reads.{ahead};
 
     /// The operator before an operand that the next token is.
     pub fn prefix(&self) -> Option<UnaryOperator>
@@ -115,7 +115,7 @@ impl<'a> Parser<'a> {
         ensures { result ≡ spec.operator_ahead class (ahead self.now) }
     {
         let operator = self.any_operator()?;
-        if class_under(operator) == class {
+        if class_below(operator) == class {
             Some(operator)
         } else {
             None

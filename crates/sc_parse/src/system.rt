@@ -9,7 +9,7 @@ ghost use Rattle.sc_tree.specs.View.{system_of};
 ghost use Rattle.sc_parse.specs.Places.{IsPlaced};
 ghost use Rattle.sc_parse.specs.Reading.Classes as spec;
 ghost use Rattle.sc_parse.specs.Parses.{Parses, ParsesWithin, IsParsedTo};
-ghost use Rattle.sc_parse.specs.Reads.{ParsesAs};
+ghost use Rattle.sc_parse.specs.Reading.Reads.{ParsesAs};
 
 use crate::cursor::Parser;
 use crate::fault::ParseFault;
@@ -33,7 +33,7 @@ fn read_within(alloc: Global, tokens: &[Token], room: u8) -> Result<System, Pars
         Ok(System { classes })
     } else {
         Err(ParseFault::NotInGrammar {
-            place: parser.next_start(),
+            span: parser.next_span(),
         })
     }
 }

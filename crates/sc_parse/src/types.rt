@@ -3,7 +3,7 @@
 ghost use Rattle.std.specs.Prelude.{◌≡◌, ◌∷◌, [], IfOk};
 ghost use Rattle.sc_parse.specs.Reading.Looks.{left};
 ghost use Rattle.sc_parse.specs.Reading.Types as spec;
-ghost use Rattle.sc_parse.specs.Reads.{ahead, name_in, names_in, handler_tag_in, type_in, type_if_any_in, Takes};
+ghost use Rattle.sc_parse.specs.Reading.Reads.{ahead, name_in, names_in, handler_tag_in, type_in, type_if_any_in, Takes};
 
 use crate::cursor::Parser;
 use crate::fault::ParseFault;

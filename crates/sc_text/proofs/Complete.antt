@@ -9,8 +9,9 @@ use Rattle.sc_text.specs.declared.fault.LexFault.TheVariants as fault
 use Rattle.sc_text.specs.Kind.{Kind, STRING, TERMINAL}
 use Rattle.sc_text.specs.Characters.{is_white_space, is_letter, is_digit, is_name_part, is_comment_part, ends_line, escape, begins_with, digit_follows, decimal, quote, percent, hyphen}
 use Rattle.sc_text.specs.Words.{long_symbol, short_symbol, goes_on}
-use Rattle.sc_text.specs.Spelling.{IsWord, word as a_word, IsInteger, last_digit, digit, IsManifest, IsQuoted, pair, IsGap, white_space, comment, IsToken, name, reserved_word, integer as an_integer, manifest_string as a_manifest_string, long, short, IsFault, bad_character, unclosed_string, bad_escape, integer_too_large}
-use Rattle.sc_text.specs.Reading.{Gap, Lexed, Flaw, integer_end, closing, kind_of_word, word_of, word, number, integer_of, integer, with_mark, marks_read, manifest_of, manifest_by, manifest_string, symbol_of, symbol, front}
+use Rattle.sc_text.specs.Spelling.{span_at, IsWord, word as a_word, IsInteger, last_digit, digit, IsManifest, IsQuoted, pair, IsGap, white_space, comment, IsToken, name, reserved_word, integer as an_integer, manifest_string as a_manifest_string, long, short, IsFault, bad_character, unclosed_string, bad_escape, integer_too_large}
+use Rattle.sc_text.specs.Reading.Lengths.{integer_end, closing}
+use Rattle.sc_text.specs.Reading.Front.{Gap, Lexed, Flaw, kind_of_word, word_of, word, number, integer_of, integer, with_mark, marks_read, manifest_of, manifest_by, manifest_string, symbol_of, symbol, front}
 use Rattle.sc_text.proofs.Scanning.{prefix_len-split}
 use Rattle.sc_text.proofs.Integers.{integer_end-split}
 use Rattle.sc_text.proofs.Strings.{quoted_manifest, IsQuoted-append, closing_complete, closing_none, marks_complete}
@@ -94,17 +95,17 @@ manifest_read place cs rest end =
 manifest_front : {cs : List ℕ} → IsQuoted cs → (rest : List ℕ) (place : ℕ) → front place (quote ∷ (cs ++ quote ∷ rest)) ≡ manifest_of (length cs + 2) (marks_read false [] (place + 1) cs)
 manifest_front {cs} h rest place = front_manifest_string place (cs ++ quote ∷ rest) ∙ manifest_read place cs rest (closing_complete h 0 rest)
 
-unclosed_read : (place : ℕ) (rest : List ℕ) → closing 0 false rest ≡ None → manifest_string place rest ≡ Flaw (fault.UnclosedString place)
+unclosed_read : (place : ℕ) (rest : List ℕ) → closing 0 false rest ≡ None → manifest_string place rest ≡ Flaw (fault.UnclosedString (span_at place 1))
 unfolding manifest_string
 unclosed_read place rest e = ap (manifest_by place rest) e
 
 bad_escape_front : (place c : ℕ) {cs vs ds : List ℕ} (rest : List ℕ) → IsManifest cs vs → escape c ≡ None → ends_line c ≡ false → IsQuoted ds →
-    front place (quote ∷ (cs ++ percent ∷ c ∷ (ds ++ quote ∷ rest))) ≡ Flaw (fault.BadEscape (place + 1 + length cs))
+    front place (quote ∷ (cs ++ percent ∷ c ∷ (ds ++ quote ∷ rest))) ≡ Flaw (fault.BadEscape (span_at (place + 1 + length cs) 1))
 bad_escape_front place c {cs} {vs} {ds} rest h none in_line quoted =
     ap (λ (l : List ℕ). front place (quote ∷ l)) (sym (append_assoc cs (percent ∷ c ∷ ds) (quote ∷ rest)))
     ∙ manifest_front (IsQuoted-append (quoted_manifest h) (pair in_line quoted)) rest place
     ∙ ap (manifest_of (length (cs ++ percent ∷ c ∷ ds) + 2)) (marks_complete h [] (place + 1) (percent ∷ c ∷ ds)
-    ∙ ap (with_mark (fault.BadEscape (place + 1 + length cs)) (λ (v : ℕ). marks_read false (vs ++ v ∷ []) (place + 1 + length cs + 2) ds)) none)
+    ∙ ap (with_mark (fault.BadEscape (span_at (place + 1 + length cs) 1)) (λ (v : ℕ). marks_read false (vs ++ v ∷ []) (place + 1 + length cs + 2) ds)) none)
 
 -- ---- symbols
 

@@ -4,7 +4,7 @@ use Rattle.std.specs.Prelude.{◌&&◌}
 use Rattle.std.specs.List.{list_all}
 use Rattle.sc_text.specs.Characters.{is_digit, is_underscore, digit_follows}
 use Rattle.sc_text.specs.Spelling.{IsInteger, last_digit, digit}
-use Rattle.sc_text.specs.Reading.{integer_end}
+use Rattle.sc_text.specs.Reading.Lengths.{integer_end}
 use Rattle.sc_text.proofs.Classes.{choose_true, choose_false, and_true, eq_true, chosen}
 
 underscores_end : (us : List ℕ) (at end : ℕ) (text : List ℕ) → list_all is_underscore us ≡ true → integer_end at end (us ++ text) ≡ integer_end (at + length us) end text

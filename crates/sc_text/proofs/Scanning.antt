@@ -5,7 +5,8 @@ use Rattle.std.specs.List.{list_all, prefix_len}
 use Rattle.std.proofs.lemmas.List.{at_drop_more, take_at, drop_at}
 use Rattle.std.proofs.lemmas.Bool.Decides.{nat_tests}
 use Rattle.sc_text.specs.Characters.{begins_with, decimal_from, decimal, is_digit, percent}
-use Rattle.sc_text.specs.Reading.{number, marks_read, is_bare}
+use Rattle.sc_text.specs.Reading.Lengths.{is_bare}
+use Rattle.sc_text.specs.Reading.Front.{number, marks_read}
 use Rattle.sc_text.proofs.Classes.{and_true, not_true}
 
 -- ---- what goes on as long as it can

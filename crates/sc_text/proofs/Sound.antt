@@ -9,8 +9,9 @@ use Rattle.sc_text.specs.declared.fault.LexFault.TheVariants as fault
 use Rattle.sc_text.specs.Kind.{Kind}
 use Rattle.sc_text.specs.Characters.{is_white_space, is_letter, is_digit, is_name_part, is_comment_part, begins_with, digit_follows, decimal, quote, percent, hyphen}
 use Rattle.sc_text.specs.Words.{reserved, long_symbol, short_symbol, goes_on}
-use Rattle.sc_text.specs.Spelling.{IsWord, word as a_word, IsInteger, IsGap, white_space, comment, IsToken, name, reserved_word, integer as an_integer, manifest_string as a_manifest_string, long, short, IsFault, bad_character, unclosed_string, bad_escape, integer_too_large}
-use Rattle.sc_text.specs.Reading.{Front, Gap, Lexed, Flaw, integer_end, closing, kind_of_word, word_of, word, number, integer_of, integer, marks_read, manifest_of, manifest_by, manifest_string, symbol_of, symbol, front}
+use Rattle.sc_text.specs.Spelling.{span_at, IsWord, word as a_word, IsInteger, IsGap, white_space, comment, IsToken, name, reserved_word, integer as an_integer, manifest_string as a_manifest_string, long, short, IsFault, bad_character, unclosed_string, bad_escape, integer_too_large}
+use Rattle.sc_text.specs.Reading.Lengths.{integer_end, closing}
+use Rattle.sc_text.specs.Reading.Front.{Front, Gap, Lexed, Flaw, kind_of_word, word_of, word, number, integer_of, integer, marks_read, manifest_of, manifest_by, manifest_string, symbol_of, symbol, front}
 use Rattle.sc_text.proofs.Scanning.{IsPrefix, prefix_len-IsPrefix}
 use Rattle.sc_text.proofs.Integers.{number_sound}
 use Rattle.sc_text.proofs.Strings.{IsClosed, IsClosed-closing, closing_complete, Marked, whole, broken, marks_sound}
@@ -65,7 +66,8 @@ integer_taken : (place : ℕ) (text ds rest : List ℕ) (n : ℕ) → text ≡ d
 integer_taken place text ds rest n split h stops count =
     chosen (λ (o : Option ℤ). IsFront place text (integer_of place n o)) (nat_le (decimal ds) 9223372036854775807) _ _
     (λ le. a_token ds rest split count (an_integer h stops (le_true (decimal ds) 9223372036854775807 le)))
-    (λ gt. a_fault (subst (λ (t : List ℕ). IsFault place t (fault.IntegerTooLarge place)) (sym split) (integer_too_large rest h stops (le_false (decimal ds) 9223372036854775807 gt))))
+    (λ gt. a_fault (subst (λ (m : ℕ). IsFault place text (fault.IntegerTooLarge (span_at place m))) count
+    (subst (λ (t : List ℕ). IsFault place t (fault.IntegerTooLarge (span_at place (length ds)))) (sym split) (integer_too_large rest h stops (le_false (decimal ds) 9223372036854775807 gt)))))
 
 integer_sound : (place c : ℕ) (cs : List ℕ) → is_digit c ≡ true → IsFront place (c ∷ cs) (integer place (c ∷ cs))
 unfolding integer
@@ -84,7 +86,7 @@ manifest_marked place body rest n r count (whole vs h e) =
     (a_token (quote ∷ (body ++ quote ∷ [])) rest (ap (λ (l : List ℕ). quote ∷ l) (sym (append_assoc body (quote ∷ []) rest))) (omega (arith, count, length-append body (quote ∷ []))) (a_manifest_string h))
 manifest_marked place body rest n r count (broken cs vs c ds split h none in_line quoted e) =
     subst (λ (r : Result (List ℕ) LexFault). IsFront place (quote ∷ (body ++ quote ∷ rest)) (manifest_of (n + 2) r)) (sym e)
-    (a_fault (subst (λ (l : List ℕ). IsFault place (quote ∷ l) (fault.BadEscape (place + 1 + length cs)))
+    (a_fault (subst (λ (l : List ℕ). IsFault place (quote ∷ l) (fault.BadEscape (span_at (place + 1 + length cs) 1)))
     (sym (ap (λ (l : List ℕ). l ++ quote ∷ rest) split ∙ append_assoc cs (percent ∷ c ∷ ds) (quote ∷ rest))) (bad_escape c rest h none in_line quoted)))
 
 manifest_closed : (place : ℕ) (text : List ℕ) (n : ℕ) → IsClosed text n → IsFront place (quote ∷ text) (manifest_of (n + 2) (marks_read false [] (place + 1) (take n text)))

@@ -4,8 +4,9 @@ use Rattle.std.specs.Prelude.{if◌then◌else◌, ◌==◌}
 use Rattle.sc_text.specs.declared.fault.LexFault.{LexFault}
 use Rattle.sc_text.specs.declared.fault.LexFault.TheVariants as fault
 use Rattle.sc_text.specs.Characters.{ends_line, is_plain, escape, quote, percent}
-use Rattle.sc_text.specs.Spelling.{IsManifest, nothing, itself, mark, IsQuoted, empty, plain, pair}
-use Rattle.sc_text.specs.Reading.{closing, with_mark, marks_read}
+use Rattle.sc_text.specs.Spelling.{span_at, IsManifest, nothing, itself, mark, IsQuoted, empty, plain, pair}
+use Rattle.sc_text.specs.Reading.Lengths.{closing}
+use Rattle.sc_text.specs.Reading.Front.{with_mark, marks_read}
 use Rattle.sc_text.proofs.Classes.{choose_false, eq_true, chosen, plain_is, is_plain_from}
 
 escape_step : (c n v w : ℕ) (o : Option ℕ) → (if c == n then Some w else o) ≡ Some v → ends_line n ≡ false → (o ≡ Some v → ends_line c ≡ false) → ends_line c ≡ false
@@ -52,7 +53,7 @@ marks_complete (itself {c} {cs} {vs} e h) found at rest =
     ∙ ap (λ (n : ℕ). marks_read false (found ++ c ∷ vs) n rest) n
 marks_complete (mark {c} {v} {cs} {vs} e h) found at rest =
     let n : at + 2 + length cs ≡ at + length (percent ∷ c ∷ cs) = omega arith in
-    ap (with_mark (fault.BadEscape at) (λ v. marks_read false (found ++ v ∷ []) (at + 2) (cs ++ rest))) e
+    ap (with_mark (fault.BadEscape (span_at at 1)) (λ v. marks_read false (found ++ v ∷ []) (at + 2) (cs ++ rest))) e
     ∙ marks_complete h (found ++ v ∷ []) (at + 2) rest
     ∙ ap (λ (f : List ℕ). marks_read false f (at + 2 + length cs) rest) (append_assoc found (v ∷ []) vs)
     ∙ ap (λ (n : ℕ). marks_read false (found ++ v ∷ vs) n rest) n
@@ -119,24 +120,24 @@ closing_none text unclosed = by_case (closing 0 false text) refl
 pub data Marked (found : List ℕ) (at : ℕ) (text : List ℕ) (r : Result (List ℕ) LexFault) : Type 0 where
   whole : (vs : List ℕ) → IsManifest text vs → r ≡ Ok (found ++ vs) → Marked found at text r
   broken : (cs vs : List ℕ) (c : ℕ) (ds : List ℕ) → text ≡ cs ++ percent ∷ c ∷ ds → IsManifest cs vs → escape c ≡ None → ends_line c ≡ false → IsQuoted ds →
-      r ≡ Err (fault.BadEscape (at + length cs)) → Marked found at text r
+      r ≡ Err (fault.BadEscape (span_at (at + length cs) 1)) → Marked found at text r
 
 marked_itself : (found : List ℕ) (at c : ℕ) (cs : List ℕ) (r : Result (List ℕ) LexFault) → is_plain c ≡ true → Marked (found ++ c ∷ []) (at + 1) cs r → Marked found at (c ∷ cs) r
 marked_itself found at c cs r p (whole vs h e) = whole (c ∷ vs) (itself p h) (e ∙ ap Ok (append_assoc found (c ∷ []) vs))
 marked_itself found at c cs r p (broken ds vs d rest split h none in_line quoted e) =
     let n : at + 1 + length ds ≡ at + length (c ∷ ds) = omega arith in
-    broken (c ∷ ds) (c ∷ vs) d rest (ap (λ (l : List ℕ). c ∷ l) split) (itself p h) none in_line quoted (e ∙ ap (λ (m : ℕ). Err (fault.BadEscape m)) n)
+    broken (c ∷ ds) (c ∷ vs) d rest (ap (λ (l : List ℕ). c ∷ l) split) (itself p h) none in_line quoted (e ∙ ap (λ (m : ℕ). Err (fault.BadEscape (span_at m 1))) n)
 
 marked_mark : (found : List ℕ) (at c v : ℕ) (cs : List ℕ) (r : Result (List ℕ) LexFault) → escape c ≡ Some v → Marked (found ++ v ∷ []) (at + 2) cs r → Marked found at (percent ∷ c ∷ cs) r
 marked_mark found at c v cs r p (whole vs h e) = whole (v ∷ vs) (mark p h) (e ∙ ap Ok (append_assoc found (v ∷ []) vs))
 marked_mark found at c v cs r p (broken ds vs d rest split h none in_line quoted e) =
     let n : at + 2 + length ds ≡ at + length (percent ∷ c ∷ ds) = omega arith in
-    broken (percent ∷ c ∷ ds) (v ∷ vs) d rest (ap (λ (l : List ℕ). percent ∷ c ∷ l) split) (mark p h) none in_line quoted (e ∙ ap (λ (m : ℕ). Err (fault.BadEscape m)) n)
+    broken (percent ∷ c ∷ ds) (v ∷ vs) d rest (ap (λ (l : List ℕ). percent ∷ c ∷ l) split) (mark p h) none in_line quoted (e ∙ ap (λ (m : ℕ). Err (fault.BadEscape (span_at m 1))) n)
 
 marked_pair : (found : List ℕ) (at c : ℕ) (cs : List ℕ) (o : Option ℕ) → escape c ≡ o → ends_line c ≡ false → IsQuoted cs →
     ((v : ℕ) → Marked (found ++ v ∷ []) (at + 2) cs (marks_read false (found ++ v ∷ []) (at + 2) cs)) →
-    Marked found at (percent ∷ c ∷ cs) (with_mark (fault.BadEscape at) (λ v. marks_read false (found ++ v ∷ []) (at + 2) cs) o)
-marked_pair found at c cs None e l quoted more = broken [] [] c cs refl nothing e l quoted (ap (λ (m : ℕ). Err (fault.BadEscape m)) (sym (add-zero at)))
+    Marked found at (percent ∷ c ∷ cs) (with_mark (fault.BadEscape (span_at at 1)) (λ v. marks_read false (found ++ v ∷ []) (at + 2) cs) o)
+marked_pair found at c cs None e l quoted more = broken [] [] c cs refl nothing e l quoted (ap (λ (m : ℕ). Err (fault.BadEscape (span_at m 1))) (sym (add-zero at)))
 marked_pair found at c cs (Some v) e l quoted more = marked_mark found at c v cs _ e (more v)
 
 pub marks_sound : {text : List ℕ} → IsQuoted text → (found : List ℕ) (at : ℕ) → Marked found at text (marks_read false found at text)

@@ -5,8 +5,9 @@ use Rattle.std.proofs.lemmas.List.{take_at, drop_at, drop-drop, drop_all}
 use Rattle.sc_text.specs.declared.fault.LexFault.{LexFault}
 use Rattle.sc_text.specs.declared.fault.LexFault.TheVariants as fault
 use Rattle.sc_text.specs.Kind.{Kind}
-use Rattle.sc_text.specs.Spelling.{Lexeme, IsGap, white_space, comment, IsToken, name, reserved_word, integer, manifest_string, long, short, IsWord, word, IsInteger, last_digit, digit, IsFault, bad_character, unclosed_string, bad_escape, integer_too_large, BeginsWith, here, gap, token, Spells, HasFault, IsRefused, StandInOrder}
-use Rattle.sc_text.specs.Reading.{Front, Gap, Lexed, Flaw, front, Refuses}
+use Rattle.sc_text.specs.Spelling.{max_source_bytes, Lexeme, IsGap, white_space, comment, IsToken, name, reserved_word, integer, manifest_string, long, short, IsWord, word, IsInteger, last_digit, digit, IsFault, bad_character, unclosed_string, bad_escape, integer_too_large, BeginsWith, here, gap, token, Spells, HasFault, IsRefused, StandInOrder}
+use Rattle.sc_text.specs.Reading.Front.{Front, Gap, Lexed, Flaw, front}
+use Rattle.sc_text.specs.Reading.Answers.{Refuses}
 use Rattle.sc_text.proofs.Complete.{gap_complete, token_complete, fault_complete}
 use Rattle.sc_text.proofs.Sound.{IsFront, a_gap, a_token, a_fault, front_sound}
 
@@ -231,7 +232,7 @@ refused_by text ts place (fault.BadEscape p) lt r h = step_fault text ts place (
 refused_by text ts place (fault.IntegerTooLarge p) lt r h = step_fault text ts place (fault.IntegerTooLarge p) lt h r
 
 -- a text with a spelling is refused only where memory ran out
-pub spelled_not_refused : (text : List ℕ) (ts : List Lexeme) (e : LexFault) → Spells text ts → length text ≤ 1048576 → IsRefused text e → e ≡ fault.OutOfMemory
+pub spelled_not_refused : (text : List ℕ) (ts : List Lexeme) (e : LexFault) → Spells text ts → length text ≤ max_source_bytes → IsRefused text e → e ≡ fault.OutOfMemory
 spelled_not_refused text ts fault.OutOfMemory s le h = refl
 spelled_not_refused text ts fault.SourceTooLong s le h = absurd (omega arith)
 spelled_not_refused text ts (fault.BadCharacter p) s le h = absurd (no_spelling_of_faults_lem text ts _ s h)

@@ -12,6 +12,14 @@ use Rattle.sc_text.specs.Kind.{Kind, NAME, INTEGER, STRING, TERMINAL, kind_of}
 use Rattle.sc_text.specs.Characters.{is_white_space, is_letter, is_digit, is_underscore, is_name_part, is_comment_part, ends_line, is_plain, escape, begins_with, digit_follows, decimal, quote, percent, hyphen}
 use Rattle.sc_text.specs.Words.{reserved, long_symbol, short_symbol, goes_on}
 
+-- so many bytes from this place
+abbrev pub span_at : ℕ → ℕ → Span
+span_at place n = record { start = place; end = place + n }
+
+-- the greatest number of bytes of a text
+abbrev pub max_source_bytes : ℕ
+max_source_bytes = 1048576
+
 -- a token, and where it stands in the text
 pub record Lexeme : Type 0 where
   pub kind : Kind
@@ -75,7 +83,7 @@ pub data BeginsWith : ℕ → List ℕ → List Lexeme → ℕ → List ℕ → 
       BeginsWith (place + length cs) text ts end rest → BeginsWith place (cs ++ text) ts end rest
   token : {place end : ℕ} {k : Kind} {cs text rest : List ℕ} {ts : List Lexeme} → IsToken k cs text →
       BeginsWith (place + length cs) text ts end rest →
-      BeginsWith place (cs ++ text) (record { kind = k; span = record { start = place; end = place + length cs } } ∷ ts) end rest
+      BeginsWith place (cs ++ text) (record { kind = k; span = span_at place (length cs) } ∷ ts) end rest
 
 -- The text spells these tokens.
 abbrev pub Spells : List ℕ → List Lexeme → Type 0
@@ -84,16 +92,17 @@ Spells text ts = BeginsWith 0 text ts (length text) []
 -- ---- what is wrong
 
 -- What stands at this place is no token, white space or comment: a character that begins none of them, a manifest string
--- that no quote closes on its line or that has a percent sign without a mark, or an integer that is too large.
+-- that no quote closes on its line or that has a percent sign without a mark, or an integer that is too large. At fault
+-- are the character, the opening quote, the percent sign, or the digits.
 pub data IsFault : ℕ → List ℕ → LexFault → Type 0 where
   bad_character : {place c : ℕ} {rest : List ℕ} → IsFalse (is_white_space c || is_letter c || is_digit c || c == quote) →
-      short_symbol c ≡ None → IsFalse (goes_on c rest) → IsFault place (c ∷ rest) (fault.BadCharacter place)
+      short_symbol c ≡ None → IsFalse (goes_on c rest) → IsFault place (c ∷ rest) (fault.BadCharacter (span_at place 1))
   unclosed_string : {place : ℕ} {rest : List ℕ} → ((cs after : List ℕ) → IsQuoted cs → rest ≡ cs ++ quote ∷ after → ⊥) →
-      IsFault place (quote ∷ rest) (fault.UnclosedString place)
+      IsFault place (quote ∷ rest) (fault.UnclosedString (span_at place 1))
   bad_escape : {place : ℕ} (c : ℕ) {cs vs ds : List ℕ} (rest : List ℕ) → IsManifest cs vs → escape c ≡ None → IsFalse (ends_line c) → IsQuoted ds →
-      IsFault place (quote ∷ (cs ++ percent ∷ c ∷ (ds ++ quote ∷ rest))) (fault.BadEscape (place + 1 + length cs))
+      IsFault place (quote ∷ (cs ++ percent ∷ c ∷ (ds ++ quote ∷ rest))) (fault.BadEscape (span_at (place + 1 + length cs) 1))
   integer_too_large : {place : ℕ} {cs : List ℕ} (rest : List ℕ) → IsInteger cs → IsFalse (digit_follows rest) → 9223372036854775807 < decimal cs →
-      IsFault place (cs ++ rest) (fault.IntegerTooLarge place)
+      IsFault place (cs ++ rest) (fault.IntegerTooLarge (span_at place (length cs)))
 
 -- The text before the fault is the beginning of a spelling, and the fault comes next.
 pub record HasFault (text : List ℕ) (e : LexFault) : Type 0 where
@@ -106,11 +115,11 @@ pub record HasFault (text : List ℕ) (e : LexFault) : Type 0 where
 -- why a text is refused
 abbrev pub IsRefused : List ℕ → LexFault → Type 0
 IsRefused text fault.OutOfMemory = Unit {0}
-IsRefused text fault.SourceTooLong = 1048576 < length text
-IsRefused text (fault.BadCharacter place) = HasFault text (fault.BadCharacter place)
-IsRefused text (fault.UnclosedString place) = HasFault text (fault.UnclosedString place)
-IsRefused text (fault.BadEscape place) = HasFault text (fault.BadEscape place)
-IsRefused text (fault.IntegerTooLarge place) = HasFault text (fault.IntegerTooLarge place)
+IsRefused text fault.SourceTooLong = max_source_bytes < length text
+IsRefused text (fault.BadCharacter span) = HasFault text (fault.BadCharacter span)
+IsRefused text (fault.UnclosedString span) = HasFault text (fault.UnclosedString span)
+IsRefused text (fault.BadEscape span) = HasFault text (fault.BadEscape span)
+IsRefused text (fault.IntegerTooLarge span) = HasFault text (fault.IntegerTooLarge span)
 
 -- From this place on the tokens stand one after the other within the text, and each is spelled by its own slice of it.
 abbrev pub StandInOrder : List ℕ → ℕ → List Lexeme → Type 0

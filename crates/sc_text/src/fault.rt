@@ -3,27 +3,28 @@
 ghost use Rattle.std.specs.Prelude.{◌≡◌};
 ghost use Rattle.sc_text.specs.declared.fault.LexFault.TheVariants.{OutOfMemory};
 
+use crate::token::Span;
 use std::alloc::{AllocError, AllocFailed};
 use thiserror::Error;
 
-/// Why a text has no tokens. A place is the offset of a byte in the text.
+/// Why a text has no tokens, and the part of the text that is at fault.
 #[derive(Debug, Drop, Error)]
 pub enum LexFault {
-    /// L1: no token, white space or comment begins with the character at `place`.
-    #[error("no token begins with the character at {place}")]
-    BadCharacter { place: usize },
-    /// L2: no quote closes, on the same line, the manifest string that the quote at `place` opens.
-    #[error("the string at {place} is not closed on its line")]
-    UnclosedString { place: usize },
-    /// L3: the percent sign at `place`, in a manifest string, begins none of the marks `%N`, `%T`,
+    /// L1: no token, white space or comment begins with the byte at `span`.
+    #[error("no token begins with the character at {}", .span.start)]
+    BadCharacter { span: Span },
+    /// L2: no quote closes, on the same line, the manifest string that the quote at `span` opens.
+    #[error("the string at {} is not closed on its line", .span.start)]
+    UnclosedString { span: Span },
+    /// L3: the percent sign at `span`, in a manifest string, begins none of the marks `%N`, `%T`,
     /// `%%`, `%"` and `%'`.
-    #[error("no mark begins at {place}")]
-    BadEscape { place: usize },
-    /// L4: the integer whose first digit stands at `place` is above 9223372036854775807.
-    #[error("the integer at {place} is too large")]
-    IntegerTooLarge { place: usize },
-    /// L5: the text has more than 1,048,576 bytes.
-    #[error("the text has more than 1048576 bytes")]
+    #[error("no mark begins at {}", .span.start)]
+    BadEscape { span: Span },
+    /// L4: the integer at `span` is above 9223372036854775807.
+    #[error("the integer at {} is too large", .span.start)]
+    IntegerTooLarge { span: Span },
+    /// L5: the text has more than [`MAX_SOURCE_BYTES`](crate::MAX_SOURCE_BYTES) bytes.
+    #[error("the text is too long")]
     SourceTooLong,
     /// L9: no memory was left for the tokens.
     #[error("out of memory")]

@@ -4,22 +4,22 @@ ghost use Rattle.std.specs.Prelude.{◌≡◌, ◌≤◌, ◌<◌, ◌+◌, ◌�
 ghost use Rattle.std.specs.Char.{to_ascii_lowercase};
 ghost use Rattle.std.specs.List.{list_all};
 ghost use Rattle.sc_text.specs.Characters.{is_name_part, quote};
-ghost use Rattle.sc_text.specs.Spelling.{IsRefused, Lexeme, Spells, StandInOrder, lexemes_of};
-ghost use Rattle.sc_text.specs.Reading as spec;
-ghost use Rattle.sc_text.specs.Reading.{Gives, GivesMarks};
+ghost use Rattle.sc_text.specs.Spelling.{IsRefused, Lexeme, Spells, StandInOrder, lexemes_of, max_source_bytes, span_at};
+ghost use Rattle.sc_text.specs.Reading.Front as spec;
+ghost use Rattle.sc_text.specs.Reading.Answers.{Gives, GivesMarks};
 
 use crate::characters::{escape, is_white_space};
 use crate::fault::LexFault;
+use crate::reserved_words::reserved;
 use crate::scan::{
     closing_quote, comment_length, integer_length, name_length, number, unmarked_length,
 };
 use crate::symbols::{long_symbol, short_symbol};
 use crate::token::{Span, Token, TokenKind};
-use crate::words::reserved;
 use std::alloc::{AllocError, Global};
 
 /// The greatest number of bytes of a text.
-const LONGEST: usize = 1_048_576;
+pub const MAX_SOURCE_BYTES: usize = 1_048_576;
 
 /// What stands at one place of a text, with the number of its bytes.
 #[derive(Drop)]
@@ -37,13 +37,13 @@ pub fn lex(alloc: Global, text: &str) -> Result<Vec<Token>, LexFault>
     ensures spelled { IfOk result (λ v. Spells text.now (lexemes_of v.items)) }
     ensures slices { IfOk result (λ v. StandInOrder text.now 0 (lexemes_of v.items)) }
     ensures refused { IfErr result (IsRefused text.now) }
-    ensures too_long { IsErrOf result LexFault.SourceTooLong ↔ (1048576 < length text.now) }
+    ensures too_long { IsErrOf result LexFault.SourceTooLong ↔ (max_source_bytes < length text.now) }
 
     // A text that spells some tokens is answered with these, unless memory ran out.
-    ensures complete { (ts : List Lexeme) → length text.now ≤ 1048576 → Spells text.now ts
+    ensures complete { (ts : List Lexeme) → length text.now ≤ max_source_bytes → Spells text.now ts
         → MatchResult result (λ v. lexemes_of v.items ≡ ts) (λ e. e ≡ LexFault.OutOfMemory) }
 {
-    if text.len() > LONGEST {
+    if text.len() > MAX_SOURCE_BYTES {
         return Err(LexFault::SourceTooLong);
     }
     let mut tokens = Vec::new(alloc);
@@ -62,8 +62,19 @@ pub fn lex(alloc: Global, text: &str) -> Result<Vec<Token>, LexFault>
     Ok(tokens)
 }
 
+/// So many bytes from this place.
+fn span_at(place: usize, length: usize) -> Span
+    requires { place + length ≤ usize.MAX }
+    ensures { result ≡ span_at place length }
+{
+    Span {
+        start: place,
+        end: place + length,
+    }
+}
+
 /// What stands at this place of the text.
-#[tactic(auto, unfolding(crate::specs::Reading::front))]
+#[tactic(auto, unfolding(crate::specs::Reading::Front::front))]
 fn piece_at(alloc: Global, text: &str, place: usize) -> Result<Piece, LexFault>
     requires { place < length text.now }
     ensures { Gives (spec.front place (drop place text.now)) result }
@@ -84,7 +95,7 @@ fn piece_at(alloc: Global, text: &str, place: usize) -> Result<Piece, LexFault>
 }
 
 /// The name or the reserved word at the front of the text.
-#[tactic(auto, unfolding(crate::specs::Reading::word))]
+#[tactic(auto, unfolding(crate::specs::Reading::Front::word))]
 fn word(alloc: Global, text: &[u8]) -> Result<Piece, LexFault>
     ensures { Gives (spec.word text.now) result }
 {
@@ -109,8 +120,9 @@ fn lower_case(alloc: Global, word: &[u8]) -> Result<String, AllocError>
 }
 
 /// The integer at the front of the text, which stands at this place.
-#[tactic(auto, unfolding(crate::specs::Reading::integer))]
+#[tactic(auto, unfolding(crate::specs::Reading::Front::integer))]
 fn integer(text: &[u8], place: usize) -> Result<Piece, LexFault>
+    requires { place + length text.now ≤ usize.MAX }
     ensures { Gives (spec.integer place text.now) result }
 {
     let length = integer_length(text);
@@ -119,12 +131,14 @@ fn integer(text: &[u8], place: usize) -> Result<Piece, LexFault>
             kind: TokenKind::Integer(value),
             length,
         }),
-        None => Err(LexFault::IntegerTooLarge { place }),
+        None => Err(LexFault::IntegerTooLarge {
+            span: span_at(place, length),
+        }),
     }
 }
 
 /// The manifest string that the quote at this place opens.
-#[tactic(auto, unfolding(crate::specs::Reading::manifest_string))]
+#[tactic(auto, unfolding(crate::specs::Reading::Front::manifest_string))]
 fn manifest_string(alloc: Global, text: &str, place: usize) -> Result<Piece, LexFault>
     requires within { place < length text.now }
     requires opens { slice_index text.now place ≡ quote }
@@ -132,7 +146,9 @@ fn manifest_string(alloc: Global, text: &str, place: usize) -> Result<Piece, Lex
 {
     let (_, rest) = text.split_at(place + 1);
     let Some(length) = closing_quote(rest.as_bytes()) else {
-        return Err(LexFault::UnclosedString { place });
+        return Err(LexFault::UnclosedString {
+            span: span_at(place, 1),
+        });
     };
     let (body, _) = rest.split_at(length);
     let value = marks_read(alloc, body, place + 1)?;
@@ -159,7 +175,9 @@ fn marks_read(alloc: Global, text: &str, place: usize) -> Result<String, LexFaul
             at += length;
         } else {
             let Some(character) = mark(rest.as_bytes()) else {
-                return Err(LexFault::BadEscape { place: at });
+                return Err(LexFault::BadEscape {
+                    span: span_at(at, 1),
+                });
             };
             value.push(char::from(character))?;
             let (_, after) = rest.split_at(2);
@@ -182,9 +200,10 @@ fn mark(text: &[u8]) -> Option<u8>
 }
 
 /// The comment or the symbol at the front of the text, which stands at this place.
-#[tactic(auto, unfolding(crate::specs::Reading::symbol))]
+#[tactic(auto, unfolding(crate::specs::Reading::Front::symbol))]
 fn symbol(text: &[u8], place: usize) -> Result<Piece, LexFault>
-    requires { 0 < length text.now }
+    requires some { 0 < length text.now }
+    requires fits { place + length text.now ≤ usize.MAX }
     ensures { Gives (spec.symbol place text.now) result }
 {
     let first = text[0];
@@ -198,7 +217,11 @@ fn symbol(text: &[u8], place: usize) -> Result<Piece, LexFault>
         Some(terminal) => (terminal, 2),
         None => match short_symbol(first) {
             Some(terminal) => (terminal, 1),
-            None => return Err(LexFault::BadCharacter { place }),
+            None => {
+                return Err(LexFault::BadCharacter {
+                    span: span_at(place, 1),
+                });
+            }
         },
     };
     Ok(Piece::Token {

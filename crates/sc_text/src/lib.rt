@@ -7,12 +7,12 @@ mod characters;
 mod fault;
 mod laws;
 mod lexer;
+mod reserved_words;
 mod scan;
 mod symbols;
 mod token;
-mod words;
 
 pub use fault::LexFault;
 pub use laws::{no_spelling_of_faults, one_fault, one_spelling};
-pub use lexer::lex;
+pub use lexer::{MAX_SOURCE_BYTES, lex};
 pub use token::{Span, Terminal, Token, TokenKind};

@@ -3,12 +3,13 @@
 ghost use Rattle.std.specs.Prelude.{◌≡◌, ◌≤◌, ◌<◌, false, length, slice_index, IfSome};
 ghost use Rattle.std.specs.List.{prefix_len};
 ghost use Rattle.sc_text.specs.Characters.{is_comment_part, is_name_part, percent, quote};
-ghost use Rattle.sc_text.specs.Reading.{closing, integer_end, is_bare, number};
+ghost use Rattle.sc_text.specs.Reading.Lengths.{closing, integer_end, is_bare};
+ghost use Rattle.sc_text.specs.Reading.Front.{number};
 
 use crate::characters::{ends_line, is_comment_part, is_name_part};
 
 /// The greatest integer.
-const LARGEST: u64 = 9_223_372_036_854_775_807;
+const MAX_INTEGER: u64 = 9_223_372_036_854_775_807;
 
 /// How many letters, digits and underscores the text begins with.
 pub fn name_length(text: &[u8]) -> usize
@@ -73,7 +74,7 @@ pub fn number(digits: &[u8]) -> Option<i64>
     for byte in digits {
         if byte.is_ascii_digit() {
             let digit = u64::from(*byte - b'0');
-            if value > (LARGEST - digit) / 10 {
+            if value > (MAX_INTEGER - digit) / 10 {
                 return None;
             }
             value = 10 * value + digit;

@@ -9,7 +9,7 @@ use Rattle.sc_tree.specs.declared.expression.BinaryOperator.TheVariants as binar
 use Rattle.sc_tree.specs.Plain as plain
 use Rattle.sc_tree.specs.Plain.{Name, HandlerTag, DeclaredType, Expr, Integer, Boolean, Void, Current, Call, Unary, Binary, ObjectTest, Target, no_target, target, Exprs, no_exprs, expr_then}
 use Rattle.sc_tree.specs.Bare.{nowhere, named}
-use Rattle.sc_tree.specs.Grammar.{top, under, groups, prefix_of, spelling, terminals_of, IsNames, one_name, more_names, IsAttachment, unmarked, attached, exclamation, detachable, question, IsHandlerTag, own, separate, handler_of, IsType, type, IsTestedType, no_type, tested_type, IsPrimary, integer, true_constant, false_constant, void, parenthesized, chain, object_test, IsChain, current, result, unqualified, qualified, IsActuals, no_actuals, actuals, IsExprs, one_expr, more_exprs, IsExpr, primary, prefixed, tighter, left, alone}
+use Rattle.sc_tree.specs.Grammar.{top, class_below, groups, prefix_of, spelling, terminals_of, IsNames, one_name, more_names, IsAttachment, unmarked, attached, exclamation, detachable, question, IsHandlerTag, own, separate, handler_of, IsType, type, IsTestedType, no_type, tested_type, IsPrimary, integer, true_constant, false_constant, void, parenthesized, chain, object_test, IsChain, current, result, unqualified, qualified, IsActuals, no_actuals, actuals, IsExprs, one_expr, more_exprs, IsExpr, primary, prefixed, tighter, left, alone}
 use Rattle.sc_tree.specs.Canonical.Layout.{Part, word, tokens_of_parts}
 use Rattle.sc_tree.specs.Canonical.Expressions.{names_parts, class_names_parts, name_part, class_name_part, handler_tag_parts, attachment_parts, type_parts, tested_type_parts, class_of_expr, left_class, in_class, expr_parts, actuals_parts, more_actuals_parts}
 use Rattle.sc_tree.proofs.CanonicalTokens.{Keeps, same, each, added, dropped, both, before, Remains, Again, remains_along, again_along, kept_along, tokens-append, tokens-words}
@@ -74,7 +74,7 @@ raised (suc d) k {t = t} {c = c} {h = h} e = let z : suc (d + k) ≡ suc d + k =
 raised_to : (j k : ℕ) {t : Expr} {c : List Kind} {h : ℕ} → j ≤ k → IsExpr j t c h → IsExpr k t c h
 raised_to j k {t = t} {c = c} {h = h} p e = let z : (k - j) + j ≡ k = omega arith in subst (λ i. IsExpr i t c h) z (raised (k - j) j e)
 
-under_small : (op : BinaryOperator) → under op ≤ 5
+under_small : (op : BinaryOperator) → class_below op ≤ 5
 under_small binary.Times = omega arith
 under_small binary.Quotient = omega arith
 under_small binary.Remainder = omega arith
@@ -152,34 +152,34 @@ binary_tokens op ps qs =
 
 binary_again : (op : BinaryOperator) {a b : Expr} {ca cb : List Kind} {ha hb : ℕ} →
     Again (IsExpr (left_class op) a) ca ha (tokens_of_parts (in_class (class_of_expr a) (left_class op) (expr_parts a))) →
-    AgainExpr (under op) b cb hb →
-    ((c d : List Kind) (m n : ℕ) → IsExpr (left_class op) a c m → IsExpr (under op) b d n → IsExpr (suc (under op)) (Binary nowhere op a b) (c ++ (spelling op ++ d)) (suc (max m n))) →
-    AgainExpr (suc (under op)) (Binary nowhere op a b) (ca ++ (spelling op ++ cb)) (suc (max ha hb))
+    AgainExpr (class_below op) b cb hb →
+    ((c d : List Kind) (m n : ℕ) → IsExpr (left_class op) a c m → IsExpr (class_below op) b d n → IsExpr (suc (class_below op)) (Binary nowhere op a b) (c ++ (spelling op ++ d)) (suc (max m n))) →
+    AgainExpr (suc (class_below op)) (Binary nowhere op a b) (ca ++ (spelling op ++ cb)) (suc (max ha hb))
 unfolding expr_parts
 binary_again op {a = a} {b = b} p s rule =
     let q = placed s in
-    let e = binary_tokens op (in_class (class_of_expr a) (left_class op) (expr_parts a)) (in_class (class_of_expr b) (under op) (expr_parts b)) in
+    let e = binary_tokens op (in_class (class_of_expr a) (left_class op) (expr_parts a)) (in_class (class_of_expr b) (class_below op) (expr_parts b)) in
     record {
       nesting = suc (max p.nesting q.nesting);
       low = omega (arith, p.low, q.low);
       lower = λ x. absurd (omega (arith, x));
-      spelled = subst (λ d. IsExpr (suc (under op)) (Binary nowhere op a b) d (suc (max p.nesting q.nesting))) (sym e) (rule _ _ _ _ p.spelled q.spelled);
+      spelled = subst (λ d. IsExpr (suc (class_below op)) (Binary nowhere op a b) d (suc (max p.nesting q.nesting))) (sym e) (rule _ _ _ _ p.spelled q.spelled);
       kept = kept_along e (both p.kept (both (same (spelling op)) q.kept));
     }
 
-left_again : (op : BinaryOperator) → groups (under op) ≡ true → {a b : Expr} {ca cb : List Kind} {ha hb : ℕ} → AgainExpr (suc (under op)) a ca ha →
-    AgainExpr (under op) b cb hb →
-    AgainExpr (suc (under op)) (Binary nowhere op a b) (ca ++ (spelling op ++ cb)) (suc (max ha hb))
+left_again : (op : BinaryOperator) → groups (class_below op) ≡ true → {a b : Expr} {ca cb : List Kind} {ha hb : ℕ} → AgainExpr (suc (class_below op)) a ca ha →
+    AgainExpr (class_below op) b cb hb →
+    AgainExpr (suc (class_below op)) (Binary nowhere op a b) (ca ++ (spelling op ++ cb)) (suc (max ha hb))
 left_again op g {a = a} {ca = ca} {ha = ha} p q =
-    let e : left_class op ≡ suc (under op) = ap (λ x. if x then suc (under op) else under op) g in
+    let e : left_class op ≡ suc (class_below op) = ap (λ x. if x then suc (class_below op) else class_below op) g in
     binary_again op (subst (λ k. Again (IsExpr k a) ca ha (tokens_of_parts (in_class (class_of_expr a) k (expr_parts a)))) (sym e) (placed p)) q
     (λ c d m n x y. left op g (subst (λ k. IsExpr k a c m) e x) y)
 
-alone_again : (op : BinaryOperator) → groups (under op) ≡ false → {a b : Expr} {ca cb : List Kind} {ha hb : ℕ} → AgainExpr (under op) a ca ha →
-    AgainExpr (under op) b cb hb →
-    AgainExpr (suc (under op)) (Binary nowhere op a b) (ca ++ (spelling op ++ cb)) (suc (max ha hb))
+alone_again : (op : BinaryOperator) → groups (class_below op) ≡ false → {a b : Expr} {ca cb : List Kind} {ha hb : ℕ} → AgainExpr (class_below op) a ca ha →
+    AgainExpr (class_below op) b cb hb →
+    AgainExpr (suc (class_below op)) (Binary nowhere op a b) (ca ++ (spelling op ++ cb)) (suc (max ha hb))
 alone_again op g {a = a} {ca = ca} {ha = ha} p q =
-    let e : left_class op ≡ under op = ap (λ x. if x then suc (under op) else under op) g in
+    let e : left_class op ≡ class_below op = ap (λ x. if x then suc (class_below op) else class_below op) g in
     binary_again op (subst (λ k. Again (IsExpr k a) ca ha (tokens_of_parts (in_class (class_of_expr a) k (expr_parts a)))) (sym e) (placed p)) q
     (λ c d m n x y. alone op g (subst (λ k. IsExpr k a c m) e x) y)
 

@@ -5,7 +5,7 @@ use Rattle.std.specs.Str.{bytes_eq}
 use Rattle.std.proofs.lemmas.Slice.Eq.{bytes_eq-Decides}
 use Rattle.sc_text.specs.Kind.{Kind, NAME, TERMINAL}
 use Rattle.sc_text.specs.declared.token.Terminal.TheVariants as terminal
-use Rattle.sc_tree.specs.Plain.{Name, DeclaredType, Declaration, Clause, Instrs, Feature}
+use Rattle.sc_tree.specs.Plain.{Name, RoutineDeclaration, DeclaredType, Declaration, Feature}
 use Rattle.sc_tree.specs.Bare.{named, bare_name}
 use Rattle.sc_tree.specs.Grammar.{IsNames, one_name, more_names, absent, present, IsType, declared_as, IsDeclaration, declaration, IsDeclarations, one_declaration, more_declarations, IsFormals, no_formals, formals, IsLocalList, no_local, another_local, IsLocals, no_locals, locals, IsResultType, no_result, result_type, attribute_of, routine_of, IsFeature, attributes, routine, no_semicolon, IsFeatures, no_feature, feature, any_name, none_name, IsExports, no_exports, empty_exports, exports, IsSections, no_section, section, IsAssertion, IsInstrs}
 use Rattle.sc_tree.specs.Canonical.Layout.{word, separated, tokens_of_parts, tokens_of_lines}
@@ -160,12 +160,14 @@ exports_again (exports (more_names x (more_names y {xs = xs} d))) =
 
 -- ---- features
 
-routine_tokens : (es : List Name) (x : Name) (fs : List Declaration) (t : Option DeclaredType) (pre : List Clause) (ls : List Declaration) (body : Instrs) (post : List Clause) →
-    tokens_of_lines (feature_lines (routine_of es x fs t pre ls body post)) ≡
-    NAME x.text ∷ (tokens_of_parts (formals_parts fs) ++ (tokens_of_parts (result_type_parts t) ++ ([] ++ (tokens_of_lines (assertion_lines 2 terminal.Require pre) ++ (tokens_of_lines (locals_lines ls)
-    ++ TERMINAL terminal.Do ∷ (tokens_of_lines (instrs_lines 3 body) ++ (tokens_of_lines (assertion_lines 2 terminal.Ensure post) ++ TERMINAL terminal.End ∷ [])))))))
+routine_tokens : (es : List Name) (x : Name) (d : RoutineDeclaration) →
+    tokens_of_lines (feature_lines (routine_of es x d)) ≡
+    NAME x.text ∷ (tokens_of_parts (formals_parts d.formals) ++ (tokens_of_parts (result_type_parts d.result_type)
+    ++ ([] ++ (tokens_of_lines (assertion_lines 2 terminal.Require d.precondition) ++ (tokens_of_lines (locals_lines d.locals)
+    ++ TERMINAL terminal.Do ∷ (tokens_of_lines (instrs_lines 3 d.body)
+    ++ (tokens_of_lines (assertion_lines 2 terminal.Ensure d.postcondition) ++ TERMINAL terminal.End ∷ [])))))))
 unfolding feature_lines
-routine_tokens es x fs t pre ls body post = simp (tokens-append, lines-append, append_assoc)
+routine_tokens es x d = simp (tokens-append, lines-append, append_assoc)
 
 -- a feature by itself, with its export list, from tokens that spelled them
 record Alone (c : List Kind) (h : ℕ) (f : Feature) : Type 0 where
@@ -220,14 +222,14 @@ named_attributes {es = es} {ce = ce} r {t = t} {ct = ct} d (more_names x {c = c}
     }) (wider_features (λ y k. through (both (same ce) (dropped _ (dropped _ (same _)))) k) (omega arith) (named_attributes r d ds))
 
 routine_alone : {es : List Name} {ce : List Kind} → Remains (IsExports es) ce (tokens_of_parts (exports_parts es)) →
-    (x : List ℕ) {fs ls : List Declaration} {t : Option DeclaredType} {pre post : List Clause} {body : Instrs} {cf ct : List Kind} (ci : List Kind) {cr cl cb co : List Kind} {hr hb ho : ℕ} →
-    IsFormals fs cf → IsResultType t ct → IsAssertion terminal.Require pre cr hr → IsLocals ls cl → IsInstrs body cb hb →
-    IsAssertion terminal.Ensure post co ho →
+    (x : List ℕ) (d : RoutineDeclaration) {cf ct : List Kind} (ci : List Kind) {cr cl cb co : List Kind} {hr hb ho : ℕ} →
+    IsFormals d.formals cf → IsResultType d.result_type ct → IsAssertion terminal.Require d.precondition cr hr → IsLocals d.locals cl → IsInstrs d.body cb hb →
+    IsAssertion terminal.Ensure d.postcondition co ho →
     Features (ce ++ (NAME x ∷ (cf ++ (ct ++ (ci ++ (cr ++ (cl ++ TERMINAL terminal.Do ∷ (cb ++ (co ++ TERMINAL terminal.End ∷ [])))))))))
-    (max hr (max hb ho)) (routine_of es (named x) fs t pre ls body post ∷ [])
-routine_alone {es = es} {ce = ce} r x {fs = fs} {ls = ls} {t = t} {pre = pre} {post = post} {body = body} ci f d p l b q =
+    (max hr (max hb ho)) (routine_of es (named x) d ∷ [])
+routine_alone {es = es} {ce = ce} r x d ci f t p l b q =
     let rf = formals_again f in
-    let rd = result_type_again d in
+    let rt = result_type_again t in
     let rp = assertion_again 2 p in
     let rl = locals_again l in
     let rb = instrs_again 3 b in
@@ -235,19 +237,19 @@ routine_alone {es = es} {ce = ce} r x {fs = fs} {ls = ls} {t = t} {pre = pre} {p
     alone (record {
       exported = record { spelled = r.spelled; kept = before _ r.kept };
       itself =
-          again_along (routine_tokens es (named x) fs t pre ls body post)
+          again_along (routine_tokens es (named x) d)
           (record {
             nesting = max rp.nesting (max rb.nesting rq.nesting);
             low = omega (arith, rp.low, rb.low, rq.low);
-            spelled = routine x rf.spelled rd.spelled absent rp.spelled rl.spelled rb.spelled rq.spelled;
-            kept = behind ce (each _ (both rf.kept (both rd.kept (both (nothing ci) (both rp.kept (both rl.kept (each _ (both rb.kept (both rq.kept (same _))))))))));
+            spelled = routine x rf.spelled rt.spelled absent rp.spelled rl.spelled rb.spelled rq.spelled;
+            kept = behind ce (each _ (both rf.kept (both rt.kept (both (nothing ci) (both rp.kept (both rl.kept (each _ (both rb.kept (both rq.kept (same _))))))))));
           });
     }) none_alone
 
 feature_alone : {es : List Name} {ce : List Kind} → Remains (IsExports es) ce (tokens_of_parts (exports_parts es)) →
     {fs : List Feature} {c : List Kind} {h : ℕ} → IsFeature es fs c h → Features (ce ++ c) h fs
 feature_alone r (attributes d t) = named_attributes r t d
-feature_alone r (routine x {ci = ci} f d i p l b q) = routine_alone r x ci f d p l b q
+feature_alone r (routine x {r = d} {ci = ci} f t i p l b q) = routine_alone r x d ci f t p l b q
 
 features_alone : {es : List Name} {ce : List Kind} → Remains (IsExports es) ce (tokens_of_parts (exports_parts es)) →
     {fs : List Feature} {c : List Kind} {h : ℕ} → IsFeatures es fs c h → Features (ce ++ c) h fs

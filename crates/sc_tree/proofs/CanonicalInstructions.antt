@@ -171,19 +171,15 @@ call_again n {p = p} {t = t} {x = x} {es = es} d =
     again_along (call_tokens n p t x es) (record { nesting = r.nesting; low = r.low; spelled = call r.spelled; kept = r.kept })
 
 create_again : (n : ℕ) {v : Variable} {cv : List Kind} → IsVariable v cv →
-    Again (IsInstr (Create nowhere v None)) (TERMINAL terminal.Create ∷ cv) 0 (tokens_of_lines (instr_lines n (Create nowhere v None)))
+    Again (IsInstr (Create nowhere (record { variable = v; call = None }))) (TERMINAL terminal.Create ∷ cv) 0 (tokens_of_lines (instr_lines n (Create nowhere (record { variable = v; call = None }))))
 unfolding instr_lines
 create_again n (named_variable x) = record { nesting = 0; low = omega arith; spelled = create (named_variable x); kept = same _ }
 create_again n result_variable = record { nesting = 0; low = omega arith; spelled = create result_variable; kept = same _ }
 
 create_by_again : (n : ℕ) {v : Variable} {cv : List Kind} → IsVariable v cv → (x : List ℕ) {es : Exprs} {c : List Kind} {h : ℕ} →
     Again (IsActuals es) c h (tokens_of_parts (actuals_parts es)) →
-    Again (IsInstr (Create nowhere v (Some
-    (record {
-      name = named x;
-      actuals = es;
-    })))) (TERMINAL terminal.Create ∷ (cv ++ TERMINAL terminal.Dot ∷ NAME x ∷ c)) (max 1 h)
-    (tokens_of_lines (instr_lines n (Create nowhere v (Some (record { name = named x; actuals = es })))))
+    Again (IsInstr (Create nowhere (record { variable = v; call = Some (record { name = named x; actuals = es }) }))) (TERMINAL terminal.Create ∷ (cv ++ TERMINAL terminal.Dot ∷ NAME x ∷ c)) (max 1 h)
+    (tokens_of_lines (instr_lines n (Create nowhere (record { variable = v; call = Some (record { name = named x; actuals = es }) }))))
 unfolding instr_lines
 create_by_again n (named_variable y) x {es = es} r =
     again_along (append-nil (TERMINAL terminal.Create ∷ NAME y ∷ TERMINAL terminal.Dot ∷ NAME x ∷ tokens_of_parts (actuals_parts es)))

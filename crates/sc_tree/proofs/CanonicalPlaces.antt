@@ -5,13 +5,13 @@ use Rattle.std.specs.Str.{bytes_eq}
 use Rattle.sc_text.specs.declared.token.Terminal.{Terminal}
 use Rattle.sc_text.specs.declared.token.Terminal.TheVariants as terminal
 use Rattle.sc_tree.specs.Plain as plain
-use Rattle.sc_tree.specs.Plain.{Name, HandlerTag, Own, Separate, HandlerOf, DeclaredType, Declaration, Expr, Integer, Boolean, Void, Current, Call, Unary, Binary, ObjectTest, Target, no_target, target, Exprs, no_exprs, expr_then, Variable, Named, ResultVariable, CreationCall, Clause, Head, Instr, Assign, PrintText, CallRoutine, Create, If, Loop, Check, Block, Instrs, no_instrs, instr_then, Branches, no_branches, branch_then, FeatureKind, Attribute, Routine, Feature, Parent, ClassMark, Deferred, Expanded, Frozen, Class}
-use Rattle.sc_tree.specs.Bare.{bare_name, bare_handler_tag, bare_type, bare_type_if_any, bare_declaration, bare_expr, bare_target, bare_exprs, bare_variable, bare_creation_call, bare_tag, bare_clause, bare_head, bare_instr, bare_instrs, bare_branches, bare_kind, bare_feature, bare_parent, bare_mark, bare_class}
-use Rattle.sc_tree.specs.Grammar.{under, prefix_of, terminals_of}
+use Rattle.sc_tree.specs.Plain.{Name, HandlerTag, Own, Separate, HandlerOf, DeclaredType, Declaration, Expr, Integer, Boolean, Void, Current, Call, Unary, Binary, ObjectTest, Target, no_target, target, Exprs, no_exprs, expr_then, Variable, Named, ResultVariable, CreationCall, Clause, Head, Instr, Assign, PrintText, CallRoutine, Create, If, Loop, Check, Block, Instrs, no_instrs, instr_then, Branches, no_branches, branch_then, RoutineDeclaration, FeatureKind, Attribute, Routine, Feature, Parent, ClassMark, Deferred, Expanded, Frozen, Class}
+use Rattle.sc_tree.specs.Bare.{bare_name, bare_handler_tag, bare_type, bare_type_if_any, bare_declaration, bare_expr, bare_target, bare_exprs, bare_variable, bare_creation_call, bare_tag, bare_clause, bare_head, bare_instr, bare_instrs, bare_branches, bare_routine, bare_kind, bare_feature, bare_parent, bare_mark, bare_class}
+use Rattle.sc_tree.specs.Grammar.{class_below, prefix_of, terminals_of}
 use Rattle.sc_tree.specs.Canonical.Layout.{Part, Line, word, line, behind_each, separated}
 use Rattle.sc_tree.specs.Canonical.Expressions.{name_part, class_name_part, names_parts, class_names_parts, handler_tag_parts, attachment_parts, type_parts, tested_type_parts, class_of_expr, left_class, in_class, expr_parts, behind_target, actuals_parts, more_actuals_parts, call_parts}
 use Rattle.sc_tree.specs.Canonical.Instructions.{tag_parts, ending, clause_line, is_empty, clauses_lines, assertion_lines, variable_part, creation_call_parts, head_parts, heads_parts, guard_line, reservation_line, else_lines, instr_lines, instrs_lines, branches_lines}
-use Rattle.sc_tree.specs.Canonical.Classes.{declaration_parts, formals_parts, result_type_parts, local_line, locals_lines, signature_line, kind_lines, feature_lines, same_names, exports_parts, section_line, further_feature_lines, further_features_lines, sections_lines, mark_parts, redefined_parts, parent_line, parents_lines, creators_lines, heading_line, class_lines, further_classes_lines, classes_lines}
+use Rattle.sc_tree.specs.Canonical.Classes.{declaration_parts, formals_parts, result_type_parts, local_line, locals_lines, signature_line, routine_lines, kind_lines, feature_lines, same_names, exports_parts, section_line, further_feature_lines, further_features_lines, sections_lines, mark_parts, redefined_parts, parent_line, parents_lines, creators_lines, heading_line, class_lines, further_classes_lines, classes_lines}
 
 -- ---- lists
 
@@ -81,8 +81,8 @@ mutual
   expr-bare (Call s t n es) = target-bare t (name_part n ∷ actuals_parts (bare_exprs es)) ∙ ap (λ ps. behind_target t (name_part n ∷ ps)) (actuals-bare es)
   expr-bare (Unary s op a) = ap (λ ps. word (prefix_of op) ∷ ps) (operand-bare a 0 (expr-bare a))
   expr-bare (Binary s op a b) =
-      ap (λ ps. ps ++ (map word (terminals_of op) ++ in_class (class_of_expr (bare_expr b)) (under op) (expr_parts (bare_expr b)))) (operand-bare a (left_class op) (expr-bare a))
-      ∙ ap (λ ps. in_class (class_of_expr a) (left_class op) (expr_parts a) ++ (map word (terminals_of op) ++ ps)) (operand-bare b (under op) (expr-bare b))
+      ap (λ ps. ps ++ (map word (terminals_of op) ++ in_class (class_of_expr (bare_expr b)) (class_below op) (expr_parts (bare_expr b)))) (operand-bare a (left_class op) (expr-bare a))
+      ∙ ap (λ ps. in_class (class_of_expr a) (left_class op) (expr_parts a) ++ (map word (terminals_of op) ++ ps)) (operand-bare b (class_below op) (expr-bare b))
   expr-bare (ObjectTest s t a n) =
       ap (λ ps. word terminal.Attached ∷ (ps ++ (expr_parts (bare_expr a) ++ word terminal.As ∷ name_part n ∷ []))) (tested_type-bare t)
       ∙ ap (λ ps. word terminal.Attached ∷ (tested_type_parts t ++ (ps ++ word terminal.As ∷ name_part n ∷ []))) (expr-bare a)
@@ -165,9 +165,9 @@ mutual
       ∙ ap (λ ps. line n (variable_part v ∷ word terminal.Becomes ∷ ps) ∷ []) (expr-bare e)
   instr-bare n (PrintText s t) = refl
   instr-bare n (CallRoutine s t x es) = ap (λ ps. line n ps ∷ []) (call-bare t x es)
-  instr-bare n (Create s v c) =
-      ap (λ p. line n (word terminal.Create ∷ p ∷ creation_call_parts (bare_creation_call c)) ∷ []) (variable-bare v)
-      ∙ ap (λ ps. line n (word terminal.Create ∷ variable_part v ∷ ps) ∷ []) (creation_call-bare c)
+  instr-bare n (Create s c) =
+      ap (λ p. line n (word terminal.Create ∷ p ∷ creation_call_parts (bare_creation_call c.call)) ∷ []) (variable-bare c.variable)
+      ∙ ap (λ ps. line n (word terminal.Create ∷ variable_part c.variable ∷ ps) ∷ []) (creation_call-bare c.call)
   instr-bare n (If s e body bs other) =
       let end = line n (word terminal.End ∷ []) ∷ [] in
       let guard = guard_line n terminal.If e in
@@ -220,22 +220,25 @@ locals-bare [] = refl
 locals-bare (d ∷ ds) =
     ap (λ ls. line 2 (word terminal.Local ∷ []) ∷ ls) (mapped-bare bare_declaration local_line (λ x. ap (λ ps. line 3 ps) (declaration-bare x)) (d ∷ ds))
 
-kind-bare : (x : Name) (k : FeatureKind) → kind_lines (bare_name x) (bare_kind k) ≡ kind_lines x k
-kind-bare x (Attribute t) = ap (λ ps. line 1 (name_part x ∷ word terminal.Colon ∷ ps) ∷ []) (type-bare t)
-kind-bare x (Routine formals t pre locals body post) =
+routine-bare : (x : Name) (r : RoutineDeclaration) → routine_lines (bare_name x) (bare_routine r) ≡ routine_lines x r
+routine-bare x r =
     let begin = line 2 (word terminal.Do ∷ []) in
     let end = line 2 (word terminal.End ∷ []) ∷ [] in
     let rest : (ls ms ns os : List Line) → List Line = λ ls ms ns os. ls ++ (ms ++ begin ∷ (ns ++ (os ++ end))) in
-    let body_lines = instrs_lines 3 (bare_instrs body) in
-    let pre_lines = assertion_lines 2 terminal.Require (map bare_clause pre) in
-    let post_lines = assertion_lines 2 terminal.Ensure (map bare_clause post) in
-    let local_lines = locals_lines (map bare_declaration locals) in
-    ap (λ ps. line 1 (name_part x ∷ (ps ++ result_type_parts (bare_type_if_any t))) ∷ rest pre_lines local_lines body_lines post_lines) (formals-bare formals)
-    ∙ ap (λ ps. line 1 (name_part x ∷ (formals_parts formals ++ ps)) ∷ rest pre_lines local_lines body_lines post_lines) (result_type-bare t)
-    ∙ ap (λ ls. signature_line x formals t ∷ rest ls local_lines body_lines post_lines) (assertion-bare 2 terminal.Require pre)
-    ∙ ap (λ ls. signature_line x formals t ∷ rest (assertion_lines 2 terminal.Require pre) ls body_lines post_lines) (locals-bare locals)
-    ∙ ap (λ ls. signature_line x formals t ∷ rest (assertion_lines 2 terminal.Require pre) (locals_lines locals) ls post_lines) (instrs-bare 3 body)
-    ∙ ap (λ ls. signature_line x formals t ∷ rest (assertion_lines 2 terminal.Require pre) (locals_lines locals) (instrs_lines 3 body) ls) (assertion-bare 2 terminal.Ensure post)
+    let body_lines = instrs_lines 3 (bare_instrs r.body) in
+    let pre_lines = assertion_lines 2 terminal.Require (map bare_clause r.precondition) in
+    let post_lines = assertion_lines 2 terminal.Ensure (map bare_clause r.postcondition) in
+    let local_lines = locals_lines (map bare_declaration r.locals) in
+    ap (λ ps. line 1 (name_part x ∷ (ps ++ result_type_parts (bare_type_if_any r.result_type))) ∷ rest pre_lines local_lines body_lines post_lines) (formals-bare r.formals)
+    ∙ ap (λ ps. line 1 (name_part x ∷ (formals_parts r.formals ++ ps)) ∷ rest pre_lines local_lines body_lines post_lines) (result_type-bare r.result_type)
+    ∙ ap (λ ls. signature_line x r ∷ rest ls local_lines body_lines post_lines) (assertion-bare 2 terminal.Require r.precondition)
+    ∙ ap (λ ls. signature_line x r ∷ rest (assertion_lines 2 terminal.Require r.precondition) ls body_lines post_lines) (locals-bare r.locals)
+    ∙ ap (λ ls. signature_line x r ∷ rest (assertion_lines 2 terminal.Require r.precondition) (locals_lines r.locals) ls post_lines) (instrs-bare 3 r.body)
+    ∙ ap (λ ls. signature_line x r ∷ rest (assertion_lines 2 terminal.Require r.precondition) (locals_lines r.locals) (instrs_lines 3 r.body) ls) (assertion-bare 2 terminal.Ensure r.postcondition)
+
+kind-bare : (x : Name) (k : FeatureKind) → kind_lines (bare_name x) (bare_kind k) ≡ kind_lines x k
+kind-bare x (Attribute t) = ap (λ ps. line 1 (name_part x ∷ word terminal.Colon ∷ ps) ∷ []) (type-bare t)
+kind-bare x (Routine r) = routine-bare x r
 
 feature-bare : (f : Feature) → feature_lines (bare_feature f) ≡ feature_lines f
 unfolding feature_lines

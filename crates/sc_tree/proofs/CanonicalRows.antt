@@ -4,7 +4,7 @@ use Rattle.std.specs.Fmt.{digits}
 use Rattle.sc_tree.specs.declared.expression.UnaryOperator.TheVariants as unary
 use Rattle.sc_tree.specs.declared.expression.BinaryOperator.TheVariants as binary
 use Rattle.sc_tree.specs.Plain as plain
-use Rattle.sc_tree.specs.Plain.{Name, HandlerTag, DeclaredType, Own, Separate, HandlerOf, Expr, Integer, Boolean, Void, Current, Call, Unary, Binary, ObjectTest, no_target, target, no_exprs, expr_then, Named, ResultVariable, Clause, Instr, Assign, PrintText, CallRoutine, Create, If, Loop, Check, Block, Instrs, no_instrs, instr_then, no_branches, branch_then, ClassMark, Deferred, Expanded, Frozen, Feature, System}
+use Rattle.sc_tree.specs.Plain.{Name, HandlerTag, DeclaredType, Own, Separate, HandlerOf, Expr, Integer, Boolean, Void, Current, Call, Unary, Binary, ObjectTest, no_target, target, no_exprs, expr_then, Named, ResultVariable, Clause, Instr, Assign, PrintText, CallRoutine, Create, If, Loop, Check, Block, Instrs, no_instrs, instr_then, no_branches, branch_then, RoutineDeclaration, ClassMark, Deferred, Expanded, Frozen, Feature, System}
 use Rattle.sc_tree.specs.Bare.{nowhere, named}
 use Rattle.sc_tree.specs.Grammar.{attribute_of, routine_of, class_of, type_of}
 use Rattle.sc_tree.specs.Canonical.{canonical_text}
@@ -46,6 +46,10 @@ conditional =
     (Binary nowhere binary.Plus (local (codes "y")) (Binary nowhere binary.Times (number 1) (Binary nowhere binary.Plus (number 2) (number 3)))))
     (one (PrintText nowhere (codes "a\nb"))) no_branches no_instrs
 
+-- a procedure with no formals
+abbrev procedure : Instrs → RoutineDeclaration
+procedure is = record { formals = []; result_type = None; precondition = []; locals = []; body = is; postcondition = [] }
+
 -- class a feature x, Y: integer f do .. end end
 abbrev example : System
 example =
@@ -53,7 +57,7 @@ example =
       classes =
           class_of None (named (codes "a")) [] []
           (attribute_of [] integer_type (named (codes "x")) ∷ attribute_of [] integer_type (named (codes "y"))
-          ∷ routine_of [] (named (codes "f")) [] None [] [] (one conditional) [] ∷ []) [] ∷ [];
+          ∷ routine_of [] (named (codes "f")) (procedure (one conditional)) ∷ []) [] ∷ [];
     }
 
 example_text : canonical_text example ≡
@@ -194,8 +198,8 @@ tested = type_of true (HandlerOf (named (codes "x"))) (named (codes "a"))
 
 abbrev creations : Instrs → Instrs
 creations rest =
-    instr_then (Create nowhere (Named (named (codes "x"))) None)
-    (instr_then (Create nowhere (ResultVariable nowhere) (Some (record { name = named (codes "make"); actuals = expr_then (number 0) no_exprs })))
+    instr_then (Create nowhere (record { variable = Named (named (codes "x")); call = None }))
+    (instr_then (Create nowhere (record { variable = ResultVariable nowhere; call = Some (record { name = named (codes "make"); actuals = expr_then (number 0) no_exprs }) }))
     (instr_then (Assign nowhere (Named (named (codes "x")))
     (Call nowhere (target (Call nowhere (target (Current nowhere)) (named (codes "a")) no_exprs)) (named (codes "b")) (expr_then (Boolean nowhere true) (expr_then (Boolean nowhere false) no_exprs))))
     (instr_then (Assign nowhere (ResultVariable nowhere) (Void nowhere)) rest)))
@@ -219,10 +223,16 @@ reservation =
 abbrev whole_routine : Feature
 whole_routine =
     routine_of [] (named (codes "f"))
-    (record { name = named (codes "x"); declared_type = type_of false Separate (named (codes "a")) } ∷ record { name = named (codes "i"); declared_type = integer_type } ∷ [])
-    (Some (type_of false (HandlerOf (named (codes "x"))) (named (codes "a")))) (tagged (codes "tag") (local (codes "p")) ∷ [])
-    (record { name = named (codes "k"); declared_type = type_of true Own (named (codes "b")) } ∷ [])
-    (creations (instr_then choice (instr_then iteration (one reservation)))) (clause (local (codes "q")) ∷ [])
+    (record {
+      formals =
+          record { name = named (codes "x"); declared_type = type_of false Separate (named (codes "a")) }
+          ∷ record { name = named (codes "i"); declared_type = integer_type } ∷ [];
+      result_type = Some (type_of false (HandlerOf (named (codes "x"))) (named (codes "a")));
+      precondition = tagged (codes "tag") (local (codes "p")) ∷ [];
+      locals = record { name = named (codes "k"); declared_type = type_of true Own (named (codes "b")) } ∷ [];
+      body = creations (instr_then choice (instr_then iteration (one reservation)));
+      postcondition = clause (local (codes "q")) ∷ [];
+    })
 
 routine_text : canonical_text (record { classes = class_of None (named (codes "a")) [] [] (whole_routine ∷ []) [] ∷ [] }) ≡
     codes "class A\n"

@@ -2,7 +2,7 @@
 use Rattle.std.proofs.Common.{◌∷◌, ◌≡◌, ℕ, ◌≤◌, ◌<◌, max, Bool, true, false, List, ◌++◌, Result, Ok, Err, refl, ap, sym, ◌∙◌, append_assoc, arith, rules}
 use Rattle.std.specs.Prelude.{nat_le, if◌then◌else◌}
 use Rattle.sc_text.specs.Kind.{Kind}
-use Rattle.sc_tree.specs.Reading.{Fault, Deep, Read, ◌>>=◌}
+use Rattle.sc_tree.specs.Internal.Reading.{Fault, Deep, Read, ◌>>=◌}
 
 -- ---- tests
 

@@ -9,8 +9,8 @@ use Rattle.sc_tree.specs.Plain as plain
 use Rattle.sc_tree.specs.Plain.{DeclaredType, Expr, Integer, Boolean, Void, Current, Call, Unary, Binary, ObjectTest, Target, no_target, target, Exprs, no_exprs, expr_then}
 use Rattle.sc_tree.specs.Bare.{nowhere, named}
 use Rattle.sc_tree.specs.Grammar as grammar
-use Rattle.sc_tree.specs.Grammar.{under, groups, top, prefix_of, spelling, IsPrimary, IsChain, IsActuals, IsExprs, IsExpr}
-use Rattle.sc_tree.specs.Reading.{Deep, Read, ◌>>=◌, same_terminal, sees, expect, name, begins_expr, operator_ahead, tested_type, exprs_push, parenthesized, more_exprs, exprs, actuals, calling, chain_head, calls, chain, object_test, primary, prefixed, operand_by, operand, with_operator, operators, level, expr, nested}
+use Rattle.sc_tree.specs.Grammar.{class_below, groups, top, prefix_of, spelling, IsPrimary, IsChain, IsActuals, IsExprs, IsExpr}
+use Rattle.sc_tree.specs.Internal.Reading.{Deep, Read, ◌>>=◌, same_terminal, sees, expect, name, begins_expr, operator_ahead, tested_type, exprs_push, parenthesized, more_exprs, exprs, actuals, calling, chain_head, calls, chain, object_test, primary, prefixed, operand_by, operand, with_operator, operators, level, expr, nested}
 use Rattle.sc_tree.proofs.Combining.{behind_word, Comes, fits, deep, both, surely, lastly, along, needs, grown, bind_ok, bind_err, choose_true, choose_false, le_true, le_false}
 use Rattle.sc_tree.proofs.Looks.{expect_self, sees_self, operator_seen, above_own, past_spelling, no_second}
 use Rattle.sc_tree.proofs.Lists.{exprs_joined, exprs_joined-push, exprs_joined-none}
@@ -57,50 +57,50 @@ operators_stop room k (suc f) t h r e = rw e refl
 -- what an operator's right operand leads to
 abbrev stepped : ℕ → ℕ → BinaryOperator → Expr → ℕ → Expr × ℕ × List Kind → Read Expr
 stepped n f op t h x =
-    if groups (under op) then operators (nested n) n (under op) f (Binary nowhere op t x.0) (suc (max h x.1)) x.2 else Ok (Binary nowhere op t x.0, suc (max h x.1), x.2)
+    if groups (class_below op) then operators (nested n) n (class_below op) f (Binary nowhere op t x.0) (suc (max h x.1)) x.2 else Ok (Binary nowhere op t x.0, suc (max h x.1), x.2)
 
 operators_some : (n f : ℕ) (op : BinaryOperator) (t : Expr) (h : ℕ) (rb : List Kind) → begins_expr rb ≡ true →
-    operators (nested n) n (under op) (suc f) t h (spelling op ++ rb) ≡ (if nat_le n h then Err Deep else (nested n (under op) rb >>= stepped n f op t h))
+    operators (nested n) n (class_below op) (suc f) t h (spelling op ++ rb) ≡ (if nat_le n h then Err Deep else (nested n (class_below op) rb >>= stepped n f op t h))
 unfolding operators
 operators_some n f op t h rb b =
-    ap (with_operator (nested n) n (under op) (operators (nested n) n (under op) f) t h (spelling op ++ rb)) (above_own op (spelling op ++ rb) (operator_seen op rb (no_second _ rb b refl) (no_second _ rb b refl)))
-    ∙ ap (λ (r : List Kind). if nat_le n h then Err Deep else (nested n (under op) r >>= stepped n f op t h)) (past_spelling op rb)
+    ap (with_operator (nested n) n (class_below op) (operators (nested n) n (class_below op) f) t h (spelling op ++ rb)) (above_own op (spelling op ++ rb) (operator_seen op rb (no_second _ rb b refl) (no_second _ rb b refl)))
+    ∙ ap (λ (r : List Kind). if nat_le n h then Err Deep else (nested n (class_below op) r >>= stepped n f op t h)) (past_spelling op rb)
 
 -- An operator behind its left operand, with a right operand that begins as one and leaves fewer tokens.
 module _ (op : BinaryOperator) (n ha hb : ℕ) (a b : Expr) (rb r : List Kind) (begins : begins_expr rb ≡ true) (within : length r ≤ length rb) where
-  left_in : (f : ℕ) → length rb ≤ f → groups (under op) ≡ true → (x : Read Expr) → x ≡ operators (nested n) n (under op) (suc f) a ha (spelling op ++ rb) →
-      (n ≤ ha) ⊎ (ha < n) → Comes n (suc hb) (b, hb, r) (nested n (under op) rb) → Chained n (under op) (suc (max ha hb)) (Binary nowhere op a b) r x
+  left_in : (f : ℕ) → length rb ≤ f → groups (class_below op) ≡ true → (x : Read Expr) → x ≡ operators (nested n) n (class_below op) (suc f) a ha (spelling op ++ rb) →
+      (n ≤ ha) ⊎ (ha < n) → Comes n (suc hb) (b, hb, r) (nested n (class_below op) rb) → Chained n (class_below op) (suc (max ha hb)) (Binary nowhere op a b) r x
   left_in f len g x e (inl h) c = too_deep (omega arith) (e ∙ operators_some n f op a ha rb begins ∙ choose_true _ _ _ (le_true n ha h))
   left_in f len g x e (inr h) (fits p q) =
       goes (omega arith) f (omega arith) (e ∙ operators_some n f op a ha rb begins ∙ choose_false _ _ _ (le_false n ha h) ∙ bind_ok _ _ (stepped n f op a ha) q ∙ choose_true _ _ _ g)
   left_in f len g x e (inr h) (deep p q) =
       too_deep (omega arith) (e ∙ operators_some n f op a ha rb begins ∙ choose_false _ _ _ (le_false n ha h) ∙ bind_err _ _ (stepped n f op a ha) q)
 
-  left_at : (f : ℕ) → suc (length rb) ≤ f → groups (under op) ≡ true → (x : Read Expr) → x ≡ operators (nested n) n (under op) f a ha (spelling op ++ rb) →
-      Comes n (suc hb) (b, hb, r) (nested n (under op) rb) → Chained n (under op) (suc (max ha hb)) (Binary nowhere op a b) r x
+  left_at : (f : ℕ) → suc (length rb) ≤ f → groups (class_below op) ≡ true → (x : Read Expr) → x ≡ operators (nested n) n (class_below op) f a ha (spelling op ++ rb) →
+      Comes n (suc hb) (b, hb, r) (nested n (class_below op) rb) → Chained n (class_below op) (suc (max ha hb)) (Binary nowhere op a b) r x
   left_at zero len g x e c = absurd (omega arith)
   left_at (suc f) len g x e c = left_in f (omega arith) g x e (le_or_lt n ha) c
 
-  left_step : groups (under op) ≡ true → (x : Read Expr) → Chained n (under op) ha a (spelling op ++ rb) x →
-      Comes n (suc hb) (b, hb, r) (nested n (under op) rb) → Chained n (under op) (suc (max ha hb)) (Binary nowhere op a b) r x
+  left_step : groups (class_below op) ≡ true → (x : Read Expr) → Chained n (class_below op) ha a (spelling op ++ rb) x →
+      Comes n (suc hb) (b, hb, r) (nested n (class_below op) rb) → Chained n (class_below op) (suc (max ha hb)) (Binary nowhere op a b) r x
   left_step g x (goes h f len e) c = let l = operator_longer op rb in left_at f (omega arith) g x e c
   left_step g x (too_deep h e) c = too_deep (omega arith) e
 
-  alone_in : groups (under op) ≡ false → (f : ℕ) → (x : Read Expr) → x ≡ operators (nested n) n (under op) (suc f) a ha (spelling op ++ rb) →
-      (n ≤ ha) ⊎ (ha < n) → Comes n (suc hb) (b, hb, r) (nested n (under op) rb) → Comes n (suc (max ha hb)) (Binary nowhere op a b, suc (max ha hb), r) x
+  alone_in : groups (class_below op) ≡ false → (f : ℕ) → (x : Read Expr) → x ≡ operators (nested n) n (class_below op) (suc f) a ha (spelling op ++ rb) →
+      (n ≤ ha) ⊎ (ha < n) → Comes n (suc hb) (b, hb, r) (nested n (class_below op) rb) → Comes n (suc (max ha hb)) (Binary nowhere op a b, suc (max ha hb), r) x
   alone_in g f x e (inl h) c = deep (omega arith) (e ∙ operators_some n f op a ha rb begins ∙ choose_true _ _ _ (le_true n ha h))
   alone_in g f x e (inr h) (fits p q) =
       fits (omega arith) (e ∙ operators_some n f op a ha rb begins ∙ choose_false _ _ _ (le_false n ha h) ∙ bind_ok _ _ (stepped n f op a ha) q ∙ choose_false _ _ _ g)
   alone_in g f x e (inr h) (deep p q) =
       deep (omega arith) (e ∙ operators_some n f op a ha rb begins ∙ choose_false _ _ _ (le_false n ha h) ∙ bind_err _ _ (stepped n f op a ha) q)
 
-  alone_at : groups (under op) ≡ false → (f : ℕ) → 1 ≤ f → (x : Read Expr) → x ≡ operators (nested n) n (under op) f a ha (spelling op ++ rb) →
-      Comes n (suc hb) (b, hb, r) (nested n (under op) rb) → Comes n (suc (max ha hb)) (Binary nowhere op a b, suc (max ha hb), r) x
+  alone_at : groups (class_below op) ≡ false → (f : ℕ) → 1 ≤ f → (x : Read Expr) → x ≡ operators (nested n) n (class_below op) f a ha (spelling op ++ rb) →
+      Comes n (suc hb) (b, hb, r) (nested n (class_below op) rb) → Comes n (suc (max ha hb)) (Binary nowhere op a b, suc (max ha hb), r) x
   alone_at g zero l x e c = absurd (omega arith)
   alone_at g (suc f) l x e c = alone_in g f x e (le_or_lt n ha) c
 
-  alone_step : groups (under op) ≡ false → (x : Read Expr) → Chained n (under op) ha a (spelling op ++ rb) x →
-      Comes n (suc hb) (b, hb, r) (nested n (under op) rb) → Comes n (suc (max ha hb)) (Binary nowhere op a b, suc (max ha hb), r) x
+  alone_step : groups (class_below op) ≡ false → (x : Read Expr) → Chained n (class_below op) ha a (spelling op ++ rb) x →
+      Comes n (suc hb) (b, hb, r) (nested n (class_below op) rb) → Comes n (suc (max ha hb)) (Binary nowhere op a b, suc (max ha hb), r) x
   alone_step g x (goes h f len e) c = let l = operator_longer op rb in alone_at g f (omega arith) x e c
   alone_step g x (too_deep h e) c = deep (omega arith) e
 
@@ -377,12 +377,12 @@ mutual
   complete_level (grammar.tighter {k} {t} {c} {h} d) r s n = stop_step n k h t r _ (s.no_operator k (omega arith)) (first_step n k h t r (c ++ r) (complete_level d r (fewer k r s) n))
   complete_level (grammar.left op g {a} {b} {ca} {cb} {ha} {hb} da db) r s n =
       rw (respelled ca (spelling op) cb r)
-      (stop_step n (under op) _ _ r _ (s.no_operator (under op) (omega arith))
-      (left_step op n ha hb a b (cb ++ r) r (expr_begins db r) (longer cb r) g _ (chained da g (spelling op ++ (cb ++ r)) (operator_stops op (cb ++ r)) n) (nested_comes hb (under op) _ _ (complete_level db r (fewer (under op) r s)) n)))
+      (stop_step n (class_below op) _ _ r _ (s.no_operator (class_below op) (omega arith))
+      (left_step op n ha hb a b (cb ++ r) r (expr_begins db r) (longer cb r) g _ (chained da g (spelling op ++ (cb ++ r)) (operator_stops op (cb ++ r)) n) (nested_comes hb (class_below op) _ _ (complete_level db r (fewer (class_below op) r s)) n)))
   complete_level (grammar.alone op g {a} {b} {ca} {cb} {ha} {hb} da db) r s n =
       rw (respelled ca (spelling op) cb r)
       (alone_step op n ha hb a b (cb ++ r) r (expr_begins db r) (longer cb r) g _
-      (first_step n (under op) ha a (spelling op ++ (cb ++ r)) _ (complete_level da (spelling op ++ (cb ++ r)) (operator_stops op (cb ++ r)) n)) (nested_comes hb (under op) _ _ (complete_level db r (fewer (under op) r s)) n))
+      (first_step n (class_below op) ha a (spelling op ++ (cb ++ r)) _ (complete_level da (spelling op ++ (cb ++ r)) (operator_stops op (cb ++ r)) n)) (nested_comes hb (class_below op) _ _ (complete_level db r (fewer (class_below op) r s)) n))
 
   chained : {k : ℕ} {t : Expr} {c : List Kind} {h : ℕ} → IsExpr k t c h → Chains k t c h
   chained (grammar.primary d) = tt
@@ -390,7 +390,7 @@ mutual
   chained (grammar.tighter {k} {t} {c} {h} d) = λ g r s n. first_step n k h t r (c ++ r) (complete_level d r s n)
   chained (grammar.left op g {a} {b} {ca} {cb} {ha} {hb} da db) = λ g' r s n.
       rw (respelled ca (spelling op) cb r)
-      (left_step op n ha hb a b (cb ++ r) r (expr_begins db r) (longer cb r) g _ (chained da g (spelling op ++ (cb ++ r)) (operator_stops op (cb ++ r)) n) (nested_comes hb (under op) _ _ (complete_level db r s) n))
+      (left_step op n ha hb a b (cb ++ r) r (expr_begins db r) (longer cb r) g _ (chained da g (spelling op ++ (cb ++ r)) (operator_stops op (cb ++ r)) n) (nested_comes hb (class_below op) _ _ (complete_level db r s) n))
   chained (grammar.alone op g da db) = λ g' r s n. let q : true ≡ false = sym g' ∙ g in cc
 
 -- what follows is apart from an expression

@@ -3,11 +3,11 @@ use Rattle.std.proofs.Common.{◌≡◌, ℕ, zero, suc, ◌+◌, ◌≤◌, max
 use Rattle.std.specs.Prelude.{map}
 use Rattle.sc_text.specs.Kind.{Kind, NAME, INTEGER, STRING, TERMINAL}
 use Rattle.sc_text.specs.declared.token.Terminal.TheVariants as terminal
-use Rattle.sc_tree.specs.Plain.{Name, Instrs, DeclaredType, Declaration, Feature, Clause}
+use Rattle.sc_tree.specs.Plain.{Name, RoutineDeclaration, DeclaredType, Declaration, Feature, Clause}
 use Rattle.sc_tree.specs.Bare.{named}
 use Rattle.sc_tree.specs.Grammar as grammar
 use Rattle.sc_tree.specs.Grammar.{IsInstrs, declared_as, attribute_of, routine_of, class_of, heads_class, ends_class, exported_to, none_name, IsNames, IsOptional, IsType, IsDeclaration, IsDeclarations, IsFormals, IsLocalList, IsLocals, IsResultType, IsFeature, IsSemicolons, IsFeatures, IsExports, IsSections, IsFree, IsNote, IsMark, IsParent, IsParentList, IsParents, IsCreators, IsAssertion, IsClass, IsClasses}
-use Rattle.sc_tree.specs.Reading.{◌>>=◌, past, same_terminal, sees, expect, skip, skip_semicolons, name_ahead, names, declared_type, instrs, assertion, formals, locals, result_type, begins_routine, export_list, exports, routine, attribute_or_routine, attributes, feature, features_from, sections_from, sections}
+use Rattle.sc_tree.specs.Internal.Reading.{◌>>=◌, past, same_terminal, sees, expect, skip, skip_semicolons, name_ahead, names, declared_type, instrs, assertion, formals, locals, result_type, begins_routine, export_list, exports, routine, attribute_or_routine, attributes, feature, features_from, sections_from, sections}
 use Rattle.sc_tree.proofs.Combining.{between, Comes, fits, both, surely, lastly, along, needs, same_reads, nested_max, grown, where_true, where_false, bind_ok, choose_true, choose_false}
 use Rattle.sc_tree.proofs.Looks.{expect_self, sees_self}
 use Rattle.sc_tree.proofs.Lists.{some_tokens, skip_none, skip_all}
@@ -68,27 +68,28 @@ unfolding same_terminal
 do_no_semicolon r = refl
 
 -- the parts of a routine, each read
-routine_step : (n hr hb he : ℕ) (es : List Name) (x : List ℕ) (fs ls : List Declaration) (o : Option DeclaredType) (pre post : List Clause) (b : Instrs) (ts ts' r1 r2 r3 r : List Kind) →
-    skip terminal.Is ts ≡ ts' → Comes n hr (pre, hr, r1) (assertion n terminal.Require ts') → locals r1 ≡ Ok (ls, TERMINAL terminal.Do ∷ r2) → Comes n hb (b, hb, r3) (instrs n r2) →
-    Comes n he (post, he, TERMINAL terminal.End ∷ r) (assertion n terminal.Ensure r3) →
-    Comes n (max hr (max hb he)) (routine_of es (named x) fs o pre ls b post ∷ [], max hr (max hb he), r) (routine n es (named x) fs o ts)
+routine_step : (n hr hb he : ℕ) (es : List Name) (x : List ℕ) (d : RoutineDeclaration) (ts ts' r1 r2 r3 r : List Kind) →
+    skip terminal.Is ts ≡ ts' → Comes n hr (d.precondition, hr, r1) (assertion n terminal.Require ts') → locals r1 ≡ Ok (d.locals, TERMINAL terminal.Do ∷ r2) →
+    Comes n hb (d.body, hb, r3) (instrs n r2) → Comes n he (d.postcondition, he, TERMINAL terminal.End ∷ r) (assertion n terminal.Ensure r3) →
+    Comes n (max hr (max hb he)) (routine_of es (named x) d ∷ [], max hr (max hb he), r) (routine n es (named x) d.formals d.result_type ts)
 unfolding routine same_terminal expect
-routine_step n hr hb he es x fs ls o pre post b ts ts' r1 r2 r3 r k dr dl db de =
+routine_step n hr hb he es x d ts ts' r1 r2 r3 r k dr dl db de =
     rw k
-    (both n hr (max hb he) (pre, hr, r1) _ _ _ dr λ p. surely n (max hb he) (ls, TERMINAL terminal.Do ∷ r2) _ _ _ dl
-    (both n hb he (b, hb, r3) _ _ _ db λ q. lastly n he (post, he, TERMINAL terminal.End ∷ r) _ _ _ de refl))
+    (both n hr (max hb he) (d.precondition, hr, r1) _ _ _ dr λ p. surely n (max hb he) (d.locals, TERMINAL terminal.Do ∷ r2) _ _ _ dl
+    (both n hb he (d.body, hb, r3) _ _ _ db λ q. lastly n he (d.postcondition, he, TERMINAL terminal.End ∷ r) _ _ _ de refl))
 
 -- a routine, behind its result type
-complete_routine : {pre post : List Clause} {ls : List Declaration} {b : Instrs} {ci cr cl cb ce : List Kind} {hr hb he : ℕ} → IsOptional terminal.Is ci → IsAssertion terminal.Require pre cr hr → IsLocals ls cl → IsInstrs b cb hb →
-    IsAssertion terminal.Ensure post ce he →
-    (n : ℕ) (es : List Name) (x : List ℕ) (fs : List Declaration) (o : Option DeclaredType) (r : List Kind) →
-    Comes n (max hr (max hb he)) (routine_of es (named x) fs o pre ls b post ∷ [], max hr (max hb he), r) (routine n es (named x) fs o (ci ++ (cr ++ (cl ++ TERMINAL terminal.Do ∷ (cb ++ (ce ++ TERMINAL terminal.End ∷ r))))))
-complete_routine {pre} {post} {ls} {b} {ci} {cr} {cl} {cb} {ce} {hr} {hb} {he} di dr dl db de n es x fs o r =
+complete_routine : (d : RoutineDeclaration) {ci cr cl cb ce : List Kind} {hr hb he : ℕ} →
+    IsOptional terminal.Is ci → IsAssertion terminal.Require d.precondition cr hr → IsLocals d.locals cl → IsInstrs d.body cb hb →
+    IsAssertion terminal.Ensure d.postcondition ce he → (n : ℕ) (es : List Name) (x : List ℕ) (r : List Kind) →
+    Comes n (max hr (max hb he)) (routine_of es (named x) d ∷ [], max hr (max hb he), r)
+    (routine n es (named x) d.formals d.result_type (ci ++ (cr ++ (cl ++ TERMINAL terminal.Do ∷ (cb ++ (ce ++ TERMINAL terminal.End ∷ r))))))
+complete_routine d {ci} {cr} {cl} {cb} {ce} {hr} {hb} {he} di dr dl db de n es x r =
     let r3 : List Kind = ce ++ TERMINAL terminal.End ∷ r in
     let r2 : List Kind = cb ++ r3 in
     let bl = locals_behind dl (TERMINAL terminal.Do ∷ r2) (do_behind r2) in
     let br = require_behind dr (cl ++ TERMINAL terminal.Do ∷ r2) bl in
-    routine_step n hr hb he es x fs ls o pre post b _ (cr ++ (cl ++ TERMINAL terminal.Do ∷ r2)) (cl ++ TERMINAL terminal.Do ∷ r2) r2 r3 r (skip_optional di (cr ++ (cl ++ TERMINAL terminal.Do ∷ r2)) (unseen br terminal.Is (omega arith)))
+    routine_step n hr hb he es x d _ (cr ++ (cl ++ TERMINAL terminal.Do ∷ r2)) (cl ++ TERMINAL terminal.Do ∷ r2) r2 r3 r (skip_optional di (cr ++ (cl ++ TERMINAL terminal.Do ∷ r2)) (unseen br terminal.Is (omega arith)))
     (complete_assertion dr (cl ++ TERMINAL terminal.Do ∷ r2) (clauses_end_behind bl) (unseen bl terminal.Require (omega arith)) n)
     (complete_locals dl (TERMINAL terminal.Do ∷ r2) (unseen (do_behind r2) terminal.Local (omega arith)) (do_no_semicolon r2) refl) (complete_body db r3 (ensure_ends de r) n)
     (complete_assertion de (TERMINAL terminal.End ∷ r) (routine_ends_clauses terminal.End r (omega arith)) (end_no_ensure r) n)
@@ -138,7 +139,7 @@ complete_feature {es} (grammar.attributes {t} {ct} (grammar.one_name x) dt) r b 
 complete_feature {es} (grammar.attributes {t} {ct} (grammar.more_names x {xs} {c} d) dt) r b n =
     rw (append_assoc c (TERMINAL terminal.Colon ∷ ct) r)
     (attributes_step n es (named x ∷ xs) t (NAME x ∷ TERMINAL terminal.Comma ∷ c) ct r (names_are_read (grammar.more_names x d)) (sees_self terminal.Comma (c ++ TERMINAL terminal.Colon ∷ (ct ++ r))) (complete_type dt r))
-complete_feature {es} (grammar.routine x {fs} {ls} {t = o} {pre} {post} {body} {cf} {ct} {ci} {cr} {cl} {cb} {ce} {hr} {hb} {he} df dt di dr dl db de) r b n =
+complete_feature {es} (grammar.routine x {r = d} {cf} {ct} {ci} {cr} {cl} {cb} {ce} {hr} {hb} {he} df dt di dr dl db de) r b n =
     let r2 : List Kind = cb ++ (ce ++ TERMINAL terminal.End ∷ r) in
     let bl = locals_behind dl (TERMINAL terminal.Do ∷ r2) (do_behind r2) in
     let br = require_behind dr (cl ++ TERMINAL terminal.Do ∷ r2) bl in
@@ -146,9 +147,9 @@ complete_feature {es} (grammar.routine x {fs} {ls} {t = o} {pre} {post} {body} {
     let bt = result_behind dt (ci ++ (cr ++ (cl ++ TERMINAL terminal.Do ∷ r2))) bi in
     let bf = formals_behind df (ct ++ (ci ++ (cr ++ (cl ++ TERMINAL terminal.Do ∷ r2)))) bt in
     rw (routine_respelled cf ct ci cr cl cb ce r (TERMINAL terminal.Do) (TERMINAL terminal.End))
-    (single_step n _ es x fs o _ (ct ++ (ci ++ (cr ++ (cl ++ TERMINAL terminal.Do ∷ r2)))) (ci ++ (cr ++ (cl ++ TERMINAL terminal.Do ∷ r2))) _ (unseen bf terminal.Comma (omega arith))
+    (single_step n _ es x d.formals d.result_type _ (ct ++ (ci ++ (cr ++ (cl ++ TERMINAL terminal.Do ∷ r2)))) (ci ++ (cr ++ (cl ++ TERMINAL terminal.Do ∷ r2))) _ (unseen bf terminal.Comma (omega arith))
     (complete_formals df (ct ++ (ci ++ (cr ++ (cl ++ TERMINAL terminal.Do ∷ r2)))) (unseen bt terminal.OpenParenthesis (omega arith))) (complete_result_type dt (ci ++ (cr ++ (cl ++ TERMINAL terminal.Do ∷ r2))) (unseen bi terminal.Colon (omega arith)))
-    (along n _ _ _ _ _ _ refl refl (is_routine n es x fs o (ci ++ (cr ++ (cl ++ TERMINAL terminal.Do ∷ r2))) (routine_begins di dr dl r2)) (complete_routine di dr dl db de n es x fs o r)))
+    (along n _ _ _ _ _ _ refl refl (is_routine n es x d.formals d.result_type (ci ++ (cr ++ (cl ++ TERMINAL terminal.Do ∷ r2))) (routine_begins di dr dl r2)) (complete_routine d di dr dl db de n es x r)))
 
 feature_named : {es : List Name} {fs : List Feature} {c : List Kind} {h : ℕ} → IsFeature es fs c h → (r : List Kind) → name_ahead (c ++ r) ≡ true
 feature_named (grammar.attributes (grammar.one_name x) dt) r = refl

@@ -9,7 +9,7 @@ use Rattle.sc_tree.specs.Plain.{Name, Expr, Call, Target, Exprs, Variable, Claus
 use Rattle.sc_tree.specs.Bare.{nowhere, named}
 use Rattle.sc_tree.specs.Grammar as grammar
 use Rattle.sc_tree.specs.Grammar.{top, print_name, around, IsExpr, IsChain, IsActuals, IsExprs, IsClauses, IsVariable, IsHead, IsHeads, IsInstr, IsInstrs, IsBranches, IsElse}
-use Rattle.sc_tree.specs.Reading.{Deep, Read, ◌>>=◌, past, same_terminal, sees, expect, skip_semicolons, name, name_ahead, sees_word, text_ahead, begins_instr, begins_instr_by, begins_expr, actuals, chain, expr, nested, nested_clauses, instrs_push, branches_push, variable, assigns, prints, nested_chain, assignment, printing, routine_call, creation, guarded, branches, other, conditional, iteration, checked, checking, head, more_heads, heads, block, instr, instrs_from, body, instrs, nested_instrs}
+use Rattle.sc_tree.specs.Internal.Reading.{Deep, Read, ◌>>=◌, past, same_terminal, sees, expect, skip_semicolons, name, name_ahead, sees_word, text_ahead, begins_instr, begins_instr_by, begins_expr, actuals, chain, expr, nested, nested_clauses, instrs_push, branches_push, variable, assigns, prints, nested_chain, assignment, printing, routine_call, creation, branch, branches, other, conditional, iteration, checked, checking, head, more_heads, heads, block, instr, instrs_from, body, instrs, nested_instrs}
 use Rattle.sc_tree.proofs.Combining.{behind_word, Comes, fits, deep, both, surely, lastly, along, needs, grown, where_true, where_false, choose_true, choose_false, not_both}
 use Rattle.sc_tree.proofs.Looks.{expect_self, sees_self, sees_is}
 use Rattle.sc_tree.proofs.Lists.{some_tokens, instrs_joined, instrs_joined-push, instrs_joined-none, branches_joined, branches_joined-push, branches_joined-none, skip_one, skip_none, skip_shorter}
@@ -203,7 +203,7 @@ call_step n h s t x es _ r (result_first ts) a p d = where_false _ _ _ _ _ _ a (
 
 -- ---- creations
 
-create_step : (n : ℕ) {v : Variable} {cv : List Kind} → IsVariable v cv → (r : List Kind) → sees terminal.Dot r ≡ false → Comes n 0 (Create nowhere v None, 0, r) (instr n (nested_instrs n) (TERMINAL terminal.Create ∷ (cv ++ r)))
+create_step : (n : ℕ) {v : Variable} {cv : List Kind} → IsVariable v cv → (r : List Kind) → sees terminal.Dot r ≡ false → Comes n 0 (Create nowhere (record { variable = v; call = None }), 0, r) (instr n (nested_instrs n) (TERMINAL terminal.Create ∷ (cv ++ r)))
 unfolding instr creation variable same_terminal
 create_step n (grammar.named_variable x) r e = fits (omega arith) (choose_false _ _ _ e)
 create_step n grammar.result_variable r e = fits (omega arith) (choose_false _ _ _ e)
@@ -212,10 +212,10 @@ create_step n grammar.result_variable r e = fits (omega arith) (choose_false _ _
 abbrev creation_by : ℕ → Variable → List Kind → Read Instr
 creation_by n v ts =
     if n == 0 then Err Deep
-    else (name ts >>= λ x. actuals (nested n) x.1 >>= λ es. Ok (Create nowhere v (Some (record { name = x.0; actuals = es.0 })), max 1 es.1, es.2))
+    else (name ts >>= λ x. actuals (nested n) x.1 >>= λ es. Ok (Create nowhere (record { variable = v; call = Some (record { name = x.0; actuals = es.0 }) }), max 1 es.1, es.2))
 
 creation_by_step : (n h : ℕ) (v : Variable) (x : List ℕ) (es : Exprs) (ts r : List Kind) → Comes n h (es, h, r) (actuals (nested n) ts) →
-    Comes n (max 1 h) (Create nowhere v (Some (record { name = named x; actuals = es })), max 1 h, r) (creation_by n v (NAME x ∷ ts))
+    Comes n (max 1 h) (Create nowhere (record { variable = v; call = Some (record { name = named x; actuals = es }) }), max 1 h, r) (creation_by n v (NAME x ∷ ts))
 creation_by_step zero h v x es ts r d = deep (omega arith) refl
 creation_by_step (suc n) h v x es ts r d = where_false _ _ _ _ _ _ (positive n) (with_room (lastly (suc n) h (es, h, r) _ _ _ d refl))
   where
@@ -224,7 +224,7 @@ creation_by_step (suc n) h v x es ts r d = where_false _ _ _ _ _ _ (positive n) 
     with_room (deep p e) = deep (omega arith) e
 
 create_by_step : (n h : ℕ) {v : Variable} {cv : List Kind} → IsVariable v cv → (x : List ℕ) (es : Exprs) (ts r : List Kind) → Comes n h (es, h, r) (actuals (nested n) ts) →
-    Comes n (max 1 h) (Create nowhere v (Some (record { name = named x; actuals = es })), max 1 h, r) (instr n (nested_instrs n) (TERMINAL terminal.Create ∷ (cv ++ TERMINAL terminal.Dot ∷ NAME x ∷ ts)))
+    Comes n (max 1 h) (Create nowhere (record { variable = v; call = Some (record { name = named x; actuals = es }) }), max 1 h, r) (instr n (nested_instrs n) (TERMINAL terminal.Create ∷ (cv ++ TERMINAL terminal.Dot ∷ NAME x ∷ ts)))
 unfolding instr creation variable same_terminal
 create_by_step n h (grammar.named_variable y) x es ts r d = creation_by_step n h _ x es ts r d
 create_by_step n h grammar.result_variable x es ts r d = creation_by_step n h _ x es ts r d
@@ -232,10 +232,10 @@ create_by_step n h grammar.result_variable x es ts r d = creation_by_step n h _ 
 -- ---- if
 
 -- a condition, then what stands under it
-guarded_step : (n h hb : ℕ) (t : Expr) (b : Instrs) (ts r r' : List Kind) → Comes n (suc h) (t, h, TERMINAL terminal.Then ∷ r) (nested n top ts) → Comes n (suc hb) (b, hb, r') (nested_instrs n r) →
-    Comes {A = Expr × Instrs} n (suc (max h hb)) ((t, b), max h hb, r') (guarded n (nested_instrs n) ts)
-unfolding guarded
-guarded_step n h hb t b ts r r' d e =
+branch_read_step : (n h hb : ℕ) (t : Expr) (b : Instrs) (ts r r' : List Kind) → Comes n (suc h) (t, h, TERMINAL terminal.Then ∷ r) (nested n top ts) → Comes n (suc hb) (b, hb, r') (nested_instrs n r) →
+    Comes {A = Expr × Instrs} n (suc (max h hb)) ((t, b), max h hb, r') (branch n (nested_instrs n) ts)
+unfolding branch
+branch_read_step n h hb t b ts r r' d e =
     let w : max (suc h) (suc hb) ≡ suc (max h hb) = omega arith in
     along n _ _ ((t, b), max h hb, r') _ _ _ w refl refl
     (both n (suc h) (suc hb) (t, h, TERMINAL terminal.Then ∷ r) _ _ _ d λ p. surely n (suc hb) r _ _ _ (expect_self terminal.Then r) (lastly n (suc hb) (b, hb, r') _ _ _ e refl))
@@ -257,7 +257,7 @@ no_branch_step n f found high r e l =
 
 -- one `elseif`, and the rest of them
 branch_step : (n f : ℕ) (found : Branches) (high g hs : ℕ) (t : Expr) (b : Instrs) (us : Branches) (ts r' r : List Kind) → high < n →
-    Comes {A = Expr × Instrs} n (suc g) ((t, b), g, r') (guarded n (nested_instrs n) ts) →
+    Comes {A = Expr × Instrs} n (suc g) ((t, b), g, r') (branch n (nested_instrs n) ts) →
     (max high g < n → Comes n (suc hs) (branches_joined (branches_push found t b) us, max (max high g) hs, r) (branches n (nested_instrs n) f (branches_push found t b) (max high g) r')) →
     Comes n (suc (max g hs)) (branches_joined found (branch_then t b us), max high (max g hs), r) (branches n (nested_instrs n) (suc f) found high (TERMINAL terminal.Elseif ∷ ts))
 unfolding branches
@@ -269,7 +269,7 @@ branch_respelled : (c cb cs r : List Kind) (s : Kind) → (c ++ s ∷ (cb ++ cs)
 branch_respelled c cb cs r s = simp append_assoc
 
 branch_at : (n h hb hs : ℕ) (t : Expr) (b : Instrs) (bs : Branches) (c cb cs r : List Kind) →
-    Comes {A = Expr × Instrs} n (suc (max h hb)) ((t, b), max h hb, cs ++ r) (guarded n (nested_instrs n) (c ++ TERMINAL terminal.Then ∷ (cb ++ (cs ++ r)))) →
+    Comes {A = Expr × Instrs} n (suc (max h hb)) ((t, b), max h hb, cs ++ r) (branch n (nested_instrs n) (c ++ TERMINAL terminal.Then ∷ (cb ++ (cs ++ r)))) →
     ((f : ℕ) (found : Branches) (high : ℕ) → length (cs ++ r) ≤ f → high < n → Comes n (suc hs) (branches_joined found bs, max high hs, r) (branches n (nested_instrs n) f found high (cs ++ r))) →
     (f : ℕ) (found : Branches) (high : ℕ) → length (TERMINAL terminal.Elseif ∷ (c ++ TERMINAL terminal.Then ∷ (cb ++ (cs ++ r)))) ≤ f → high < n →
     Comes n (suc (max (max h hb) hs)) (branches_joined found (branch_then t b bs), max high (max (max h hb) hs), r) (branches n (nested_instrs n) f found high (TERMINAL terminal.Elseif ∷ (c ++ TERMINAL terminal.Then ∷ (cb ++ (cs ++ r)))))
@@ -289,7 +289,7 @@ else_step : (n h : ℕ) (is : Instrs) (ts r : List Kind) → Comes n (suc h) (is
 unfolding other same_terminal
 else_step n h is ts r d = d
 
-conditional_step : (n g hs ho : ℕ) (t : Expr) (b o : Instrs) (bs : Branches) (ts r1 r2 r : List Kind) → Comes {A = Expr × Instrs} n (suc g) ((t, b), g, r1) (guarded n (nested_instrs n) ts) →
+conditional_step : (n g hs ho : ℕ) (t : Expr) (b o : Instrs) (bs : Branches) (ts r1 r2 r : List Kind) → Comes {A = Expr × Instrs} n (suc g) ((t, b), g, r1) (branch n (nested_instrs n) ts) →
     (0 < n → Comes n (suc hs) (bs, max 0 hs, r2) (branches n (nested_instrs n) (length r1) no_branches 0 r1)) →
     (0 < n → Comes n (suc ho) (o, ho, TERMINAL terminal.End ∷ r) (other n (nested_instrs n) r2)) →
     Comes n (suc (max g (max hs ho))) (If nowhere t b bs o, suc (max g (max hs ho)), r) (instr n (nested_instrs n) (TERMINAL terminal.If ∷ ts))
@@ -518,21 +518,21 @@ mutual
   complete_instr (grammar.create dv) r a n = create_step n dv r (apart_sees terminal.Dot r refl a)
   complete_instr (grammar.create_by {v} {cv} dv x {es} {c} {h} d) r a n =
       rw (append_assoc cv (TERMINAL terminal.Dot ∷ NAME x ∷ c) r) (create_by_step n h dv x es (c ++ r) r (complete_actuals d r (apart_sees terminal.OpenParenthesis r refl a) n))
-  complete_instr (grammar.loop {initial = is} {body = b} {t} {ci} {c} {cb} {hi} {h} {hb} di d db) r a n =
+  complete_instr (grammar.loop {i} {ci} {c} {cb} {hi} {h} {hb} di d db) r a n =
       rw (loop_respelled ci c cb r (TERMINAL terminal.Until) (TERMINAL terminal.Loop) (TERMINAL terminal.End))
-      (loop_step n hi h hb is b t _ (c ++ TERMINAL terminal.Loop ∷ (cb ++ TERMINAL terminal.End ∷ r)) (cb ++ TERMINAL terminal.End ∷ r) r
-      (inside_of is ci hi (complete_instrs di) (TERMINAL terminal.Until ∷ (c ++ TERMINAL terminal.Loop ∷ (cb ++ TERMINAL terminal.End ∷ r))) (until_ends (c ++ TERMINAL terminal.Loop ∷ (cb ++ TERMINAL terminal.End ∷ r))) n) (complete_nested d (TERMINAL terminal.Loop ∷ (cb ++ TERMINAL terminal.End ∷ r)) refl n)
-      (inside_of b cb hb (complete_instrs db) (TERMINAL terminal.End ∷ r) (end_ends r) n))
+      (loop_step n hi h hb i.initial i.body i.until _ (c ++ TERMINAL terminal.Loop ∷ (cb ++ TERMINAL terminal.End ∷ r)) (cb ++ TERMINAL terminal.End ∷ r) r
+      (inside_of i.initial ci hi (complete_instrs di) (TERMINAL terminal.Until ∷ (c ++ TERMINAL terminal.Loop ∷ (cb ++ TERMINAL terminal.End ∷ r))) (until_ends (c ++ TERMINAL terminal.Loop ∷ (cb ++ TERMINAL terminal.End ∷ r))) n) (complete_nested d (TERMINAL terminal.Loop ∷ (cb ++ TERMINAL terminal.End ∷ r)) refl n)
+      (inside_of i.body cb hb (complete_instrs db) (TERMINAL terminal.End ∷ r) (end_ends r) n))
   complete_instr (grammar.check {xs} {c} {h} d) r a n = rw (append_assoc c (TERMINAL terminal.End ∷ []) r) (check_step n (around c h) xs (c ++ TERMINAL terminal.End ∷ r) r (complete_checked d r n))
-  complete_instr (grammar.block {xs} {body = b} {c} {cb} {h} {hb} d db) r a n =
+  complete_instr (grammar.block {i} {c} {cb} {h} {hb} d db) r a n =
       rw (block_respelled c cb r (TERMINAL terminal.Do) (TERMINAL terminal.End))
-      (block_step n h hb xs b _ (cb ++ TERMINAL terminal.End ∷ r) r (complete_heads d (TERMINAL terminal.Do ∷ (cb ++ TERMINAL terminal.End ∷ r)) (do_no_comma (cb ++ TERMINAL terminal.End ∷ r)) n)
-      (inside_of b cb hb (complete_instrs db) (TERMINAL terminal.End ∷ r) (end_ends r) n))
-  complete_instr (grammar.conditional {t} {body = b} {other = o} {bs} {c} {cb} {cs} {co} {h} {hb} {hs} {ho} d db dbs de) r a n =
+      (block_step n h hb i.heads i.body _ (cb ++ TERMINAL terminal.End ∷ r) r (complete_heads d (TERMINAL terminal.Do ∷ (cb ++ TERMINAL terminal.End ∷ r)) (do_no_comma (cb ++ TERMINAL terminal.End ∷ r)) n)
+      (inside_of i.body cb hb (complete_instrs db) (TERMINAL terminal.End ∷ r) (end_ends r) n))
+  complete_instr (grammar.conditional {i} {c} {cb} {cs} {co} {h} {hb} {hs} {ho} d db dbs de) r a n =
       rw (if_respelled c cb cs co r (TERMINAL terminal.Then) (TERMINAL terminal.End))
-      (conditional_step n (max h hb) hs ho t b o bs _ (cs ++ (co ++ TERMINAL terminal.End ∷ r)) (co ++ TERMINAL terminal.End ∷ r) r
-      (guarded_step n h hb t b _ (cb ++ (cs ++ (co ++ TERMINAL terminal.End ∷ r))) _ (complete_nested d (TERMINAL terminal.Then ∷ (cb ++ (cs ++ (co ++ TERMINAL terminal.End ∷ r)))) refl n)
-      (inside_of b cb hb (complete_instrs db) (cs ++ (co ++ TERMINAL terminal.End ∷ r)) (branches_end dbs (co ++ TERMINAL terminal.End ∷ r) (other_ends de r)) n))
+      (conditional_step n (max h hb) hs ho i.condition i.body i.other i.branches _ (cs ++ (co ++ TERMINAL terminal.End ∷ r)) (co ++ TERMINAL terminal.End ∷ r) r
+      (branch_read_step n h hb i.condition i.body _ (cb ++ (cs ++ (co ++ TERMINAL terminal.End ∷ r))) _ (complete_nested d (TERMINAL terminal.Then ∷ (cb ++ (cs ++ (co ++ TERMINAL terminal.End ∷ r)))) refl n)
+      (inside_of i.body cb hb (complete_instrs db) (cs ++ (co ++ TERMINAL terminal.End ∷ r)) (branches_end dbs (co ++ TERMINAL terminal.End ∷ r) (other_ends de r)) n))
       (λ l. complete_branches dbs (co ++ TERMINAL terminal.End ∷ r) (other_ends de r) (other_no_branch de r) n (length (cs ++ (co ++ TERMINAL terminal.End ∷ r))) no_branches 0 (omega arith) l)
       (λ l. complete_other de r n l))
 
@@ -546,7 +546,7 @@ mutual
   complete_branches (grammar.branch {t} {body = b} {bs} {c} {cb} {cs} {h} {hb} {hs} d db dbs) = λ r e s n f found high len l.
       rw (branch_respelled c cb cs r (TERMINAL terminal.Then))
       (branch_at n h hb hs t b bs c cb cs r
-      (guarded_step n h hb t b _ (cb ++ (cs ++ r)) _ (complete_nested d (TERMINAL terminal.Then ∷ (cb ++ (cs ++ r))) refl n) (inside_of b cb hb (complete_instrs db) (cs ++ r) (branches_end dbs r e) n))
+      (branch_read_step n h hb t b _ (cb ++ (cs ++ r)) _ (complete_nested d (TERMINAL terminal.Then ∷ (cb ++ (cs ++ r))) refl n) (inside_of b cb hb (complete_instrs db) (cs ++ r) (branches_end dbs r e) n))
       (complete_branches dbs r e s n) f found high
       (subst (λ (ts : List Kind). length (TERMINAL terminal.Elseif ∷ ts) ≤ f) (branch_respelled c cb cs r (TERMINAL terminal.Then)) len) l)
 

@@ -7,7 +7,7 @@ use Rattle.sc_text.specs.declared.token.Terminal.{Terminal}
 use Rattle.sc_tree.specs.Plain.{Name, Expr, Exprs, Variable, Clause, Head, Instr, Instrs, Branches, Feature, Class}
 use Rattle.sc_tree.specs.Grammar as grammar
 use Rattle.sc_tree.specs.Grammar.{spelling, around, IsPrimary, IsChain, IsActuals, IsExprs, IsExpr, IsClause, IsClauses, IsAssertion, IsVariable, IsHead, IsHeads, IsInstr, IsInstrs, IsBranches, IsElse, IsFeature, IsFeatures, IsSections, IsClass, IsClasses}
-use Rattle.sc_tree.specs.Reading.{begins_expr}
+use Rattle.sc_tree.specs.Internal.Reading.{begins_expr}
 use Rattle.sc_tree.specs.Nesting.{inside, outside, greatest, primary_depths, chain_depths, actuals_depths, exprs_depths, expr_depths, clause_depths, clauses_depths, assertion_depths, head_depths, heads_depths, instr_depths, instrs_depths, branches_depths, other_depths, feature_depths, features_depths, sections_depths, class_depths, classes_depths}
 use Rattle.sc_tree.proofs.Follows.{chain_first, first_begins, expr_begins, exprs_begin}
 

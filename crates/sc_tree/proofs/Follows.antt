@@ -9,8 +9,8 @@ use Rattle.sc_tree.specs.declared.expression.BinaryOperator.{BinaryOperator}
 use Rattle.sc_tree.specs.declared.expression.BinaryOperator.TheVariants as binary
 use Rattle.sc_tree.specs.Plain.{Exprs, Expr}
 use Rattle.sc_tree.specs.Grammar as grammar
-use Rattle.sc_tree.specs.Grammar.{IsExprs, under, prefix_of, spelling, goes_on, goes_on_by, IsPrimary, IsChain, IsExpr}
-use Rattle.sc_tree.specs.Reading.{past, option_completed, operator_by, sees, begins_expr, begins_expr_by, prefix_ahead, operator_at, operator_ahead, above, past_operator}
+use Rattle.sc_tree.specs.Grammar.{IsExprs, class_below, prefix_of, spelling, goes_on, goes_on_by, IsPrimary, IsChain, IsExpr}
+use Rattle.sc_tree.specs.Internal.Reading.{past, option_completed, operator_by, sees, begins_expr, begins_expr_by, prefix_ahead, operator_at, operator_ahead, above, past_operator}
 use Rattle.sc_tree.proofs.Combining.{not_both}
 use Rattle.sc_tree.proofs.Looks.{sees_is, operator_is, class_seen, above_none}
 
@@ -41,7 +41,7 @@ pub record Stops (k : ℕ) (r : List Kind) : Type 0 where
 pub fewer : (k : ℕ) (r : List Kind) → Stops (suc k) r → Stops k r
 fewer k r s = record { no_operator = λ j h. s.no_operator j (omega arith); unlinked = s.unlinked }
 
-pub operator_stops : (op : BinaryOperator) (r : List Kind) → Stops (under op) (spelling op ++ r)
+pub operator_stops : (op : BinaryOperator) (r : List Kind) → Stops (class_below op) (spelling op ++ r)
 operator_stops op r =
     let p = class_seen op r in
     record {

@@ -13,8 +13,8 @@ use Rattle.sc_tree.specs.declared.expression.BinaryOperator.{BinaryOperator}
 use Rattle.sc_tree.specs.declared.expression.BinaryOperator.TheVariants as binary
 use Rattle.sc_tree.specs.Plain.{Name}
 use Rattle.sc_tree.specs.Bare.{named}
-use Rattle.sc_tree.specs.Grammar.{under, prefix_of, spelling}
-use Rattle.sc_tree.specs.Reading.{Wrong, past, same_terminal, sees, begins_expr, begins_expr_by, expect, name, text, sees_word, expect_word, integer_ahead, prefix_by, prefix_ahead, operator_by, completed, option_completed, operator_at, above, operator_ahead, past_operator}
+use Rattle.sc_tree.specs.Grammar.{class_below, prefix_of, spelling}
+use Rattle.sc_tree.specs.Internal.Reading.{Wrong, past, same_terminal, sees, begins_expr, begins_expr_by, expect, name, text, sees_word, expect_word, integer_ahead, prefix_by, prefix_ahead, operator_by, completed, option_completed, operator_at, above, operator_ahead, past_operator}
 use Rattle.sc_tree.proofs.Combining.{Holds, holds, nothing, choose_true, choose_false, not_both}
 
 pub same_is : (a b : Terminal) → same_terminal a b ≡ true → a ≡ b
@@ -160,12 +160,12 @@ operator_is (INTEGER n ∷ r) op e = cc
 operator_is (STRING s ∷ r) op e = cc
 operator_is (TERMINAL m ∷ r) op e = operator_is_by m r op e
 
-above_is : (k : ℕ) (o : Option BinaryOperator) (op : BinaryOperator) → above k o ≡ Some op → (under op ≡ k) × (o ≡ Some op)
+above_is : (k : ℕ) (o : Option BinaryOperator) (op : BinaryOperator) → above k o ≡ Some op → (class_below op ≡ k) × (o ≡ Some op)
 above_is k None op e = cc
-above_is k (Some o) op e = by_test (under o == k) refl e
+above_is k (Some o) op e = by_test (class_below o == k) refl e
   where
-    by_test : (b : Bool) → (under o == k) ≡ b → (if b then Some o else None) ≡ Some op → (under op ≡ k) × (Some o ≡ Some op)
-    by_test true d e = let same : o ≡ op = cc in (ap under (sym same) ∙ eq_of _ _ d, e)
+    by_test : (b : Bool) → (class_below o == k) ≡ b → (if b then Some o else None) ≡ Some op → (class_below op ≡ k) × (Some o ≡ Some op)
+    by_test true d e = let same : o ≡ op = cc in (ap class_below (sym same) ∙ eq_of _ _ d, e)
       where
         eq_of : (m n : ℕ) → (m == n) ≡ true → m ≡ n
         eq_of m n e = grind arith
@@ -173,7 +173,7 @@ above_is k (Some o) op e = by_test (under o == k) refl e
 
 -- an operator ahead is one just above the class
 pub data Ahead (k : ℕ) (ts : List Kind) (op : BinaryOperator) : Type 0 where
-  ahead : under op ≡ k → ts ≡ spelling op ++ past_operator op ts → Ahead k ts op
+  ahead : class_below op ≡ k → ts ≡ spelling op ++ past_operator op ts → Ahead k ts op
 
 pub ahead_is : (k : ℕ) (ts : List Kind) (op : BinaryOperator) → operator_ahead k ts ≡ Some op → Ahead k ts op
 ahead_is k ts op e = let p = above_is k (operator_at ts) op e in ahead p.0 (operator_is ts op p.1)
@@ -200,7 +200,7 @@ past_spelling binary.Xor r = refl
 past_spelling binary.Implies r = refl
 
 -- whatever follows it, the operator that is seen is of its class
-pub class_seen : (op : BinaryOperator) (r : List Kind) → (o : BinaryOperator) × (operator_at (spelling op ++ r) ≡ Some o) × (under o ≡ under op)
+pub class_seen : (op : BinaryOperator) (r : List Kind) → (o : BinaryOperator) × (operator_at (spelling op ++ r) ≡ Some o) × (class_below o ≡ class_below op)
 class_seen binary.Times r = (binary.Times, refl, refl)
 class_seen binary.Quotient r = (binary.Quotient, refl, refl)
 class_seen binary.Remainder r = (binary.Remainder, refl, refl)
@@ -214,13 +214,13 @@ class_seen binary.LessEqual r = (binary.LessEqual, refl, refl)
 class_seen binary.GreaterEqual r = (binary.GreaterEqual, refl, refl)
 class_seen binary.And r = (completed r binary.And, refl, go (sees terminal.Then r))
   where
-    go : (b : Bool) → under (if b then binary.AndThen else binary.And) ≡ 3
+    go : (b : Bool) → class_below (if b then binary.AndThen else binary.And) ≡ 3
     go true = refl
     go false = refl
 class_seen binary.AndThen r = (binary.AndThen, ap (λ (b : Bool). Some (if b then binary.AndThen else binary.And)) (sees_self terminal.Then r), refl)
 class_seen binary.Or r = (completed r binary.Or, refl, go (sees terminal.Else r))
   where
-    go : (b : Bool) → under (if b then binary.OrElse else binary.Or) ≡ 4
+    go : (b : Bool) → class_below (if b then binary.OrElse else binary.Or) ≡ 4
     go true = refl
     go false = refl
 class_seen binary.OrElse r = (binary.OrElse, ap (λ (b : Bool). Some (if b then binary.OrElse else binary.Or)) (sees_self terminal.Else r), refl)
@@ -253,11 +253,11 @@ same_class m n e = grind arith
 other_class : (m n : ℕ) → n < m → (m == n) ≡ false
 other_class m n h = grind arith
 
-pub above_own : (op : BinaryOperator) (ts : List Kind) → operator_at ts ≡ Some op → operator_ahead (under op) ts ≡ Some op
-above_own op ts e = ap (above (under op)) e ∙ choose_true _ _ _ (same_class (under op) (under op) refl)
+pub above_own : (op : BinaryOperator) (ts : List Kind) → operator_at ts ≡ Some op → operator_ahead (class_below op) ts ≡ Some op
+above_own op ts e = ap (above (class_below op)) e ∙ choose_true _ _ _ (same_class (class_below op) (class_below op) refl)
 
-pub above_none : (j : ℕ) (op : BinaryOperator) (ts : List Kind) → operator_at ts ≡ Some op → j < under op → operator_ahead j ts ≡ None
-above_none j op ts e h = ap (above j) e ∙ choose_false _ _ _ (other_class (under op) j h)
+pub above_none : (j : ℕ) (op : BinaryOperator) (ts : List Kind) → operator_at ts ≡ Some op → j < class_below op → operator_ahead j ts ≡ None
+above_none j op ts e h = ap (above j) e ∙ choose_false _ _ _ (other_class (class_below op) j h)
 
 -- what begins an expression is no second word of an operator
 pub no_second : (m : Terminal) (r : List Kind) → begins_expr r ≡ true → begins_expr_by m ≡ false → sees m r ≡ false

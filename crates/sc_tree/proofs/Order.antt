@@ -3,7 +3,7 @@ use Rattle.std.proofs.Common.{◌≡◌, ℕ, ◌≤◌, ◌<◌, Bool, true, fa
 use Rattle.sc_text.specs.Kind.{Kind, NAME, INTEGER, STRING, TERMINAL}
 use Rattle.sc_text.specs.declared.token.Terminal.{Terminal}
 use Rattle.sc_text.specs.declared.token.Terminal.TheVariants as terminal
-use Rattle.sc_tree.specs.Reading.{same_terminal, sees, name_ahead}
+use Rattle.sc_tree.specs.Internal.Reading.{same_terminal, sees, name_ahead}
 use Rattle.sc_tree.proofs.Looks.{same_is}
 use Rattle.sc_tree.proofs.CompleteAssertions.{ClausesEnd, clauses_end_by}
 

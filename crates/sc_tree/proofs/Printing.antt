@@ -12,7 +12,7 @@ use Rattle.sc_tree.specs.View.{name_of, expr_of, target_of, exprs_of, clause_of}
 use Rattle.sc_tree.specs.Canonical.Layout.{Part, Line, word, behind_each, separated}
 use Rattle.sc_tree.specs.Canonical.Expressions.{expr_parts, call_parts, actuals_parts, more_actuals_parts}
 use Rattle.sc_tree.specs.Canonical.Instructions.{clause_line, clauses_lines, is_empty}
-use Rattle.sc_tree.specs.Printer.{Output, put, puts, put_line, put_lines}
+use Rattle.sc_tree.specs.Internal.Printer.{Output, put, puts, put_line, put_lines}
 use Rattle.sc_tree.proofs.ViewLemmas.{expr_of-call}
 
 pub puts-append : (o : Output) (ps qs : List Part) → puts o (ps ++ qs) ≡ puts (puts o ps) qs

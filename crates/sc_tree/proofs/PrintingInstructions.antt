@@ -13,7 +13,7 @@ use Rattle.sc_tree.specs.View.{expr_of, head_of, instr_of, instrs_of, branches_o
 use Rattle.sc_tree.specs.Canonical.Layout.{Line, line, word}
 use Rattle.sc_tree.specs.Canonical.Expressions.{expr_parts}
 use Rattle.sc_tree.specs.Canonical.Instructions.{instr_lines, instrs_lines, branches_lines, else_lines, guard_line, reservation_line}
-use Rattle.sc_tree.specs.Printer.{Output, put_line, put_lines}
+use Rattle.sc_tree.specs.Internal.Printer.{Output, put_line, put_lines}
 use Rattle.sc_tree.proofs.ViewLemmas.{instr_of-if, instr_of-loop, instr_of-block}
 use Rattle.sc_tree.proofs.Printing.{put_lines-append, drop_at}
 

@@ -8,8 +8,8 @@ use Rattle.sc_tree.specs.declared.expression.BinaryOperator.{BinaryOperator}
 use Rattle.sc_tree.specs.Plain.{target, ObjectTest, Call, Name, no_exprs, no_target, expr_then, Exprs, Target, Expr, Binary}
 use Rattle.sc_tree.specs.Bare.{nowhere, named}
 use Rattle.sc_tree.specs.Grammar as grammar
-use Rattle.sc_tree.specs.Grammar.{under, groups, top, prefix_of, spelling, IsPrimary, IsChain, IsActuals, IsExprs, IsExpr, IsTestedType}
-use Rattle.sc_tree.specs.Reading.{Read, past, sees, integer_ahead, prefix_ahead, operator_ahead, past_operator, exprs_push, parenthesized, more_exprs, exprs, actuals, calling, chain_head, calls, chain, object_test, integer_or_chain, primary, prefixed, operand_by, operand, with_operator, operators, level, beyond, expr, nested}
+use Rattle.sc_tree.specs.Grammar.{class_below, groups, top, prefix_of, spelling, IsPrimary, IsChain, IsActuals, IsExprs, IsExpr, IsTestedType}
+use Rattle.sc_tree.specs.Internal.Reading.{Read, past, sees, integer_ahead, prefix_ahead, operator_ahead, past_operator, exprs_push, parenthesized, more_exprs, exprs, actuals, calling, chain_head, calls, chain, object_test, integer_or_chain, primary, prefixed, operand_by, operand, with_operator, operators, level, beyond, expr, nested}
 use Rattle.sc_tree.proofs.Combining.{Holds, holds, nothing, holds_then, holds_if, holds_also, Spelled, through}
 use Rattle.sc_tree.proofs.Looks.{sees_is, expect_holds, name_holds, first_name, integer_is, prefix_is, Ahead, ahead, ahead_is}
 use Rattle.sc_tree.proofs.Lists.{exprs_joined, exprs_joined-push, exprs_joined-none, told}
@@ -29,13 +29,13 @@ started (first d) = grammar.tighter d
 started (later g d) = d
 
 -- an operator's tree, whichever way its class groups
-one_more : (op : BinaryOperator) (a b : Expr) (ca cb : List Kind) (ha hb : ℕ) → Start (under op) a ca ha → IsExpr (under op) b cb hb → (g : Bool) → groups (under op) ≡ g →
-    IsExpr (suc (under op)) (Binary nowhere op a b) (ca ++ (spelling op ++ cb)) (suc (max ha hb))
+one_more : (op : BinaryOperator) (a b : Expr) (ca cb : List Kind) (ha hb : ℕ) → Start (class_below op) a ca ha → IsExpr (class_below op) b cb hb → (g : Bool) → groups (class_below op) ≡ g →
+    IsExpr (suc (class_below op)) (Binary nowhere op a b) (ca ++ (spelling op ++ cb)) (suc (max ha hb))
 one_more op a b ca cb ha hb s d true g = grammar.left op g (started s) d
 one_more op a b ca cb ha hb (first e) d false g = grammar.alone op g e d
 one_more op a b ca cb ha hb (later g' e) d false g = let q : true ≡ false = sym g' ∙ g in cc
 
-one_more_at : (op : BinaryOperator) (k : ℕ) (a b : Expr) (ca cb : List Kind) (ha hb : ℕ) → under op ≡ k → Start k a ca ha → IsExpr k b cb hb → (g : Bool) → groups k ≡ g →
+one_more_at : (op : BinaryOperator) (k : ℕ) (a b : Expr) (ca cb : List Kind) (ha hb : ℕ) → class_below op ≡ k → Start k a ca ha → IsExpr k b cb hb → (g : Bool) → groups k ≡ g →
     IsExpr (suc k) (Binary nowhere op a b) (ca ++ (spelling op ++ cb)) (suc (max ha hb))
 one_more_at op k a b ca cb ha hb u =
     subst (λ (k : ℕ). Start k a ca ha → IsExpr k b cb hb → (g : Bool) → groups k ≡ g → IsExpr (suc k) (Binary nowhere op a b) (ca ++ (spelling op ++ cb)) (suc (max ha hb))) u (one_more op a b ca cb ha hb)

@@ -8,7 +8,7 @@ use Rattle.sc_tree.specs.Plain.{PrintText, Clause, Name, Expr, Call, Variable, N
 use Rattle.sc_tree.specs.Bare.{nowhere}
 use Rattle.sc_tree.specs.Grammar as grammar
 use Rattle.sc_tree.specs.Grammar.{top, print_name, around, IsExpr, IsChain, IsClauses, IsVariable, IsHead, IsHeads, IsInstr, IsInstrs, IsBranches, IsElse}
-use Rattle.sc_tree.specs.Reading.{begins_instr, Deep, Read, past, same_terminal, sees, skip_semicolons, begins_expr, text_ahead, sees_word, nested, instrs_push, branches_push, variable, assigns, prints, nested_chain, assignment, printing, called, routine_call, creation, guarded, branches, other, conditional, iteration, checked, checking, head, more_heads, heads, block, instr, instrs_from, body, instrs}
+use Rattle.sc_tree.specs.Internal.Reading.{begins_instr, Deep, Read, past, same_terminal, sees, skip_semicolons, begins_expr, text_ahead, sees_word, nested, instrs_push, branches_push, variable, assigns, prints, nested_chain, assignment, printing, called, routine_call, creation, branch, branches, other, conditional, iteration, checked, checking, head, more_heads, heads, block, instr, instrs_from, body, instrs}
 use Rattle.sc_tree.proofs.Combining.{not_both, Holds, holds, nothing, holds_then, holds_if, holds_also, Spelled, Begins, Added, through}
 use Rattle.sc_tree.proofs.Looks.{sees_is, sees_word_is, expect_holds, name_holds, first_name, TextFirst, text_first, text_holds}
 use Rattle.sc_tree.proofs.Lists.{instrs_joined, instrs_joined-push, instrs_joined-none, branches_joined, branches_joined-push, branches_joined-none, told, all_added, unskipped}
@@ -179,13 +179,13 @@ module _ (room : ℕ) (inner : List Kind → Read Instrs) (S : (ts : List Kind) 
         same = through ts (TERMINAL terminal.Create ∷ []) r (sv.tokens ++ TERMINAL terminal.Dot ∷ NAME y.0 ∷ s.tokens) es.2 e
             (through r sv.tokens v.1 (TERMINAL terminal.Dot ∷ NAME y.0 ∷ s.tokens) es.2 sv.same
             (through v.1 (TERMINAL terminal.Dot ∷ []) (past v.1) (NAME y.0 ∷ s.tokens) es.2 (sees_is terminal.Dot v.1 b) (through (past v.1) (NAME y.0 ∷ []) x.1 s.tokens es.2 y.1 s.same)));
-        is = told IsInstr _ _ _ _ _ (ap (λ (n : Name). Create nowhere v.0 (Some (record { name = n; actuals = es.0 }))) (sym y.2)) refl (grammar.create_by sv.is y.0 s.is);
+        is = told IsInstr _ _ _ _ _ (ap (λ (n : Name). Create nowhere (record { variable = v.0; call = Some (record { name = n; actuals = es.0 }) })) (sym y.2)) refl (grammar.create_by sv.is y.0 s.is);
       }))
       (λ _. holds (record { tokens = TERMINAL terminal.Create ∷ sv.tokens; same = through ts (TERMINAL terminal.Create ∷ []) r sv.tokens v.1 e sv.same; is = grammar.create sv.is }))
 
-  sound_guarded : (ts : List Kind) → Holds (Guard ts) (guarded room inner ts)
-  unfolding guarded
-  sound_guarded ts =
+  sound_branch : (ts : List Kind) → Holds (Guard ts) (branch room inner ts)
+  unfolding branch
+  sound_branch ts =
       holds_then _ (sound_nested room top ts) λ t st. holds_then _ (expect_holds terminal.Then t.2) λ r q. holds_then _ (S r) λ b sb.
       holds (record {
         before = st.tokens;
@@ -203,7 +203,7 @@ module _ (room : ℕ) (inner : List Kind → Read Instrs) (S : (ts : List Kind) 
   sound_branches zero found high ts = holds (no_branch_added found high ts)
   sound_branches (suc f) found high ts =
       holds_if _ _ _
-      (λ b. holds_then _ (sound_guarded (past ts)) λ x g. holds_also (sound_branches f (branches_push found x.0.0 x.0.1) (max high x.1) x.2) λ y a.
+      (λ b. holds_then _ (sound_branch (past ts)) λ x g. holds_also (sound_branches f (branches_push found x.0.0 x.0.1) (max high x.1) x.2) λ y a.
       record {
         more = branch_then x.0.0 x.0.1 a.more;
         tokens = TERMINAL terminal.Elseif ∷ (g.before ++ TERMINAL terminal.Then ∷ (g.behind ++ a.tokens));
@@ -227,7 +227,7 @@ module _ (room : ℕ) (inner : List Kind → Read Instrs) (S : (ts : List Kind) 
   sound_conditional : (ts0 ts : List Kind) → ts0 ≡ TERMINAL terminal.If ∷ ts → Sound IsInstr ts0 (conditional room inner ts)
   unfolding conditional
   sound_conditional ts0 ts e =
-      holds_then _ (sound_guarded ts) λ g sg. holds_then _ (sound_branches (length g.2) no_branches 0 g.2) λ bs sb. holds_then _ (sound_other bs.2) λ o so.
+      holds_then _ (sound_branch ts) λ g sg. holds_then _ (sound_branches (length g.2) no_branches 0 g.2) λ bs sb. holds_then _ (sound_other bs.2) λ o so.
       holds_then _ (expect_holds terminal.End o.2) λ rest q.
       holds (record {
         tokens = TERMINAL terminal.If ∷ (sg.before ++ TERMINAL terminal.Then ∷ (sg.behind ++ (sb.tokens ++ (so.tokens ++ TERMINAL terminal.End ∷ []))));

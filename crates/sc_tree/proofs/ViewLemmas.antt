@@ -33,7 +33,7 @@ use Rattle.sc_tree.specs.declared.system.Class.{Class}
 use Rattle.sc_tree.specs.declared.system.System.{System}
 use Rattle.sc_tree.specs.Plain as plain
 use Rattle.sc_tree.specs.Grammar as grammar
-use Rattle.sc_tree.specs.Reading.{exprs_push, instrs_push, branches_push}
+use Rattle.sc_tree.specs.Internal.Reading.{exprs_push, instrs_push, branches_push}
 use Rattle.sc_tree.specs.Bare.{nowhere, named, bare_name, bare_type, bare_handler_tag, bare_type_if_any, bare_declaration, bare_expr, bare_target, bare_exprs, bare_variable, bare_creation_call, bare_tag, bare_clause, bare_head, bare_instr, bare_instrs, bare_branches, bare_kind, bare_feature, bare_parent, bare_mark, bare_class, bare_system}
 use Rattle.sc_tree.specs.View.{name_of, handler_tag_of, type_of, type_if_any, declaration_of, expr_of, held_target, row_exprs, target_of, exprs_of, variable_of, creation_call_of, tag_of, clause_of, head_of, instr_of, row_instrs, row_branches, instrs_of, branches_of, kind_of, feature_of, parent_of, mark_if_any, class_of, system_of}
 
@@ -189,7 +189,8 @@ pub instr_of-call : (c : Call) → instr_of (instr.Call c) ≡ plain.CallRoutine
 unfolding instr_of
 instr_of-call c = refl
 
-pub instr_of-create : (s : Span) (v : Variable) (c : Option CreationCall) → instr_of (instr.Create s v c) ≡ plain.Create s (variable_of v) (creation_call_of c)
+pub instr_of-create : (s : Span) (v : Variable) (c : Option CreationCall) →
+    instr_of (instr.Create s v c) ≡ plain.Create s (record { variable = variable_of v; call = creation_call_of c })
 unfolding instr_of
 instr_of-create s v c = refl
 
@@ -229,7 +230,8 @@ unfolding instr_of bare_instr
 bare_instr-call c = refl
 
 pub bare_instr-create : (s : Span) (v : Variable) (c : Option CreationCall) →
-    bare_instr (instr_of (instr.Create s v c)) ≡ plain.Create nowhere (bare_variable (variable_of v)) (bare_creation_call (creation_call_of c))
+    bare_instr (instr_of (instr.Create s v c)) ≡
+    plain.Create nowhere (record { variable = bare_variable (variable_of v); call = bare_creation_call (creation_call_of c) })
 unfolding instr_of bare_instr
 bare_instr-create s v c = refl
 

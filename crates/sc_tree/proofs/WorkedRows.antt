@@ -1,15 +1,15 @@
 -- Rows of the grammar, each read by computation. In the comments a letter stands for each name.
-use Rattle.std.proofs.Common.{◌≡◌, ℕ, ℤ, true, false, [], ◌∷◌, Some, None, Ok, Err, refl}
+use Rattle.std.proofs.Common.{◌≡◌, ℕ, ℤ, true, false, [], ◌∷◌, Option, Some, None, Ok, Err, refl}
 use Rattle.sc_text.specs.Kind.{Kind, NAME, INTEGER, STRING, TERMINAL}
 use Rattle.sc_text.specs.declared.token.Terminal.{Terminal}
 use Rattle.sc_text.specs.declared.token.Terminal.TheVariants as terminal
 use Rattle.sc_tree.specs.declared.expression.UnaryOperator.TheVariants as unary
 use Rattle.sc_tree.specs.declared.expression.BinaryOperator.TheVariants as binary
 use Rattle.sc_tree.specs.Plain as plain
-use Rattle.sc_tree.specs.Plain.{Name, Own, Separate, HandlerOf, DeclaredType, Expr, Integer, Void, Current, Call, Unary, Binary, ObjectTest, no_target, target, no_exprs, expr_then, Named, ResultVariable, Assign, PrintText, CallRoutine, Create, Loop, Check, Block, no_instrs, instr_then, Deferred}
+use Rattle.sc_tree.specs.Plain.{Name, Own, Separate, HandlerOf, DeclaredType, Expr, Integer, Void, Current, Call, Unary, Binary, ObjectTest, no_target, target, no_exprs, expr_then, Named, ResultVariable, Assign, PrintText, CallRoutine, Create, Loop, Check, Block, no_instrs, instr_then, RoutineDeclaration, Deferred}
 use Rattle.sc_tree.specs.Bare.{nowhere, named}
 use Rattle.sc_tree.specs.Grammar.{print_name, handler_name, class_of, attribute_of, routine_of, type_of, any_name, none_name}
-use Rattle.sc_tree.specs.Reading.{Wrong, Deep, same_terminal, expect, expect_word, more_names, names, attachment, handler_of, handler_tag, declared_type, tested_type, parenthesized, more_exprs, exprs, actuals, calling, chain_head, calls, chain, object_test, primary, prefixed, operand, operators, level, expr, nested, clause, clauses_from, clauses, assertion, nested_clauses, variable, nested_chain, assignment, printing, routine_call, creation, guarded, branches, other, conditional, iteration, checked, checking, head, more_heads, heads, block, instr, instrs_from, body, instrs, nested_instrs, declaration, more_declarations, formals, locals_from, locals, result_type, export_list, exports, mark, parent, parents_from, parents, creators, routine, attributes, feature, features_from, sections_from, sections, class_marked, class, classes_from, system}
+use Rattle.sc_tree.specs.Internal.Reading.{Wrong, Deep, same_terminal, expect, expect_word, more_names, names, attachment, handler_of, handler_tag, declared_type, tested_type, parenthesized, more_exprs, exprs, actuals, calling, chain_head, calls, chain, object_test, primary, prefixed, operand, operators, level, expr, nested, clause, clauses_from, clauses, assertion, nested_clauses, variable, nested_chain, assignment, printing, routine_call, creation, branch, branches, other, conditional, iteration, checked, checking, head, more_heads, heads, block, instr, instrs_from, body, instrs, nested_instrs, declaration, more_declarations, formals, locals_from, locals, result_type, export_list, exports, mark, parent, parents_from, parents, creators, routine, attributes, feature, features_from, sections_from, sections, class_marked, class, classes_from, system}
 
 abbrev word : Terminal → Kind
 word = TERMINAL
@@ -69,8 +69,11 @@ record InstructionRows : Type 0 where
       ∷ word terminal.CloseParenthesis ∷ word terminal.End ∷ word terminal.Current ∷ word terminal.Dot ∷ identifier 1 ∷ word terminal.Result
       ∷ word terminal.Becomes ∷ identifier 1 ∷ []) ≡ Ok (
         instr_then (Loop nowhere (instr_then (Assign nowhere (Named (name 1))
-            (Integer nowhere i)) no_instrs) (local 2) (instr_then (Create nowhere (ResultVariable nowhere) (Some
-            (record { name = name 3; actuals = expr_then (Integer nowhere i) no_exprs }))) (instr_then (Create nowhere (Named (name 4)) None) (instr_then
+            (Integer nowhere i)) no_instrs) (local 2) (instr_then (Create nowhere (record {
+              variable = ResultVariable nowhere;
+              call = Some
+                  (record { name = name 3; actuals = expr_then (Integer nowhere i) no_exprs });
+            })) (instr_then (Create nowhere (record { variable = Named (name 4); call = None })) (instr_then
             (Check nowhere []) no_instrs)))) (instr_then (PrintText nowhere (65 ∷ [])) (instr_then (Block nowhere (record {
               value = Call nowhere (target
                   (local 5)) (name 6) no_exprs;
@@ -103,8 +106,11 @@ record InstructionRows : Type 0 where
   -- create a.b there, and one less deep
   deep_creation : instrs 0 (word terminal.Create ∷ identifier 1 ∷ word terminal.Dot ∷ identifier 2 ∷ []) ≡ Err Deep
   fitting_creation : instrs 1 (word terminal.Create ∷ identifier 1 ∷ word terminal.Dot ∷ identifier 2 ∷ []) ≡ Ok (
-    instr_then (Create nowhere (Named
-        (name 1)) (Some (record { name = name 2; actuals = no_exprs }))) no_instrs,
+    instr_then (Create nowhere (record {
+      variable = Named
+          (name 1);
+      call = Some (record { name = name 2; actuals = no_exprs });
+    })) no_instrs,
     1,
     [],
   )
@@ -123,8 +129,12 @@ record InstructionRows : Type 0 where
       ∷ identifier 3 ∷ word terminal.CloseParenthesis ∷ []) ≡ Err Wrong
 
 instruction_rows : InstructionRows
-unfolding same_terminal expect expect_word more_names names attachment handler_of handler_tag declared_type tested_type parenthesized more_exprs exprs actuals calling chain_head calls chain object_test primary prefixed operand operators level expr nested clause clauses_from clauses assertion nested_clauses variable nested_chain assignment printing routine_call creation guarded branches other conditional iteration checked checking head more_heads heads block instr instrs_from body instrs nested_instrs
+unfolding same_terminal expect expect_word more_names names attachment handler_of handler_tag declared_type tested_type parenthesized more_exprs exprs actuals calling chain_head calls chain object_test primary prefixed operand operators level expr nested clause clauses_from clauses assertion nested_clauses variable nested_chain assignment printing routine_call creation branch branches other conditional iteration checked checking head more_heads heads block instr instrs_from body instrs nested_instrs
 instruction_rows = record { instructions = λ i. refl; empty_check = refl; semicolon_check = refl; from_end = refl; deep_loop = refl; fitting_loop = refl; empty_block = refl; deep_block = refl; deep_creation = refl; fitting_creation = refl; lone_current = refl; print_as_name = refl; deep_clause = refl; clauses_without_semicolon = refl; clause_behind_test = refl }
+
+-- a routine with a result type, if any, and nothing else
+abbrev without_body : Option DeclaredType → RoutineDeclaration
+without_body t = record { formals = []; result_type = t; precondition = []; locals = []; body = no_instrs; postcondition = [] }
 
 record SystemRows : Type 0 where
   -- note end x deferred class A inherit B redefine f end ; C create f feature {ANY} a, b: T; feature {} f (x: T y, z: ? T): separate T is require t:
@@ -144,14 +154,16 @@ record SystemRows : Type 0 where
         classes = class_of (Some (Deferred nowhere))
             (name 10) (record { name = name 11; redefined = name 1 ∷ [] } ∷ record { name = name 12; redefined = [] } ∷ []) (name 1 ∷ []) (attribute_of []
             (own 20) (name 2) ∷ attribute_of [] (own 20) (name 3) ∷ routine_of (named none_name ∷ []) (name 4)
-            (record { name = name 5; declared_type = own 20 } ∷ record { name = name 6; declared_type = type_of true Own (name 20) }
-            ∷ record { name = name 7; declared_type = type_of true Own (name 20) } ∷ []) (Some (type_of false Separate (name 20))) (record {
-              tag = Some
-                  (name 8);
-              condition = local 5;
-            } ∷ record { tag = None; condition = local 6 } ∷ []) (record { name = name 13; declared_type = own 20 }
-            ∷ record { name = name 14; declared_type = own 20 } ∷ []) no_instrs (record { tag = None; condition = local 5 } ∷ []) ∷ attribute_of
-            (named none_name ∷ []) (own 20) (name 15) ∷ routine_of (named none_name ∷ []) (name 16) [] None [] [] no_instrs [] ∷ [])
+            (record {
+              formals = record { name = name 5; declared_type = own 20 } ∷ record { name = name 6; declared_type = type_of true Own (name 20) }
+                  ∷ record { name = name 7; declared_type = type_of true Own (name 20) } ∷ [];
+              result_type = Some (type_of false Separate (name 20));
+              precondition = record { tag = Some (name 8); condition = local 5 } ∷ record { tag = None; condition = local 6 } ∷ [];
+              locals = record { name = name 13; declared_type = own 20 } ∷ record { name = name 14; declared_type = own 20 } ∷ [];
+              body = no_instrs;
+              postcondition = record { tag = None; condition = local 5 } ∷ [];
+            }) ∷ attribute_of
+            (named none_name ∷ []) (own 20) (name 15) ∷ routine_of (named none_name ∷ []) (name 16) (without_body None) ∷ [])
             (record { tag = None; condition = local 2 } ∷ []) ∷ class_of None (name 21) [] [] [] [] ∷ [];
       })
   -- class a feature {ANY, b} c: d end
@@ -162,7 +174,7 @@ record SystemRows : Type 0 where
   function : system 0 (word terminal.Class ∷ identifier 1 ∷ word terminal.Feature ∷ identifier 3 ∷ word terminal.Colon ∷ identifier 4
       ∷ word terminal.Do ∷ word terminal.End ∷ word terminal.End ∷ []) ≡ Ok (record {
         classes = class_of None (name 1) [] [] (routine_of []
-            (name 3) [] (Some (own 4)) [] [] no_instrs [] ∷ []) [] ∷ [];
+            (name 3) (without_body (Some (own 4))) ∷ []) [] ∷ [];
       })
   -- class a feature c () do end end
   no_formals : system 0 (word terminal.Class ∷ identifier 1 ∷ word terminal.Feature ∷ identifier 3 ∷ word terminal.OpenParenthesis
@@ -188,5 +200,5 @@ record SystemRows : Type 0 where
   nothing_at_all : system 0 [] ≡ Ok (record { classes = [] })
 
 system_rows : SystemRows
-unfolding same_terminal expect expect_word more_names names attachment handler_of handler_tag declared_type tested_type parenthesized more_exprs exprs actuals calling chain_head calls chain object_test primary prefixed operand operators level expr nested clause clauses_from clauses assertion nested_clauses variable nested_chain assignment printing routine_call creation guarded branches other conditional iteration checked checking head more_heads heads block instr instrs_from body instrs nested_instrs declaration more_declarations formals locals_from locals result_type export_list exports mark parent parents_from parents creators routine attributes feature features_from sections_from sections class_marked class classes_from system
+unfolding same_terminal expect expect_word more_names names attachment handler_of handler_tag declared_type tested_type parenthesized more_exprs exprs actuals calling chain_head calls chain object_test primary prefixed operand operators level expr nested clause clauses_from clauses assertion nested_clauses variable nested_chain assignment printing routine_call creation branch branches other conditional iteration checked checking head more_heads heads block instr instrs_from body instrs nested_instrs declaration more_declarations formals locals_from locals result_type export_list exports mark parent parents_from parents creators routine attributes feature features_from sections_from sections class_marked class classes_from system
 system_rows = record { classes = refl; any_among_others = refl; function = refl; no_formals = refl; attribute_with_formals = refl; two_attributes = refl; two_semicolons = refl; notes = refl; nothing_at_all = refl }

@@ -2,7 +2,7 @@
 use Rattle.std.specs.Prelude.{ℕ, List, Option, Some, None, map}
 use Rattle.sc_text.specs.declared.token.Span.{Span}
 use Rattle.sc_tree.specs.Plain as plain
-use Rattle.sc_tree.specs.Plain.{Name, HandlerTag, Own, Separate, HandlerOf, DeclaredType, Declaration, Expr, Integer, Boolean, Void, Current, Call, Unary, Binary, ObjectTest, Target, no_target, target, Exprs, no_exprs, expr_then, Variable, Named, ResultVariable, CreationCall, Clause, Head, Instr, Assign, PrintText, CallRoutine, Create, If, Loop, Check, Block, Instrs, no_instrs, instr_then, Branches, no_branches, branch_then, FeatureKind, Attribute, Routine, Feature, Parent, ClassMark, Deferred, Expanded, Frozen, Class, System}
+use Rattle.sc_tree.specs.Plain.{Name, HandlerTag, Own, Separate, HandlerOf, DeclaredType, Declaration, Expr, Integer, Boolean, Void, Current, Call, Unary, Binary, ObjectTest, Target, no_target, target, Exprs, no_exprs, expr_then, Variable, Named, ResultVariable, CreationCall, Creation, Clause, Head, Instr, Assign, PrintText, CallRoutine, Create, If, Loop, Check, Block, Instrs, no_instrs, instr_then, Branches, no_branches, branch_then, RoutineDeclaration, FeatureKind, Attribute, Routine, Feature, Parent, ClassMark, Deferred, Expanded, Frozen, Class, System}
 
 abbrev pub nowhere : Span
 nowhere = record { start = 0; end = 0 }
@@ -20,7 +20,8 @@ bare_handler_tag Separate = Separate
 bare_handler_tag (HandlerOf n) = HandlerOf (bare_name n)
 
 abbrev pub bare_type : DeclaredType → DeclaredType
-bare_type t = record { span = nowhere; is_detachable = t.is_detachable; tag = bare_handler_tag t.tag; class = bare_name t.class }
+bare_type t =
+    record { span = nowhere; is_detachable = t.is_detachable; tag = bare_handler_tag t.tag; class = bare_name t.class }
 
 abbrev pub bare_type_if_any : Option DeclaredType → Option DeclaredType
 bare_type_if_any None = None
@@ -57,6 +58,9 @@ abbrev pub bare_creation_call : Option CreationCall → Option CreationCall
 bare_creation_call None = None
 bare_creation_call (Some c) = Some (record { name = bare_name c.name; actuals = bare_exprs c.actuals })
 
+abbrev pub bare_creation : Creation → Creation
+bare_creation c = record { variable = bare_variable c.variable; call = bare_creation_call c.call }
+
 abbrev pub bare_tag : Option Name → Option Name
 bare_tag None = None
 bare_tag (Some n) = Some (bare_name n)
@@ -72,9 +76,10 @@ unfoldable mutual
   bare_instr (Assign s v e) = Assign nowhere (bare_variable v) (bare_expr e)
   bare_instr (PrintText s t) = PrintText nowhere t
   bare_instr (CallRoutine s t n es) = CallRoutine nowhere (bare_target t) (bare_name n) (bare_exprs es)
-  bare_instr (Create s v c) = Create nowhere (bare_variable v) (bare_creation_call c)
-  bare_instr (If s e body branches other) = If nowhere (bare_expr e) (bare_instrs body) (bare_branches branches) (bare_instrs other)
-  bare_instr (Loop s initial e body) = Loop nowhere (bare_instrs initial) (bare_expr e) (bare_instrs body)
+  bare_instr (Create s c) = Create nowhere (bare_creation c)
+  bare_instr (If s condition body branches other) =
+      If nowhere (bare_expr condition) (bare_instrs body) (bare_branches branches) (bare_instrs other)
+  bare_instr (Loop s initial until body) = Loop nowhere (bare_instrs initial) (bare_expr until) (bare_instrs body)
   bare_instr (Check s clauses) = Check nowhere (map bare_clause clauses)
   bare_instr (Block s heads body) = Block nowhere (map bare_head heads) (bare_instrs body)
 
@@ -86,10 +91,20 @@ unfoldable mutual
   bare_branches no_branches = no_branches
   bare_branches (branch_then e body bs) = branch_then (bare_expr e) (bare_instrs body) (bare_branches bs)
 
+abbrev pub bare_routine : RoutineDeclaration → RoutineDeclaration
+bare_routine r =
+    record {
+      formals = map bare_declaration r.formals;
+      result_type = bare_type_if_any r.result_type;
+      precondition = map bare_clause r.precondition;
+      locals = map bare_declaration r.locals;
+      body = bare_instrs r.body;
+      postcondition = map bare_clause r.postcondition;
+    }
+
 abbrev pub bare_kind : FeatureKind → FeatureKind
 bare_kind (Attribute t) = Attribute (bare_type t)
-bare_kind (Routine formals result pre locals body post) =
-    Routine (map bare_declaration formals) (bare_type_if_any result) (map bare_clause pre) (map bare_declaration locals) (bare_instrs body) (map bare_clause post)
+bare_kind (Routine r) = Routine (bare_routine r)
 
 abbrev pub bare_feature : Feature → Feature
 bare_feature f = record { exports = map bare_name f.exports; name = bare_name f.name; kind = bare_kind f.kind }

@@ -15,7 +15,7 @@ abbrev pub CanonicalTokensSpell : Type 0
 CanonicalTokensSpell = (s : System) (ts : List Kind) (h : ℕ) →
     IsSystem (bare_system s) ts h → (g : ℕ) × (g ≤ h) × IsSystem (bare_system s) (canonical_tokens s) g
 
--- The canonical text of a tree spells the canonical tokens, and these spell the tree, with no greater nesting than this.
+-- The canonical text of a tree spells the canonical tokens, and these spell the tree, with no greater nesting.
 pub record IsSpelledAgain (s : System) (h : ℕ) : Type 0 where
   pub lexemes : List Lexeme
   pub nesting : ℕ
@@ -32,5 +32,6 @@ CanonicalTextSpells = (text : List ℕ) (ts : List Lexeme) (s : System) (h : ℕ
 -- What the canonical text of such a tree is read as is that tree again, and has that canonical text.
 abbrev pub CanonicalTextStays : Type 0
 CanonicalTextStays = (text : List ℕ) (ts us : List Lexeme) (s t : System) (g h : ℕ) →
-    Spells text ts → IsSystem (bare_system s) (kinds_of_lexemes ts) h → Spells (canonical_text s) us → IsSystem (bare_system t) (kinds_of_lexemes us) g →
+    Spells text ts → IsSystem (bare_system s) (kinds_of_lexemes ts) h → Spells (canonical_text s) us →
+    IsSystem (bare_system t) (kinds_of_lexemes us) g →
     (bare_system t ≡ bare_system s) × (canonical_text t ≡ canonical_text s)

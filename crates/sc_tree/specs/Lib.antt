@@ -3,9 +3,9 @@ pub mod Sections
 pub mod View
 pub mod Bare
 pub mod Grammar
+pub mod Properties
 pub mod Canonical
 pub mod CanonicalLaws
-pub mod Printer
-pub mod Reading
+pub mod Internal
 pub mod Nesting
 pub mod Laws

@@ -66,7 +66,8 @@ clauses_depths grammar.no_clause = []
 clauses_depths (grammar.semicolon_clauses d) = 0 ∷ clauses_depths d
 clauses_depths (grammar.clause d g ds) = clause_depths d ++ clauses_depths ds
 
-unfoldable pub assertion_depths : {m : Terminal} {xs : List Clause} {c : List Kind} {h : ℕ} → IsAssertion m xs c h → List ℕ
+unfoldable pub assertion_depths :
+    {m : Terminal} {xs : List Clause} {c : List Kind} {h : ℕ} → IsAssertion m xs c h → List ℕ
 assertion_depths grammar.no_assertion = []
 assertion_depths (grammar.assertion d) = 0 ∷ clauses_depths d
 
@@ -87,8 +88,11 @@ unfoldable mutual
   instr_depths (grammar.create {cv} _) = 0 ∷ outside cv
   instr_depths (grammar.create_by {cv} _ x d) = 0 ∷ (inside (outside cv) ++ 0 ∷ 0 ∷ actuals_depths d)
   instr_depths (grammar.conditional d body branches other) =
-      0 ∷ (inside (expr_depths d) ++ 0 ∷ (inside (instrs_depths body) ++ (branches_depths branches ++ (other_depths other ++ 0 ∷ []))))
-  instr_depths (grammar.loop initial d body) = 0 ∷ (inside (instrs_depths initial) ++ 0 ∷ (inside (expr_depths d) ++ 0 ∷ (inside (instrs_depths body) ++ 0 ∷ [])))
+      0 ∷ (inside (expr_depths d)
+      ++ 0 ∷ (inside (instrs_depths body) ++ (branches_depths branches ++ (other_depths other ++ 0 ∷ []))))
+  instr_depths (grammar.loop initial d body) =
+      0 ∷ (inside (instrs_depths initial)
+      ++ 0 ∷ (inside (expr_depths d) ++ 0 ∷ (inside (instrs_depths body) ++ 0 ∷ [])))
   instr_depths (grammar.check d) = 0 ∷ (inside (clauses_depths d) ++ 0 ∷ [])
   instr_depths (grammar.block d body) = 0 ∷ (inside (heads_depths d) ++ 0 ∷ (inside (instrs_depths body) ++ 0 ∷ []))
 
@@ -100,7 +104,8 @@ unfoldable mutual
   -- `elseif` and its `then` are the `if`'s own tokens, and so is `else`.
   pub branches_depths : {bs : Branches} {c : List Kind} {h : ℕ} → IsBranches bs c h → List ℕ
   branches_depths grammar.no_branch = []
-  branches_depths (grammar.branch d body bs) = 0 ∷ (inside (expr_depths d) ++ 0 ∷ (inside (instrs_depths body) ++ branches_depths bs))
+  branches_depths (grammar.branch d body bs) =
+      0 ∷ (inside (expr_depths d) ++ 0 ∷ (inside (instrs_depths body) ++ branches_depths bs))
 
   pub other_depths : {is : Instrs} {c : List Kind} {h : ℕ} → IsElse is c h → List ℕ
   other_depths grammar.no_else = []
@@ -108,12 +113,15 @@ unfoldable mutual
 
 -- ---- classes
 
-unfoldable pub feature_depths : {es : List Name} {fs : List Feature} {c : List Kind} {h : ℕ} → IsFeature es fs c h → List ℕ
+unfoldable pub feature_depths :
+    {es : List Name} {fs : List Feature} {c : List Kind} {h : ℕ} → IsFeature es fs c h → List ℕ
 feature_depths (grammar.attributes {c} {ct} _ _) = outside c ++ 0 ∷ outside ct
 feature_depths (grammar.routine x {cf} {ct} {ci} {cl} _ _ _ pre _ body post) =
-    0 ∷ (outside cf ++ (outside ct ++ (outside ci ++ (assertion_depths pre ++ (outside cl ++ 0 ∷ (instrs_depths body ++ (assertion_depths post ++ 0 ∷ [])))))))
+    0 ∷ (outside cf ++ (outside ct ++ (outside ci ++ (assertion_depths pre ++ (outside cl
+    ++ 0 ∷ (instrs_depths body ++ (assertion_depths post ++ 0 ∷ [])))))))
 
-unfoldable pub features_depths : {es : List Name} {fs : List Feature} {c : List Kind} {h : ℕ} → IsFeatures es fs c h → List ℕ
+unfoldable pub features_depths :
+    {es : List Name} {fs : List Feature} {c : List Kind} {h : ℕ} → IsFeatures es fs c h → List ℕ
 features_depths grammar.no_feature = []
 features_depths (grammar.feature {s} d _ ds) = feature_depths d ++ (outside s ++ features_depths ds)
 
@@ -123,7 +131,8 @@ sections_depths (grammar.section {ce} _ d ds) = 0 ∷ (outside ce ++ (features_d
 
 unfoldable pub class_depths : {x : Class} {c : List Kind} {h : ℕ} → IsClass x c h → List ℕ
 class_depths (grammar.class x {cn} {cm} {cp} {cc} {ce} _ _ _ _ sections invariant _) =
-    outside cn ++ (outside cm ++ 0 ∷ 0 ∷ (outside cp ++ (outside cc ++ (sections_depths sections ++ (assertion_depths invariant ++ (outside ce ++ 0 ∷ []))))))
+    outside cn ++ (outside cm ++ 0 ∷ 0 ∷ (outside cp ++ (outside cc
+    ++ (sections_depths sections ++ (assertion_depths invariant ++ (outside ce ++ 0 ∷ []))))))
 
 unfoldable pub classes_depths : {xs : List Class} {c : List Kind} {h : ℕ} → IsClasses xs c h → List ℕ
 classes_depths grammar.no_class = []

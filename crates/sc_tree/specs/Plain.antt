@@ -58,6 +58,11 @@ pub record CreationCall : Type 0 where
   pub name : Name
   pub actuals : Exprs
 
+-- what a creation changes, and by which call the object is created, where there is one
+pub record Creation : Type 0 where
+  pub variable : Variable
+  pub call : Option CreationCall
+
 pub record Clause : Type 0 where
   pub tag : Option Name
   pub condition : Expr
@@ -72,10 +77,13 @@ mutual
     Assign : Span → Variable → Expr → Instr
     PrintText : Span → List ℕ → Instr
     CallRoutine : Span → Target → Name → Exprs → Instr
-    Create : Span → Variable → Option CreationCall → Instr
+    Create : Span → Creation → Instr
+    -- its condition, body, branches and what is done otherwise, as `if_instr` names them
     If : Span → Expr → Instrs → Branches → Instrs → Instr
+    -- what is done once, its exit condition and its body, as `loop_instr` names them
     Loop : Span → Instrs → Expr → Instrs → Instr
     Check : Span → List Clause → Instr
+    -- its heads and body, as `block_instr` names them
     Block : Span → List Head → Instrs → Instr
 
   -- instructions one after the other
@@ -88,10 +96,47 @@ mutual
     no_branches : Branches
     branch_then : Expr → Instrs → Branches → Branches
 
+-- Where an instruction holds others, its parts have names in a record beside it.
+
+-- what is done where the condition holds, where that of a branch is the first to hold, and where none does
+pub record Conditional : Type 0 where
+  pub condition : Expr
+  pub body : Instrs
+  pub branches : Branches
+  pub other : Instrs
+
+abbrev pub if_instr : Span → Conditional → Instr
+if_instr s c = If s c.condition c.body c.branches c.other
+
+-- what is done once, and what is done again until the condition holds
+pub record Iteration : Type 0 where
+  pub initial : Instrs
+  pub until : Expr
+  pub body : Instrs
+
+abbrev pub loop_instr : Span → Iteration → Instr
+loop_instr s l = Loop s l.initial l.until l.body
+
+-- what is done while the handlers of the heads are reserved
+pub record SeparateBlock : Type 0 where
+  pub heads : List Head
+  pub body : Instrs
+
+abbrev pub block_instr : Span → SeparateBlock → Instr
+block_instr s b = Block s b.heads b.body
+
+-- what a routine declares, requires, does and ensures
+pub record RoutineDeclaration : Type 0 where
+  pub formals : List Declaration
+  pub result_type : Option DeclaredType
+  pub precondition : List Clause
+  pub locals : List Declaration
+  pub body : Instrs
+  pub postcondition : List Clause
+
 pub data FeatureKind : Type 0 where
   Attribute : DeclaredType → FeatureKind
-  -- its formals, result type, precondition, locals, body and postcondition
-  Routine : List Declaration → Option DeclaredType → List Clause → List Declaration → Instrs → List Clause → FeatureKind
+  Routine : RoutineDeclaration → FeatureKind
 
 -- A feature with the classes that it is exported to: all of them where none is named.
 pub record Feature : Type 0 where

@@ -20,6 +20,7 @@ use Rattle.sc_tree.specs.declared.instruction.Branch.{Branch}
 use Rattle.sc_tree.specs.declared.system.ClassMark.{ClassMark}
 use Rattle.sc_tree.specs.declared.system.ClassMark.TheVariants as mark
 use Rattle.sc_tree.specs.declared.system.Parent.{Parent}
+use Rattle.sc_tree.specs.declared.system.Routine.{Routine}
 use Rattle.sc_tree.specs.declared.system.FeatureKind.{FeatureKind}
 use Rattle.sc_tree.specs.declared.system.FeatureKind.TheVariants as kind
 use Rattle.sc_tree.specs.declared.system.Feature.{Feature}
@@ -36,7 +37,8 @@ handler_tag_of handler.Separate = plain.Separate
 handler_tag_of (handler.HandlerOf n) = plain.HandlerOf (name_of n)
 
 abbrev pub type_of : DeclaredType → plain.DeclaredType
-type_of t = record { span = t.span; is_detachable = t.is_detachable; tag = handler_tag_of t.tag; class = name_of t.class }
+type_of t =
+    record { span = t.span; is_detachable = t.is_detachable; tag = handler_tag_of t.tag; class = name_of t.class }
 
 abbrev pub type_if_any : Option DeclaredType → Option plain.DeclaredType
 type_if_any None = None
@@ -96,10 +98,11 @@ unfoldable mutual
   instr_of (instr.Assign s v e) = plain.Assign s (variable_of v) (expr_of e)
   instr_of (instr.PrintText s t) = plain.PrintText s (string_bytes t)
   instr_of (instr.Call c) = plain.CallRoutine c.span (target_of c.target) (name_of c.name) (exprs_of c.actuals.items)
-  instr_of (instr.Create s v c) = plain.Create s (variable_of v) (creation_call_of c)
+  instr_of (instr.Create s v c) = plain.Create s (record { variable = variable_of v; call = creation_call_of c })
   instr_of (instr.If' s e body_shape body branches_shape branches other_shape other) =
       plain.If s (expr_of e) (row_instrs body) (row_branches branches) (row_instrs other)
-  instr_of (instr.Loop' s initial_shape initial e body_shape body) = plain.Loop s (row_instrs initial) (expr_of e) (row_instrs body)
+  instr_of (instr.Loop' s initial_shape initial e body_shape body) =
+      plain.Loop s (row_instrs initial) (expr_of e) (row_instrs body)
   instr_of (instr.Check s clauses) = plain.Check s (map clause_of clauses.items)
   instr_of (instr.Block' s heads body_shape body) = plain.Block s (map head_of heads.items) (row_instrs body)
 
@@ -119,10 +122,20 @@ abbrev pub branches_of : List Branch → plain.Branches
 branches_of [] = plain.no_branches
 branches_of (b ∷ bs) = plain.branch_then (expr_of b.condition) (instrs_of b.body.items) (branches_of bs)
 
+abbrev pub routine_of : Routine → plain.RoutineDeclaration
+routine_of r =
+    record {
+      formals = map declaration_of r.formals.items;
+      result_type = type_if_any r.result_type;
+      precondition = map clause_of r.precondition.items;
+      locals = map declaration_of r.locals.items;
+      body = instrs_of r.body.items;
+      postcondition = map clause_of r.postcondition.items;
+    }
+
 unfoldable pub kind_of : FeatureKind → plain.FeatureKind
 kind_of (kind.Attribute t) = plain.Attribute (type_of t)
-kind_of (kind.Routine r) =
-    plain.Routine (map declaration_of r.formals.items) (type_if_any r.result_type) (map clause_of r.precondition.items) (map declaration_of r.locals.items) (instrs_of r.body.items) (map clause_of r.postcondition.items)
+kind_of (kind.Routine r) = plain.Routine (routine_of r)
 
 unfoldable pub feature_of : Feature → plain.Feature
 feature_of f = record { exports = map name_of f.exports.value.items; name = name_of f.name; kind = kind_of f.kind }

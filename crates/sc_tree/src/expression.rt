@@ -1,5 +1,9 @@
 // Names and expressions (ECMA-367, 8.23 and 8.28).
 
+ghost use Rattle.std.specs.Prelude.{◌≡◌, string_bytes};
+ghost use Rattle.sc_tree.specs.Properties as properties;
+ghost use Rattle.sc_tree.specs.View.{expr_of};
+
 use crate::declaration::DeclaredType;
 use sc_text::Span;
 
@@ -10,6 +14,15 @@ pub struct Name {
     pub span: Span,
 }
 
+impl Name {
+    /// Whether it is `print`, the name of the feature that every class has.
+    pub fn is_print(&self) -> bool
+        ensures { result ≡ properties.is_print (string_bytes self.now.text) }
+    {
+        self.text.as_str() == "print"
+    }
+}
+
 /// An operator that stands before its operand.
 #[derive(Clone, Copy, Debug, PartialEq, Eq)]
 pub enum UnaryOperator {
@@ -17,6 +30,15 @@ pub enum UnaryOperator {
     Old,
     Plus,
     Minus,
+}
+
+impl UnaryOperator {
+    /// Whether it is `old`.
+    pub fn is_old(self) -> bool
+        ensures { result ≡ properties.is_old self }
+    {
+        matches!(self, UnaryOperator::Old)
+    }
 }
 
 /// An operator between two operands.
@@ -39,6 +61,22 @@ pub enum BinaryOperator {
     OrElse,
     Xor,
     Implies,
+}
+
+impl BinaryOperator {
+    /// Whether it is `and then`.
+    pub fn is_and_then(self) -> bool
+        ensures { result ≡ properties.is_and_then self }
+    {
+        matches!(self, BinaryOperator::AndThen)
+    }
+
+    /// Whether it is `=` or `/=`.
+    pub fn is_equality(self) -> bool
+        ensures { result ≡ properties.is_equality self }
+    {
+        matches!(self, BinaryOperator::Equal | BinaryOperator::NotEqual)
+    }
 }
 
 /// A call of a feature, with its target and its actual arguments. With no target it is of the current
@@ -68,4 +106,21 @@ pub enum Expr {
     Binary(Span, BinaryOperator, Box<Expr>, Box<Expr>),
     /// `attached {type} expression as name`
     ObjectTest(Span, Option<DeclaredType>, Box<Expr>, Name),
+}
+
+impl Expr {
+    /// Where its text stands, without parentheses around it.
+    #[tactic(auto, unfolding(crate::specs::View::expr_of))]
+    pub fn span(&self) -> Span
+        ensures { result ≡ properties.span_of (expr_of self.now) }
+    {
+        match self {
+            Expr::Integer(span, _) | Expr::Boolean(span, _) => *span,
+            Expr::Void(span) | Expr::Current(span) | Expr::Result(span) => *span,
+            Expr::Call(call) => call.span,
+            Expr::Unary(span, _, _) => *span,
+            Expr::Binary(span, _, _, _) => *span,
+            Expr::ObjectTest(span, _, _, _) => *span,
+        }
+    }
 }

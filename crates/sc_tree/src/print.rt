@@ -6,7 +6,7 @@ ghost use Rattle.sc_text.specs.Characters.{tab};
 ghost use Rattle.sc_text.specs.Kind.{INTEGER, NAME, STRING};
 ghost use Rattle.sc_tree.specs.Canonical.{canonical_text};
 ghost use Rattle.sc_tree.specs.Canonical.Layout.{ClassName, HandlerOfName, Token, line, manifest, marked, word};
-ghost use Rattle.sc_tree.specs.Printer.{begin, end, gap, output_of, put, put_lines};
+ghost use Rattle.sc_tree.specs.Internal.Printer.{begin, end, gap, output_of, PutsLines, PutsPart};
 ghost use Rattle.sc_tree.specs.View.{system_of};
 
 mod classes;
@@ -60,9 +60,9 @@ impl Printer {
     }
 
     /// A reserved word or a special symbol.
-    #[tactic(auto, unfolding(crate::specs::Printer::put, crate::specs::Canonical::Layout::text_of_part, crate::specs::Canonical::Layout::opens, crate::specs::Canonical::Layout::closes))]
+    #[tactic(auto, unfolding(crate::specs::Internal::Printer::put, crate::specs::Canonical::Layout::text_of_part, crate::specs::Canonical::Layout::opens, crate::specs::Canonical::Layout::closes))]
     fn word(&mut self, terminal: Terminal) -> Result<(), AllocError>
-        ensures { OnOk result (output_of self.new ≡ put (output_of self.old) (word terminal)) }
+        ensures { OnOk result (PutsPart self.old self.new (word terminal)) }
     {
         self.gap(closes(terminal))?;
         self.text.extend_from_slice(terminal_text(terminal))?;
@@ -72,7 +72,8 @@ impl Printer {
 
     /// A token that stands apart from those around it, where they allow it.
     fn token(&mut self, text: &[u8]) -> Result<(), AllocError>
-        ensures text { OnOk result (self.new.text.items ≡ self.old.text.items ++ (gap self.old.is_apart false ++ text.now)) }
+        ensures text { OnOk result
+            (self.new.text.items ≡ self.old.text.items ++ (gap self.old.is_apart false ++ text.now)) }
         ensures apart { OnOk result (self.new.is_apart ≡ true) }
     {
         self.gap(false)?;
@@ -81,19 +82,22 @@ impl Printer {
         Ok(())
     }
 
-    #[tactic(auto, unfolding(crate::specs::Printer::put, crate::specs::Canonical::Layout::text_of_part, crate::specs::Canonical::Layout::opens, crate::specs::Canonical::Layout::closes))]
+    /// A name as the text of the tree spells it.
+    #[tactic(auto, unfolding(crate::specs::Internal::Printer::put, crate::specs::Canonical::Layout::text_of_part, crate::specs::Canonical::Layout::opens, crate::specs::Canonical::Layout::closes))]
     fn identifier(&mut self, text: &[u8]) -> Result<(), AllocError>
-        ensures { OnOk result (output_of self.new ≡ put (output_of self.old) (Token (NAME text.now))) }
+        ensures { OnOk result (PutsPart self.old self.new (Token (NAME text.now))) }
     {
         self.token(text)
     }
 
+    /// A name.
     fn name(&mut self, name: &Name) -> Result<(), AllocError>
-        ensures { OnOk result (output_of self.new ≡ put (output_of self.old) (Token (NAME (string_bytes name.now.text)))) }
+        ensures { OnOk result (PutsPart self.old self.new (Token (NAME (string_bytes name.now.text)))) }
     {
         self.identifier(name.text.as_bytes())
     }
 
+    /// The text in upper case, with nothing before it.
     fn upper_case(&mut self, text: &[u8]) -> Result<(), AllocError>
         ensures text { OnOk result (self.new.text.items ≡ self.old.text.items ++ map to_ascii_uppercase text.now) }
         ensures same { self.new.is_apart ≡ self.old.is_apart }
@@ -105,9 +109,9 @@ impl Printer {
     }
 
     /// The name of a class, in upper case.
-    #[tactic(auto, unfolding(crate::specs::Printer::put, crate::specs::Canonical::Layout::text_of_part, crate::specs::Canonical::Layout::opens, crate::specs::Canonical::Layout::closes))]
+    #[tactic(auto, unfolding(crate::specs::Internal::Printer::put, crate::specs::Canonical::Layout::text_of_part, crate::specs::Canonical::Layout::opens, crate::specs::Canonical::Layout::closes))]
     fn class_name(&mut self, name: &Name) -> Result<(), AllocError>
-        ensures { OnOk result (output_of self.new ≡ put (output_of self.old) (ClassName (string_bytes name.now.text))) }
+        ensures { OnOk result (PutsPart self.old self.new (ClassName (string_bytes name.now.text))) }
     {
         self.gap(false)?;
         self.upper_case(name.text.as_bytes())?;
@@ -116,9 +120,9 @@ impl Printer {
     }
 
     /// `<x.handler>`
-    #[tactic(auto, unfolding(crate::specs::Printer::put, crate::specs::Canonical::Layout::text_of_part, crate::specs::Canonical::Layout::opens, crate::specs::Canonical::Layout::closes))]
+    #[tactic(auto, unfolding(crate::specs::Internal::Printer::put, crate::specs::Canonical::Layout::text_of_part, crate::specs::Canonical::Layout::opens, crate::specs::Canonical::Layout::closes))]
     fn handler_of(&mut self, name: &Name) -> Result<(), AllocError>
-        ensures { OnOk result (output_of self.new ≡ put (output_of self.old) (HandlerOfName (string_bytes name.now.text))) }
+        ensures { OnOk result (PutsPart self.old self.new (HandlerOfName (string_bytes name.now.text))) }
     {
         self.token(b"<")?;
         self.text.extend_from_slice(name.text.as_bytes())?;
@@ -126,9 +130,10 @@ impl Printer {
         Ok(())
     }
 
-    #[tactic(auto, unfolding(crate::specs::Printer::put, crate::specs::Canonical::Layout::text_of_part, crate::specs::Canonical::Layout::opens, crate::specs::Canonical::Layout::closes))]
+    /// An integer's digits.
+    #[tactic(auto, unfolding(crate::specs::Internal::Printer::put, crate::specs::Canonical::Layout::text_of_part, crate::specs::Canonical::Layout::opens, crate::specs::Canonical::Layout::closes))]
     fn integer(&mut self, value: i64) -> Result<(), AllocError>
-        ensures { OnOk result (output_of self.new ≡ put (output_of self.old) (Token (INTEGER value))) }
+        ensures { OnOk result (PutsPart self.old self.new (Token (INTEGER value))) }
     {
         let digits = value.to_string(self.alloc)?;
         self.token(digits.as_bytes())
@@ -150,6 +155,7 @@ impl Printer {
         self.text.extend_from_slice(written)
     }
 
+    /// The characters of a manifest string, each with its mark where it needs one.
     fn manifest(&mut self, text: &[u8]) -> Result<(), AllocError>
         ensures text { OnOk result (self.new.text.items ≡ self.old.text.items ++ manifest text.now) }
         ensures same { self.new.is_apart ≡ self.old.is_apart }
@@ -160,9 +166,10 @@ impl Printer {
         Ok(())
     }
 
-    #[tactic(auto, unfolding(crate::specs::Printer::put, crate::specs::Canonical::Layout::text_of_part, crate::specs::Canonical::Layout::opens, crate::specs::Canonical::Layout::closes))]
+    /// A manifest string, with its quotes.
+    #[tactic(auto, unfolding(crate::specs::Internal::Printer::put, crate::specs::Canonical::Layout::text_of_part, crate::specs::Canonical::Layout::opens, crate::specs::Canonical::Layout::closes))]
     fn manifest_string(&mut self, text: &String) -> Result<(), AllocError>
-        ensures { OnOk result (output_of self.new ≡ put (output_of self.old) (Token (STRING (string_bytes text.now)))) }
+        ensures { OnOk result (PutsPart self.old self.new (Token (STRING (string_bytes text.now)))) }
     {
         self.token(b"\"")?;
         self.manifest(text.as_bytes())?;
@@ -170,7 +177,8 @@ impl Printer {
         Ok(())
     }
 
-    #[tactic(auto, unfolding(crate::specs::Printer::begin))]
+    /// The tabs that a line begins with.
+    #[tactic(auto, unfolding(crate::specs::Internal::Printer::begin))]
     fn begin_line(&mut self, indent: usize) -> Result<(), AllocError>
         ensures { OnOk result (output_of self.new ≡ begin (output_of self.old) indent) }
     {
@@ -181,7 +189,8 @@ impl Printer {
         Ok(())
     }
 
-    #[tactic(auto, unfolding(crate::specs::Printer::end))]
+    /// The end of a line.
+    #[tactic(auto, unfolding(crate::specs::Internal::Printer::end))]
     fn end_line(&mut self) -> Result<(), AllocError>
         ensures { OnOk result (output_of self.new ≡ end (output_of self.old)) }
     {
@@ -192,7 +201,7 @@ impl Printer {
 
     /// A line of one word.
     fn word_line(&mut self, indent: usize, terminal: Terminal) -> Result<(), AllocError>
-        ensures { OnOk result (output_of self.new ≡ put_lines (output_of self.old) (line indent (word terminal ∷ []) ∷ [])) }
+        ensures { OnOk result (PutsLines self.old self.new (line indent (word terminal ∷ []) ∷ [])) }
     {
         self.begin_line(indent)?;
         self.word(terminal)?;

@@ -6,9 +6,9 @@ use Rattle.sc_text.specs.declared.token.Token.{Token}
 use Rattle.sc_text.specs.declared.token.Terminal.{Terminal}
 use Rattle.sc_text.specs.declared.token.Terminal.TheVariants as terminal
 use Rattle.sc_tree.specs.Plain.{Name, Clause}
-use Rattle.sc_tree.specs.Reading.Looks as looks
+use Rattle.sc_tree.specs.Internal.Reading.Looks as looks
 use Rattle.sc_tree.specs.Grammar.Operators.{top}
-use Rattle.sc_tree.specs.Reading.Looks.{Wrong, Deep, ◌>>=◌}
+use Rattle.sc_tree.specs.Internal.Reading.Looks.{Wrong, Deep, ◌>>=◌}
 use Rattle.sc_parse.specs.Reading.Looks.{Ahead, Read, past, sees, skip_semicolons, begins_expr, left, goes_on}
 use Rattle.sc_parse.specs.Reading.Expressions.{expr}
 
@@ -30,13 +30,19 @@ past_tag (Some x) ts = past (past ts)
 
 module _ (room : ℕ) where
   unfoldable pub clause : Ahead → Read Clause
-  clause ts = expr room top (past_tag (tag_ahead ts) ts) >>= λ t. Ok (record { tag = tag_ahead ts; condition = t.0 }, t.1, t.2)
+  clause ts = do
+    t ← expr room top (past_tag (tag_ahead ts) ts)
+    Ok (record { tag = tag_ahead ts; condition = t.0 }, t.1, t.2)
 
   -- clauses, after those that were found
   unfoldable pub clauses_from : ℕ → List Clause → ℕ → Ahead → Read (List Clause)
   clauses_from zero found high ts = Ok (found, high, ts)
   clauses_from (suc f) found high ts =
-      if begins_expr ts then (clause ts >>= λ x. if goes_on x.2 then Err Wrong else clauses_from f (found ++ x.0 ∷ []) (max high x.1) (skip_semicolons x.2)) else Ok (found, high, ts)
+      if begins_expr ts
+      then (do
+        x ← clause ts
+        if goes_on x.2 then Err Wrong else clauses_from f (found ++ x.0 ∷ []) (max high x.1) (skip_semicolons x.2))
+      else Ok (found, high, ts)
 
   unfoldable pub clauses : Ahead → Read (List Clause)
   clauses ts = clauses_from (left (skip_semicolons ts)) [] 0 (skip_semicolons ts)

@@ -10,8 +10,8 @@ use Rattle.sc_tree.specs.declared.expression.BinaryOperator.{BinaryOperator}
 use Rattle.sc_tree.specs.Plain.{Name}
 use Rattle.sc_tree.specs.Grammar.Operators.{terminals_of}
 use Rattle.sc_tree.specs.Grammar.Assertions as assertions
-use Rattle.sc_tree.specs.Reading.Looks as looks
-use Rattle.sc_tree.specs.Reading.Looks.{Fault, Wrong}
+use Rattle.sc_tree.specs.Internal.Reading.Looks as looks
+use Rattle.sc_tree.specs.Internal.Reading.Looks.{Fault, Wrong}
 
 -- the tokens that are still to be read, and where the one before them stands
 pub record Ahead : Type 0 where

@@ -2,7 +2,7 @@
 use Rattle.std.specs.Prelude.{◌&&◌, Bool, true, false, if◌then◌else◌, List, [], ◌∷◌, ◌++◌, Option, None, Some, map}
 use Rattle.std.specs.Str.{bytes_eq}
 use Rattle.sc_text.specs.declared.token.Terminal.TheVariants as terminal
-use Rattle.sc_tree.specs.Plain.{Name, DeclaredType, Declaration, FeatureKind, Attribute, Routine, Feature, Parent, ClassMark, Deferred, Expanded, Frozen, Class}
+use Rattle.sc_tree.specs.Plain.{Name, DeclaredType, Declaration, RoutineDeclaration, FeatureKind, Attribute, Routine, Feature, Parent, ClassMark, Deferred, Expanded, Frozen, Class}
 use Rattle.sc_tree.specs.Canonical.Layout.{Part, word, separated, Line, line}
 use Rattle.sc_tree.specs.Canonical.Expressions.{name_part, class_name_part, names_parts, class_names_parts, type_parts}
 use Rattle.sc_tree.specs.Canonical.Instructions.{assertion_lines, instrs_lines}
@@ -14,7 +14,9 @@ declaration_parts d = name_part d.name ∷ word terminal.Colon ∷ type_parts d.
 
 abbrev pub formals_parts : List Declaration → List Part
 formals_parts [] = []
-formals_parts (d ∷ ds) = word terminal.OpenParenthesis ∷ (separated (word terminal.Semicolon) declaration_parts (d ∷ ds) ++ word terminal.CloseParenthesis ∷ [])
+formals_parts (d ∷ ds) =
+    word terminal.OpenParenthesis
+    ∷ (separated (word terminal.Semicolon) declaration_parts (d ∷ ds) ++ word terminal.CloseParenthesis ∷ [])
 
 abbrev pub result_type_parts : Option DeclaredType → List Part
 result_type_parts None = []
@@ -27,15 +29,21 @@ abbrev pub locals_lines : List Declaration → List Line
 locals_lines [] = []
 locals_lines (d ∷ ds) = line 2 (word terminal.Local ∷ []) ∷ map local_line (d ∷ ds)
 
-abbrev pub signature_line : Name → List Declaration → Option DeclaredType → Line
-signature_line x formals t = line 1 (name_part x ∷ (formals_parts formals ++ result_type_parts t))
+abbrev pub signature_line : Name → RoutineDeclaration → Line
+signature_line x r = line 1 (name_part x ∷ (formals_parts r.formals ++ result_type_parts r.result_type))
+
+abbrev pub routine_lines : Name → RoutineDeclaration → List Line
+routine_lines x r =
+    signature_line x r ∷ (assertion_lines 2 terminal.Require r.precondition ++ (locals_lines r.locals
+    ++ line 2 (word terminal.Do ∷ []) ∷ (instrs_lines 3 r.body ++ (assertion_lines 2 terminal.Ensure r.postcondition
+    ++ line 2 (word terminal.End ∷ []) ∷ []))))
+
+abbrev pub attribute_line : Name → DeclaredType → Line
+attribute_line x t = line 1 (name_part x ∷ word terminal.Colon ∷ type_parts t)
 
 abbrev pub kind_lines : Name → FeatureKind → List Line
-kind_lines x (Attribute t) = line 1 (name_part x ∷ word terminal.Colon ∷ type_parts t) ∷ []
-kind_lines x (Routine formals t pre locals body post) =
-    signature_line x formals t ∷ (assertion_lines 2 terminal.Require pre ++ (locals_lines locals
-    ++ line 2 (word terminal.Do ∷ []) ∷ (instrs_lines 3 body ++ (assertion_lines 2 terminal.Ensure post
-    ++ line 2 (word terminal.End ∷ []) ∷ []))))
+kind_lines x (Attribute t) = attribute_line x t ∷ []
+kind_lines x (Routine r) = routine_lines x r
 
 unfoldable pub feature_lines : Feature → List Line
 feature_lines f = kind_lines f.name f.kind
@@ -56,7 +64,8 @@ section_line exports = line 0 (word terminal.Feature ∷ exports_parts exports)
 
 -- a feature behind one that is exported to these classes
 abbrev pub further_feature_lines : List Name → Feature → List Line
-further_feature_lines exports f = if same_names exports f.exports then feature_lines f else section_line f.exports ∷ feature_lines f
+further_feature_lines exports f =
+    if same_names exports f.exports then feature_lines f else section_line f.exports ∷ feature_lines f
 
 abbrev pub further_features_lines : List Name → List Feature → List Line
 further_features_lines exports [] = []

@@ -6,7 +6,7 @@ use Rattle.sc_text.specs.declared.token.Terminal.TheVariants as terminal
 use Rattle.sc_tree.specs.declared.expression.BinaryOperator.{BinaryOperator}
 use Rattle.sc_tree.specs.Plain as plain
 use Rattle.sc_tree.specs.Plain.{Name, HandlerTag, Own, Separate, HandlerOf, DeclaredType, Expr, Integer, Boolean, Void, Current, Call, Unary, Binary, ObjectTest, Target, no_target, target, Exprs, no_exprs, expr_then}
-use Rattle.sc_tree.specs.Grammar.{under, groups, terminals_of, prefix_of}
+use Rattle.sc_tree.specs.Grammar.{class_below, groups, terminals_of, prefix_of}
 use Rattle.sc_tree.specs.Canonical.Layout.{Part, Token, ClassName, HandlerOfName, word, separated}
 
 -- ---- names and types
@@ -44,16 +44,17 @@ tested_type_parts (Some t) = word terminal.OpenBrace ∷ (type_parts t ++ word t
 
 -- the class of the operators that an expression belongs to: 0 where no operator stands between two operands
 abbrev pub class_of_expr : Expr → ℕ
-class_of_expr (Binary s op a b) = suc (under op)
+class_of_expr (Binary s op a b) = suc (class_below op)
 class_of_expr _ = 0
 
 -- the greatest class that the left operand may have without parentheses
 abbrev pub left_class : BinaryOperator → ℕ
-left_class op = if groups (under op) then suc (under op) else under op
+left_class op = if groups (class_below op) then suc (class_below op) else class_below op
 
 -- An expression stands in parentheses only where its class is too great.
 abbrev pub in_class : ℕ → ℕ → List Part → List Part
-in_class class allowed ps = if nat_le class allowed then ps else word terminal.OpenParenthesis ∷ (ps ++ word terminal.CloseParenthesis ∷ [])
+in_class class allowed ps =
+    if nat_le class allowed then ps else word terminal.OpenParenthesis ∷ (ps ++ word terminal.CloseParenthesis ∷ [])
 
 abbrev pub boolean_word : Bool → Terminal
 boolean_word b = if b then terminal.True else terminal.False
@@ -68,8 +69,10 @@ unfoldable mutual
   expr_parts (Call s t n es) = behind_target t (name_part n ∷ actuals_parts es)
   expr_parts (Unary s op a) = word (prefix_of op) ∷ in_class (class_of_expr a) 0 (expr_parts a)
   expr_parts (Binary s op a b) =
-      in_class (class_of_expr a) (left_class op) (expr_parts a) ++ (map word (terminals_of op) ++ in_class (class_of_expr b) (under op) (expr_parts b))
-  expr_parts (ObjectTest s t a n) = word terminal.Attached ∷ (tested_type_parts t ++ (expr_parts a ++ word terminal.As ∷ name_part n ∷ []))
+      in_class (class_of_expr a) (left_class op) (expr_parts a)
+      ++ (map word (terminals_of op) ++ in_class (class_of_expr b) (class_below op) (expr_parts b))
+  expr_parts (ObjectTest s t a n) =
+      word terminal.Attached ∷ (tested_type_parts t ++ (expr_parts a ++ word terminal.As ∷ name_part n ∷ []))
 
   pub behind_target : Target → List Part → List Part
   behind_target no_target ps = ps
@@ -77,7 +80,8 @@ unfoldable mutual
 
   pub actuals_parts : Exprs → List Part
   actuals_parts no_exprs = []
-  actuals_parts (expr_then e es) = word terminal.OpenParenthesis ∷ (expr_parts e ++ (more_actuals_parts es ++ word terminal.CloseParenthesis ∷ []))
+  actuals_parts (expr_then e es) =
+      word terminal.OpenParenthesis ∷ (expr_parts e ++ (more_actuals_parts es ++ word terminal.CloseParenthesis ∷ []))
 
   pub more_actuals_parts : Exprs → List Part
   more_actuals_parts no_exprs = []

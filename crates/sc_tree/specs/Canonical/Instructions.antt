@@ -66,18 +66,23 @@ unfoldable mutual
   pub instr_lines : ℕ → Instr → List Line
   instr_lines n (Assign s v e) = line n (variable_part v ∷ word terminal.Becomes ∷ expr_parts e) ∷ []
   instr_lines n (PrintText s t) =
-      line n (Token (NAME print_name) ∷ word terminal.OpenParenthesis ∷ Token (STRING t) ∷ word terminal.CloseParenthesis ∷ []) ∷ []
+      line n (Token (NAME print_name) ∷ word terminal.OpenParenthesis ∷ Token (STRING t)
+      ∷ word terminal.CloseParenthesis ∷ []) ∷ []
   instr_lines n (CallRoutine s t x es) = line n (call_parts t x es) ∷ []
-  instr_lines n (Create s v c) = line n (word terminal.Create ∷ variable_part v ∷ creation_call_parts c) ∷ []
-  instr_lines n (If s e body bs other) =
-      guard_line n terminal.If e ∷ (instrs_lines (n + 1) body ++ (branches_lines n bs ++ (else_lines n other ++ (instrs_lines (n + 1) other ++ line n (word terminal.End ∷ []) ∷ []))))
-  instr_lines n (Loop s initial e body) =
+  instr_lines n (Create s c) =
+      line n (word terminal.Create ∷ variable_part c.variable ∷ creation_call_parts c.call) ∷ []
+  instr_lines n (If s condition body branches other) =
+      guard_line n terminal.If condition ∷ (instrs_lines (n + 1) body ++ (branches_lines n branches
+      ++ (else_lines n other ++ (instrs_lines (n + 1) other ++ line n (word terminal.End ∷ []) ∷ []))))
+  instr_lines n (Loop s initial until body) =
       line n (word terminal.From ∷ []) ∷ (instrs_lines (n + 1) initial
-      ++ line n (word terminal.Until ∷ []) ∷ line (n + 1) (expr_parts e) ∷ line n (word terminal.Loop ∷ []) ∷ (instrs_lines (n + 1) body
+      ++ line n (word terminal.Until ∷ []) ∷ line (n + 1) (expr_parts until)
+      ∷ line n (word terminal.Loop ∷ []) ∷ (instrs_lines (n + 1) body
       ++ line n (word terminal.End ∷ []) ∷ []))
-  instr_lines n (Check s xs) = line n (word terminal.Check ∷ []) ∷ (clauses_lines (n + 1) xs ++ line n (word terminal.End ∷ []) ∷ [])
-  instr_lines n (Block s hs body) =
-      reservation_line n hs ∷ (instrs_lines (n + 1) body ++ line n (word terminal.End ∷ []) ∷ [])
+  instr_lines n (Check s xs) =
+      line n (word terminal.Check ∷ []) ∷ (clauses_lines (n + 1) xs ++ line n (word terminal.End ∷ []) ∷ [])
+  instr_lines n (Block s heads body) =
+      reservation_line n heads ∷ (instrs_lines (n + 1) body ++ line n (word terminal.End ∷ []) ∷ [])
 
   pub instrs_lines : ℕ → Instrs → List Line
   instrs_lines n no_instrs = []

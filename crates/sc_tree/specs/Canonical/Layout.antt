@@ -44,7 +44,8 @@ separated separator parts (x ∷ xs) = parts x ++ behind_each separator parts xs
 abbrev pub tokens_of_part : Part → List Kind
 tokens_of_part (Token k) = k ∷ []
 tokens_of_part (ClassName x) = NAME x ∷ []
-tokens_of_part (HandlerOfName x) = TERMINAL terminal.Less ∷ NAME x ∷ TERMINAL terminal.Dot ∷ NAME handler_name ∷ TERMINAL terminal.Greater ∷ []
+tokens_of_part (HandlerOfName x) =
+    TERMINAL terminal.Less ∷ NAME x ∷ TERMINAL terminal.Dot ∷ NAME handler_name ∷ TERMINAL terminal.Greater ∷ []
 
 abbrev pub tokens_of_parts : List Part → List Kind
 tokens_of_parts [] = []

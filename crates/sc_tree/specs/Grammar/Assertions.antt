@@ -11,7 +11,8 @@ use Rattle.sc_tree.specs.Grammar.Expressions.{IsExpr}
 pub data IsClause : Clause → List Kind → ℕ → Type 0 where
   untagged : {t : Expr} {c : List Kind} {h : ℕ} → IsExpr top t c h → IsClause (record { tag = None; condition = t }) c h
   tagged : (x : List ℕ) {t : Expr} {c : List Kind} {h : ℕ} →
-      IsExpr top t c h → IsClause (record { tag = Some (named x); condition = t }) (NAME x ∷ TERMINAL terminal.Colon ∷ c) h
+      IsExpr top t c h →
+      IsClause (record { tag = Some (named x); condition = t }) (NAME x ∷ TERMINAL terminal.Colon ∷ c) h
 
 abbrev pub goes_on_by : Terminal → Bool
 goes_on_by terminal.OpenParenthesis = true
@@ -27,7 +28,8 @@ goes_on _ = false
 -- Right behind a clause no other begins with `(`, `+` or `-`.
 pub data IsClauses : List Clause → List Kind → ℕ → Type 0 where
   no_clause : IsClauses [] [] 0
-  semicolon_clauses : {xs : List Clause} {c : List Kind} {h : ℕ} → IsClauses xs c h → IsClauses xs (TERMINAL terminal.Semicolon ∷ c) h
+  semicolon_clauses : {xs : List Clause} {c : List Kind} {h : ℕ} → IsClauses xs c h →
+      IsClauses xs (TERMINAL terminal.Semicolon ∷ c) h
   clause : {x : Clause} {xs : List Clause} {c cs : List Kind} {h hs : ℕ} →
       IsClause x c h → goes_on cs ≡ false → IsClauses xs cs hs → IsClauses (x ∷ xs) (c ++ cs) (max h hs)
 

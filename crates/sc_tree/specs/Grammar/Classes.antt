@@ -3,7 +3,7 @@ use Rattle.std.specs.Prelude.{◌≡◌, ℕ, max, Bool, true, false, if◌then�
 use Rattle.std.specs.Str.{bytes_eq}
 use Rattle.sc_text.specs.Kind.{Kind, NAME, TERMINAL}
 use Rattle.sc_text.specs.declared.token.Terminal.TheVariants as terminal
-use Rattle.sc_tree.specs.Plain.{Name, DeclaredType, Declaration, Instrs, Clause, Attribute, Routine, Feature, Parent, ClassMark, Deferred, Expanded, Frozen, Class, System}
+use Rattle.sc_tree.specs.Plain.{Name, DeclaredType, Declaration, Clause, RoutineDeclaration, Attribute, Routine, Feature, Parent, ClassMark, Deferred, Expanded, Frozen, Class, System}
 use Rattle.sc_tree.specs.Bare.{nowhere, named}
 use Rattle.sc_tree.specs.Grammar.Types.{IsNames, IsOptional, IsType}
 use Rattle.sc_tree.specs.Grammar.Assertions.{IsAssertion}
@@ -23,11 +23,13 @@ pub data IsDeclaration : List Declaration → List Kind → Type 0 where
 pub data IsDeclarations : List Declaration → List Kind → Type 0 where
   one_declaration : {ds : List Declaration} {c : List Kind} → IsDeclaration ds c → IsDeclarations ds c
   more_declarations : {ds es : List Declaration} {c s cs : List Kind} →
-      IsDeclaration ds c → IsOptional terminal.Semicolon s → IsDeclarations es cs → IsDeclarations (ds ++ es) (c ++ (s ++ cs))
+      IsDeclaration ds c → IsOptional terminal.Semicolon s → IsDeclarations es cs →
+      IsDeclarations (ds ++ es) (c ++ (s ++ cs))
 
 pub data IsFormals : List Declaration → List Kind → Type 0 where
   no_formals : IsFormals [] []
-  formals : {ds : List Declaration} {c : List Kind} → IsDeclarations ds c → IsFormals ds (TERMINAL terminal.OpenParenthesis ∷ (c ++ TERMINAL terminal.CloseParenthesis ∷ []))
+  formals : {ds : List Declaration} {c : List Kind} → IsDeclarations ds c →
+      IsFormals ds (TERMINAL terminal.OpenParenthesis ∷ (c ++ TERMINAL terminal.CloseParenthesis ∷ []))
 
 -- any number, with or without a semicolon behind each
 pub data IsLocalList : List Declaration → List Kind → Type 0 where
@@ -48,17 +50,21 @@ pub data IsResultType : Option DeclaredType → List Kind → Type 0 where
 abbrev pub attribute_of : List Name → DeclaredType → Name → Feature
 attribute_of es t x = record { exports = es; name = x; kind = Attribute t }
 
-abbrev pub routine_of : List Name → Name → List Declaration → Option DeclaredType → List Clause → List Declaration → Instrs → List Clause → Feature
-routine_of es x fs t pre ls body post = record { exports = es; name = x; kind = Routine fs t pre ls body post }
+abbrev pub routine_of : List Name → Name → RoutineDeclaration → Feature
+routine_of es x r = record { exports = es; name = x; kind = Routine r }
 
 -- A feature's declaration, exported to these classes. Of `a, b: INTEGER` each name is a feature.
 pub data IsFeature (es : List Name) : List Feature → List Kind → ℕ → Type 0 where
   attributes : {xs : List Name} {t : DeclaredType} {c ct : List Kind} →
       IsNames xs c → IsType t ct → IsFeature es (map (attribute_of es t) xs) (c ++ TERMINAL terminal.Colon ∷ ct) 0
-  routine : (x : List ℕ) {fs ls : List Declaration} {t : Option DeclaredType} {pre post : List Clause} {body : Instrs} {cf ct ci cr cl cb ce : List Kind} {hr hb he : ℕ} →
-      IsFormals fs cf → IsResultType t ct → IsOptional terminal.Is ci → IsAssertion terminal.Require pre cr hr → IsLocals ls cl → IsInstrs body cb hb → IsAssertion terminal.Ensure post ce he →
-      IsFeature es (routine_of es (named x) fs t pre ls body post ∷ [])
-      (NAME x ∷ (cf ++ (ct ++ (ci ++ (cr ++ (cl ++ TERMINAL terminal.Do ∷ (cb ++ (ce ++ TERMINAL terminal.End ∷ [])))))))) (max hr (max hb he))
+  routine : (x : List ℕ) {r : RoutineDeclaration} {cf ct ci cr cl cb ce : List Kind} {hr hb he : ℕ} →
+      IsFormals r.formals cf → IsResultType r.result_type ct → IsOptional terminal.Is ci →
+      IsAssertion terminal.Require r.precondition cr hr → IsLocals r.locals cl → IsInstrs r.body cb hb →
+      IsAssertion terminal.Ensure r.postcondition ce he →
+      IsFeature es (routine_of es (named x) r ∷ [])
+      (NAME x ∷ (cf ++ (ct ++ (ci ++ (cr ++ (cl
+      ++ TERMINAL terminal.Do ∷ (cb ++ (ce ++ TERMINAL terminal.End ∷ []))))))))
+      (max hr (max hb he))
 
 pub data IsSemicolons : List Kind → Type 0 where
   no_semicolon : IsSemicolons []
@@ -67,7 +73,8 @@ pub data IsSemicolons : List Kind → Type 0 where
 pub data IsFeatures (es : List Name) : List Feature → List Kind → ℕ → Type 0 where
   no_feature : IsFeatures es [] [] 0
   feature : {fs gs : List Feature} {c s cs : List Kind} {h hs : ℕ} →
-      IsFeature es fs c h → IsSemicolons s → IsFeatures es gs cs hs → IsFeatures es (fs ++ gs) (c ++ (s ++ cs)) (max h hs)
+      IsFeature es fs c h → IsSemicolons s → IsFeatures es gs cs hs →
+      IsFeatures es (fs ++ gs) (c ++ (s ++ cs)) (max h hs)
 
 abbrev pub any_name : List ℕ
 any_name = codes "any"
@@ -85,13 +92,15 @@ exported_to (x ∷ y ∷ xs) = x ∷ y ∷ xs
 pub data IsExports : List Name → List Kind → Type 0 where
   no_exports : IsExports [] []
   empty_exports : IsExports (named none_name ∷ []) (TERMINAL terminal.OpenBrace ∷ TERMINAL terminal.CloseBrace ∷ [])
-  exports : {xs : List Name} {c : List Kind} → IsNames xs c → IsExports (exported_to xs) (TERMINAL terminal.OpenBrace ∷ (c ++ TERMINAL terminal.CloseBrace ∷ []))
+  exports : {xs : List Name} {c : List Kind} → IsNames xs c →
+      IsExports (exported_to xs) (TERMINAL terminal.OpenBrace ∷ (c ++ TERMINAL terminal.CloseBrace ∷ []))
 
 -- each `feature` and what stands under it
 pub data IsSections : List Feature → List Kind → ℕ → Type 0 where
   no_section : IsSections [] [] 0
   section : {es : List Name} {fs gs : List Feature} {ce c cs : List Kind} {h hs : ℕ} →
-      IsExports es ce → IsFeatures es fs c h → IsSections gs cs hs → IsSections (fs ++ gs) (TERMINAL terminal.Feature ∷ (ce ++ (c ++ cs))) (max h hs)
+      IsExports es ce → IsFeatures es fs c h → IsSections gs cs hs →
+      IsSections (fs ++ gs) (TERMINAL terminal.Feature ∷ (ce ++ (c ++ cs))) (max h hs)
 
 -- ---- classes
 
@@ -128,11 +137,13 @@ pub data IsMark : Option ClassMark → List Kind → Type 0 where
 pub data IsParent : Parent → List Kind → Type 0 where
   plain_parent : (x : List ℕ) → IsParent (record { name = named x; redefined = [] }) (NAME x ∷ [])
   redefining : (x : List ℕ) {ns : List Name} {c : List Kind} → IsNames ns c →
-      IsParent (record { name = named x; redefined = ns }) (NAME x ∷ TERMINAL terminal.Redefine ∷ (c ++ TERMINAL terminal.End ∷ []))
+      IsParent (record { name = named x; redefined = ns })
+      (NAME x ∷ TERMINAL terminal.Redefine ∷ (c ++ TERMINAL terminal.End ∷ []))
 
 -- at least one, with or without a semicolon behind each
 pub data IsParentList : List Parent → List Kind → Type 0 where
-  one_parent : {p : Parent} {c s : List Kind} → IsParent p c → IsOptional terminal.Semicolon s → IsParentList (p ∷ []) (c ++ s)
+  one_parent : {p : Parent} {c s : List Kind} → IsParent p c → IsOptional terminal.Semicolon s →
+      IsParentList (p ∷ []) (c ++ s)
   more_parents : {p : Parent} {ps : List Parent} {c s cs : List Kind} →
       IsParent p c → IsOptional terminal.Semicolon s → IsParentList ps cs → IsParentList (p ∷ ps) (c ++ (s ++ cs))
 
@@ -149,14 +160,19 @@ class_of m x ps ns fs is =
     record { span = nowhere; mark = m; name = x; parents = ps; creators = ns; features = fs; invariant = is }
 
 pub data IsClass : Class → List Kind → ℕ → Type 0 where
-  class : (x : List ℕ) {m : Option ClassMark} {ps : List Parent} {ns : List Name} {fs : List Feature} {is : List Clause} {cn cm cp cc cf ci ce : List Kind} {hf hi : ℕ} →
-      IsNote heads_class cn → IsMark m cm → IsParents ps cp → IsCreators ns cc → IsSections fs cf hf → IsAssertion terminal.Invariant is ci hi → IsNote ends_class ce →
+  class : (x : List ℕ) {m : Option ClassMark} {ps : List Parent} {ns : List Name} {fs : List Feature} {is : List Clause}
+      {cn cm cp cc cf ci ce : List Kind} {hf hi : ℕ} →
+      IsNote heads_class cn → IsMark m cm → IsParents ps cp → IsCreators ns cc → IsSections fs cf hf →
+      IsAssertion terminal.Invariant is ci hi → IsNote ends_class ce →
       IsClass (class_of m (named x) ps ns fs is)
-      (cn ++ (cm ++ TERMINAL terminal.Class ∷ NAME x ∷ (cp ++ (cc ++ (cf ++ (ci ++ (ce ++ TERMINAL terminal.End ∷ []))))))) (max hf hi)
+      (cn ++ (cm
+      ++ TERMINAL terminal.Class ∷ NAME x ∷ (cp ++ (cc ++ (cf ++ (ci ++ (ce ++ TERMINAL terminal.End ∷ [])))))))
+      (max hf hi)
 
 pub data IsClasses : List Class → List Kind → ℕ → Type 0 where
   no_class : IsClasses [] [] 0
-  another : {x : Class} {xs : List Class} {c cs : List Kind} {h hs : ℕ} → IsClass x c h → IsClasses xs cs hs → IsClasses (x ∷ xs) (c ++ cs) (max h hs)
+  another : {x : Class} {xs : List Class} {c cs : List Kind} {h hs : ℕ} → IsClass x c h → IsClasses xs cs hs →
+      IsClasses (x ∷ xs) (c ++ cs) (max h hs)
 
 -- The tokens spell the system, with this greatest nesting.
 abbrev pub IsSystem : System → List Kind → ℕ → Type 0

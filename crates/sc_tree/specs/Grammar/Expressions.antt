@@ -7,7 +7,7 @@ use Rattle.sc_tree.specs.declared.expression.BinaryOperator.{BinaryOperator}
 use Rattle.sc_tree.specs.Plain as plain
 use Rattle.sc_tree.specs.Plain.{DeclaredType, Expr, Integer, Boolean, Void, Current, Call, Unary, Binary, ObjectTest, Target, no_target, target, Exprs, no_exprs, expr_then}
 use Rattle.sc_tree.specs.Bare.{nowhere, named}
-use Rattle.sc_tree.specs.Grammar.Operators.{top, under, groups, prefix_of, spelling}
+use Rattle.sc_tree.specs.Grammar.Operators.{top, class_below, groups, prefix_of, spelling}
 use Rattle.sc_tree.specs.Grammar.Types.{IsTestedType}
 
 mutual
@@ -17,24 +17,29 @@ mutual
     false_constant : IsPrimary (Boolean nowhere false) (TERMINAL terminal.False ∷ []) 0
     void : IsPrimary (Void nowhere) (TERMINAL terminal.Void ∷ []) 0
     parenthesized : {t : Expr} {c : List Kind} {h : ℕ} →
-        IsExpr top t c h → IsPrimary t (TERMINAL terminal.OpenParenthesis ∷ (c ++ TERMINAL terminal.CloseParenthesis ∷ [])) (suc h)
+        IsExpr top t c h →
+        IsPrimary t (TERMINAL terminal.OpenParenthesis ∷ (c ++ TERMINAL terminal.CloseParenthesis ∷ [])) (suc h)
     chain : {t : Expr} {c : List Kind} {h : ℕ} → IsChain t c h → IsPrimary t c h
     object_test : {o : Option DeclaredType} {t : Expr} {co c : List Kind} {h : ℕ} →
         IsTestedType o co → IsChain t c h → (x : List ℕ) →
-        IsPrimary (ObjectTest nowhere o t (named x)) (TERMINAL terminal.Attached ∷ (co ++ (c ++ TERMINAL terminal.As ∷ NAME x ∷ []))) h
+        IsPrimary (ObjectTest nowhere o t (named x))
+        (TERMINAL terminal.Attached ∷ (co ++ (c ++ TERMINAL terminal.As ∷ NAME x ∷ []))) h
 
   -- a name with actuals, `Current` or `Result`, and a call for each dot behind it
   pub data IsChain : Expr → List Kind → ℕ → Type 0 where
     current : IsChain (Current nowhere) (TERMINAL terminal.Current ∷ []) 0
     result : IsChain (plain.Result nowhere) (TERMINAL terminal.Result ∷ []) 0
-    unqualified : (x : List ℕ) {es : Exprs} {c : List Kind} {h : ℕ} → IsActuals es c h → IsChain (Call nowhere no_target (named x) es) (NAME x ∷ c) h
-    qualified : {t : Expr} {ct : List Kind} {ht : ℕ} → IsChain t ct ht → (x : List ℕ) {es : Exprs} {c : List Kind} {h : ℕ} → IsActuals es c h →
+    unqualified : (x : List ℕ) {es : Exprs} {c : List Kind} {h : ℕ} → IsActuals es c h →
+        IsChain (Call nowhere no_target (named x) es) (NAME x ∷ c) h
+    qualified : {t : Expr} {ct : List Kind} {ht : ℕ} → IsChain t ct ht →
+        (x : List ℕ) {es : Exprs} {c : List Kind} {h : ℕ} → IsActuals es c h →
         IsChain (Call nowhere (target t) (named x) es) (ct ++ TERMINAL terminal.Dot ∷ NAME x ∷ c) (max (suc ht) h)
 
   pub data IsActuals : Exprs → List Kind → ℕ → Type 0 where
     no_actuals : IsActuals no_exprs [] 0
     actuals : {es : Exprs} {c : List Kind} {h : ℕ} →
-        IsExprs es c h → IsActuals es (TERMINAL terminal.OpenParenthesis ∷ (c ++ TERMINAL terminal.CloseParenthesis ∷ [])) (suc h)
+        IsExprs es c h →
+        IsActuals es (TERMINAL terminal.OpenParenthesis ∷ (c ++ TERMINAL terminal.CloseParenthesis ∷ [])) (suc h)
 
   -- at least one expression
   pub data IsExprs : Exprs → List Kind → ℕ → Type 0 where
@@ -48,9 +53,9 @@ mutual
     prefixed : (op : UnaryOperator) {t : Expr} {c : List Kind} {h : ℕ} →
         IsExpr 0 t c h → IsExpr 0 (Unary nowhere op t) (TERMINAL (prefix_of op) ∷ c) (suc h)
     tighter : {k : ℕ} {t : Expr} {c : List Kind} {h : ℕ} → IsExpr k t c h → IsExpr (suc k) t c h
-    left : (op : BinaryOperator) → groups (under op) ≡ true → {a b : Expr} {ca cb : List Kind} {ha hb : ℕ} →
-        IsExpr (suc (under op)) a ca ha → IsExpr (under op) b cb hb →
-        IsExpr (suc (under op)) (Binary nowhere op a b) (ca ++ (spelling op ++ cb)) (suc (max ha hb))
-    alone : (op : BinaryOperator) → groups (under op) ≡ false → {a b : Expr} {ca cb : List Kind} {ha hb : ℕ} →
-        IsExpr (under op) a ca ha → IsExpr (under op) b cb hb →
-        IsExpr (suc (under op)) (Binary nowhere op a b) (ca ++ (spelling op ++ cb)) (suc (max ha hb))
+    left : (op : BinaryOperator) → groups (class_below op) ≡ true → {a b : Expr} {ca cb : List Kind} {ha hb : ℕ} →
+        IsExpr (suc (class_below op)) a ca ha → IsExpr (class_below op) b cb hb →
+        IsExpr (suc (class_below op)) (Binary nowhere op a b) (ca ++ (spelling op ++ cb)) (suc (max ha hb))
+    alone : (op : BinaryOperator) → groups (class_below op) ≡ false → {a b : Expr} {ca cb : List Kind} {ha hb : ℕ} →
+        IsExpr (class_below op) a ca ha → IsExpr (class_below op) b cb hb →
+        IsExpr (suc (class_below op)) (Binary nowhere op a b) (ca ++ (spelling op ++ cb)) (suc (max ha hb))

@@ -3,7 +3,7 @@ use Rattle.std.specs.Prelude.{ℕ, suc, max, List, [], ◌∷◌, ◌++◌, None
 use Rattle.sc_text.specs.Kind.{Kind, NAME, STRING, TERMINAL}
 use Rattle.sc_text.specs.declared.token.Span.{Span}
 use Rattle.sc_text.specs.declared.token.Terminal.TheVariants as terminal
-use Rattle.sc_tree.specs.Plain.{Name, Expr, Call, Target, Exprs, Variable, Named, ResultVariable, Clause, Head, Instr, Assign, PrintText, CallRoutine, Create, If, Loop, Check, Block, Instrs, no_instrs, instr_then, Branches, no_branches, branch_then}
+use Rattle.sc_tree.specs.Plain.{Name, Expr, Call, Target, Exprs, Variable, Named, ResultVariable, Clause, Head, Instr, Assign, PrintText, CallRoutine, Create, Check, Conditional, if_instr, Iteration, loop_instr, SeparateBlock, block_instr, Instrs, no_instrs, instr_then, Branches, no_branches, branch_then}
 use Rattle.sc_tree.specs.Bare.{nowhere, named}
 use Rattle.sc_tree.specs.Grammar.Operators.{top}
 use Rattle.sc_tree.specs.Grammar.Expressions.{IsExpr, IsChain, IsActuals}
@@ -38,36 +38,49 @@ mutual
     assign : {v : Variable} {t : Expr} {cv c : List Kind} {h : ℕ} →
         IsVariable v cv → IsExpr top t c h → IsInstr (Assign nowhere v t) (cv ++ TERMINAL terminal.Becomes ∷ c) h
     print_text : (s : List ℕ) →
-        IsInstr (PrintText nowhere s) (NAME print_name ∷ TERMINAL terminal.OpenParenthesis ∷ STRING s ∷ TERMINAL terminal.CloseParenthesis ∷ []) 1
-    call : {s : Span} {t : Target} {x : Name} {es : Exprs} {c : List Kind} {h : ℕ} → IsChain (Call s t x es) c h → IsInstr (CallRoutine s t x es) c h
-    create : {v : Variable} {cv : List Kind} → IsVariable v cv → IsInstr (Create nowhere v None) (TERMINAL terminal.Create ∷ cv) 0
-    create_by : {v : Variable} {cv : List Kind} → IsVariable v cv → (x : List ℕ) {es : Exprs} {c : List Kind} {h : ℕ} → IsActuals es c h →
-        IsInstr (Create nowhere v (Some (record { name = named x; actuals = es }))) (TERMINAL terminal.Create ∷ (cv ++ TERMINAL terminal.Dot ∷ NAME x ∷ c)) (max 1 h)
-    conditional : {t : Expr} {body other : Instrs} {bs : Branches} {c cb cs co : List Kind} {h hb hs ho : ℕ} →
-        IsExpr top t c h → IsInstrs body cb hb → IsBranches bs cs hs → IsElse other co ho →
-        IsInstr (If nowhere t body bs other) (TERMINAL terminal.If ∷ (c ++ TERMINAL terminal.Then ∷ (cb ++ (cs ++ (co ++ TERMINAL terminal.End ∷ [])))))
+        IsInstr (PrintText nowhere s)
+        (NAME print_name ∷ TERMINAL terminal.OpenParenthesis ∷ STRING s ∷ TERMINAL terminal.CloseParenthesis ∷ []) 1
+    call : {s : Span} {t : Target} {x : Name} {es : Exprs} {c : List Kind} {h : ℕ} → IsChain (Call s t x es) c h →
+        IsInstr (CallRoutine s t x es) c h
+    create : {v : Variable} {cv : List Kind} → IsVariable v cv →
+        IsInstr (Create nowhere (record { variable = v; call = None })) (TERMINAL terminal.Create ∷ cv) 0
+    create_by : {v : Variable} {cv : List Kind} → IsVariable v cv → (x : List ℕ) {es : Exprs} {c : List Kind} {h : ℕ} →
+        IsActuals es c h →
+        IsInstr (Create nowhere (record { variable = v; call = Some (record { name = named x; actuals = es }) }))
+        (TERMINAL terminal.Create ∷ (cv ++ TERMINAL terminal.Dot ∷ NAME x ∷ c)) (max 1 h)
+    conditional : {i : Conditional} {c cb cs co : List Kind} {h hb hs ho : ℕ} →
+        IsExpr top i.condition c h → IsInstrs i.body cb hb → IsBranches i.branches cs hs → IsElse i.other co ho →
+        IsInstr (if_instr nowhere i)
+        (TERMINAL terminal.If ∷ (c ++ TERMINAL terminal.Then ∷ (cb ++ (cs ++ (co ++ TERMINAL terminal.End ∷ [])))))
         (suc (max (max h hb) (max hs ho)))
-    loop : {initial body : Instrs} {t : Expr} {ci c cb : List Kind} {hi h hb : ℕ} →
-        IsInstrs initial ci hi → IsExpr top t c h → IsInstrs body cb hb →
-        IsInstr (Loop nowhere initial t body) (TERMINAL terminal.From ∷ (ci ++ TERMINAL terminal.Until ∷ (c ++ TERMINAL terminal.Loop ∷ (cb ++ TERMINAL terminal.End ∷ []))))
+    loop : {i : Iteration} {ci c cb : List Kind} {hi h hb : ℕ} →
+        IsInstrs i.initial ci hi → IsExpr top i.until c h → IsInstrs i.body cb hb →
+        IsInstr (loop_instr nowhere i)
+        (TERMINAL terminal.From ∷ (ci ++ TERMINAL terminal.Until ∷ (c
+        ++ TERMINAL terminal.Loop ∷ (cb ++ TERMINAL terminal.End ∷ []))))
         (suc (max hi (max h hb)))
     check : {xs : List Clause} {c : List Kind} {h : ℕ} →
-        IsClauses xs c h → IsInstr (Check nowhere xs) (TERMINAL terminal.Check ∷ (c ++ TERMINAL terminal.End ∷ [])) (around c h)
-    block : {xs : List Head} {body : Instrs} {c cb : List Kind} {h hb : ℕ} →
-        IsHeads xs c h → IsInstrs body cb hb →
-        IsInstr (Block nowhere xs body) (TERMINAL terminal.Separate ∷ (c ++ TERMINAL terminal.Do ∷ (cb ++ TERMINAL terminal.End ∷ []))) (suc (max h hb))
+        IsClauses xs c h →
+        IsInstr (Check nowhere xs) (TERMINAL terminal.Check ∷ (c ++ TERMINAL terminal.End ∷ [])) (around c h)
+    block : {i : SeparateBlock} {c cb : List Kind} {h hb : ℕ} →
+        IsHeads i.heads c h → IsInstrs i.body cb hb →
+        IsInstr (block_instr nowhere i)
+        (TERMINAL terminal.Separate ∷ (c ++ TERMINAL terminal.Do ∷ (cb ++ TERMINAL terminal.End ∷ []))) (suc (max h hb))
 
   pub data IsInstrs : Instrs → List Kind → ℕ → Type 0 where
     no_instr : IsInstrs no_instrs [] 0
-    semicolon_instrs : {is : Instrs} {c : List Kind} {h : ℕ} → IsInstrs is c h → IsInstrs is (TERMINAL terminal.Semicolon ∷ c) h
-    instr : {i : Instr} {is : Instrs} {c cs : List Kind} {h hs : ℕ} → IsInstr i c h → IsInstrs is cs hs → IsInstrs (instr_then i is) (c ++ cs) (max h hs)
+    semicolon_instrs : {is : Instrs} {c : List Kind} {h : ℕ} → IsInstrs is c h →
+        IsInstrs is (TERMINAL terminal.Semicolon ∷ c) h
+    instr : {i : Instr} {is : Instrs} {c cs : List Kind} {h hs : ℕ} → IsInstr i c h → IsInstrs is cs hs →
+        IsInstrs (instr_then i is) (c ++ cs) (max h hs)
 
   -- each `elseif` and what stands under it
   pub data IsBranches : Branches → List Kind → ℕ → Type 0 where
     no_branch : IsBranches no_branches [] 0
     branch : {t : Expr} {body : Instrs} {bs : Branches} {c cb cs : List Kind} {h hb hs : ℕ} →
         IsExpr top t c h → IsInstrs body cb hb → IsBranches bs cs hs →
-        IsBranches (branch_then t body bs) (TERMINAL terminal.Elseif ∷ (c ++ TERMINAL terminal.Then ∷ (cb ++ cs))) (max (max h hb) hs)
+        IsBranches (branch_then t body bs) (TERMINAL terminal.Elseif ∷ (c ++ TERMINAL terminal.Then ∷ (cb ++ cs)))
+        (max (max h hb) hs)
 
   -- An `else` with nothing under it is the same tree as none.
   pub data IsElse : Instrs → List Kind → ℕ → Type 0 where

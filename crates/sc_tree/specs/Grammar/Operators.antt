@@ -10,24 +10,24 @@ use Rattle.sc_tree.specs.declared.expression.BinaryOperator.TheVariants as binar
 
 -- Operators of one class bind equally, and a lower class binds tighter. Class 0 is of the expressions with
 -- no operator between two operands. This is the class below an operator's own.
-abbrev pub under : BinaryOperator → ℕ
-under binary.Times = 0
-under binary.Quotient = 0
-under binary.Remainder = 0
-under binary.Plus = 1
-under binary.Minus = 1
-under binary.Equal = 2
-under binary.NotEqual = 2
-under binary.Less = 2
-under binary.Greater = 2
-under binary.LessEqual = 2
-under binary.GreaterEqual = 2
-under binary.And = 3
-under binary.AndThen = 3
-under binary.Or = 4
-under binary.OrElse = 4
-under binary.Xor = 4
-under binary.Implies = 5
+abbrev pub class_below : BinaryOperator → ℕ
+class_below binary.Times = 0
+class_below binary.Quotient = 0
+class_below binary.Remainder = 0
+class_below binary.Plus = 1
+class_below binary.Minus = 1
+class_below binary.Equal = 2
+class_below binary.NotEqual = 2
+class_below binary.Less = 2
+class_below binary.Greater = 2
+class_below binary.LessEqual = 2
+class_below binary.GreaterEqual = 2
+class_below binary.And = 3
+class_below binary.AndThen = 3
+class_below binary.Or = 4
+class_below binary.OrElse = 4
+class_below binary.Xor = 4
+class_below binary.Implies = 5
 
 -- the class of a whole expression
 abbrev pub top : ℕ

@@ -9,7 +9,8 @@ use Rattle.sc_tree.specs.Bare.{nowhere, named}
 -- at least one name
 pub data IsNames : List Name → List Kind → Type 0 where
   one_name : (x : List ℕ) → IsNames (named x ∷ []) (NAME x ∷ [])
-  more_names : (x : List ℕ) {xs : List Name} {c : List Kind} → IsNames xs c → IsNames (named x ∷ xs) (NAME x ∷ TERMINAL terminal.Comma ∷ c)
+  more_names : (x : List ℕ) {xs : List Name} {c : List Kind} → IsNames xs c →
+      IsNames (named x ∷ xs) (NAME x ∷ TERMINAL terminal.Comma ∷ c)
 
 -- a token that may stand or not
 pub data IsOptional (m : Terminal) : List Kind → Type 0 where
@@ -32,15 +33,19 @@ pub data IsHandlerTag : HandlerTag → List Kind → Type 0 where
   own : IsHandlerTag Own []
   separate : IsHandlerTag Separate (TERMINAL terminal.Separate ∷ [])
   handler_of : (x : List ℕ) →
-      IsHandlerTag (HandlerOf (named x)) (TERMINAL terminal.Separate ∷ TERMINAL terminal.Less ∷ NAME x ∷ TERMINAL terminal.Dot ∷ NAME handler_name ∷ TERMINAL terminal.Greater ∷ [])
+      IsHandlerTag (HandlerOf (named x))
+      (TERMINAL terminal.Separate ∷ TERMINAL terminal.Less ∷ NAME x
+      ∷ TERMINAL terminal.Dot ∷ NAME handler_name ∷ TERMINAL terminal.Greater ∷ [])
 
 abbrev pub type_of : Bool → HandlerTag → Name → DeclaredType
 type_of d g x = record { span = nowhere; is_detachable = d; tag = g; class = x }
 
 pub data IsType : DeclaredType → List Kind → Type 0 where
-  type : {d : Bool} {g : HandlerTag} {cd cg : List Kind} → IsAttachment d cd → IsHandlerTag g cg → (x : List ℕ) → IsType (type_of d g (named x)) (cd ++ (cg ++ NAME x ∷ []))
+  type : {d : Bool} {g : HandlerTag} {cd cg : List Kind} → IsAttachment d cd → IsHandlerTag g cg → (x : List ℕ) →
+      IsType (type_of d g (named x)) (cd ++ (cg ++ NAME x ∷ []))
 
 -- the type that an object test asks for, in braces
 pub data IsTestedType : Option DeclaredType → List Kind → Type 0 where
   no_type : IsTestedType None []
-  tested_type : {t : DeclaredType} {c : List Kind} → IsType t c → IsTestedType (Some t) (TERMINAL terminal.OpenBrace ∷ (c ++ TERMINAL terminal.CloseBrace ∷ []))
+  tested_type : {t : DeclaredType} {c : List Kind} → IsType t c →
+      IsTestedType (Some t) (TERMINAL terminal.OpenBrace ∷ (c ++ TERMINAL terminal.CloseBrace ∷ []))

@@ -2,11 +2,11 @@
 
 ghost use Rattle.std.specs.Prelude.{◌≡◌, ◌∷◌, [], map, IsTrue, OnOk};
 ghost use Rattle.sc_tree.specs.Canonical.Layout.{line};
-ghost use Rattle.sc_tree.specs.Canonical.Classes.{class_lines, classes_lines, creators_lines, declaration_parts, exports_parts, feature_lines, formals_parts, kind_lines, further_feature_lines, heading_line, local_line, locals_lines, mark_parts, parent_line, parents_lines, redefined_parts, result_type_parts, same_names, section_line, sections_lines, signature_line};
+ghost use Rattle.sc_tree.specs.Canonical.Classes.{attribute_line, class_lines, classes_lines, creators_lines, declaration_parts, exports_parts, feature_lines, formals_parts, further_feature_lines, heading_line, locals_lines, mark_parts, parent_line, parents_lines, redefined_parts, result_type_parts, routine_lines, same_names, section_line, sections_lines, signature_line};
 ghost use Rattle.sc_tree.specs.Canonical.Expressions.{class_names_parts, names_parts};
-ghost use Rattle.sc_tree.specs.Printer.{output_of, put_line, put_lines, puts};
+ghost use Rattle.sc_tree.specs.Internal.Printer.{PutsLine, PutsLines, PutsParts};
 ghost use Rattle.sc_tree.specs.Sections.{share_lists, shares_list};
-ghost use Rattle.sc_tree.specs.View.{class_of, declaration_of, feature_of, kind_of, mark_if_any, name_of, parent_of, type_if_any, type_of};
+ghost use Rattle.sc_tree.specs.View.{class_of, declaration_of, feature_of, mark_if_any, name_of, parent_of, routine_of, type_if_any, type_of};
 
 use crate::declaration::{Declaration, DeclaredType};
 use crate::expression::Name;
@@ -42,7 +42,7 @@ impl Printer {
     /// Names with commas between them.
     #[tactic(auto, using(crate::proofs::Printing::putting))]
     fn names(&mut self, names: &[Name]) -> Result<(), AllocError>
-        ensures { OnOk result (output_of self.new ≡ puts (output_of self.old) (names_parts (map name_of names.now))) }
+        ensures { OnOk result (PutsParts self.old self.new (names_parts (map name_of names.now))) }
     {
         let [first, rest @ ..] = names else {
             return Ok(());
@@ -58,7 +58,7 @@ impl Printer {
     /// Names of classes with commas between them.
     #[tactic(auto, using(crate::proofs::Printing::putting))]
     fn class_names(&mut self, names: &[Name]) -> Result<(), AllocError>
-        ensures { OnOk result (output_of self.new ≡ puts (output_of self.old) (class_names_parts (map name_of names.now))) }
+        ensures { OnOk result (PutsParts self.old self.new (class_names_parts (map name_of names.now))) }
     {
         let [first, rest @ ..] = names else {
             return Ok(());
@@ -71,18 +71,20 @@ impl Printer {
         Ok(())
     }
 
+    /// A name and the type that it is declared with.
     #[tactic(auto, using(crate::proofs::Printing::putting), unfolding(crate::specs::Canonical::Classes::declaration_parts))]
     fn declaration(&mut self, declaration: &Declaration) -> Result<(), AllocError>
-        ensures { OnOk result (output_of self.new ≡ puts (output_of self.old) (declaration_parts (declaration_of declaration.now))) }
+        ensures { OnOk result (PutsParts self.old self.new (declaration_parts (declaration_of declaration.now))) }
     {
         self.name(&declaration.name)?;
         self.word(Terminal::Colon)?;
         self.declared_type(&declaration.declared_type)
     }
 
+    /// Formal arguments in parentheses, where there are some.
     #[tactic(auto, using(crate::proofs::Printing::putting))]
     fn formals(&mut self, formals: &[Declaration]) -> Result<(), AllocError>
-        ensures { OnOk result (output_of self.new ≡ puts (output_of self.old) (formals_parts (map declaration_of formals.now))) }
+        ensures { OnOk result (PutsParts self.old self.new (formals_parts (map declaration_of formals.now))) }
     {
         let [first, rest @ ..] = formals else {
             return Ok(());
@@ -96,8 +98,9 @@ impl Printer {
         self.word(Terminal::CloseParenthesis)
     }
 
+    /// The type of a result behind its colon, where there is one.
     fn result_type(&mut self, result_type: &Option<DeclaredType>) -> Result<(), AllocError>
-        ensures { OnOk result (output_of self.new ≡ puts (output_of self.old) (result_type_parts (type_if_any result_type.now))) }
+        ensures { OnOk result (PutsParts self.old self.new (result_type_parts (type_if_any result_type.now))) }
     {
         let Some(declared) = result_type else {
             return Ok(());
@@ -106,9 +109,10 @@ impl Printer {
         self.declared_type(declared)
     }
 
+    /// `local` and a line for each local, where there are some.
     #[tactic(auto, using(crate::proofs::Printing::putting))]
     fn locals(&mut self, locals: &[Declaration]) -> Result<(), AllocError>
-        ensures { OnOk result (output_of self.new ≡ put_lines (output_of self.old) (locals_lines (map declaration_of locals.now))) }
+        ensures { OnOk result (PutsLines self.old self.new (locals_lines (map declaration_of locals.now))) }
     {
         if locals.is_empty() {
             return Ok(());
@@ -125,8 +129,8 @@ impl Printer {
     /// The line that a routine begins with.
     #[tactic(auto, using(crate::proofs::Printing::putting))]
     fn signature(&mut self, name: &Name, routine: &Routine) -> Result<(), AllocError>
-        ensures { OnOk result (output_of self.new ≡ put_line (output_of self.old)
-            (signature_line (name_of name.now) (map declaration_of routine.now.formals.items) (type_if_any routine.now.result_type))) }
+        ensures { OnOk result (PutsLine self.old self.new
+            (signature_line (name_of name.now) (routine_of routine.now))) }
     {
         self.begin_line(1)?;
         self.name(name)?;
@@ -135,9 +139,11 @@ impl Printer {
         self.end_line()
     }
 
-    #[tactic(auto, using(crate::proofs::Printing::putting), unfolding(crate::specs::View::kind_of))]
+    /// A routine, from its name to its `end`.
+    #[tactic(auto, using(crate::proofs::Printing::putting))]
     fn routine(&mut self, name: &Name, routine: &Routine) -> Result<(), AllocError>
-        ensures { OnOk result (output_of self.new ≡ put_lines (output_of self.old) (kind_lines (name_of name.now) (kind_of (FeatureKind.Routine routine.now)))) }
+        ensures { OnOk result (PutsLines self.old self.new
+            (routine_lines (name_of name.now) (routine_of routine.now))) }
     {
         self.signature(name, routine)?;
         self.assertion(2, Terminal::Require, &routine.precondition)?;
@@ -148,9 +154,10 @@ impl Printer {
         self.word_line(2, Terminal::End)
     }
 
-    #[tactic(auto, using(crate::proofs::Printing::putting), unfolding(crate::specs::View::kind_of))]
+    /// An attribute, with its type.
+    #[tactic(auto, using(crate::proofs::Printing::putting))]
     fn attribute(&mut self, name: &Name, declared: &DeclaredType) -> Result<(), AllocError>
-        ensures { OnOk result (output_of self.new ≡ put_lines (output_of self.old) (kind_lines (name_of name.now) (kind_of (FeatureKind.Attribute declared.now)))) }
+        ensures { OnOk result (PutsLine self.old self.new (attribute_line (name_of name.now) (type_of declared.now))) }
     {
         self.begin_line(1)?;
         self.name(name)?;
@@ -159,9 +166,10 @@ impl Printer {
         self.end_line()
     }
 
-    #[tactic(auto, using(crate::proofs::Printing::putting), unfolding(crate::specs::View::feature_of, crate::specs::Canonical::Classes::feature_lines))]
+    /// A feature with no export list.
+    #[tactic(auto, using(crate::proofs::Printing::putting), unfolding(crate::specs::View::feature_of, crate::specs::View::kind_of, crate::specs::Canonical::Classes::feature_lines))]
     fn feature(&mut self, feature: &Feature) -> Result<(), AllocError>
-        ensures { OnOk result (output_of self.new ≡ put_lines (output_of self.old) (feature_lines (feature_of feature.now))) }
+        ensures { OnOk result (PutsLines self.old self.new (feature_lines (feature_of feature.now))) }
     {
         match &feature.kind {
             FeatureKind::Attribute(declared) => self.attribute(&feature.name, declared),
@@ -169,9 +177,10 @@ impl Printer {
         }
     }
 
+    /// The classes that a feature is exported to, in braces, where some are named.
     #[tactic(auto, using(crate::proofs::Printing::putting))]
     fn exports(&mut self, exports: &[Name]) -> Result<(), AllocError>
-        ensures { OnOk result (output_of self.new ≡ puts (output_of self.old) (exports_parts (map name_of exports.now))) }
+        ensures { OnOk result (PutsParts self.old self.new (exports_parts (map name_of exports.now))) }
     {
         if exports.is_empty() {
             return Ok(());
@@ -184,7 +193,7 @@ impl Printer {
     /// `feature`, with the classes that the features below are exported to.
     #[tactic(auto, using(crate::proofs::Printing::putting), unfolding(crate::specs::Canonical::Classes::section_line))]
     fn section(&mut self, exports: &[Name]) -> Result<(), AllocError>
-        ensures { OnOk result (output_of self.new ≡ put_line (output_of self.old) (section_line (map name_of exports.now))) }
+        ensures { OnOk result (PutsLine self.old self.new (section_line (map name_of exports.now))) }
     {
         self.begin_line(0)?;
         self.word(Terminal::Feature)?;
@@ -196,7 +205,7 @@ impl Printer {
     #[tactic(auto, using(crate::proofs::Printing::putting), unfolding(crate::specs::View::feature_of))]
     fn further_feature(&mut self, exports: &[Name], feature: &Feature) -> Result<(), AllocError>
         requires { IsTrue (shares_list exports.now feature.now) }
-        ensures { OnOk result (output_of self.new ≡ put_lines (output_of self.old)
+        ensures { OnOk result (PutsLines self.old self.new
             (further_feature_lines (map name_of exports.now) (feature_of feature.now))) }
     {
         if !has_exports(exports, feature) {
@@ -209,7 +218,7 @@ impl Printer {
     #[tactic(auto, using(crate::proofs::Printing::putting), unfolding(crate::specs::View::feature_of))]
     fn features(&mut self, features: &[Feature]) -> Result<(), AllocError>
         requires { IsTrue (share_lists features.now) }
-        ensures { OnOk result (output_of self.new ≡ put_lines (output_of self.old) (sections_lines (map feature_of features.now))) }
+        ensures { OnOk result (PutsLines self.old self.new (sections_lines (map feature_of features.now))) }
     {
         let [first, rest @ ..] = features else {
             return Ok(());
@@ -224,8 +233,9 @@ impl Printer {
         Ok(())
     }
 
+    /// The word before `class`, where there is one.
     fn mark(&mut self, mark: &Option<ClassMark>) -> Result<(), AllocError>
-        ensures { OnOk result (output_of self.new ≡ puts (output_of self.old) (mark_parts (mark_if_any mark.now))) }
+        ensures { OnOk result (PutsParts self.old self.new (mark_parts (mark_if_any mark.now))) }
     {
         match mark {
             None => Ok(()),
@@ -235,9 +245,10 @@ impl Printer {
         }
     }
 
+    /// `redefine` and the names behind it, where there are some.
     #[tactic(auto, using(crate::proofs::Printing::putting))]
     fn redefined(&mut self, names: &[Name]) -> Result<(), AllocError>
-        ensures { OnOk result (output_of self.new ≡ puts (output_of self.old) (redefined_parts (map name_of names.now))) }
+        ensures { OnOk result (PutsParts self.old self.new (redefined_parts (map name_of names.now))) }
     {
         if names.is_empty() {
             return Ok(());
@@ -247,9 +258,10 @@ impl Printer {
         self.word(Terminal::End)
     }
 
+    /// A parent on a line of its own.
     #[tactic(auto, using(crate::proofs::Printing::putting), unfolding(crate::specs::Canonical::Classes::parent_line))]
     fn parent(&mut self, parent: &Parent) -> Result<(), AllocError>
-        ensures { OnOk result (output_of self.new ≡ put_line (output_of self.old) (parent_line (parent_of parent.now))) }
+        ensures { OnOk result (PutsLine self.old self.new (parent_line (parent_of parent.now))) }
     {
         self.begin_line(1)?;
         self.class_name(&parent.name)?;
@@ -257,9 +269,10 @@ impl Printer {
         self.end_line()
     }
 
+    /// `inherit` and a line for each parent, where there are some.
     #[tactic(auto, using(crate::proofs::Printing::putting))]
     fn parents(&mut self, parents: &[Parent]) -> Result<(), AllocError>
-        ensures { OnOk result (output_of self.new ≡ put_lines (output_of self.old) (parents_lines (map parent_of parents.now))) }
+        ensures { OnOk result (PutsLines self.old self.new (parents_lines (map parent_of parents.now))) }
     {
         if parents.is_empty() {
             return Ok(());
@@ -271,9 +284,10 @@ impl Printer {
         Ok(())
     }
 
+    /// `create` and the names of the procedures that create objects, where there are some.
     #[tactic(auto, using(crate::proofs::Printing::putting))]
     fn creators(&mut self, creators: &[Name]) -> Result<(), AllocError>
-        ensures { OnOk result (output_of self.new ≡ put_lines (output_of self.old) (creators_lines (map name_of creators.now))) }
+        ensures { OnOk result (PutsLines self.old self.new (creators_lines (map name_of creators.now))) }
     {
         if creators.is_empty() {
             return Ok(());
@@ -287,7 +301,7 @@ impl Printer {
     /// The line that a class begins with.
     #[tactic(auto, using(crate::proofs::Printing::putting))]
     fn heading(&mut self, mark: &Option<ClassMark>, name: &Name) -> Result<(), AllocError>
-        ensures { OnOk result (output_of self.new ≡ put_line (output_of self.old) (heading_line (mark_if_any mark.now) (name_of name.now))) }
+        ensures { OnOk result (PutsLine self.old self.new (heading_line (mark_if_any mark.now) (name_of name.now))) }
     {
         self.begin_line(0)?;
         self.mark(mark)?;
@@ -296,9 +310,10 @@ impl Printer {
         self.end_line()
     }
 
+    /// A class, from its heading to its `end`.
     #[tactic(auto, using(crate::proofs::Printing::putting), unfolding(crate::specs::View::class_of, crate::specs::Canonical::Classes::class_lines))]
     fn class(&mut self, class: &Class) -> Result<(), AllocError>
-        ensures { OnOk result (output_of self.new ≡ put_lines (output_of self.old) (class_lines (class_of class.now))) }
+        ensures { OnOk result (PutsLines self.old self.new (class_lines (class_of class.now))) }
     {
         self.heading(&class.mark, &class.name)?;
         self.parents(&class.parents)?;
@@ -308,9 +323,10 @@ impl Printer {
         self.word_line(0, Terminal::End)
     }
 
+    /// Classes, with an empty line between two.
     #[tactic(auto, using(crate::proofs::Printing::putting))]
     pub fn classes(&mut self, classes: &[Class]) -> Result<(), AllocError>
-        ensures { OnOk result (output_of self.new ≡ put_lines (output_of self.old) (classes_lines (map class_of classes.now))) }
+        ensures { OnOk result (PutsLines self.old self.new (classes_lines (map class_of classes.now))) }
     {
         let [first, rest @ ..] = classes else {
             return Ok(());

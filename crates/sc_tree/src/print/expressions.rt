@@ -5,19 +5,20 @@ ghost use Rattle.sc_text.specs.declared.token.Terminal.TheVariants as terminal;
 ghost use Rattle.sc_tree.specs.Canonical.Layout.{word};
 ghost use Rattle.sc_tree.specs.Canonical.Expressions.{actuals_parts, attachment_parts, call_parts, class_of_expr, expr_parts, handler_tag_parts, in_class, tested_type_parts, type_parts};
 ghost use Rattle.sc_tree.specs.Grammar.{terminals_of};
-ghost use Rattle.sc_tree.specs.Printer.{output_of, puts};
+ghost use Rattle.sc_tree.specs.Internal.Printer.{PutsParts};
 ghost use Rattle.sc_tree.specs.View.{expr_of, exprs_of, handler_tag_of, name_of, target_of, type_if_any, type_of};
 
 use crate::declaration::{DeclaredType, HandlerTag};
 use crate::expression::{BinaryOperator, Call, Expr};
 use crate::print::Printer;
-use crate::print::operators::{class_of, left_class, prefix, terminals, under};
+use crate::print::operators::{class_below, class_of, left_class, prefix, terminals};
 use sc_text::Terminal;
 use std::alloc::AllocError;
 
 impl Printer {
+    /// What a type says of the handler of its objects, where it says something.
     fn handler_tag(&mut self, tag: &HandlerTag) -> Result<(), AllocError>
-        ensures { OnOk result (output_of self.new ≡ puts (output_of self.old) (handler_tag_parts (handler_tag_of tag.now))) }
+        ensures { OnOk result (PutsParts self.old self.new (handler_tag_parts (handler_tag_of tag.now))) }
     {
         match tag {
             HandlerTag::Own => Ok(()),
@@ -29,8 +30,9 @@ impl Printer {
         }
     }
 
+    /// `detachable` before a detachable type.
     fn attachment(&mut self, is_detachable: bool) -> Result<(), AllocError>
-        ensures { OnOk result (output_of self.new ≡ puts (output_of self.old) (attachment_parts is_detachable)) }
+        ensures { OnOk result (PutsParts self.old self.new (attachment_parts is_detachable)) }
     {
         if is_detachable {
             self.word(Terminal::Detachable)
@@ -39,18 +41,20 @@ impl Printer {
         }
     }
 
+    /// A type, with its marks.
     #[tactic(auto, using(crate::proofs::Printing::putting), unfolding(crate::specs::Canonical::Expressions::type_parts))]
     pub fn declared_type(&mut self, declared: &DeclaredType) -> Result<(), AllocError>
-        ensures { OnOk result (output_of self.new ≡ puts (output_of self.old) (type_parts (type_of declared.now))) }
+        ensures { OnOk result (PutsParts self.old self.new (type_parts (type_of declared.now))) }
     {
         self.attachment(declared.is_detachable)?;
         self.handler_tag(&declared.tag)?;
         self.class_name(&declared.class)
     }
 
+    /// The type of an object test in braces, where there is one.
     #[tactic(auto, using(crate::proofs::Printing::putting))]
     fn tested_type(&mut self, tested: &Option<DeclaredType>) -> Result<(), AllocError>
-        ensures { OnOk result (output_of self.new ≡ puts (output_of self.old) (tested_type_parts (type_if_any tested.now))) }
+        ensures { OnOk result (PutsParts self.old self.new (tested_type_parts (type_if_any tested.now))) }
     {
         let Some(declared) = tested else {
             return Ok(());
@@ -62,7 +66,7 @@ impl Printer {
 
     /// The operator between two operands.
     pub fn operator(&mut self, operator: BinaryOperator) -> Result<(), AllocError>
-        ensures { OnOk result (output_of self.new ≡ puts (output_of self.old) (map word (terminals_of operator))) }
+        ensures { OnOk result (PutsParts self.old self.new (map word (terminals_of operator))) }
     {
         for terminal in terminals(operator) {
             self.word(*terminal)?;
@@ -70,10 +74,11 @@ impl Printer {
         Ok(())
     }
 
+    /// An expression, with the parentheses that its operands need.
     #[cycle(printing)]
     #[tactic(auto, using(crate::proofs::Printing::putting), unfolding(crate::specs::Canonical::Expressions::expr_parts, crate::specs::View::expr_of))]
     pub fn expr(&mut self, expr: &Expr) -> Result<(), AllocError>
-        ensures { OnOk result (output_of self.new ≡ puts (output_of self.old) (expr_parts (expr_of expr.now))) }
+        ensures { OnOk result (PutsParts self.old self.new (expr_parts (expr_of expr.now))) }
     {
         match expr {
             Expr::Integer(_, value) => self.integer(*value),
@@ -95,7 +100,7 @@ impl Printer {
             Expr::Binary(_, operator, left, right) => {
                 self.operand(left, left_class(*operator))?;
                 self.operator(*operator)?;
-                self.operand(right, under(*operator))
+                self.operand(right, class_below(*operator))
             }
             Expr::ObjectTest(_, tested, value, name) => {
                 self.word(Terminal::Attached)?;
@@ -111,7 +116,7 @@ impl Printer {
     #[cycle(printing)]
     #[tactic(auto, using(crate::proofs::Printing::putting))]
     fn operand(&mut self, operand: &Expr, allowed: u8) -> Result<(), AllocError>
-        ensures { OnOk result (output_of self.new ≡ puts (output_of self.old)
+        ensures { OnOk result (PutsParts self.old self.new
             (in_class (class_of_expr (expr_of operand.now)) allowed (expr_parts (expr_of operand.now)))) }
     {
         if class_of(operand) <= allowed {
@@ -122,10 +127,11 @@ impl Printer {
         self.word(Terminal::CloseParenthesis)
     }
 
+    /// A call, behind its target where it has one.
     #[cycle(printing)]
     #[tactic(auto, using(crate::proofs::Printing::putting), unfolding(crate::specs::Canonical::Expressions::expr_parts))]
     pub fn call(&mut self, call: &Call) -> Result<(), AllocError>
-        ensures { OnOk result (output_of self.new ≡ puts (output_of self.old)
+        ensures { OnOk result (PutsParts self.old self.new
             (call_parts (target_of call.now.target) (name_of call.now.name) (exprs_of call.now.actuals.items))) }
     {
         if let Some(target) = &call.target {
@@ -136,10 +142,11 @@ impl Printer {
         self.actuals(&call.actuals)
     }
 
+    /// Actual arguments in parentheses, where there are some.
     #[cycle(printing)]
     #[tactic(auto, using(crate::proofs::Printing::putting), unfolding(crate::specs::Canonical::Expressions::expr_parts))]
     pub fn actuals(&mut self, actuals: &[Expr]) -> Result<(), AllocError>
-        ensures { OnOk result (output_of self.new ≡ puts (output_of self.old) (actuals_parts (exprs_of actuals.now))) }
+        ensures { OnOk result (PutsParts self.old self.new (actuals_parts (exprs_of actuals.now))) }
     {
         let [first, rest @ ..] = actuals else {
             return Ok(());

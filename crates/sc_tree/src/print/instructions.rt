@@ -6,7 +6,7 @@ ghost use Rattle.sc_tree.specs.Canonical.Layout.{line};
 ghost use Rattle.sc_tree.specs.Canonical.Expressions.{expr_parts};
 ghost use Rattle.sc_tree.specs.Canonical.Instructions.{assertion_lines, branches_lines, clause_line, clauses_lines, creation_call_parts, else_lines, guard_line, head_parts, heads_parts, instr_lines, instrs_lines, reservation_line, tag_parts, variable_part};
 ghost use Rattle.sc_tree.specs.Plain.{Assign, CallRoutine, Create, PrintText};
-ghost use Rattle.sc_tree.specs.Printer.{output_of, put, put_line, put_lines, puts};
+ghost use Rattle.sc_tree.specs.Internal.Printer.{PutsLine, PutsLines, PutsPart, PutsParts};
 ghost use Rattle.sc_tree.specs.View.{branches_of, clause_of, creation_call_of, expr_of, exprs_of, head_of, instr_of, instrs_of, name_of, tag_of, target_of, variable_of};
 
 use crate::expression::{Call, Expr, Name};
@@ -23,8 +23,9 @@ pub fn deeper(indent: usize) -> Result<usize, AllocError>
 }
 
 impl Printer {
+    /// A clause's tag and its colon, where there is one.
     fn tag(&mut self, tag: &Option<Name>) -> Result<(), AllocError>
-        ensures { OnOk result (output_of self.new ≡ puts (output_of self.old) (tag_parts (tag_of tag.now))) }
+        ensures { OnOk result (PutsParts self.old self.new (tag_parts (tag_of tag.now))) }
     {
         let Some(name) = tag else {
             return Ok(());
@@ -36,7 +37,7 @@ impl Printer {
     /// A clause on a line of its own, with a semicolon behind all but the last of a list.
     #[tactic(auto, using(crate::proofs::Printing::putting), unfolding(crate::specs::Canonical::Instructions::clause_line, crate::specs::View::clause_of))]
     fn clause(&mut self, indent: usize, clause: &Clause, is_last: bool) -> Result<(), AllocError>
-        ensures { OnOk result (output_of self.new ≡ put_line (output_of self.old) (clause_line indent (clause_of clause.now) is_last)) }
+        ensures { OnOk result (PutsLine self.old self.new (clause_line indent (clause_of clause.now) is_last)) }
     {
         self.begin_line(indent)?;
         self.tag(&clause.tag)?;
@@ -47,8 +48,9 @@ impl Printer {
         self.end_line()
     }
 
+    /// Clauses, each on a line of its own.
     fn clauses(&mut self, indent: usize, clauses: &[Clause]) -> Result<(), AllocError>
-        ensures { OnOk result (output_of self.new ≡ put_lines (output_of self.old) (clauses_lines indent (map clause_of clauses.now))) }
+        ensures { OnOk result (PutsLines self.old self.new (clauses_lines indent (map clause_of clauses.now))) }
     {
         for (i, clause) in clauses.iter().enumerate() {
             self.clause(indent, clause, i + 1 == clauses.len())?;
@@ -63,7 +65,8 @@ impl Printer {
         keyword: Terminal,
         clauses: &[Clause],
     ) -> Result<(), AllocError>
-        ensures { OnOk result (output_of self.new ≡ put_lines (output_of self.old) (assertion_lines indent keyword (map clause_of clauses.now))) }
+        ensures { OnOk result (PutsLines self.old self.new
+            (assertion_lines indent keyword (map clause_of clauses.now))) }
     {
         if clauses.is_empty() {
             return Ok(());
@@ -72,8 +75,9 @@ impl Printer {
         self.clauses(deeper(indent)?, clauses)
     }
 
+    /// What an assignment or a creation changes.
     fn variable(&mut self, variable: &Variable) -> Result<(), AllocError>
-        ensures { OnOk result (output_of self.new ≡ put (output_of self.old) (variable_part (variable_of variable.now))) }
+        ensures { OnOk result (PutsPart self.old self.new (variable_part (variable_of variable.now))) }
     {
         match variable {
             Variable::Named(name) => self.name(name),
@@ -81,8 +85,9 @@ impl Printer {
         }
     }
 
+    /// The call that an object is created by, behind its dot, where there is one.
     fn creation_call(&mut self, call: &Option<CreationCall>) -> Result<(), AllocError>
-        ensures { OnOk result (output_of self.new ≡ puts (output_of self.old) (creation_call_parts (creation_call_of call.now))) }
+        ensures { OnOk result (PutsParts self.old self.new (creation_call_parts (creation_call_of call.now))) }
     {
         let Some(call) = call else {
             return Ok(());
@@ -92,18 +97,20 @@ impl Printer {
         self.actuals(&call.actuals)
     }
 
+    /// A head of a separate block.
     #[tactic(auto, using(crate::proofs::Printing::putting), unfolding(crate::specs::Canonical::Instructions::head_parts, crate::specs::View::head_of))]
     fn head(&mut self, head: &Head) -> Result<(), AllocError>
-        ensures { OnOk result (output_of self.new ≡ puts (output_of self.old) (head_parts (head_of head.now))) }
+        ensures { OnOk result (PutsParts self.old self.new (head_parts (head_of head.now))) }
     {
         self.expr(&head.value)?;
         self.word(Terminal::As)?;
         self.name(&head.name)
     }
 
+    /// Heads with commas between them.
     #[tactic(auto, using(crate::proofs::Printing::putting))]
     fn heads(&mut self, heads: &[Head]) -> Result<(), AllocError>
-        ensures { OnOk result (output_of self.new ≡ puts (output_of self.old) (heads_parts (map head_of heads.now))) }
+        ensures { OnOk result (PutsParts self.old self.new (heads_parts (map head_of heads.now))) }
     {
         let [first, rest @ ..] = heads else {
             return Ok(());
@@ -116,6 +123,7 @@ impl Printer {
         Ok(())
     }
 
+    /// An assignment on a line of its own.
     #[tactic(auto, using(crate::proofs::Printing::putting), unfolding(crate::specs::Canonical::Instructions::instr_lines))]
     fn assignment(
         &mut self,
@@ -123,7 +131,7 @@ impl Printer {
         variable: &Variable,
         value: &Expr,
     ) -> Result<(), AllocError>
-        ensures { OnOk result (output_of self.new ≡ put_lines (output_of self.old)
+        ensures { OnOk result (PutsLines self.old self.new
             (instr_lines indent (Assign nowhere (variable_of variable.now) (expr_of value.now)))) }
     {
         self.begin_line(indent)?;
@@ -133,9 +141,11 @@ impl Printer {
         self.end_line()
     }
 
+    /// `print` of a manifest string on a line of its own.
     #[tactic(auto, using(crate::proofs::Printing::putting), unfolding(crate::specs::Canonical::Instructions::instr_lines))]
     fn print_text(&mut self, indent: usize, text: &String) -> Result<(), AllocError>
-        ensures { OnOk result (output_of self.new ≡ put_lines (output_of self.old) (instr_lines indent (PrintText nowhere (string_bytes text.now)))) }
+        ensures { OnOk result (PutsLines self.old self.new
+            (instr_lines indent (PrintText nowhere (string_bytes text.now)))) }
     {
         self.begin_line(indent)?;
         self.identifier(b"print")?;
@@ -145,16 +155,19 @@ impl Printer {
         self.end_line()
     }
 
+    /// A call of a procedure on a line of its own.
     #[tactic(auto, using(crate::proofs::Printing::putting), unfolding(crate::specs::Canonical::Instructions::instr_lines))]
     fn routine_call(&mut self, indent: usize, call: &Call) -> Result<(), AllocError>
-        ensures { OnOk result (output_of self.new ≡ put_lines (output_of self.old)
-            (instr_lines indent (CallRoutine nowhere (target_of call.now.target) (name_of call.now.name) (exprs_of call.now.actuals.items)))) }
+        ensures { OnOk result (PutsLines self.old self.new
+            (instr_lines indent (CallRoutine nowhere
+            (target_of call.now.target) (name_of call.now.name) (exprs_of call.now.actuals.items)))) }
     {
         self.begin_line(indent)?;
         self.call(call)?;
         self.end_line()
     }
 
+    /// A creation on a line of its own.
     #[tactic(auto, using(crate::proofs::Printing::putting), unfolding(crate::specs::Canonical::Instructions::instr_lines))]
     fn creation(
         &mut self,
@@ -162,8 +175,9 @@ impl Printer {
         variable: &Variable,
         call: &Option<CreationCall>,
     ) -> Result<(), AllocError>
-        ensures { OnOk result (output_of self.new ≡ put_lines (output_of self.old)
-            (instr_lines indent (Create nowhere (variable_of variable.now) (creation_call_of call.now)))) }
+        ensures { OnOk result (PutsLines self.old self.new
+            (instr_lines indent (Create nowhere
+            (record { variable = variable_of variable.now; call = creation_call_of call.now })))) }
     {
         self.begin_line(indent)?;
         self.word(Terminal::Create)?;
@@ -180,7 +194,7 @@ impl Printer {
         keyword: Terminal,
         condition: &Expr,
     ) -> Result<(), AllocError>
-        ensures { OnOk result (output_of self.new ≡ put_line (output_of self.old) (guard_line indent keyword (expr_of condition.now))) }
+        ensures { OnOk result (PutsLine self.old self.new (guard_line indent keyword (expr_of condition.now))) }
     {
         self.begin_line(indent)?;
         self.word(keyword)?;
@@ -191,7 +205,7 @@ impl Printer {
 
     /// The condition to leave a loop.
     fn condition(&mut self, indent: usize, condition: &Expr) -> Result<(), AllocError>
-        ensures { OnOk result (output_of self.new ≡ put_line (output_of self.old) (line indent (expr_parts (expr_of condition.now)))) }
+        ensures { OnOk result (PutsLine self.old self.new (line indent (expr_parts (expr_of condition.now)))) }
     {
         self.begin_line(indent)?;
         self.expr(condition)?;
@@ -200,7 +214,7 @@ impl Printer {
 
     /// `else`, where something stands under it.
     fn other(&mut self, indent: usize, other: &[Instr]) -> Result<(), AllocError>
-        ensures { OnOk result (output_of self.new ≡ put_lines (output_of self.old) (else_lines indent (instrs_of other.now))) }
+        ensures { OnOk result (PutsLines self.old self.new (else_lines indent (instrs_of other.now))) }
     {
         if other.is_empty() {
             return Ok(());
@@ -208,9 +222,10 @@ impl Printer {
         self.word_line(indent, Terminal::Else)
     }
 
+    /// The line that a separate block begins with.
     #[tactic(auto, using(crate::proofs::Printing::putting))]
     fn reservation(&mut self, indent: usize, heads: &[Head]) -> Result<(), AllocError>
-        ensures { OnOk result (output_of self.new ≡ put_line (output_of self.old) (reservation_line indent (map head_of heads.now))) }
+        ensures { OnOk result (PutsLine self.old self.new (reservation_line indent (map head_of heads.now))) }
     {
         self.begin_line(indent)?;
         self.word(Terminal::Separate)?;
@@ -219,10 +234,11 @@ impl Printer {
         self.end_line()
     }
 
+    /// An instruction, from its first line to its last.
     #[cycle(instructions)]
     #[tactic(auto, using(crate::proofs::Printing::putting), unfolding(crate::specs::Canonical::Instructions::instr_lines, crate::specs::View::instr_of))]
     fn instr(&mut self, indent: usize, instr: &Instr) -> Result<(), AllocError>
-        ensures { OnOk result (output_of self.new ≡ put_lines (output_of self.old) (instr_lines indent (instr_of instr.now))) }
+        ensures { OnOk result (PutsLines self.old self.new (instr_lines indent (instr_of instr.now))) }
     {
         let inner = deeper(indent)?;
         match instr {
@@ -260,10 +276,11 @@ impl Printer {
         }
     }
 
+    /// Instructions one after the other.
     #[cycle(instructions)]
     #[tactic(auto, using(crate::proofs::Printing::putting), unfolding(crate::specs::Canonical::Instructions::instr_lines))]
     pub fn instrs(&mut self, indent: usize, instrs: &[Instr]) -> Result<(), AllocError>
-        ensures { OnOk result (output_of self.new ≡ put_lines (output_of self.old) (instrs_lines indent (instrs_of instrs.now))) }
+        ensures { OnOk result (PutsLines self.old self.new (instrs_lines indent (instrs_of instrs.now))) }
     {
         for instr in instrs {
             self.instr(indent, instr)?;
@@ -271,10 +288,11 @@ impl Printer {
         Ok(())
     }
 
+    /// Each `elseif`, with what stands under it.
     #[cycle(instructions)]
     #[tactic(auto, using(crate::proofs::Printing::putting), unfolding(crate::specs::Canonical::Instructions::instr_lines))]
     fn branches(&mut self, indent: usize, branches: &[Branch]) -> Result<(), AllocError>
-        ensures { OnOk result (output_of self.new ≡ put_lines (output_of self.old) (branches_lines indent (branches_of branches.now))) }
+        ensures { OnOk result (PutsLines self.old self.new (branches_lines indent (branches_of branches.now))) }
     {
         for branch in branches {
             self.guard(indent, Terminal::Elseif, &branch.condition)?;

@@ -2,15 +2,15 @@
 
 ghost use Rattle.std.specs.Prelude.{◌≡◌, ◌≤◌};
 ghost use Rattle.sc_tree.specs.Canonical.Expressions.{class_of_expr, left_class};
-ghost use Rattle.sc_tree.specs.Grammar.{prefix_of, terminals_of, under};
+ghost use Rattle.sc_tree.specs.Grammar.{class_below, prefix_of, terminals_of};
 ghost use Rattle.sc_tree.specs.View.{expr_of};
 
 use crate::expression::{BinaryOperator, Expr, UnaryOperator};
 use sc_text::Terminal;
 
 /// The class below an operator's own: the greatest that its right operand has without parentheses.
-pub fn under(operator: BinaryOperator) -> u8
-    ensures value { result ≡ under operator }
+pub fn class_below(operator: BinaryOperator) -> u8
+    ensures value { result ≡ class_below operator }
     ensures small { result ≤ 5 }
 {
     match operator {
@@ -29,7 +29,7 @@ pub fn under(operator: BinaryOperator) -> u8
 pub fn left_class(operator: BinaryOperator) -> u8
     ensures { result ≡ left_class operator }
 {
-    let class = under(operator);
+    let class = class_below(operator);
     if class == 2 { class } else { class + 1 }
 }
 
@@ -39,11 +39,12 @@ pub fn class_of(expr: &Expr) -> u8
     ensures { result ≡ class_of_expr (expr_of expr.now) }
 {
     match expr {
-        Expr::Binary(_, operator, _, _) => under(*operator) + 1,
+        Expr::Binary(_, operator, _, _) => class_below(*operator) + 1,
         _ => 0,
     }
 }
 
+/// What an operator before its operand is spelled by.
 pub fn prefix(operator: UnaryOperator) -> Terminal
     ensures { result ≡ prefix_of operator }
 {

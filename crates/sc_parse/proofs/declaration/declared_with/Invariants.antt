@@ -1,7 +1,7 @@
 use Rattle.std.proofs.Common.{◌≡◌, map}
 use Rattle.sc_tree.specs.Grammar.Classes.{declared_as}
 use Rattle.sc_tree.specs.View.{name_of}
-use Rattle.sc_parse.specs.Reads.{declarations_in, type_in}
+use Rattle.sc_parse.specs.Reading.Reads.{declarations_in, type_in}
 use Rattle.sc_parse.proofs.declaration.declared_with.Given as goal
 
 abbrev pub invariant-loop-name : goal.invariant-loop-name

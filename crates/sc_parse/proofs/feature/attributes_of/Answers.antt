@@ -9,7 +9,7 @@ use Rattle.sc_tree.specs.Plain as plain
 use Rattle.sc_tree.specs.Grammar.Classes.{attribute_of}
 use Rattle.sc_tree.specs.View.{feature_of, kind_of}
 use Rattle.sc_parse.proofs.Views.{feature_of-is}
-use Rattle.sc_parse.specs.Reads.{name_in, names_in, type_in}
+use Rattle.sc_parse.specs.Reading.Reads.{name_in, names_in, type_in}
 use Rattle.sc_parse.proofs.Lists.{named_push}
 use Rattle.sc_parse.proofs.feature.attributes_of.Goals as goal
 

@@ -1,7 +1,7 @@
 use Rattle.std.proofs.Common.{◌≡◌, map}
 use Rattle.sc_tree.specs.Grammar.Classes.{attribute_of}
 use Rattle.sc_tree.specs.View.{name_of}
-use Rattle.sc_parse.specs.Reads.{features_in, names_in, type_in}
+use Rattle.sc_parse.specs.Reading.Reads.{features_in, names_in, type_in}
 use Rattle.sc_parse.proofs.feature.attributes_of.Given as goal
 
 abbrev pub invariant-loop-name : goal.invariant-loop-name

@@ -3,7 +3,7 @@ use Rattle.sc_tree.specs.declared.system.Feature.{Feature}
 use Rattle.sc_tree.specs.Plain as plain
 use Rattle.sc_tree.specs.View.{feature_of}
 use Rattle.sc_parse.proofs.Views.{feature_of-is}
-use Rattle.sc_parse.specs.Reads.{feature_with, name_in, names_in}
+use Rattle.sc_parse.specs.Reading.Reads.{feature_with, name_in, names_in}
 use Rattle.sc_parse.proofs.feature.one_feature.Goals as goal
 
 pub returns : goal.returns

@@ -3,7 +3,7 @@ use Rattle.std.proofs.ResultArms.{chosen}
 use Rattle.std.proofs.lemmas.List.{map_push}
 use Rattle.std.proofs.lemmas.Result.{err_from_is_err_and}
 use Rattle.sc_text.specs.Spelling.{Lexeme, lexeme_of, lexemes_of}
-use Rattle.sc_text.specs.Reading.{front_of}
+use Rattle.sc_text.specs.Reading.Answers.{front_of}
 use Rattle.sc_text.proofs.Whole.{IsRead, Goes, nothing_read, step_gap, step_token, refused_by, all_read, spelled_in_order, one_spelling_lem, spelled_not_refused}
 use Rattle.sc_text.proofs.lexer.lex.Goals as goal
 use Rattle.sc_text.proofs.lexer.lex.Goals.{In-Gap, In-Token}

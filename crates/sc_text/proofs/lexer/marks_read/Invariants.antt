@@ -1,5 +1,5 @@
 use Rattle.std.proofs.Common.{◌≡◌, ◌+◌, false, [], length, string_bytes, IsUtf8}
-use Rattle.sc_text.specs.Reading.{marks_read}
+use Rattle.sc_text.specs.Reading.Front.{marks_read}
 use Rattle.sc_text.proofs.lexer.marks_read.Given as goal
 
 abbrev pub invariant-loop-rest : goal.invariant-loop-rest

@@ -1,5 +1,5 @@
 use Rattle.std.proofs.Common.{◌≡◌, false, drop}
-use Rattle.sc_text.specs.Reading.{closing}
+use Rattle.sc_text.specs.Reading.Lengths.{closing}
 use Rattle.sc_text.proofs.scan.closing_quote.Given as goal
 
 abbrev pub invariant-loop-at : goal.invariant-loop-at

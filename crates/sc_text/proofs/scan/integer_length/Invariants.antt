@@ -1,5 +1,5 @@
 use Rattle.std.proofs.Common.{◌≡◌, ◌≤◌, drop}
-use Rattle.sc_text.specs.Reading.{integer_end}
+use Rattle.sc_text.specs.Reading.Lengths.{integer_end}
 use Rattle.sc_text.proofs.scan.integer_length.Given as goal
 
 abbrev pub invariant-loop-at : goal.invariant-loop-at

@@ -2,7 +2,7 @@ use Rattle.std.proofs.Common.{ap, ◌∙◌, map, ◌++◌}
 use Rattle.sc_tree.specs.Canonical.{canonical_text}
 use Rattle.sc_tree.specs.Canonical.Layout.{text_of_lines}
 use Rattle.sc_tree.specs.Canonical.Classes.{classes_lines}
-use Rattle.sc_tree.specs.Printer.{Output}
+use Rattle.sc_tree.specs.Internal.Printer.{Output}
 use Rattle.sc_tree.specs.View.{class_of, system_of}
 use Rattle.sc_tree.proofs.PrintingClasses.{put_lines-text}
 use Rattle.sc_tree.proofs.print.print_system.Goals as goal

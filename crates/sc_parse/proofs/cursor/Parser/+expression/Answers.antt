@@ -11,16 +11,16 @@ use Rattle.sc_tree.specs.declared.expression.BinaryOperator.{BinaryOperator}
 use Rattle.sc_tree.specs.declared.expression.Expr.TheVariants as variants
 use Rattle.sc_tree.specs.Plain as plain
 use Rattle.sc_tree.specs.View.{exprs_of}
-use Rattle.sc_parse.specs.Places.{place_of}
+use Rattle.sc_tree.specs.Properties.{span_of}
 use Rattle.sc_parse.specs.Reading.Expressions.{across, nested, actuals}
-use Rattle.sc_parse.specs.Reads.{ahead, name_in, type_if_any_in, expr_in, exprs_in, target_in}
+use Rattle.sc_parse.specs.Reading.Reads.{ahead, name_in, type_if_any_in, expr_in, exprs_in, target_in}
 use Rattle.sc_parse.proofs.Faults.{Reads-along}
 use Rattle.sc_parse.proofs.Turns.{operators_begin, operators_deep, operators_fail, operators_done, calls_begin, calls_fail, calls_more, chain_current, chain_result, chain_fail, chain_dots, exprs_begin, exprs_more}
 use Rattle.sc_parse.proofs.Steps.{calling_is, object_test_is}
 use Rattle.sc_parse.proofs.cursor.Parser.+expression.Goals as goal
 
 -- the tree of an operator between two operands
-binary_is : (op : BinaryOperator) (a b : Expr) (p q : Box Expr Global) (start end : ℕ) → start ≡ (place_of (expr_in a)).start → end ≡ (place_of (expr_in b)).end → p.value ≡ a → q.value ≡ b →
+binary_is : (op : BinaryOperator) (a b : Expr) (p q : Box Expr Global) (start end : ℕ) → start ≡ (span_of (expr_in a)).start → end ≡ (span_of (expr_in b)).end → p.value ≡ a → q.value ≡ b →
     expr_in (variants.Binary (record { start = start; end = end }) op p q) ≡ plain.Binary (across (expr_in a) (expr_in b)) op (expr_in a) (expr_in b)
 binary_is op a b p q start end s e u v =
     let k = across (expr_in a) (expr_in b) in
@@ -46,7 +46,7 @@ pub operators-returns-then-not-is_grouped-clause-read : goal.operators-returns-t
 operators-returns-then-not-is_grouped-clause-read t c =
     operators_done (nested c.args.room) c.args.room c.args.class _ c.loop-turn._turn (expr_in c.loop-turn.left) c.loop-turn.height (ahead c.loop-turn.self) _ c.loop-turn.invariant.same
     _ _ _ c.loop-turn-test.true c.operator.ensures c.in-Some.is c.if-room-height.false c.take_operator.ensures _ _ _ _ _ _ c.in_ok-right.ensures.read c.is_grouped.ensures c.if-not-is_grouped.true
-    (binary_is _ _ _ _ _ _ _ (ap (λ (s : Span). s.start) c.span_of.ensures) (ap (λ (s : Span). s.end) c.span_of-in-loop-turn.ensures) c.in_ok-new.ensures.ok c.in_ok-new-2.ensures.ok)
+    (binary_is _ _ _ _ _ _ _ (ap (λ (s : Span). s.start) c.span.ensures) (ap (λ (s : Span). s.end) c.span-in-loop-turn.ensures) c.in_ok-new.ensures.ok c.in_ok-new-2.ensures.ok)
     c.deeper-height.ensures
 
 -- ---- calls
@@ -60,14 +60,14 @@ calls-returns-in_err-call-clause-read t c =
     rw (p.1, p.2)
     (calls_fail (nested c.args.room) c.args.room _ c.loop-turn._turn (expr_in c.loop-turn.chain) c.loop-turn.height (ahead c.loop-turn.self) _ c.loop-turn.invariant.same
     _ _ _ c.loop-turn-test.true c.sees.ensures c.if-not-sees.false c.if-room-height.false c.take.ensures.past
-    (ap (λ (e : Expr). plain.target (expr_in e)) c.in_ok-target.ensures.ok) _ (ap (λ (s : Span). s.start) c.span_of-start.ensures) c.in_err-call.field-0.0 c.in_err-call.ensures.read)
+    (ap (λ (e : Expr). plain.target (expr_in e)) c.in_ok-target.ensures.ok) _ (ap (λ (s : Span). s.start) c.span-start.ensures) c.in_err-call.field-0.0 c.in_err-call.ensures.read)
 
 pub calls-loop-turn-preserved : goal.calls-loop-turn-preserved
 calls-loop-turn-preserved t c = record {
   high = omega (arith, c.deeper-height.ensures, c.in_ok-call.ensures.high, c.if-room-height.false);
   same = calls_more (nested c.args.room) c.args.room _ c.loop-turn._turn (expr_in c.loop-turn.chain) c.loop-turn.height (ahead c.loop-turn.self) _ c.loop-turn.invariant.same
       _ _ _ c.loop-turn-test.true c.sees.ensures c.if-not-sees.false c.if-room-height.false c.take.ensures.past
-      (ap (λ (e : Expr). plain.target (expr_in e)) c.in_ok-target.ensures.ok) _ (ap (λ (s : Span). s.start) c.span_of-start.ensures) _ _ _ _ c.in_ok-call.ensures.read c.deeper-height.ensures;
+      (ap (λ (e : Expr). plain.target (expr_in e)) c.in_ok-target.ensures.ok) _ (ap (λ (s : Span). s.start) c.span-start.ensures) _ _ _ _ c.in_ok-call.ensures.read c.deeper-height.ensures;
 }
 
 pub calling-returns-clause-read : goal.calling-returns-clause-read

@@ -1,7 +1,7 @@
 use Rattle.std.proofs.Common.{◌≡◌, ◌≤◌, ◌<◌, ◌+◌, ◌-◌, ◌*◌}
 use Rattle.sc_parse.specs.Reading.Looks.{left, left}
 use Rattle.sc_parse.specs.Reading.Expressions as spec
-use Rattle.sc_parse.specs.Reads.{ahead, expr_in, exprs_in}
+use Rattle.sc_parse.specs.Reading.Reads.{ahead, expr_in, exprs_in}
 use Rattle.sc_parse.proofs.cursor.Parser.+expression.Given as goal
 
 abbrev pub decreases-nested : goal.decreases-nested

@@ -2,11 +2,11 @@ use Rattle.std.proofs.Common.{ap, sym, ◌∙◌, max, suc, arith}
 use Rattle.std.proofs.lemmas.Grind.{common_steps}
 use Rattle.sc_tree.proofs.ViewLemmas.{instr_of-if, instr_of-loop, instr_of-block}
 use Rattle.sc_parse.proofs.Views.{instrs_of-push, branches_of-push}
-use Rattle.sc_parse.specs.Reading.Instructions.{guarded, conditional, nested_instrs}
+use Rattle.sc_parse.specs.Reading.Instructions.{branch, conditional, nested_instrs}
 use Rattle.sc_tree.specs.View.{instrs_of, branches_of}
 use Rattle.sc_text.specs.declared.token.Span.{Span}
 use Rattle.sc_tree.specs.Plain.{Loop, Block}
-use Rattle.sc_parse.specs.Reads.{ahead, expr_in, heads_in, instrs_in, branches_in}
+use Rattle.sc_parse.specs.Reading.Reads.{ahead, expr_in, heads_in, instrs_in, branches_in}
 use Rattle.sc_parse.proofs.Turns.{instrs_begin, instrs_end, instrs_more, branches_begin, branches_more}
 use Rattle.sc_parse.proofs.Steps.{iteration_is, block_is}
 use Rattle.sc_parse.proofs.cursor.Parser.+instructions.Goals as goal
@@ -37,9 +37,9 @@ branches-loop-turn-preserved t c = (
       ∙ c.loop-turn.invariant.1,
 )
 
-pub guarded-returns : goal.guarded-returns
-unfolding guarded
-guarded-returns t c = (max c.in_ok-condition.field-0-1 c.in_ok-body.ensures.0, grind (arith, common_steps))
+pub branch-returns : goal.branch-returns
+unfolding branch
+branch-returns t c = (max c.in_ok-condition.field-0-1 c.in_ok-body.ensures.0, grind (arith, common_steps))
 
 pub conditional-returns : goal.conditional-returns
 unfolding conditional

@@ -2,14 +2,14 @@ use Rattle.std.proofs.Common.{◌≡◌, ◌+◌, ◌-◌, ◌*◌, ℕ}
 use Rattle.sc_parse.specs.Reading.Looks.{left, left}
 use Rattle.sc_tree.specs.Plain.{no_branches}
 use Rattle.sc_parse.specs.Reading.Instructions as spec
-use Rattle.sc_parse.specs.Reads.{ahead, instrs_in, branches_in}
+use Rattle.sc_parse.specs.Reading.Reads.{ahead, instrs_in, branches_in}
 use Rattle.sc_parse.proofs.cursor.Parser.+instructions.Given as goal
 
 abbrev pub decreases-instructions_inside : goal.decreases-instructions_inside
 decreases-instructions_inside l = l.room * 16
 
-abbrev pub decreases-guarded : goal.decreases-guarded
-decreases-guarded l = l.room * 16 + 1
+abbrev pub decreases-branch : goal.decreases-branch
+decreases-branch l = l.room * 16 + 1
 
 abbrev pub decreases-other : goal.decreases-other
 decreases-other l = l.room * 16 + 1

@@ -10,7 +10,7 @@ use Rattle.sc_tree.specs.Plain as plain
 use Rattle.sc_parse.specs.Reading.Classes as spec
 use Rattle.sc_tree.specs.View.{declaration_of, kind_of}
 use Rattle.sc_tree.proofs.Combining.{choose_false, not_both}
-use Rattle.sc_parse.specs.Reads.{ahead, type_if_any_in, feature_with}
+use Rattle.sc_parse.specs.Reading.Reads.{ahead, type_if_any_in, feature_with}
 use Rattle.sc_parse.proofs.cursor.Parser.attribute_or_routine.Goals as goal
 use Rattle.sc_parse.proofs.cursor.Parser.attribute_or_routine.Goals.{then-is_empty, else-is_empty}
 
@@ -31,9 +31,9 @@ returns-in_ok-features-in-Some c =
           )
       | else-is_empty w ↦ absurd (not_both c.if-is_attribute.true (w.is_attribute-is ∙ w.if-is_empty.false))
     ] in
-    let plainly : spec.begins_routine (ahead c.args.self.now) ≡ false =
+    let unplaced : spec.begins_routine (ahead c.args.self.now) ≡ false =
     elim c.if-is_empty.branch [
       | then-is_empty w ↦ sym w.begins_routine.ensures ∙ not-true _ (sym w.is_attribute-is ∙ c.if-is_attribute.true)
       | else-is_empty w ↦ absurd (not_both c.if-is_attribute.true (w.is_attribute-is ∙ w.if-is_empty.false))
     ] in
-    (0, attribute_read c.args.room _ _ c.args.formals.items _ _ (ahead c.args.self.now) _ none c.in-Some.is plainly c.in_ok-features-in-Some.ensures)
+    (0, attribute_read c.args.room _ _ c.args.formals.items _ _ (ahead c.args.self.now) _ none c.in-Some.is unplaced c.in_ok-features-in-Some.ensures)

@@ -3,7 +3,7 @@ use Rattle.sc_text.specs.declared.token.Span.{Span}
 use Rattle.sc_tree.specs.Plain.{Check}
 use Rattle.sc_tree.proofs.ViewLemmas.{instr_of-check}
 use Rattle.sc_parse.specs.Reading.Instructions.{nested_instrs}
-use Rattle.sc_parse.specs.Reads.{ahead, clauses_in}
+use Rattle.sc_parse.specs.Reading.Reads.{ahead, clauses_in}
 use Rattle.sc_parse.proofs.Steps.{checking_is}
 use Rattle.sc_parse.proofs.cursor.Parser.checking.Goals as goal
 

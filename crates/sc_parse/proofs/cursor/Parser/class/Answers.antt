@@ -6,7 +6,7 @@ use Rattle.sc_parse.specs.Reading.Classes as spec
 use Rattle.sc_tree.proofs.Combining.{bind_ok}
 use Rattle.sc_parse.proofs.Views.{class_of-is}
 use Rattle.sc_parse.specs.Reading.Looks.{Ahead, begin, up_to}
-use Rattle.sc_parse.specs.Reads.{ahead, header_ahead, members_ahead}
+use Rattle.sc_parse.specs.Reading.Reads.{ahead, header_ahead, members_ahead}
 use Rattle.sc_parse.proofs.Parts.{class_is, class_with, after_header}
 use Rattle.sc_parse.proofs.cursor.Parser.class.Goals as goal
 

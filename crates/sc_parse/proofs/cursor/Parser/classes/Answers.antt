@@ -1,7 +1,7 @@
 use Rattle.std.proofs.Common.{ap, ◌∙◌, max, map}
 use Rattle.sc_tree.specs.View.{class_of}
 use Rattle.sc_parse.proofs.Views.{map-push}
-use Rattle.sc_parse.specs.Reads.{ahead, classes_in}
+use Rattle.sc_parse.specs.Reading.Reads.{ahead, classes_in}
 use Rattle.sc_parse.proofs.Lists.{classes_more}
 use Rattle.sc_parse.proofs.cursor.Parser.classes.Goals as goal
 

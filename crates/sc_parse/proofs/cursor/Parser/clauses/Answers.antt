@@ -1,7 +1,7 @@
 use Rattle.std.proofs.Common.{ap, ◌∙◌, max, map}
 use Rattle.sc_tree.specs.View.{clause_of}
 use Rattle.sc_parse.proofs.Views.{map-push}
-use Rattle.sc_parse.specs.Reads.{ahead, clauses_in}
+use Rattle.sc_parse.specs.Reading.Reads.{ahead, clauses_in}
 use Rattle.sc_parse.proofs.Lists.{clauses_begin, clauses_more}
 use Rattle.sc_parse.proofs.cursor.Parser.clauses.Goals as goal
 

@@ -1,6 +1,6 @@
 use Rattle.std.proofs.Common.{◌≡◌, ◌-◌, ℕ}
 use Rattle.sc_parse.specs.Reading.Assertions as spec
-use Rattle.sc_parse.specs.Reads.{ahead, clauses_in}
+use Rattle.sc_parse.specs.Reading.Reads.{ahead, clauses_in}
 use Rattle.sc_parse.proofs.cursor.Parser.clauses.Given as goal
 
 abbrev pub invariant-loop-turn : goal.invariant-loop-turn

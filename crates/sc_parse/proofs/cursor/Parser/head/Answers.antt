@@ -1,6 +1,6 @@
 use Rattle.sc_parse.proofs.Views.{head_of-is}
 use Rattle.sc_parse.specs.Reading.Instructions.{nested_instrs}
-use Rattle.sc_parse.specs.Reads.{ahead}
+use Rattle.sc_parse.specs.Reading.Reads.{ahead}
 use Rattle.sc_parse.proofs.Steps.{head_is}
 use Rattle.sc_parse.proofs.cursor.Parser.head.Goals as goal
 

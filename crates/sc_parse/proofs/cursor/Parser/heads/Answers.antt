@@ -1,7 +1,7 @@
 use Rattle.std.proofs.Common.{ap, ◌∙◌, max, map}
 use Rattle.sc_tree.specs.View.{head_of}
 use Rattle.sc_parse.proofs.Views.{map-push}
-use Rattle.sc_parse.specs.Reads.{ahead, heads_in}
+use Rattle.sc_parse.specs.Reading.Reads.{ahead, heads_in}
 use Rattle.sc_parse.proofs.Turns.{heads_more}
 use Rattle.sc_parse.proofs.cursor.Parser.heads.Goals as goal
 

@@ -1,6 +1,6 @@
 use Rattle.std.proofs.Common.{◌≡◌, ◌-◌, ℕ}
 use Rattle.sc_parse.specs.Reading.Instructions as spec
-use Rattle.sc_parse.specs.Reads.{ahead, heads_in}
+use Rattle.sc_parse.specs.Reading.Reads.{ahead, heads_in}
 use Rattle.sc_parse.proofs.cursor.Parser.heads.Given as goal
 
 abbrev pub invariant-loop-turn : goal.invariant-loop-turn

@@ -1,7 +1,7 @@
 use Rattle.std.proofs.Common.{ap, ◌∙◌, map}
 use Rattle.std.proofs.lemmas.List.{map-append}
 use Rattle.sc_tree.specs.View.{declaration_of}
-use Rattle.sc_parse.specs.Reads.{ahead, declarations_in}
+use Rattle.sc_parse.specs.Reading.Reads.{ahead, declarations_in}
 use Rattle.sc_parse.proofs.Lists.{locals_more}
 use Rattle.sc_parse.proofs.cursor.Parser.locals.Goals as goal
 

@@ -1,6 +1,6 @@
 use Rattle.std.proofs.Common.{◌≡◌, ◌-◌}
 use Rattle.sc_parse.specs.Reading.Classes as spec
-use Rattle.sc_parse.specs.Reads.{ahead, declarations_in}
+use Rattle.sc_parse.specs.Reading.Reads.{ahead, declarations_in}
 use Rattle.sc_parse.proofs.cursor.Parser.locals.Given as goal
 
 abbrev pub invariant-loop-turn : goal.invariant-loop-turn

@@ -3,7 +3,7 @@ use Rattle.std.proofs.lemmas.List.{map-append}
 use Rattle.sc_text.specs.declared.token.Terminal.TheVariants as terminal
 use Rattle.sc_parse.specs.Reading.Looks.{sees, name_ahead}
 use Rattle.sc_tree.specs.View.{declaration_of}
-use Rattle.sc_parse.specs.Reads.{ahead, declarations_in}
+use Rattle.sc_parse.specs.Reading.Reads.{ahead, declarations_in}
 use Rattle.sc_parse.proofs.Lists.{declarations_more}
 use Rattle.sc_parse.proofs.cursor.Parser.more_declarations.Goals as goal
 use Rattle.sc_parse.proofs.cursor.Parser.more_declarations.Goals.{then-sees, else-sees}

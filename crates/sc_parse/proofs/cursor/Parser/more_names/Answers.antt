@@ -1,7 +1,7 @@
 use Rattle.std.proofs.Common.{ap, ◌∙◌, map}
 use Rattle.sc_tree.specs.View.{name_of}
 use Rattle.sc_parse.proofs.Views.{map-push}
-use Rattle.sc_parse.specs.Reads.{ahead, names_in}
+use Rattle.sc_parse.specs.Reading.Reads.{ahead, names_in}
 use Rattle.sc_parse.proofs.Lists.{more_names_more}
 use Rattle.sc_parse.proofs.cursor.Parser.more_names.Goals as goal
 

@@ -1,7 +1,7 @@
 use Rattle.std.proofs.Common.{◌≡◌, ◌-◌, [], ◌∷◌}
 use Rattle.sc_parse.specs.Reading.Looks.{left, left}
 use Rattle.sc_parse.specs.Reading.Types as spec
-use Rattle.sc_parse.specs.Reads.{ahead, name_in, names_in}
+use Rattle.sc_parse.specs.Reading.Reads.{ahead, name_in, names_in}
 use Rattle.sc_parse.proofs.cursor.Parser.more_names.Given as goal
 
 abbrev pub invariant-loop-turn : goal.invariant-loop-turn

@@ -1,7 +1,7 @@
 use Rattle.std.proofs.Common.{ap, ◌∙◌, map}
 use Rattle.sc_tree.specs.View.{parent_of}
 use Rattle.sc_parse.proofs.Views.{map-push}
-use Rattle.sc_parse.specs.Reads.{ahead, parents_in}
+use Rattle.sc_parse.specs.Reading.Reads.{ahead, parents_in}
 use Rattle.sc_parse.proofs.Lists.{parents_more}
 use Rattle.sc_parse.proofs.cursor.Parser.more_parents.Goals as goal
 

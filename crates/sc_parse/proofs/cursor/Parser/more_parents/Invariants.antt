@@ -2,7 +2,7 @@ use Rattle.std.proofs.Common.{◌≡◌, ◌-◌, [], ◌∷◌}
 use Rattle.sc_text.specs.declared.token.Terminal.TheVariants as terminal
 use Rattle.sc_parse.specs.Reading.Looks.{left, left, skip}
 use Rattle.sc_parse.specs.Reading.Classes as spec
-use Rattle.sc_parse.specs.Reads.{ahead, parent_in, parents_in}
+use Rattle.sc_parse.specs.Reading.Reads.{ahead, parent_in, parents_in}
 use Rattle.sc_parse.proofs.cursor.Parser.more_parents.Given as goal
 
 abbrev pub invariant-loop-turn : goal.invariant-loop-turn

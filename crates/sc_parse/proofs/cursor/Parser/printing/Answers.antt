@@ -4,7 +4,7 @@ use Rattle.sc_tree.specs.Plain.{PrintText}
 use Rattle.sc_tree.proofs.ViewLemmas.{instr_of-print_text}
 use Rattle.sc_parse.specs.Reading.Looks.{past}
 use Rattle.sc_parse.specs.Reading.Instructions.{nested_instrs}
-use Rattle.sc_parse.specs.Reads.{ahead}
+use Rattle.sc_parse.specs.Reading.Reads.{ahead}
 use Rattle.sc_parse.proofs.Steps.{printing_is}
 use Rattle.sc_parse.proofs.cursor.Parser.printing.Goals as goal
 

@@ -1,7 +1,7 @@
 use Rattle.std.proofs.Common.{ap, ◌∙◌}
 use Rattle.sc_tree.proofs.ViewLemmas.{expr_of-call, instr_of-call}
 use Rattle.sc_parse.specs.Reading.Instructions.{nested_instrs}
-use Rattle.sc_parse.specs.Reads.{ahead, expr_in}
+use Rattle.sc_parse.specs.Reading.Reads.{ahead, expr_in}
 use Rattle.sc_parse.proofs.Steps.{routine_call_is, routine_call_fails}
 use Rattle.sc_parse.proofs.cursor.Parser.routine_call.Goals as goal
 

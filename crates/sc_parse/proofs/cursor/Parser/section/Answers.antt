@@ -2,8 +2,8 @@ use Rattle.std.proofs.Common.{ap, subst, sym, ◌∙◌, max, map}
 use Rattle.std.proofs.lemmas.List.{map-append}
 use Rattle.std.proofs.lemmas.Result.{err_from_is_err_and}
 use Rattle.sc_tree.specs.View.{feature_of}
-use Rattle.sc_parse.specs.Reads.{ahead, features_in, names_in}
-use Rattle.sc_parse.specs.Sections.{AddsExported}
+use Rattle.sc_parse.specs.Reading.Reads.{ahead, features_in, names_in}
+use Rattle.sc_parse.specs.Reading.Sections.{AddsExported}
 use Rattle.sc_parse.proofs.SectionLemmas.{adds_none, adds_more, declared_exported}
 use Rattle.sc_parse.proofs.Faults.{Fails-along}
 use Rattle.sc_parse.proofs.Lists.{features_begin, features_none, features_fail, features_more, features_end}

@@ -1,8 +1,8 @@
 use Rattle.std.proofs.Common.{◌≡◌, ◌-◌, ℕ}
 use Rattle.sc_parse.specs.Reading.Looks.{left, left}
 use Rattle.sc_parse.specs.Reading.Classes as spec
-use Rattle.sc_parse.specs.Reads.{ahead, features_in, names_in}
-use Rattle.sc_parse.specs.Sections.{AddsExported}
+use Rattle.sc_parse.specs.Reading.Reads.{ahead, features_in, names_in}
+use Rattle.sc_parse.specs.Reading.Sections.{AddsExported}
 use Rattle.sc_parse.proofs.cursor.Parser.section.Given as goal
 
 abbrev pub invariant-loop-turn : goal.invariant-loop-turn

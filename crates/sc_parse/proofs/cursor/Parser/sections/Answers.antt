@@ -6,10 +6,10 @@ use Rattle.sc_tree.specs.declared.expression.Name.{Name}
 use Rattle.sc_tree.specs.Plain as plain
 use Rattle.sc_tree.specs.View.{feature_of}
 use Rattle.sc_parse.specs.Reading.Looks.{Ahead, Taken}
-use Rattle.sc_parse.specs.Reads.{ahead, features_in, names_in}
+use Rattle.sc_parse.specs.Reading.Reads.{ahead, features_in, names_in}
 use Rattle.sc_tree.specs.Sections.{share_lists}
 use Rattle.sc_parse.specs.Reading.Classes as spec
-use Rattle.sc_parse.specs.Sections.{begun_at}
+use Rattle.sc_parse.specs.Reading.Sections.{begun_at}
 use Rattle.sc_parse.proofs.SectionLemmas.{features_begun, lists_shared}
 use Rattle.sc_parse.proofs.Faults.{Fails-along}
 use Rattle.sc_parse.proofs.Lists.{sections_begin, exports_fail, sections_fail, sections_more}

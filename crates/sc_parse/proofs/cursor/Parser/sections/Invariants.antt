@@ -1,7 +1,7 @@
 use Rattle.std.proofs.Common.{◌≡◌, ◌-◌, ℕ, IsTrue}
 use Rattle.sc_parse.specs.Reading.Classes as spec
 use Rattle.sc_tree.specs.Sections.{share_lists}
-use Rattle.sc_parse.specs.Reads.{ahead, features_in}
+use Rattle.sc_parse.specs.Reading.Reads.{ahead, features_in}
 use Rattle.sc_parse.proofs.cursor.Parser.sections.Given as goal
 
 abbrev pub invariant-loop-turn : goal.invariant-loop-turn

@@ -2,7 +2,7 @@ use Rattle.std.proofs.Common.{◌≡◌}
 use Rattle.sc_parse.specs.Reading.Looks.{left}
 use Rattle.sc_tree.specs.Grammar.Classes.{ends_class}
 use Rattle.sc_parse.specs.Reading.Classes as spec
-use Rattle.sc_parse.specs.Reads.{ahead}
+use Rattle.sc_parse.specs.Reading.Reads.{ahead}
 use Rattle.sc_parse.proofs.cursor.Parser.skip_last_note.Given as goal
 
 abbrev pub invariant-loop-token : goal.invariant-loop-token

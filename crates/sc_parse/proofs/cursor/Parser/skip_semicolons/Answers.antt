@@ -1,5 +1,5 @@
 use Rattle.std.proofs.Common.{sym, ◌∙◌}
-use Rattle.sc_parse.specs.Reads.{ahead}
+use Rattle.sc_parse.specs.Reading.Reads.{ahead}
 use Rattle.sc_parse.proofs.Turns.{semicolons_none}
 use Rattle.sc_parse.proofs.cursor.Parser.skip_semicolons.Goals as goal
 

@@ -1,7 +1,7 @@
 use Rattle.std.proofs.Common.{◌≡◌}
 use Rattle.sc_parse.specs.Reading.Looks.{left}
 use Rattle.sc_parse.specs.Reading.Looks as spec
-use Rattle.sc_parse.specs.Reads.{ahead}
+use Rattle.sc_parse.specs.Reading.Reads.{ahead}
 use Rattle.sc_parse.proofs.cursor.Parser.skip_semicolons.Given as goal
 
 abbrev pub invariant-loop-self : goal.invariant-loop-self

@@ -1,7 +1,7 @@
 use Rattle.std.proofs.Common.{◌≡◌, ap, sym, ◌∙◌, subst, OnOk, arith}
 use Rattle.sc_tree.specs.View.{instr_of}
 use Rattle.sc_tree.specs.Canonical.Instructions.{instr_lines}
-use Rattle.sc_tree.specs.Printer.{output_of, put_lines}
+use Rattle.sc_tree.specs.Internal.Printer.{output_of, put_lines}
 use Rattle.sc_tree.proofs.PrintingInstructions.{if_done, loop_done, block_done, instrs_more, branches_more}
 use Rattle.sc_tree.proofs.print.Printer.+instructions.Goals as goal
 

@@ -1,6 +1,6 @@
 use Rattle.std.proofs.Common.{◌≡◌, drop}
 use Rattle.sc_tree.specs.Canonical.Instructions.{branches_lines, instrs_lines}
-use Rattle.sc_tree.specs.Printer.{output_of, put_lines}
+use Rattle.sc_tree.specs.Internal.Printer.{output_of, put_lines}
 use Rattle.sc_tree.specs.View.{branches_of, instrs_of}
 use Rattle.sc_tree.proofs.print.Printer.+instructions.Given as goal
 

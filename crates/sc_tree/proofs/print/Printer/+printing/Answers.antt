@@ -3,7 +3,7 @@ use Rattle.sc_tree.specs.Canonical.Expressions.{expr_parts, actuals_parts}
 use Rattle.sc_text.specs.declared.token.Terminal.TheVariants as terminal
 use Rattle.std.specs.Prelude.{Ok, Err}
 use Rattle.sc_tree.specs.Canonical.Layout.{word}
-use Rattle.sc_tree.specs.Printer.{output_of, put, puts}
+use Rattle.sc_tree.specs.Internal.Printer.{output_of, put, puts}
 use Rattle.sc_tree.specs.View.{expr_of, exprs_of}
 use Rattle.sc_tree.proofs.Printing.{expr_parts-call, more_actuals_more, actuals_done}
 use Rattle.sc_tree.proofs.print.Printer.+printing.Goals as goal

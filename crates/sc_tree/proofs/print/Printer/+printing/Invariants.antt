@@ -1,6 +1,6 @@
 use Rattle.std.proofs.Common.{◌≡◌, drop}
 use Rattle.sc_tree.specs.Canonical.Expressions.{more_actuals_parts}
-use Rattle.sc_tree.specs.Printer.{output_of, puts}
+use Rattle.sc_tree.specs.Internal.Printer.{output_of, puts}
 use Rattle.sc_tree.specs.View.{exprs_of}
 use Rattle.sc_tree.proofs.print.Printer.+printing.Given as goal
 

@@ -2,7 +2,7 @@ use Rattle.std.proofs.Common.{◌≡◌, [], ◌∷◌, drop, map}
 use Rattle.sc_text.specs.declared.token.Terminal.TheVariants as terminal
 use Rattle.sc_tree.specs.Canonical.Layout.{word, behind_each}
 use Rattle.sc_tree.specs.Canonical.Expressions.{class_name_part}
-use Rattle.sc_tree.specs.Printer.{output_of, puts}
+use Rattle.sc_tree.specs.Internal.Printer.{output_of, puts}
 use Rattle.sc_tree.specs.View.{name_of}
 use Rattle.sc_tree.proofs.print.Printer.class_names.Given as goal
 

@@ -1,6 +1,6 @@
 use Rattle.std.proofs.Common.{◌≡◌, drop, map}
 use Rattle.sc_tree.specs.Canonical.Instructions.{clauses_lines}
-use Rattle.sc_tree.specs.Printer.{output_of, put_lines}
+use Rattle.sc_tree.specs.Internal.Printer.{output_of, put_lines}
 use Rattle.sc_tree.specs.View.{clause_of}
 use Rattle.sc_tree.proofs.print.Printer.clauses.Given as goal
 

@@ -1,6 +1,6 @@
 use Rattle.std.proofs.Common.{◌≡◌, true, refl, sym, subst, ap, ◌∙◌, map, arith}
 use Rattle.sc_tree.specs.Canonical.Classes.{section_line, further_feature_lines}
-use Rattle.sc_tree.specs.Printer.{output_of, put_line, put_lines}
+use Rattle.sc_tree.specs.Internal.Printer.{output_of, put_line, put_lines}
 use Rattle.sc_tree.specs.Sections.{shares_list}
 use Rattle.sc_tree.specs.View.{name_of, feature_of}
 use Rattle.sc_tree.proofs.PrintingClasses.{features_more, features_done, share_lists-rest, further_share-more}

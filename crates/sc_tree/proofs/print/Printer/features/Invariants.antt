@@ -1,6 +1,6 @@
 use Rattle.std.proofs.Common.{◌≡◌, drop, map, IsTrue}
 use Rattle.sc_tree.specs.Canonical.Classes.{further_features_lines}
-use Rattle.sc_tree.specs.Printer.{output_of, put_lines}
+use Rattle.sc_tree.specs.Internal.Printer.{output_of, put_lines}
 use Rattle.sc_tree.specs.Sections.{further_share}
 use Rattle.sc_tree.specs.View.{feature_of, name_of}
 use Rattle.sc_tree.proofs.print.Printer.features.Given as goal

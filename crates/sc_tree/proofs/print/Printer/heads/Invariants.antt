@@ -2,7 +2,7 @@ use Rattle.std.proofs.Common.{◌≡◌, drop, map}
 use Rattle.sc_text.specs.declared.token.Terminal.TheVariants as terminal
 use Rattle.sc_tree.specs.Canonical.Layout.{word, behind_each}
 use Rattle.sc_tree.specs.Canonical.Instructions.{head_parts}
-use Rattle.sc_tree.specs.Printer.{output_of, puts}
+use Rattle.sc_tree.specs.Internal.Printer.{output_of, puts}
 use Rattle.sc_tree.specs.View.{head_of}
 use Rattle.sc_tree.proofs.print.Printer.heads.Given as goal
 

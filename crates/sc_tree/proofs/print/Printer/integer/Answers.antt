@@ -1,7 +1,7 @@
 use Rattle.std.proofs.Common.{ap, ◌∙◌, w64}
 use Rattle.std.specs.Fmt.{signed_decimal}
 use Rattle.std.proofs.lemmas.Int.{to_z-of_z}
-use Rattle.sc_tree.specs.Printer.{output_of}
+use Rattle.sc_tree.specs.Internal.Printer.{output_of}
 use Rattle.sc_tree.proofs.PrintingParts.{integer_put, on_ok_both}
 use Rattle.sc_tree.proofs.print.Printer.integer.Goals as goal
 

@@ -1,6 +1,6 @@
 use Rattle.std.proofs.Common.{◌≡◌, drop, map}
 use Rattle.sc_tree.specs.Canonical.Classes.{local_line}
-use Rattle.sc_tree.specs.Printer.{output_of, put_lines}
+use Rattle.sc_tree.specs.Internal.Printer.{output_of, put_lines}
 use Rattle.sc_tree.specs.View.{declaration_of}
 use Rattle.sc_tree.proofs.print.Printer.locals.Given as goal
 

@@ -1,6 +1,6 @@
 use Rattle.std.proofs.Common.{◌≡◌, drop, map}
 use Rattle.sc_tree.specs.Canonical.Layout.{word}
-use Rattle.sc_tree.specs.Printer.{output_of, puts}
+use Rattle.sc_tree.specs.Internal.Printer.{output_of, puts}
 use Rattle.sc_tree.proofs.print.Printer.operator.Given as goal
 
 abbrev pub invariant-loop-terminal : goal.invariant-loop-terminal

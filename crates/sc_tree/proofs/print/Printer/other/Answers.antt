@@ -1,5 +1,5 @@
 use Rattle.std.proofs.Common.{◌≡◌, sym, ◌∙◌, subst, OnOk}
-use Rattle.sc_tree.specs.Printer.{output_of, put_lines}
+use Rattle.sc_tree.specs.Internal.Printer.{output_of, put_lines}
 use Rattle.sc_tree.proofs.PrintingInstructions.{else_lines-some}
 use Rattle.sc_tree.proofs.print.Printer.other.Goals as goal
 

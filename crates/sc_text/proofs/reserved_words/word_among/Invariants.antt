@@ -1,6 +1,6 @@
 use Rattle.std.proofs.Common.{◌≡◌, drop, map}
 use Rattle.sc_text.specs.Words.{word_among}
-use Rattle.sc_text.proofs.words.word_among.Given as goal
+use Rattle.sc_text.proofs.reserved_words.word_among.Given as goal
 
 abbrev pub invariant-loop-word : goal.invariant-loop-word
 invariant-loop-word l =

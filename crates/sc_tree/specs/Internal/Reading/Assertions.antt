@@ -6,8 +6,8 @@ use Rattle.sc_text.specs.declared.token.Terminal.TheVariants as terminal
 use Rattle.sc_tree.specs.Plain.{Name, Clause}
 use Rattle.sc_tree.specs.Bare.{named}
 use Rattle.sc_tree.specs.Grammar.{top, goes_on}
-use Rattle.sc_tree.specs.Reading.Looks.{Wrong, Deep, Read, ◌>>=◌, past, sees, skip_semicolons, begins_expr}
-use Rattle.sc_tree.specs.Reading.Expressions.{expr}
+use Rattle.sc_tree.specs.Internal.Reading.Looks.{Wrong, Deep, Read, ◌>>=◌, past, sees, skip_semicolons, begins_expr}
+use Rattle.sc_tree.specs.Internal.Reading.Expressions.{expr}
 
 abbrev pub tag_by : Kind → List Kind → Option Name
 tag_by (NAME x) r = if sees terminal.Colon r then Some (named x) else None
@@ -24,13 +24,19 @@ past_tag (Some x) ts = past (past ts)
 
 module _ (room : ℕ) where
   unfoldable pub clause : List Kind → Read Clause
-  clause ts = expr room top (past_tag (tag_ahead ts) ts) >>= λ t. Ok (record { tag = tag_ahead ts; condition = t.0 }, t.1, t.2)
+  clause ts = do
+    (t, h, r) ← expr room top (past_tag (tag_ahead ts) ts)
+    Ok (record { tag = tag_ahead ts; condition = t }, h, r)
 
   -- clauses, after those that were found
   unfoldable pub clauses_from : ℕ → List Clause → ℕ → List Kind → Read (List Clause)
   clauses_from zero found high ts = Ok (found, high, ts)
   clauses_from (suc f) found high ts =
-      if begins_expr ts then (clause ts >>= λ x. if goes_on x.2 then Err Wrong else clauses_from f (found ++ x.0 ∷ []) (max high x.1) (skip_semicolons x.2)) else Ok (found, high, ts)
+      if begins_expr ts
+      then (do
+        (x, h, r) ← clause ts
+        if goes_on r then Err Wrong else clauses_from f (found ++ x ∷ []) (max high h) (skip_semicolons r))
+      else Ok (found, high, ts)
 
   unfoldable pub clauses : List Kind → Read (List Clause)
   clauses ts = clauses_from (length (skip_semicolons ts)) [] 0 (skip_semicolons ts)

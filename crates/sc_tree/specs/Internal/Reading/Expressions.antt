@@ -8,8 +8,8 @@ use Rattle.sc_tree.specs.Plain as plain
 use Rattle.sc_tree.specs.Plain.{Expr, Integer, Boolean, Void, Current, Call, Unary, Binary, ObjectTest, Target, no_target, target, Exprs, no_exprs, expr_then}
 use Rattle.sc_tree.specs.Bare.{nowhere}
 use Rattle.sc_tree.specs.Grammar.{top, groups}
-use Rattle.sc_tree.specs.Reading.Looks.{Deep, Read, ◌>>=◌, past, sees, expect, name, integer_ahead, prefix_ahead, operator_ahead, past_operator}
-use Rattle.sc_tree.specs.Reading.Types.{tested_type}
+use Rattle.sc_tree.specs.Internal.Reading.Looks.{Deep, Read, ◌>>=◌, past, sees, expect, name, integer_ahead, prefix_ahead, operator_ahead, past_operator}
+use Rattle.sc_tree.specs.Internal.Reading.Types.{tested_type}
 
 abbrev pub exprs_push : Exprs → Expr → Exprs
 exprs_push no_exprs t = expr_then t no_exprs
@@ -19,24 +19,41 @@ exprs_push (expr_then u es) t = expr_then u (exprs_push es t)
 module _ (inner : ℕ → List Kind → Read Expr) where
   -- what stands in parentheses, after the first of them
   unfoldable pub parenthesized : List Kind → Read Expr
-  parenthesized r = inner top r >>= λ x. expect terminal.CloseParenthesis x.2 >>= λ rest. Ok (x.0, suc x.1, rest)
+  parenthesized ts = do
+    (t, h, r) ← inner top ts
+    r ← expect terminal.CloseParenthesis r
+    Ok (t, suc h, r)
 
   -- expressions after commas, after those that were found
   unfoldable pub more_exprs : ℕ → Exprs → ℕ → List Kind → Read Exprs
   more_exprs zero found high ts = Ok (found, high, ts)
   more_exprs (suc f) found high ts =
-      if sees terminal.Comma ts then (inner top (past ts) >>= λ x. more_exprs f (exprs_push found x.0) (max high x.1) x.2) else Ok (found, high, ts)
+      if sees terminal.Comma ts
+      then (do
+        (t, h, r) ← inner top (past ts)
+        more_exprs f (exprs_push found t) (max high h) r)
+      else Ok (found, high, ts)
 
   unfoldable pub exprs : List Kind → Read Exprs
-  exprs ts = inner top ts >>= λ x. more_exprs (length x.2) (expr_then x.0 no_exprs) x.1 x.2
+  exprs ts = do
+    (t, h, r) ← inner top ts
+    more_exprs (length r) (expr_then t no_exprs) h r
 
   unfoldable pub actuals : List Kind → Read Exprs
   actuals ts =
-      if sees terminal.OpenParenthesis ts then (exprs (past ts) >>= λ x. expect terminal.CloseParenthesis x.2 >>= λ rest. Ok (x.0, suc x.1, rest)) else Ok (no_exprs, 0, ts)
+      if sees terminal.OpenParenthesis ts
+      then (do
+        (es, h, r) ← exprs (past ts)
+        r ← expect terminal.CloseParenthesis r
+        Ok (es, suc h, r))
+      else Ok (no_exprs, 0, ts)
 
   -- a feature's name and its actuals
   unfoldable pub calling : Target → List Kind → Read Expr
-  calling t ts = name ts >>= λ x. actuals x.1 >>= λ es. Ok (Call nowhere t x.0 es.0, es.1, es.2)
+  calling t ts = do
+    (x, r) ← name ts
+    (es, h, r) ← actuals r
+    Ok (Call nowhere t x es, h, r)
 
   -- what stands before the first dot
   unfoldable pub chain_head : List Kind → Read Expr
@@ -49,15 +66,27 @@ module _ (inner : ℕ → List Kind → Read Expr) where
   unfoldable pub calls : ℕ → ℕ → Expr → ℕ → List Kind → Read Expr
   calls room zero t h ts = Ok (t, h, ts)
   calls room (suc f) t h ts =
-      if sees terminal.Dot ts then (if nat_le room h then Err Deep else (calling (target t) (past ts) >>= λ x. calls room f x.0 (max (suc h) x.1) x.2)) else Ok (t, h, ts)
+      if sees terminal.Dot ts
+      then (if nat_le room h
+      then Err Deep
+      else (do
+        (u, g, r) ← calling (target t) (past ts)
+        calls room f u (max (suc h) g) r))
+      else Ok (t, h, ts)
 
   unfoldable pub chain : ℕ → List Kind → Read Expr
-  chain room ts = chain_head ts >>= λ x. calls room (length x.2) x.0 x.1 x.2
+  chain room ts = do
+    (t, h, r) ← chain_head ts
+    calls room (length r) t h r
 
   -- after `attached`
   unfoldable pub object_test : ℕ → List Kind → Read Expr
-  object_test room r =
-      tested_type r >>= λ o. chain room o.1 >>= λ t. expect terminal.As t.2 >>= λ s. name s >>= λ x. Ok (ObjectTest nowhere o.0 t.0 x.0, t.1, x.1)
+  object_test room ts = do
+    (type, r) ← tested_type ts
+    (t, h, r) ← chain room r
+    r ← expect terminal.As r
+    (x, r) ← name r
+    Ok (ObjectTest nowhere type t x, h, r)
 
   abbrev pub integer_or_chain : ℕ → Option ℤ → List Kind → Read Expr
   integer_or_chain room (Some n) ts = Ok (Integer nowhere n, 0, past ts)
@@ -74,7 +103,9 @@ module _ (inner : ℕ → List Kind → Read Expr) where
 
   -- the operand of this operator, after it
   unfoldable pub prefixed : UnaryOperator → List Kind → Read Expr
-  prefixed op r = inner 0 r >>= λ x. Ok (Unary nowhere op x.0, suc x.1, x.2)
+  prefixed op ts = do
+    (t, h, r) ← inner 0 ts
+    Ok (Unary nowhere op t, suc h, r)
 
   abbrev pub operand_by : ℕ → Option UnaryOperator → List Kind → Read Expr
   operand_by room None ts = primary room ts
@@ -84,11 +115,17 @@ module _ (inner : ℕ → List Kind → Read Expr) where
   operand room ts = operand_by room (prefix_ahead ts) ts
 
   -- goes on with the operators just above the class, where there is room for them
-  abbrev pub with_operator : ℕ → ℕ → (Expr → ℕ → List Kind → Read Expr) → Expr → ℕ → List Kind → Option BinaryOperator → Read Expr
+  abbrev pub with_operator :
+      ℕ → ℕ → (Expr → ℕ → List Kind → Read Expr) → Expr → ℕ → List Kind → Option BinaryOperator → Read Expr
   with_operator room k next t h ts None = Ok (t, h, ts)
   with_operator room k next t h ts (Some op) =
-      if nat_le room h then Err Deep
-      else (inner k (past_operator op ts) >>= λ x. if groups k then next (Binary nowhere op t x.0) (suc (max h x.1)) x.2 else Ok (Binary nowhere op t x.0, suc (max h x.1), x.2))
+      if nat_le room h
+      then Err Deep
+      else (do
+        (u, g, r) ← inner k (past_operator op ts)
+        if groups k
+            then next (Binary nowhere op t u) (suc (max h g)) r
+            else Ok (Binary nowhere op t u, suc (max h g), r))
 
   unfoldable pub operators : ℕ → ℕ → ℕ → Expr → ℕ → List Kind → Read Expr
   operators room k zero t h ts = Ok (t, h, ts)
@@ -96,7 +133,9 @@ module _ (inner : ℕ → List Kind → Read Expr) where
 
   unfoldable pub level : ℕ → ℕ → List Kind → Read Expr
   level room zero ts = operand room ts
-  level room (suc k) ts = level room k ts >>= λ x. operators room k (length x.2) x.0 x.1 x.2
+  level room (suc k) ts = do
+    (t, h, r) ← level room k ts
+    operators room k (length r) t h r
 
 -- At the limit nothing may stand one deeper.
 abbrev pub beyond : ℕ → List Kind → Read Expr

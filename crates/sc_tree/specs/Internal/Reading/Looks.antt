@@ -12,7 +12,7 @@ use Rattle.sc_tree.specs.declared.expression.BinaryOperator.{BinaryOperator}
 use Rattle.sc_tree.specs.declared.expression.BinaryOperator.TheVariants as binary
 use Rattle.sc_tree.specs.Plain.{Name}
 use Rattle.sc_tree.specs.Bare.{named}
-use Rattle.sc_tree.specs.Grammar.{under, terminals_of}
+use Rattle.sc_tree.specs.Grammar.{class_below, terminals_of}
 
 -- why nothing was read: no tree is spelled so, or none that is nested as little as asked
 pub data Fault : Type 0 where
@@ -166,7 +166,7 @@ operator_at _ = None
 
 abbrev pub above : ℕ → Option BinaryOperator → Option BinaryOperator
 above k None = None
-above k (Some op) = if under op == k then Some op else None
+above k (Some op) = if class_below op == k then Some op else None
 
 -- the same, if it is one just above the class
 abbrev pub operator_ahead : ℕ → List Kind → Option BinaryOperator

@@ -5,39 +5,60 @@ use Rattle.sc_text.specs.declared.token.Terminal.TheVariants as terminal
 use Rattle.sc_tree.specs.Plain.{Name, DeclaredType, Declaration, Feature, Parent, ClassMark, Deferred, Expanded, Frozen, Class, System}
 use Rattle.sc_tree.specs.Bare.{nowhere, named}
 use Rattle.sc_tree.specs.Grammar.{declared_as, attribute_of, routine_of, none_name, exported_to, heads_class, ends_class, class_of}
-use Rattle.sc_tree.specs.Reading.Looks.{Fault, Wrong, Read, Taken, ◌>>=◌, past, sees, expect, skip, skip_semicolons, name, name_ahead}
-use Rattle.sc_tree.specs.Reading.Types.{more_names, names, declared_type}
-use Rattle.sc_tree.specs.Reading.Assertions.{assertion}
-use Rattle.sc_tree.specs.Reading.Instructions.{instrs}
+use Rattle.sc_tree.specs.Internal.Reading.Looks.{Fault, Wrong, Read, Taken, ◌>>=◌, past, sees, expect, skip, skip_semicolons, name, name_ahead}
+use Rattle.sc_tree.specs.Internal.Reading.Types.{more_names, names, declared_type}
+use Rattle.sc_tree.specs.Internal.Reading.Assertions.{assertion}
+use Rattle.sc_tree.specs.Internal.Reading.Instructions.{instrs}
 
 -- ---- formals and locals
 
 unfoldable pub declaration : List Kind → Taken (List Declaration)
-declaration ts = names ts >>= λ ns. expect terminal.Colon ns.1 >>= λ r. declared_type r >>= λ t. Ok (map (declared_as t.0) ns.0, t.1)
+declaration ts = do
+  (xs, r) ← names ts
+  r ← expect terminal.Colon r
+  (t, r) ← declared_type r
+  Ok (map (declared_as t) xs, r)
 
 -- formals behind the first, after those that were found
 unfoldable pub more_declarations : ℕ → List Declaration → List Kind → Taken (List Declaration)
 more_declarations zero found ts = Ok (found, ts)
 more_declarations (suc f) found ts =
-    if sees terminal.Semicolon ts || name_ahead ts then (declaration (skip terminal.Semicolon ts) >>= λ d. more_declarations f (found ++ d.0) d.1) else Ok (found, ts)
+    if sees terminal.Semicolon ts || name_ahead ts
+    then (do
+      (ds, r) ← declaration (skip terminal.Semicolon ts)
+      more_declarations f (found ++ ds) r)
+    else Ok (found, ts)
 
 unfoldable pub formals : List Kind → Taken (List Declaration)
 formals ts =
-    if sees terminal.OpenParenthesis ts then
-    (declaration (past ts) >>= λ d. more_declarations (length d.1) d.0 d.1 >>= λ ds. expect terminal.CloseParenthesis ds.1 >>= λ rest. Ok (ds.0, rest))
+    if sees terminal.OpenParenthesis ts
+    then (do
+      (ds, r) ← declaration (past ts)
+      (ds, r) ← more_declarations (length r) ds r
+      r ← expect terminal.CloseParenthesis r
+      Ok (ds, r))
     else Ok ([], ts)
 
 -- locals, after those that were found
 unfoldable pub locals_from : ℕ → List Declaration → List Kind → Taken (List Declaration)
 locals_from zero found ts = Ok (found, ts)
 locals_from (suc f) found ts =
-    if name_ahead ts then (declaration ts >>= λ d. locals_from f (found ++ d.0) (skip terminal.Semicolon d.1)) else Ok (found, ts)
+    if name_ahead ts
+    then (do
+      (ds, r) ← declaration ts
+      locals_from f (found ++ ds) (skip terminal.Semicolon r))
+    else Ok (found, ts)
 
 unfoldable pub locals : List Kind → Taken (List Declaration)
 locals ts = if sees terminal.Local ts then locals_from (length (past ts)) [] (past ts) else Ok ([], ts)
 
 unfoldable pub result_type : List Kind → Taken (Option DeclaredType)
-result_type ts = if sees terminal.Colon ts then (declared_type (past ts) >>= λ t. Ok (Some t.0, t.1)) else Ok (None, ts)
+result_type ts =
+    if sees terminal.Colon ts
+    then (do
+      (t, r) ← declared_type (past ts)
+      Ok (Some t, r))
+    else Ok (None, ts)
 
 -- ---- features
 
@@ -47,9 +68,13 @@ begins_routine ts = sees terminal.Is ts || sees terminal.Require ts || sees term
 
 -- after the brace that opens an export list
 unfoldable pub export_list : List Kind → Taken (List Name)
-export_list r =
-    if sees terminal.CloseBrace r then Ok (named none_name ∷ [], past r)
-    else (names r >>= λ ns. expect terminal.CloseBrace ns.1 >>= λ rest. Ok (exported_to ns.0, rest))
+export_list ts =
+    if sees terminal.CloseBrace ts
+    then Ok (named none_name ∷ [], past ts)
+    else (do
+      (xs, r) ← names ts
+      r ← expect terminal.CloseBrace r
+      Ok (exported_to xs, r))
 
 unfoldable pub exports : List Kind → Taken (List Name)
 exports ts = if sees terminal.OpenBrace ts then export_list (past ts) else Ok ([], ts)
@@ -73,20 +98,32 @@ mark ts =
     else (None, ts)
 
 unfoldable pub parent : List Kind → Taken Parent
-parent ts =
-    name ts >>= λ x.
-    if sees terminal.Redefine x.1 then (names (past x.1) >>= λ ns. expect terminal.End ns.1 >>= λ rest. Ok (record { name = x.0; redefined = ns.0 }, rest))
-    else Ok (record { name = x.0; redefined = [] }, x.1)
+parent ts = do
+  (x, r) ← name ts
+  if sees terminal.Redefine r
+      then (do
+        (redefined, r) ← names (past r)
+        r ← expect terminal.End r
+        Ok (record { name = x; redefined = redefined }, r))
+      else Ok (record { name = x; redefined = [] }, r)
 
 -- parents, after those that were found
 unfoldable pub parents_from : ℕ → List Parent → List Kind → Taken (List Parent)
 parents_from zero found ts = Ok (found, ts)
 parents_from (suc f) found ts =
-    if name_ahead ts then (parent ts >>= λ p. parents_from f (found ++ p.0 ∷ []) (skip terminal.Semicolon p.1)) else Ok (found, ts)
+    if name_ahead ts
+    then (do
+      (p, r) ← parent ts
+      parents_from f (found ++ p ∷ []) (skip terminal.Semicolon r))
+    else Ok (found, ts)
 
 unfoldable pub parents : List Kind → Taken (List Parent)
 parents ts =
-    if sees terminal.Inherit ts then (parent (past ts) >>= λ p. parents_from (length p.1) (p.0 ∷ []) (skip terminal.Semicolon p.1)) else Ok ([], ts)
+    if sees terminal.Inherit ts
+    then (do
+      (p, r) ← parent (past ts)
+      parents_from (length r) (p ∷ []) (skip terminal.Semicolon r))
+    else Ok ([], ts)
 
 unfoldable pub creators : List Kind → Taken (List Name)
 creators ts = if sees terminal.Create ts then names (past ts) else Ok ([], ts)
@@ -100,48 +137,88 @@ is_done (t ∷ r) = false
 module _ (room : ℕ) where
   -- after the result type
   unfoldable pub routine : List Name → Name → List Declaration → Option DeclaredType → List Kind → Read (List Feature)
-  routine es x fs t ts =
-      assertion room terminal.Require (skip terminal.Is ts) >>= λ pre. locals pre.2 >>= λ ls. expect terminal.Do ls.1 >>= λ r. instrs room r >>= λ b.
-      assertion room terminal.Ensure b.2 >>= λ post. expect terminal.End post.2 >>= λ rest.
-      Ok (routine_of es x fs t pre.0 ls.0 b.0 post.0 ∷ [], max pre.1 (max b.1 post.1), rest)
+  routine es x formals result_type ts = do
+    (precondition, h, r) ← assertion room terminal.Require (skip terminal.Is ts)
+    (locals, r) ← locals r
+    r ← expect terminal.Do r
+    (body, hb, r) ← instrs room r
+    (postcondition, hp, r) ← assertion room terminal.Ensure r
+    r ← expect terminal.End r
+    Ok (
+      routine_of es x
+          (record {
+            formals = formals;
+            result_type = result_type;
+            precondition = precondition;
+            locals = locals;
+            body = body;
+            postcondition = postcondition;
+          }) ∷ [],
+      max h (max hb hp),
+      r,
+    )
 
   -- an attribute has a type, no formals, and nothing of a routine behind its type
-  abbrev pub attribute_or_routine : List Name → Name → List Declaration → Option DeclaredType → List Kind → Read (List Feature)
+  abbrev pub attribute_or_routine :
+      List Name → Name → List Declaration → Option DeclaredType → List Kind → Read (List Feature)
   attribute_or_routine es x fs None ts = routine es x fs None ts
-  attribute_or_routine es x [] (Some t) ts = if begins_routine ts then routine es x [] (Some t) ts else Ok (attribute_of es t x ∷ [], 0, ts)
+  attribute_or_routine es x [] (Some t) ts =
+      if begins_routine ts then routine es x [] (Some t) ts else Ok (attribute_of es t x ∷ [], 0, ts)
   attribute_or_routine es x (f ∷ fs) (Some t) ts = routine es x (f ∷ fs) (Some t) ts
 
   -- several names, after the first
   unfoldable pub attributes : List Name → Name → List Kind → Read (List Feature)
-  attributes es x r =
-      more_names (length r) (x ∷ []) r >>= λ ns. expect terminal.Colon ns.1 >>= λ s. declared_type s >>= λ t. Ok (map (attribute_of es t.0) ns.0, 0, t.1)
+  attributes es x ts = do
+    (xs, r) ← more_names (length ts) (x ∷ []) ts
+    r ← expect terminal.Colon r
+    (t, r) ← declared_type r
+    Ok (map (attribute_of es t) xs, 0, r)
 
   unfoldable pub feature : List Name → List Kind → Read (List Feature)
-  feature es ts =
-      name ts >>= λ x.
-      if sees terminal.Comma x.1 then attributes es x.0 x.1
-      else (formals x.1 >>= λ fs. result_type fs.1 >>= λ t. attribute_or_routine es x.0 fs.0 t.0 t.1)
+  feature es ts = do
+    (x, r) ← name ts
+    if sees terminal.Comma r
+        then attributes es x r
+        else (do
+          (fs, r) ← formals r
+          (t, r) ← result_type r
+          attribute_or_routine es x fs t r)
 
   -- features, after those that were found
   unfoldable pub features_from : List Name → ℕ → List Feature → ℕ → List Kind → Read (List Feature)
   features_from es zero found high ts = Ok (found, high, ts)
   features_from es (suc f) found high ts =
-      if name_ahead ts then (feature es ts >>= λ x. features_from es f (found ++ x.0) (max high x.1) (skip_semicolons x.2)) else Ok (found, high, ts)
+      if name_ahead ts
+      then (do
+        (fs, h, r) ← feature es ts
+        features_from es f (found ++ fs) (max high h) (skip_semicolons r))
+      else Ok (found, high, ts)
 
   -- each `feature` with what stands under it, after the features that were found
   unfoldable pub sections_from : ℕ → List Feature → ℕ → List Kind → Read (List Feature)
   sections_from zero found high ts = Ok (found, high, ts)
   sections_from (suc f) found high ts =
-      if sees terminal.Feature ts then (exports (past ts) >>= λ es. features_from es.0 (length es.1) found high es.1 >>= λ x. sections_from f x.0 x.1 x.2) else Ok (found, high, ts)
+      if sees terminal.Feature ts
+      then (do
+        (es, r) ← exports (past ts)
+        (fs, h, r) ← features_from es (length r) found high r
+        sections_from f fs h r)
+      else Ok (found, high, ts)
 
   unfoldable pub sections : List Kind → Read (List Feature)
   sections ts = sections_from (length ts) [] 0 ts
 
   -- after the word before `class`, if any
   unfoldable pub class_marked : Option ClassMark → List Kind → Read Class
-  class_marked m ts =
-      expect terminal.Class ts >>= λ r. name r >>= λ x. parents x.1 >>= λ ps. creators ps.1 >>= λ ns. sections ns.1 >>= λ fs. assertion room terminal.Invariant fs.2 >>= λ is.
-      expect terminal.End (past_note ends_class is.2) >>= λ rest. Ok (class_of m x.0 ps.0 ns.0 fs.0 is.0, max fs.1 is.1, rest)
+  class_marked m ts = do
+    r ← expect terminal.Class ts
+    (x, r) ← name r
+    (ps, r) ← parents r
+    (ns, r) ← creators r
+    (fs, h, r) ← sections r
+    (is, hi, r) ← assertion room terminal.Invariant r
+    r ← expect terminal.End (past_note ends_class r)
+    Ok (class_of m x ps ns fs is, max h hi, r)
 
   unfoldable pub class : List Kind → Read Class
   class ts = let m = mark (past_note heads_class ts) in class_marked m.0 m.1
@@ -150,7 +227,11 @@ module _ (room : ℕ) where
   unfoldable pub classes_from : ℕ → List Class → ℕ → List Kind → Read (List Class)
   classes_from zero found high ts = Ok (found, high, ts)
   classes_from (suc f) found high ts =
-      if is_done ts then Ok (found, high, ts) else (class ts >>= λ x. classes_from f (found ++ x.0 ∷ []) (max high x.1) x.2)
+      if is_done ts
+      then Ok (found, high, ts)
+      else (do
+        (x, h, r) ← class ts
+        classes_from f (found ++ x ∷ []) (max high h) r)
 
 abbrev pub whole : List Class × ℕ × List Kind → Result System Fault
 whole (xs, h, []) = Ok (record { classes = xs })

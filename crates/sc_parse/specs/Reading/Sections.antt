@@ -2,7 +2,7 @@
 use Rattle.std.specs.Prelude.{◌≡◌, ℕ, zero, suc, false, List, [], ◌∷◌}
 use Rattle.sc_tree.specs.declared.system.Feature.{Feature}
 use Rattle.sc_tree.specs.Plain as plain
-use Rattle.sc_parse.specs.Reads.{names_in}
+use Rattle.sc_parse.specs.Reading.Reads.{names_in}
 
 -- Each of these features has the export list.
 abbrev pub AllExported : List plain.Name → List Feature → Type 0

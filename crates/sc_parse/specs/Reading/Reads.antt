@@ -24,7 +24,7 @@ use Rattle.sc_tree.specs.declared.system.System.{System}
 use Rattle.sc_tree.specs.Plain as plain
 use Rattle.sc_tree.specs.View.{name_of, handler_tag_of, type_of, type_if_any, declaration_of, expr_of, target_of, exprs_of, variable_of, tag_of, clause_of, head_of, instr_of, instrs_of, branches_of, kind_of, feature_of, parent_of, mark_if_any, class_of, system_of}
 use Rattle.sc_tree.specs.Grammar.Classes.{ends_class}
-use Rattle.sc_tree.specs.Reading.Looks.{Fault, Wrong, Deep, ◌>>=◌}
+use Rattle.sc_tree.specs.Internal.Reading.Looks.{Fault, Wrong, Deep, ◌>>=◌}
 use Rattle.sc_parse.specs.Reading.Looks.{Ahead, Read, Taken, skip, expect, name}
 use Rattle.sc_parse.specs.Reading.Assertions.{assertion}
 use Rattle.sc_parse.specs.Reading.Instructions.{instrs}
@@ -137,27 +137,41 @@ system_in s = system_of s
 
 -- what a routine has before its body
 abbrev pub opening_ahead : ℕ → Ahead → Read (List plain.Clause × List plain.Declaration)
-opening_ahead room ts =
-    assertion room terminal.Require (skip terminal.Is ts) >>= λ pre. locals pre.2 >>= λ ls. expect terminal.Do ls.1 >>= λ rest. Ok ((pre.0, ls.0), pre.1, rest)
+opening_ahead room ts = do
+  pre ← assertion room terminal.Require (skip terminal.Is ts)
+  ls ← locals pre.2
+  rest ← expect terminal.Do ls.1
+  Ok ((pre.0, ls.0), pre.1, rest)
 
 -- the body of a routine and what follows it
 abbrev pub closing_ahead : ℕ → Ahead → Read (plain.Instrs × List plain.Clause)
-closing_ahead room ts =
-    instrs room ts >>= λ b. assertion room terminal.Ensure b.2 >>= λ post. expect terminal.End post.2 >>= λ rest. Ok ((b.0, post.0), max b.1 post.1, rest)
+closing_ahead room ts = do
+  b ← instrs room ts
+  post ← assertion room terminal.Ensure b.2
+  rest ← expect terminal.End post.2
+  Ok ((b.0, post.0), max b.1 post.1, rest)
 
 -- a class from `class` up to its features: its name, parents and creators
 abbrev pub header_ahead : Ahead → Taken (plain.Name × (List plain.Parent × List plain.Name))
-header_ahead ts = expect terminal.Class ts >>= λ r. name r >>= λ x. parents x.1 >>= λ ps. creators ps.1 >>= λ ns. Ok ((x.0, (ps.0, ns.0)), ns.1)
+header_ahead ts = do
+  r ← expect terminal.Class ts
+  x ← name r
+  ps ← parents x.1
+  ns ← creators ps.1
+  Ok ((x.0, (ps.0, ns.0)), ns.1)
 
 -- a class from its features on
 abbrev pub members_ahead : ℕ → Ahead → Read (List plain.Feature × List plain.Clause)
-members_ahead room ts =
-    sections room ts >>= λ fs. assertion room terminal.Invariant fs.2 >>= λ is. expect terminal.End (past_note ends_class is.2) >>= λ rest. Ok ((fs.0, is.0), max fs.1 is.1, rest)
+members_ahead room ts = do
+  fs ← sections room ts
+  is ← assertion room terminal.Invariant fs.2
+  rest ← expect terminal.End (past_note ends_class is.2)
+  Ok ((fs.0, is.0), max fs.1 is.1, rest)
 
 -- Reading fails as the fault says, unless memory ran out.
 abbrev pub Fails : {A : Type 0} → Result A Fault → ParseFault → Type 0
-Fails read (fault.NotInGrammar place) = read ≡ Err Wrong
-Fails read (fault.TooDeep place) = read ≡ Err Deep
+Fails read (fault.NotInGrammar span) = read ≡ Err Wrong
+Fails read (fault.TooDeep span) = read ≡ Err Deep
 Fails read fault.OutOfMemory = Unit {0}
 
 -- Reading gives the tree, its nesting and what is left.
