@@ -1,4 +1,4 @@
--- The line of a class's ancestors, and the features along it.
+-- The ancestors of a class, and the features along it.
 use Rattle.std.proofs.Common.{◌≡◌, ◌+◌, ◌-◌, ℕ, zero, suc, arith, drop, Bool, true, false, cond, List, [], ◌∷◌, ◌++◌, ◌||◌, Option, Some, None, refl, ap, sym, ◌∙◌, append_assoc}
 use Rattle.std.specs.Prelude.{bytes_eq, not, is_some}
 use Rattle.std.specs.Option.{option_map}
@@ -6,8 +6,8 @@ use Rattle.std.proofs.lemmas.List.Folds.{list_any-append}
 use Rattle.std.proofs.lemmas.List.{append-nil}
 use Rattle.sc_tree.specs.Plain.{System, Name}
 use Rattle.sc_class.specs.Names.{is_listed, number_among}
-use Rattle.sc_class.specs.Ancestors.{parent_number, line, onward}
-use Rattle.sc_class.specs.Features.{DeclaredFeature, own_features, redefined_names, not_redefined, features_along, named_among}
+use Rattle.sc_class.specs.Tables.Ancestors.{parent_number, ancestors_within, ancestors_from}
+use Rattle.sc_class.specs.Tables.Features.{DeclaredFeature, declared_features, redefined_names, not_redefined, features_along, named_among}
 use Rattle.sc_class.proofs.NameLemmas.{same_text}
 
 pub listed-number : (x : List ℕ) (ns : List Name) → is_listed x ns ≡ is_some (number_among x ns)
@@ -19,25 +19,25 @@ listed-number x (n ∷ ns) = by (bytes_eq n.text x) (is_listed x ns) (number_amo
     by false c None e = e
     by false c (Some k) e = e
 
--- ---- the line
+-- ---- the ancestors
 
-pub line_more : (s : System) (items items' total : List ℕ) (k a b : ℕ) (o : Option ℕ) → a ≡ suc b → items' ≡ items ++ k ∷ [] → o ≡ Some k → items ++ onward a s o ≡ total → items' ++ onward b s (parent_number s k) ≡ total
-line_more s items items' total k a b o e f g h =
-    ap (λ is. is ++ onward b s (parent_number s k)) f ∙ append_assoc items (k ∷ []) (onward b s (parent_number s k)) ∙ ap (λ (n : ℕ). items ++ onward n s (Some k)) (sym e) ∙ ap (λ p. items ++ onward a s p) (sym g) ∙ h
+pub ancestors_more : (s : System) (items items' total : List ℕ) (k a b : ℕ) (o : Option ℕ) → a ≡ suc b → items' ≡ items ++ k ∷ [] → o ≡ Some k → items ++ ancestors_from a s o ≡ total → items' ++ ancestors_from b s (parent_number s k) ≡ total
+ancestors_more s items items' total k a b o e f g h =
+    ap (λ is. is ++ ancestors_from b s (parent_number s k)) f ∙ append_assoc items (k ∷ []) (ancestors_from b s (parent_number s k)) ∙ ap (λ (n : ℕ). items ++ ancestors_from n s (Some k)) (sym e) ∙ ap (λ p. items ++ ancestors_from a s p) (sym g) ∙ h
 
-pub line_at_top : (s : System) (items total : List ℕ) (a : ℕ) (o : Option ℕ) → o ≡ None → items ++ onward a s o ≡ total → items ≡ total
-line_at_top s items total a o e h = sym (append-nil items) ∙ ap (λ p. items ++ onward a s p) (sym e) ∙ h
+pub ancestors_at_top : (s : System) (items total : List ℕ) (a : ℕ) (o : Option ℕ) → o ≡ None → items ++ ancestors_from a s o ≡ total → items ≡ total
+ancestors_at_top s items total a o e h = sym (append-nil items) ∙ ap (λ p. items ++ ancestors_from a s p) (sym e) ∙ h
 
-pub line_done : (s : System) (items total : List ℕ) (a : ℕ) (o : Option ℕ) → a ≡ 0 → items ++ onward a s o ≡ total → items ≡ total
-line_done s items total a o e h = sym (append-nil items) ∙ ap (λ is. items ++ is) (sym (none_onward o)) ∙ ap (λ (n : ℕ). items ++ onward n s o) (sym e) ∙ h
+pub ancestors_done : (s : System) (items total : List ℕ) (a : ℕ) (o : Option ℕ) → a ≡ 0 → items ++ ancestors_from a s o ≡ total → items ≡ total
+ancestors_done s items total a o e h = sym (append-nil items) ∙ ap (λ is. items ++ is) (sym (none_onward o)) ∙ ap (λ (n : ℕ). items ++ ancestors_from n s o) (sym e) ∙ h
   where
-    none_onward : (o : Option ℕ) → onward 0 s o ≡ []
+    none_onward : (o : Option ℕ) → ancestors_from 0 s o ≡ []
     none_onward None = refl
     none_onward (Some k) = refl
 
 -- ---- features by name
 
--- where a search along the line has come after a class
+-- where a search along the ancestors has come after a class
 abbrev pub then_named : Option DeclaredFeature → Bool → Option DeclaredFeature → Option DeclaredFeature
 then_named (Some f) b o = Some f
 then_named None true o = None
@@ -51,14 +51,14 @@ named-append x (f ∷ fs) gs = by (bytes_eq f.feature.name.text x) (named_among 
     by true o e = refl
     by false o e = e
 
-pub named-visible : (x : List ℕ) (names : List Name) (fs : List DeclaredFeature) → named_among x (not_redefined names fs) ≡ cond (is_listed x names) None (named_among x fs)
-named-visible x names [] = by (is_listed x names) None refl
+pub named-not_redefined : (x : List ℕ) (names : List Name) (fs : List DeclaredFeature) → named_among x (not_redefined names fs) ≡ cond (is_listed x names) None (named_among x fs)
+named-not_redefined x names [] = by (is_listed x names) None refl
   where
     by : (b : Bool) (o : Option DeclaredFeature) → o ≡ None → o ≡ cond b None o
     by true o e = e
     by false o e = refl
-named-visible x names (f ∷ fs) =
-    by (is_listed f.feature.name.text names) (bytes_eq f.feature.name.text x) (is_listed x names) (λ e. ap (λ (y : List ℕ). is_listed y names) (same_text f.feature.name.text x e)) refl (named-visible x names fs)
+named-not_redefined x names (f ∷ fs) =
+    by (is_listed f.feature.name.text names) (bytes_eq f.feature.name.text x) (is_listed x names) (λ e. ap (λ (y : List ℕ). is_listed y names) (same_text f.feature.name.text x e)) refl (named-not_redefined x names fs)
   where
     by : (b e l : Bool) → (e ≡ true → b ≡ l) → bytes_eq f.feature.name.text x ≡ e → named_among x (not_redefined names fs) ≡ cond l None (named_among x fs) →
         named_among x (cond (not b) (f ∷ not_redefined names fs) (not_redefined names fs)) ≡ cond l None (cond e (Some f) (named_among x fs))
@@ -70,11 +70,11 @@ named-visible x names (f ∷ fs) =
     by false false l g i h = ap (λ b. cond b (Some f) (named_among x (not_redefined names fs))) i ∙ h
 
 pub named-along : (s : System) (k : ℕ) (ks : List ℕ) (x : List ℕ) →
-    named_among x (features_along s (k ∷ ks)) ≡ then_named (named_among x (own_features s k)) (is_listed x (redefined_names s k)) (named_among x (features_along s ks))
+    named_among x (features_along s (k ∷ ks)) ≡ then_named (named_among x (declared_features s k)) (is_listed x (redefined_names s k)) (named_among x (features_along s ks))
 named-along s k ks x =
-    named-append x (own_features s k) (not_redefined (redefined_names s k) (features_along s ks))
-    ∙ ap (then_named (named_among x (own_features s k)) false) (named-visible x (redefined_names s k) (features_along s ks))
-    ∙ by (named_among x (own_features s k)) (is_listed x (redefined_names s k))
+    named-append x (declared_features s k) (not_redefined (redefined_names s k) (features_along s ks))
+    ∙ ap (then_named (named_among x (declared_features s k)) false) (named-not_redefined x (redefined_names s k) (features_along s ks))
+    ∙ by (named_among x (declared_features s k)) (is_listed x (redefined_names s k))
   where
     by : (o : Option DeclaredFeature) (b : Bool) → then_named o false (cond b None (named_among x (features_along s ks))) ≡ then_named o b (named_among x (features_along s ks))
     by (Some f) b = refl
@@ -82,49 +82,49 @@ named-along s k ks x =
     by None false = refl
 
 -- one step of a search up from a class
-pub named-onward : (s : System) (x : List ℕ) (a b k : ℕ) (o : Option ℕ) (total : Option DeclaredFeature) → a ≡ suc b → o ≡ Some k → total ≡ named_among x (features_along s (onward a s o)) →
-    total ≡ then_named (named_among x (own_features s k)) (is_listed x (redefined_names s k)) (named_among x (features_along s (onward b s (parent_number s k))))
-named-onward s x a b k o total e g h =
-    h ∙ ap (λ p. named_among x (features_along s (onward a s p))) g ∙ ap (λ (n : ℕ). named_among x (features_along s (onward n s (Some k)))) e ∙ named-along s k (onward b s (parent_number s k)) x
+pub named-ancestors_from : (s : System) (x : List ℕ) (a b k : ℕ) (o : Option ℕ) (total : Option DeclaredFeature) → a ≡ suc b → o ≡ Some k → total ≡ named_among x (features_along s (ancestors_from a s o)) →
+    total ≡ then_named (named_among x (declared_features s k)) (is_listed x (redefined_names s k)) (named_among x (features_along s (ancestors_from b s (parent_number s k))))
+named-ancestors_from s x a b k o total e g h =
+    h ∙ ap (λ p. named_among x (features_along s (ancestors_from a s p))) g ∙ ap (λ (n : ℕ). named_among x (features_along s (ancestors_from n s (Some k)))) e ∙ named-along s k (ancestors_from b s (parent_number s k)) x
 
 -- a search that has come to its end
-pub named_at_top : (s : System) (x : List ℕ) (a : ℕ) (o : Option ℕ) (total : Option DeclaredFeature) → o ≡ None → total ≡ named_among x (features_along s (onward a s o)) → None ≡ total
-named_at_top s x a o total e h = sym (h ∙ ap (λ p. named_among x (features_along s (onward a s p))) e)
+pub named_at_top : (s : System) (x : List ℕ) (a : ℕ) (o : Option ℕ) (total : Option DeclaredFeature) → o ≡ None → total ≡ named_among x (features_along s (ancestors_from a s o)) → None ≡ total
+named_at_top s x a o total e h = sym (h ∙ ap (λ p. named_among x (features_along s (ancestors_from a s p))) e)
 
-pub named_done : (s : System) (x : List ℕ) (a : ℕ) (o : Option ℕ) (total : Option DeclaredFeature) → a ≡ 0 → total ≡ named_among x (features_along s (onward a s o)) → None ≡ total
-named_done s x a o total e h = sym (h ∙ ap (λ (n : ℕ). named_among x (features_along s (onward n s o))) e ∙ by o)
+pub named_done : (s : System) (x : List ℕ) (a : ℕ) (o : Option ℕ) (total : Option DeclaredFeature) → a ≡ 0 → total ≡ named_among x (features_along s (ancestors_from a s o)) → None ≡ total
+named_done s x a o total e h = sym (h ∙ ap (λ (n : ℕ). named_among x (features_along s (ancestors_from n s o))) e ∙ by o)
   where
-    by : (o : Option ℕ) → named_among x (features_along s (onward 0 s o)) ≡ None
+    by : (o : Option ℕ) → named_among x (features_along s (ancestors_from 0 s o)) ≡ None
     by None = refl
     by (Some k) = refl
 
 -- the ancestors above a class
-pub above-onward : (s : System) (n m k : ℕ) → m ≡ n - 1 → drop 1 (line n s k) ≡ onward m s (parent_number s k)
-above-onward s zero m k e = by (parent_number s k) m e
+pub above-ancestors_from : (s : System) (n m k : ℕ) → m ≡ n - 1 → drop 1 (ancestors_within n s k) ≡ ancestors_from m s (parent_number s k)
+above-ancestors_from s zero m k e = by (parent_number s k) m e
   where
-    by : (o : Option ℕ) (m : ℕ) → m ≡ 0 - 1 → [] ≡ onward m s o
+    by : (o : Option ℕ) (m : ℕ) → m ≡ 0 - 1 → [] ≡ ancestors_from m s o
     by o zero e = ends o
       where
-        ends : (o : Option ℕ) → [] ≡ onward 0 s o
+        ends : (o : Option ℕ) → [] ≡ ancestors_from 0 s o
         ends None = refl
         ends (Some k) = refl
     by o (suc m) e = absurd (omega (arith, e))
-above-onward s (suc n) m k e = let same : n ≡ m = omega (arith, e) in ap (λ (i : ℕ). onward i s (parent_number s k)) same
+above-ancestors_from s (suc n) m k e = let same : n ≡ m = omega (arith, e) in ap (λ (i : ℕ). ancestors_from i s (parent_number s k)) same
 
 -- ---- all features
 
-pub visible-append : (names : List Name) (fs gs : List DeclaredFeature) → not_redefined names (fs ++ gs) ≡ not_redefined names fs ++ not_redefined names gs
-visible-append names [] gs = refl
-visible-append names (f ∷ fs) gs = by (is_listed f.feature.name.text names) (visible-append names fs gs)
+pub not_redefined-append : (names : List Name) (fs gs : List DeclaredFeature) → not_redefined names (fs ++ gs) ≡ not_redefined names fs ++ not_redefined names gs
+not_redefined-append names [] gs = refl
+not_redefined-append names (f ∷ fs) gs = by (is_listed f.feature.name.text names) (not_redefined-append names fs gs)
   where
     by : (b : Bool) → not_redefined names (fs ++ gs) ≡ not_redefined names fs ++ not_redefined names gs →
         cond (not b) (f ∷ not_redefined names (fs ++ gs)) (not_redefined names (fs ++ gs)) ≡ cond (not b) (f ∷ not_redefined names fs) (not_redefined names fs) ++ not_redefined names gs
     by true e = e
     by false e = ap (λ (hs : List DeclaredFeature). f ∷ hs) e
 
-pub visible_all : (fs : List DeclaredFeature) → not_redefined [] fs ≡ fs
-visible_all [] = refl
-visible_all (f ∷ fs) = ap (λ (hs : List DeclaredFeature). f ∷ hs) (visible_all fs)
+pub not_redefined-none : (fs : List DeclaredFeature) → not_redefined [] fs ≡ fs
+not_redefined-none [] = refl
+not_redefined-none (f ∷ fs) = ap (λ (hs : List DeclaredFeature). f ∷ hs) (not_redefined-none fs)
 
 pub visible-twice : (ms ns : List Name) (fs : List DeclaredFeature) → not_redefined ms (not_redefined ns fs) ≡ not_redefined (ms ++ ns) fs
 visible-twice ms ns [] = refl
@@ -139,11 +139,11 @@ visible-twice ms ns (f ∷ fs) =
     by false false i d g r e =
         ap (λ b. cond (not b) (f ∷ not_redefined ms (not_redefined ns fs)) (not_redefined ms (not_redefined ns fs))) i ∙ ap (λ (hs : List DeclaredFeature). f ∷ hs) e ∙ ap (λ b. cond (not b) (f ∷ not_redefined (ms ++ ns) fs) (not_redefined (ms ++ ns) fs)) (sym g)
 
--- the features of one more class of the line have been added, but for the hidden ones
-pub features_more : (s : System) (k : ℕ) (ks rest : List ℕ) (fs gs total : List DeclaredFeature) (hidden hidden' : List Name) → rest ≡ k ∷ ks → gs ≡ fs ++ not_redefined hidden (own_features s k) → hidden' ≡ hidden ++ redefined_names s k →
-    fs ++ not_redefined hidden (features_along s rest) ≡ total → gs ++ not_redefined hidden' (features_along s ks) ≡ total
-features_more s k ks rest fs gs total hidden hidden' r e f h =
-    ap (λ hs. hs ++ not_redefined hidden' (features_along s ks)) e ∙ append_assoc fs (not_redefined hidden (own_features s k)) (not_redefined hidden' (features_along s ks))
-    ∙ ap (λ hs. fs ++ (not_redefined hidden (own_features s k) ++ hs)) (ap (λ ns. not_redefined ns (features_along s ks)) f ∙ sym (visible-twice hidden (redefined_names s k) (features_along s ks)))
-    ∙ ap (λ hs. fs ++ hs) (sym (visible-append hidden (own_features s k) (not_redefined (redefined_names s k) (features_along s ks))))
-    ∙ ap (λ ls. fs ++ not_redefined hidden (features_along s ls)) (sym r) ∙ h
+-- the features of one more ancestor have been added, but for the redefined ones
+pub features_more : (s : System) (k : ℕ) (ks rest : List ℕ) (fs gs total : List DeclaredFeature) (redefined hidden' : List Name) → rest ≡ k ∷ ks → gs ≡ fs ++ not_redefined redefined (declared_features s k) → hidden' ≡ redefined ++ redefined_names s k →
+    fs ++ not_redefined redefined (features_along s rest) ≡ total → gs ++ not_redefined hidden' (features_along s ks) ≡ total
+features_more s k ks rest fs gs total redefined hidden' r e f h =
+    ap (λ hs. hs ++ not_redefined hidden' (features_along s ks)) e ∙ append_assoc fs (not_redefined redefined (declared_features s k)) (not_redefined hidden' (features_along s ks))
+    ∙ ap (λ hs. fs ++ (not_redefined redefined (declared_features s k) ++ hs)) (ap (λ ns. not_redefined ns (features_along s ks)) f ∙ sym (visible-twice redefined (redefined_names s k) (features_along s ks)))
+    ∙ ap (λ hs. fs ++ hs) (sym (not_redefined-append redefined (declared_features s k) (not_redefined (redefined_names s k) (features_along s ks))))
+    ∙ ap (λ ls. fs ++ not_redefined redefined (features_along s ls)) (sym r) ∙ h

@@ -1,8 +1,8 @@
 -- Names of classes, one behind the other.
-use Rattle.std.proofs.Common.{◌≡◌, ◌<◌, ◌≤◌, ◌+◌, ℕ, suc, Bool, true, false, cond, eqb, List, [], ◌∷◌, ◌++◌, ◌||◌, length, take, drop, get_or, map, Option, Some, None, refl, ap, sym, subst, ◌∙◌, arith}
-use Rattle.std.specs.Prelude.{◌↔◌, not, bytes_eq}
+use Rattle.std.proofs.Common.{◌≡◌, ◌<◌, ◌≤◌, ◌+◌, ℕ, suc, Bool, true, false, cond, eqb, List, [], ◌∷◌, ◌++◌, ◌||◌, length, take, drop, get_or, map, Option, Some, None, refl, ap, sym, subst, ◌∙◌, ◌⊎◌, inl, inr, arith}
+use Rattle.std.specs.Prelude.{not, bytes_eq, if◌then◌else◌}
 use Rattle.std.specs.Option.{option_map, option_eq}
-use Rattle.std.proofs.lemmas.List.{length-map, length-take, map-append, take-append-drop}
+use Rattle.std.proofs.lemmas.List.{length-map, length-take, map-append, take-append-drop, append_assoc, append-nil}
 use Rattle.std.proofs.lemmas.Slice.Eq.{bytes_eq-Decides}
 use Rattle.sc_text.specs.declared.token.Span.{Span}
 use Rattle.sc_tree.specs.declared.system.Class as tree
@@ -10,7 +10,9 @@ use Rattle.sc_tree.specs.Plain.{Class, Name}
 use Rattle.sc_tree.specs.View.{class_of}
 use Rattle.sc_class.specs.Names.{is_listed, number_among}
 use Rattle.sc_class.specs.ClassNames.{is_built_in, class_names, RepeatedAt, built_in, repeated, further}
-use Rattle.sc_class.proofs.Anys.{at, seen, drop_end}
+use Rattle.sc_class.specs.Internal.Found.{FindsFirstPlace, first_place}
+use Rattle.sc_class.proofs.Anys.{at, seen, take_end}
+use Rattle.sc_class.proofs.Finding.{first_either}
 
 -- whether a name is one of those before it decides at which number it is found
 found_before : (x : List ℕ) (ns ms : List Name) (n : Name) → n.text ≡ x → (b : Bool) → is_listed x ns ≡ b → option_eq eqb (number_among x (ns ++ n ∷ ms)) (Some (length ns)) ≡ not b
@@ -33,25 +35,52 @@ found_before x (m ∷ ns) ms n e b i = by (bytes_eq m.text x) (is_listed x ns) (
     by true c o l b f i = zero_first l ∙ ap not i
     by false c o l b f i = further_on o l ∙ f ∙ ap not i
 
--- where the first of the classes has a name of its own, a later one has not
-not_repeated : {earlier : List Name} {c : Class} {later : List Class} {p : Span} → is_built_in c.name.text ≡ false → is_listed c.name.text earlier ≡ false → RepeatedAt earlier (c ∷ later) p → RepeatedAt (earlier ++ c.name ∷ []) later p
-not_repeated e i (built_in f) = cc
-not_repeated e i (repeated f) = cc
-not_repeated e i (further f) = f
+-- ---- classes behind others
 
--- ---- the classes from the one at an index on, behind the others
+pub repeated_left : {ns : List Name} {xs : List Class} {p : Span} (ys : List Class) → RepeatedAt ns xs p → RepeatedAt ns (xs ++ ys) p
+repeated_left ys (built_in f) = built_in f
+repeated_left ys (repeated f) = repeated f
+repeated_left ys (further r) = further (repeated_left ys r)
+
+pub repeated_right : {p : Span} (ns : List Name) (xs ys : List Class) → RepeatedAt (ns ++ class_names xs) ys p → RepeatedAt ns (xs ++ ys) p
+repeated_right {p} ns [] ys r = subst (λ ns. RepeatedAt ns ys p) (append-nil ns) r
+repeated_right {p} ns (x ∷ xs) ys r = further (repeated_right (ns ++ x.name ∷ []) xs ys (subst (λ ns. RepeatedAt ns ys p) (sym (append_assoc ns (x.name ∷ []) (class_names xs))) r))
+
+pub repeated_parts : {p : Span} (ns : List Name) (xs ys : List Class) → RepeatedAt ns (xs ++ ys) p → RepeatedAt ns xs p ⊎ RepeatedAt (ns ++ class_names xs) ys p
+repeated_parts {p} ns [] ys r = inr (subst (λ ns. RepeatedAt ns ys p) (sym (append-nil ns)) r)
+repeated_parts ns (x ∷ xs) ys (built_in f) = inl (built_in f)
+repeated_parts ns (x ∷ xs) ys (repeated f) = inl (repeated f)
+repeated_parts {p} ns (x ∷ xs) ys (further r) = by (repeated_parts (ns ++ x.name ∷ []) xs ys r)
+  where
+    by : RepeatedAt (ns ++ x.name ∷ []) xs p ⊎ RepeatedAt ((ns ++ x.name ∷ []) ++ class_names xs) ys p → RepeatedAt ns (x ∷ xs) p ⊎ RepeatedAt (ns ++ class_names (x ∷ xs)) ys p
+    by (inl a) = inl (further a)
+    by (inr b) = inr (subst (λ ns. RepeatedAt ns ys p) (append_assoc ns (x.name ∷ []) (class_names xs)) b)
+
+-- a class behind others has one name, which is taken or isn't
+one_repeated : (ns : List Name) (x : Class) (b : Bool) → (is_built_in x.name.text || is_listed x.name.text ns) ≡ b → FindsFirstPlace (RepeatedAt ns (x ∷ [])) (if b then Some x.name.span else None)
+one_repeated ns x b e = by (is_built_in x.name.text) refl (is_listed x.name.text ns) refl b e
+  where
+    there : (p : Span) → RepeatedAt ns (x ∷ []) p → x.name.span.start ≤ p.start
+    there _ (built_in f) = omega arith
+    there _ (repeated f) = omega arith
+    there _ (further r) = elim r [ ]
+
+    free : is_built_in x.name.text ≡ false → is_listed x.name.text ns ≡ false → (p : Span) → RepeatedAt ns (x ∷ []) p → ⊥
+    free f g _ (built_in h) = cc
+    free f g _ (repeated h) = cc
+    free f g _ (further r) = elim r [ ]
+
+    by : (a : Bool) → is_built_in x.name.text ≡ a → (c : Bool) → is_listed x.name.text ns ≡ c → (b : Bool) → (a || c) ≡ b → FindsFirstPlace (RepeatedAt ns (x ∷ [])) (if b then Some x.name.span else None)
+    by true f c g true e = (built_in f, there)
+    by true f c g false e = cc
+    by false f true g true e = (repeated g, there)
+    by false f true g false e = cc
+    by false f false g true e = cc
+    by false f false g false e = free f g
+
+-- ---- the classes up to one at an index
 
 module _ (cs : List tree.Class) where
-  abbrev pub Rest : ℕ → Span → Type 0
-  Rest k p = RepeatedAt (class_names (map class_of (take k cs))) (map class_of (drop k cs)) p
-
-  names_seen : (k : ℕ) (x : tree.Class) → k < length cs → x ≡ get_or cs k x → class_names (map class_of (take (k + 1) cs)) ≡ class_names (map class_of (take k cs)) ++ (class_of x).name ∷ []
-  names_seen k x l g =
-      ap (λ xs. class_names (map class_of xs)) (seen cs k x l g) ∙ ap class_names (map-append class_of (take k cs) (x ∷ [])) ∙ map-append (λ (c : Class). c.name) (map class_of (take k cs)) (class_of x ∷ [])
-
-  abbrev pub taken : ℕ → List ℕ → Bool
-  taken k x = is_built_in x || not (option_eq eqb (number_among x (class_names (map class_of cs))) (Some k))
-
   parts : (k : ℕ) (x : tree.Class) → k < length cs → x ≡ get_or cs k x → cs ≡ take k cs ++ x ∷ drop (k + 1) cs
   parts k x l g = sym (take-append-drop k cs) ∙ ap (λ ys. take k cs ++ ys) (at cs k x l g)
 
@@ -70,59 +99,35 @@ module _ (cs : List tree.Class) where
       length_taken : length (take k cs) ≡ k
       length_taken = omega (arith, length-take {A = tree.Class})
 
-  rest_at : (k : ℕ) (x : tree.Class) (p : Span) → k < length cs → x ≡ get_or cs k x → Rest k p ≡ RepeatedAt (class_names (map class_of (take k cs))) (class_of x ∷ map class_of (drop (k + 1) cs)) p
-  rest_at k x p l g = ap (λ xs. RepeatedAt (class_names (map class_of (take k cs))) (map class_of xs) p) (at cs k x l g)
+  -- whether the class at the index can't have its name
+  abbrev pub taken : ℕ → Name → Bool
+  taken k n = is_built_in n.text || not (option_eq eqb (number_among n.text (class_names (map class_of cs))) (Some k))
 
-  abbrev here : ℕ → tree.Class → Span → Type 0
-  here k x p = RepeatedAt (class_names (map class_of (take k cs))) (class_of x ∷ map class_of (drop (k + 1) cs)) p
-
-  pub taken_here : (k : ℕ) (x : tree.Class) → k < length cs → x ≡ get_or cs k x → ((p : Span) → Rest k p ↔ RepeatedAt [] (map class_of cs) p) → taken k (class_of x).name.text ≡ true → RepeatedAt [] (map class_of cs) (class_of x).name.span
-  taken_here k x l g same t = (same (class_of x).name.span).0 (subst (λ T. T) (sym (rest_at k x (class_of x).name.span l g)) (by (is_built_in (class_of x).name.text) refl (is_listed (class_of x).name.text (class_names (map class_of (take k cs)))) refl t))
+  taken_is : (k : ℕ) (x : tree.Class) → k < length cs → x ≡ get_or cs k x → (is_built_in (class_of x).name.text || is_listed (class_of x).name.text (class_names (map class_of (take k cs)))) ≡ taken k (class_of x).name
+  taken_is k x l g =
+      ap (λ b. is_built_in (class_of x).name.text || b) (twice (is_listed (class_of x).name.text (class_names (map class_of (take k cs)))) ∙ sym (ap not (listed_from k x l g)))
     where
-      by : (a : Bool) → is_built_in (class_of x).name.text ≡ a → (b : Bool) → is_listed (class_of x).name.text (class_names (map class_of (take k cs))) ≡ b → taken k (class_of x).name.text ≡ true → here k x (class_of x).name.span
-      by true e b i t = built_in e
-      by false e true i t = repeated i
-      by false e false i t =
-          let o : (false || not (not false)) ≡ true = sym (ap (λ a. a || not (option_eq eqb (number_among (class_of x).name.text (class_names (map class_of cs))) (Some k))) e ∙ ap not (listed_from k x l g ∙ ap not i)) ∙ t in cc
+      twice : (b : Bool) → b ≡ not (not b)
+      twice true = refl
+      twice false = refl
 
-  free_here : (k : ℕ) (x : tree.Class) → k < length cs → x ≡ get_or cs k x → taken k (class_of x).name.text ≡ false → (p : Span) → here k x p → Rest (k + 1) p
-  free_here k x l g t p r = subst (λ ns. RepeatedAt ns (map class_of (drop (k + 1) cs)) p) (sym (names_seen k x l g)) (by (is_built_in (class_of x).name.text) refl (is_listed (class_of x).name.text (class_names (map class_of (take k cs)))) refl t r)
+  pub none_repeated : FindsFirstPlace (RepeatedAt [] (map class_of (take 0 cs))) None
+  none_repeated p r = elim r [ ]
+
+  pub repeated_more : (k : ℕ) (x : tree.Class) (o found next : Option Span) → k < length cs → x ≡ get_or cs k x → o ≡ (if taken k (class_of x).name then Some (class_of x).name.span else None) → next ≡ first_place found o →
+      FindsFirstPlace (RepeatedAt [] (map class_of (take k cs))) found → FindsFirstPlace (RepeatedAt [] (map class_of (take (k + 1) cs))) next
+  repeated_more k x o found next l g e n h =
+      subst (FindsFirstPlace (RepeatedAt [] (map class_of (take (k + 1) cs)))) (sym (n ∙ ap (first_place found) e))
+      (subst (λ ys. FindsFirstPlace (RepeatedAt [] ys) (first_place found o')) (sym (ap (map class_of) (seen cs k x l g) ∙ map-append class_of (take k cs) (x ∷ [])))
+      (first_either (λ (p : Span). p.start) {P = RepeatedAt [] before} {Q = RepeatedAt (class_names before) (class_of x ∷ [])} {R = RepeatedAt [] (before ++ class_of x ∷ [])} found o'
+      (λ p r. repeated_left (class_of x ∷ []) r) (λ p r. repeated_right [] before (class_of x ∷ []) r) (λ p r. repeated_parts [] before (class_of x ∷ []) r) h
+      (one_repeated (class_names before) (class_of x) (taken k (class_of x).name) (taken_is k x l g))))
     where
-      by : (a : Bool) → is_built_in (class_of x).name.text ≡ a → (b : Bool) → is_listed (class_of x).name.text (class_names (map class_of (take k cs))) ≡ b → taken k (class_of x).name.text ≡ false → here k x p →
-          RepeatedAt (class_names (map class_of (take k cs)) ++ (class_of x).name ∷ []) (map class_of (drop (k + 1) cs)) p
-      by true e b i t r =
-          let o : (true || not (option_eq eqb (number_among (class_of x).name.text (class_names (map class_of cs))) (Some k))) ≡ false = sym (ap (λ a. a || not (option_eq eqb (number_among (class_of x).name.text (class_names (map class_of cs))) (Some k))) e) ∙ t in cc
-      by false e true i t r =
-          let o : (false || not (not true)) ≡ false = sym (ap (λ a. a || not (option_eq eqb (number_among (class_of x).name.text (class_names (map class_of cs))) (Some k))) e ∙ ap not (listed_from k x l g ∙ ap not i)) ∙ t in cc
-      by false e false i t r = not_repeated e i r
+      before : List Class
+      before = map class_of (take k cs)
 
-  pub names_more : (k : ℕ) (x : tree.Class) → k < length cs → x ≡ get_or cs k x → ((p : Span) → Rest k p ↔ RepeatedAt [] (map class_of cs) p) → taken k (class_of x).name.text ≡ false → (p : Span) → Rest (k + 1) p ↔ RepeatedAt [] (map class_of cs) p
-  names_more k x l g same t p = (
-    λ r. (same p).0 (subst (λ T. T) (sym (rest_at k x p l g)) (further (subst (λ ns. RepeatedAt ns (map class_of (drop (k + 1) cs)) p) (names_seen k x l g) r))),
-    λ r. free_here k x l g t p (subst (λ T. T) (rest_at k x p l g) ((same p).1 r)),
-  )
+      o' : Option Span
+      o' = if taken k (class_of x).name then Some (class_of x).name.span else None
 
-  none_left : (ns : List Name) (xs : List tree.Class) (p : Span) → xs ≡ [] → RepeatedAt ns (map class_of xs) p → ⊥
-  none_left ns xs p e r = empty (subst (λ xs. RepeatedAt ns (map class_of xs) p) e r)
-    where
-      empty : RepeatedAt ns [] p → ⊥
-      empty r = elim r [ ]
-
-  pub names_end : (k : ℕ) → length cs ≤ k → ((p : Span) → Rest k p ↔ RepeatedAt [] (map class_of cs) p) → (p : Span) → RepeatedAt [] (map class_of cs) p → ⊥
-  names_end k l same p r = none_left (class_names (map class_of (take k cs))) (drop k cs) p (drop_end cs k l) ((same p).1 r)
-
-  -- the same, of the classes and the names that a system has
-  module _ (all : List Class) (is_all : map class_of cs ≡ all) (names : List Name) (is_names : names ≡ class_names all) where
-    taken_is : (k : ℕ) (x y : List ℕ) (b t : Bool) → b ≡ (is_built_in x || not (option_eq eqb (number_among x names) (Some k))) → x ≡ y → b ≡ t → taken k y ≡ t
-    taken_is k x y b t e f g = ap (λ ns. is_built_in y || not (option_eq eqb (number_among y ns) (Some k))) (ap class_names is_all ∙ sym is_names) ∙ ap (λ y. is_built_in y || not (option_eq eqb (number_among y names) (Some k))) (sym f) ∙ sym e ∙ g
-
-    pub finds_taken : (k : ℕ) (x : tree.Class) (y : List ℕ) (b : Bool) → k < length cs → x ≡ get_or cs k x → ((p : Span) → Rest k p ↔ RepeatedAt [] (map class_of cs) p) →
-        b ≡ (is_built_in y || not (option_eq eqb (number_among y names) (Some k))) → y ≡ (class_of x).name.text → b ≡ true → RepeatedAt [] all (class_of x).name.span
-    finds_taken k x y b l g same e f t = subst (λ cs. RepeatedAt [] cs (class_of x).name.span) is_all (taken_here k x l g same (taken_is k y (class_of x).name.text b true e f t))
-
-    pub passes_free : (k : ℕ) (x : tree.Class) (y : List ℕ) (b : Bool) → k < length cs → x ≡ get_or cs k x → ((p : Span) → Rest k p ↔ RepeatedAt [] (map class_of cs) p) →
-        b ≡ (is_built_in y || not (option_eq eqb (number_among y names) (Some k))) → y ≡ (class_of x).name.text → b ≡ false → (p : Span) → Rest (k + 1) p ↔ RepeatedAt [] (map class_of cs) p
-    passes_free k x y b l g same e f t = names_more k x l g same (taken_is k y (class_of x).name.text b false e f t)
-
-    pub finds_none : (k : ℕ) → length cs ≤ k → ((p : Span) → Rest k p ↔ RepeatedAt [] (map class_of cs) p) → (p : Span) → RepeatedAt [] all p → ⊥
-    finds_none k l same p r = names_end k l same p (subst (λ cs. RepeatedAt [] cs p) (sym is_all) r)
+  pub repeated_of_all : (k : ℕ) (found : Option Span) (all : List Class) → map class_of cs ≡ all → length cs ≤ k → FindsFirstPlace (RepeatedAt [] (map class_of (take k cs))) found → FindsFirstPlace (RepeatedAt [] all) found
+  repeated_of_all k found all e l h = subst (λ ys. FindsFirstPlace (RepeatedAt [] ys) found) (ap (map class_of) (take_end cs k l) ∙ e) h

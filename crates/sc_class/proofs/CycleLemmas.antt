@@ -13,7 +13,7 @@ use Rattle.sc_tree.specs.Plain.{System, Class, Parent, Name}
 use Rattle.sc_tree.specs.View.{class_of, parent_of, system_of}
 use Rattle.sc_class.specs.ClassNames.{class_names, number_in, number_of, is_built_in}
 use Rattle.sc_class.specs.Names.{number_among}
-use Rattle.sc_class.specs.Ancestors.{IsParent, names_parent, LeadsTo, itself, over, NameLeadsTo, IsCyclic, cyclic, CycleAt}
+use Rattle.sc_class.specs.Tables.Ancestors.{IsParent, names_parent, LeadsTo, itself, over, NameLeadsTo, IsCyclic, cyclic, CycleAt}
 use Rattle.sc_class.specs.Internal.Found.{Finds}
 use Rattle.sc_class.specs.Search.{rank_of, IsNumberOf, AreInOrder, FindsWayBack, IsSeen, IsTodo, left_over, Grows, IsSearch}
 use Rattle.sc_class.proofs.Anys.{any_none, any_left, any_right, any_parts, any_only, any_first}
@@ -64,6 +64,40 @@ none_ranked s k c e i q f j n = omega arith
 
 pub cyclic_at : (s : System) (p : Span) (y : CycleAt s p) → IsCyclic s y.number
 cyclic_at s p y = let (j, n, r) = y.leads_back in cyclic (names_parent y.is_class (contains_at y.class.parents y.parent_index y.parent y.is_parent) n) r
+
+-- there is one such place at most
+pub cycle_once : (s : System) (p q : Span) → CycleAt s p → CycleAt s q → p ≡ q
+cycle_once s p q y z = y.place ∙ ap (λ (r : Parent). r.name.span) same_parent ∙ sym z.place
+  where
+    not_before : y.number < z.number → ⊥
+    not_before l = z.first_class y.number l (cyclic_at s p y)
+
+    not_behind : z.number < y.number → ⊥
+    not_behind l = y.first_class z.number l (cyclic_at s q z)
+
+    same_number : y.number ≡ z.number
+    same_number = omega (arith, not_before, not_behind)
+
+    same_class : y.class ≡ z.class
+    same_class = some_is y.class z.class (sym y.is_class ∙ ap (slice_get s.classes) same_number ∙ z.is_class)
+
+    there : slice_get z.class.parents y.parent_index ≡ Some y.parent
+    there = subst (λ (c : Class). slice_get c.parents y.parent_index ≡ Some y.parent) same_class y.is_parent
+
+    here_too : slice_get y.class.parents z.parent_index ≡ Some z.parent
+    here_too = subst (λ (c : Class). slice_get c.parents z.parent_index ≡ Some z.parent) (sym same_class) z.is_parent
+
+    index_not_before : y.parent_index < z.parent_index → ⊥
+    index_not_before l = z.first_of_them y.parent_index y.parent l there (subst (λ (n : ℕ). NameLeadsTo s n y.parent) same_number y.leads_back)
+
+    index_not_behind : z.parent_index < y.parent_index → ⊥
+    index_not_behind l = y.first_of_them z.parent_index z.parent l here_too (subst (λ (n : ℕ). NameLeadsTo s n z.parent) (sym same_number) z.leads_back)
+
+    same_index : y.parent_index ≡ z.parent_index
+    same_index = omega (arith, index_not_before, index_not_behind)
+
+    same_parent : y.parent ≡ z.parent
+    same_parent = some_is y.parent z.parent (sym there ∙ ap (slice_get z.class.parents) same_index ∙ z.is_parent)
 
 pub none_cyclic : (s : System) (cs : List tree_class.Class) → map class_of cs ≡ s.classes → (n : ℕ) → length cs ≤ n → ((k : ℕ) → k < n → IsCyclic s k → ⊥) → (p : Span) → CycleAt s p → ⊥
 none_cyclic s cs e n l none p y =

@@ -8,13 +8,13 @@ use Rattle.sc_text.specs.declared.token.Span.{Span}
 use Rattle.sc_tree.specs.declared.system.Class as tree_class
 use Rattle.sc_tree.specs.Plain.{System, Class, Feature, Name}
 use Rattle.sc_tree.specs.View.{class_of}
-use Rattle.sc_class.specs.Internal.Found.{Finds, earliest}
+use Rattle.sc_class.specs.Internal.Found.{Finds, FindsFirstPlace, first_place}
 use Rattle.sc_class.specs.Internal.FaultAt.{FaultAt, FaultBefore}
 use Rattle.sc_class.specs.Names.{IsLikeOne, OneClashes}
-use Rattle.sc_class.specs.Features.{redefined_by, redefined_names, not_redefined, inherited_features, features}
-use Rattle.sc_class.specs.Scopes.{ClassClashes, own_features_clash, inherited_clash, in_routine, in_invariant, InheritedClashes, like_inherited, RoutineClashes, ClausesClash, feature_names}
+use Rattle.sc_class.specs.Tables.Features.{redefined_by, redefined_names, not_redefined, inherited_features, features}
+use Rattle.sc_class.specs.Faults.Scopes.{ClassClashes, declared_clash, inherited_clash, in_routine, in_invariant, InheritedClashes, like_inherited, RoutineClashes, ClausesClash, feature_names}
 use Rattle.sc_class.specs.Internal.InheritedClash.{IsLikeInherited, names_clash}
-use Rattle.sc_class.proofs.Finding.{finds_same}
+use Rattle.sc_class.proofs.Finding.{finds_same, first_same, first_either}
 use Rattle.sc_class.proofs.Items.{some_is, item_in}
 use Rattle.sc_class.proofs.ClashLemmas.{either, names_found}
 
@@ -25,37 +25,49 @@ pub begins_at : (s : System) (P : ℕ → Class → Span → Type 0) → Finds (
 begins_at s P = no_faults_before s P
 
 module _ (s : System) (cs : List tree_class.Class) (all : map class_of cs ≡ s.classes) (P : ℕ → Class → Span → Type 0) where
-  pub one_more_at : (n : ℕ) (x : tree_class.Class) (found o next : Option Span) → n < length cs → x ≡ get_or cs n x → Finds (FaultBefore s P n) found → Finds (P n (class_of x)) o → next ≡ earliest found o → Finds (FaultBefore s P (n + 1)) next
-  one_more_at n x found o next l g h i e =
-      subst (Finds (FaultBefore s P (n + 1))) (sym e) (either {P = FaultBefore s P n} {Q = P n (class_of x)} {R = FaultBefore s P (n + 1)} found o (λ p. before) (λ p y. (n, class_of x, omega arith, here, y)) (λ p. parts) h i)
-    where
-      here : slice_get s.classes n ≡ Some (class_of x)
-      here = subst (λ (cs : List Class). slice_get cs n ≡ Some (class_of x)) all (item_in class_of cs n x l g)
+  module _ (n : ℕ) (x : tree_class.Class) (l : n < length cs) (g : x ≡ get_or cs n x) where
+    at_number : slice_get s.classes n ≡ Some (class_of x)
+    at_number = subst (λ (cs : List Class). slice_get cs n ≡ Some (class_of x)) all (item_in class_of cs n x l g)
 
-      before : {p : Span} → FaultBefore s P n p → FaultBefore s P (n + 1) p
-      before (k, c, l, e, y) = (k, c, omega (arith, l), e, y)
+    before : (p : Span) → FaultBefore s P n p → FaultBefore s P (n + 1) p
+    before p (k, c, l, e, y) = (k, c, omega (arith, l), e, y)
 
-      below_or : (k : ℕ) → k < n + 1 → (b : Bool) → nat_lt k n ≡ b → (k < n) ⊎ (k ≡ n)
-      below_or k l true e = inl (grind arith)
-      below_or k l false e = inr (grind arith)
+    one_there : (p : Span) → P n (class_of x) p → FaultBefore s P (n + 1) p
+    one_there p y = (n, class_of x, omega arith, at_number, y)
 
-      parts_at : {p : Span} (k : ℕ) (c : Class) → slice_get s.classes k ≡ Some c → P k c p → (k < n) ⊎ (k ≡ n) → FaultBefore s P n p ⊎ P n (class_of x) p
-      parts_at k c e y (inl l) = inl (k, c, l, e, y)
-      parts_at {p} k c e y (inr q) =
-          let f : slice_get s.classes n ≡ Some c = subst (λ (k : ℕ). slice_get s.classes k ≡ Some c) q e in
-          inr (subst (λ (c : Class). P n c p) (sym (some_is (class_of x) c (sym here ∙ f))) (subst (λ (k : ℕ). P k c p) q y))
+    below_or : (k : ℕ) → k < n + 1 → (b : Bool) → nat_lt k n ≡ b → (k < n) ⊎ (k ≡ n)
+    below_or k l true e = inl (grind arith)
+    below_or k l false e = inr (grind arith)
 
-      parts : {p : Span} → FaultBefore s P (n + 1) p → FaultBefore s P n p ⊎ P n (class_of x) p
-      parts (k, c, l, e, y) = parts_at k c e y (below_or k l (nat_lt k n) refl)
+    parts_at : {p : Span} (k : ℕ) (c : Class) → slice_get s.classes k ≡ Some c → P k c p → (k < n) ⊎ (k ≡ n) → FaultBefore s P n p ⊎ P n (class_of x) p
+    parts_at k c e y (inl l) = inl (k, c, l, e, y)
+    parts_at {p} k c e y (inr q) =
+        let f : slice_get s.classes n ≡ Some c = subst (λ (k : ℕ). slice_get s.classes k ≡ Some c) q e in
+        inr (subst (λ (c : Class). P n c p) (sym (some_is (class_of x) c (sym at_number ∙ f))) (subst (λ (k : ℕ). P k c p) q y))
+
+    parts : (p : Span) → FaultBefore s P (n + 1) p → FaultBefore s P n p ⊎ P n (class_of x) p
+    parts p (k, c, l, e, y) = parts_at k c e y (below_or k l (nat_lt k n) refl)
+
+    pub one_more_at : (found o next : Option Span) → Finds (FaultBefore s P n) found → Finds (P n (class_of x)) o → next ≡ first_place found o → Finds (FaultBefore s P (n + 1)) next
+    one_more_at found o next h i e =
+        subst (Finds (FaultBefore s P (n + 1))) (sym e) (either {P = FaultBefore s P n} {Q = P n (class_of x)} {R = FaultBefore s P (n + 1)} found o before one_there parts h i)
+
+    pub first_of_more_at : (found o next : Option Span) → FindsFirstPlace (FaultBefore s P n) found → FindsFirstPlace (P n (class_of x)) o → next ≡ first_place found o → FindsFirstPlace (FaultBefore s P (n + 1)) next
+    first_of_more_at found o next h i e =
+        subst (FindsFirstPlace (FaultBefore s P (n + 1))) (sym e)
+        (first_either (λ (p : Span). p.start) {P = FaultBefore s P n} {Q = P n (class_of x)} {R = FaultBefore s P (n + 1)} found o before one_there parts h i)
+
+  some_before : (n : ℕ) (p : Span) → FaultBefore s P n p → FaultAt s P p
+  some_before n p (k, c, l, e, y) = (k, c, e, y)
+
+  within : (n : ℕ) → length cs ≤ n → (p : Span) → FaultAt s P p → FaultBefore s P n p
+  within n l p (k, c, e, y) = let m = slice_get_within s.classes k c e in (k, c, omega (arith, m, l, ap length all, length-map cs class_of), e, y)
 
   pub all_seen_at : (n : ℕ) (found : Option Span) → length cs ≤ n → Finds (FaultBefore s P n) found → Finds (FaultAt s P) found
-  all_seen_at n found l h = finds_same {P = FaultBefore s P n} {Q = FaultAt s P} found (λ p. some) (λ p. within) h
-    where
-      some : {p : Span} → FaultBefore s P n p → FaultAt s P p
-      some (k, c, l, e, y) = (k, c, e, y)
+  all_seen_at n found l h = finds_same {P = FaultBefore s P n} {Q = FaultAt s P} found (some_before n) (within n l) h
 
-      within : {p : Span} → FaultAt s P p → FaultBefore s P n p
-      within (k, c, e, y) = let m = slice_get_within s.classes k c e in (k, c, omega (arith, m, l, ap length all, length-map cs class_of), e, y)
+  pub first_of_all_at : (n : ℕ) (found : Option Span) → length cs ≤ n → FindsFirstPlace (FaultBefore s P n) found → FindsFirstPlace (FaultAt s P) found
+  first_of_all_at n found l h = first_same (λ (p : Span). p.start) {P = FaultBefore s P n} {Q = FaultAt s P} found (some_before n) (within n l) h
 
 -- ---- clashes of a class
 
@@ -76,12 +88,12 @@ module _ (s : System) (k : ℕ) (c : Class) (is_class : slice_get s.classes k �
 
   pub class_found : (a b d e : Option Span) → a ≡ names_clash [] (map (λ (f : Feature). f.name) c.features) → Finds (λ p. Any (λ f. IsLikeInherited s k f p) c.features) b →
       Finds (λ p. Any (λ f. RoutineClashes (feature_names (features s k)) f.kind p) c.features) d → Finds (ClausesClash (feature_names (features s k)) c.invariant) e →
-      (de bd all : Option Span) → de ≡ earliest d e → bd ≡ earliest b de → all ≡ earliest a bd → Finds (ClassClashes s k c) all
-  class_found a b d e own f h v de bd all i j l =
-      subst (Finds (ClassClashes s k c)) (sym (l ∙ ap (earliest a) (j ∙ ap (earliest b) i)))
-      (either {P = OneClashes [] (map (λ (f : Feature). f.name) c.features)} {Q = λ p. InheritedClashes s k c p ⊎ InTexts p} {R = ClassClashes s k c} a (earliest b (earliest d e))
-      (λ p. own_features_clash) (λ p. within) (λ p. parts) (subst (Finds (OneClashes [] (map (λ (f : Feature). f.name) c.features))) (sym own) (names_found [] (map (λ (f : Feature). f.name) c.features)))
-      (either {P = InheritedClashes s k c} {Q = InTexts} b (earliest d e) (λ p. inl) (λ p. inr) (λ p y. y) (finds_same b like_one one_like f)
+      (de bd all : Option Span) → de ≡ first_place d e → bd ≡ first_place b de → all ≡ first_place a bd → Finds (ClassClashes s k c) all
+  class_found a b d e declared f h v de bd all i j l =
+      subst (Finds (ClassClashes s k c)) (sym (l ∙ ap (first_place a) (j ∙ ap (first_place b) i)))
+      (either {P = OneClashes [] (map (λ (f : Feature). f.name) c.features)} {Q = λ p. InheritedClashes s k c p ⊎ InTexts p} {R = ClassClashes s k c} a (first_place b (first_place d e))
+      (λ p. declared_clash) (λ p. within) (λ p. parts) (subst (Finds (OneClashes [] (map (λ (f : Feature). f.name) c.features))) (sym declared) (names_found [] (map (λ (f : Feature). f.name) c.features)))
+      (either {P = InheritedClashes s k c} {Q = InTexts} b (first_place d e) (λ p. inl) (λ p. inr) (λ p y. y) (finds_same b like_one one_like f)
       (either {P = λ p. Any (λ (f : Feature). RoutineClashes (feature_names (features s k)) f.kind p) c.features} {Q = ClausesClash (feature_names (features s k)) c.invariant} {R = InTexts} d e
       (λ p. inl) (λ p. inr) (λ p y. y) h v)))
     where
@@ -91,7 +103,7 @@ module _ (s : System) (k : ℕ) (c : Class) (is_class : slice_get s.classes k �
       within (inr (inr y)) = in_invariant y
 
       parts : {p : Span} → ClassClashes s k c p → OneClashes [] (map (λ (f : Feature). f.name) c.features) p ⊎ (InheritedClashes s k c p ⊎ InTexts p)
-      parts (own_features_clash y) = inl y
+      parts (declared_clash y) = inl y
       parts (inherited_clash y) = inr (inl y)
       parts (in_routine y) = inr (inr (inl y))
       parts (in_invariant y) = inr (inr (inr y))

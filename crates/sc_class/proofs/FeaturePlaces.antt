@@ -5,11 +5,11 @@ use Rattle.std.specs.Option.{option_map}
 use Rattle.sc_text.specs.declared.token.Span.{Span}
 use Rattle.sc_tree.specs.Plain.{Name}
 use Rattle.sc_tree.specs.View.{feature_of}
-use Rattle.sc_class.specs.declared.own.FeatureEntry.{FeatureEntry}
+use Rattle.sc_class.specs.declared.class_tables.feature_entry.FeatureEntry.{FeatureEntry}
 use Rattle.sc_class.specs.Names.{first_like}
-use Rattle.sc_class.specs.Features.{DeclaredFeature, named_among}
-use Rattle.sc_class.specs.Entries.{entry_of}
-use Rattle.sc_class.specs.Scopes.{feature_names}
+use Rattle.sc_class.specs.Tables.Features.{DeclaredFeature, named_among}
+use Rattle.sc_class.specs.View.{entry_of}
+use Rattle.sc_class.specs.Faults.Scopes.{feature_names}
 use Rattle.sc_class.specs.Internal.ScopeSearch.{place_among}
 
 abbrev place_of : DeclaredFeature → Span

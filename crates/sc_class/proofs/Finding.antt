@@ -1,7 +1,7 @@
 -- What searches find, one behind the other.
-use Rattle.std.proofs.Common.{◌≡◌, ◌<◌, ◌≤◌, ◌+◌, ℕ, Bool, true, false, List, [], ◌∷◌, length, take, get_or, map, Option, Some, None, sym, subst, ◌⊎◌, inl, inr}
+use Rattle.std.proofs.Common.{◌≡◌, ◌<◌, ◌≤◌, ◌+◌, ℕ, Bool, true, false, List, [], ◌∷◌, length, take, get_or, map, Option, Some, None, refl, ap, sym, subst, arith, ◌⊎◌, inl, inr}
 use Rattle.std.specs.Prelude.{Any, nat_lt, if◌then◌else◌}
-use Rattle.sc_class.specs.Internal.Found.{Finds, first_by}
+use Rattle.sc_class.specs.Internal.Found.{Finds, FindsFirst, first_placed}
 use Rattle.sc_class.proofs.Anys.{any_none, any_left, any_right, any_parts, any_only, any_first, map_seen, take_end}
 
 -- the same things
@@ -10,7 +10,7 @@ finds_same None f g h = λ p q. h p (g p q)
 finds_same (Some p) f g h = f p h
 
 -- what one search or another finds
-pub finds_either : {X : Type 0} (start : X → ℕ) {P Q R : X → Type 0} (a b : Option X) → ((p : X) → P p → R p) → ((p : X) → Q p → R p) → ((p : X) → R p → P p ⊎ Q p) → Finds P a → Finds Q b → Finds R (first_by start a b)
+pub finds_either : {X : Type 0} (start : X → ℕ) {P Q R : X → Type 0} (a b : Option X) → ((p : X) → P p → R p) → ((p : X) → Q p → R p) → ((p : X) → R p → P p ⊎ Q p) → Finds P a → Finds Q b → Finds R (first_placed start a b)
 finds_either {X} start {P} {Q} {R} None None f g h i j = λ p r. by p (h p r)
   where
     by : (p : X) → P p ⊎ Q p → ⊥
@@ -24,6 +24,52 @@ finds_either {X} start {P} {Q} {R} (Some p) (Some q) f g h i j = by (nat_lt (sta
     by true = g q j
     by false = f p i
 
+-- ---- the first of what is found
+
+-- where all of them are this one
+pub only_one : {X : Type 0} (start : X → ℕ) {P : X → Type 0} (x : X) → P x → ((y : X) → P y → y ≡ x) → FindsFirst start P (Some x)
+only_one start x p all = (p, λ y q. let same : start y ≡ start x = ap start (all y q) in omega (arith, same))
+
+pub first_same : {X : Type 0} (start : X → ℕ) {P Q : X → Type 0} (o : Option X) → ((p : X) → P p → Q p) → ((p : X) → Q p → P p) → FindsFirst start P o → FindsFirst start Q o
+first_same start None f g h = λ p q. h p (g p q)
+first_same start (Some p) f g h = (f p h.0, λ y q. h.1 y (g y q))
+
+pub first_either : {X : Type 0} (start : X → ℕ) {P Q R : X → Type 0} (a b : Option X) → ((p : X) → P p → R p) → ((p : X) → Q p → R p) → ((p : X) → R p → P p ⊎ Q p) → FindsFirst start P a → FindsFirst start Q b → FindsFirst start R (first_placed start a b)
+first_either {X} start {P} {Q} {R} None None f g h i j = λ p r. by p (h p r)
+  where
+    by : (p : X) → P p ⊎ Q p → ⊥
+    by p (inl x) = i p x
+    by p (inr y) = j p y
+first_either {X} start {P} {Q} {R} None (Some q) f g h i j = (g q j.0, λ y r. by y (h y r))
+  where
+    by : (y : X) → P y ⊎ Q y → start q ≤ start y
+    by y (inl x) = absurd (i y x)
+    by y (inr z) = j.1 y z
+first_either {X} start {P} {Q} {R} (Some p) None f g h i j = (f p i.0, λ y r. by y (h y r))
+  where
+    by : (y : X) → P y ⊎ Q y → start p ≤ start y
+    by y (inl x) = i.1 y x
+    by y (inr z) = absurd (j y z)
+first_either {X} start {P} {Q} {R} (Some p) (Some q) f g h i j = by (nat_lt (start q) (start p)) refl
+  where
+    before : nat_lt (start q) (start p) ≡ true → start q < start p
+    before e = grind arith
+
+    behind : nat_lt (start q) (start p) ≡ false → start p ≤ start q
+    behind e = grind arith
+
+    least_q : start q < start p → (y : X) → P y ⊎ Q y → start q ≤ start y
+    least_q l y (inl x) = let m : start p ≤ start y = i.1 y x in omega (arith, l, m)
+    least_q l y (inr z) = j.1 y z
+
+    least_p : start p ≤ start q → (y : X) → P y ⊎ Q y → start p ≤ start y
+    least_p l y (inl x) = i.1 y x
+    least_p l y (inr z) = let m : start q ≤ start y = j.1 y z in omega (arith, l, m)
+
+    by : (b : Bool) → nat_lt (start q) (start p) ≡ b → FindsFirst start R (if b then Some q else Some p)
+    by true e = (g q j.0, λ y r. least_q (before e) y (h y r))
+    by false e = (f p i.0, λ y r. least_p (behind e) y (h y r))
+
 -- ---- what stands in one of several parts
 
 module _ {A B X : Type 0} (start : X → ℕ) (P : B → X → Type 0) (f : A → B) (xs : List A) where
@@ -34,10 +80,10 @@ module _ {A B X : Type 0} (start : X → ℕ) (P : B → X → Type 0) (f : A �
   pub none_yet : Finds (Among 0) None
   none_yet p a = any_none a
 
-  pub one_more : (k : ℕ) (x : A) (found o next : Option X) → k < length xs → x ≡ get_or xs k x → Finds (Among k) found → Finds (P (f x)) o → next ≡ first_by start found o → Finds (Among (k + 1)) next
+  pub one_more : (k : ℕ) (x : A) (found o next : Option X) → k < length xs → x ≡ get_or xs k x → Finds (Among k) found → Finds (P (f x)) o → next ≡ first_placed start found o → Finds (Among (k + 1)) next
   one_more k x found o next l g h i e =
       subst (Finds (Among (k + 1))) (sym e)
-      (subst (λ ys. Finds (λ p. Any (λ x. P x p) ys) (first_by start found o)) (sym (map_seen f xs k x l g))
+      (subst (λ ys. Finds (λ p. Any (λ x. P x p) ys) (first_placed start found o)) (sym (map_seen f xs k x l g))
       (finds_either start found o (λ p. any_left (map f (take k xs)) (f x ∷ [])) (λ p y. any_right (map f (take k xs)) (f x ∷ []) (any_first (f x) [] y)) (λ p r. parts p (any_parts (map f (take k xs)) (f x ∷ []) r)) h i))
     where
       parts : (p : X) → Any (λ x. P x p) (map f (take k xs)) ⊎ Any (λ x. P x p) (f x ∷ []) → Any (λ x. P x p) (map f (take k xs)) ⊎ P (f x) p
@@ -46,3 +92,16 @@ module _ {A B X : Type 0} (start : X → ℕ) (P : B → X → Type 0) (f : A �
 
   pub all_seen : (k : ℕ) (found : Option X) → length xs ≤ k → Finds (Among k) found → Finds (λ p. Any (λ x. P x p) (map f xs)) found
   all_seen k found l h = subst (λ ys. Finds (λ p. Any (λ x. P x p) (map f ys)) found) (take_end xs k l) h
+
+  pub first_of_more : (k : ℕ) (x : A) (found o next : Option X) → k < length xs → x ≡ get_or xs k x → FindsFirst start (Among k) found → FindsFirst start (P (f x)) o → next ≡ first_placed start found o → FindsFirst start (Among (k + 1)) next
+  first_of_more k x found o next l g h i e =
+      subst (FindsFirst start (Among (k + 1))) (sym e)
+      (subst (λ ys. FindsFirst start (λ p. Any (λ x. P x p) ys) (first_placed start found o)) (sym (map_seen f xs k x l g))
+      (first_either start found o (λ p. any_left (map f (take k xs)) (f x ∷ [])) (λ p y. any_right (map f (take k xs)) (f x ∷ []) (any_first (f x) [] y)) (λ p r. parts p (any_parts (map f (take k xs)) (f x ∷ []) r)) h i))
+    where
+      parts : (p : X) → Any (λ x. P x p) (map f (take k xs)) ⊎ Any (λ x. P x p) (f x ∷ []) → Any (λ x. P x p) (map f (take k xs)) ⊎ P (f x) p
+      parts p (inl a) = inl a
+      parts p (inr a) = inr (any_only (f x) a)
+
+  pub first_of_all : (k : ℕ) (found : Option X) → length xs ≤ k → FindsFirst start (Among k) found → FindsFirst start (λ p. Any (λ x. P x p) (map f xs)) found
+  first_of_all k found l h = subst (λ ys. FindsFirst start (λ p. Any (λ x. P x p) (map f ys)) found) (take_end xs k l) h

@@ -1,20 +1,17 @@
 -- Features that are found by the names of all that a class has.
 use Rattle.std.proofs.Common.{◌≡◌, ◌<◌, ◌+◌, ℕ, Bool, true, false, cond, List, [], ◌∷◌, ◌++◌, Option, Some, None, length, map, refl, ap, sym, ◌∙◌, arith, add-one, below_more}
 use Rattle.std.specs.Prelude.{bytes_eq, slice_get}
-use Rattle.std.specs.Option.{option_map, option_and_then, option_copied}
-use Rattle.std.specs.Borrow.{Bor}
+use Rattle.std.specs.Option.{option_map, option_and_then}
 use Rattle.std.proofs.lemmas.List.{length-append}
 use Rattle.std.proofs.lemmas.Option.{slice_get-map, slice_get_within}
 use Rattle.sc_tree.specs.Plain.{System}
-use Rattle.sc_class.specs.declared.identity.ClassId.TheVariants as class
-use Rattle.sc_class.specs.declared.own.FeatureEntry.{FeatureEntry}
-use Rattle.sc_class.specs.declared.known.KnownFeatures.{KnownFeatures}
+use Rattle.sc_class.specs.declared.class_tables.feature_entry.FeatureEntry.{FeatureEntry}
+use Rattle.sc_class.specs.declared.class_tables.known_features.KnownFeatures.{KnownFeatures}
 use Rattle.sc_class.specs.Names.{number_among}
-use Rattle.sc_class.specs.Features.{DeclaredFeature, features, own_features, named_among}
-use Rattle.sc_class.specs.Scopes.{feature_names}
-use Rattle.sc_class.specs.Entries.{entry_of}
-use Rattle.sc_class.specs.Internal.Known.{entries_of, class_of_first, declarer_known, declarer}
-use Rattle.sc_class.specs.Heirs.{StandsInText}
+use Rattle.sc_class.specs.Tables.Features.{DeclaredFeature, features, declared_features, named_among}
+use Rattle.sc_class.specs.Faults.Scopes.{feature_names}
+use Rattle.sc_class.specs.View.{entry_of}
+use Rattle.sc_class.specs.Internal.KnownFeatures.{entries_of, class_of_first, declarer_known, declarer}
 use Rattle.sc_class.proofs.TableLemmas.{read_append, read_last}
 use Rattle.sc_class.proofs.Standing.{found_stands}
 
@@ -65,12 +62,12 @@ module _ (s : System) (k : ℕ) (x : List ℕ) (o : Option DeclaredFeature) (kno
       by None q = refl
       by (Some f) q = cc
 
-  pub declared_there : (g : DeclaredFeature) → o ≡ Some g → named_among x (own_features s g.class) ≡ named_among x (features s k)
+  pub declared_there : (g : DeclaredFeature) → o ≡ Some g → named_among x (declared_features s g.class) ≡ named_among x (features s k)
   declared_there g e = by (named_among x (features s k)) refl (ap (option_map (λ (f : DeclaredFeature). f.class)) (sym e) ∙ known)
     where
-      by : (r : Option DeclaredFeature) → named_among x (features s k) ≡ r → Some g.class ≡ option_map (λ (f : DeclaredFeature). f.class) r → named_among x (own_features s g.class) ≡ r
+      by : (r : Option DeclaredFeature) → named_among x (features s k) ≡ r → Some g.class ≡ option_map (λ (f : DeclaredFeature). f.class) r → named_among x (declared_features s g.class) ≡ r
       by None h q = cc
-      by (Some f) h q = let same : g.class ≡ f.class = cc in ap (λ (c : ℕ). named_among x (own_features s c)) same ∙ (found_stands s k x f h).is_own
+      by (Some f) h q = let same : g.class ≡ f.class = cc in ap (λ (c : ℕ). named_among x (declared_features s c)) same ∙ (found_stands s k x f h).is_declared
 
 pub known_at : (s : System) (ts : List KnownFeatures) → ((k : ℕ) → k < length ts → (x : List ℕ) → declarer_known ts k x ≡ declarer s k x) → (k : ℕ) (t : KnownFeatures) → slice_get ts k ≡ Some t →
     (x : List ℕ) (o : Option DeclaredFeature) → o ≡ named_among x (entries_of t) → option_map (λ (f : DeclaredFeature). f.class) o ≡ declarer s k x

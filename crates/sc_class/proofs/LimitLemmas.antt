@@ -12,7 +12,7 @@ use Rattle.sc_tree.specs.declared.instruction.Branch.{Branch}
 use Rattle.sc_tree.specs.View.{head_of, instr_of, instrs_of, branches_of}
 use Rattle.sc_tree.proofs.ViewLemmas.{instr_of-if, instr_of-loop, instr_of-block}
 use Rattle.std.proofs.lemmas.List.{length-map, map-append, take-append-drop}
-use Rattle.sc_class.specs.Limits.{most_heads, block_names, block_names_of, branch_block_names, has_wide_block, has_wide_block_in, branch_has_wide_block}
+use Rattle.sc_class.specs.Faults.Limits.{max_heads, block_names, block_names_of, branch_block_names, has_wide_block, has_wide_block_in, branch_has_wide_block}
 use Rattle.sc_class.proofs.Anys.{any_none, any_left, any_right, any_parts, any_only, any_first, map_seen, take_end, at, drop_end}
 
 -- ---- sums that stop at 257
@@ -214,21 +214,21 @@ module _ (i : Instr) (s : Span) (initial : Vec Instr Global) (e : Expr) (body : 
   wide_loop_body is js b d f g h k l = either_false (has_wide_block_in (instrs_of initial.items)) (has_wide_block_in (instrs_of body.items)) b d (wide_same is initial.items b f g) h (wide_same js body.items d k l) ∙ sym wide_loop
 
 module _ (i : Instr) (s : Span) (heads : Vec Head Global) (body : Vec Instr Global) (q : i ≡ instr.Block s heads body) where
-  wide_block : has_wide_block (instr_of i) ≡ (nat_lt most_heads (length heads.items) || has_wide_block_in (instrs_of body.items))
+  wide_block : has_wide_block (instr_of i) ≡ (nat_lt max_heads (length heads.items) || has_wide_block_in (instrs_of body.items))
   unfolding has_wide_block
   wide_block =
       ap (λ (i : Instr). has_wide_block (instr_of i)) q ∙ ap has_wide_block (instr_of-block s heads body)
-      ∙ ap (λ (n : ℕ). nat_lt most_heads n || has_wide_block_in (instrs_of body.items)) (length-map heads.items head_of)
+      ∙ ap (λ (n : ℕ). nat_lt max_heads n || has_wide_block_in (instrs_of body.items)) (length-map heads.items head_of)
 
   pub wide_heads : (n : ℕ) (d : Bool) → n ≡ length heads.items → 16 < n → d ≡ true → d ≡ has_wide_block (instr_of i)
-  wide_heads n d f l h = either_true (nat_lt most_heads (length heads.items)) (has_wide_block_in (instrs_of body.items)) true d (sym (above (length heads.items) (subst (λ (n : ℕ). 16 < n) f l))) refl h ∙ sym wide_block
+  wide_heads n d f l h = either_true (nat_lt max_heads (length heads.items)) (has_wide_block_in (instrs_of body.items)) true d (sym (above (length heads.items) (subst (λ (n : ℕ). 16 < n) f l))) refl h ∙ sym wide_block
     where
       above : (n : ℕ) → 16 < n → nat_lt 16 n ≡ true
       above n l = grind arith
 
   pub narrow_heads : (n : ℕ) (is : List Instr) (d : Bool) → n ≡ length heads.items → n ≤ 16 → is ≡ body.items → d ≡ has_wide_block_in (instrs_of is) → d ≡ has_wide_block (instr_of i)
   narrow_heads n is d f l g h =
-      either_false (nat_lt most_heads (length heads.items)) (has_wide_block_in (instrs_of body.items)) false d (sym (within (length heads.items) (subst (λ (n : ℕ). n ≤ 16) f l))) refl (wide_same is body.items d g h) ∙ sym wide_block
+      either_false (nat_lt max_heads (length heads.items)) (has_wide_block_in (instrs_of body.items)) false d (sym (within (length heads.items) (subst (λ (n : ℕ). n ≤ 16) f l))) refl (wide_same is body.items d g h) ∙ sym wide_block
     where
       within : (n : ℕ) → n ≤ 16 → nat_lt 16 n ≡ false
       within n l = grind arith

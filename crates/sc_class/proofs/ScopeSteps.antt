@@ -16,22 +16,22 @@ use Rattle.sc_tree.specs.declared.instruction.Branch.{Branch}
 use Rattle.sc_tree.specs.Plain.{Name}
 use Rattle.sc_tree.specs.View.{expr_of, target_of, exprs_of, head_of, instr_of, instrs_of, branches_of}
 use Rattle.sc_tree.proofs.ViewLemmas.{expr_of-call, instr_of-if, instr_of-loop, instr_of-block}
-use Rattle.sc_class.specs.Internal.Found.{earliest}
-use Rattle.sc_class.specs.Scopes.{tests_of, head_names}
+use Rattle.sc_class.specs.Internal.Found.{first_place}
+use Rattle.sc_class.specs.Faults.Scopes.{tests_of, head_names}
 use Rattle.sc_class.specs.Internal.ScopeSearch.{name_clash, names_clash, expr_clash, target_clash, exprs_clash, condition_clash, values_clash, instr_clash, instrs_clash, branches_clash}
 use Rattle.sc_class.proofs.Anys.{at, drop_end}
 
 -- ---- the earliest of several places
 
-pub earliest-none : (a : Option Span) → earliest a None ≡ a
-earliest-none None = refl
-earliest-none (Some p) = refl
+pub first_place-none : (a : Option Span) → first_place a None ≡ a
+first_place-none None = refl
+first_place-none (Some p) = refl
 
 abbrev picked : Bool → Span → Span → Option Span
 picked b p q = if b then Some q else Some p
 
 three : (p q r : Span) (a b c : Bool) → nat_lt q.start p.start ≡ a → nat_lt r.start q.start ≡ b → nat_lt r.start p.start ≡ c →
-    earliest (picked a p q) (Some r) ≡ earliest (Some p) (picked b q r)
+    first_place (picked a p q) (Some r) ≡ first_place (Some p) (picked b q r)
 three p q r true true true i j k = ap (λ x. picked x q r) j ∙ sym (ap (λ x. picked x p r) k)
 three p q r true true false i j k = absurd (grind (arith, nat_tests))
 three p q r true false c i j k = ap (λ x. picked x q r) j ∙ sym (ap (λ x. picked x p q) i)
@@ -39,42 +39,42 @@ three p q r false true c i j k = refl
 three p q r false false true i j k = absurd (grind (arith, nat_tests))
 three p q r false false false i j k = ap (λ x. picked x p r) k ∙ sym (ap (λ x. picked x p q) i)
 
-pub earliest-assoc : (a b c : Option Span) → earliest (earliest a b) c ≡ earliest a (earliest b c)
-earliest-assoc None b c = refl
-earliest-assoc (Some p) None c = refl
-earliest-assoc (Some p) (Some q) None = earliest-none (earliest (Some p) (Some q))
-earliest-assoc (Some p) (Some q) (Some r) = three p q r (nat_lt q.start p.start) (nat_lt r.start q.start) (nat_lt r.start p.start) refl refl refl
+pub first_place-assoc : (a b c : Option Span) → first_place (first_place a b) c ≡ first_place a (first_place b c)
+first_place-assoc None b c = refl
+first_place-assoc (Some p) None c = refl
+first_place-assoc (Some p) (Some q) None = first_place-none (first_place (Some p) (Some q))
+first_place-assoc (Some p) (Some q) (Some r) = three p q r (nat_lt q.start p.start) (nat_lt r.start q.start) (nat_lt r.start p.start) refl refl refl
 
 -- ---- lists, from the element at an index on
 
 -- a search g of a list, which goes by a search h of each element
 module _ {A : Type 0} (g : List A → Option Span) (h : A → Option Span) (xs : List A) where
-  pub search_more : ((x : A) (xs : List A) → g (x ∷ xs) ≡ earliest (h x) (g xs)) → (found place next : Option Span) (k : ℕ) (x : A) →
-      g xs ≡ earliest found (g (drop k xs)) → k < length xs → x ≡ get_or xs k x → place ≡ h x → next ≡ earliest found place → g xs ≡ earliest next (g (drop (k + 1) xs))
+  pub search_more : ((x : A) (xs : List A) → g (x ∷ xs) ≡ first_place (h x) (g xs)) → (found place next : Option Span) (k : ℕ) (x : A) →
+      g xs ≡ first_place found (g (drop k xs)) → k < length xs → x ≡ get_or xs k x → place ≡ h x → next ≡ first_place found place → g xs ≡ first_place next (g (drop (k + 1) xs))
   search_more cons found place next k x q l e i n =
-      q ∙ ap (λ ys. earliest found (g ys)) (at xs k x l e) ∙ ap (earliest found) (cons x (drop (k + 1) xs) ∙ ap (λ o. earliest o (g (drop (k + 1) xs))) (sym i))
-      ∙ sym (earliest-assoc found place (g (drop (k + 1) xs))) ∙ ap (λ o. earliest o (g (drop (k + 1) xs))) (sym n)
+      q ∙ ap (λ ys. first_place found (g ys)) (at xs k x l e) ∙ ap (first_place found) (cons x (drop (k + 1) xs) ∙ ap (λ o. first_place o (g (drop (k + 1) xs))) (sym i))
+      ∙ sym (first_place-assoc found place (g (drop (k + 1) xs))) ∙ ap (λ o. first_place o (g (drop (k + 1) xs))) (sym n)
 
-  pub search_end : g [] ≡ None → (found : Option Span) (k : ℕ) → g xs ≡ earliest found (g (drop k xs)) → length xs ≤ k → found ≡ g xs
-  search_end empty found k q l = sym (q ∙ ap (λ ys. earliest found (g ys)) (drop_end xs k l) ∙ ap (earliest found) empty ∙ earliest-none found)
+  pub search_end : g [] ≡ None → (found : Option Span) (k : ℕ) → g xs ≡ first_place found (g (drop k xs)) → length xs ≤ k → found ≡ g xs
+  search_end empty found k q l = sym (q ∙ ap (λ ys. first_place found (g ys)) (drop_end xs k l) ∙ ap (first_place found) empty ∙ first_place-none found)
 
 -- the names g of a list, one n of each element
 module _ {A : Type 0} (g : List A → List Name) (n : A → Name) (xs : List A) where
   pub names_more : (fs : List Name) → ((x : A) (xs : List A) → g (x ∷ xs) ≡ n x ∷ g xs) → (all found place next : Option Span) (ns more : List Name) (k : ℕ) (x : A) →
-      all ≡ earliest found (names_clash fs ns (g (drop k xs))) → k < length xs → x ≡ get_or xs k x → place ≡ name_clash fs ns (n x) → more ≡ ns ++ n x ∷ [] → next ≡ earliest found place →
-      all ≡ earliest next (names_clash fs more (g (drop (k + 1) xs)))
+      all ≡ first_place found (names_clash fs ns (g (drop k xs))) → k < length xs → x ≡ get_or xs k x → place ≡ name_clash fs ns (n x) → more ≡ ns ++ n x ∷ [] → next ≡ first_place found place →
+      all ≡ first_place next (names_clash fs more (g (drop (k + 1) xs)))
   unfolding names_clash
   names_more fs cons all found place next ns more k x q l e i m o =
-      q ∙ ap (λ ys. earliest found (names_clash fs ns (g ys))) (at xs k x l e)
-      ∙ ap (λ ms. earliest found (names_clash fs ns ms)) (cons x (drop (k + 1) xs))
-      ∙ ap (λ o. earliest found (earliest o (names_clash fs (ns ++ n x ∷ []) (g (drop (k + 1) xs))))) (sym i)
-      ∙ ap (λ ms. earliest found (earliest place (names_clash fs ms (g (drop (k + 1) xs))))) (sym m)
-      ∙ sym (earliest-assoc found place (names_clash fs more (g (drop (k + 1) xs)))) ∙ ap (λ o. earliest o (names_clash fs more (g (drop (k + 1) xs)))) (sym o)
+      q ∙ ap (λ ys. first_place found (names_clash fs ns (g ys))) (at xs k x l e)
+      ∙ ap (λ ms. first_place found (names_clash fs ns ms)) (cons x (drop (k + 1) xs))
+      ∙ ap (λ o. first_place found (first_place o (names_clash fs (ns ++ n x ∷ []) (g (drop (k + 1) xs))))) (sym i)
+      ∙ ap (λ ms. first_place found (first_place place (names_clash fs ms (g (drop (k + 1) xs))))) (sym m)
+      ∙ sym (first_place-assoc found place (names_clash fs more (g (drop (k + 1) xs)))) ∙ ap (λ o. first_place o (names_clash fs more (g (drop (k + 1) xs)))) (sym o)
 
-  pub names_end : (fs : List Name) → g [] ≡ [] → (all found : Option Span) (ns : List Name) (k : ℕ) → all ≡ earliest found (names_clash fs ns (g (drop k xs))) → length xs ≤ k → found ≡ all
+  pub names_end : (fs : List Name) → g [] ≡ [] → (all found : Option Span) (ns : List Name) (k : ℕ) → all ≡ first_place found (names_clash fs ns (g (drop k xs))) → length xs ≤ k → found ≡ all
   unfolding names_clash
   names_end fs empty all found ns k q l =
-      sym (q ∙ ap (λ ys. earliest found (names_clash fs ns (g ys))) (drop_end xs k l) ∙ ap (λ ms. earliest found (names_clash fs ns ms)) empty ∙ earliest-none found)
+      sym (q ∙ ap (λ ys. first_place found (names_clash fs ns (g ys))) (drop_end xs k l) ∙ ap (λ ms. first_place found (names_clash fs ns ms)) empty ∙ first_place-none found)
 
   pub known_more : ((x : A) (xs : List A) → g (x ∷ xs) ≡ n x ∷ g xs) → (all ns more : List Name) (k : ℕ) (x : A) →
       all ≡ ns ++ g (drop k xs) → k < length xs → x ≡ get_or xs k x → more ≡ ns ++ n x ∷ [] → all ≡ more ++ g (drop (k + 1) xs)
@@ -88,39 +88,39 @@ module _ {A : Type 0} (g : List A → List Name) (n : A → Name) (xs : List A) 
 -- ---- calls and instructions in the tree in memory
 
 pub call_found : (fs ns : List Name) (e : Expr) (k : Call) (es : List Expr) (a b r : Option Span) → e ≡ expr.Call k → es ≡ k.actuals.items →
-    a ≡ target_clash fs ns (target_of k.target) → b ≡ exprs_clash fs ns (exprs_of es) → r ≡ earliest a b → r ≡ expr_clash fs ns (expr_of e)
+    a ≡ target_clash fs ns (target_of k.target) → b ≡ exprs_clash fs ns (exprs_of es) → r ≡ first_place a b → r ≡ expr_clash fs ns (expr_of e)
 unfolding expr_clash
 call_found fs ns e k es a b r q w i j o =
-    o ∙ ap (λ a. earliest a b) i ∙ ap (earliest (target_clash fs ns (target_of k.target))) (j ∙ ap (λ (es : List Expr). exprs_clash fs ns (exprs_of es)) w)
+    o ∙ ap (λ a. first_place a b) i ∙ ap (first_place (target_clash fs ns (target_of k.target))) (j ∙ ap (λ (es : List Expr). exprs_clash fs ns (exprs_of es)) w)
     ∙ sym (ap (λ (e : Expr). expr_clash fs ns (expr_of e)) q ∙ ap (expr_clash fs ns) (expr_of-call k))
 
 module _ (fs ns : List Name) (i : Instr) where
   pub if_found : (s : Span) (e : Expr) (body : Vec Instr Global) (branches : Vec Branch Global) (other : Vec Instr Global) (is os : List Instr) (bs : List Branch) (a b c d r : Option Span) →
       i ≡ instr.If s e body branches other → is ≡ body.items → bs ≡ branches.items → os ≡ other.items →
-      a ≡ earliest (condition_clash fs ns (expr_of e)) (instrs_clash fs (ns ++ tests_of (expr_of e)) (instrs_of is)) → b ≡ branches_clash fs ns (branches_of bs) → c ≡ instrs_clash fs ns (instrs_of os) →
-      d ≡ earliest b c → r ≡ earliest a d → r ≡ instr_clash fs ns (instr_of i)
+      a ≡ first_place (condition_clash fs ns (expr_of e)) (instrs_clash fs (ns ++ tests_of (expr_of e)) (instrs_of is)) → b ≡ branches_clash fs ns (branches_of bs) → c ≡ instrs_clash fs ns (instrs_of os) →
+      d ≡ first_place b c → r ≡ first_place a d → r ≡ instr_clash fs ns (instr_of i)
   unfolding instr_clash
   if_found s e body branches other is os bs a b c d r q u v w x y z m o =
-      o ∙ ap (earliest a) m ∙ ap (λ a. earliest a (earliest b c)) (x ∙ ap (λ (is : List Instr). earliest (condition_clash fs ns (expr_of e)) (instrs_clash fs (ns ++ tests_of (expr_of e)) (instrs_of is))) u)
-      ∙ ap (λ b. earliest (earliest (condition_clash fs ns (expr_of e)) (instrs_clash fs (ns ++ tests_of (expr_of e)) (instrs_of body.items))) (earliest b c)) (y ∙ ap (λ (bs : List Branch). branches_clash fs ns (branches_of bs)) v)
-      ∙ ap (λ c. earliest (earliest (condition_clash fs ns (expr_of e)) (instrs_clash fs (ns ++ tests_of (expr_of e)) (instrs_of body.items))) (earliest (branches_clash fs ns (branches_of branches.items)) c)) (z ∙ ap (λ (is : List Instr). instrs_clash fs ns (instrs_of is)) w)
+      o ∙ ap (first_place a) m ∙ ap (λ a. first_place a (first_place b c)) (x ∙ ap (λ (is : List Instr). first_place (condition_clash fs ns (expr_of e)) (instrs_clash fs (ns ++ tests_of (expr_of e)) (instrs_of is))) u)
+      ∙ ap (λ b. first_place (first_place (condition_clash fs ns (expr_of e)) (instrs_clash fs (ns ++ tests_of (expr_of e)) (instrs_of body.items))) (first_place b c)) (y ∙ ap (λ (bs : List Branch). branches_clash fs ns (branches_of bs)) v)
+      ∙ ap (λ c. first_place (first_place (condition_clash fs ns (expr_of e)) (instrs_clash fs (ns ++ tests_of (expr_of e)) (instrs_of body.items))) (first_place (branches_clash fs ns (branches_of branches.items)) c)) (z ∙ ap (λ (is : List Instr). instrs_clash fs ns (instrs_of is)) w)
       ∙ sym (ap (λ (i : Instr). instr_clash fs ns (instr_of i)) q ∙ ap (instr_clash fs ns) (instr_of-if s e body branches other))
 
   pub loop_found : (s : Span) (initial : Vec Instr Global) (e : Expr) (body : Vec Instr Global) (is js : List Instr) (a b c d r : Option Span) →
       i ≡ instr.Loop s initial e body → is ≡ initial.items → js ≡ body.items → a ≡ instrs_clash fs ns (instrs_of is) → b ≡ expr_clash fs ns (expr_of e) → c ≡ instrs_clash fs ns (instrs_of js) →
-      d ≡ earliest b c → r ≡ earliest a d → r ≡ instr_clash fs ns (instr_of i)
+      d ≡ first_place b c → r ≡ first_place a d → r ≡ instr_clash fs ns (instr_of i)
   unfolding instr_clash
   loop_found s initial e body is js a b c d r q u v x y z m o =
-      o ∙ ap (earliest a) m ∙ ap (λ a. earliest a (earliest b c)) (x ∙ ap (λ (is : List Instr). instrs_clash fs ns (instrs_of is)) u)
-      ∙ ap (λ b. earliest (instrs_clash fs ns (instrs_of initial.items)) (earliest b c)) y
-      ∙ ap (λ c. earliest (instrs_clash fs ns (instrs_of initial.items)) (earliest (expr_clash fs ns (expr_of e)) c)) (z ∙ ap (λ (is : List Instr). instrs_clash fs ns (instrs_of is)) v)
+      o ∙ ap (first_place a) m ∙ ap (λ a. first_place a (first_place b c)) (x ∙ ap (λ (is : List Instr). instrs_clash fs ns (instrs_of is)) u)
+      ∙ ap (λ b. first_place (instrs_clash fs ns (instrs_of initial.items)) (first_place b c)) y
+      ∙ ap (λ c. first_place (instrs_clash fs ns (instrs_of initial.items)) (first_place (expr_clash fs ns (expr_of e)) c)) (z ∙ ap (λ (is : List Instr). instrs_clash fs ns (instrs_of is)) v)
       ∙ sym (ap (λ (i : Instr). instr_clash fs ns (instr_of i)) q ∙ ap (instr_clash fs ns) (instr_of-loop s initial e body))
 
   pub block_found : (s : Span) (heads : Vec Head Global) (body : Vec Instr Global) (hs : List Head) (is : List Instr) (r : Option Span) →
       i ≡ instr.Block s heads body → hs ≡ heads.items → is ≡ body.items →
-      r ≡ earliest (values_clash fs ns (map head_of hs)) (earliest (names_clash fs ns (head_names (map head_of hs))) (instrs_clash fs (ns ++ head_names (map head_of hs)) (instrs_of is))) → r ≡ instr_clash fs ns (instr_of i)
+      r ≡ first_place (values_clash fs ns (map head_of hs)) (first_place (names_clash fs ns (head_names (map head_of hs))) (instrs_clash fs (ns ++ head_names (map head_of hs)) (instrs_of is))) → r ≡ instr_clash fs ns (instr_of i)
   unfolding instr_clash
   block_found s heads body hs is r q u v o =
-      o ∙ ap (λ (hs : List Head). earliest (values_clash fs ns (map head_of hs)) (earliest (names_clash fs ns (head_names (map head_of hs))) (instrs_clash fs (ns ++ head_names (map head_of hs)) (instrs_of is)))) u
-      ∙ ap (λ (is : List Instr). earliest (values_clash fs ns (map head_of heads.items)) (earliest (names_clash fs ns (head_names (map head_of heads.items))) (instrs_clash fs (ns ++ head_names (map head_of heads.items)) (instrs_of is)))) v
+      o ∙ ap (λ (hs : List Head). first_place (values_clash fs ns (map head_of hs)) (first_place (names_clash fs ns (head_names (map head_of hs))) (instrs_clash fs (ns ++ head_names (map head_of hs)) (instrs_of is)))) u
+      ∙ ap (λ (is : List Instr). first_place (values_clash fs ns (map head_of heads.items)) (first_place (names_clash fs ns (head_names (map head_of heads.items))) (instrs_clash fs (ns ++ head_names (map head_of heads.items)) (instrs_of is)))) v
       ∙ sym (ap (λ (i : Instr). instr_clash fs ns (instr_of i)) q ∙ ap (instr_clash fs ns) (instr_of-block s heads body))

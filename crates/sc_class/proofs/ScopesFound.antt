@@ -1,5 +1,5 @@
 -- What the functions of `specs/Internal/ScopeSearch` give is a clash, and where they give none there is none.
-use Rattle.std.proofs.Common.{◌≡◌, Bool, true, false, cond, List, [], ◌∷◌, ◌++◌, Option, Some, None, refl, sym, subst, ◌⊎◌, inl, inr}
+use Rattle.std.proofs.Common.{◌≡◌, Bool, true, false, cond, List, [], ◌∷◌, ◌++◌, Option, Some, None, refl, sym, subst, ◌∙◌, ◌⊎◌, inl, inr}
 use Rattle.std.specs.Prelude.{Any, IfOk, Ok, Err, bytes_eq, if◌then◌else◌}
 use Rattle.std.specs.Prelude as result
 use Rattle.std.specs.declared.alloc.AllocError.{AllocError}
@@ -9,22 +9,23 @@ use Rattle.sc_text.specs.declared.token.Span.{Span}
 use Rattle.sc_tree.specs.declared.expression.UnaryOperator.{UnaryOperator}
 use Rattle.sc_tree.specs.declared.expression.BinaryOperator.{BinaryOperator}
 use Rattle.sc_tree.specs.declared.expression.BinaryOperator.TheVariants.{AndThen}
-use Rattle.sc_tree.specs.Plain.{FeatureKind, Attribute, Routine, Declaration, DeclaredType, Clause, Head, Name, Variable, CreationCall, Expr, Integer, Boolean, Void, Current, Result, Call, Unary, Binary, ObjectTest, Target, no_target, target, Exprs, no_exprs, expr_then, Instr, Assign, PrintText, CallRoutine, Create, If, Loop, Check, Block, Instrs, no_instrs, instr_then, Branches, no_branches, branch_then}
-use Rattle.sc_class.specs.Internal.Found.{Finds, earliest}
-use Rattle.sc_class.specs.Names.{IsLikeOne, Clashes, is_print_itself, is_like, OneClashes, first, further, first_like, is_print, later_of}
-use Rattle.sc_class.specs.Scopes.{tests_of, head_names, declared_names, ExprClashes, in_target, in_actuals, in_operand, in_left, in_right, in_tested, test_name, TargetClashes, in_target_value, ExprsClash, in_first, in_others, ConditionClashes, in_whole, in_left_test, in_right_test, ClausesClash, InstrClashes, in_source, in_call_target, in_call_actuals, in_creation, in_if, in_then, in_elseif, in_else, in_from, in_until, in_loop, in_check, in_heads, head_name, in_block, InstrsClash, in_first_instr, in_other_instrs, BranchesClash, in_branch_condition, in_branch, in_later_branch, RoutineClashes, entity, in_precondition, in_body, in_postcondition}
-use Rattle.sc_class.specs.Internal.ScopeSearch.{like_place, name_clash, names_clash, expr_clash, target_clash, exprs_clash, is_and_then, condition_clash, clauses_clash, values_clash, instr_clash, instrs_clash, branches_clash, kind_clash}
+use Rattle.sc_tree.specs.Plain.{FeatureKind, Attribute, Routine, RoutineDeclaration, DeclaredType, Clause, Head, Name, Variable, Creation, CreationCall, Expr, Integer, Boolean, Void, Current, Result, Call, Unary, Binary, ObjectTest, Target, no_target, target, Exprs, no_exprs, expr_then, Instr, Assign, PrintText, CallRoutine, Create, If, Loop, Check, Block, Instrs, no_instrs, instr_then, Branches, no_branches, branch_then}
+use Rattle.sc_class.specs.Internal.Found.{Finds, first_place}
+use Rattle.sc_class.specs.Names.{IsLikeOne, Clashes, is_print_itself, is_like, OneClashes, first, further, first_like, is_print, last_place}
+use Rattle.sc_class.specs.Faults.Scopes.{tests_of, head_names, entity_names, ExprClashes, in_target, in_actuals, in_operand, in_left, in_right, in_tested, test_name, TargetClashes, in_target_value, ExprsClash, in_first, in_others, ConditionClashes, in_whole, in_left_test, in_right_test, ClausesClash, InstrClashes, in_source, in_call_target, in_call_actuals, in_creation, in_if, in_then, in_elseif, in_else, in_from, in_until, in_loop, in_check, in_heads, head_name, in_block, InstrsClash, in_first_instr, in_other_instrs, BranchesClash, in_branch_condition, in_branch, in_later_branch, RoutineClashes, entity, in_precondition, in_body, in_postcondition}
+use Rattle.sc_class.specs.Internal.ScopeSearch.{like_place, name_clash, names_clash, expr_clash, target_clash, exprs_clash, is_and_then, condition_clash, clauses_clash, values_clash, creation_clash, instr_clash, instrs_clash, branches_clash, kind_clash}
 use Rattle.sc_class.proofs.Anys.{any_none, any_first, any_later, any_split, any_left, any_right, any_parts}
 use Rattle.sc_class.proofs.Finding.{finds_same, finds_either}
+use Rattle.sc_class.proofs.Items.{some_is}
 
 -- of one thing or the other, what is found of both
-both : (P Q R : Span → Type 0) (a b : Option Span) → ((p : Span) → P p → R p) → ((p : Span) → Q p → R p) → ((p : Span) → R p → P p ⊎ Q p) → Finds P a → Finds Q b → Finds R (earliest a b)
+both : (P Q R : Span → Type 0) (a b : Option Span) → ((p : Span) → P p → R p) → ((p : Span) → Q p → R p) → ((p : Span) → R p → P p ⊎ Q p) → Finds P a → Finds Q b → Finds R (first_place a b)
 both P Q R a b f g h x y = finds_either (λ (p : Span). p.start) {P = P} {Q = Q} {R = R} a b f g h x y
 
 same : (P R : Span → Type 0) (a : Option Span) → ((p : Span) → P p → R p) → ((p : Span) → R p → P p) → Finds P a → Finds R a
 same P R a f g x = finds_same {P = P} {Q = R} a f g x
 
-either_of : (P Q : Span → Type 0) (a b : Option Span) → Finds P a → Finds Q b → Finds (λ p. P p ⊎ Q p) (earliest a b)
+either_of : (P Q : Span → Type 0) (a b : Option Span) → Finds P a → Finds Q b → Finds (λ p. P p ⊎ Q p) (first_place a b)
 either_of P Q a b x y = both P Q (λ p. P p ⊎ Q p) a b (λ p z. inl z) (λ p z. inr z) (λ p z. z) x y
 
 -- ---- names
@@ -36,12 +37,12 @@ like_found (m ∷ ns) n = by (bytes_eq m.text n.text) refl (like_found ns n)
     is_later : bytes_eq m.text n.text ≡ false → (p : Span) → IsLikeOne (m ∷ ns) n p → IsLikeOne ns n p
     is_later e p a = of (any_split m ns a)
       where
-        of : ((bytes_eq m.text n.text ≡ true) × (p ≡ later_of m.span n.span)) ⊎ IsLikeOne ns n p → IsLikeOne ns n p
+        of : ((bytes_eq m.text n.text ≡ true) × (p ≡ last_place m.span n.span)) ⊎ IsLikeOne ns n p → IsLikeOne ns n p
         of (inl (i, q)) = cc
         of (inr b) = b
 
     by : (b : Bool) → bytes_eq m.text n.text ≡ b → Finds (IsLikeOne ns n) (like_place ns n) →
-        Finds (IsLikeOne (m ∷ ns) n) (option_map (λ p. later_of p n.span) (option_map (λ n. n.span) (cond b (Some m) (first_like n.text ns))))
+        Finds (IsLikeOne (m ∷ ns) n) (option_map (λ p. last_place p n.span) (option_map (λ n. n.span) (cond b (Some m) (first_like n.text ns))))
     by true e f = any_first m ns (e, refl)
     by false e f = same (IsLikeOne ns n) (IsLikeOne (m ∷ ns) n) (like_place ns n) (λ p a. any_later m ns a) (is_later e) f
 
@@ -53,7 +54,7 @@ pub name_found : (fs ns : List Name) (n : Name) → Finds (Clashes (fs ++ ns) n)
 unfolding name_clash
 name_found fs ns n = by (is_print n.text) refl
   where
-    by : (b : Bool) → is_print n.text ≡ b → Finds (Clashes (fs ++ ns) n) (if b then Some n.span else earliest (like_place fs n) (like_place ns n))
+    by : (b : Bool) → is_print n.text ≡ b → Finds (Clashes (fs ++ ns) n) (if b then Some n.span else first_place (like_place fs n) (like_place ns n))
     by true e = is_print_itself e
     by false e =
         both (IsLikeOne fs n) (IsLikeOne ns n) (Clashes (fs ++ ns) n) (like_place fs n) (like_place ns n) (λ p a. is_like (any_left fs ns a)) (λ p a. is_like (any_right fs ns a)) (λ p c. name_parts fs ns e c)
@@ -205,7 +206,7 @@ module _ (fs ns : List Name) where
 
   joined_found : (s : Span) (op : BinaryOperator) (a b : Expr) → Finds (ConditionClashes (fs ++ ns) a) (condition_clash fs ns a) → Finds (ConditionClashes (fs ++ (ns ++ tests_of a)) b) (condition_clash fs (ns ++ tests_of a) b) →
       (c : Bool) → is_and_then op ≡ c →
-      Finds (ConditionClashes (fs ++ ns) (Binary s op a b)) (if c then earliest (condition_clash fs ns a) (condition_clash fs (ns ++ tests_of a) b) else expr_clash fs ns (Binary s op a b))
+      Finds (ConditionClashes (fs ++ ns) (Binary s op a b)) (if c then first_place (condition_clash fs ns a) (condition_clash fs (ns ++ tests_of a) b) else expr_clash fs ns (Binary s op a b))
   joined_found s op a b x y true e =
       both (ConditionClashes (fs ++ ns) a) (ConditionClashes ((fs ++ ns) ++ tests_of a) b) (ConditionClashes (fs ++ ns) (Binary s op a b)) (condition_clash fs ns a) (condition_clash fs (ns ++ tests_of a) b)
       (in_left_condition s op a b e) (in_right_condition s op a b e) (λ p c. condition_parts c) x
@@ -257,8 +258,11 @@ module _ {known : List Name} {p : Span} where
   routine_call_parts (in_call_target c) = inl c
   routine_call_parts (in_call_actuals c) = inr c
 
-  creation_part : {s : Span} {v : Variable} {k : CreationCall} → InstrClashes known (Create s v (Some k)) p → ExprsClash known k.actuals p
-  creation_part (in_creation c) = c
+  creation_part : {s : Span} {c : Creation} {k : CreationCall} → c.call ≡ Some k → InstrClashes known (Create s c) p → ExprsClash known k.actuals p
+  creation_part {k = k} e (in_creation {k = j} f x) = subst (λ (k : CreationCall). ExprsClash known k.actuals p) (some_is j k (sym f ∙ e)) x
+
+  no_creation_part : {s : Span} {c : Creation} → c.call ≡ None → InstrClashes known (Create s c) p → ⊥
+  no_creation_part e (in_creation f x) = cc
 
   if_parts : {s : Span} {e : Expr} {body other : Instrs} {branches : Branches} →
       InstrClashes known (If s e body branches other) p → UnderClashes known e body p ⊎ (BranchesClash known branches p ⊎ InstrsClash known other p)
@@ -314,10 +318,18 @@ grown : (fs ns more : List Name) (is : Instrs) → Finds (InstrsClash (fs ++ (ns
 grown fs ns more is x = subst (λ k. Finds (InstrsClash k is) (instrs_clash fs (ns ++ more) is)) (sym (append_assoc fs ns more)) x
 
 under_found : (fs ns : List Name) (e : Expr) (body : Instrs) → Finds (InstrsClash (fs ++ (ns ++ tests_of e)) body) (instrs_clash fs (ns ++ tests_of e) body) →
-    Finds (UnderClashes (fs ++ ns) e body) (earliest (condition_clash fs ns e) (instrs_clash fs (ns ++ tests_of e) body))
+    Finds (UnderClashes (fs ++ ns) e body) (first_place (condition_clash fs ns e) (instrs_clash fs (ns ++ tests_of e) body))
 under_found fs ns e body x =
     either_of (ConditionClashes (fs ++ ns) e) (InstrsClash ((fs ++ ns) ++ tests_of e) body) (condition_clash fs ns e) (instrs_clash fs (ns ++ tests_of e) body)
     (condition_found fs ns e) (grown fs ns (tests_of e) body x)
+
+creation_found : (fs ns : List Name) (s : Span) (c : Creation) → Finds (InstrClashes (fs ++ ns) (Create s c)) (creation_clash fs ns c.call)
+creation_found fs ns s c = by c.call refl
+  where
+    by : (o : Option CreationCall) → c.call ≡ o → Finds (InstrClashes (fs ++ ns) (Create s c)) (creation_clash fs ns o)
+    by None e = λ p x. no_creation_part e x
+    by (Some k) e =
+        same (ExprsClash (fs ++ ns) k.actuals) (InstrClashes (fs ++ ns) (Create s c)) (exprs_clash fs ns k.actuals) (λ p x. in_creation e x) (λ p x. creation_part e x) (exprs_found fs ns k.actuals)
 
 mutual
   unfolding instr_clash
@@ -328,22 +340,20 @@ mutual
   instr_found fs ns (CallRoutine s t n es) =
       both (TargetClashes (fs ++ ns) t) (ExprsClash (fs ++ ns) es) (InstrClashes (fs ++ ns) (CallRoutine s t n es)) (target_clash fs ns t) (exprs_clash fs ns es)
       (λ p c. in_call_target c) (λ p c. in_call_actuals c) (λ p c. routine_call_parts c) (target_found fs ns t) (exprs_found fs ns es)
-  instr_found fs ns (Create s v None) = λ p x. elim x [ ]
-  instr_found fs ns (Create s v (Some k)) =
-      same (ExprsClash (fs ++ ns) k.actuals) (InstrClashes (fs ++ ns) (Create s v (Some k))) (exprs_clash fs ns k.actuals) (λ p c. in_creation c) (λ p c. creation_part c) (exprs_found fs ns k.actuals)
+  instr_found fs ns (Create s c) = creation_found fs ns s c
   instr_found fs ns (If s e body branches other) =
       both (UnderClashes (fs ++ ns) e body) (λ p. BranchesClash (fs ++ ns) branches p ⊎ InstrsClash (fs ++ ns) other p) (InstrClashes (fs ++ ns) (If s e body branches other))
-      (earliest (condition_clash fs ns e) (instrs_clash fs (ns ++ tests_of e) body)) (earliest (branches_clash fs ns branches) (instrs_clash fs ns other))
+      (first_place (condition_clash fs ns e) (instrs_clash fs (ns ++ tests_of e) body)) (first_place (branches_clash fs ns branches) (instrs_clash fs ns other))
       (λ p c. if_under c) (λ p c. if_behind c) (λ p c. if_parts c) (under_found fs ns e body (instrs_found fs (ns ++ tests_of e) body))
       (either_of (BranchesClash (fs ++ ns) branches) (InstrsClash (fs ++ ns) other) (branches_clash fs ns branches) (instrs_clash fs ns other) (branches_found fs ns branches) (instrs_found fs ns other))
   instr_found fs ns (Loop s initial e body) =
       both (InstrsClash (fs ++ ns) initial) (λ p. ExprClashes (fs ++ ns) e p ⊎ InstrsClash (fs ++ ns) body p) (InstrClashes (fs ++ ns) (Loop s initial e body))
-      (instrs_clash fs ns initial) (earliest (expr_clash fs ns e) (instrs_clash fs ns body)) (λ p c. in_from c) (λ p c. loop_behind c) (λ p c. loop_parts c) (instrs_found fs ns initial)
+      (instrs_clash fs ns initial) (first_place (expr_clash fs ns e) (instrs_clash fs ns body)) (λ p c. in_from c) (λ p c. loop_behind c) (λ p c. loop_parts c) (instrs_found fs ns initial)
       (either_of (ExprClashes (fs ++ ns) e) (InstrsClash (fs ++ ns) body) (expr_clash fs ns e) (instrs_clash fs ns body) (expr_found fs ns e) (instrs_found fs ns body))
   instr_found fs ns (Check s ks) = same (ClausesClash (fs ++ ns) ks) (InstrClashes (fs ++ ns) (Check s ks)) (clauses_clash fs ns ks) (λ p c. in_check c) (λ p c. check_part c) (clauses_found fs ns ks)
   instr_found fs ns (Block s hs body) =
       both (ValuesClash (fs ++ ns) hs) (λ p. OneClashes (fs ++ ns) (head_names hs) p ⊎ InstrsClash ((fs ++ ns) ++ head_names hs) body p) (InstrClashes (fs ++ ns) (Block s hs body))
-      (values_clash fs ns hs) (earliest (names_clash fs ns (head_names hs)) (instrs_clash fs (ns ++ head_names hs) body)) (λ p c. in_heads c) (λ p c. block_behind c) (λ p c. block_parts c) (values_found fs ns hs)
+      (values_clash fs ns hs) (first_place (names_clash fs ns (head_names hs)) (instrs_clash fs (ns ++ head_names hs) body)) (λ p c. in_heads c) (λ p c. block_behind c) (λ p c. block_parts c) (values_found fs ns hs)
       (either_of (OneClashes (fs ++ ns) (head_names hs)) (InstrsClash ((fs ++ ns) ++ head_names hs) body) (names_clash fs ns (head_names hs)) (instrs_clash fs (ns ++ head_names hs) body)
       (names_found fs ns (head_names hs)) (grown fs ns (head_names hs) body (instrs_found fs (ns ++ head_names hs) body)))
 
@@ -357,7 +367,7 @@ mutual
   branches_found fs ns no_branches = λ p x. elim x [ ]
   branches_found fs ns (branch_then e body bs) =
       both (UnderClashes (fs ++ ns) e body) (BranchesClash (fs ++ ns) bs) (BranchesClash (fs ++ ns) (branch_then e body bs))
-      (earliest (condition_clash fs ns e) (instrs_clash fs (ns ++ tests_of e) body)) (branches_clash fs ns bs) (λ p c. branch_under c) (λ p c. in_later_branch c) (λ p c. branches_parts c)
+      (first_place (condition_clash fs ns e) (instrs_clash fs (ns ++ tests_of e) body)) (branches_clash fs ns bs) (λ p c. branch_under c) (λ p c. in_later_branch c) (λ p c. branches_parts c)
       (under_found fs ns e body (instrs_found fs (ns ++ tests_of e) body)) (branches_found fs ns bs)
 
 -- ---- routines
@@ -366,43 +376,47 @@ mutual
 abbrev PartsClash : List Name → List Name → List Clause → Instrs → List Clause → Span → Type 0
 PartsClash outer inner pre body post p = ClausesClash outer pre p ⊎ (InstrsClash inner body p ⊎ ClausesClash outer post p)
 
-module _ {known : List Name} {formals locals : List Declaration} {result : Option DeclaredType} {pre post : List Clause} {body : Instrs} {p : Span} where
-  routine_parts : RoutineClashes known (Routine formals result pre locals body post) p →
-      OneClashes known (declared_names formals ++ declared_names locals) p ⊎ PartsClash (known ++ declared_names formals) (known ++ declared_names formals ++ declared_names locals) pre body post p
+-- in a routine's assertions, or in its body
+abbrev RoutinePartsClash : List Name → RoutineDeclaration → Span → Type 0
+RoutinePartsClash known r = PartsClash (known ++ entity_names r.formals) (known ++ entity_names r.formals ++ entity_names r.locals) r.precondition r.body r.postcondition
+
+module _ {known : List Name} {r : RoutineDeclaration} {p : Span} where
+  routine_parts : RoutineClashes known (Routine r) p → OneClashes known (entity_names r.formals ++ entity_names r.locals) p ⊎ RoutinePartsClash known r p
   routine_parts (entity c) = inl c
   routine_parts (in_precondition c) = inr (inl c)
   routine_parts (in_body c) = inr (inr (inl c))
   routine_parts (in_postcondition c) = inr (inr (inr c))
 
-  routine_behind : PartsClash (known ++ declared_names formals) (known ++ declared_names formals ++ declared_names locals) pre body post p → RoutineClashes known (Routine formals result pre locals body post) p
+  routine_behind : RoutinePartsClash known r p → RoutineClashes known (Routine r) p
   routine_behind (inl c) = in_precondition c
   routine_behind (inr (inl c)) = in_body c
   routine_behind (inr (inr c)) = in_postcondition c
 
-entities_found : (fs xs ys : List Name) → Finds (OneClashes fs (xs ++ ys)) (earliest (names_clash fs [] xs) (names_clash fs xs ys))
+entities_found : (fs xs ys : List Name) → Finds (OneClashes fs (xs ++ ys)) (first_place (names_clash fs [] xs) (names_clash fs xs ys))
 entities_found fs xs ys =
     both (OneClashes fs xs) (OneClashes (fs ++ xs) ys) (OneClashes fs (xs ++ ys)) (names_clash fs [] xs) (names_clash fs xs ys)
     (λ p c. one_left ys c) (λ p c. one_right fs xs ys c) (λ p c. one_parts fs xs ys c)
     (subst (λ k. Finds (OneClashes k xs) (names_clash fs [] xs)) (append-nil fs) (names_found fs [] xs)) (names_found fs xs ys)
 
 parts_found : (fs ms ns inner : List Name) → fs ++ ns ≡ inner → (pre post : List Clause) (body : Instrs) →
-    Finds (PartsClash (fs ++ ms) inner pre body post) (earliest (clauses_clash fs ms pre) (earliest (instrs_clash fs ns body) (clauses_clash fs ms post)))
+    Finds (PartsClash (fs ++ ms) inner pre body post) (first_place (clauses_clash fs ms pre) (first_place (instrs_clash fs ns body) (clauses_clash fs ms post)))
 parts_found fs ms ns inner e pre post body =
-    subst (λ k. Finds (PartsClash (fs ++ ms) k pre body post) (earliest (clauses_clash fs ms pre) (earliest (instrs_clash fs ns body) (clauses_clash fs ms post)))) e
-    (either_of (ClausesClash (fs ++ ms) pre) (λ p. InstrsClash (fs ++ ns) body p ⊎ ClausesClash (fs ++ ms) post p) (clauses_clash fs ms pre) (earliest (instrs_clash fs ns body) (clauses_clash fs ms post))
+    subst (λ k. Finds (PartsClash (fs ++ ms) k pre body post) (first_place (clauses_clash fs ms pre) (first_place (instrs_clash fs ns body) (clauses_clash fs ms post)))) e
+    (either_of (ClausesClash (fs ++ ms) pre) (λ p. InstrsClash (fs ++ ns) body p ⊎ ClausesClash (fs ++ ms) post p) (clauses_clash fs ms pre) (first_place (instrs_clash fs ns body) (clauses_clash fs ms post))
     (clauses_found fs ms pre)
     (either_of (InstrsClash (fs ++ ns) body) (ClausesClash (fs ++ ms) post) (instrs_clash fs ns body) (clauses_clash fs ms post) (instrs_found fs ns body) (clauses_found fs ms post)))
 
 pub kind_found : (fs : List Name) (k : FeatureKind) → Finds (RoutineClashes fs k) (kind_clash fs k)
 unfolding kind_clash
 kind_found fs (Attribute t) = λ p x. elim x [ ]
-kind_found fs (Routine formals result pre locals body post) =
-    both (OneClashes fs (declared_names formals ++ declared_names locals)) (PartsClash (fs ++ declared_names formals) (fs ++ declared_names formals ++ declared_names locals) pre body post)
-    (RoutineClashes fs (Routine formals result pre locals body post)) (earliest (names_clash fs [] (declared_names formals)) (names_clash fs (declared_names formals) (declared_names locals)))
-    (earliest (clauses_clash fs (declared_names formals) pre) (earliest (instrs_clash fs (declared_names formals ++ declared_names locals) body) (clauses_clash fs (declared_names formals) post)))
-    (λ p c. entity c) (λ p c. routine_behind c) (λ p c. routine_parts c) (entities_found fs (declared_names formals) (declared_names locals))
-    (parts_found fs (declared_names formals) (declared_names formals ++ declared_names locals) (fs ++ declared_names formals ++ declared_names locals)
-    (sym (append_assoc fs (declared_names formals) (declared_names locals))) pre post body)
+kind_found fs (Routine r) =
+    let formals = entity_names r.formals in
+    let locals = entity_names r.locals in
+    both (OneClashes fs (formals ++ locals)) (PartsClash (fs ++ formals) (fs ++ formals ++ locals) r.precondition r.body r.postcondition) (RoutineClashes fs (Routine r))
+    (first_place (names_clash fs [] formals) (names_clash fs formals locals))
+    (first_place (clauses_clash fs formals r.precondition) (first_place (instrs_clash fs (formals ++ locals) r.body) (clauses_clash fs formals r.postcondition)))
+    (λ p c. entity c) (λ p c. routine_behind c) (λ p c. routine_parts c) (entities_found fs formals locals)
+    (parts_found fs formals (formals ++ locals) (fs ++ formals ++ locals) (sym (append_assoc fs formals locals)) r.precondition r.postcondition r.body)
 
 pub found_in_kind : (fs : List Name) (k : FeatureKind) (r : result.Result (Option Span) AllocError) → IfOk r (λ place. place ≡ kind_clash fs k) → IfOk r (Finds (RoutineClashes fs k))
 found_in_kind fs k (Ok place) e = subst (Finds (RoutineClashes fs k)) (sym e) (kind_found fs k)

@@ -7,10 +7,10 @@ use Rattle.std.proofs.lemmas.List.{length-map}
 use Rattle.sc_tree.specs.declared.system.Class as tree_class
 use Rattle.sc_tree.specs.Plain.{System}
 use Rattle.sc_tree.specs.View.{class_of}
-use Rattle.sc_class.specs.declared.own.FeatureEntry.{FeatureEntry}
-use Rattle.sc_class.specs.Entries.{entry_of}
-use Rattle.sc_class.specs.Features.{features}
-use Rattle.sc_class.specs.Limits.{is_large, has_many_features, TellsLargeClass, PassesLimit, many_classes, many_features, large_routine}
+use Rattle.sc_class.specs.declared.class_tables.feature_entry.FeatureEntry.{FeatureEntry}
+use Rattle.sc_class.specs.View.{entry_of}
+use Rattle.sc_class.specs.Tables.Features.{features}
+use Rattle.sc_class.specs.Faults.Limits.{is_large, has_many_features, TellsLargeClass, PassesLimit, many_classes, many_features, large_routine}
 
 pub counted : (s : System) (k : ℕ) (items : List FeatureEntry) → map entry_of items ≡ features s k → nat_lt 256 (length items) ≡ has_many_features s k
 counted s k items e = ap (nat_lt 256) (sym (length-map items entry_of) ∙ ap length e)

@@ -15,17 +15,22 @@ use Rattle.sc_class.specs.declared.identity.ClassId.TheVariants as class
 use Rattle.sc_text.specs.declared.token.Span.{Span}
 use Rattle.sc_class.specs.declared.fault.ClassFault.{ClassFault}
 use Rattle.sc_class.specs.declared.fault.LeftOut.{LeftOut}
+use Rattle.sc_class.specs.declared.faults.left_out.Exclusion.{Exclusion}
 use Rattle.sc_class.specs.declared.fault.ClassFault.TheVariants as fault
 use Rattle.sc_class.specs.Internal.FaultAt.{FaultAt}
-use Rattle.sc_class.specs.Scopes.{ClassClashes}
-use Rattle.sc_class.specs.Redefinition.{BadlyRedefines}
-use Rattle.sc_class.specs.Features.{invariant_along, invariant_of, own_invariant}
-use Rattle.sc_class.specs.ClassRules.{Fails, IsFaultless, has_root, duplicate_class, unknown_parent, cycle, duplicate_feature, bad_redefinition, no_root, limit, left_out, code_number, HasLeastCode}
-use Rattle.sc_class.specs.Limits.{PassesLimit}
-use Rattle.sc_class.specs.Ancestors.{ancestors, line, parent_of, UnknownParentAt, CycleAt}
+use Rattle.sc_class.specs.Internal.Found.{FindsFirstPlace, FindsFirstExclusion}
+use Rattle.sc_class.specs.Faults.Scopes.{ClassClashes}
+use Rattle.sc_class.specs.Faults.Redefinition.{BadlyRedefines}
+use Rattle.sc_class.specs.Tables.Features.{invariant_along, invariant_of, declared_invariant}
+use Rattle.sc_class.specs.Faults.ClassRules.{Fails, IsFaultless, has_root, duplicate_class, unknown_parent, cycle, duplicate_feature, bad_redefinition, no_root, limit, left_out, code_number, HasLeastCode, IsPlacedFirst}
+use Rattle.sc_class.specs.Faults.Limits.{PassesLimit}
+use Rattle.sc_class.specs.Faults.LeftOut.{ClassLeftOut}
+use Rattle.sc_class.proofs.CycleLemmas.{cycle_once}
+use Rattle.sc_class.specs.Tables.Ancestors.{ancestors, ancestors_within, parent_of, UnknownParentAt, CycleAt}
 use Rattle.sc_class.specs.ClassNames.{Root, RepeatedAt}
-use Rattle.sc_class.specs.Internal.Lines.{line_in}
-use Rattle.sc_class.specs.Tables.{ClassesStand, FeaturesStand, RestStands, ancestors_of, joined_invariant}
+use Rattle.sc_class.specs.Internal.AncestorLists.{ancestors_in}
+use Rattle.sc_class.specs.Tables.ByClass.{ancestors_of, joined_invariant}
+use Rattle.sc_class.specs.Internal.NoFaults.{ClassesStand, FeaturesStand, RestStands}
 
 pub faultless : (s : System) (root : Root) → ClassesStand s → FeaturesStand s root → RestStands s → IsFaultless s root
 faultless s root a b d f (duplicate_class {p} y) = a.none_repeated p y
@@ -88,6 +93,24 @@ module _ (s : System) (root : Root) where
     pub least_8 : (PassesLimit s → ⊥) → (what : LeftOut) (p : Span) → HasLeastCode s root (fault.LeftOut what p)
     least_8 d what p = least s root 8 (omega arith) (λ m. a.none_repeated) (λ m. a.none_unknown) (λ m. a.none_cyclic) (λ m. b.none_clashes) (λ m. b.none_redefines_badly) (λ m. has_one) (λ m. d)
 
+-- ---- the first place
+
+module _ (s : System) (root : Root) where
+  pub first_1 : (p : Span) → FindsFirstPlace (RepeatedAt [] s.classes) (Some p) → IsPlacedFirst s root (fault.DuplicateClass p)
+  first_1 p h q (duplicate_class y) = h.1 q y
+
+  pub first_2 : (p : Span) → FindsFirstPlace (λ p. Any (λ c. Any (λ q. UnknownParentAt s q p) c.parents) s.classes) (Some p) → IsPlacedFirst s root (fault.UnknownParent p)
+  first_2 p h q (unknown_parent y) = h.1 q y
+
+  pub first_3 : (p : Span) → CycleAt s p → IsPlacedFirst s root (fault.Cycle p)
+  first_3 p x q (cycle y) = let same : p.start ≡ q.start = ap (λ (p : Span). p.start) (cycle_once s p q x y) in omega (arith, same)
+
+  pub first_5 : (p : Span) → FindsFirstPlace (FaultAt s (BadlyRedefines s)) (Some p) → IsPlacedFirst s root (fault.BadRedefinition p)
+  first_5 p h q (bad_redefinition {k = k} {c = c} e y) = h.1 q (k, c, e, y)
+
+  pub first_8 : (x : Exclusion) → FindsFirstExclusion (λ x. Any (λ c. ClassLeftOut c x) s.classes) (Some x) → IsPlacedFirst s root (fault.LeftOut x.what x.span)
+  first_8 x h _ _ (left_out {x = y} z) = h.1 y z
+
 -- an error that is passed on
 pub err_same : {A E : Type 0} (P : E → Type 0) (r : Result A E) (e : E) → IsErrAnd r (λ g. g ≡ e) → P e → IfErr r P
 err_same P (Ok x) e i p = absurd i
@@ -101,7 +124,7 @@ pub applied : {A B D : Type 0} → D ⊎ (A → B) → A → D ⊎ B
 applied (inl d) a = inl d
 applied (inr f) a = inr (f a)
 
--- ---- lines
+-- ---- ancestors of each class
 
 pub read_append : {A : Type 0} (xs : List A) (x : A) (k : ℕ) → k < length xs → slice_get (xs ++ x ∷ []) k ≡ slice_get xs k
 read_append [] x k l = absurd (omega arith)
@@ -115,20 +138,20 @@ pub read_last : {A : Type 0} (xs : List A) (x : A) → slice_get (xs ++ x ∷ []
 read_last [] x = refl
 read_last (y ∷ xs) x = read_last xs x
 
-pub lines_more : (s : System) (lines lines' : List (Vec ℕ Global)) (v : Vec ℕ Global) (n : ℕ) → v.items ≡ ancestors s n → lines' ≡ lines ++ v ∷ [] →
-    (length lines ≡ n) × ((k : ℕ) → k < n → line_in lines k ≡ ancestors s k) → (length lines' ≡ n + 1) × ((k : ℕ) → k < n + 1 → line_in lines' k ≡ ancestors s k)
-lines_more s lines lines' v n e f (l, below) =
-    (ap length f ∙ length-append lines (v ∷ []) ∙ ap (λ k. k + 1) l, below_more (λ k. line_in lines' k ≡ ancestors s k) n before here)
+pub lists_more : (s : System) (lists lines' : List (Vec ℕ Global)) (v : Vec ℕ Global) (n : ℕ) → v.items ≡ ancestors s n → lines' ≡ lists ++ v ∷ [] →
+    (length lists ≡ n) × ((k : ℕ) → k < n → ancestors_in lists k ≡ ancestors s k) → (length lines' ≡ n + 1) × ((k : ℕ) → k < n + 1 → ancestors_in lines' k ≡ ancestors s k)
+lists_more s lists lines' v n e f (l, below) =
+    (ap length f ∙ length-append lists (v ∷ []) ∙ ap (λ k. k + 1) l, below_more (λ k. ancestors_in lines' k ≡ ancestors s k) n before here)
   where
-    before : (k : ℕ) → k < n → line_in lines' k ≡ ancestors s k
+    before : (k : ℕ) → k < n → ancestors_in lines' k ≡ ancestors s k
     before k m =
-        let m' : k < length lines = omega (arith, l, m) in
-        ap (λ (vs : List (Vec ℕ Global)). line_in vs k) f ∙ ap (λ (o : Option (Vec ℕ Global)). option_map_or (λ (v : Vec ℕ Global). v.items) o []) (read_append lines v k m') ∙ below k m
+        let m' : k < length lists = omega (arith, l, m) in
+        ap (λ (vs : List (Vec ℕ Global)). ancestors_in vs k) f ∙ ap (λ (o : Option (Vec ℕ Global)). option_map_or (λ (v : Vec ℕ Global). v.items) o []) (read_append lists v k m') ∙ below k m
 
-    here : line_in lines' n ≡ ancestors s n
+    here : ancestors_in lines' n ≡ ancestors s n
     here =
-        ap (λ (vs : List (Vec ℕ Global)). line_in vs n) f
-        ∙ ap (λ (o : Option (Vec ℕ Global)). option_map_or (λ (v : Vec ℕ Global). v.items) o []) (ap (slice_get (lines ++ v ∷ [])) (sym l) ∙ read_last lines v) ∙ e
+        ap (λ (vs : List (Vec ℕ Global)). ancestors_in vs n) f
+        ∙ ap (λ (o : Option (Vec ℕ Global)). option_map_or (λ (v : Vec ℕ Global). v.items) o []) (ap (slice_get (lists ++ v ∷ [])) (sym l) ∙ read_last lists v) ∙ e
 
 not_past : {A : Type 0} (xs : List A) (k : ℕ) → k < length xs → slice_get xs k ≡ None → ⊥
 not_past [] k l e = absurd (omega arith)
@@ -138,54 +161,54 @@ not_past (x ∷ xs) (suc k) l e = not_past xs k (less l) e
     less : suc k < suc (length xs) → k < length xs
     less l = omega arith
 
-module _ (s : System) (lines : List (Vec ℕ Global)) (as_many : length lines ≡ length s.classes) (are : (k : ℕ) → k < length lines → line_in lines k ≡ ancestors s k) (k : ℕ) where
-  pub line_at : (v : Vec ℕ Global) → slice_get lines k ≡ Some v → v.items ≡ cond (nat_lt k (length s.classes)) (ancestors s k) []
-  line_at v e =
-      let l = slice_get_within lines k v e in
+module _ (s : System) (lists : List (Vec ℕ Global)) (as_many : length lists ≡ length s.classes) (are : (k : ℕ) → k < length lists → ancestors_in lists k ≡ ancestors s k) (k : ℕ) where
+  pub list_at : (v : Vec ℕ Global) → slice_get lists k ≡ Some v → v.items ≡ cond (nat_lt k (length s.classes)) (ancestors s k) []
+  list_at v e =
+      let l = slice_get_within lists k v e in
       let m : k < length s.classes = omega (arith, l, as_many) in
       sym (ap (λ (o : Option (Vec ℕ Global)). option_map_or (λ (v : Vec ℕ Global). v.items) o []) e) ∙ are k l ∙ sym (ap (λ b. cond b (ancestors s k) []) (yes m))
     where
       yes : k < length s.classes → nat_lt k (length s.classes) ≡ true
       yes m = grind arith
 
-  pub no_line : slice_get lines k ≡ None → [] ≡ cond (nat_lt k (length s.classes)) (ancestors s k) []
-  no_line e = by (nat_lt k (length s.classes)) refl
+  pub no_list : slice_get lists k ≡ None → [] ≡ cond (nat_lt k (length s.classes)) (ancestors s k) []
+  no_list e = by (nat_lt k (length s.classes)) refl
     where
       by : (b : Bool) → nat_lt k (length s.classes) ≡ b → [] ≡ cond b (ancestors s k) []
       by false f = refl
-      by true f = let l : k < length s.classes = grind arith in absurd (not_past lines k (omega (arith, l, as_many)) e)
+      by true f = let l : k < length s.classes = grind arith in absurd (not_past lists k (omega (arith, l, as_many)) e)
 
 -- ---- a number that no class has
 
 module _ (s : System) (k : ℕ) where
-  pub invariant_beyond : (n : ℕ) → slice_get s.classes k ≡ None → invariant_along s (line n s k) ≡ []
+  pub invariant_beyond : (n : ℕ) → slice_get s.classes k ≡ None → invariant_along s (ancestors_within n s k) ≡ []
   invariant_beyond zero e = refl
   invariant_beyond (suc n) e = by (slice_get s.classes k) e
     where
-      by : (o : Option Class) → o ≡ None → invariant_along s (option_map_or (line n s) (option_and_then (parent_of s) o) []) ++ option_map_or (λ (c : Class). c.invariant) o [] ≡ []
+      by : (o : Option Class) → o ≡ None → invariant_along s (option_map_or (ancestors_within n s) (option_and_then (parent_of s) o) []) ++ option_map_or (λ (c : Class). c.invariant) o [] ≡ []
       by None e = refl
       by (Some c) e = cc
 
-  pub invariant_by_line : invariant_along s (cond (nat_lt k (length s.classes)) (ancestors s k) []) ≡ invariant_of s k
-  invariant_by_line = by (nat_lt k (length s.classes)) refl
+  pub invariant_by_ancestors : invariant_along s (cond (nat_lt k (length s.classes)) (ancestors s k) []) ≡ invariant_of s k
+  invariant_by_ancestors = by (nat_lt k (length s.classes)) refl
     where
       by : (b : Bool) → nat_lt k (length s.classes) ≡ b → invariant_along s (cond b (ancestors s k) []) ≡ invariant_of s k
       by true e = refl
       by false e = let l : length s.classes ≤ k = grind arith in sym (invariant_beyond (length s.classes) (slice_get_past s.classes k l))
 
 -- the clauses of one more class, below those above it
-pub invariant_more : (s : System) (ks : List ℕ) (a b : ℕ) (old new : List Clause) → a ≡ b + 1 → b < length ks → new ≡ old ++ own_invariant s (get_or ks b 0) → old ≡ invariant_along s (drop a ks) → new ≡ invariant_along s (drop b ks)
+pub invariant_more : (s : System) (ks : List ℕ) (a b : ℕ) (old new : List Clause) → a ≡ b + 1 → b < length ks → new ≡ old ++ declared_invariant s (get_or ks b 0) → old ≡ invariant_along s (drop a ks) → new ≡ invariant_along s (drop b ks)
 invariant_more s ks a b old new e l f g =
-    f ∙ ap (λ cs. cs ++ own_invariant s (get_or ks b 0)) (g ∙ ap (λ (n : ℕ). invariant_along s (drop n ks)) e) ∙ sym (ap (invariant_along s) (drop_more ks b 0 l))
+    f ∙ ap (λ cs. cs ++ declared_invariant s (get_or ks b 0)) (g ∙ ap (λ (n : ℕ). invariant_along s (drop n ks)) e) ∙ sym (ap (invariant_along s) (drop_more ks b 0 l))
 
-pub joined_by_line : (s : System) (of : ClassId) → invariant_along s (ancestors_of s of) ≡ joined_invariant s of
-joined_by_line s (class.Declared k) = invariant_by_line s k
-joined_by_line s class.Any = refl
-joined_by_line s class.None = refl
-joined_by_line s class.Integer = refl
-joined_by_line s class.Boolean = refl
+pub joined_by_ancestors : (s : System) (of : ClassId) → invariant_along s (ancestors_of s of) ≡ joined_invariant s of
+joined_by_ancestors s (class.Declared k) = invariant_by_ancestors s k
+joined_by_ancestors s class.Any = refl
+joined_by_ancestors s class.None = refl
+joined_by_ancestors s class.Integer = refl
+joined_by_ancestors s class.Boolean = refl
 
-pub invariant_in : (s : System) (k : ℕ) (c : tree_class.Class) (items : List tree_clause.Clause) → slice_get s.classes k ≡ Some (class_of c) → items ≡ c.invariant.items → map clause_of items ≡ own_invariant s k
+pub invariant_in : (s : System) (k : ℕ) (c : tree_class.Class) (items : List tree_clause.Clause) → slice_get s.classes k ≡ Some (class_of c) → items ≡ c.invariant.items → map clause_of items ≡ declared_invariant s k
 unfolding class_of
 invariant_in s k c items e f = ap (map clause_of) f ∙ sym (ap (λ (o : Option Class). option_map_or (λ (c : Class). c.invariant) o []) e)
 

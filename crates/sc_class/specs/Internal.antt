@@ -3,8 +3,10 @@
 pub mod Found
 pub mod FaultAt
 pub mod NameIndex
-pub mod OwnNames
-pub mod Known
-pub mod Lines
+pub mod DeclaredNames
+pub mod KnownFeatures
+pub mod AncestorLists
+pub mod Systems
+pub mod NoFaults
 pub mod InheritedClash
 pub mod ScopeSearch

@@ -23,12 +23,12 @@ abbrev pub is_print : List ℕ → Bool
 is_print x = bytes_eq x (codes "print")
 
 -- of two places, the one that stands later in the text
-abbrev pub later_of : Span → Span → Span
-later_of a b = if nat_lt b.start a.start then a else b
+abbrev pub last_place : Span → Span → Span
+last_place a b = if nat_lt b.start a.start then a else b
 
 -- One of these names is like this one, and the place is that of the later one of the two.
 abbrev pub IsLikeOne : List Name → Name → Span → Type 0
-IsLikeOne known n p = Any (λ m. (bytes_eq m.text n.text ≡ true) × (p ≡ later_of m.span n.span)) known
+IsLikeOne known n p = Any (λ m. (bytes_eq m.text n.text ≡ true) × (p ≡ last_place m.span n.span)) known
 
 -- A name can't stand behind these: it is `print`, or like one of them.
 pub data Clashes (known : List Name) (n : Name) : Span → Type 0 where

@@ -4,7 +4,7 @@ use Rattle.std.specs.List.{sum_by}
 use Rattle.sc_text.specs.declared.token.Span.{Span}
 use Rattle.sc_tree.specs.Plain.{System, Class, Parent}
 use Rattle.sc_class.specs.ClassNames.{number_of}
-use Rattle.sc_class.specs.Ancestors.{IsParent, LeadsTo, NameLeadsTo}
+use Rattle.sc_class.specs.Tables.Ancestors.{IsParent, LeadsTo, NameLeadsTo}
 
 abbrev pub rank_of : List ℕ → ℕ → ℕ
 rank_of ranks k = unwrap_or (slice_get ranks k) 0

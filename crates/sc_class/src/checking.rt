@@ -2,55 +2,61 @@
 
 ghost use Rattle.std.specs.Prelude.{◌≡◌, ◌⊎◌, IfOk, IfErr, OnOk};
 ghost use Rattle.sc_tree.specs.View.{system_of};
-ghost use Rattle.sc_class.specs.ClassRules.{Fails, HasLeastCode, IsFaultless};
-ghost use Rattle.sc_class.specs.Entries.{root_of};
-ghost use Rattle.sc_class.specs.Tables as tables_specs;
+ghost use Rattle.sc_class.specs.Faults.ClassRules.{Fails, HasLeastCode, IsFaultless, IsPlacedFirst};
+ghost use Rattle.sc_class.specs.SystemIn.{root_in, system_in};
+ghost use Rattle.sc_class.specs.View.{root_of};
+ghost use Rattle.sc_class.specs.Internal.NoFaults.{ClassesStand, FeaturesStand, RestStands};
 ghost use Rattle.sc_class.specs.declared.fault.ClassFault.TheVariants.{OutOfMemory};
+ghost use Rattle.sc_class.specs.Internal.Systems.{in_hierarchy, in_outline};
 
-use crate::class_clashes::clash;
 use crate::class_tables::Tables;
-use crate::creation::has_root;
-use crate::cycles::cycle;
+use crate::class_tables::hierarchy::Hierarchy;
+use crate::class_tables::outline::Outline;
 use crate::fault::ClassFault;
-use crate::hierarchy::Hierarchy;
-use crate::left_out::left_out;
-use crate::outline::Outline;
-use crate::parents::{repeated_class, unknown_parent};
-use crate::redefinition::bad_redefinitions;
+use crate::faults::class_clashes::clash;
+use crate::faults::cycles::cycle;
+use crate::faults::left_out::left_out;
+use crate::faults::limits::passes_limit;
+use crate::faults::parents::{repeated_class, unknown_parent};
+use crate::faults::redefinition::bad_redefinitions;
+use crate::faults::root_procedure::has_root;
 use crate::root::Root;
-use crate::size::passes_limit;
 use sc_tree::System;
 use std::alloc::Global;
 
 /// The faults of classes alone.
 fn refuse_classes(alloc: Global, hierarchy: &Hierarchy, root: &Root) -> Result<(), ClassFault>
-    ensures none { OnOk result (tables_specs.ClassesStand (system_of hierarchy.now.system.now)) }
-    ensures fault { IfErr result (λ fault. (fault ≡ OutOfMemory) ⊎ Fails (system_of hierarchy.now.system.now) (root_of root.now) fault) }
-    ensures first { IfErr result (λ fault. (fault ≡ OutOfMemory) ⊎ HasLeastCode (system_of hierarchy.now.system.now) (root_of root.now) fault) }
+    ensures none { OnOk result (ClassesStand (in_hierarchy hierarchy.now)) }
+    ensures fault { IfErr result (λ fault. (fault ≡ OutOfMemory) ⊎ Fails (in_hierarchy hierarchy.now) (root_of root.now) fault) }
+    ensures first { IfErr result (λ fault. (fault ≡ OutOfMemory)
+        ⊎ HasLeastCode (in_hierarchy hierarchy.now) (root_of root.now) fault) }
+    ensures place { IfErr result (IsPlacedFirst (in_hierarchy hierarchy.now) (root_of root.now)) }
 {
-    if let Some(place) = repeated_class(hierarchy) {
-        return Err(ClassFault::DuplicateClass { place });
+    if let Some(span) = repeated_class(hierarchy) {
+        return Err(ClassFault::DuplicateClass { span });
     }
-    if let Some(place) = unknown_parent(hierarchy) {
-        return Err(ClassFault::UnknownParent { place });
+    if let Some(span) = unknown_parent(hierarchy) {
+        return Err(ClassFault::UnknownParent { span });
     }
-    if let Some(place) = cycle(alloc, hierarchy)? {
-        return Err(ClassFault::Cycle { place });
+    if let Some(span) = cycle(alloc, hierarchy)? {
+        return Err(ClassFault::Cycle { span });
     }
     Ok(())
 }
 
 /// The faults of features, and of what the system is run from.
 fn refuse_features(alloc: Global, outline: &Outline, root: &Root) -> Result<(), ClassFault>
-    ensures none { OnOk result (tables_specs.FeaturesStand (system_of outline.now.hierarchy.system.now) (root_of root.now)) }
-    ensures fault { IfErr result (λ fault. (fault ≡ OutOfMemory) ⊎ Fails (system_of outline.now.hierarchy.system.now) (root_of root.now) fault) }
-    ensures first { let s = system_of outline.now.hierarchy.system.now in IfErr result (λ fault. (fault ≡ OutOfMemory) ⊎ (tables_specs.ClassesStand s → HasLeastCode s (root_of root.now) fault)) }
+    ensures none { OnOk result (FeaturesStand (in_outline outline.now) (root_of root.now)) }
+    ensures fault { IfErr result (λ fault. (fault ≡ OutOfMemory) ⊎ Fails (in_outline outline.now) (root_of root.now) fault) }
+    ensures first { let s = in_outline outline.now in
+        IfErr result (λ fault. (fault ≡ OutOfMemory) ⊎ (ClassesStand s → HasLeastCode s (root_of root.now) fault)) }
+    ensures place { IfErr result (IsPlacedFirst (in_outline outline.now) (root_of root.now)) }
 {
-    if let Some(place) = clash(alloc, outline)? {
-        return Err(ClassFault::DuplicateFeature { place });
+    if let Some(span) = clash(alloc, outline)? {
+        return Err(ClassFault::DuplicateFeature { span });
     }
-    if let Some(place) = bad_redefinitions(alloc, outline)? {
-        return Err(ClassFault::BadRedefinition { place });
+    if let Some(span) = bad_redefinitions(alloc, outline)? {
+        return Err(ClassFault::BadRedefinition { span });
     }
     if !has_root(alloc, outline, root)? {
         return Err(ClassFault::NoRoot);
@@ -60,9 +66,12 @@ fn refuse_features(alloc: Global, outline: &Outline, root: &Root) -> Result<(), 
 
 /// The limits, and what the language leaves out.
 fn refuse_rest(alloc: Global, outline: &Outline, root: &Root) -> Result<(), ClassFault>
-    ensures none { OnOk result (tables_specs.RestStands (system_of outline.now.hierarchy.system.now)) }
-    ensures fault { IfErr result (λ fault. (fault ≡ OutOfMemory) ⊎ Fails (system_of outline.now.hierarchy.system.now) (root_of root.now) fault) }
-    ensures first { let s = system_of outline.now.hierarchy.system.now in let r = root_of root.now in IfErr result (λ fault. (fault ≡ OutOfMemory) ⊎ (tables_specs.ClassesStand s → tables_specs.FeaturesStand s r → HasLeastCode s r fault)) }
+    ensures none { OnOk result (RestStands (in_outline outline.now)) }
+    ensures fault { IfErr result (λ fault. (fault ≡ OutOfMemory) ⊎ Fails (in_outline outline.now) (root_of root.now) fault) }
+    ensures first { let s = in_outline outline.now in let r = root_of root.now in
+        IfErr result (λ fault. (fault ≡ OutOfMemory)
+        ⊎ (ClassesStand s → FeaturesStand s r → HasLeastCode s r fault)) }
+    ensures place { IfErr result (IsPlacedFirst (in_outline outline.now) (root_of root.now)) }
 {
     if passes_limit(alloc, outline)? {
         return Err(ClassFault::Limit);
@@ -70,7 +79,7 @@ fn refuse_rest(alloc: Global, outline: &Outline, root: &Root) -> Result<(), Clas
     if let Some(excluded) = left_out(&outline.hierarchy) {
         return Err(ClassFault::LeftOut {
             what: excluded.what,
-            place: excluded.place,
+            span: excluded.span,
         });
     }
     Ok(())
@@ -82,10 +91,11 @@ fn sound_hierarchy<'s>(
     system: &'s System,
     root: &Root,
 ) -> Result<Hierarchy<'s>, ClassFault>
-    ensures none { OnOk result (tables_specs.ClassesStand (system_of system.now)) }
+    ensures none { OnOk result (ClassesStand (system_of system.now)) }
     ensures of_it { IfOk result (λ hierarchy. hierarchy.system.now ≡ system.now) }
     ensures fault { IfErr result (λ fault. (fault ≡ OutOfMemory) ⊎ Fails (system_of system.now) (root_of root.now) fault) }
     ensures first { IfErr result (λ fault. (fault ≡ OutOfMemory) ⊎ HasLeastCode (system_of system.now) (root_of root.now) fault) }
+    ensures place { IfErr result (IsPlacedFirst (system_of system.now) (root_of root.now)) }
 {
     let hierarchy = Hierarchy::of(alloc, system)?;
     refuse_classes(alloc, &hierarchy, root)?;
@@ -98,11 +108,14 @@ fn sound_outline<'s>(
     hierarchy: Hierarchy<'s>,
     root: &Root,
 ) -> Result<Outline<'s>, ClassFault>
-    ensures features { OnOk result (tables_specs.FeaturesStand (system_of hierarchy.entry.system.now) (root_of root.now)) }
-    ensures rest { OnOk result (tables_specs.RestStands (system_of hierarchy.entry.system.now)) }
+    ensures features { OnOk result (FeaturesStand (in_hierarchy hierarchy.entry) (root_of root.now)) }
+    ensures rest { OnOk result (RestStands (in_hierarchy hierarchy.entry)) }
     ensures of_it { IfOk result (λ outline. outline.hierarchy.system.now ≡ hierarchy.entry.system.now) }
-    ensures fault { IfErr result (λ fault. (fault ≡ OutOfMemory) ⊎ Fails (system_of hierarchy.entry.system.now) (root_of root.now) fault) }
-    ensures first { let s = system_of hierarchy.entry.system.now in IfErr result (λ fault. (fault ≡ OutOfMemory) ⊎ (tables_specs.ClassesStand s → HasLeastCode s (root_of root.now) fault)) }
+    ensures fault { IfErr result (λ fault. (fault ≡ OutOfMemory)
+        ⊎ Fails (in_hierarchy hierarchy.entry) (root_of root.now) fault) }
+    ensures first { let s = in_hierarchy hierarchy.entry in
+        IfErr result (λ fault. (fault ≡ OutOfMemory) ⊎ (ClassesStand s → HasLeastCode s (root_of root.now) fault)) }
+    ensures place { IfErr result (IsPlacedFirst (in_hierarchy hierarchy.entry) (root_of root.now)) }
 {
     let outline = Outline::of(alloc, hierarchy)?;
     refuse_features(alloc, &outline, root)?;
@@ -111,13 +124,15 @@ fn sound_outline<'s>(
 }
 
 /// The tables of a system that is run from this root, or a fault of its classes: of the first code that has
-/// one, the one that stands first in the text.
+/// one, the one that stands first in the text. Of C4, a name that is like several features is told at the place that
+/// the one of the nearest class gives it.
 pub fn tables<'s>(alloc: Global, system: &'s System, root: &Root) -> Result<Tables<'s>, ClassFault>
     ensures faultless { OnOk result (IsFaultless (system_of system.now) (root_of root.now)) }
-    ensures of_it { IfOk result (λ tables. tables.outline.hierarchy.system.now ≡ system.now) }
-    ensures rooted { IfOk result (λ tables. root_of tables.root ≡ root_of root.now) }
+    ensures of_it { IfOk result (λ tables. system_in tables ≡ system_of system.now) }
+    ensures rooted { IfOk result (λ tables. root_in tables ≡ root_of root.now) }
     ensures fault { IfErr result (λ fault. (fault ≡ OutOfMemory) ⊎ Fails (system_of system.now) (root_of root.now) fault) }
     ensures first { IfErr result (λ fault. (fault ≡ OutOfMemory) ⊎ HasLeastCode (system_of system.now) (root_of root.now) fault) }
+    ensures place { IfErr result (IsPlacedFirst (system_of system.now) (root_of root.now)) }
 {
     let hierarchy = sound_hierarchy(alloc, system, root)?;
     let outline = sound_outline(alloc, hierarchy, root)?;

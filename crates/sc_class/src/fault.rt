@@ -22,26 +22,27 @@ pub enum LeftOut {
     ExportList,
 }
 
-/// A fault of a system's classes, and the name that it stands at.
+/// A fault of a system's classes, with the code that it is known by and the span of the name that it stands at; or
+/// that no memory was left.
 #[derive(Clone, Copy, Debug, Error)]
 pub enum ClassFault {
     /// C1: the class has the name of an earlier one, or that of a class that every system has (ECMA-367, 8.5).
     #[error("a class has the name of another")]
-    DuplicateClass { place: Span },
+    DuplicateClass { span: Span },
     /// C2: no class has the name of this parent, or it is INTEGER, BOOLEAN or NONE.
     #[error("there is no such parent")]
-    UnknownParent { place: Span },
+    UnknownParent { span: Span },
     /// C3: the class that names this parent inherits from itself (ECMA-367, 8.6.5). It is the first such class.
     #[error("a class inherits from itself")]
-    Cycle { place: Span },
+    Cycle { span: Span },
     /// C4: a feature, a formal, a local, or the name of an object test or of a block's head is like another one
     /// (ECMA-367, 8.8 and 8.24), which stands before it, or it is `print`.
     #[error("a name is declared twice")]
-    DuplicateFeature { place: Span },
+    DuplicateFeature { span: Span },
     /// C5: a feature that isn't inherited or isn't declared again is listed under `redefine`, or what redefines
     /// a routine doesn't fit it (ECMA-367, 8.10).
     #[error("a feature is badly redefined")]
-    BadRedefinition { place: Span },
+    BadRedefinition { span: Span },
     /// C6: there is no class of the root's name, or it doesn't create its objects by that procedure, without
     /// formals.
     #[error("there is no such root")]
@@ -51,8 +52,8 @@ pub enum ClassFault {
     Limit,
     /// C8: something that this language leaves out.
     #[error("something that the language leaves out")]
-    LeftOut { what: LeftOut, place: Span },
-    /// C9: no memory was left for the tables.
+    LeftOut { what: LeftOut, span: Span },
+    /// No memory was left for the tables.
     #[error("out of memory")]
     OutOfMemory,
 }

@@ -5,40 +5,23 @@
 //! faults, a [`ClassFault`]. A class is known by its [`ClassId`], and a feature by a [`FeatureEntry`], which names the
 //! class that declares it.
 //!
-//! `specs/ClassRules` says what each fault is. What the calls of `Tables` answer stands in `specs/ClassNames`,
-//! `specs/Ancestors`, `specs/Features` and `specs/Conformance`.
+//! `specs/Faults` says what each fault is, `specs/Tables` and `specs/ClassNames` what the calls of `Tables` answer, and
+//! [`heir_laws`] what follows.
 #![tactic(auto)]
 
 mod built_in;
 mod checking;
-mod class_clashes;
 mod class_tables;
-mod conformance;
-mod creation;
-mod cycles;
-mod entities;
 mod fault;
-mod found;
+mod faults;
 pub mod heir_laws;
-mod hierarchy;
 mod identity;
-mod known;
-mod left_out;
-mod limits;
-mod lineage;
 mod names;
-mod outline;
-mod own;
-mod parents;
-mod ranks;
-mod redefinition;
 mod root;
-mod scopes;
-mod size;
 
 pub use checking::tables;
 pub use class_tables::Tables;
+pub use class_tables::feature_entry::FeatureEntry;
 pub use fault::{ClassFault, LeftOut};
 pub use identity::ClassId;
-pub use own::FeatureEntry;
 pub use root::Root;

@@ -1,9 +1,10 @@
-// Names in order, each of which is found by hash.
+// Names, and names in order, each of which is found by hash.
 
-ghost use Rattle.std.specs.Prelude.{◌≡◌, ◌++◌, ◌-◌, [], ◌∷◌, List, OnOk, OnErr, length, take};
+ghost use Rattle.std.specs.Prelude.{◌≡◌, ◌++◌, ◌-◌, [], ◌∷◌, List, OnOk, OnErr, bytes_eq, length, take};
 ghost use Rattle.std.specs.Option.{option_map, option_copied};
 ghost use Rattle.sc_tree.specs.Plain as plain;
 ghost use Rattle.sc_tree.specs.View.{name_of};
+ghost use Rattle.sc_class.specs.Names as names;
 ghost use Rattle.sc_class.specs.Names.{number_among, is_listed, first_like};
 ghost use Rattle.sc_class.specs.Internal.NameIndex.{names_at, IsIndex};
 ghost use Rattle.sc_class.specs.Internal.ScopeSearch.{place_among};
@@ -13,6 +14,20 @@ use sc_text::Span;
 use sc_tree::Name;
 use std::alloc::{AllocError, Global};
 use std::marker::Model;
+
+/// Whether it is the name of the feature that every class has.
+pub fn is_print(name: &str) -> bool
+    ensures { result ≡ names.is_print name.now }
+{
+    name == "print"
+}
+
+/// Whether two names are the same.
+pub fn is_same_text(one: &str, other: &str) -> bool
+    ensures { result ≡ bytes_eq one.now other.now }
+{
+    one == other
+}
 
 /// Names in the order in which they were added. A text is found by hash, at the first name that is it.
 #[derive(Drop)]

@@ -1,7 +1,7 @@
 // What a system is run from.
 
 ghost use Rattle.std.specs.Prelude.{◌≡◌, IfOk};
-ghost use Rattle.sc_class.specs.Entries.{root_of};
+ghost use Rattle.sc_class.specs.View.{root_of};
 
 use std::alloc::AllocError;
 

@@ -1,4 +1,5 @@
-//! The two combiners.
+// The two combiners.
+
 ghost use Rattle.std.specs.Prelude.{◌≡◌};
 ghost use Rattle.sc_combine.specs.Combiners as combiners;
 
@@ -23,6 +24,7 @@ pub fn combine_result(target: EntityType, declared: EntityType) -> EntityType
     }
 }
 
+/// The tag of a result, seen by the caller.
 fn result_tag(target: Tag, declared: Tag) -> Tag
     ensures { result ≡ combiners.result_tag target declared }
 {
@@ -51,6 +53,7 @@ pub fn combine_argument(target: EntityType, formal: EntityType, actuals: &[Known
     }
 }
 
+/// The tag that an actual must conform to.
 fn argument_tag(target: Tag, formal: Tag, actuals: &[Known]) -> Tag
     ensures { result ≡ combiners.argument_tag target formal actuals.now }
 {

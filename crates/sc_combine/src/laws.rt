@@ -1,4 +1,5 @@
 //! Laws of the combiners, each the contract of a function that does nothing.
+
 ghost use Rattle.sc_combine.specs.Laws.{ExactArgument, ExactResult, NoTraitor, OwnResult};
 
 /// A result that is a reference is of the current handler only where the target is.

@@ -5,7 +5,7 @@ use Rattle.std.proofs.lemmas.Bool.{eqb-true, eq-eqb}
 use Rattle.sc_tree.specs.Plain.{System}
 use Rattle.sc_class.specs.declared.identity.ClassId.{ClassId}
 use Rattle.sc_class.specs.declared.identity.ClassId.TheVariants as class
-use Rattle.sc_class.specs.Conformance.{is_expanded, class_conforms}
+use Rattle.sc_class.specs.Tables.Conformance.{is_expanded, class_conforms}
 use Rattle.sc_proctype.specs.declared.tag.Reserved.{Reserved}
 use Rattle.sc_proctype.specs.declared.tag.Reserved.TheVariants.{Formal, BlockName}
 use Rattle.sc_proctype.specs.declared.tag.Tag.{Tag}
@@ -13,7 +13,7 @@ use Rattle.sc_proctype.specs.declared.tag.Tag.TheVariants as tag
 use Rattle.sc_proctype.specs.Tags.{is_same_reserved, tag_conforms}
 use Rattle.sc_proctype.specs.Conformance.{mark_conforms}
 use Rattle.sc_proctype.specs.Laws.{IsClassOf, IsWithin, Reflexive, Transitive, AttachedOwn, VoidFits, TagsAreHandlers}
-use Rattle.sc_class.proofs.Ancestry.{own_ancestor, ancestor_of_ancestor}
+use Rattle.sc_class.proofs.Ancestry.{ancestor_itself, ancestor_of_ancestor}
 
 -- ---- truth values
 
@@ -36,7 +36,7 @@ class_itself s class.Any l = refl
 class_itself s class.None l = refl
 class_itself s class.Integer l = refl
 class_itself s class.Boolean l = refl
-class_itself s (class.Declared k) l = own_ancestor s k l
+class_itself s (class.Declared k) l = ancestor_itself s k l
 
 class_over : (s : System) (a b c : ClassId) → class_conforms s a b ≡ true → class_conforms s b c ≡ true → class_conforms s a c ≡ true
 class_over s (class.Declared k) (class.Declared j) (class.Declared i) e f = ancestor_of_ancestor s k j i e f

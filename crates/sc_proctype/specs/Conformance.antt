@@ -2,7 +2,7 @@
 use Rattle.std.specs.Prelude.{Bool, true, false, not, ◌&&◌, ◌||◌}
 use Rattle.sc_tree.specs.Plain.{System}
 use Rattle.sc_class.specs.declared.identity.ClassId.TheVariants as class
-use Rattle.sc_class.specs.Conformance.{class_conforms}
+use Rattle.sc_class.specs.Tables.Conformance.{class_conforms}
 use Rattle.sc_proctype.specs.declared.tag.Tag.TheVariants as tag
 use Rattle.sc_proctype.specs.declared.entity_type.EntityType.{EntityType}
 use Rattle.sc_proctype.specs.Tags.{tag_conforms}

@@ -1,6 +1,7 @@
-//! Types of entities and expressions.
+// Types of entities and expressions.
+
 ghost use Rattle.std.specs.Prelude.{◌≡◌};
-ghost use Rattle.sc_class.specs.Conformance.{is_expanded};
+ghost use Rattle.sc_class.specs.Tables.Conformance.{is_expanded};
 ghost use Rattle.sc_proctype.specs.Conformance.{void, integer, boolean, mark_conforms};
 
 use crate::tag::Tag;

@@ -1,4 +1,5 @@
 //! Laws of conformance, each the contract of a function that does nothing.
+
 ghost use Rattle.sc_proctype.specs.Laws.{AttachedOwn, Reflexive, TagsAreHandlers, Transitive, VoidFits};
 
 /// Each type conforms to itself.

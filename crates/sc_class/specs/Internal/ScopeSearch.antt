@@ -6,9 +6,9 @@ use Rattle.sc_text.specs.declared.token.Span.{Span}
 use Rattle.sc_tree.specs.declared.expression.BinaryOperator.{BinaryOperator}
 use Rattle.sc_tree.specs.declared.expression.BinaryOperator.TheVariants.{AndThen}
 use Rattle.sc_tree.specs.Plain.{FeatureKind, Attribute, Routine, Clause, Head, Name, CreationCall, Expr, Integer, Boolean, Void, Current, Result, Call, Unary, Binary, ObjectTest, Target, no_target, target, Exprs, no_exprs, expr_then, Instr, Assign, PrintText, CallRoutine, Create, If, Loop, Check, Block, Instrs, no_instrs, instr_then, Branches, no_branches, branch_then}
-use Rattle.sc_class.specs.Internal.Found.{earliest}
-use Rattle.sc_class.specs.Names.{first_like, is_print, later_of}
-use Rattle.sc_class.specs.Scopes.{tests_of, head_names, declared_names}
+use Rattle.sc_class.specs.Internal.Found.{first_place}
+use Rattle.sc_class.specs.Names.{first_like, is_print, last_place}
+use Rattle.sc_class.specs.Faults.Scopes.{tests_of, head_names, entity_names}
 
 -- the place of the first of the names that is this
 abbrev pub place_among : List ℕ → List Name → Option Span
@@ -16,16 +16,16 @@ place_among x names = option_map (λ n. n.span) (first_like x names)
 
 -- the later one of this name's place and that of the first that is like it
 abbrev pub like_place : List Name → Name → Option Span
-like_place names n = option_map (λ p. later_of p n.span) (place_among n.text names)
+like_place names n = option_map (λ p. last_place p n.span) (place_among n.text names)
 
 -- where a name clashes with a known one
 unfoldable pub name_clash : List Name → List Name → Name → Option Span
-name_clash fs ns n = if is_print n.text then Some n.span else earliest (like_place fs n) (like_place ns n)
+name_clash fs ns n = if is_print n.text then Some n.span else first_place (like_place fs n) (like_place ns n)
 
 -- where one of these names does, each of which is known behind it
 unfoldable pub names_clash : List Name → List Name → List Name → Option Span
 names_clash fs ns [] = None
-names_clash fs ns (m ∷ ms) = earliest (name_clash fs ns m) (names_clash fs (ns ++ m ∷ []) ms)
+names_clash fs ns (m ∷ ms) = first_place (name_clash fs ns m) (names_clash fs (ns ++ m ∷ []) ms)
 
 unfoldable mutual
   -- where the name of an object test in an expression does
@@ -35,10 +35,10 @@ unfoldable mutual
   expr_clash fs ns (Void s) = None
   expr_clash fs ns (Current s) = None
   expr_clash fs ns (Result s) = None
-  expr_clash fs ns (Call s t n es) = earliest (target_clash fs ns t) (exprs_clash fs ns es)
+  expr_clash fs ns (Call s t n es) = first_place (target_clash fs ns t) (exprs_clash fs ns es)
   expr_clash fs ns (Unary s op a) = expr_clash fs ns a
-  expr_clash fs ns (Binary s op a b) = earliest (expr_clash fs ns a) (expr_clash fs ns b)
-  expr_clash fs ns (ObjectTest s t e n) = earliest (expr_clash fs ns e) (name_clash fs ns n)
+  expr_clash fs ns (Binary s op a b) = first_place (expr_clash fs ns a) (expr_clash fs ns b)
+  expr_clash fs ns (ObjectTest s t e n) = first_place (expr_clash fs ns e) (name_clash fs ns n)
 
   pub target_clash : List Name → List Name → Target → Option Span
   target_clash fs ns no_target = None
@@ -46,7 +46,7 @@ unfoldable mutual
 
   pub exprs_clash : List Name → List Name → Exprs → Option Span
   exprs_clash fs ns no_exprs = None
-  exprs_clash fs ns (expr_then e es) = earliest (expr_clash fs ns e) (exprs_clash fs ns es)
+  exprs_clash fs ns (expr_then e es) = first_place (expr_clash fs ns e) (exprs_clash fs ns es)
 
 -- the operator behind whose left operand the names of its object tests are known
 abbrev pub is_and_then : BinaryOperator → Bool
@@ -55,8 +55,8 @@ is_and_then _ = false
 
 -- in the condition of an `if`
 unfoldable pub condition_clash : List Name → List Name → Expr → Option Span
-condition_clash fs ns (Binary s op a b) = if is_and_then op then earliest (condition_clash fs ns a) (condition_clash fs (ns ++ tests_of a) b) else expr_clash fs ns (Binary s op a b)
-condition_clash fs ns (ObjectTest s t e n) = earliest (expr_clash fs ns e) (name_clash fs ns n)
+condition_clash fs ns (Binary s op a b) = if is_and_then op then first_place (condition_clash fs ns a) (condition_clash fs (ns ++ tests_of a) b) else expr_clash fs ns (Binary s op a b)
+condition_clash fs ns (ObjectTest s t e n) = first_place (expr_clash fs ns e) (name_clash fs ns n)
 condition_clash fs ns (Integer s i) = expr_clash fs ns (Integer s i)
 condition_clash fs ns (Boolean s b) = expr_clash fs ns (Boolean s b)
 condition_clash fs ns (Void s) = expr_clash fs ns (Void s)
@@ -67,12 +67,12 @@ condition_clash fs ns (Unary s op a) = expr_clash fs ns (Unary s op a)
 
 unfoldable pub clauses_clash : List Name → List Name → List Clause → Option Span
 clauses_clash fs ns [] = None
-clauses_clash fs ns (k ∷ ks) = earliest (expr_clash fs ns k.condition) (clauses_clash fs ns ks)
+clauses_clash fs ns (k ∷ ks) = first_place (expr_clash fs ns k.condition) (clauses_clash fs ns ks)
 
 -- in what the heads of a block reserve
 unfoldable pub values_clash : List Name → List Name → List Head → Option Span
 values_clash fs ns [] = None
-values_clash fs ns (h ∷ hs) = earliest (expr_clash fs ns h.value) (values_clash fs ns hs)
+values_clash fs ns (h ∷ hs) = first_place (expr_clash fs ns h.value) (values_clash fs ns hs)
 
 abbrev pub creation_clash : List Name → List Name → Option CreationCall → Option Span
 creation_clash fs ns None = None
@@ -82,26 +82,28 @@ unfoldable mutual
   pub instr_clash : List Name → List Name → Instr → Option Span
   instr_clash fs ns (Assign s v e) = expr_clash fs ns e
   instr_clash fs ns (PrintText s t) = None
-  instr_clash fs ns (CallRoutine s t n es) = earliest (target_clash fs ns t) (exprs_clash fs ns es)
-  instr_clash fs ns (Create s v c) = creation_clash fs ns c
+  instr_clash fs ns (CallRoutine s t n es) = first_place (target_clash fs ns t) (exprs_clash fs ns es)
+  instr_clash fs ns (Create s c) = creation_clash fs ns c.call
   instr_clash fs ns (If s e body branches other) =
-      earliest (earliest (condition_clash fs ns e) (instrs_clash fs (ns ++ tests_of e) body)) (earliest (branches_clash fs ns branches) (instrs_clash fs ns other))
-  instr_clash fs ns (Loop s initial e body) = earliest (instrs_clash fs ns initial) (earliest (expr_clash fs ns e) (instrs_clash fs ns body))
+      first_place (first_place (condition_clash fs ns e) (instrs_clash fs (ns ++ tests_of e) body)) (first_place (branches_clash fs ns branches) (instrs_clash fs ns other))
+  instr_clash fs ns (Loop s initial e body) = first_place (instrs_clash fs ns initial) (first_place (expr_clash fs ns e) (instrs_clash fs ns body))
   instr_clash fs ns (Check s clauses) = clauses_clash fs ns clauses
   instr_clash fs ns (Block s heads body) =
-      earliest (values_clash fs ns heads) (earliest (names_clash fs ns (head_names heads)) (instrs_clash fs (ns ++ head_names heads) body))
+      first_place (values_clash fs ns heads) (first_place (names_clash fs ns (head_names heads)) (instrs_clash fs (ns ++ head_names heads) body))
 
   pub instrs_clash : List Name → List Name → Instrs → Option Span
   instrs_clash fs ns no_instrs = None
-  instrs_clash fs ns (instr_then i is) = earliest (instr_clash fs ns i) (instrs_clash fs ns is)
+  instrs_clash fs ns (instr_then i is) = first_place (instr_clash fs ns i) (instrs_clash fs ns is)
 
   pub branches_clash : List Name → List Name → Branches → Option Span
   branches_clash fs ns no_branches = None
-  branches_clash fs ns (branch_then e body bs) = earliest (earliest (condition_clash fs ns e) (instrs_clash fs (ns ++ tests_of e) body)) (branches_clash fs ns bs)
+  branches_clash fs ns (branch_then e body bs) = first_place (first_place (condition_clash fs ns e) (instrs_clash fs (ns ++ tests_of e) body)) (branches_clash fs ns bs)
 
 -- in a routine
 unfoldable pub kind_clash : List Name → FeatureKind → Option Span
 kind_clash fs (Attribute t) = None
-kind_clash fs (Routine formals result pre locals body post) =
-    earliest (earliest (names_clash fs [] (declared_names formals)) (names_clash fs (declared_names formals) (declared_names locals)))
-    (earliest (clauses_clash fs (declared_names formals) pre) (earliest (instrs_clash fs (declared_names formals ++ declared_names locals) body) (clauses_clash fs (declared_names formals) post)))
+kind_clash fs (Routine r) =
+    let formals = entity_names r.formals in
+    let locals = entity_names r.locals in
+    first_place (first_place (names_clash fs [] formals) (names_clash fs formals locals))
+    (first_place (clauses_clash fs formals r.precondition) (first_place (instrs_clash fs (formals ++ locals) r.body) (clauses_clash fs formals r.postcondition)))

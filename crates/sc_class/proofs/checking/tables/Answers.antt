@@ -3,9 +3,9 @@ use Rattle.sc_tree.specs.declared.system.System as tree
 use Rattle.sc_tree.specs.View.{system_of}
 use Rattle.sc_class.specs.declared.fault.ClassFault.{ClassFault}
 use Rattle.sc_class.specs.declared.fault.ClassFault.TheVariants.{OutOfMemory}
-use Rattle.sc_class.specs.ClassRules.{HasLeastCode}
-use Rattle.sc_class.specs.Entries.{root_of}
-use Rattle.sc_class.specs.Tables.{ClassesStand, FeaturesStand, RestStands}
+use Rattle.sc_class.specs.Faults.ClassRules.{HasLeastCode}
+use Rattle.sc_class.specs.View.{root_of}
+use Rattle.sc_class.specs.Internal.NoFaults.{ClassesStand, FeaturesStand, RestStands}
 use Rattle.sc_class.proofs.TableLemmas.{faultless, err_same, applied}
 use Rattle.sc_class.proofs.checking.tables.Goals as goal
 

@@ -1,9 +1,0 @@
-use Rattle.std.proofs.Common.{◌≡◌, ◌<◌, ℕ, Some, map}
-use Rattle.std.specs.Prelude.{slice_get}
-use Rattle.sc_tree.specs.Plain.{Parent}
-use Rattle.sc_tree.specs.View.{parent_of, system_of}
-use Rattle.sc_class.specs.Ancestors.{NameLeadsTo}
-use Rattle.sc_class.proofs.cycles.way_back.Given as goal
-
-abbrev pub invariant-loop-parent : goal.invariant-loop-parent
-invariant-loop-parent l = (i : ℕ) → i < l.parent-index → (q : Parent) → slice_get (map parent_of l.parents) i ≡ Some q → NameLeadsTo (system_of l.hierarchy.system.now) l.number q → ⊥

@@ -1,8 +1,0 @@
-use Rattle.sc_tree.specs.View.{parent_of, system_of}
-use Rattle.sc_class.specs.Ancestors.{UnknownParentAt}
-use Rattle.sc_class.specs.Internal.Found.{Finds}
-use Rattle.sc_class.proofs.Finding.{Among}
-use Rattle.sc_class.proofs.parents.unknown_among.Given as goal
-
-abbrev pub invariant-loop-parent : goal.invariant-loop-parent
-invariant-loop-parent l = Finds (Among (λ p. p.start) (UnknownParentAt (system_of l.hierarchy.system.now)) parent_of l.parents l.parent-index) l.found

@@ -1,7 +1,0 @@
-use Rattle.std.proofs.Common.{◌≡◌, drop, map}
-use Rattle.sc_tree.specs.View.{declaration_of}
-use Rattle.sc_class.specs.Redefinition.{is_same_formals}
-use Rattle.sc_class.proofs.redefinition.is_same_formals.Given as goal
-
-abbrev pub invariant-loop-i : goal.invariant-loop-i
-invariant-loop-i l = is_same_formals (map declaration_of l.own) (map declaration_of l.inherited) ≡ is_same_formals (map declaration_of (drop l.i l.own)) (map declaration_of (drop l.i l.inherited))

@@ -1,9 +1,0 @@
-use Rattle.std.proofs.Common.{◌≡◌, drop}
-use Rattle.sc_tree.specs.View.{exprs_of}
-use Rattle.sc_class.specs.Internal.Found.{earliest}
-use Rattle.sc_class.specs.Internal.ScopeSearch as search
-use Rattle.sc_class.proofs.scopes.expressions.+expressions.Given as goal
-
-abbrev pub invariant-in_expressions-loop-expression : goal.invariant-in_expressions-loop-expression
-invariant-in_expressions-loop-expression l =
-    search.exprs_clash l.features l.known (exprs_of l.expressions) ≡ earliest l.found (search.exprs_clash l.features l.known (exprs_of (drop l.expression-index l.expressions)))

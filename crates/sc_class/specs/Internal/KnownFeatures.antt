@@ -1,0 +1,22 @@
+-- The features of each class, as the code holds them.
+use Rattle.std.specs.Prelude.{ℕ, List, Option, map, slice_get}
+use Rattle.std.specs.Option.{option_map, option_and_then}
+use Rattle.sc_tree.specs.Plain.{System}
+use Rattle.sc_class.specs.declared.class_tables.known_features.KnownFeatures.{KnownFeatures}
+use Rattle.sc_class.specs.Tables.Features.{DeclaredFeature, features, named_among}
+use Rattle.sc_class.specs.View.{entry_of}
+
+-- the features that stand together
+abbrev pub entries_of : KnownFeatures → List DeclaredFeature
+entries_of t = map entry_of t.entries.items
+
+abbrev pub class_of_first : List ℕ → List DeclaredFeature → Option ℕ
+class_of_first x fs = option_map (λ (f : DeclaredFeature). f.class) (named_among x fs)
+
+-- the number of the class that declares the feature of this name, by what is known of the class at a number
+abbrev pub declarer_known : List KnownFeatures → ℕ → List ℕ → Option ℕ
+declarer_known ts k x = option_and_then (λ t. class_of_first x (entries_of t)) (slice_get ts k)
+
+-- the same, by the system
+abbrev pub declarer : System → ℕ → List ℕ → Option ℕ
+declarer s k x = class_of_first x (features s k)

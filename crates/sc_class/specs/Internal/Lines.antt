@@ -1,9 +1,0 @@
--- The ancestors of each class, as the code holds them.
-use Rattle.std.specs.Prelude.{ℕ, List, [], slice_get}
-use Rattle.std.specs.Option.{option_map_or}
-use Rattle.std.specs.declared.vec.Vec.{Vec}
-use Rattle.std.specs.declared.alloc.Global.{Global}
-
--- those that stand at this number
-abbrev pub line_in : List (Vec ℕ Global) → ℕ → List ℕ
-line_in lines k = option_map_or (λ (v : Vec ℕ Global). v.items) (slice_get lines k) []

@@ -1,0 +1,51 @@
+// The features of a class, found by name.
+
+ghost use Rattle.std.specs.Prelude.{◌≡◌, IfOk, map};
+ghost use Rattle.std.specs.Option.{option_map};
+ghost use Rattle.sc_class.specs.View.{entry_of};
+ghost use Rattle.sc_class.specs.Tables.Features.{named_among};
+ghost use Rattle.sc_class.specs.Faults.Scopes.{feature_names};
+
+use crate::class_tables::feature_entry::FeatureEntry;
+use crate::names::NameIndex;
+use std::alloc::{AllocError, Global};
+
+/// The features of a class, inherited ones too. Each is found by hash.
+#[derive(Drop)]
+pub struct KnownFeatures<'s> {
+    entries: Vec<FeatureEntry<'s>>,
+    names: NameIndex<'s>,
+    ghost named: { names ≡ feature_names (map entry_of entries.items) },
+}
+
+/// The names of the features.
+#[tactic(auto, unfolding(sc_tree::specs::View::feature_of))]
+fn names_of<'s>(alloc: Global, entries: &[FeatureEntry<'s>]) -> Result<NameIndex<'s>, AllocError>
+    ensures { IfOk result (λ names. names ≡ feature_names (map entry_of entries.now)) }
+{
+    let mut names = NameIndex::new(alloc);
+    for entry in entries {
+        names.push(&entry.feature.name)?;
+    }
+    Ok(names)
+}
+
+impl<'s> KnownFeatures<'s> {
+    /// These features.
+    pub fn of(alloc: Global, entries: Vec<FeatureEntry<'s>>) -> Result<Self, AllocError>
+        ensures { IfOk result (λ known. map entry_of known.entries.items ≡ map entry_of entries.entry.items) }
+    {
+        let names = names_of(alloc, &entries)?;
+        Ok(KnownFeatures { entries, names })
+    }
+
+    /// The first of the features that has this name. It looks once by hash.
+    pub fn named(&self, name: &str) -> Option<FeatureEntry<'s>>
+        ensures { option_map entry_of result ≡ named_among name.now (map entry_of self.now.entries.items) }
+    {
+        match self.names.number(name) {
+            None => None,
+            Some(number) => self.entries.get(number).copied(),
+        }
+    }
+}

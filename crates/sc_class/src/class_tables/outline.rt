@@ -1,0 +1,284 @@
+// What each class declares itself, by name.
+
+ghost use Rattle.std.specs.Prelude.{◌≡◌, ◌<◌, ◌++◌, ℕ, List, IfOk, OnOk, map, length, slice_get};
+ghost use Rattle.std.specs.Option.{option_map, option_copied};
+ghost use Rattle.sc_tree.specs.View.{name_of, feature_of, class_of, system_of};
+ghost use Rattle.sc_class.specs.Tables.Ancestors.{ancestors_from};
+ghost use Rattle.sc_class.specs.Names.{number_among, is_listed};
+ghost use Rattle.sc_class.specs.Tables.Declared.{features_at, declared_feature_names_at};
+ghost use Rattle.sc_class.specs.Internal.DeclaredNames.{names_of_class};
+ghost use Rattle.sc_class.specs.Tables.Declared.{creators_of};
+ghost use Rattle.sc_class.specs.Tables.Features.{redefined_names, declared_features, features, features_along, inherited_features, named_among, not_redefined};
+ghost use Rattle.sc_class.specs.View.{entry_of};
+ghost use Rattle.sc_class.specs.Internal.KnownFeatures.{declarer, declarer_known};
+
+use crate::class_tables::ancestry::features_of;
+use crate::class_tables::declared_names::{DeclaredNames, declared_names_of, redefined_in};
+use crate::class_tables::feature_entry::FeatureEntry;
+use crate::class_tables::hierarchy::Hierarchy;
+use crate::class_tables::known_features::KnownFeatures;
+use crate::faults::limits::{MAX_CLASSES, MAX_FEATURES};
+use crate::names::NameIndex;
+use sc_tree::{Class, Feature, Name};
+use std::alloc::{AllocError, Global};
+
+/// The classes of a system, with the names of what each declares itself. Of the first ones all features are found by
+/// hash, of every class where the limits are kept.
+#[derive(Drop)]
+pub struct Outline<'s> {
+    pub hierarchy: Hierarchy<'s>,
+    names: Vec<DeclaredNames<'s>>,
+    known: Vec<KnownFeatures<'s>>,
+    ghost have_names: { names.items ≡ map names_of_class (system_of hierarchy.system.now).classes },
+    ghost are_known: { (k : ℕ) → k < length known.items → (x : List ℕ) → declarer_known known.items k x
+        ≡ declarer (system_of hierarchy.system.now) k x },
+}
+
+/// The names of what each class declares.
+fn names_of_each<'s>(
+    alloc: Global,
+    classes: &'s [Class],
+) -> Result<Vec<DeclaredNames<'s>>, AllocError>
+    ensures { IfOk result (λ names. names.items ≡ map names_of_class (map class_of classes.now)) }
+{
+    let mut names = Vec::new(alloc);
+    for class in classes {
+        names.push(declared_names_of(alloc, class)?)?;
+    }
+    Ok(names)
+}
+
+/// The features of the classes, by number, as far as the limits on classes and features are kept.
+fn known_features<'s>(
+    alloc: Global,
+    outline: &Outline<'s>,
+) -> Result<Vec<KnownFeatures<'s>>, AllocError>
+    ensures { IfOk result (λ known. (k : ℕ) → k < length known.items → (x : List ℕ) → declarer_known known.items k x
+        ≡ declarer (system_of outline.now.hierarchy.system.now) k x) }
+{
+    let count = outline.hierarchy.classes().len().min(MAX_CLASSES);
+    let mut known = Vec::new(alloc);
+    for number in 0..count {
+        let entries = features_of(alloc, outline, number)?;
+        if entries.len() > MAX_FEATURES {
+            return Ok(known);
+        }
+        known.push(KnownFeatures::of(alloc, entries)?)?;
+    }
+    Ok(known)
+}
+
+impl<'s> Outline<'s> {
+    /// What the classes declare, and their features as far as the limits are kept.
+    pub fn of(alloc: Global, hierarchy: Hierarchy<'s>) -> Result<Self, AllocError>
+        ensures { IfOk result (λ outline. outline.hierarchy.system.now ≡ hierarchy.entry.system.now) }
+    {
+        let names = names_of_each(alloc, hierarchy.classes())?;
+        let mut outline = Outline {
+            hierarchy,
+            names,
+            known: Vec::new(alloc),
+        };
+        outline.know_features(alloc)?;
+        Ok(outline)
+    }
+
+    /// Finds out the features of the classes.
+    fn know_features(&mut self, alloc: Global) -> Result<(), AllocError>
+        ensures { self.new.hierarchy ≡ self.old.hierarchy }
+    {
+        self.known = known_features(alloc, self)?;
+        Ok(())
+    }
+
+    /// The class at a number.
+    pub fn class(&self, number: usize) -> Option<&'s Class>
+        ensures { option_map class_of (option_copied result)
+            ≡ slice_get (system_of self.now.hierarchy.system.now).classes number }
+    {
+        self.hierarchy.classes().get(number)
+    }
+
+    /// The number of the first feature of this name that the class declares itself. It looks once by hash.
+    fn number(&self, class: usize, name: &str) -> Option<usize>
+        ensures { result
+            ≡ number_among name.now (declared_feature_names_at (system_of self.now.hierarchy.system.now) class) }
+    {
+        match self.names.get(class) {
+            None => None,
+            Some(names) => names.features.number(name),
+        }
+    }
+
+    /// A feature that the class declares itself, by its number in the text of the class.
+    fn feature(&self, class: usize, number: usize) -> Option<&'s Feature>
+        ensures { option_map feature_of (option_copied result)
+            ≡ slice_get (features_at (system_of self.now.hierarchy.system.now) class) number }
+    {
+        match self.class(class) {
+            None => None,
+            Some(text) => text.features.get(number),
+        }
+    }
+
+    /// The feature of this name that the class at the number declares itself. It looks once by hash.
+    pub fn declared(&self, class: usize, name: &str) -> Option<FeatureEntry<'s>>
+        ensures { option_map entry_of result
+            ≡ named_among name.now (declared_features (system_of self.now.hierarchy.system.now) class) }
+    {
+        match self.number(class, name) {
+            None => None,
+            Some(number) => match self.feature(class, number) {
+                None => None,
+                Some(feature) => Some(FeatureEntry { class, feature }),
+            },
+        }
+    }
+
+    /// Whether the class at the number lists the name under `redefine`. It looks once by hash.
+    pub fn redefines(&self, class: usize, name: &str) -> bool
+        ensures { result ≡ is_listed name.now (redefined_names (system_of self.now.hierarchy.system.now) class) }
+    {
+        match self.names.get(class) {
+            None => false,
+            Some(names) => names.redefined.contains(name),
+        }
+    }
+
+    /// The names that the class at the number lists under `create`.
+    #[tactic(auto, unfolding(sc_tree::specs::View::class_of))]
+    pub fn creators(&self, class: usize) -> &'s [Name]
+        ensures { map name_of result.now ≡ creators_of (system_of self.now.hierarchy.system.now) class }
+    {
+        match self.class(class) {
+            None => &[],
+            Some(text) => &text.creators,
+        }
+    }
+
+    /// Whether the class at the number lists the name under `create`. It looks once by hash.
+    pub fn creates(&self, class: usize, name: &str) -> bool
+        ensures { result ≡ is_listed name.now (creators_of (system_of self.now.hierarchy.system.now) class) }
+    {
+        match self.names.get(class) {
+            None => false,
+            Some(names) => names.creators.contains(name),
+        }
+    }
+
+    /// The feature of this name of a class, or of one of so many classes on the way up from it. It looks up to
+    /// twice by hash for each of them.
+    #[tactic(auto, using(crate::proofs::AncestorLemmas::named_at_top, crate::proofs::AncestorLemmas::named_done))]
+    fn named_from(&self, class: Option<usize>, count: usize, name: &str) -> Option<FeatureEntry<'s>>
+        ensures { option_map entry_of result
+            ≡ named_among name.now (features_along (system_of self.now.hierarchy.system.now) (ancestors_from count
+            (system_of self.now.hierarchy.system.now) class)) }
+    {
+        let mut next = class;
+        for _done in 0..count {
+            let Some(class) = next else {
+                return None;
+            };
+            let declared = self.declared(class, name);
+            if declared.is_some() || self.redefines(class, name) {
+                return declared;
+            }
+            next = self.hierarchy.parent(class);
+        }
+        None
+    }
+
+    /// The feature of this name of the class at the number. It looks twice by hash, and where a limit is passed up to
+    /// twice for each ancestor, until it is found.
+    pub fn named(&self, class: usize, name: &str) -> Option<FeatureEntry<'s>>
+        ensures { option_map entry_of result
+            ≡ named_among name.now (features (system_of self.now.hierarchy.system.now) class) }
+    {
+        match self.known.get(class) {
+            None => self.named_above(class, name),
+            Some(known) => match known.named(name) {
+                None => None,
+                Some(entry) => self.declared(entry.class, name),
+            },
+        }
+    }
+
+    /// The same, by a walk up the ancestors.
+    fn named_above(&self, class: usize, name: &str) -> Option<FeatureEntry<'s>>
+        ensures { option_map entry_of result
+            ≡ named_among name.now (features (system_of self.now.hierarchy.system.now) class) }
+    {
+        let count = self.hierarchy.classes().len();
+        self.named_from(Some(class), count, name)
+    }
+
+    /// The feature of this name of the parent of the class at the number.
+    pub fn inherited(&self, class: usize, name: &str) -> Option<FeatureEntry<'s>>
+        ensures { option_map entry_of result
+            ≡ named_among name.now (inherited_features (system_of self.now.hierarchy.system.now) class) }
+    {
+        let above = self.hierarchy.classes().len().saturating_sub(1);
+        self.named_from(self.hierarchy.parent(class), above, name)
+    }
+
+    /// Adds the features that the class at the number declares itself, but for those of the redefined names.
+    #[tactic(auto, unfolding(sc_tree::specs::View::class_of))]
+    pub fn add_declared(
+        &self,
+        features: &mut Vec<FeatureEntry<'s>>,
+        redefined: &NameIndex,
+        class: usize,
+    ) -> Result<(), AllocError>
+        ensures { let declared = declared_features (system_of self.now.hierarchy.system.now) class in
+            OnOk result (map entry_of features.new.items ≡ map entry_of features.old.items
+            ++ not_redefined redefined.now declared) }
+    {
+        let Some(text) = self.class(class) else {
+            return Ok(());
+        };
+        for feature in &text.features {
+            if !redefined.contains(&feature.name.text) {
+                features.push(FeatureEntry { class, feature })?;
+            }
+        }
+        Ok(())
+    }
+
+    /// Adds the names that the class at the number lists under `redefine`.
+    pub fn add_redefined(
+        &self,
+        redefined: &mut NameIndex<'s>,
+        class: usize,
+    ) -> Result<(), AllocError>
+        ensures { OnOk result (redefined.new ≡ redefined.old
+            ++ redefined_names (system_of self.now.hierarchy.system.now) class) }
+    {
+        let Some(text) = self.class(class) else {
+            return Ok(());
+        };
+        let names = redefined_in(text);
+        for name in names {
+            redefined.push(name)?;
+        }
+        Ok(())
+    }
+
+    /// Adds the features of classes, each of which is the parent of the one before it, but for those of the redefined
+    /// names. The names that the classes redefine are among these then.
+    pub fn add_along(
+        &self,
+        features: &mut Vec<FeatureEntry<'s>>,
+        redefined: &mut NameIndex<'s>,
+        ancestors: &[usize],
+    ) -> Result<(), AllocError>
+        ensures { let along = features_along (system_of self.now.hierarchy.system.now) ancestors.now in
+            OnOk result (map entry_of features.new.items ≡ map entry_of features.old.items
+            ++ not_redefined redefined.old along) }
+    {
+        for class in ancestors {
+            self.add_declared(features, redefined, *class)?;
+            self.add_redefined(redefined, *class)?;
+        }
+        Ok(())
+    }
+}

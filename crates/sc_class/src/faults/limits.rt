@@ -1,0 +1,53 @@
+// How many classes and features there are.
+
+ghost use Rattle.std.specs.Prelude.{◌≡◌, IfOk};
+ghost use Rattle.std.specs.Bool.{MatchBool};
+ghost use Rattle.sc_class.specs.Faults.Limits as limits;
+ghost use Rattle.sc_class.specs.Internal.Systems.{in_outline};
+
+use crate::class_tables::ancestry::Ancestry;
+use crate::class_tables::outline::Outline;
+use crate::faults::routine_limits::has_large_routine;
+use std::alloc::{AllocError, Global};
+
+/// How many classes a system may have.
+pub const MAX_CLASSES: usize = 256;
+/// How many features a class may have, inherited ones too.
+pub const MAX_FEATURES: usize = 256;
+
+/// Whether the class at the number has too many features.
+fn has_many_features(alloc: Global, outline: &Outline, number: usize) -> Result<bool, AllocError>
+    ensures { IfOk result (λ many. many ≡ limits.has_many_features (in_outline outline.now) number) }
+{
+    let ancestry = Ancestry { outline, number };
+    let features = ancestry.features(alloc)?;
+    Ok(features.len() > MAX_FEATURES)
+}
+
+/// Whether one of so many classes has too many features.
+fn has_large_class(alloc: Global, outline: &Outline, count: usize) -> Result<bool, AllocError>
+    ensures { IfOk result (λ large. limits.TellsLargeClass (in_outline outline.now) count large) }
+{
+    for number in 0..count {
+        if has_many_features(alloc, outline, number)? {
+            return Ok(true);
+        }
+    }
+    Ok(false)
+}
+
+/// Whether a limit is passed.
+pub fn passes_limit(alloc: Global, outline: &Outline) -> Result<bool, AllocError>
+    ensures { let passes = limits.PassesLimit (in_outline outline.now) in
+        IfOk result (λ passed. MatchBool passed passes (passes → ⊥)) }
+{
+    let classes = outline.hierarchy.classes();
+    let count = classes.len();
+    if count > MAX_CLASSES {
+        return Ok(true);
+    }
+    if has_large_routine(&outline.hierarchy) {
+        return Ok(true);
+    }
+    has_large_class(alloc, outline, count)
+}

@@ -1,0 +1,143 @@
+// What classes redefine.
+
+ghost use Rattle.std.specs.Prelude.{◌≡◌, IfOk, map};
+ghost use Rattle.sc_tree.specs.View.{clause_of, class_of, declaration_of, kind_of, name_of, type_if_any};
+ghost use Rattle.sc_class.specs.Internal.FaultAt.{FaultAt};
+ghost use Rattle.sc_class.specs.Internal.Found.{FindsFirstPlace};
+ghost use Rattle.sc_class.specs.Faults.Redefinition as redefinition;
+ghost use Rattle.sc_class.specs.Internal.Systems.{in_hierarchy, in_outline, in_ancestry};
+
+use crate::class_tables::ancestry::Ancestry;
+use crate::class_tables::conformance::{is_same_type, type_conforms};
+use crate::class_tables::declared_names::redefined_in;
+use crate::class_tables::hierarchy::Hierarchy;
+use crate::class_tables::outline::Outline;
+use crate::faults::places::first_place;
+use crate::names::is_same_text;
+use sc_text::Span;
+use sc_tree::{Class, Clause, Declaration, DeclaredType, FeatureKind, Name};
+use std::alloc::{AllocError, Global};
+
+/// A fault of what the class redefines.
+fn bad_redefinition(ancestry: &Ancestry, class: &Class) -> Option<Span>
+    ensures { FindsFirstPlace (redefinition.BadlyRedefines (in_ancestry ancestry.now) ancestry.now.number (class_of
+        class.now)) result }
+{
+    let mut found = None;
+    let redefined = redefined_in(class);
+    for name in redefined {
+        found = first_place(found, badly_redefined(ancestry, name));
+    }
+    found
+}
+
+/// A fault of one name that the class redefines.
+fn badly_redefined(ancestry: &Ancestry, name: &Name) -> Option<Span>
+    ensures { FindsFirstPlace (redefinition.NameBadlyRedefined (in_ancestry ancestry.now) ancestry.now.number (name_of
+        name.now)) result }
+{
+    let Some(inherited) = ancestry.inherited(&name.text) else {
+        return Some(name.span);
+    };
+    let Some(declared) = ancestry.outline.declared(ancestry.number, &name.text) else {
+        return Some(name.span);
+    };
+    if can_redefine(
+        &ancestry.outline.hierarchy,
+        &declared.feature.kind,
+        &inherited.feature.kind,
+    ) {
+        return None;
+    }
+    Some(declared.feature.name.span)
+}
+
+/// Whether the first can redefine the second.
+#[tactic(auto, unfolding(sc_tree::specs::View::kind_of))]
+fn can_redefine(hierarchy: &Hierarchy, declared: &FeatureKind, inherited: &FeatureKind) -> bool
+    ensures { result
+        ≡ redefinition.can_redefine (in_hierarchy hierarchy.now) (kind_of declared.now) (kind_of inherited.now) }
+{
+    match declared {
+        FeatureKind::Attribute(_) => false,
+        FeatureKind::Routine(declared) => match inherited {
+            FeatureKind::Attribute(_) => false,
+            FeatureKind::Routine(inherited) => {
+                is_same_formals(&declared.formals, &inherited.formals)
+                    && result_fits(hierarchy, &declared.result_type, &inherited.result_type)
+                    && is_empty_contract(&declared.precondition)
+                    && is_empty_contract(&declared.postcondition)
+            }
+        },
+    }
+}
+
+/// Whether no clause stands there.
+fn is_empty_contract(clauses: &[Clause]) -> bool
+    ensures { result ≡ redefinition.is_empty_contract (map clause_of clauses.now) }
+{
+    match clauses {
+        [] => true,
+        [_, ..] => false,
+    }
+}
+
+/// Whether the result can redefine the inherited one: none for none, or a type that conforms.
+fn result_fits(
+    hierarchy: &Hierarchy,
+    declared: &Option<DeclaredType>,
+    inherited: &Option<DeclaredType>,
+) -> bool
+    ensures { result
+        ≡ redefinition.result_fits (in_hierarchy hierarchy.now) (type_if_any declared.now) (type_if_any
+        inherited.now) }
+{
+    match declared {
+        None => inherited.is_none(),
+        Some(declared) => match inherited {
+            None => false,
+            Some(inherited) => type_conforms(hierarchy, declared, inherited),
+        },
+    }
+}
+
+/// Whether two formals have the same name and type.
+fn is_same_formal(declared: &Declaration, inherited: &Declaration) -> bool
+    ensures { result ≡ redefinition.is_same_formal (declaration_of declared.now) (declaration_of inherited.now) }
+{
+    is_same_text(&declared.name.text, &inherited.name.text)
+        && is_same_type(&declared.declared_type, &inherited.declared_type)
+}
+
+/// Whether the formals have the same names and types, one by one.
+fn is_same_formals(declared: &[Declaration], inherited: &[Declaration]) -> bool
+    ensures { result
+        ≡ redefinition.is_same_formals (map declaration_of declared.now) (map declaration_of inherited.now) }
+{
+    if declared.len() != inherited.len() {
+        return false;
+    }
+    for (i, declaration) in declared.iter().enumerate() {
+        let Some(other) = inherited.get(i) else {
+            return false;
+        };
+        if !is_same_formal(declaration, other) {
+            return false;
+        }
+    }
+    true
+}
+
+/// A fault of what one of the classes redefines.
+pub fn bad_redefinitions(alloc: Global, outline: &Outline) -> Result<Option<Span>, AllocError>
+    ensures { IfOk result (FindsFirstPlace (FaultAt (in_outline outline.now) (redefinition.BadlyRedefines (in_outline
+        outline.now)))) }
+{
+    let mut found = None;
+    let classes = outline.hierarchy.classes();
+    for (number, class) in classes.iter().enumerate() {
+        let ancestry = Ancestry { outline, number };
+        found = first_place(found, bad_redefinition(&ancestry, class));
+    }
+    Ok(found)
+}
