@@ -28,3 +28,6 @@ pub mod InvariantHeirs
 pub mod PureHeirs
 pub mod TextLaws
 pub mod Numbers
+pub mod Scopes
+pub mod ScopedSites
+pub mod PureBodies

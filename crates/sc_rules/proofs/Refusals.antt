@@ -31,10 +31,13 @@ pub unmet : (b : Bool) (r : Rule) (p : Span) → b ≡ false → Refused (requir
 unmet b r p e = subst (λ b. Refused (required b r p)) (sym e) tt
 
 -- one of several is refused
-pub refused_each : {A : Type 0} (judge : A → Judged (Unit {0})) (xs : List A) → Any (λ x. Refused (judge x)) xs → Refused (judge_each judge xs)
+pub refused_each : {A : Type 0} (judge : A → Judged (Unit {0})) (xs : List A) → Any (λ x. Refused (judge x)) xs →
+    Refused (judge_each judge xs)
 refused_each judge [] (k, x, l, e, r) = absurd (omega (arith, l))
-refused_each judge (y ∷ ys) (zero, x, l, e, r) = stops (judge y) (λ u. judge_each judge ys) (subst (λ x. Refused (judge x)) (sym e) r)
-refused_each judge (y ∷ ys) (suc k, x, l, e, r) = stops_behind (judge y) (λ u. judge_each judge ys) (λ u. refused_each judge ys (k, x, less l, e, r))
+refused_each judge (y ∷ ys) (zero, x, l, e, r) = stops (judge y) (λ u. judge_each judge ys)
+    (subst (λ x. Refused (judge x)) (sym e) r)
+refused_each judge (y ∷ ys) (suc k, x, l, e, r) = stops_behind (judge y) (λ u. judge_each judge ys)
+    (λ u. refused_each judge ys (k, x, less l, e, r))
   where
     less : suc k < suc (length ys) → k < length ys
     less l = omega arith
@@ -44,11 +47,13 @@ pub data Tells {A : Type 0} (P : Rule → Span → Type 0) : Judged A → Type 0
   passes : {x : A} → Tells P (Ok x)
   tells : {f : Fault} → P f.rule f.span → Tells P (Err f)
 
-pub tells_more : {A : Type 0} {P Q : Rule → Span → Type 0} {j : Judged A} → ((r : Rule) (p : Span) → P r p → Q r p) → Tells P j → Tells Q j
+pub tells_more : {A : Type 0} {P Q : Rule → Span → Type 0} {j : Judged A} → ((r : Rule) (p : Span) → P r p → Q r p) →
+    Tells P j → Tells Q j
 tells_more f passes = passes
 tells_more f (tells {f = e} t) = tells (f e.rule e.span t)
 
-pub tells_then : {A B : Type 0} {P : Rule → Span → Type 0} {i : Judged A} (f : A → Judged B) → Tells P i → ((x : A) → Tells P (f x)) → Tells P (i >>= f)
+pub tells_then : {A B : Type 0} {P : Rule → Span → Type 0} {i : Judged A} (f : A → Judged B) → Tells P i →
+    ((x : A) → Tells P (f x)) → Tells P (i >>= f)
 tells_then f (passes {x}) t = t x
 tells_then f (tells s) t = tells s
 
@@ -57,25 +62,30 @@ pub data Gave {A : Type 0} (Q : A → Type 0) (P : Rule → Span → Type 0) : J
   gave : {x : A} → Q x → Gave Q P (Ok x)
   refuses : {f : Fault} → P f.rule f.span → Gave Q P (Err f)
 
-pub gave_then : {A B : Type 0} {Q : A → Type 0} {R : B → Type 0} {P : Rule → Span → Type 0} {i : Judged A} (f : A → Judged B) → Gave Q P i →
+pub gave_then : {A B : Type 0} {Q : A → Type 0} {R : B → Type 0} {P : Rule → Span → Type 0} {i : Judged A}
+    (f : A → Judged B) → Gave Q P i →
     ((x : A) → Q x → Gave R P (f x)) → Gave R P (i >>= f)
 gave_then f (gave {x} q) t = t x q
 gave_then f (refuses p) t = refuses p
 
-pub gave_more : {A : Type 0} {Q : A → Type 0} {P S : Rule → Span → Type 0} {i : Judged A} → ((r : Rule) (p : Span) → P r p → S r p) → Gave Q P i → Gave Q S i
+pub gave_more : {A : Type 0} {Q : A → Type 0} {P S : Rule → Span → Type 0} {i : Judged A} →
+    ((r : Rule) (p : Span) → P r p → S r p) → Gave Q P i → Gave Q S i
 gave_more f (gave q) = gave q
 gave_more f (refuses {f = e} p) = refuses (f e.rule e.span p)
 
 -- a test: it holds, or its rule fails
-pub gave_required : (P : Rule → Span → Type 0) (b : Bool) (r : Rule) (p : Span) → (b ≡ false → P r p) → Gave (λ (u : Unit {0}). b ≡ true) P (required b r p)
+pub gave_required : (P : Rule → Span → Type 0) (b : Bool) (r : Rule) (p : Span) → (b ≡ false → P r p) →
+    Gave (λ (u : Unit {0}). b ≡ true) P (required b r p)
 gave_required P true r p f = gave refl
 gave_required P false r p f = refuses (f refl)
 
-pub gave_map : {A : Type 0} {Q R : A → Type 0} {P : Rule → Span → Type 0} {i : Judged A} → ((x : A) → Q x → R x) → Gave Q P i → Gave R P i
+pub gave_map : {A : Type 0} {Q R : A → Type 0} {P : Rule → Span → Type 0} {i : Judged A} → ((x : A) → Q x → R x) →
+    Gave Q P i → Gave R P i
 gave_map f (gave {x} q) = gave (f x q)
 gave_map f (refuses p) = refuses p
 
-pub gave_if : {A : Type 0} {Q : A → Type 0} {P : Rule → Span → Type 0} (b : Bool) (i j : Judged A) → (b ≡ true → Gave Q P i) → (b ≡ false → Gave Q P j) →
+pub gave_if : {A : Type 0} {Q : A → Type 0} {P : Rule → Span → Type 0} (b : Bool) (i j : Judged A) →
+    (b ≡ true → Gave Q P i) → (b ≡ false → Gave Q P j) →
     Gave Q P (if b then i else j)
 gave_if true i j f g = f refl
 gave_if false i j f g = g refl
@@ -93,7 +103,8 @@ any_later y xs (k, x, l, e, p) = (suc k, x, more l, e, p)
     more : k < length xs → suc k < suc (length xs)
     more l = omega arith
 
-pub tells_each : {A : Type 0} (P : A → Rule → Span → Type 0) (judge : A → Judged (Unit {0})) → ((x : A) → Tells (P x) (judge x)) → (xs : List A) →
+pub tells_each : {A : Type 0} (P : A → Rule → Span → Type 0) (judge : A → Judged (Unit {0})) →
+    ((x : A) → Tells (P x) (judge x)) → (xs : List A) →
     Tells (λ r p. Any (λ x. P x r p) xs) (judge_each judge xs)
 tells_each P judge t [] = passes
 tells_each P judge t (x ∷ xs) = tells_then (λ u. judge_each judge xs) (tells_more (λ r p f. any_first x xs f) (t x))

@@ -9,8 +9,8 @@ use Rattle.sc_tree.specs.Plain.{System, DeclaredType, Declaration, Name, Expr, I
 use Rattle.sc_class.specs.declared.identity.ClassId.{ClassId}
 use Rattle.sc_class.specs.declared.identity.ClassId.TheVariants as class
 use Rattle.sc_class.specs.Names.{is_print}
-use Rattle.sc_class.specs.Conformance.{is_expanded, type_class}
-use Rattle.sc_class.specs.Features.{DeclaredFeature, feature_named}
+use Rattle.sc_class.specs.Tables.Conformance.{is_expanded, type_class}
+use Rattle.sc_class.specs.Tables.Features.{DeclaredFeature, feature_named}
 use Rattle.sc_proctype.specs.declared.tag.Tag.{Tag}
 use Rattle.sc_proctype.specs.declared.entity_type.EntityType.{EntityType}
 use Rattle.sc_proctype.specs.Conformance.{boolean, conforms}
@@ -19,33 +19,34 @@ use Rattle.sc_combine.specs.Combiners.{known_of, combined_argument}
 use Rattle.sc_rules.specs.declared.rule.Rule.{Rule}
 use Rattle.sc_rules.specs.declared.rule.Rule.TheVariants.{UnknownName, WrongArity, ArgumentType, TargetDetachable, TargetUncontrolled, OperatorType, TagName, ImpureContract, PreconditionArgument, NotExported, ObjectTestPlace, OldPlace, VoidUse}
 use Rattle.sc_rules.specs.declared.position.Context.{Context}
-use Rattle.sc_rules.specs.declared.position.Spot.{Spot}
-use Rattle.sc_rules.specs.declared.position.Spot.TheVariants as spot
-use Rattle.sc_rules.specs.declared.position.Spot.TheVariants.{Plain, Condition, Source}
+use Rattle.sc_rules.specs.declared.position.Position.{Position}
+use Rattle.sc_rules.specs.declared.position.Position.TheVariants as spot
+use Rattle.sc_rules.specs.declared.position.Position.TheVariants.{Plain, Condition, Source}
 use Rattle.sc_rules.specs.declared.position.Use.{Use}
 use Rattle.sc_rules.specs.declared.position.Use.TheVariants.{Value, Instruction}
 use Rattle.sc_rules.specs.Types as declared
-use Rattle.sc_rules.specs.Types.{declared_tag, declared_type, is_marked, TypeFails, unknown_class, unknown_tag, marked, is_controlled, is_controlling, unary_result, binary_result}
-use Rattle.sc_rules.specs.Positions.{span_of, is_old, is_and_then, is_require, is_ensure, is_condition, wants_pure, takes_void, under, beside, joins}
+use Rattle.sc_rules.specs.Types.{declared_tag, declared_type, is_marked, TypeFails, unknown_class, unknown_tag, marked, is_controlled, is_controlled_tag, unary_result, binary_result}
+use Rattle.sc_rules.specs.Positions.{span_of, is_old, is_and_then, is_require, is_ensure, is_condition, wants_pure, takes_void, operand_context, operand_position, shares_names}
 use Rattle.sc_rules.specs.declared.position.Role.TheVariants as role
-use Rattle.sc_rules.specs.Names.{RoutineName, Here, Entities, Entity, entity, test_type, FormalType, of_type, of_none, of_expanded, Signature, Meaning, unknown, unresolved, stands, current, print_signature, entity_or, entity_named, meaning_of_feature, meaning_of, is_qualified}
-use Rattle.sc_rules.specs.Typing.{Typing, typing, plainly, types, may_target, is_foreign_type, knowns, named_formal, has_type, is_told, takes, takes_if_any, fit, is_value, passes_values, may_call, is_exported_to, is_testable, old_stands, HasType, number, truth, void, current_object, result, call, unresolved_call, unary, binary, and_then, test, HasReceiver, implicit, explicit, HasTypes, none, more, Gives, by_test, by_both, nothing}
+use Rattle.sc_rules.specs.Names.{RoutineName, RoutineContext, Entities, Entity, entity, test_type, FormalType, of_type, of_none, of_expanded, Signature, Meaning, unknown, target_untyped, named, current, print_signature, entity_or, entity_named, meaning_of_feature, meaning_of, is_qualified}
+use Rattle.sc_rules.specs.Typing.{Typing, typing, simple_typing, types, may_target, is_foreign_type, known_handlers, named_formal, has_type, named_actual_has_type, takes, takes_if_any, formals_take, is_value, passes_values, may_call, is_exported_to, is_testable, old_stands, HasType, number, truth, void, current_object, result, call, untyped_target_call, unary, binary, and_then, test, HasReceiver, implicit, explicit, HasTypes, none, more, Gives, by_test, by_both, nothing}
 use Rattle.sc_rules.specs.Sites.{Site, expression, IsActual, first_actual, later_actual, Part, target_part, actual_part, operand_part, left_part, right_part, joined_left_part, joined_right_part, tested_part, itself, inside}
 use Rattle.sc_rules.specs.CallRules.{count, ActualAt, actual_here, actual_later, IsKnown, names_none, names_one, Untaken, differs, reference, Mismatches, first_pair, later_pair, AtName, unknown_name, wrong_count, procedure_as_value, query_as_instruction, impure, hidden, CallFails, detachable, uncontrolled, argument, reference_in_precondition, at_name}
 use Rattle.sc_rules.specs.TextRules.{ExpressionFails, void_use, no_result, in_call, operand, operands, joined_operands, old_outside, old_over_separate, misplaced_test, tested_type, at_expression, Fails, fails}
-use Rattle.sc_rules.specs.Judging.{Judged, ◌>>=◌, required, judge_type, judge_tested, judge_target, Found, type_found, types_found, formals_of, target_of, is_taken, rest, may_pass, judge_actuals, judge_use, judge_name, judge_meant, judge_called, operated, judge_result, judge, judge_receiver, found, judge_given}
+use Rattle.sc_rules.specs.Judging.{Judged, ◌>>=◌, required, judge_type, judge_tested, judge_target, JudgedActual, judged_type, judged_types, formals_of, target_of, is_taken, rest, may_pass, judge_actuals, judge_use, judge_name, judge_actuals_and_name, judge_called, judge_operation, judge_result, judge, judge_receiver, judged_actuals, judge_given}
 use Rattle.sc_rules.proofs.Refusals.{Gave, gave, refuses, gave_then, gave_more, gave_map, gave_if, gave_required}
 use Rattle.sc_rules.proofs.Complete.{AllOk, ok_none, ok_more, types_ok}
 
 -- what judging an expression tells
-abbrev pub Told : Here → Context → Spot → Entities → Expr → Judged Typing → Type 0
+abbrev pub Told : RoutineContext → Context → Position → Entities → Expr → Judged Typing → Type 0
 Told h c k n e = Gave (λ t. HasType h c k n e t) (Fails h (expression c k n e))
 
 -- where a rule fails in a part, it does in the whole
-pub up : {h : Here} {a b : Site} → Part h a b → (r : Rule) (p : Span) → Fails h b r p → Fails h a r p
+pub up : {h : RoutineContext} {a b : Site} → Part h a b → (r : Rule) (p : Span) → Fails h b r p → Fails h a r p
 up d r p (fails w f) = fails (inside d w) f
 
-pub here : {h : Here} {c : Context} {k : Spot} {n : Entities} {e : Expr} {r : Rule} {p : Span} → ExpressionFails h c k n e r p →
+pub here : {h : RoutineContext} {c : Context} {k : Position} {n : Entities} {e : Expr} {r : Rule} {p : Span} →
+    ExpressionFails h c k n e r p →
     Fails h (expression c k n e) r p
 here f = fails itself (at_expression f)
 
@@ -55,8 +56,10 @@ none_of : {A : Type 0} (o : Option A) → is_some o ≡ false → o ≡ None
 none_of None e = refl
 none_of (Some x) e = cc
 
-no_type : (s : System) (formals : List Declaration) (d : DeclaredType) (c : Option ClassId) (g : Option Tag) → type_class s d.class.text ≡ c →
-    declared_tag formals d.tag ≡ g → is_some c ≡ true → is_some (declared.typed d c g) ≡ false → TypeFails s formals d TagName d.span
+no_type : (s : System) (formals : List Declaration) (d : DeclaredType) (c : Option ClassId) (g : Option Tag) →
+    type_class s d.class.text ≡ c →
+    declared_tag formals d.tag ≡ g → is_some c ≡ true → is_some (declared.typed d c g) ≡ false →
+    TypeFails s formals d TagName d.span
 no_type s formals d None g e f i j = cc
 no_type s formals d (Some c) None e f i j = unknown_tag f
 no_type s formals d (Some c) (Some g) e f i j = by_mark (is_expanded c) (is_marked d) refl refl
@@ -74,21 +77,24 @@ told_type s formals d =
     (λ u i. gave_required (TypeFails s formals d) (is_some (declared_type s formals d)) TagName d.span
     (λ e. no_type s formals d (type_class s d.class.text) (declared_tag formals d.tag) refl refl i e))
 
-pub told_tested : (h : Here) (d : Option DeclaredType) → Gave (λ (u : Unit {0}). is_testable h d ≡ true)
+pub told_tested : (h : RoutineContext) (d : Option DeclaredType) → Gave (λ (u : Unit {0}). is_testable h d ≡ true)
     (λ r p. (t : DeclaredType) × (d ≡ Some t) × TypeFails h.system h.formals t r p) (judge_tested h d)
 told_tested h None = gave refl
 told_tested h (Some d) = gave_more (λ r p f. (d, refl, f)) (told_type h.system h.formals d)
 
 -- ---- operators
 
-operated_told : {Q : Typing → Type 0} {P : Rule → Span → Type 0} (p : Span) (b : Bool) (o : Option (Option EntityType)) → (o ≡ None → P OperatorType p) →
-    ((r : Option EntityType) → o ≡ Some r → Q (typing r b)) → Gave Q P (operated p b o)
+operated_told : {Q : Typing → Type 0} {P : Rule → Span → Type 0} (p : Span) (b : Bool)
+    (o : Option (Option EntityType)) → (o ≡ None → P OperatorType p) →
+    ((r : Option EntityType) → o ≡ Some r → Q (typing r b)) → Gave Q P (judge_operation p b o)
 operated_told p b None f g = refuses (f refl)
 operated_told p b (Some r) f g = gave (g r refl)
 
-old_fails : (h : Here) (c : Context) (k : Spot) (n : Entities) (s : Span) (op : UnaryOperator) (a : Expr) (t : Option EntityType) (o e b : Bool) →
+old_fails : (h : RoutineContext) (c : Context) (k : Position) (n : Entities) (s : Span) (op : UnaryOperator) (a : Expr)
+    (t : Option EntityType) (o e b : Bool) →
     is_old op ≡ o →
-    is_ensure c ≡ e → HasType h (under op c) Plain n a (typing t b) → (not o || (e && not b)) ≡ false → ExpressionFails h c k n (Unary s op a) OldPlace s
+    is_ensure c ≡ e → HasType h (operand_context op c) Plain n a (typing t b) → (not o || (e && not b)) ≡ false →
+    ExpressionFails h c k n (Unary s op a) OldPlace s
 old_fails h c k n s op a t true true true i j d f = old_over_separate i d
 old_fails h c k n s op a t true true false i j d f = cc
 old_fails h c k n s op a t true false b i j d f = old_outside i j
@@ -97,40 +103,47 @@ old_fails h c k n s op a t false e b i j d f = cc
 -- ---- targets
 
 -- in the target of a call, or at it
-pub data TargetFails (h : Here) (c : Context) (n : Entities) : Target → Rule → Span → Type 0 where
+pub data TargetFails (h : RoutineContext) (c : Context) (n : Entities) : Target → Rule → Span → Type 0 where
   in_target : {a : Expr} {r : Rule} {p : Span} → Fails h (expression c Plain n a) r p → TargetFails h c n (target a) r p
-  at_target : {a : Expr} {r : Rule} {p : Span} → ((u : Use) (x : Name) (es : Exprs) → CallFails h c n u (target a) x es r p) → TargetFails h c n (target a) r p
+  at_target : {a : Expr} {r : Rule} {p : Span} →
+      ((u : Use) (x : Name) (es : Exprs) → CallFails h c n u (target a) x es r p) → TargetFails h c n (target a) r p
 
 both_true : (a b : Bool) → a ≡ true → b ≡ true → (a && b) ≡ true
 both_true true b d e = e
 both_true false b d e = d
 
-target_told : (h : Here) (c : Context) (n : Entities) (a : Expr) (o : Option EntityType) (b : Bool) → HasType h c Plain n a (typing o b) →
+target_told : (h : RoutineContext) (c : Context) (n : Entities) (a : Expr) (o : Option EntityType) (b : Bool) →
+    HasType h c Plain n a (typing o b) →
     Gave (λ (u : Unit {0}). may_target o ≡ true) (TargetFails h c n (target a)) (judge_target (span_of a) o)
 target_told h c n a None b d = gave refl
 target_told h c n a (Some t) b d =
-    gave_then (λ u. required (is_controlling t.tag) TargetUncontrolled (span_of a))
+    gave_then (λ u. required (is_controlled_tag t.tag) TargetUncontrolled (span_of a))
     (gave_required (TargetFails h c n (target a)) t.attached TargetDetachable (span_of a) (λ e. at_target (λ u x es. detachable d e)))
-    (λ u i. gave_map (λ u j. both_true t.attached (is_controlling t.tag) i j)
-    (gave_required (TargetFails h c n (target a)) (is_controlling t.tag) TargetUncontrolled (span_of a) (λ e. at_target (λ u x es. uncontrolled d e))))
+    (λ u i. gave_map (λ u j. both_true t.attached (is_controlled_tag t.tag) i j)
+    (gave_required (TargetFails h c n (target a)) (is_controlled_tag t.tag) TargetUncontrolled (span_of a) (λ e. at_target (λ u x es. uncontrolled d e))))
 
 -- ---- actuals
 
 -- each was judged, and this was told of it
-pub data AllTold (h : Here) (c : Context) (n : Entities) : Exprs → List Found → Type 0 where
+pub data AllTold (h : RoutineContext) (c : Context) (n : Entities) : Exprs → List JudgedActual → Type 0 where
   told_none : AllTold h c n no_exprs []
-  told_more : {e : Expr} {es : Exprs} {j : Judged Typing} {rs : List Found} → Told h c Source n e j → AllTold h c n es rs →
+  told_more : {e : Expr} {es : Exprs} {j : Judged Typing} {rs : List JudgedActual} → Told h c Source n e j →
+      AllTold h c n es rs →
       AllTold h c n (expr_then e es) ((span_of e, j) ∷ rs)
 
 -- in an actual or at one; `all` are the actuals of the call, of which these are the last
-pub data ActualsFail (h : Here) (c : Context) (n : Entities) (r : Option EntityType) (all : Exprs) (t : EntityType) (fs : List FormalType) (es : Exprs) : Rule → Span → Type 0 where
-  in_actual : {e : Expr} {q : Rule} {p : Span} → IsActual e es → Fails h (expression c Source n e) q p → ActualsFail h c n r all t fs es q p
+pub data ActualsFail (h : RoutineContext) (c : Context) (n : Entities) (r : Option EntityType) (all : Exprs)
+    (t : EntityType) (fs : List FormalType) (es : Exprs) : Rule → Span → Type 0 where
+  in_actual : {e : Expr} {q : Rule} {p : Span} → IsActual e es → Fails h (expression c Source n e) q p →
+      ActualsFail h c n r all t fs es q p
   mismatch : {p : Span} → Mismatches h c n all t fs es p → ActualsFail h c n r all t fs es ArgumentType p
-  passed_reference : {e : Expr} {a : EntityType} {b : Bool} → is_require c ≡ true → is_foreign_type r ≡ true → IsActual e es →
+  passed_reference : {e : Expr} {a : EntityType} {b : Bool} → is_require c ≡ true → is_foreign_type r ≡ true →
+      IsActual e es →
       HasType h c Source n e (typing (Some a) b) →
       is_expanded a.class ≡ false → ActualsFail h c n r all t fs es PreconditionArgument (span_of e)
 
-later_fails : {h : Here} {c : Context} {n : Entities} {r : Option EntityType} {all : Exprs} {t : EntityType} (fs : List FormalType) (e : Expr) (es : Exprs) (q : Rule) (p : Span) →
+later_fails : {h : RoutineContext} {c : Context} {n : Entities} {r : Option EntityType} {all : Exprs} {t : EntityType}
+    (fs : List FormalType) (e : Expr) (es : Exprs) (q : Rule) (p : Span) →
     ActualsFail h c n r all t (rest fs) es q p → ActualsFail h c n r all t fs (expr_then e es) q p
 later_fails fs e es q p (in_actual i f) = in_actual (later_actual i) f
 later_fails [] e es q p (mismatch m) = elim (m) [ ]
@@ -138,16 +151,18 @@ later_fails (f ∷ fs) e es q p (mismatch m) = mismatch (later_pair m)
 later_fails fs e es q p (passed_reference i j k d x) = passed_reference i j (later_actual k) d x
 
 -- where something is known of the actual at a number, there is one of that type
-pub record KnownAt (h : Here) (c : Context) (n : Entities) (es : Exprs) (rs : List Found) (y : ℕ) : Type 0 where
+pub record KnownAt (h : RoutineContext) (c : Context) (n : Entities) (es : Exprs) (rs : List JudgedActual)
+    (y : ℕ) : Type 0 where
   pub actual : Expr
   pub type : EntityType
   pub is_separate : Bool
   pub stands_there : ActualAt actual es y
   pub typed_so : HasType h c Source n actual (typing (Some type) is_separate)
-  pub known_so : slice_get (knowns (types_found rs)) y ≡ Some (known_of type.tag)
+  pub known_so : slice_get (known_handlers (judged_types rs)) y ≡ Some (known_of type.tag)
 
-first_known : (h : Here) (c : Context) (n : Entities) (e : Expr) (es : Exprs) (rs : List Found) (j : Judged Typing) → Told h c Source n e j →
-    has_type (Some (type_found j)) ≡ true → KnownAt h c n (expr_then e es) ((span_of e, j) ∷ rs) zero
+first_known : (h : RoutineContext) (c : Context) (n : Entities) (e : Expr) (es : Exprs) (rs : List JudgedActual)
+    (j : Judged Typing) → Told h c Source n e j →
+    has_type (Some (judged_type j)) ≡ true → KnownAt h c n (expr_then e es) ((span_of e, j) ∷ rs) zero
 first_known h c n e es rs j (gave {x} d) i = of_type_of x.type x.is_separate d i
   where
     of_type_of : (o : Option EntityType) (b : Bool) → HasType h c Source n e (typing o b) → has_type (Some o) ≡ true →
@@ -156,57 +171,68 @@ first_known h c n e es rs j (gave {x} d) i = of_type_of x.type x.is_separate d i
     of_type_of (Some t) b d i = record { actual = e; type = t; is_separate = b; stands_there = actual_here; typed_so = d; known_so = refl }
 first_known h c n e es rs j (refuses f) i = cc
 
-known_further : {h : Here} {c : Context} {n : Entities} {es : Exprs} {rs : List Found} {y : ℕ} (e : Expr) (j : Judged Typing) → KnownAt h c n es rs y →
+known_further : {h : RoutineContext} {c : Context} {n : Entities} {es : Exprs} {rs : List JudgedActual} {y : ℕ}
+    (e : Expr) (j : Judged Typing) → KnownAt h c n es rs y →
     KnownAt h c n (expr_then e es) ((span_of e, j) ∷ rs) (suc y)
 known_further e j k =
     record { actual = k.actual; type = k.type; is_separate = k.is_separate; stands_there = actual_later k.stands_there; typed_so = k.typed_so; known_so = k.known_so }
 
-known_at : {h : Here} {c : Context} {n : Entities} {es : Exprs} {rs : List Found} → AllTold h c n es rs → (y : ℕ) →
-    has_type (slice_get (types_found rs) y) ≡ true →
+known_at : {h : RoutineContext} {c : Context} {n : Entities} {es : Exprs} {rs : List JudgedActual} →
+    AllTold h c n es rs → (y : ℕ) →
+    has_type (slice_get (judged_types rs) y) ≡ true →
     KnownAt h c n es rs y
 known_at told_none y i = cc
 known_at {h} {c} {n} (told_more {e} {es} {j} {rs} d a) zero i = first_known h c n e es rs j d i
 known_at (told_more {e} {es} {j} {rs} d a) (suc y) i = known_further e j (known_at a y i)
 
 -- a formal that is judged names no other, or one whose actual has a type
-told_known : {h : Here} {c : Context} {n : Entities} {all : Exprs} {rs : List Found} → AllTold h c n all rs → (f : EntityType) (o : Option ℕ) →
+told_known : {h : RoutineContext} {c : Context} {n : Entities} {all : Exprs} {rs : List JudgedActual} →
+    AllTold h c n all rs → (f : EntityType) (o : Option ℕ) →
     named_formal f.tag ≡ o →
-    is_told (types_found rs) o ≡ true → IsKnown h c n all f (knowns (types_found rs))
+    named_actual_has_type (judged_types rs) o ≡ true → IsKnown h c n all f (known_handlers (judged_types rs))
 told_known a f None e i = names_none e
 told_known {h} {c} {n} {all} {rs} a f (Some y) e i = from_actual (known_at a y i)
   where
-    from_actual : KnownAt h c n all rs y → IsKnown h c n all f (knowns (types_found rs))
+    from_actual : KnownAt h c n all rs y → IsKnown h c n all f (known_handlers (judged_types rs))
     from_actual k = names_one e k.stands_there k.typed_so k.known_so
 
-untaken : {h : Here} {c : Context} {n : Entities} {all : Exprs} {rs : List Found} → AllTold h c n all rs → (t : EntityType) (f : FormalType) (a : EntityType) →
-    takes h.system t (types_found rs) f a ≡ false → Untaken h c n all t f a
+untaken : {h : RoutineContext} {c : Context} {n : Entities} {all : Exprs} {rs : List JudgedActual} →
+    AllTold h c n all rs → (t : EntityType) (f : FormalType) (a : EntityType) →
+    takes h.system t (judged_types rs) f a ≡ false → Untaken h c n all t f a
 untaken a t of_none b e = cc
 untaken a t of_expanded b e = reference e
 untaken {h} {c} {n} {all} {rs} a t (of_type f) b e =
-    of_both (is_told (types_found rs) (named_formal f.tag)) (conforms h.system b (combined_argument t f (knowns (types_found rs)))) refl refl e
+    of_both (named_actual_has_type (judged_types rs) (named_formal f.tag))
+    (conforms h.system b (combined_argument t f (known_handlers (judged_types rs)))) refl refl e
   where
-    of_both : (i j : Bool) → is_told (types_found rs) (named_formal f.tag) ≡ i → conforms h.system b (combined_argument t f (knowns (types_found rs))) ≡ j →
+    of_both : (i j : Bool) → named_actual_has_type (judged_types rs) (named_formal f.tag) ≡ i →
+        conforms h.system b (combined_argument t f (known_handlers (judged_types rs))) ≡ j →
         (not i || j) ≡ false → Untaken h c n all t (of_type f) b
     of_both true true k l e = cc
     of_both true false k l e = differs (told_known a f (named_formal f.tag) refl k) l
     of_both false j k l e = cc
 
 -- the actual isn't taken by its formal
-not_taken : {h : Here} {c : Context} {n : Entities} {all : Exprs} {rs : List Found} (r : Option EntityType) → AllTold h c n all rs →
+not_taken : {h : RoutineContext} {c : Context} {n : Entities} {all : Exprs} {rs : List JudgedActual}
+    (r : Option EntityType) → AllTold h c n all rs →
     (t : EntityType) (fs : List FormalType) (e : Expr) (es : Exprs)
-    (o : Option EntityType) (b : Bool) → HasType h c Source n e (typing o b) → is_taken h.system t (types_found rs) fs o ≡ false →
+    (o : Option EntityType) (b : Bool) → HasType h c Source n e (typing o b) →
+    is_taken h.system t (judged_types rs) fs o ≡ false →
     ActualsFail h c n r all t fs (expr_then e es) ArgumentType (span_of e)
 not_taken r a t [] e es o b d i = cc
 not_taken r a t (f ∷ fs) e es None b d i = cc
 not_taken r a t (f ∷ fs) e es (Some x) b d i = mismatch (first_pair d (untaken a t f x i))
 
 -- a reference that a separate call in a precondition passes
-not_passed : (h : Here) (c : Context) (n : Entities) (r : Option EntityType) (all : Exprs) (t : EntityType) (fs : List FormalType) (e : Expr) (es : Exprs)
-    (o : Option EntityType) (b : Bool) → HasType h c Source n e (typing o b) → (i j k : Bool) → is_require c ≡ i → is_foreign_type r ≡ j → is_value o ≡ k →
+not_passed : (h : RoutineContext) (c : Context) (n : Entities) (r : Option EntityType) (all : Exprs) (t : EntityType)
+    (fs : List FormalType) (e : Expr) (es : Exprs)
+    (o : Option EntityType) (b : Bool) → HasType h c Source n e (typing o b) → (i j k : Bool) → is_require c ≡ i →
+    is_foreign_type r ≡ j → is_value o ≡ k →
     (not (i && j) || k) ≡ false → ActualsFail h c n r all t fs (expr_then e es) PreconditionArgument (span_of e)
 not_passed h c n r all t fs e es None b d i j k l m x f = missing i j k x f
   where
-    missing : (i j k : Bool) → true ≡ k → (not (i && j) || k) ≡ false → ActualsFail h c n r all t fs (expr_then e es) PreconditionArgument (span_of e)
+    missing : (i j k : Bool) → true ≡ k → (not (i && j) || k) ≡ false →
+        ActualsFail h c n r all t fs (expr_then e es) PreconditionArgument (span_of e)
     missing true true k x f = cc
     missing true false k x f = cc
     missing false j k x f = cc
@@ -216,57 +242,65 @@ not_passed h c n r all t fs e es (Some a) b d true false k l m x f = cc
 not_passed h c n r all t fs e es (Some a) b d false j k l m x f = cc
 
 -- what judging the actuals, or the last of them, tells
-pub record ActualsFit (h : Here) (c : Context) (n : Entities) (r : Option EntityType) (ts : List (Option EntityType)) (t : EntityType) (fs : List FormalType)
-    (es : Exprs) (rs : List Found) (bs : List Typing) : Type 0 where
+pub record ActualsFit (h : RoutineContext) (c : Context) (n : Entities) (r : Option EntityType)
+    (ts : List (Option EntityType)) (t : EntityType) (fs : List FormalType)
+    (es : Exprs) (rs : List JudgedActual) (bs : List Typing) : Type 0 where
   pub typed_all : HasTypes h c n es bs
   pub found_all : AllOk rs bs
-  pub fits : fit h.system t ts fs (types bs) ≡ true
+  pub fits : formals_take h.system t ts fs (types bs) ≡ true
   pub passes : passes_values c r (types bs) ≡ true
 
 nothing_passed : (b : Bool) → (b || true) ≡ true
 nothing_passed true = refl
 nothing_passed false = refl
 
-first_fits : (s : System) (t : EntityType) (all : List (Option EntityType)) (fs : List FormalType) (a : Option EntityType) (as' : List (Option EntityType)) →
-    is_taken s t all fs a ≡ true → fit s t all (rest fs) as' ≡ true → fit s t all fs (a ∷ as') ≡ true
+first_fits : (s : System) (t : EntityType) (all : List (Option EntityType)) (fs : List FormalType)
+    (a : Option EntityType) (as' : List (Option EntityType)) →
+    is_taken s t all fs a ≡ true → formals_take s t all (rest fs) as' ≡ true → formals_take s t all fs (a ∷ as') ≡ true
 first_fits s t all [] a as' d e = refl
-first_fits s t all (f ∷ fs) a as' d e = both_true (takes_if_any s t all f a) (fit s t all fs as') d e
+first_fits s t all (f ∷ fs) a as' d e = both_true (takes_if_any s t all f a) (formals_take s t all fs as') d e
 
 first_passes : (b v w : Bool) → (b || v) ≡ true → (b || w) ≡ true → (b || (v && w)) ≡ true
 first_passes true v w d e = refl
 first_passes false true w d e = e
 first_passes false false w d e = d
 
-told_actuals : {h : Here} {c : Context} {n : Entities} {all : Exprs} {as' : List Found} (r : Option EntityType) → AllTold h c n all as' →
+told_actuals : {h : RoutineContext} {c : Context} {n : Entities} {all : Exprs} {as' : List JudgedActual}
+    (r : Option EntityType) → AllTold h c n all as' →
     (t : EntityType) (fs : List FormalType) {es : Exprs}
-    {rs : List Found} → AllTold h c n es rs →
-    Gave (ActualsFit h c n r (types_found as') t fs es rs) (ActualsFail h c n r all t fs es) (judge_actuals h c r t (types_found as') fs rs)
-told_actuals {h} {c} {as' = as'} r a t fs told_none = gave (record { typed_all = none; found_all = ok_none; fits = no_actuals fs; passes = nothing_passed (not (is_require c && is_foreign_type r)) })
+    {rs : List JudgedActual} → AllTold h c n es rs →
+    Gave (ActualsFit h c n r (judged_types as') t fs es rs) (ActualsFail h c n r all t fs es)
+    (judge_actuals h c r t (judged_types as') fs rs)
+told_actuals {h} {c} {as' =
+    as'} r a t fs told_none = gave (record { typed_all = none; found_all = ok_none; fits = no_actuals fs; passes = nothing_passed (not (is_require c && is_foreign_type r)) })
   where
-    no_actuals : (fs : List FormalType) → fit h.system t (types_found as') fs [] ≡ true
+    no_actuals : (fs : List FormalType) → formals_take h.system t (judged_types as') fs [] ≡ true
     no_actuals [] = refl
     no_actuals (f ∷ fs) = refl
 told_actuals {h} {c} {n} {all} {as'} r a t fs (told_more {e} {es} {j} {rs} d k) =
     of_actual j d (told_actuals r a t (rest fs) k)
   where
     of_actual : (j : Judged Typing) → Told h c Source n e j →
-        Gave (ActualsFit h c n r (types_found as') t (rest fs) es rs) (ActualsFail h c n r all t (rest fs) es) (judge_actuals h c r t (types_found as') (rest fs) rs) →
-        Gave (ActualsFit h c n r (types_found as') t fs (expr_then e es) ((span_of e, j) ∷ rs)) (ActualsFail h c n r all t fs (expr_then e es))
-        (judge_actuals h c r t (types_found as') fs ((span_of e, j) ∷ rs))
+        Gave (ActualsFit h c n r (judged_types as') t (rest fs) es rs) (ActualsFail h c n r all t (rest fs) es)
+        (judge_actuals h c r t (judged_types as') (rest fs) rs) →
+        Gave (ActualsFit h c n r (judged_types as') t fs (expr_then e es) ((span_of e, j) ∷ rs))
+        (ActualsFail h c n r all t fs (expr_then e es))
+        (judge_actuals h c r t (judged_types as') fs ((span_of e, j) ∷ rs))
     of_actual j (refuses f) g = refuses (in_actual first_actual f)
     of_actual j (gave {x} d) g =
-        gave_then (λ u. required (may_pass c r x.type) PreconditionArgument (span_of e) >>= λ u. judge_actuals h c r t (types_found as') (rest fs) rs >>= λ bs. Ok (x ∷ bs))
-        (gave_required (ActualsFail h c n r all t fs (expr_then e es)) (is_taken h.system t (types_found as') fs x.type) ArgumentType (span_of e)
+        gave_then (λ u. required (may_pass c r x.type) PreconditionArgument (span_of e) >>= λ u. judge_actuals h c r t (judged_types as') (rest fs) rs >>= λ bs. Ok (x ∷ bs))
+        (gave_required (ActualsFail h c n r all t fs (expr_then e es)) (is_taken h.system t (judged_types as') fs x.type) ArgumentType (span_of e)
         (λ i. not_taken r a t fs e es x.type x.is_separate d i))
-        (λ u i. gave_then (λ u. judge_actuals h c r t (types_found as') (rest fs) rs >>= λ bs. Ok (x ∷ bs))
+        (λ u i. gave_then (λ u. judge_actuals h c r t (judged_types as') (rest fs) rs >>= λ bs. Ok (x ∷ bs))
         (gave_required (ActualsFail h c n r all t fs (expr_then e es)) (may_pass c r x.type) PreconditionArgument (span_of e)
         (λ v. not_passed h c n r all t fs e es x.type x.is_separate d (is_require c) (is_foreign_type r) (is_value x.type) refl refl refl v))
         (λ u v. gave_then (λ bs. Ok (x ∷ bs)) (gave_more (λ q p f. later_fails fs e es q p f) g)
         (λ bs b. gave (record {
           typed_all = more d b.typed_all;
           found_all = ok_more refl b.found_all;
-          fits = first_fits h.system t (types_found as') fs x.type (types bs) i b.fits;
-          passes = first_passes (not (is_require c && is_foreign_type r)) (is_value x.type) (list_all is_value (types bs)) v b.passes;
+          fits = first_fits h.system t (judged_types as') fs x.type (types bs) i b.fits;
+          passes = first_passes (not (is_require c && is_foreign_type r)) (is_value x.type)
+              (list_all is_value (types bs)) v b.passes;
         }))))
 
 -- ---- the name
@@ -277,13 +311,15 @@ pub data UsedSo : Use → Option (Option EntityType) → Option EntityType → T
   used_as_instruction : UsedSo Instruction None None
 
 -- no rule fails at a name of this meaning, and this is given
-pub data NameStands (h : Here) (c : Context) (u : Use) (a : Target) (k : ℕ) : Meaning → Option EntityType → Type 0 where
-  stands_unresolved : NameStands h c u a k unresolved None
-  stands_for : {g : Signature} {t : Option EntityType} → k ≡ length g.formals → UsedSo u g.gives t → may_call h c g.routine ≡ true → is_exported_to a g ≡ true →
-      NameStands h c u a k (stands g) t
+pub data NameStands (h : RoutineContext) (c : Context) (u : Use) (a : Target) (k : ℕ) : Meaning → Option EntityType →
+    Type 0 where
+  stands_unresolved : NameStands h c u a k target_untyped None
+  stands_for : {g : Signature} {t : Option EntityType} → k ≡ length g.formals → UsedSo u g.gives t →
+      may_call h c g.routine ≡ true → is_exported_to a g ≡ true →
+      NameStands h c u a k (named g) t
 
 -- at this place, a rule at the name
-abbrev pub NameFails : Here → Context → Use → Target → Meaning → ℕ → Span → Rule → Span → Type 0
+abbrev pub NameFails : RoutineContext → Context → Use → Target → Meaning → ℕ → Span → Rule → Span → Type 0
 NameFails h c u a m k p r q = (q ≡ p) × AtName h c a u m k r
 
 equal_counts : (m n : ℕ) → (m == n) ≡ true → m ≡ n
@@ -292,81 +328,90 @@ equal_counts m n e = grind arith
 other_counts : (m n : ℕ) → (m == n) ≡ false → m ≡ n → ⊥
 other_counts m n e d = grind arith
 
-told_use : (h : Here) (c : Context) (u : Use) (a : Target) (g : Signature) (k : ℕ) (p : Span) (o : Option (Option EntityType)) → g.gives ≡ o →
-    Gave (UsedSo u o) (NameFails h c u a (stands g) k p) (judge_use u o p)
+told_use : (h : RoutineContext) (c : Context) (u : Use) (a : Target) (g : Signature) (k : ℕ) (p : Span)
+    (o : Option (Option EntityType)) → g.gives ≡ o →
+    Gave (UsedSo u o) (NameFails h c u a (named g) k p) (judge_use u o p)
 told_use h c Value a g k p None e = refuses (refl, procedure_as_value e)
 told_use h c Value a g k p (Some t) e = gave used_as_value
 told_use h c Instruction a g k p None e = gave used_as_instruction
 told_use h c Instruction a g k p (Some t) e = refuses (refl, query_as_instruction e)
 
-not_pure : (h : Here) (c : Context) (u : Use) (a : Target) (g : Signature) (k : ℕ) (o : Option RoutineName) → g.routine ≡ o → may_call h c o ≡ false →
-    AtName h c a u (stands g) k ImpureContract
+not_pure : (h : RoutineContext) (c : Context) (u : Use) (a : Target) (g : Signature) (k : ℕ) (o : Option RoutineName) →
+    g.routine ≡ o → may_call h c o ≡ false →
+    AtName h c a u (named g) k ImpureContract
 not_pure h c u a g k None e i = cc
 not_pure h c u a g k (Some f) e i = by_purity (wants_pure c) (h.pure f) refl refl i
   where
-    by_purity : (w p : Bool) → wants_pure c ≡ w → h.pure f ≡ p → (not w || p) ≡ false → AtName h c a u (stands g) k ImpureContract
+    by_purity : (w p : Bool) → wants_pure c ≡ w → h.pure f ≡ p → (not w || p) ≡ false →
+        AtName h c a u (named g) k ImpureContract
     by_purity true true d j i = cc
     by_purity true false d j i = impure e d j
     by_purity false p d j i = cc
 
-not_exported : (h : Here) (c : Context) (u : Use) (a : Target) (g : Signature) (k : ℕ) (i j : Bool) → is_qualified a ≡ i → g.is_secret ≡ j →
+not_exported : (h : RoutineContext) (c : Context) (u : Use) (a : Target) (g : Signature) (k : ℕ) (i j : Bool) →
+    is_qualified a ≡ i → g.is_secret ≡ j →
     not (i && j) ≡ false →
-    AtName h c a u (stands g) k NotExported
+    AtName h c a u (named g) k NotExported
 not_exported h c u a g k true true d e f = hidden d e
 not_exported h c u a g k true false d e f = cc
 not_exported h c u a g k false j d e f = cc
 
-pub told_name : (h : Here) (c : Context) (u : Use) (a : Target) (m : Meaning) (k : ℕ) (p : Span) →
+pub told_name : (h : RoutineContext) (c : Context) (u : Use) (a : Target) (m : Meaning) (k : ℕ) (p : Span) →
     Gave (NameStands h c u a k m) (NameFails h c u a m k p) (judge_name h c u a m k p)
 told_name h c u a unknown k p = refuses (refl, unknown_name)
-told_name h c u a unresolved k p = gave stands_unresolved
-told_name h c u a (stands g) k p =
+told_name h c u a target_untyped k p = gave stands_unresolved
+told_name h c u a (named g) k p =
     gave_then (λ w. judge_use u g.gives p >>= λ t. required (may_call h c g.routine) ImpureContract p >>= λ w. required (is_exported_to a g) NotExported p >>= λ w. Ok t)
-    (gave_required (NameFails h c u a (stands g) k p) (k == length g.formals) WrongArity p (λ e. (refl, wrong_count (other_counts k (length g.formals) e))))
+    (gave_required (NameFails h c u a (named g) k p) (k == length g.formals) WrongArity p (λ e. (refl, wrong_count (other_counts k (length g.formals) e))))
     (λ w e. gave_then (λ t. required (may_call h c g.routine) ImpureContract p >>= λ w. required (is_exported_to a g) NotExported p >>= λ w. Ok t)
     (told_use h c u a g k p g.gives refl)
     (λ t s. gave_then (λ w. required (is_exported_to a g) NotExported p >>= λ w. Ok t)
-    (gave_required (NameFails h c u a (stands g) k p) (may_call h c g.routine) ImpureContract p (λ i. (refl, not_pure h c u a g k g.routine refl i)))
+    (gave_required (NameFails h c u a (named g) k p) (may_call h c g.routine) ImpureContract p (λ i. (refl, not_pure h c u a g k g.routine refl i)))
     (λ w i. gave_then (λ w. Ok t)
-    (gave_required (NameFails h c u a (stands g) k p) (is_exported_to a g) NotExported p
+    (gave_required (NameFails h c u a (named g) k p) (is_exported_to a g) NotExported p
     (λ x. (refl, not_exported h c u a g k (is_qualified a) g.is_secret refl refl x)))
     (λ w x. gave (stands_for (equal_counts k (length g.formals) e) s i x)))))
 
 -- ---- calls
 
-pub resolved_feature : (s : System) (t : EntityType) (o : Option DeclaredFeature) → meaning_of_feature s t o ≡ unresolved → ⊥
+pub resolved_feature : (s : System) (t : EntityType) (o : Option DeclaredFeature) →
+    meaning_of_feature s t o ≡ target_untyped → ⊥
 resolved_feature s t None e = cc
 resolved_feature s t (Some f) e = cc
 
-pub resolved_near : (h : Here) (x : List ℕ) (o : Option Entity) → entity_or h x o ≡ unresolved → ⊥
+pub resolved_near : (h : RoutineContext) (x : List ℕ) (o : Option Entity) → entity_or h x o ≡ target_untyped → ⊥
 resolved_near h x (Some e) d = cc
 resolved_near h x None d = by_print (is_print x) d
   where
     by_print : (b : Bool) →
-        (if b then stands (print_signature h) else meaning_of_feature h.system (current h) (feature_named h.system (class.Declared h.class) x)) ≡ unresolved → ⊥
+        (if b then named (print_signature h) else meaning_of_feature h.system (current h) (feature_named h.system (class.Declared h.class) x)) ≡ target_untyped → ⊥
     by_print true d = cc
     by_print false d = resolved_feature h.system (current h) (feature_named h.system (class.Declared h.class) x) d
 
 -- what judging the actuals and the name tells
-pub record Meant (h : Here) (c : Context) (n : Entities) (u : Use) (a : Target) (m : Meaning) (es : Exprs) (rs : List Found) (r t : Typing) : Type 0 where
+pub record Meant (h : RoutineContext) (c : Context) (n : Entities) (u : Use) (a : Target) (m : Meaning) (es : Exprs)
+    (rs : List JudgedActual) (r t : Typing) : Type 0 where
   pub actuals : List Typing
   pub given : Option EntityType
-  pub fitting : ActualsFit h c n r.type (types_found rs) (target_of h m) (formals_of m) es rs actuals
+  pub fitting : ActualsFit h c n r.type (judged_types rs) (target_of h m) (formals_of m) es rs actuals
   pub named : NameStands h c u a (length actuals) m given
   pub is : t ≡ typing given (r.is_separate || list_any (λ (b : Typing). b.is_separate) actuals)
 
 -- in an actual, at one, or at the name, which stands at this place
-pub data MeantFails (h : Here) (c : Context) (n : Entities) (u : Use) (a : Target) (m : Meaning) (p : Span) (es : Exprs) (r : Option EntityType) (q : Rule) (s : Span) : Type 0 where
+pub data MeantFails (h : RoutineContext) (c : Context) (n : Entities) (u : Use) (a : Target) (m : Meaning) (p : Span)
+    (es : Exprs) (r : Option EntityType) (q : Rule) (s : Span) : Type 0 where
   by_actuals : ActualsFail h c n r es (target_of h m) (formals_of m) es q s → MeantFails h c n u a m p es r q s
   by_name : NameFails h c u a m (count es) p q s → MeantFails h c n u a m p es r q s
 
-pub counted : {h : Here} {c : Context} {n : Entities} {es : Exprs} {ts : List Typing} → HasTypes h c n es ts → length ts ≡ count es
+pub counted : {h : RoutineContext} {c : Context} {n : Entities} {es : Exprs} {ts : List Typing} →
+    HasTypes h c n es ts → length ts ≡ count es
 counted none = refl
 counted (more d ds) = ap suc (counted ds)
 
-pub told_meant : {h : Here} {c : Context} {n : Entities} (u : Use) (a : Target) (m : Meaning) (p : Span) {es : Exprs} {rs : List Found} (r : Typing) →
+pub told_meant : {h : RoutineContext} {c : Context} {n : Entities} (u : Use) (a : Target) (m : Meaning) (p : Span)
+    {es : Exprs} {rs : List JudgedActual} (r : Typing) →
     AllTold h c n es rs →
-    Gave (Meant h c n u a m es rs r) (MeantFails h c n u a m p es r.type) (judge_meant h c u a m p rs r)
+    Gave (Meant h c n u a m es rs r) (MeantFails h c n u a m p es r.type) (judge_actuals_and_name h c u a m p rs r)
 told_meant {h} {c} {n} u a m p {es} {rs} r k =
     gave_then (λ ts. judge_name h c u a m (length ts) p >>= λ t. Ok (typing t (r.is_separate || list_any (λ (b : Typing). b.is_separate) ts)))
     (gave_more (λ q s f. by_actuals f) (told_actuals r.type k (target_of h m) (formals_of m) k))
@@ -379,65 +424,81 @@ told_meant {h} {c} {n} u a m p {es} {rs} r k =
 used_value : {o : Option (Option EntityType)} {t : Option EntityType} → UsedSo Value o t → o ≡ Some t
 used_value used_as_value = refl
 
-typed_call : (h : Here) (c : Context) (k : Spot) (n : Entities) (s : Span) (a : Target) (x : Name) (es : Exprs) (r : Typing) (ts : List Typing) (t : Option EntityType) (m : Meaning) →
+typed_call : (h : RoutineContext) (c : Context) (k : Position) (n : Entities) (s : Span) (a : Target) (x : Name)
+    (es : Exprs) (r : Typing) (ts : List Typing) (t : Option EntityType) (m : Meaning) →
     meaning_of h n a r.type x ≡ m → HasReceiver h c n a r → may_target r.type ≡ true → HasTypes h c n es ts →
-    fit h.system (target_of h m) (types ts) (formals_of m) (types ts) ≡ true → passes_values c r.type (types ts) ≡ true → NameStands h c Value a (length ts) m t →
+    formals_take h.system (target_of h m) (types ts) (formals_of m) (types ts) ≡ true →
+    passes_values c r.type (types ts) ≡ true → NameStands h c Value a (length ts) m t →
     HasType h c k n (Call s a x es) (typing t (r.is_separate || list_any (λ (b : Typing). b.is_separate) ts))
 typed_call h c k n s a x es r ts t m e v i d f p (stands_for l w y z) = call v i e d f p l (used_value w) y z
-typed_call h c k n s no_target x es r ts t m e implicit i d f p stands_unresolved = absurd (resolved_near h x.text (entity_named x.text n) e)
+typed_call h c k n s no_target x es r ts t m e implicit i d f p stands_unresolved =
+    absurd (resolved_near h x.text (entity_named x.text n) e)
 typed_call h c k n s (target a) x es r ts t m e v i d f p stands_unresolved = by_type r.type refl e
   where
-    by_type : (o : Option EntityType) → r.type ≡ o → meaning_of h n (target a) o x ≡ unresolved →
-        HasType h c k n (Call s (target a) x es) (typing None (r.is_separate || list_any (λ (b : Typing). b.is_separate) ts))
-    by_type None j e = unresolved_call v j d
+    by_type : (o : Option EntityType) → r.type ≡ o → meaning_of h n (target a) o x ≡ target_untyped →
+        HasType h c k n (Call s (target a) x es)
+        (typing None (r.is_separate || list_any (λ (b : Typing). b.is_separate) ts))
+    by_type None j e = untyped_target_call v j d
     by_type (Some u) j e = absurd (resolved_feature h.system u (feature_named h.system u.class x.text) e)
 
 -- where a rule fails in what is meant, it does in the call
-pub meant_call : {h : Here} {c : Context} {n : Entities} {u : Use} {a : Target} {x : Name} {es : Exprs} {r : Typing} (m : Meaning) →
+pub meant_call : {h : RoutineContext} {c : Context} {n : Entities} {u : Use} {a : Target} {x : Name} {es : Exprs}
+    {r : Typing} (m : Meaning) →
     meaning_of h n a r.type x ≡ m →
-    HasReceiver h c n a r → (P : Rule → Span → Type 0) → ((q : Rule) (p : Span) → CallFails h c n u a x es q p → P q p) →
+    HasReceiver h c n a r → (P : Rule → Span → Type 0) →
+    ((q : Rule) (p : Span) → CallFails h c n u a x es q p → P q p) →
     ((e : Expr) → IsActual e es → (q : Rule) (p : Span) → Fails h (expression c Source n e) q p → P q p) →
     (q : Rule) (p : Span) → MeantFails h c n u a m x.span es r.type q p → P q p
 meant_call m e v P f g q p (by_actuals (in_actual {e = d} i k)) = g d i q p k
 meant_call unknown e v P f g q p (by_actuals (mismatch k)) = elim (k) [ ]
-meant_call unresolved e v P f g q p (by_actuals (mismatch k)) = elim (k) [ ]
-meant_call (stands s) e v P f g q p (by_actuals (mismatch k)) = f q p (argument v e k)
+meant_call target_untyped e v P f g q p (by_actuals (mismatch k)) = elim (k) [ ]
+meant_call (named s) e v P f g q p (by_actuals (mismatch k)) = f q p (argument v e k)
 meant_call m e v P f g q p (by_actuals (passed_reference i j k d w)) = f q p (reference_in_precondition i v j k d w)
 meant_call {h} {c} {n} {u} {a} {x} {es} {r} m e v P f g q p (by_name (i, k)) =
     subst (P q) (sym i) (f q x.span (at_name v (subst (λ m. AtName h c a u m (count es) q) (sym e) k)))
 
-told_call : {h : Here} {c : Context} {n : Entities} (k : Spot) (s : Span) (a : Target) (x : Name) (es : Exprs) (r : Typing) → HasReceiver h c n a r →
+told_call : {h : RoutineContext} {c : Context} {n : Entities} (k : Position) (s : Span) (a : Target) (x : Name)
+    (es : Exprs) (r : Typing) → HasReceiver h c n a r →
     may_target r.type ≡ true →
-    AllTold h c n es (found h c n es) → Told h c k n (Call s a x es) (judge_called h c n Value a x (found h c n es) r)
+    AllTold h c n es (judged_actuals h c n es) → Told h c k n (Call s a x es)
+    (judge_called h c n Value a x (judged_actuals h c n es) r)
 told_call {h} {c} {n} k s a x es r v i t =
     gave_more (meant_call (meaning_of h n a r.type x) refl v (Fails h (expression c k n (Call s a x es))) (λ q p f. here (in_call f)) (λ e i q p f. up (actual_part i) q p f))
     (gave_map (λ w m. of_meant w m) (told_meant Value a (meaning_of h n a r.type x) x.span r t))
   where
-    of_meant : (w : Typing) → Meant h c n Value a (meaning_of h n a r.type x) es (found h c n es) r w → HasType h c k n (Call s a x es) w
+    of_meant : (w : Typing) → Meant h c n Value a (meaning_of h n a r.type x) es (judged_actuals h c n es) r w →
+        HasType h c k n (Call s a x es) w
     of_meant w m = subst (HasType h c k n (Call s a x es)) (sym m.is)
         (typed_call h c k n s a x es r m.actuals m.given (meaning_of h n a r.type x) refl v i m.fitting.typed_all
-        (subst (λ ts. fit h.system (target_of h (meaning_of h n a r.type x)) ts (formals_of (meaning_of h n a r.type x)) (types m.actuals) ≡ true) (types_ok m.fitting.found_all) m.fitting.fits)
+        (subst (λ ts. formals_take h.system (target_of h (meaning_of h n a r.type x)) ts (formals_of (meaning_of h n a r.type x)) (types m.actuals) ≡ true) (types_ok m.fitting.found_all) m.fitting.fits)
         m.fitting.passes m.named)
 
-receiver_fails : {h : Here} {c : Context} {n : Entities} {k : Spot} {s : Span} (a : Target) (x : Name) (es : Exprs) (r : Rule) (p : Span) →
+receiver_fails : {h : RoutineContext} {c : Context} {n : Entities} {k : Position} {s : Span} (a : Target) (x : Name)
+    (es : Exprs) (r : Rule) (p : Span) →
     TargetFails h c n a r p →
     Fails h (expression c k n (Call s a x es)) r p
 receiver_fails no_target x es r p f = elim (f) [ ]
 receiver_fails (target a) x es r p (in_target f) = up target_part r p f
 receiver_fails (target a) x es r p (at_target f) = here (in_call (f Value x es))
 
-told_result : (h : Here) (c : Context) (k : Spot) (n : Entities) (p : Span) (o : Option (Option EntityType)) → h.result ≡ o →
+told_result : (h : RoutineContext) (c : Context) (k : Position) (n : Entities) (p : Span)
+    (o : Option (Option EntityType)) → h.result ≡ o →
     Told h c k n (plain.Result p) (judge_result p o >>= λ t. Ok (typing t false))
 told_result h c k n p None e = refuses (here (no_result e))
 told_result h c k n p (Some t) e = gave (result e)
 
-test_type_fails : (h : Here) (c : Context) (k : Spot) (n : Entities) (s : Span) (d : Option DeclaredType) (a : Expr) (x : Name) (r : Rule) (p : Span) →
-    ((t : DeclaredType) × (d ≡ Some t) × TypeFails h.system h.formals t r p) → Fails h (expression c k n (ObjectTest s d a x)) r p
-test_type_fails h c k n s d a x r p (t, e, f) = subst (λ d. Fails h (expression c k n (ObjectTest s d a x)) r p) (sym e) (here (tested_type f))
+test_type_fails : (h : RoutineContext) (c : Context) (k : Position) (n : Entities) (s : Span) (d : Option DeclaredType)
+    (a : Expr) (x : Name) (r : Rule) (p : Span) →
+    ((t : DeclaredType) × (d ≡ Some t) × TypeFails h.system h.formals t r p) →
+    Fails h (expression c k n (ObjectTest s d a x)) r p
+test_type_fails h c k n s d a x r p (t, e, f) = subst (λ d. Fails h (expression c k n (ObjectTest s d a x)) r p)
+    (sym e) (here (tested_type f))
 
-told_placed : (h : Here) (c : Context) (k : Spot) (n : Entities) (s : Span) (d : Option DeclaredType) (a : Expr) (x : Name) (t : Typing) →
+told_placed : (h : RoutineContext) (c : Context) (k : Position) (n : Entities) (s : Span) (d : Option DeclaredType)
+    (a : Expr) (x : Name) (t : Typing) →
     is_testable h d ≡ true →
-    HasType h c Plain n a t → Told h c k n (ObjectTest s d a x) (required (is_condition k) ObjectTestPlace s >>= λ u. Ok (typing (Some boolean) t.is_separate))
+    HasType h c Plain n a t → Told h c k n (ObjectTest s d a x)
+    (required (is_condition k) ObjectTestPlace s >>= λ u. Ok (typing (Some boolean) t.is_separate))
 told_placed h c spot.Condition n s d a x t i e = gave (test i e)
 told_placed h c spot.Plain n s d a x t i e = refuses (here (misplaced_test refl))
 told_placed h c spot.Source n s d a x t i e = refuses (here (misplaced_test refl))
@@ -445,34 +506,38 @@ told_placed h c spot.Source n s d a x t i e = refuses (here (misplaced_test refl
 mutual
   unfolding judge
 
-  pub told : (h : Here) (c : Context) (k : Spot) (n : Entities) (e : Expr) → Told h c k n e (judge h c k n e)
+  pub told : (h : RoutineContext) (c : Context) (k : Position) (n : Entities) (e : Expr) →
+      Told h c k n e (judge h c k n e)
   told h c k n (Integer p v) = gave number
   told h c k n (Boolean p v) = gave truth
-  told h c k n (Void p) = gave_then (λ u. Ok (plainly conformance.void)) (gave_required (Fails h (expression c k n (Void p))) (takes_void k) VoidUse p (λ e. here (void_use e))) (λ u e. gave (void e))
+  told h c k n (Void p) = gave_then (λ u. Ok (simple_typing conformance.void))
+      (gave_required (Fails h (expression c k n (Void p))) (takes_void k) VoidUse p (λ e. here (void_use e)))
+      (λ u e. gave (void e))
   told h c k n (Current p) = gave current_object
   told h c k n (plain.Result p) = told_result h c k n p h.result refl
   told h c k n (Call p a x es) =
-      gave_then (λ r. judge_called h c n Value a x (found h c n es) r) (gave_more (λ q s f. receiver_fails a x es q s f) (told_receiver h c n a))
+      gave_then (λ r. judge_called h c n Value a x (judged_actuals h c n es) r)
+      (gave_more (λ q s f. receiver_fails a x es q s f) (told_receiver h c n a))
       (λ r v. told_call k p a x es r v.0 v.1 (told_found h c n es))
   told h c k n (Unary p op a) =
-      gave_then (λ t. required (old_stands c op t) OldPlace p >>= λ u. operated p t.is_separate (unary_result op t.type)) (gave_more (up operand_part) (told h (under op c) Plain n a))
-      (λ t d. gave_then (λ u. operated p t.is_separate (unary_result op t.type))
+      gave_then (λ t. required (old_stands c op t) OldPlace p >>= λ u. judge_operation p t.is_separate (unary_result op t.type)) (gave_more (up operand_part) (told h (operand_context op c) Plain n a))
+      (λ t d. gave_then (λ u. judge_operation p t.is_separate (unary_result op t.type))
       (gave_required (Fails h (expression c k n (Unary p op a))) (old_stands c op t) OldPlace p
       (λ e. here (old_fails h c k n p op a t.type (is_old op) (is_ensure c) t.is_separate refl refl d e)))
       (λ u o. operated_told p t.is_separate (unary_result op t.type) (λ e. here (operand d e)) (λ r e. unary d o e)))
   told h c k n (Binary p op a b) =
-      gave_if (joins k op) _ _
-      (λ j. gave_then (λ t. judge_given h c n a >>= λ m. judge h c Condition m b >>= λ u. operated p (t.is_separate || u.is_separate) (binary_result op t.type u.type))
+      gave_if (shares_names k op) _ _
+      (λ j. gave_then (λ t. judge_given h c n a >>= λ m. judge h c Condition m b >>= λ u. judge_operation p (t.is_separate || u.is_separate) (binary_result op t.type u.type))
       (gave_more (up (joined_left_part j)) (told h c Condition n a))
-      (λ t d. gave_then (λ m. judge h c Condition m b >>= λ u. operated p (t.is_separate || u.is_separate) (binary_result op t.type u.type))
+      (λ t d. gave_then (λ m. judge h c Condition m b >>= λ u. judge_operation p (t.is_separate || u.is_separate) (binary_result op t.type u.type))
       (gave_more (up (joined_left_part j)) (told_given h c n a))
-      (λ m g. gave_then (λ u. operated p (t.is_separate || u.is_separate) (binary_result op t.type u.type))
+      (λ m g. gave_then (λ u. judge_operation p (t.is_separate || u.is_separate) (binary_result op t.type u.type))
       (gave_more (up (joined_right_part j g)) (told h c Condition m b))
       (λ u e. operated_told p (t.is_separate || u.is_separate) (binary_result op t.type u.type) (λ i. here (joined_operands j d g e i)) (λ r i. and_then j d g e i)))))
-      (λ j. gave_then (λ t. judge h c (beside op) n b >>= λ u. operated p (t.is_separate || u.is_separate) (binary_result op t.type u.type))
-      (gave_more (up (left_part j)) (told h c (beside op) n a))
-      (λ t d. gave_then (λ u. operated p (t.is_separate || u.is_separate) (binary_result op t.type u.type))
-      (gave_more (up (right_part j)) (told h c (beside op) n b))
+      (λ j. gave_then (λ t. judge h c (operand_position op) n b >>= λ u. judge_operation p (t.is_separate || u.is_separate) (binary_result op t.type u.type))
+      (gave_more (up (left_part j)) (told h c (operand_position op) n a))
+      (λ t d. gave_then (λ u. judge_operation p (t.is_separate || u.is_separate) (binary_result op t.type u.type))
+      (gave_more (up (right_part j)) (told h c (operand_position op) n b))
       (λ u e. operated_told p (t.is_separate || u.is_separate) (binary_result op t.type u.type) (λ i. here (operands j d e i)) (λ r i. binary j d e i))))
   told h c k n (ObjectTest p d a x) =
       gave_then (λ u. judge h c Plain n a >>= λ t. required (is_condition k) ObjectTestPlace p >>= λ u. Ok (typing (Some boolean) t.is_separate))
@@ -481,7 +546,7 @@ mutual
       (gave_more (up tested_part) (told h c Plain n a))
       (λ t e. told_placed h c k n p d a x t i e))
 
-  pub told_receiver : (h : Here) (c : Context) (n : Entities) (a : Target) →
+  pub told_receiver : (h : RoutineContext) (c : Context) (n : Entities) (a : Target) →
       Gave (λ r. HasReceiver h c n a r × (may_target r.type ≡ true)) (TargetFails h c n a) (judge_receiver h c n a)
   told_receiver h c n no_target = gave (implicit, refl)
   told_receiver h c n (target a) =
@@ -489,11 +554,13 @@ mutual
       (gave_more (λ q s f. in_target f) (told h c Plain n a))
       (λ t d. gave_then (λ u. Ok (typing t.type (t.is_separate || is_foreign_type t.type))) (target_told h c n a t.type t.is_separate d) (λ u i. gave (explicit d, i)))
 
-  pub told_found : (h : Here) (c : Context) (n : Entities) (es : Exprs) → AllTold h c n es (found h c n es)
+  pub told_found : (h : RoutineContext) (c : Context) (n : Entities) (es : Exprs) →
+      AllTold h c n es (judged_actuals h c n es)
   told_found h c n no_exprs = told_none
   told_found h c n (expr_then e es) = told_more (told h c Source n e) (told_found h c n es)
 
-  pub told_given : (h : Here) (c : Context) (n : Entities) (e : Expr) → Gave (Gives h c n e) (Fails h (expression c Condition n e)) (judge_given h c n e)
+  pub told_given : (h : RoutineContext) (c : Context) (n : Entities) (e : Expr) →
+      Gave (Gives h c n e) (Fails h (expression c Condition n e)) (judge_given h c n e)
   told_given h c n (ObjectTest p d a x) = gave_then (λ t. Ok (n ++ entity x.text (test_type h d t.type) role.Test ∷ [])) (gave_more (up tested_part) (told h c Plain n a)) (λ t e. gave (by_test e))
   told_given h c n (Binary p op a b) =
       gave_if (is_and_then op) _ _

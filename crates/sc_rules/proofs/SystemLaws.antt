@@ -16,11 +16,13 @@ use Rattle.sc_rules.proofs.SystemSound.{InSystem, tells_system}
 use Rattle.sc_rules.proofs.PurityLaws.{purity_is_one}
 
 -- where a rule fails, the system is refused, by whatever test tells the pure functions
-pub fails_refused : {s : System} {r : Rule} {p : Span} → SystemFails s r p → (pure : RoutineName → Bool) → IsPurity s pure → Refused (judge_system s pure)
+pub fails_refused : {s : System} {r : Rule} {p : Span} → SystemFails s r p → (pure : RoutineName → Bool) →
+    IsPurity s pure → Refused (judge_system s pure)
 fails_refused {s} {r} {p} (in_class {pure = other} {k} {c} j g f) pure i =
     system_refused s pure k c r p g (subst (λ test. ClassFails s test k c r p) (purity_is_one s other pure j i) f)
 
-pub well_formed : (s : System) (pure : RoutineName → Bool) → judge_system s pure ≡ Ok tt → IsPurity s pure → WellFormed s
+pub well_formed : (s : System) (pure : RoutineName → Bool) → judge_system s pure ≡ Ok tt → IsPurity s pure →
+    WellFormed s
 well_formed s pure e i r p f = subst Refused e (fails_refused f pure i)
 
 same_fault : (j : Judged (Unit {0})) (g f : Fault) → j ≡ Err g → j ≡ Err f → g ≡ f
@@ -30,17 +32,20 @@ told_fault : (P : Rule → Span → Type 0) (f : Fault) (j : Judged (Unit {0})) 
 told_fault P f j e passes = cc
 told_fault P f j e (tells {f = g} t) = subst (λ (f : Fault). P f.rule f.span) (same_fault (Err g) g f refl e) t
 
-pub ill_formed : (s : System) (pure : RoutineName → Bool) (f : Fault) → judge_system s pure ≡ Err f → IsPurity s pure → SystemFails s f.rule f.span
+pub ill_formed : (s : System) (pure : RoutineName → Bool) (f : Fault) → judge_system s pure ≡ Err f → IsPurity s pure →
+    SystemFails s f.rule f.span
 ill_formed s pure f e i = in_its_class (told_fault (InSystem s pure) f (judge_system s pure) e (tells_system s pure))
   where
     in_its_class : InSystem s pure f.rule f.span → SystemFails s f.rule f.span
     in_its_class t = in_class i t.is_there t.fails
 
 -- which of the two the judging tells
-decided : (s : System) (pure : RoutineName → Bool) → IsPurity s pure → (j : Judged (Unit {0})) → judge_system s pure ≡ j →
+decided : (s : System) (pure : RoutineName → Bool) → IsPurity s pure → (j : Judged (Unit {0})) →
+    judge_system s pure ≡ j →
     WellFormed s ⊎ ((r : Rule) × (p : Span) × SystemFails s r p)
 decided s pure i (Ok tt) e = inl (well_formed s pure e i)
 decided s pure i (Err f) e = inr (f.rule, f.span, ill_formed s pure f e i)
 
-pub well_formed_or_fault : (s : System) (pure : RoutineName → Bool) → IsPurity s pure → WellFormed s ⊎ ((r : Rule) × (p : Span) × SystemFails s r p)
+pub well_formed_or_fault : (s : System) (pure : RoutineName → Bool) → IsPurity s pure →
+    WellFormed s ⊎ ((r : Rule) × (p : Span) × SystemFails s r p)
 well_formed_or_fault s pure i = decided s pure i (judge_system s pure) refl

@@ -1,15 +1,17 @@
--- Judging classes and systems, as functions: the first rule that fails, in the order of the walk.
-use Rattle.std.specs.Prelude.{◌+◌, ℕ, Bool, true, false, not, ◌&&◌, ◌==◌, if◌then◌else◌, List, [], ◌∷◌, ◌++◌, Option, Some, None, Ok, Err}
+-- Judging classes and systems, as functions like those of `Judging`: the first rule that fails, in the order of the
+-- walk.
+use Rattle.std.specs.Prelude.{◌+◌, ℕ, Bool, true, false, not, ◌&&◌, ◌==◌, if◌then◌else◌, List, [], ◌∷◌, Option, Some, None, Ok, Err}
 use Rattle.sc_text.specs.declared.token.Span.{Span}
-use Rattle.sc_tree.specs.Plain.{System, Class, Feature, FeatureKind, Attribute, Routine, Declaration, DeclaredType, Clause, Name}
+use Rattle.sc_tree.specs.Plain.{System, Class, Feature, FeatureKind, RoutineDeclaration, Attribute, Routine, Declaration, DeclaredType, Clause, Name}
 use Rattle.sc_class.specs.declared.identity.ClassId.TheVariants as class
-use Rattle.sc_class.specs.Features.{DeclaredFeature, feature_named}
+use Rattle.sc_class.specs.Tables.Features.{DeclaredFeature, feature_named}
 use Rattle.sc_rules.specs.declared.rule.Rule.{Rule}
 use Rattle.sc_rules.specs.declared.rule.Rule.TheVariants as rule
 use Rattle.sc_rules.specs.declared.rule.Rule.TheVariants.{UnknownName, ResultType, InvariantForm}
+use Rattle.sc_rules.specs.declared.position.Context.{Context}
 use Rattle.sc_rules.specs.declared.position.Context.TheVariants as context
-use Rattle.sc_rules.specs.Names.{RoutineName, here_of, formals_known, locals_known}
-use Rattle.sc_rules.specs.SystemRules.{here_in_class, is_formula, clause_span, is_query}
+use Rattle.sc_rules.specs.Names.{RoutineName, context_of, formals_known, known_in_body}
+use Rattle.sc_rules.specs.SystemRules.{invariant_context, is_formula, clause_span, is_query}
 use Rattle.sc_rules.specs.Judging.{Judged, ◌>>=◌, fault, required, judge_each, judge_type}
 use Rattle.sc_rules.specs.JudgingText.{judge_clause, judge_instrs}
 
@@ -21,16 +23,22 @@ abbrev pub judge_result_type : System → Option DeclaredType → Judged (Unit {
 judge_result_type s None = Ok tt
 judge_result_type s (Some d) = judge_type s [] d
 
+-- clauses of a routine's contract, which knows its formals
+abbrev pub judge_clauses : System → (RoutineName → Bool) → ℕ → RoutineDeclaration → Context → List Clause →
+    Judged (Unit {0})
+judge_clauses s pure k routine c =
+    judge_each (judge_clause (context_of s pure k routine) c (formals_known s routine.formals))
+
 -- a feature of the class at the number: its types, precondition, locals, body and postcondition
 abbrev pub judge_feature : System → (RoutineName → Bool) → ℕ → FeatureKind → Judged (Unit {0})
 judge_feature s pure k (Attribute d) = judge_type s [] d
-judge_feature s pure k (Routine formals result pre locals is post) = do
-  _ ← judge_declarations s formals formals
-  _ ← judge_result_type s result
-  _ ← judge_each (judge_clause (here_of s pure k formals result) context.Require (formals_known s formals)) pre
-  _ ← judge_declarations s formals locals
-  _ ← judge_instrs (here_of s pure k formals result) (formals_known s formals ++ locals_known s formals locals) is
-  judge_each (judge_clause (here_of s pure k formals result) context.Ensure (formals_known s formals)) post
+judge_feature s pure k (Routine routine) = do
+  _ ← judge_declarations s routine.formals routine.formals
+  _ ← judge_result_type s routine.result_type
+  _ ← judge_clauses s pure k routine context.Require routine.precondition
+  _ ← judge_declarations s routine.formals routine.locals
+  _ ← judge_instrs (context_of s pure k routine) (known_in_body s routine) routine.body
+  judge_clauses s pure k routine context.Ensure routine.postcondition
 
 -- the rules that stand behind the one on the form of an invariant's clause, where several fail at one place
 abbrev pub is_late : Rule → Bool
@@ -46,14 +54,16 @@ abbrev pub is_same_span : Span → Span → Bool
 is_same_span p q = p.start == q.start && p.end == q.end
 
 -- the form of a clause is judged after its expression, but before a later rule that fails at the same place
-abbrev pub formed : Bool → Span → Judged (Unit {0}) → Judged (Unit {0})
-formed b p (Ok u) = required b InvariantForm p
-formed b p (Err f) = if not b && (is_same_span f.span p && is_late f.rule) then Err (fault InvariantForm p) else Err f
+abbrev pub judge_form : Bool → Span → Judged (Unit {0}) → Judged (Unit {0})
+judge_form b p (Ok u) = required b InvariantForm p
+judge_form b p (Err f) =
+    if not b && (is_same_span f.span p && is_late f.rule) then Err (fault InvariantForm p) else Err f
 
 -- a clause of the invariant of the class at the number
 abbrev pub judge_invariant : System → (RoutineName → Bool) → ℕ → Clause → Judged (Unit {0})
 judge_invariant s pure k c =
-    formed (is_formula s k c.condition) (clause_span c.tag c.condition) (judge_clause (here_in_class s pure k) context.Invariant [] c)
+    judge_form (is_formula s k c.condition) (clause_span c.tag c.condition)
+    (judge_clause (invariant_context s pure k) context.Invariant [] c)
 
 abbrev pub judge_listed : Span → Option DeclaredFeature → Judged (Unit {0})
 judge_listed p None = Err (fault UnknownName p)

@@ -17,3 +17,5 @@ pub mod SystemLaws
 pub mod InstructionLaws
 pub mod Versions
 pub mod TextLaws
+pub mod ScopeLaws
+pub mod PurityLaws

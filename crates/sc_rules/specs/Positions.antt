@@ -9,8 +9,8 @@ use Rattle.sc_tree.specs.Plain as plain
 use Rattle.sc_tree.specs.Plain.{Expr, Call, Unary, Binary, ObjectTest}
 use Rattle.sc_rules.specs.declared.position.Context.{Context}
 use Rattle.sc_rules.specs.declared.position.Context.TheVariants as context
-use Rattle.sc_rules.specs.declared.position.Spot.{Spot}
-use Rattle.sc_rules.specs.declared.position.Spot.TheVariants as spot
+use Rattle.sc_rules.specs.declared.position.Position.{Position}
+use Rattle.sc_rules.specs.declared.position.Position.TheVariants as spot
 
 -- where the text of an expression stands
 abbrev pub span_of : Expr → Span
@@ -39,12 +39,12 @@ is_equality binary.Equal = true
 is_equality binary.NotEqual = true
 is_equality _ = false
 
-abbrev pub is_condition : Spot → Bool
+abbrev pub is_condition : Position → Bool
 is_condition spot.Condition = true
 is_condition spot.Plain = false
 is_condition spot.Source = false
 
-abbrev pub takes_void : Spot → Bool
+abbrev pub takes_void : Position → Bool
 takes_void spot.Source = true
 takes_void spot.Plain = false
 takes_void spot.Condition = false
@@ -67,23 +67,23 @@ is_ensure context.Ensure = true
 is_ensure _ = false
 
 -- where the operand of a unary operator stands
-abbrev pub under : UnaryOperator → Context → Context
-under unary.Old c = context.Old
-under unary.Not c = c
-under unary.Plus c = c
-under unary.Minus c = c
+abbrev pub operand_context : UnaryOperator → Context → Context
+operand_context unary.Old c = context.Old
+operand_context unary.Not c = c
+operand_context unary.Plus c = c
+operand_context unary.Minus c = c
 
 -- where the operands of a binary operator stand
-abbrev pub beside : BinaryOperator → Spot
-beside binary.Equal = spot.Source
-beside binary.NotEqual = spot.Source
-beside _ = spot.Plain
+abbrev pub operand_position : BinaryOperator → Position
+operand_position binary.Equal = spot.Source
+operand_position binary.NotEqual = spot.Source
+operand_position _ = spot.Plain
 
 -- the `and then` of a condition, whose right operand knows the names of the object tests in its left one
-abbrev pub joins : Spot → BinaryOperator → Bool
-joins spot.Condition op = is_and_then op
-joins spot.Plain op = false
-joins spot.Source op = false
+abbrev pub shares_names : Position → BinaryOperator → Bool
+shares_names spot.Condition op = is_and_then op
+shares_names spot.Plain op = false
+shares_names spot.Source op = false
 
 -- The condition may give names: it is an object test, or an `and then`.
 abbrev pub may_give : Expr → Bool

@@ -1,4 +1,4 @@
--- The words that a rule is told by.
+-- The codes and the names of the rules.
 use Rattle.std.specs.Prelude.{ℕ, List, codes}
 use Rattle.sc_rules.specs.declared.rule.Rule.{Rule}
 use Rattle.sc_rules.specs.declared.rule.Rule.TheVariants.{UnknownName, WrongArity, ArgumentType, AssignType, TargetDetachable, TargetUncontrolled, ResultType, NotBoolean, OperatorType, NotAssignable, NotCreation, CreationTag, TagName, InvariantForm, ImpureContract, PreconditionArgument, NotExported, ObjectTestPlace, OldPlace, VoidUse}

@@ -1,41 +1,45 @@
 -- Laws of well-formed systems, on which proofs about their runs stand.
-use Rattle.std.specs.Prelude.{◌≡◌, ℕ, Bool, true, false, List, [], ◌++◌, length, Option, Some, is_some, Contains, slice_get}
+use Rattle.std.specs.Prelude.{◌≡◌, ℕ, Bool, true, false, List, [], length, Some, is_some, Contains, slice_get}
 use Rattle.sc_text.specs.declared.token.Span.{Span}
-use Rattle.sc_tree.specs.Plain.{System, Class, Feature, Routine, Declaration, DeclaredType, Clause, Name, Variable, CreationCall, Expr, Call, Target, target, Exprs, Assign, CallRoutine, Create, Instrs}
+use Rattle.sc_tree.specs.Plain.{System, Class, Feature, RoutineDeclaration, Routine, Clause, Name, Variable, CreationCall, Creation, Expr, Call, Target, target, Exprs, Assign, CallRoutine, Create}
 use Rattle.sc_proctype.specs.declared.entity_type.EntityType.{EntityType}
 use Rattle.sc_proctype.specs.Conformance.{conforms}
 use Rattle.sc_combine.specs.declared.known.Known.{Known}
 use Rattle.sc_combine.specs.Combiners.{combined_argument}
 use Rattle.sc_rules.specs.declared.position.Context.{Context}
 use Rattle.sc_rules.specs.declared.position.Context.TheVariants as context
-use Rattle.sc_rules.specs.declared.position.Spot.{Spot}
-use Rattle.sc_rules.specs.declared.position.Spot.TheVariants.{Plain, Source}
+use Rattle.sc_rules.specs.declared.position.Position.{Position}
+use Rattle.sc_rules.specs.declared.position.Position.TheVariants.{Plain, Source}
 use Rattle.sc_rules.specs.declared.position.Use.{Use}
 use Rattle.sc_rules.specs.declared.position.Use.TheVariants.{Value, Instruction}
 use Rattle.sc_rules.specs.Types.{is_controlled}
-use Rattle.sc_rules.specs.Names.{RoutineName, Here, here_of, Entities, formals_known, locals_known, of_type, Signature, stands, meaning_of, far, assigned, assigned_type}
+use Rattle.sc_rules.specs.Names.{RoutineName, RoutineContext, context_of, Entities, formals_known, known_in_body, of_type, Signature, named, meaning_of, qualified_meaning, assignee, assignee_type}
 use Rattle.sc_rules.specs.Typing.{Typing, typing, may_call, is_exported_to, HasType, HasReceiver}
 use Rattle.sc_rules.specs.Sites.{Site, expression, instruction, instructions, Within}
 use Rattle.sc_rules.specs.Purity.{IsPurity, IsCall}
 use Rattle.sc_rules.specs.CallRules.{count, ActualAt, IsKnown}
-use Rattle.sc_rules.specs.SystemRules.{here_in_class, WellFormed}
+use Rattle.sc_rules.specs.SystemRules.{invariant_context, WellFormed}
 
 -- A body, or a clause of a contract or an invariant, of the system, and what it is judged by.
-pub data IsText (s : System) (pure : RoutineName → Bool) : Here → Site → Type 0 where
-  body : {k : ℕ} {c : Class} {f : Feature} {formals locals : List Declaration} {result : Option DeclaredType} {pre post : List Clause} {is : Instrs} →
-      slice_get s.classes k ≡ Some c → Contains c.features f → f.kind ≡ Routine formals result pre locals is post →
-      IsText s pure (here_of s pure k formals result) (instructions (formals_known s formals ++ locals_known s formals locals) is)
-  precondition : {k : ℕ} {c : Class} {f : Feature} {formals locals : List Declaration} {result : Option DeclaredType} {pre post : List Clause} {is : Instrs} {q : Clause} →
-      slice_get s.classes k ≡ Some c → Contains c.features f → f.kind ≡ Routine formals result pre locals is post → Contains pre q →
-      IsText s pure (here_of s pure k formals result) (expression context.Require Plain (formals_known s formals) q.condition)
-  postcondition : {k : ℕ} {c : Class} {f : Feature} {formals locals : List Declaration} {result : Option DeclaredType} {pre post : List Clause} {is : Instrs} {q : Clause} →
-      slice_get s.classes k ≡ Some c → Contains c.features f → f.kind ≡ Routine formals result pre locals is post → Contains post q →
-      IsText s pure (here_of s pure k formals result) (expression context.Ensure Plain (formals_known s formals) q.condition)
+pub data IsText (s : System) (pure : RoutineName → Bool) : RoutineContext → Site → Type 0 where
+  body : {k : ℕ} {c : Class} {f : Feature} {routine : RoutineDeclaration} →
+      slice_get s.classes k ≡ Some c → Contains c.features f → f.kind ≡ Routine routine →
+      IsText s pure (context_of s pure k routine) (instructions (known_in_body s routine) routine.body)
+  precondition : {k : ℕ} {c : Class} {f : Feature} {routine : RoutineDeclaration} {q : Clause} →
+      slice_get s.classes k ≡ Some c → Contains c.features f → f.kind ≡ Routine routine →
+      Contains routine.precondition q →
+      IsText s pure (context_of s pure k routine)
+      (expression context.Require Plain (formals_known s routine.formals) q.condition)
+  postcondition : {k : ℕ} {c : Class} {f : Feature} {routine : RoutineDeclaration} {q : Clause} →
+      slice_get s.classes k ≡ Some c → Contains c.features f → f.kind ≡ Routine routine →
+      Contains routine.postcondition q →
+      IsText s pure (context_of s pure k routine)
+      (expression context.Ensure Plain (formals_known s routine.formals) q.condition)
   invariant : {k : ℕ} {c : Class} {q : Clause} → slice_get s.classes k ≡ Some c → Contains c.invariant q →
-      IsText s pure (here_in_class s pure k) (expression context.Invariant Plain [] q.condition)
+      IsText s pure (invariant_context s pure k) (expression context.Invariant Plain [] q.condition)
 
 -- The site stands in the text of the system.
-pub data Stands (s : System) (pure : RoutineName → Bool) (h : Here) (b : Site) : Type 0 where
+pub data Stands (s : System) (pure : RoutineName → Bool) (h : RoutineContext) (b : Site) : Type 0 where
   stands_in : {a : Site} → IsText s pure h a → Within h a b → Stands s pure h b
 
 -- the law of each well-formed system, with the test that tells its pure functions
@@ -44,17 +48,19 @@ WhereWellFormed law = (s : System) (pure : RoutineName → Bool) → WellFormed 
 
 -- Each expression has a type.
 abbrev pub EachIsTyped : Type 0
-EachIsTyped = WhereWellFormed λ s pure. (h : Here) (c : Context) (k : Spot) (n : Entities) (e : Expr) → Stands s pure h (expression c k n e) →
+EachIsTyped = WhereWellFormed λ s pure. (h : RoutineContext) (c : Context) (k : Position) (n : Entities) (e : Expr) →
+    Stands s pure h (expression c k n e) →
     (t : EntityType) × (b : Bool) × HasType h c k n e (typing (Some t) b)
 
 -- The target of each call is controlled.
 abbrev pub TargetsAreControlled : Type 0
-TargetsAreControlled = WhereWellFormed λ s pure. (h : Here) (b : Site) (c : Context) (n : Entities) (a : Expr) (x : Name) → Stands s pure h b → IsCall b c n (target a) x →
+TargetsAreControlled = WhereWellFormed λ s pure. (h : RoutineContext) (b : Site) (c : Context) (n : Entities)
+    (a : Expr) (x : Name) → Stands s pure h b → IsCall b c n (target a) x →
     (t : EntityType) (is_separate : Bool) → HasType h c Plain n a (typing (Some t) is_separate) → is_controlled t ≡ true
 
 -- A call stands there, used so, of this name on this target with these actuals.
 pub data CallsWith : Site → Use → Context → Entities → Target → Name → Exprs → Type 0 where
-  as_value : {c : Context} {k : Spot} {n : Entities} {s : Span} {a : Target} {x : Name} {es : Exprs} →
+  as_value : {c : Context} {k : Position} {n : Entities} {s : Span} {a : Target} {x : Name} {es : Exprs} →
       CallsWith (expression c k n (Call s a x es)) Value c n a x es
   as_instruction : {n : Entities} {s : Span} {a : Target} {x : Name} {es : Exprs} →
       CallsWith (instruction n (CallRoutine s a x es)) Instruction context.Body n a x es
@@ -63,8 +69,10 @@ abbrev pub is_value_use : Use → Bool
 is_value_use Value = true
 is_value_use Instruction = false
 
--- The feature may be called there: with so many actuals, as what it is, where its target may, and as a pure function where one is asked for.
-pub record MayBeCalled (h : Here) (c : Context) (u : Use) (a : Target) (es : Exprs) (g : Signature) : Type 0 where
+-- The feature may be called there: with so many actuals, as what it is, where its target may, and as a pure function
+-- where one is asked for.
+pub record MayBeCalled (h : RoutineContext) (c : Context) (u : Use) (a : Target) (es : Exprs)
+    (g : Signature) : Type 0 where
   pub as_many_actuals : count es ≡ length g.formals
   pub used_as_it_is : is_some g.gives ≡ is_value_use u
   pub is_exported : is_exported_to a g ≡ true
@@ -72,26 +80,37 @@ pub record MayBeCalled (h : Here) (c : Context) (u : Use) (a : Target) (es : Exp
 
 -- Each call has a target, and its name stands for a feature that may be called there.
 abbrev pub CallsStand : Type 0
-CallsStand = WhereWellFormed λ s pure. (h : Here) (b : Site) (u : Use) (c : Context) (n : Entities) (a : Target) (x : Name) (es : Exprs) → Stands s pure h b →
-    CallsWith b u c n a x es → (r : Typing) × (g : Signature) × HasReceiver h c n a r × (meaning_of h n a r.type x ≡ stands g) × MayBeCalled h c u a es g
+CallsStand = WhereWellFormed λ s pure. (h : RoutineContext) (b : Site) (u : Use) (c : Context) (n : Entities)
+    (a : Target) (x : Name) (es : Exprs) → Stands s pure h b →
+    CallsWith b u c n a x es → (r : Typing) × (g : Signature) × HasReceiver h c n a r ×
+    (meaning_of h n a r.type x ≡ named g) × MayBeCalled h c u a es g
 
 -- Each actual conforms to its combined formal.
-abbrev pub Conform : Here → Context → Entities → Exprs → Signature → Type 0
+abbrev pub Conform : RoutineContext → Context → Entities → Exprs → Signature → Type 0
 Conform h c n es g =
-    (i : ℕ) (e : Expr) (f a : EntityType) (is_separate : Bool) (ks : List Known) → ActualAt e es i → slice_get g.formals i ≡ Some (of_type f) →
-    HasType h c Source n e (typing (Some a) is_separate) → IsKnown h c n es f ks → conforms h.system a (combined_argument g.target f ks) ≡ true
+    (i : ℕ) (e : Expr) (f a : EntityType) (is_separate : Bool) (ks : List Known) → ActualAt e es i →
+    slice_get g.formals i ≡ Some (of_type f) →
+    HasType h c Source n e (typing (Some a) is_separate) → IsKnown h c n es f ks →
+    conforms h.system a (combined_argument g.target f ks) ≡ true
 
 -- The actuals of each call do.
 abbrev pub ActualsConform : Type 0
-ActualsConform = WhereWellFormed λ s pure. (h : Here) (b : Site) (u : Use) (c : Context) (n : Entities) (a : Target) (x : Name) (es : Exprs) → Stands s pure h b →
-    CallsWith b u c n a x es → (r : Typing) (g : Signature) → HasReceiver h c n a r → meaning_of h n a r.type x ≡ stands g → Conform h c n es g
+ActualsConform = WhereWellFormed λ s pure. (h : RoutineContext) (b : Site) (u : Use) (c : Context) (n : Entities)
+    (a : Target) (x : Name) (es : Exprs) → Stands s pure h b →
+    CallsWith b u c n a x es → (r : Typing) (g : Signature) → HasReceiver h c n a r →
+    meaning_of h n a r.type x ≡ named g → Conform h c n es g
 
 -- The actuals of each creation do, where the created entity has this type.
 abbrev pub CreationActualsConform : Type 0
-CreationActualsConform = WhereWellFormed λ s pure. (h : Here) (n : Entities) (p : Span) (v : Variable) (k : CreationCall) → Stands s pure h (instruction n (Create p v (Some k))) →
-    (t : EntityType) (g : Signature) → assigned_type (assigned h n v) ≡ Some t → far h t k.name.text ≡ stands g → Conform h context.Body n k.actuals g
+CreationActualsConform = WhereWellFormed λ s pure. (h : RoutineContext) (n : Entities) (p : Span) (creation : Creation)
+    (k : CreationCall) →
+    Stands s pure h (instruction n (Create p creation)) → creation.call ≡ Some k → (t : EntityType) (g : Signature) →
+    assignee_type (assignee h n creation.variable) ≡ Some t → qualified_meaning h t k.name.text ≡ named g →
+    Conform h context.Body n k.actuals g
 
 -- Each right side conforms to its left side.
 abbrev pub RightSidesConform : Type 0
-RightSidesConform = WhereWellFormed λ s pure. (h : Here) (n : Entities) (p : Span) (v : Variable) (e : Expr) → Stands s pure h (instruction n (Assign p v e)) →
-    (t a : EntityType) (is_separate : Bool) → assigned_type (assigned h n v) ≡ Some t → HasType h context.Body Source n e (typing (Some a) is_separate) → conforms h.system a t ≡ true
+RightSidesConform = WhereWellFormed λ s pure. (h : RoutineContext) (n : Entities) (p : Span) (v : Variable)
+    (e : Expr) → Stands s pure h (instruction n (Assign p v e)) →
+    (t a : EntityType) (is_separate : Bool) → assignee_type (assignee h n v) ≡ Some t →
+    HasType h context.Body Source n e (typing (Some a) is_separate) → conforms h.system a t ≡ true

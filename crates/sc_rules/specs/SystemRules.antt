@@ -1,17 +1,17 @@
 -- Which rule fails where in a system of classes, and which systems are well formed (ECMA-367, 8.5, 8.8, 8.9 and 8.20).
-use Rattle.std.specs.Prelude.{◌≡◌, ℕ, Bool, true, false, not, ◌&&◌, List, [], ◌++◌, Option, Some, None, Any, slice_get}
+use Rattle.std.specs.Prelude.{◌≡◌, ℕ, Bool, true, false, not, ◌&&◌, List, [], Option, Some, None, Any, is_some, slice_get}
 use Rattle.sc_text.specs.declared.token.Span.{Span}
-use Rattle.sc_tree.specs.Plain.{System, Class, Feature, FeatureKind, Attribute, Routine, Declaration, DeclaredType, Clause, Name, Expr, Integer, Boolean, Void, Call, Unary, Binary, no_target, no_exprs, Instrs}
+use Rattle.sc_tree.specs.Plain.{System, Class, Feature, FeatureKind, RoutineDeclaration, Attribute, Routine, Declaration, DeclaredType, Clause, Name, Expr, Integer, Boolean, Void, Call, Unary, Binary, no_target, no_exprs}
 use Rattle.sc_class.specs.declared.identity.ClassId.TheVariants as class
-use Rattle.sc_class.specs.Conformance.{is_expanded}
-use Rattle.sc_class.specs.Features.{DeclaredFeature, feature_named}
+use Rattle.sc_class.specs.Tables.Conformance.{is_expanded}
+use Rattle.sc_class.specs.Tables.Features.{DeclaredFeature, feature_named}
 use Rattle.sc_proctype.specs.declared.entity_type.EntityType.{EntityType}
 use Rattle.sc_rules.specs.declared.rule.Rule.{Rule}
 use Rattle.sc_rules.specs.declared.rule.Rule.TheVariants.{UnknownName, ResultType, InvariantForm}
 use Rattle.sc_rules.specs.declared.position.Context.TheVariants as context
 use Rattle.sc_rules.specs.Types.{TypeFails, declared_type}
 use Rattle.sc_rules.specs.Positions.{span_of, is_old, is_equality}
-use Rattle.sc_rules.specs.Names.{RoutineName, Here, here_of, formals_known, locals_known}
+use Rattle.sc_rules.specs.Names.{RoutineName, RoutineContext, routine_context, context_of, formals_known, known_in_body}
 use Rattle.sc_rules.specs.Sites.{instructions}
 use Rattle.sc_rules.specs.Purity.{IsPurity}
 use Rattle.sc_rules.specs.TextRules.{Fails, ClauseFails}
@@ -20,32 +20,37 @@ use Rattle.sc_rules.specs.TextRules.{Fails, ClauseFails}
 
 -- In a feature of the class at the number: in its types, its contract, or its body. Locals are known in the body alone.
 pub data FeatureFails (s : System) (pure : RoutineName → Bool) (k : ℕ) : FeatureKind → Rule → Span → Type 0 where
-  attribute_type : {d : DeclaredType} {r : Rule} {p : Span} → TypeFails s [] d r p → FeatureFails s pure k (Attribute d) r p
-  formal_type : {formals locals : List Declaration} {result : Option DeclaredType} {pre post : List Clause} {is : Instrs} {r : Rule} {p : Span} →
-      Any (λ (d : Declaration). TypeFails s formals d.declared_type r p) formals → FeatureFails s pure k (Routine formals result pre locals is post) r p
-  result_type : {formals locals : List Declaration} {d : DeclaredType} {pre post : List Clause} {is : Instrs} {r : Rule} {p : Span} →
-      TypeFails s [] d r p → FeatureFails s pure k (Routine formals (Some d) pre locals is post) r p
-  precondition : {formals locals : List Declaration} {result : Option DeclaredType} {pre post : List Clause} {is : Instrs} {r : Rule} {p : Span} →
-      Any (λ c. ClauseFails (here_of s pure k formals result) context.Require (formals_known s formals) c r p) pre →
-      FeatureFails s pure k (Routine formals result pre locals is post) r p
-  local_type : {formals locals : List Declaration} {result : Option DeclaredType} {pre post : List Clause} {is : Instrs} {r : Rule} {p : Span} →
-      Any (λ (d : Declaration). TypeFails s formals d.declared_type r p) locals → FeatureFails s pure k (Routine formals result pre locals is post) r p
-  in_body : {formals locals : List Declaration} {result : Option DeclaredType} {pre post : List Clause} {is : Instrs} {r : Rule} {p : Span} →
-      Fails (here_of s pure k formals result) (instructions (formals_known s formals ++ locals_known s formals locals) is) r p →
-      FeatureFails s pure k (Routine formals result pre locals is post) r p
-  postcondition : {formals locals : List Declaration} {result : Option DeclaredType} {pre post : List Clause} {is : Instrs} {r : Rule} {p : Span} →
-      Any (λ c. ClauseFails (here_of s pure k formals result) context.Ensure (formals_known s formals) c r p) post →
-      FeatureFails s pure k (Routine formals result pre locals is post) r p
+  attribute_type : {d : DeclaredType} {r : Rule} {p : Span} → TypeFails s [] d r p →
+      FeatureFails s pure k (Attribute d) r p
+  formal_type : {routine : RoutineDeclaration} {r : Rule} {p : Span} →
+      Any (λ (d : Declaration). TypeFails s routine.formals d.declared_type r p) routine.formals →
+      FeatureFails s pure k (Routine routine) r p
+  result_type : {routine : RoutineDeclaration} {d : DeclaredType} {r : Rule} {p : Span} →
+      routine.result_type ≡ Some d → TypeFails s [] d r p → FeatureFails s pure k (Routine routine) r p
+  precondition : {routine : RoutineDeclaration} {r : Rule} {p : Span} →
+      Any (λ c. ClauseFails (context_of s pure k routine) context.Require (formals_known s routine.formals) c r p)
+      routine.precondition →
+      FeatureFails s pure k (Routine routine) r p
+  local_type : {routine : RoutineDeclaration} {r : Rule} {p : Span} →
+      Any (λ (d : Declaration). TypeFails s routine.formals d.declared_type r p) routine.locals →
+      FeatureFails s pure k (Routine routine) r p
+  in_body : {routine : RoutineDeclaration} {r : Rule} {p : Span} →
+      Fails (context_of s pure k routine) (instructions (known_in_body s routine) routine.body) r p →
+      FeatureFails s pure k (Routine routine) r p
+  postcondition : {routine : RoutineDeclaration} {r : Rule} {p : Span} →
+      Any (λ c. ClauseFails (context_of s pure k routine) context.Ensure (formals_known s routine.formals) c r p)
+      routine.postcondition →
+      FeatureFails s pure k (Routine routine) r p
 
 -- ---- invariants
 
 -- an invariant has no formals and no Result
-abbrev pub here_in_class : System → (RoutineName → Bool) → ℕ → Here
-here_in_class s pure k = here_of s pure k [] None
+abbrev pub invariant_context : System → (RoutineName → Bool) → ℕ → RoutineContext
+invariant_context s pure k = routine_context s pure k [] None
 
 abbrev pub attribute_type_of : System → FeatureKind → Option EntityType
 attribute_type_of s (Attribute d) = declared_type s [] d
-attribute_type_of s (Routine formals result pre locals body post) = None
+attribute_type_of s (Routine routine) = None
 
 abbrev pub attribute_type_in : System → Option DeclaredFeature → Option EntityType
 attribute_type_in s None = None
@@ -68,8 +73,8 @@ abbrev pub is_reference_attribute : System → ℕ → Expr → Bool
 is_reference_attribute s k (Call p no_target x no_exprs) = is_reference_type (attribute_type_named s k x.text)
 is_reference_attribute s k _ = false
 
--- A formula over the attributes of the class at the number: integer and truth values, its attributes of INTEGER and BOOLEAN, the operators
--- other than `old`, and the comparison of an attribute of references with Void.
+-- A formula over the attributes of the class at the number: integer and truth values, its attributes of INTEGER and
+-- BOOLEAN, the operators other than `old`, and the comparison of an attribute of references with Void.
 unfoldable pub is_formula : System → ℕ → Expr → Bool
 is_formula s k (Integer p v) = true
 is_formula s k (Boolean p v) = true
@@ -79,27 +84,28 @@ is_formula s k (Binary p op a (Void q)) = is_equality op && is_reference_attribu
 is_formula s k (Binary p op a b) = is_formula s k a && is_formula s k b
 is_formula s k _ = false
 
--- where a clause stands: at its tag, if it has one
+-- where a clause stands: from its tag, if it has one, to the end of its condition
 abbrev pub clause_span : Option Name → Expr → Span
 clause_span None e = span_of e
-clause_span (Some t) e = t.span
+clause_span (Some t) e = record { start = t.span.start; end = (span_of e).end }
 
 -- In a clause of the invariant of the class at the number: as in any other, or where it is no formula.
 pub data InvariantFails (s : System) (pure : RoutineName → Bool) (k : ℕ) (c : Clause) : Rule → Span → Type 0 where
-  in_invariant_clause : {r : Rule} {p : Span} → ClauseFails (here_in_class s pure k) context.Invariant [] c r p → InvariantFails s pure k c r p
+  in_invariant_clause : {r : Rule} {p : Span} → ClauseFails (invariant_context s pure k) context.Invariant [] c r p →
+      InvariantFails s pure k c r p
   form : is_formula s k c.condition ≡ false → InvariantFails s pure k c InvariantForm (clause_span c.tag c.condition)
 
 -- ---- creation procedures
 
 abbrev pub is_query : FeatureKind → Bool
 is_query (Attribute d) = true
-is_query (Routine formals None pre locals body post) = false
-is_query (Routine formals (Some d) pre locals body post) = true
+is_query (Routine routine) = is_some routine.result_type
 
 -- A name that the class at the number lists under `create` is no feature of it, or is a query.
 pub data CreatorFails (s : System) (k : ℕ) (x : Name) : Rule → Span → Type 0 where
   no_feature : feature_named s (class.Declared k) x.text ≡ None → CreatorFails s k x UnknownName x.span
-  listed_query : {f : DeclaredFeature} → feature_named s (class.Declared k) x.text ≡ Some f → is_query f.feature.kind ≡ true →
+  listed_query : {f : DeclaredFeature} → feature_named s (class.Declared k) x.text ≡ Some f →
+      is_query f.feature.kind ≡ true →
       CreatorFails s k x ResultType x.span
 
 -- ---- classes and systems
@@ -107,12 +113,15 @@ pub data CreatorFails (s : System) (k : ℕ) (x : Name) : Rule → Span → Type
 -- In the text of the class at the number.
 pub data ClassFails (s : System) (pure : RoutineName → Bool) (k : ℕ) (c : Class) : Rule → Span → Type 0 where
   in_creators : {r : Rule} {p : Span} → Any (λ x. CreatorFails s k x r p) c.creators → ClassFails s pure k c r p
-  in_features : {r : Rule} {p : Span} → Any (λ (f : Feature). FeatureFails s pure k f.kind r p) c.features → ClassFails s pure k c r p
-  in_invariant : {r : Rule} {p : Span} → Any (λ i. InvariantFails s pure k i r p) c.invariant → ClassFails s pure k c r p
+  in_features : {r : Rule} {p : Span} → Any (λ (f : Feature). FeatureFails s pure k f.kind r p) c.features →
+      ClassFails s pure k c r p
+  in_invariant : {r : Rule} {p : Span} → Any (λ i. InvariantFails s pure k i r p) c.invariant →
+      ClassFails s pure k c r p
 
 -- The rule fails at the place, where the test tells which functions are pure.
 pub data SystemFails (s : System) (r : Rule) (p : Span) : Type 0 where
-  in_class : {pure : RoutineName → Bool} {k : ℕ} {c : Class} → IsPurity s pure → slice_get s.classes k ≡ Some c → ClassFails s pure k c r p → SystemFails s r p
+  in_class : {pure : RoutineName → Bool} {k : ℕ} {c : Class} → IsPurity s pure → slice_get s.classes k ≡ Some c →
+      ClassFails s pure k c r p → SystemFails s r p
 
 -- No rule fails anywhere.
 abbrev pub WellFormed : System → Type 0

@@ -1,4 +1,5 @@
--- Types as they are declared (ECMA-367, 8.11; the tags after Nienaltowski's thesis), and the types that operators take (8.28).
+-- Types as they are declared (ECMA-367, 8.11; the tags after Nienaltowski's thesis), and the types that operators take
+-- (8.28).
 use Rattle.std.specs.Prelude.{◌≡◌, ◌+◌, ℕ, Bool, true, false, not, ◌&&◌, ◌||◌, if◌then◌else◌, List, [], ◌∷◌, Option, Some, None, bytes_eq}
 use Rattle.std.specs.Option.{option_map}
 use Rattle.sc_text.specs.declared.token.Span.{Span}
@@ -9,7 +10,7 @@ use Rattle.sc_tree.specs.declared.expression.BinaryOperator.TheVariants as binar
 use Rattle.sc_tree.specs.Plain.{System, Declaration, DeclaredType, HandlerTag, Own, Separate, HandlerOf}
 use Rattle.sc_class.specs.declared.identity.ClassId.{ClassId}
 use Rattle.sc_class.specs.declared.identity.ClassId.TheVariants as class
-use Rattle.sc_class.specs.Conformance.{is_expanded, type_class}
+use Rattle.sc_class.specs.Tables.Conformance.{is_expanded, type_class}
 use Rattle.sc_proctype.specs.declared.tag.Reserved.TheVariants.{Formal}
 use Rattle.sc_proctype.specs.declared.tag.Tag.{Tag}
 use Rattle.sc_proctype.specs.declared.tag.Tag.TheVariants as tag
@@ -37,7 +38,9 @@ is_nameable d = not d.declared_type.is_detachable && is_separate d.declared_type
 -- the number of the formal that a tag names
 abbrev pub number_of_named : List ℕ → List Declaration → Option ℕ
 number_of_named x [] = None
-number_of_named x (d ∷ ds) = if bytes_eq d.name.text x then (if is_nameable d then Some 0 else None) else option_map (λ i. i + 1) (number_of_named x ds)
+number_of_named x (d ∷ ds) =
+    if bytes_eq d.name.text x then (if is_nameable d then Some 0 else None) else option_map (λ i. i + 1)
+    (number_of_named x ds)
 
 -- The tag that is written, where these are the formals that it may name.
 abbrev pub declared_tag : List Declaration → HandlerTag → Option Tag
@@ -53,7 +56,8 @@ is_marked t = t.is_detachable || not (is_own t.tag)
 abbrev pub typed : DeclaredType → Option ClassId → Option Tag → Option EntityType
 typed t None g = None
 typed t (Some c) None = None
-typed t (Some c) (Some g) = if is_expanded c && is_marked t then None else Some (record { attached = not t.is_detachable; tag = g; class = c })
+typed t (Some c) (Some g) =
+    if is_expanded c && is_marked t then None else Some (record { attached = not t.is_detachable; tag = g; class = c })
 
 -- The type that is declared, where a tag may name these formals; it is none where the declaration is faulty.
 abbrev pub declared_type : System → List Declaration → DeclaredType → Option EntityType
@@ -63,20 +67,21 @@ declared_type s formals t = typed t (type_class s t.class.text) (declared_tag fo
 pub data TypeFails (s : System) (formals : List Declaration) (t : DeclaredType) : Rule → Span → Type 0 where
   unknown_class : type_class s t.class.text ≡ None → TypeFails s formals t UnknownName t.class.span
   unknown_tag : declared_tag formals t.tag ≡ None → TypeFails s formals t TagName t.span
-  marked : {c : ClassId} → type_class s t.class.text ≡ Some c → is_expanded c ≡ true → is_marked t ≡ true → TypeFails s formals t TagName t.span
+  marked : {c : ClassId} → type_class s t.class.text ≡ Some c → is_expanded c ≡ true → is_marked t ≡ true →
+      TypeFails s formals t TagName t.span
 
 -- ---- controlled targets
 
 -- of the current handler, or of one that is reserved
-abbrev pub is_controlling : Tag → Bool
-is_controlling tag.Own = true
-is_controlling (tag.With x) = true
-is_controlling tag.Any = false
-is_controlling tag.None = false
+abbrev pub is_controlled_tag : Tag → Bool
+is_controlled_tag tag.Own = true
+is_controlled_tag (tag.With x) = true
+is_controlled_tag tag.Any = false
+is_controlled_tag tag.None = false
 
 -- A target is controlled where its type is attached and its tag is of the current handler or of one that is reserved.
 abbrev pub is_controlled : EntityType → Bool
-is_controlled t = t.attached && is_controlling t.tag
+is_controlled t = t.attached && is_controlled_tag t.tag
 
 -- A call is separate where its target's tag isn't `own`.
 abbrev pub is_foreign : Tag → Bool

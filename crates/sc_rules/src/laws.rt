@@ -1,5 +1,5 @@
-//! Laws of types, of purity and of well-formed systems, each the contract of a function that does nothing.
-ghost use Rattle.sc_rules.specs.Laws.{DeclaredIfWellFormed, EveryTyped, NamesTyped, NeverBoth, NoneWhereARuleFails, OnePurity, OneType, SomePurity, TypeOrFault, WellFormedOrFault};
+//! Laws of types, of declarations and of well-formed systems, each the contract of a function that does nothing.
+ghost use Rattle.sc_rules.specs.Laws.{DeclaredIfWellFormed, EveryTyped, NamesTyped, NoneWhereARuleFails, OneType, TypeOrFault, WellFormedOrFault};
 
 /// An expression has one type at most.
 pub fn one_type()
@@ -29,21 +29,6 @@ pub fn well_formed_declares()
 /// Where nothing is wrong with a routine's declarations, its names have types.
 pub fn names_are_typed()
     ensures { NamesTyped }
-{}
-
-/// No function is both pure and not.
-pub fn never_pure_and_impure()
-    ensures { NeverBoth }
-{}
-
-/// One test alone tells the pure functions from all others.
-pub fn purity_is_one()
-    ensures { OnePurity }
-{}
-
-/// Every system has a test that tells the pure functions from all others.
-pub fn purity_is_known()
-    ensures { SomePurity }
 {}
 
 /// A system is well formed, or a rule fails at some place of it.

@@ -3,8 +3,12 @@
 //!
 //! `specs/Typing` gives each expression its type, `specs/Sites` says what stands where and which names are known there,
 //! `specs/Purity` which functions contracts may call, and `specs/TextRules` and `specs/SystemRules` have the premises of
-//! the rules, one constructor each, up to `WellFormed`. [`laws`], [`system_laws`] and
-//! [`instruction_laws`], [`text_laws`] and [`heir_laws`] have what follows.
+//! the rules, one constructor each, up to `WellFormed`. `specs/Judging` and its like say which fault is answered where
+//! several rules fail.
+//!
+//! What follows stands in [`laws`] (types and declarations), [`scope_laws`] (names and tags), [`purity_laws`],
+//! [`system_laws`] (calls and assignments), [`instruction_laws`], [`text_laws`] (contracts, conditions and separate
+//! blocks) and [`heir_laws`].
 #![tactic(auto)]
 
 mod fault;
@@ -12,10 +16,12 @@ pub mod heir_laws;
 pub mod instruction_laws;
 pub mod laws;
 mod position;
+pub mod purity_laws;
 mod rule;
+pub mod scope_laws;
 pub mod system_laws;
 pub mod text_laws;
 
 pub use fault::Fault;
-pub use position::{Context, Role, Spot, Use};
+pub use position::{Context, Position, Role, Use};
 pub use rule::Rule;

@@ -19,10 +19,11 @@ pub enum Context {
 
 /// What an expression is used as, where that matters.
 #[derive(Clone, Copy, Debug, PartialEq, Eq)]
-pub enum Spot {
+pub enum Position {
     /// Nothing special: neither of the others.
     Plain,
-    /// The condition of an `if` or `elseif`, or an operand of the `and then`s at its top: an object test may stand there.
+    /// The condition of an `if` or `elseif`, or an operand of the `and then`s at its top: an object test may stand
+    /// there.
     Condition,
     /// A right side, an actual, or an operand of `=` or `/=`: `Void` may stand there.
     Source,

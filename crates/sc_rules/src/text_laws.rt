@@ -1,5 +1,5 @@
 //! Laws of contracts, invariants, conditions and separate blocks, each the contract of a function that does nothing.
-ghost use Rattle.sc_rules.specs.TextLaws.{BlocksDiffer, BlocksReserve, ClausesAreBoolean, ConditionsGive, FormalsKnown, HeadsConform, InvariantsAreFormulas, PrintTakesValues, PureIsClosed};
+ghost use Rattle.sc_rules.specs.TextLaws.{BlocksReserve, ClausesAreBoolean, ConditionsGive, HeadsConform, InvariantsAreFormulas, PrintTakesValues};
 
 /// In a well-formed system each head of a separate block is an attached reference.
 pub fn heads_conform()
@@ -29,19 +29,4 @@ pub fn conditions_give()
 /// In a well-formed system each separate block gives names, which are known in its body.
 pub fn blocks_reserve()
     ensures { BlocksReserve }
-{}
-
-/// What a pure function calls is pure, in every system.
-pub fn pure_is_closed()
-    ensures { PureIsClosed }
-{}
-
-/// Names of separate blocks that are known at one place have different tags.
-pub fn blocks_differ()
-    ensures { BlocksDiffer }
-{}
-
-/// A formal is known all over its routine's text, by its place among the formals.
-pub fn formals_are_known()
-    ensures { FormalsKnown }
 {}

@@ -1,5 +1,0 @@
-use Rattle.sc_rules.proofs.TextLaws.{pure_is_closed}
-use Rattle.sc_rules.proofs.text_laws.pure_is_closed.Goals as goal
-
-pub returns : goal.returns
-returns c = pure_is_closed
