@@ -6,11 +6,11 @@ use Rattle.sc_tree.specs.Plain as plain
 use Rattle.sc_tree.specs.Plain.{Head, Expr, Integer, Boolean, Void, Current, Call, Unary, Binary, ObjectTest}
 use Rattle.sc_rules.specs.declared.position.Context.{Context}
 use Rattle.sc_rules.specs.declared.position.Context.TheVariants as context
-use Rattle.sc_rules.specs.declared.position.Spot.TheVariants.{Plain}
+use Rattle.sc_rules.specs.declared.position.Position.TheVariants.{Plain}
 use Rattle.sc_rules.specs.declared.position.Role.TheVariants as role
 use Rattle.sc_rules.specs.declared.rule.Rule.TheVariants.{ArgumentType}
 use Rattle.sc_rules.specs.Positions.{is_and_then, span_of}
-use Rattle.sc_rules.specs.Names.{Here, Entities, entity, test_type, blocks, block_type}
+use Rattle.sc_rules.specs.Names.{RoutineContext, Entities, entity, test_type, blocks, block_type}
 use Rattle.sc_rules.specs.TextRules.{separate_any}
 use Rattle.sc_rules.specs.Judging.{Judged, ◌>>=◌, required, judge, judge_given}
 use Rattle.sc_rules.specs.JudgingText.{conforms_if_any, judge_heads}
@@ -36,7 +36,7 @@ behind_both n (Err e) f h g = tt
 none_given : (n : Entities) → Behind n (Ok n)
 none_given n = ([], sym (append-nil n))
 
-pub given : (h : Here) (c : Context) (n : Entities) (e : Expr) → Behind n (judge_given h c n e)
+pub given : (h : RoutineContext) (c : Context) (n : Entities) (e : Expr) → Behind n (judge_given h c n e)
 unfolding judge
 given h c n (Integer p v) = none_given n
 given h c n (Boolean p v) = none_given n
@@ -53,7 +53,7 @@ given h c n (Binary p op a b) = by (is_and_then op) (behind_both n (judge_given 
 given h c n (ObjectTest p d a x) =
     behind_then n (judge h c Plain n a) (λ t. Ok (n ++ entity x.text (test_type h d t.type) role.Test ∷ [])) (λ t. (entity x.text (test_type h d t.type) role.Test ∷ [], refl))
 
-pub heads_given : (h : Here) (n m : Entities) (ds : List Head) → Behind m (judge_heads h n m ds)
+pub heads_given : (h : RoutineContext) (n m : Entities) (ds : List Head) → Behind m (judge_heads h n m ds)
 heads_given h n m [] = none_given m
 heads_given h n m (d ∷ ds) =
     behind_then m (judge h context.Body Plain n d.value) _

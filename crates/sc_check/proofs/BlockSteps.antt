@@ -6,21 +6,21 @@ use Rattle.sc_tree.specs.View.{head_of}
 use Rattle.sc_class.proofs.Anys.{at}
 use Rattle.sc_rules.specs.declared.rule.Rule.TheVariants.{ArgumentType}
 use Rattle.sc_rules.specs.declared.position.Context.TheVariants as context
-use Rattle.sc_rules.specs.declared.position.Spot.TheVariants.{Plain}
+use Rattle.sc_rules.specs.declared.position.Position.TheVariants.{Plain}
 use Rattle.sc_rules.specs.declared.position.Role.TheVariants as role
 use Rattle.sc_rules.specs.Positions.{span_of}
-use Rattle.sc_rules.specs.Names.{Here, Entities, Entity, entity, blocks, block_type}
+use Rattle.sc_rules.specs.Names.{RoutineContext, Entities, Entity, entity, blocks, block_type}
 use Rattle.sc_rules.specs.Typing as typing
 use Rattle.sc_rules.specs.TextRules.{separate_any}
 use Rattle.sc_rules.specs.Judging.{Judged, ◌>>=◌, required, judge}
 use Rattle.sc_rules.specs.JudgingText.{conforms_if_any, judge_heads}
 use Rattle.sc_typing.specs.declared.fault.CheckFault.{CheckFault}
 use Rattle.sc_typing.specs.Judges.{Faults}
-use Rattle.sc_check.specs.Parts.{judge_head}
+use Rattle.sc_check.specs.Internal.Parts.{judge_head}
 use Rattle.sc_typing.proofs.Steps.{faults_along, faults_first}
 
 -- a head, then those behind it
-pub first_head : (h : Here) (n m : Entities) (d : Head) (ds : List Head) →
+pub first_head : (h : RoutineContext) (n m : Entities) (d : Head) (ds : List Head) →
     judge_heads h n m (d ∷ ds) ≡ judge_head h n (blocks m) d >>= λ e. judge_heads h n (m ++ e ∷ []) ds
 first_head h n m d ds = by (judge h context.Body Plain n d.value)
   where
@@ -41,7 +41,7 @@ first_head h n m d ds = by (judge h context.Body Plain n d.value)
     by (Ok t) = with_type t (required (conforms_if_any h.system t.type (Some separate_any)) ArgumentType (span_of d.value))
     by (Err f) = refl
 
-module _ (h : Here) (n m : Entities) (hs : List tree_head.Head) (i : ℕ) (x : tree_head.Head) (total : Judged Entities)
+module _ (h : RoutineContext) (n m : Entities) (hs : List tree_head.Head) (i : ℕ) (x : tree_head.Head) (total : Judged Entities)
     (l : i < length hs) (g : x ≡ get_or hs i x) (inv : total ≡ judge_heads h n m (map head_of (drop i hs))) (j : ℕ) (jq : j ≡ blocks m) where
   -- at the head
   at_head : total ≡ judge_head h n j (head_of x) >>= λ e. judge_heads h n (m ++ e ∷ []) (map head_of (drop (i + 1) hs))

@@ -4,17 +4,23 @@ use Rattle.std.specs.Prelude.{OnOk}
 use Rattle.sc_tree.specs.Plain.{System}
 use Rattle.sc_rules.specs.Names.{RoutineName}
 use Rattle.sc_rules.specs.Purity.{IsPurity}
-use Rattle.sc_rules.specs.SystemRules.{WellFormed}
+use Rattle.sc_rules.specs.SystemRules.{WellFormed, in_class}
 use Rattle.sc_rules.specs.JudgingSystem.{judge_system}
 use Rattle.sc_rules.proofs.SystemLaws.{well_formed, ill_formed}
 use Rattle.sc_typing.specs.declared.fault.CheckFault.{CheckFault}
 use Rattle.sc_typing.specs.declared.fault.CheckFault.TheVariants.{Refused, OutOfMemory}
+use Rattle.sc_check.specs.CheckedSystems.{IsChecked}
 use Rattle.sc_check.specs.CheckFaults.{IsTrueOf, IsFirstOf}
 use Rattle.sc_typing.specs.Judges.{Passes}
 
 pub passed : (s : System) (pure : RoutineName → Bool) (r : Result Unit CheckFault) → IsPurity s pure → Passes (judge_system s pure) r → OnOk r (WellFormed s)
 passed s pure (Ok u) i p = well_formed s pure p i
 passed s pure (Err e) i p = tt
+
+-- with the test that the system was judged with
+pub passed_checked : (s : System) (pure : RoutineName → Bool) (r : Result Unit CheckFault) → IsPurity s pure → Passes (judge_system s pure) r → OnOk r (IsChecked s)
+passed_checked s pure (Ok u) i p = record { pure = pure; tells = i; no_rule_fails = λ k c r q e f. well_formed s pure p i r q (in_class i e f) }
+passed_checked s pure (Err e) i p = tt
 
 pub refused : (s : System) (pure : RoutineName → Bool) (r : Result Unit CheckFault) → IsPurity s pure → Passes (judge_system s pure) r → IfErr r (IsTrueOf s)
 refused s pure (Ok u) i p = tt

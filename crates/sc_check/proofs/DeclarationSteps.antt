@@ -5,22 +5,21 @@ use Rattle.sc_text.specs.declared.token.Span.{Span}
 use Rattle.sc_tree.specs.declared.declaration.Declaration.{Declaration}
 use Rattle.sc_tree.specs.declared.instruction.Clause.{Clause}
 use Rattle.sc_tree.specs.declared.instruction.Instr.{Instr}
-use Rattle.sc_tree.specs.declared.system.FeatureKind.TheVariants as kind
 use Rattle.sc_tree.specs.declared.system.Routine.{Routine}
 use Rattle.sc_tree.specs.Plain as plain
 use Rattle.sc_tree.specs.Plain.{System, Instrs}
-use Rattle.sc_tree.specs.View.{clause_of, declaration_of, expr_of, instrs_of, kind_of, tag_of, type_if_any}
+use Rattle.sc_tree.specs.View.{clause_of, declaration_of, expr_of, instrs_of, routine_of, tag_of, type_if_any}
 use Rattle.sc_rules.specs.declared.position.Context.TheVariants as context
-use Rattle.sc_rules.specs.Names.{RoutineName, Here, Entities, here_of, formals_known, locals_known}
+use Rattle.sc_rules.specs.Names.{RoutineName, RoutineContext, Entities, routine_context, formals_known, locals_known}
 use Rattle.sc_rules.specs.SystemRules.{is_formula, clause_span}
 use Rattle.sc_rules.specs.Judging.{Judged, ◌>>=◌, judge_each}
 use Rattle.sc_rules.specs.JudgingText.{judge_clause, judge_instrs}
-use Rattle.sc_rules.specs.JudgingSystem.{judge_declarations, judge_result_type, judge_feature, judge_invariant, formed}
+use Rattle.sc_rules.specs.JudgingSystem.{judge_declarations, judge_result_type, judge_feature, judge_invariant, judge_form}
 use Rattle.sc_typing.specs.declared.fault.CheckFault.{CheckFault}
-use Rattle.sc_typing.specs.declared.names.Entity.{Entity}
+use Rattle.sc_typing.specs.declared.declarations.names.Entity.{Entity}
 use Rattle.sc_typing.specs.Views.{entity_of}
 use Rattle.sc_typing.specs.Judges.{Passes, Faults}
-use Rattle.sc_check.specs.Parts.{Forms, judge_text}
+use Rattle.sc_check.specs.Internal.Parts.{JudgesForm, judge_text}
 use Rattle.sc_check.proofs.Behind.{had_back}
 use Rattle.sc_typing.proofs.Steps.{faults_along, faults_first, passes_along}
 
@@ -31,7 +30,7 @@ had_out es fs gs j o jq q t =
     ap (map entity_of) t ∙ sym (take-map entity_of j fs) ∙ ap (take j) q
     ∙ ap (λ k. take k (map entity_of es ++ o)) (jq ∙ sym (length-map es entity_of)) ∙ had_back (map entity_of es) (map entity_of es ++ o) (o, refl)
 
-module _ (h : Here) (pre : List plain.Clause) (locals : List plain.Declaration) (is : Instrs) (post : List plain.Clause) (n m : Entities)
+module _ (h : RoutineContext) (pre : List plain.Clause) (locals : List plain.Declaration) (is : Instrs) (post : List plain.Clause) (n m : Entities)
     (nq : n ≡ formals_known h.system h.formals) (pq : judge_each (judge_clause h context.Require n) pre ≡ Ok tt)
     (lq : judge_declarations h.system h.formals locals ≡ Ok tt) (mq : m ≡ n ++ locals_known h.system h.formals locals) where
   -- behind the body, and behind the precondition, where these names are known
@@ -58,7 +57,7 @@ module _ (h : Here) (pre : List plain.Clause) (locals : List plain.Declaration) 
   text_passes v r vq iq p =
       passes_along (judge_text h pre locals is post) (ended v) r (at_body ∙ ap (λ j. j >>= λ u. ended n) iq ∙ ap ended (sym vq)) p
 
-module _ (s : System) (pure : RoutineName → Bool) (k : ℕ) (r : Routine) (h : Here)
+module _ (s : System) (pure : RoutineName → Bool) (k : ℕ) (r : Routine) (h : RoutineContext)
     (first second third locals : List Declaration) (pre post : List Clause) (is : List Instr)
     (q1 : first ≡ r.formals.items) (q2 : second ≡ r.formals.items) (q3 : third ≡ r.formals.items)
     (pq : pre ≡ r.precondition.items) (lq : locals ≡ r.locals.items) (iq : is ≡ r.body.items) (oq : post ≡ r.postcondition.items) where
@@ -68,19 +67,19 @@ module _ (s : System) (pure : RoutineName → Bool) (k : ℕ) (r : Routine) (h :
   abbrev formals : List plain.Declaration
   formals = map declaration_of r.formals.items
 
-  abbrev here : Here
-  here = here_of s pure k formals (type_if_any r.result_type)
+  abbrev routine : RoutineContext
+  routine = routine_context s pure k formals (type_if_any r.result_type)
 
   -- with this body, and the routine's postcondition
-  abbrev with_body : Here → List plain.Clause → List plain.Declaration → List Instr → Judged (Unit {0})
+  abbrev with_body : RoutineContext → List plain.Clause → List plain.Declaration → List Instr → Judged (Unit {0})
   with_body h cs ds is = judge_text h cs ds (instrs_of is) (map clause_of r.postcondition.items)
 
-  abbrev text_in : Here → Judged (Unit {0})
+  abbrev text_in : RoutineContext → Judged (Unit {0})
   text_in h = with_body h (map clause_of r.precondition.items) (map declaration_of r.locals.items) r.body.items
 
-  at_text : h ≡ here_of s pure k (map declaration_of third) (type_if_any r.result_type) → text_in here ≡ text
+  at_text : h ≡ routine_context s pure k (map declaration_of third) (type_if_any r.result_type) → text_in routine ≡ text
   at_text hq =
-      sym (ap text_in (hq ∙ ap (λ (ds : List Declaration). here_of s pure k (map declaration_of ds) (type_if_any r.result_type)) q3))
+      sym (ap text_in (hq ∙ ap (λ (ds : List Declaration). routine_context s pure k (map declaration_of ds) (type_if_any r.result_type)) q3))
       ∙ sym (ap (λ (cs : List Clause). with_body h (map clause_of cs) (map declaration_of r.locals.items) r.body.items) pq)
       ∙ sym (ap (λ (ds : List Declaration). with_body h (map clause_of pre) (map declaration_of ds) r.body.items) lq)
       ∙ sym (ap (with_body h (map clause_of pre) (map declaration_of locals)) iq)
@@ -93,25 +92,24 @@ module _ (s : System) (pure : RoutineName → Bool) (k : ℕ) (r : Routine) (h :
 
   -- a routine passes as its text does, where its types pass
   pub routine_passes : judge_declarations s (map declaration_of first) (map declaration_of second) ≡ Ok tt →
-      judge_result_type s (type_if_any r.result_type) ≡ Ok tt → h ≡ here_of s pure k (map declaration_of third) (type_if_any r.result_type) →
-      (t : Result Unit CheckFault) → Passes text t → Passes (judge_feature s pure k (kind_of (kind.Routine r))) t
-  unfolding kind_of
+      judge_result_type s (type_if_any r.result_type) ≡ Ok tt → h ≡ routine_context s pure k (map declaration_of third) (type_if_any r.result_type) →
+      (t : Result Unit CheckFault) → Passes text t → Passes (judge_feature s pure k (plain.Routine (routine_of r))) t
   routine_passes dq rq hq t p =
-      passes_along (judge_feature s pure k (kind_of (kind.Routine r))) text t
-      (ap (λ j. j >>= λ u. judge_result_type s (type_if_any r.result_type) >>= λ u. text_in here) (typed dq)
-      ∙ ap (λ j. j >>= λ u. text_in here) rq ∙ at_text hq) p
+      passes_along (judge_feature s pure k (plain.Routine (routine_of r))) text t
+      (ap (λ j. j >>= λ u. judge_result_type s (type_if_any r.result_type) >>= λ u. text_in routine) (typed dq)
+      ∙ ap (λ j. j >>= λ u. text_in routine) rq ∙ at_text hq) p
 
 -- a clause of an invariant passes as its form does
-module _ (s : System) (pure : RoutineName → Bool) (k : ℕ) (c : Clause) (b : Bool) (p : Span) (h : Here) (judged result : Result Unit CheckFault)
-    (bq : b ≡ is_formula s k (expr_of c.condition)) (pq : p ≡ clause_span (tag_of c.tag) (expr_of c.condition)) (hq : h ≡ here_of s pure k [] None) where
-  abbrev clause : Here → Judged (Unit {0})
+module _ (s : System) (pure : RoutineName → Bool) (k : ℕ) (c : Clause) (b : Bool) (p : Span) (h : RoutineContext) (judged result : Result Unit CheckFault)
+    (bq : b ≡ is_formula s k (expr_of c.condition)) (pq : p ≡ clause_span (tag_of c.tag) (expr_of c.condition)) (hq : h ≡ routine_context s pure k [] None) where
+  abbrev clause : RoutineContext → Judged (Unit {0})
   clause h = judge_clause h context.Invariant [] (clause_of c)
 
-  pub invariant_passes : Passes (clause h) judged → Forms b p judged result → Passes (judge_invariant s pure k (clause_of c)) result
+  pub invariant_passes : Passes (clause h) judged → JudgesForm b p judged result → Passes (judge_invariant s pure k (clause_of c)) result
   unfolding clause_of
   invariant_passes j f =
-      passes_along (judge_invariant s pure k (clause_of c)) (formed b p (clause h)) result
-      (sym (ap (λ b. formed b p (clause h)) bq
-      ∙ ap (λ p. formed (is_formula s k (expr_of c.condition)) p (clause h)) pq
-      ∙ ap (λ h. formed (is_formula s k (expr_of c.condition)) (clause_span (tag_of c.tag) (expr_of c.condition)) (clause h)) hq))
+      passes_along (judge_invariant s pure k (clause_of c)) (judge_form b p (clause h)) result
+      (sym (ap (λ b. judge_form b p (clause h)) bq
+      ∙ ap (λ p. judge_form (is_formula s k (expr_of c.condition)) p (clause h)) pq
+      ∙ ap (λ h. judge_form (is_formula s k (expr_of c.condition)) (clause_span (tag_of c.tag) (expr_of c.condition)) (clause h)) hq))
       (f (clause h) j)

@@ -18,23 +18,23 @@ use Rattle.sc_tree.specs.View.{branches_of, clause_of, creation_call_of, expr_of
 use Rattle.sc_tree.proofs.ViewLemmas.{instr_of-assign, instr_of-call, instr_of-create, instr_of-if, instr_of-loop, instr_of-check, instr_of-block}
 use Rattle.sc_class.proofs.Anys.{at}
 use Rattle.sc_rules.specs.declared.position.Context.TheVariants as context
-use Rattle.sc_rules.specs.declared.position.Spot.TheVariants.{Plain, Condition}
+use Rattle.sc_rules.specs.declared.position.Position.TheVariants.{Plain, Condition}
 use Rattle.sc_rules.specs.declared.position.Use.TheVariants.{Instruction}
-use Rattle.sc_rules.specs.Names.{Here, Entities, variable_span}
+use Rattle.sc_rules.specs.Names.{RoutineContext, Entities, variable_span}
 use Rattle.sc_proctype.specs.declared.entity_type.EntityType.{EntityType}
-use Rattle.sc_rules.specs.Judging.{Judged, ◌>>=◌, found, judge_called, judge_each, judge_given, judge_receiver}
+use Rattle.sc_rules.specs.Judging.{Judged, ◌>>=◌, judged_actuals, judge_called, judge_each, judge_given, judge_receiver}
 use Rattle.sc_rules.specs.JudgingText.{judge_clause, judge_condition, judge_creation, judge_variable, judge_heads, judge_instr, judge_instrs, judge_branches}
 use Rattle.sc_typing.specs.declared.fault.CheckFault.{CheckFault}
-use Rattle.sc_typing.specs.declared.names.Entity.{Entity}
+use Rattle.sc_typing.specs.declared.declarations.names.Entity.{Entity}
 use Rattle.sc_typing.specs.Views.{entity_of}
 use Rattle.sc_typing.specs.Judges.{Faults, Passes}
-use Rattle.sc_check.specs.Parts.{judge_assignment, judge_command, judge_if, judge_loop, judge_part, judge_block}
+use Rattle.sc_check.specs.Internal.Parts.{judge_assignment, judge_command, judge_if, judge_loop, judge_branch, judge_block}
 use Rattle.sc_typing.proofs.Steps.{faults_along, faults_first, passes_along}
 use Rattle.sc_check.proofs.Behind.{Behind, given, heads_given, had_back}
 
 -- ---- what is had back
 
-module _ (h : Here) (n m : Entities) where
+module _ (h : RoutineContext) (n m : Entities) where
   known_as : (j : Judged Entities) → j ≡ Ok m → Behind n j → Behind n (Ok m)
   known_as j q b = subst (Behind n) q b
 
@@ -44,7 +44,7 @@ module _ (h : Here) (n m : Entities) where
   block_left : (ds : List plain.Head) → judge_heads h n n ds ≡ Ok m → take (length n) m ≡ n
   block_left ds q = had_back n m (known_as (judge_heads h n n ds) q (heads_given h n n ds))
 
-module _ (h : Here) (old mid done new : List Entity) (k : ℕ) (kq : k ≡ length old)
+module _ (h : RoutineContext) (old mid done new : List Entity) (k : ℕ) (kq : k ≡ length old)
     (kept : map entity_of done ≡ map entity_of mid) (cut : new ≡ take k done) where
   left : take (length (map entity_of old)) (map entity_of mid) ≡ map entity_of old → map entity_of new ≡ map entity_of old
   left q =
@@ -66,14 +66,14 @@ in_turn : {A B C : Type 0} (j : Judged A) (f : A → Judged B) (g : B → Judged
 in_turn (Ok x) f g = refl
 in_turn (Err e) f g = refl
 
-if_is : (h : Here) (n : Entities) (e : plain.Expr) (body : plain.Instrs) (rest : Judged (Unit {0})) →
+if_is : (h : RoutineContext) (n : Entities) (e : plain.Expr) (body : plain.Instrs) (rest : Judged (Unit {0})) →
     (judge_condition h context.Body Condition n e >>= λ u. judge_given h context.Body n e >>= λ m. judge_instrs h m body >>= λ u. rest)
-    ≡ judge_part h n e body >>= λ u. rest
+    ≡ judge_branch h n e body >>= λ u. rest
 if_is h n e body rest =
     ap (λ j. judge_condition h context.Body Condition n e >>= λ u. j) (in_turn (judge_given h context.Body n e) (λ m. judge_instrs h m body) (λ u. rest))
     ∙ in_turn (judge_condition h context.Body Condition n e) (λ u. judge_given h context.Body n e >>= λ m. judge_instrs h m body) (λ u. rest)
 
-module _ (h : Here) (n : Entities) (i : Instr) where
+module _ (h : RoutineContext) (n : Entities) (i : Instr) where
   assign_plain : (s : Span) (v : Variable) (e : Expr) → judge_instr h n (instr_of (instr.Assign s v e)) ≡ judge_assignment h n (variable_of v) (expr_of e)
   unfolding judge_instr
   assign_plain s v e = ap (judge_instr h n) (instr_of-assign s v e)
@@ -89,7 +89,7 @@ module _ (h : Here) (n : Entities) (i : Instr) where
   call_plain d =
       ap (judge_instr h n) (instr_of-call d)
       ∙ in_turn (judge_receiver h context.Body n (target_of d.target))
-      (λ r. judge_called h context.Body n Instruction (target_of d.target) (name_of d.name) (found h context.Body n (exprs_of d.actuals.items)) r) (λ u. Ok tt)
+      (λ r. judge_called h context.Body n Instruction (target_of d.target) (name_of d.name) (judged_actuals h context.Body n (exprs_of d.actuals.items)) r) (λ u. Ok tt)
 
   pub call_passes : (d : Call) (m : Entities) (r : Result Unit CheckFault) → i ≡ instr.Call d → m ≡ n →
       Passes (judge_command h m (target_of d.target) (name_of d.name) (exprs_of d.actuals.items)) r → Passes (judge_instr h n (instr_of i)) r
@@ -147,17 +147,17 @@ module _ (h : Here) (n : Entities) (i : Instr) where
     abbrev else_judged : Judged (Unit {0})
     else_judged = judge_branches h n (branches_of bs.items) >>= λ u. judge_instrs h n (instrs_of other.items)
 
-    if_same : judge_instr h n (instr_of i) ≡ judge_part h n (expr_of e) (instrs_of is) >>= λ u. else_judged
+    if_same : judge_instr h n (instr_of i) ≡ judge_branch h n (expr_of e) (instrs_of is) >>= λ u. else_judged
     if_same =
         ap (λ (i : Instr). judge_instr h n (instr_of i)) q ∙ if_plain s e body bs other
         ∙ ap (λ (is : List Instr). judge_if h n (expr_of e) (instrs_of is) (branches_of bs.items) (instrs_of other.items)) (sym a)
 
-    pub if_part_fails : (f : CheckFault) → Faults (judge_part h n (expr_of e) (instrs_of is)) f → Faults (judge_instr h n (instr_of i)) f
-    if_part_fails f g =
-        faults_along _ (judge_part h n (expr_of e) (instrs_of is) >>= λ u. else_judged) f if_same
-        (faults_first (judge_part h n (expr_of e) (instrs_of is)) (λ u. else_judged) f g)
+    pub if_branch_fails : (f : CheckFault) → Faults (judge_branch h n (expr_of e) (instrs_of is)) f → Faults (judge_instr h n (instr_of i)) f
+    if_branch_fails f g =
+        faults_along _ (judge_branch h n (expr_of e) (instrs_of is) >>= λ u. else_judged) f if_same
+        (faults_first (judge_branch h n (expr_of e) (instrs_of is)) (λ u. else_judged) f g)
 
-    module _ (p : judge_part h n (expr_of e) (instrs_of is) ≡ Ok tt) (m : Entities) (mq : m ≡ n) (cs : List Branch) (b : cs ≡ bs.items) where
+    module _ (p : judge_branch h n (expr_of e) (instrs_of is) ≡ Ok tt) (m : Entities) (mq : m ≡ n) (cs : List Branch) (b : cs ≡ bs.items) where
       branches_same : judge_instr h n (instr_of i) ≡ judge_branches h m (branches_of cs) >>= λ u. judge_instrs h n (instrs_of other.items)
       branches_same =
           if_same ∙ ap (λ j. j >>= λ u. else_judged) p
@@ -230,15 +230,15 @@ module _ (h : Here) (n : Entities) (i : Instr) where
 -- ---- an `elseif`
 
 -- the part at a branch
-pub branch_fails : (h : Here) (n : Entities) (bs : List Branch) (k : ℕ) (b : Branch) (is : List Instr) (m : Entities) (f : CheckFault) →
+pub branch_fails : (h : RoutineContext) (n : Entities) (bs : List Branch) (k : ℕ) (b : Branch) (is : List Instr) (m : Entities) (f : CheckFault) →
     k < length bs → b ≡ get_or bs k b → is ≡ b.body.items → m ≡ n → judge_branches h n (branches_of bs) ≡ judge_branches h n (branches_of (drop k bs)) →
-    Faults (judge_part h m (expr_of b.condition) (instrs_of is)) f → Faults (judge_branches h n (branches_of bs)) f
+    Faults (judge_branch h m (expr_of b.condition) (instrs_of is)) f → Faults (judge_branches h n (branches_of bs)) f
 unfolding judge_instr
 branch_fails h n bs k b is m f l g a q inv x =
     faults_along (judge_branches h n (branches_of bs))
-    (judge_part h m (expr_of b.condition) (instrs_of is) >>= λ u. judge_branches h n (branches_of (drop (k + 1) bs))) f
+    (judge_branch h m (expr_of b.condition) (instrs_of is) >>= λ u. judge_branches h n (branches_of (drop (k + 1) bs))) f
     (inv ∙ ap (λ (bs : List Branch). judge_branches h n (branches_of bs)) (at bs k b l g)
     ∙ if_is h n (expr_of b.condition) (instrs_of b.body.items) (judge_branches h n (branches_of (drop (k + 1) bs)))
-    ∙ ap (λ (is : List Instr). judge_part h n (expr_of b.condition) (instrs_of is) >>= λ u. judge_branches h n (branches_of (drop (k + 1) bs))) (sym a)
-    ∙ ap (λ m. judge_part h m (expr_of b.condition) (instrs_of is) >>= λ u. judge_branches h n (branches_of (drop (k + 1) bs))) (sym q))
-    (faults_first (judge_part h m (expr_of b.condition) (instrs_of is)) (λ u. judge_branches h n (branches_of (drop (k + 1) bs))) f x)
+    ∙ ap (λ (is : List Instr). judge_branch h n (expr_of b.condition) (instrs_of is) >>= λ u. judge_branches h n (branches_of (drop (k + 1) bs))) (sym a)
+    ∙ ap (λ m. judge_branch h m (expr_of b.condition) (instrs_of is) >>= λ u. judge_branches h n (branches_of (drop (k + 1) bs))) (sym q))
+    (faults_first (judge_branch h m (expr_of b.condition) (instrs_of is)) (λ u. judge_branches h n (branches_of (drop (k + 1) bs))) f x)

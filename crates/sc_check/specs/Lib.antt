@@ -1,4 +1,4 @@
 pub mod CheckFaults
+pub mod CheckedSystems
 pub mod CheckedTables
-pub mod Parts
-pub use Rattle.sc_typing.specs.SystemIn
+pub mod Internal

@@ -1,8 +1,9 @@
 // A system in which no rule fails.
 
 ghost use Rattle.std.specs.Prelude.{◌≡◌};
-ghost use Rattle.sc_tree.specs.View.{system_of};
+ghost use Rattle.sc_class.specs.SystemIn.{system_in};
 ghost use Rattle.sc_rules.specs.SystemRules.{WellFormed};
+ghost use Rattle.sc_check.specs.CheckedSystems.{IsChecked};
 
 mod checking;
 
@@ -13,7 +14,8 @@ use sc_class::Tables;
 #[derive(Drop)]
 pub struct Checked<'s> {
     tables: Tables<'s>,
-    pub ghost well_formed: { WellFormed (system_of tables.outline.hierarchy.system.now) },
+    pub ghost well_formed: { WellFormed (system_in tables) },
+    pub ghost checked: { ∥ IsChecked (system_in tables) ∥₁ },
 }
 
 impl<'s> Checked<'s> {
@@ -22,7 +24,8 @@ impl<'s> Checked<'s> {
     /// The tables of the system, at once.
     pub fn tables(&self) -> &Tables<'s>
         ensures same { result.now ≡ tables_of self.now }
-        ensures well_formed { WellFormed (system_of result.now.outline.hierarchy.system.now) }
+        ensures well_formed { WellFormed (system_in result.now) }
+        ensures checked { ∥ IsChecked (system_in result.now) ∥₁ }
     {
         &self.tables
     }

@@ -1,20 +1,20 @@
 // Features and classes: the first rule that fails (ECMA-367, 8.5, 8.8 and 8.20).
 
 ghost use Rattle.std.specs.Prelude.{◌≡◌, map};
-ghost use Rattle.sc_tree.specs.declared.system.FeatureKind.TheVariants as kind;
-ghost use Rattle.sc_tree.specs.View.{clause_of, class_of, declaration_of, feature_of, instrs_of, kind_of, name_of, type_if_any};
+ghost use Rattle.sc_tree.specs.Plain as plain;
+ghost use Rattle.sc_tree.specs.View.{clause_of, class_of, declaration_of, feature_of, instrs_of, kind_of, name_of, routine_of, type_if_any};
 ghost use Rattle.sc_rules.specs.Names as spec;
 ghost use Rattle.sc_rules.specs.SystemRules as rules;
 ghost use Rattle.sc_rules.specs.Judging as judging;
 ghost use Rattle.sc_rules.specs.JudgingSystem as judging_system;
 ghost use Rattle.sc_typing.specs.Marks.{is_marked};
-ghost use Rattle.sc_typing.specs.Views.{here_in};
-ghost use Rattle.sc_typing.specs.SystemIn.{system_in};
+ghost use Rattle.sc_typing.specs.Views.{routine_in};
+ghost use Rattle.sc_class.specs.SystemIn.{system_in};
 ghost use Rattle.sc_typing.specs.Judges.{Passes};
-ghost use Rattle.sc_check.specs.Parts as parts;
+ghost use Rattle.sc_check.specs.Internal.Parts as parts;
 
-use crate::conditions::{judge_clause, judge_clauses};
-use crate::formulas::{clause_span, formed, is_formula};
+use crate::declarations::formulas::{clause_span, is_formula, judge_form};
+use crate::instructions::conditions::{judge_clause, judge_clauses};
 use crate::instructions::judge_instructions;
 use sc_class::{ClassId, Tables};
 use sc_rules::{Context, Rule};
@@ -22,12 +22,15 @@ use sc_tree::{
     Class, Clause, Declaration, DeclaredType, Feature, FeatureKind, Instr, Name, Routine,
 };
 use sc_typing::{
-    CheckFault, Here, Purity, add_formals, add_locals, judge_type, refusal, required, result_type,
+    CheckFault, Purity, RoutineContext, add_formals, add_locals, judge_type, refusal, required,
+    result_type,
 };
 use std::alloc::Global;
 
+mod formulas;
+
 /// The class whose text is judged, by its number, with the tables of its system and the marks of pure functions.
-#[derive(Clone, Copy)]
+#[derive(Drop)]
 pub struct ClassText<'t, 's> {
     pub alloc: Global,
     pub tables: &'t Tables<'s>,
@@ -35,6 +38,7 @@ pub struct ClassText<'t, 's> {
     pub class: usize,
 }
 
+/// Judges the types of declarations, one after the other, whose tags may name these formals.
 fn judge_declarations(
     tables: &Tables,
     formals: &[Declaration],
@@ -48,6 +52,7 @@ fn judge_declarations(
     Ok(())
 }
 
+/// Judges the type of Result, where one is declared.
 fn judge_result_type(tables: &Tables, declared: &Option<DeclaredType>) -> Result<(), CheckFault>
     ensures { Passes (judging_system.judge_result_type (system_in tables.now) (type_if_any declared.now)) result }
 {
@@ -57,6 +62,7 @@ fn judge_result_type(tables: &Tables, declared: &Option<DeclaredType>) -> Result
     }
 }
 
+/// Whether it is an attribute or a function.
 #[tactic(auto, unfolding(sc_tree::specs::View::kind_of))]
 fn is_query(kind: &FeatureKind) -> bool
     ensures { result ≡ rules.is_query (kind_of kind.now) }
@@ -72,31 +78,35 @@ fn is_query(kind: &FeatureKind) -> bool
 
 /// Judges the text of a routine behind its types: precondition, locals, body and postcondition.
 fn judge_text<'s>(
-    here: &Here<'_, 's>,
+    routine: &RoutineContext<'_, 's>,
     precondition: &[Clause],
     locals: &'s [Declaration],
     body: &'s [Instr],
     postcondition: &[Clause],
 ) -> Result<(), CheckFault>
-    ensures { Passes (parts.judge_text (here_in here.now) (map clause_of precondition.now) (map declaration_of locals.now) (instrs_of body.now) (map clause_of postcondition.now)) result }
+    ensures { Passes (parts.judge_text (routine_in routine.now) (map clause_of precondition.now) (map declaration_of locals.now) (instrs_of body.now) (map clause_of postcondition.now)) result }
 {
-    let mut names = Vec::new(here.alloc);
-    add_formals(here.tables, here.formals, &mut names)?;
-    judge_clauses(here, Context::Require, &names, precondition)?;
-    judge_declarations(here.tables, here.formals, locals)?;
+    let mut names = Vec::new(routine.alloc);
+    add_formals(routine.tables, routine.formals, &mut names)?;
+    judge_clauses(routine, Context::Require, &names, precondition)?;
+    judge_declarations(routine.tables, routine.formals, locals)?;
     let known = names.len();
-    add_locals(here.tables, here.formals, locals, &mut names)?;
-    judge_instructions(here, &mut names, body)?;
+    add_locals(routine.tables, routine.formals, locals, &mut names)?;
+    judge_instructions(routine, &mut names, body)?;
     names.truncate(known);
-    judge_clauses(here, Context::Ensure, &names, postcondition)
+    judge_clauses(routine, Context::Ensure, &names, postcondition)
 }
 
 impl<'t, 's> ClassText<'t, 's> {
     /// A routine of the class with these formals and this result type.
-    fn here(&self, formals: &'s [Declaration], declared: &Option<DeclaredType>) -> Here<'t, 's>
-        ensures { here_in result ≡ spec.here_of (system_in self.now.tables.now) (is_marked self.now.purity.now) self.now.class (map declaration_of formals.now) (type_if_any declared.now) }
+    fn context(
+        &self,
+        formals: &'s [Declaration],
+        declared: &Option<DeclaredType>,
+    ) -> RoutineContext<'t, 's>
+        ensures { routine_in result ≡ spec.routine_context (system_in self.now.tables.now) (is_marked self.now.purity.now) self.now.class (map declaration_of formals.now) (type_if_any declared.now) }
     {
-        Here {
+        RoutineContext {
             alloc: self.alloc,
             tables: self.tables,
             class: self.class,
@@ -108,18 +118,18 @@ impl<'t, 's> ClassText<'t, 's> {
 
     /// Judges a routine: its types, precondition, locals, body and postcondition.
     #[tactic(auto, unfolding(sc_tree::specs::View::kind_of))]
-    fn judge_routine(&self, routine: &'s Routine) -> Result<(), CheckFault>
-        ensures { Passes (judging_system.judge_feature (system_in self.now.tables.now) (is_marked self.now.purity.now) self.now.class (kind_of (kind.Routine routine.now))) result }
+    fn judge_routine(&self, declared: &'s Routine) -> Result<(), CheckFault>
+        ensures { Passes (judging_system.judge_feature (system_in self.now.tables.now) (is_marked self.now.purity.now) self.now.class (plain.Routine (routine_of declared.now))) result }
     {
-        judge_declarations(self.tables, &routine.formals, &routine.formals)?;
-        judge_result_type(self.tables, &routine.result_type)?;
-        let here = self.here(&routine.formals, &routine.result_type);
+        judge_declarations(self.tables, &declared.formals, &declared.formals)?;
+        judge_result_type(self.tables, &declared.result_type)?;
+        let routine = self.context(&declared.formals, &declared.result_type);
         judge_text(
-            &here,
-            &routine.precondition,
-            &routine.locals,
-            &routine.body,
-            &routine.postcondition,
+            &routine,
+            &declared.precondition,
+            &declared.locals,
+            &declared.body,
+            &declared.postcondition,
         )
     }
 
@@ -140,9 +150,9 @@ impl<'t, 's> ClassText<'t, 's> {
         ensures { Passes (judging_system.judge_invariant (system_in self.now.tables.now) (is_marked self.now.purity.now) self.now.class (clause_of clause.now)) result }
     {
         let is_formula = is_formula(self.tables, self.class, &clause.condition);
-        let here = self.here(&[], &None);
-        let judged = judge_clause(&here, Context::Invariant, &[], clause);
-        formed(is_formula, clause_span(clause), judged)
+        let routine = self.context(&[], &None);
+        let judged = judge_clause(&routine, Context::Invariant, &[], clause);
+        judge_form(is_formula, clause_span(clause), judged)
     }
 
     /// Judges a name that the class lists under `create`.
@@ -159,6 +169,7 @@ impl<'t, 's> ClassText<'t, 's> {
         }
     }
 
+    /// Judges the names that the class lists under `create`, one after the other.
     fn judge_creators(&self, names: &[Name]) -> Result<(), CheckFault>
         ensures { Passes (judging.judge_each (judging_system.judge_creator (system_in self.now.tables.now) self.now.class) (map name_of names.now)) result }
     {
@@ -168,6 +179,7 @@ impl<'t, 's> ClassText<'t, 's> {
         Ok(())
     }
 
+    /// Judges the features of the class, one after the other.
     #[tactic(auto, unfolding(sc_tree::specs::View::feature_of))]
     fn judge_features(&self, features: &'s [Feature]) -> Result<(), CheckFault>
         ensures { Passes (judging.judge_each (parts.judge_declared (system_in self.now.tables.now) (is_marked self.now.purity.now) self.now.class) (map feature_of features.now)) result }
@@ -178,6 +190,7 @@ impl<'t, 's> ClassText<'t, 's> {
         Ok(())
     }
 
+    /// Judges the clauses of the invariant, one after the other.
     fn judge_invariants(&self, clauses: &[Clause]) -> Result<(), CheckFault>
         ensures { Passes (judging.judge_each (judging_system.judge_invariant (system_in self.now.tables.now) (is_marked self.now.purity.now) self.now.class) (map clause_of clauses.now)) result }
     {

@@ -5,13 +5,8 @@
 //! tells the pure functions.
 #![tactic(auto)]
 
-mod assignment;
-mod blocks;
 mod checked;
-mod conditions;
-mod creation;
 mod declarations;
-mod formulas;
 mod instructions;
 
 pub use checked::{Checked, check};

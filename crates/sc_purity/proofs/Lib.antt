@@ -1,6 +1,6 @@
-pub mod Searching
+pub mod CallerLemmas
 pub mod Called
-pub mod Spread
-pub mod SpreadingSteps
+pub mod Marked
+pub mod ImpureSearchSteps
 pub mod Runners
-pub mod DeedSteps
+pub mod EffectSteps

@@ -8,24 +8,24 @@ use Rattle.std.specs.declared.vec.Vec.{Vec}
 use Rattle.std.specs.declared.alloc.Global.{Global}
 use Rattle.sc_tree.specs.Plain.{System}
 use Rattle.sc_class.specs.declared.identity.ClassId.TheVariants as class
-use Rattle.sc_class.specs.Ancestors.{ancestors}
-use Rattle.sc_class.specs.Conformance.{is_ancestor}
-use Rattle.sc_class.specs.Tables.{ancestors_of}
-use Rattle.sc_class.specs.Features.{DeclaredFeature}
+use Rattle.sc_class.specs.Tables.Ancestors.{ancestors}
+use Rattle.sc_class.specs.Tables.Conformance.{is_ancestor}
+use Rattle.sc_class.specs.Tables.ByClass.{ancestors_of}
+use Rattle.sc_class.specs.Tables.Features.{DeclaredFeature}
 use Rattle.sc_class.specs.Search.{IsSeen, Grows, left_over}
 use Rattle.sc_class.proofs.Anys.{any_none, any_first, any_later, any_split}
 use Rattle.sc_class.proofs.CycleLemmas.{grows_then}
 use Rattle.sc_class.proofs.Items.{some_is}
 use Rattle.sc_rules.specs.Names.{RoutineName, routine_of}
 use Rattle.sc_rules.specs.Purity.{routine_named}
-use Rattle.sc_rules.specs.JudgingPurity.{leading, deeds_of_routine, Lists, RunsInto, called, redeclared}
+use Rattle.sc_rules.specs.JudgingPurity.{routine_call, effects_of_routine, Lists, RunsInto, called, redeclared}
 use Rattle.sc_typing.specs.FeatureNumbers.{all_features, feature_number}
-use Rattle.sc_purity.specs.Searching.{callers_in}
-use Rattle.sc_purity.specs.Spreading.{Spreads, RunsNumber, IsNamedIn, AreCallers, FindsRunners}
+use Rattle.sc_purity.specs.Internal.Callers.{callers_in}
+use Rattle.sc_purity.specs.Internal.ImpureSearch.{AreMarked, RunsNumber, IsNamedIn, AreCallers, MarksRunners}
 use Rattle.sc_typing.proofs.FeatureLemmas.{same_routine}
 use Rattle.sc_typing.proofs.FeatureNumbers.{Numbered, number_stands, is_declared, all_named, class_there}
-use Rattle.sc_purity.proofs.Spread.{spreads_on, looked_now}
-use Rattle.sc_purity.proofs.SpreadingSteps.{grows_as, StandsAt}
+use Rattle.sc_purity.proofs.Marked.{marked_on, seen_now}
+use Rattle.sc_purity.proofs.ImpureSearchSteps.{grows_as, StandsAt}
 
 number_is : (k c : ℕ) → (k == c) ≡ true → k ≡ c
 number_is k c e = grind arith
@@ -100,11 +100,11 @@ module _ (s : System) (j : ℕ) (e : DeclaredFeature) (is_it : slice_get (all_fe
     number_of_it : (f : RoutineName) → feature_number s f ≡ Some j → routine_of e ≡ f
     number_of_it f m = let t = number_stands s f j m in ap routine_of (some_is e t.feature (sym is_it ∙ t.stands_at)) ∙ t.is_it
 
-    called_found : (f r : RoutineName) (i : ℕ) → feature_number s r ≡ Some j → Numbered s f i → Lists (leading r) (deeds_of_routine s f) → IsSeen impure'' i
+    called_found : (f r : RoutineName) (i : ℕ) → feature_number s r ≡ Some j → Numbered s f i → Lists (routine_call r) (effects_of_routine s f) → IsSeen impure'' i
     called_found f r i m t p =
-        h.keeps i (a i (c.all_callers i j t.feature r (slice_get_within (all_features s) i t.feature t.stands_at) t.stands_at m (subst (λ f. Lists (leading r) (deeds_of_routine s f)) (sym t.is_it) p)))
+        h.keeps i (a i (c.all_callers i j t.feature r (slice_get_within (all_features s) i t.feature t.stands_at) t.stands_at m (subst (λ f. Lists (routine_call r) (effects_of_routine s f)) (sym t.is_it) p)))
 
-    pub runners_found : FindsRunners s j impure''
+    pub runners_found : MarksRunners s j impure''
     runners_found f r i m n (called p) = called_found f r i m (number_stands s f i n) p
     runners_found f r i m n (redeclared q x y z) =
         b i (subst (λ ks. IsNamedIn s ks (routine_of e).name i) (sym heirs)
@@ -116,7 +116,7 @@ module _ (s : System) (j : ℕ) (e : DeclaredFeature) (is_it : slice_get (all_fe
 pub runners : (s : System) (j : ℕ) (f : RoutineName) → StandsAt s j f → (impure impure' impure'' : List Bool) (todo todo' todo'' : List ℕ) (lists : List (Vec ℕ Global)) (ks : List ℕ) →
     AreCallers s lists (length (all_features s)) → ks ≡ callers_in lists j → Grows (Contains ks) impure todo impure' todo' × ((k : ℕ) → Contains ks k → IsSeen impure' k) →
     Grows (IsNamedIn s (ancestors_of s (class.Declared f.class)) f.name) impure' todo' impure'' todo'' × ((k : ℕ) → IsNamedIn s (ancestors_of s (class.Declared f.class)) f.name k → IsSeen impure'' k) →
-    Grows (RunsNumber s j) impure todo impure'' todo'' × FindsRunners s j impure''
+    Grows (RunsNumber s j) impure todo impure'' todo'' × MarksRunners s j impure''
 runners s j f st impure impure' impure'' todo todo' todo'' lists ks c e g h =
     of_it (subst (λ (ks : List ℕ). Grows (Contains ks) impure todo impure' todo' × ((k : ℕ) → Contains ks k → IsSeen impure' k)) e g)
     (subst (λ f. Grows (IsNamedIn s (ancestors_of s (class.Declared f.class)) f.name) impure' todo' impure'' todo'' × ((k : ℕ) → IsNamedIn s (ancestors_of s (class.Declared f.class)) f.name k → IsSeen impure'' k))
@@ -125,7 +125,7 @@ runners s j f st impure impure' impure'' todo todo' todo'' lists ks c e g h =
     of_it : Grows (Contains (callers_in lists j)) impure todo impure' todo' × ((k : ℕ) → Contains (callers_in lists j) k → IsSeen impure' k) →
         Grows (IsNamedIn s (ancestors_of s (class.Declared (routine_of st.feature).class)) (routine_of st.feature).name) impure' todo' impure'' todo'' ×
         ((k : ℕ) → IsNamedIn s (ancestors_of s (class.Declared (routine_of st.feature).class)) (routine_of st.feature).name k → IsSeen impure'' k) →
-        Grows (RunsNumber s j) impure todo impure'' todo'' × FindsRunners s j impure''
+        Grows (RunsNumber s j) impure todo impure'' todo'' × MarksRunners s j impure''
     of_it (g, a) (h, b) = (
       runners_grow s j st.feature st.is_there impure impure' impure'' todo todo' todo'' lists c g a h b,
       runners_found s j st.feature st.is_there impure impure' impure'' todo todo' todo'' lists c g a h b,
@@ -136,7 +136,7 @@ pub runners_read : (s : System) (j : ℕ) (f : RoutineName) → StandsAt s j f �
     AreCallers s lists (length (all_features s)) → ks ≡ callers_in lists j → cs ≡ ancestors_of s (class.Declared f.class) → x ≡ f.name →
     Grows (Contains ks) impure todo impure' todo' × ((k : ℕ) → Contains ks k → IsSeen impure' k) →
     Grows (IsNamedIn s cs x) impure' todo' impure'' todo'' × ((k : ℕ) → IsNamedIn s cs x k → IsSeen impure'' k) →
-    Grows (RunsNumber s j) impure todo impure'' todo'' × FindsRunners s j impure''
+    Grows (RunsNumber s j) impure todo impure'' todo'' × MarksRunners s j impure''
 runners_read s j f st impure impure' impure'' todo todo' todo'' lists ks cs x c e a n g h =
     runners s j f st impure impure' impure'' todo todo' todo'' lists ks c e g
     (subst (λ (x : List ℕ). Grows (IsNamedIn s (ancestors_of s (class.Declared f.class)) x) impure' todo' impure'' todo'' ×
@@ -151,18 +151,18 @@ callers_within s lists n j m ks c e l = All-weaker (Contains ks) (λ k. k < m) w
     within k i = subst (λ (m : ℕ). k < m) (sym l) (c.in_range j k (subst (λ (ks : List ℕ). Contains ks k) e i))
 
 -- what is taken from those still to be looked at is a feature
-pub taken_within : (s : System) (impure : List Bool) (todo rest : List ℕ) (j n : ℕ) → todo ≡ rest ++ j ∷ [] → n ≡ length (all_features s) → length impure ≡ length (all_features s) → Spreads s impure todo → j < n
-taken_within s impure todo rest j n e m l sp = subst (λ (n : ℕ). j < n) (l ∙ sym m) (slice_get_within impure j true (looked_now s impure todo rest j l sp e))
+pub taken_within : (s : System) (impure : List Bool) (todo rest : List ℕ) (j n : ℕ) → todo ≡ rest ++ j ∷ [] → n ≡ length (all_features s) → length impure ≡ length (all_features s) → AreMarked s impure todo → j < n
+taken_within s impure todo rest j n e m l sp = subst (λ (n : ℕ). j < n) (l ∙ sym m) (slice_get_within impure j true (seen_now s impure todo rest j l sp e))
 
 -- a step of the search keeps what it holds, and leaves less to do
-pub spread_more : (s : System) (impure impure' : List Bool) (todo rest todo' : List ℕ) (lists : List (Vec ℕ Global)) (j : ℕ) → todo ≡ rest ++ j ∷ [] →
-    (length impure ≡ length (all_features s)) × Spreads s impure todo × AreCallers s lists (length (all_features s)) → Grows (RunsNumber s j) impure rest impure' todo' × FindsRunners s j impure' →
-    (length impure' ≡ length (all_features s)) × Spreads s impure' todo' × AreCallers s lists (length (all_features s))
-spread_more s impure impure' todo rest todo' lists j e (n, sp, c) (g, r) = (g.same_length ∙ n, spreads_on s impure todo rest j n sp e impure' todo' g r, c)
+pub marked_more : (s : System) (impure impure' : List Bool) (todo rest todo' : List ℕ) (lists : List (Vec ℕ Global)) (j : ℕ) → todo ≡ rest ++ j ∷ [] →
+    (length impure ≡ length (all_features s)) × AreMarked s impure todo × AreCallers s lists (length (all_features s)) → Grows (RunsNumber s j) impure rest impure' todo' × MarksRunners s j impure' →
+    (length impure' ≡ length (all_features s)) × AreMarked s impure' todo' × AreCallers s lists (length (all_features s))
+marked_more s impure impure' todo rest todo' lists j e (n, sp, c) (g, r) = (g.same_length ∙ n, marked_on s impure todo rest j n sp e impure' todo' g r, c)
 
-pub spread_less : (s : System) (impure impure' : List Bool) (todo rest todo' : List ℕ) (j : ℕ) → todo ≡ rest ++ j ∷ [] → Grows (RunsNumber s j) impure rest impure' todo' × FindsRunners s j impure' →
+pub marked_fewer : (s : System) (impure impure' : List Bool) (todo rest todo' : List ℕ) (j : ℕ) → todo ≡ rest ++ j ∷ [] → Grows (RunsNumber s j) impure rest impure' todo' × MarksRunners s j impure' →
     left_over impure' todo' < left_over impure todo
-spread_less s impure impure' todo rest todo' j e (g, r) =
+marked_fewer s impure impure' todo rest todo' j e (g, r) =
     let m = g.no_more in
     let l : length todo ≡ length rest + 1 = ap length e ∙ length-append rest (j ∷ []) in
     omega (arith, m, l)

@@ -7,17 +7,17 @@
 ghost use Rattle.std.specs.Prelude.{◌≡◌, IfErr, IfOk};
 ghost use Rattle.sc_rules.specs.Purity.{IsPurity};
 ghost use Rattle.sc_typing.specs.Marks.{is_marked};
-ghost use Rattle.sc_typing.specs.SystemIn.{system_in};
+ghost use Rattle.sc_class.specs.SystemIn.{system_in};
 ghost use Rattle.sc_typing.specs.declared.fault.CheckFault.TheVariants.{OutOfMemory};
 
 mod body;
-mod deeds;
-mod fit;
+mod candidate;
+mod effects;
+mod impure_search;
 mod search;
-mod spreading;
 mod walk;
 
-use crate::spreading::impure_features;
+use crate::impure_search::impure_features;
 use sc_class::Tables;
 use sc_typing::{CheckFault, Marks, Numbering, Purity};
 use std::alloc::Global;

@@ -1,8 +1,9 @@
-// The search for the features that aren't pure functions: from those that offend to those that may run them.
+// The search for the features that aren't pure functions: from those that are impure themselves to those that may run them.
 
 ghost use Rattle.std.specs.Prelude.{◌≡◌, ◌<◌, ◌++◌, ℕ, [], ◌∷◌, OnOk, IfOk, length, if◌then◌else◌, ◌==◌};
-ghost use Rattle.sc_class.specs.Search.{IsSeen, Grows};
-ghost use Rattle.sc_purity.specs.Searching.{callers_in};
+ghost use Rattle.sc_class.specs.Search.{IsSeen};
+ghost use Rattle.sc_purity.specs.Internal.ImpureSearch.{MarksOf};
+ghost use Rattle.sc_purity.specs.Internal.Callers.{callers_in};
 
 use std::alloc::{AllocError, Global};
 
@@ -25,10 +26,10 @@ impl Search {
         })
     }
 
-    /// Finds a feature to be no pure function.
-    pub fn find(&mut self, number: usize) -> Result<(), AllocError>
+    /// Marks a feature as no pure function.
+    pub fn mark_impure(&mut self, number: usize) -> Result<(), AllocError>
         requires { number < length self.old.impure.items }
-        ensures { OnOk result (Grows (λ k. k ≡ number) self.old.impure.items self.old.todo.items self.new.impure.items self.new.todo.items × IsSeen self.new.impure.items number) }
+        ensures { OnOk result (MarksOf (λ k. k ≡ number) self.old self.new × IsSeen self.new.impure.items number) }
     {
         if self.impure[number] {
             return Ok(());

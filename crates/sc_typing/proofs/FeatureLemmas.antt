@@ -3,9 +3,9 @@ use Rattle.std.proofs.Common.{◌≡◌, ℕ, Bool, true, false, cond, List, [],
 use Rattle.std.specs.Prelude.{is_some, bytes_eq}
 use Rattle.std.specs.Option.{option_map}
 use Rattle.sc_tree.specs.Plain.{System, Feature}
-use Rattle.sc_class.specs.Features.{DeclaredFeature, declared_in, own_features, named_among}
+use Rattle.sc_class.specs.Tables.Features.{DeclaredFeature, declared_in, declared_features, named_among}
 use Rattle.sc_class.proofs.Items.{some_is}
-use Rattle.sc_class.proofs.FeatureLemmas.{named_own}
+use Rattle.sc_class.proofs.FeatureLemmas.{named_declared}
 use Rattle.sc_rules.specs.Names.{RoutineName}
 
 pub named_text : (x : List ℕ) (fs : List DeclaredFeature) (d : DeclaredFeature) → named_among x fs ≡ Some d → bytes_eq d.feature.name.text x ≡ true
@@ -16,8 +16,8 @@ named_text x (f ∷ fs) d e = by_first (bytes_eq f.feature.name.text x) refl (λ
     by_first true i further e = subst (λ f. bytes_eq f.feature.name.text x ≡ true) (some_is f d e) i
     by_first false i further e = further e
 
-pub own_class : (s : System) (k : ℕ) (x : List ℕ) (d : DeclaredFeature) → named_among x (own_features s k) ≡ Some d → d.class ≡ k
-own_class s k x d e = of_some _ (sym (named_own s k x) ∙ e)
+pub own_class : (s : System) (k : ℕ) (x : List ℕ) (d : DeclaredFeature) → named_among x (declared_features s k) ≡ Some d → d.class ≡ k
+own_class s k x d e = of_some _ (sym (named_declared s k x) ∙ e)
   where
     of_some : (o : Option Feature) → option_map (declared_in k) o ≡ Some d → d.class ≡ k
     of_some None e = cc

@@ -6,10 +6,10 @@ use Rattle.std.proofs.lemmas.Option.{slice_get_within}
 use Rattle.std.specs.Option.{option_map, option_map_or, option_and_then}
 use Rattle.sc_tree.specs.Plain.{System, Class, Feature}
 use Rattle.sc_class.specs.Names.{number_among}
-use Rattle.sc_class.specs.Own.{own_names, own_names_at, features_at}
-use Rattle.sc_class.specs.Features.{DeclaredFeature, declared_in, own_features, named_among}
+use Rattle.sc_class.specs.Tables.Declared.{declared_feature_names, declared_feature_names_at, features_at}
+use Rattle.sc_class.specs.Tables.Features.{DeclaredFeature, declared_in, declared_features, named_among}
 use Rattle.sc_class.proofs.NameLemmas.{same_text, number_below}
-use Rattle.sc_class.proofs.FeatureLemmas.{named_own}
+use Rattle.sc_class.proofs.FeatureLemmas.{named_declared}
 use Rattle.sc_class.proofs.Items.{some_is}
 use Rattle.sc_rules.specs.Names.{RoutineName, routine_of}
 use Rattle.sc_rules.specs.Purity.{routine_named}
@@ -71,24 +71,24 @@ pub record Numbered (s : System) (f : RoutineName) (i : ℕ) : Type 0 where
   pub is_it : routine_of feature ≡ f
 
 named_is : (s : System) (f : RoutineName) (d : DeclaredFeature) → routine_named s f ≡ Some d → routine_of d ≡ f
-named_is s f d e = same_routine (routine_of d) f (own_class s f.class f.name d e) (same_text d.feature.name.text f.name (named_text f.name (own_features s f.class) d e))
+named_is s f d e = same_routine (routine_of d) f (own_class s f.class f.name d e) (same_text d.feature.name.text f.name (named_text f.name (declared_features s f.class) d e))
 
 -- what is named by a number in its class
-named_at : (s : System) (f : RoutineName) (k : Option ℕ) (o : Option Feature) → number_among f.name (own_names_at s f.class) ≡ k → option_and_then (slice_get (features_at s f.class)) k ≡ o →
+named_at : (s : System) (f : RoutineName) (k : Option ℕ) (o : Option Feature) → number_among f.name (declared_feature_names_at s f.class) ≡ k → option_and_then (slice_get (features_at s f.class)) k ≡ o →
     routine_named s f ≡ option_map (declared_in f.class) o
 named_at s f k o e j =
-    named_own s f.class f.name ∙ ap (λ k. option_map (declared_in f.class) (option_and_then (slice_get (features_at s f.class)) k)) e ∙ ap (option_map (declared_in f.class)) j
+    named_declared s f.class f.name ∙ ap (λ k. option_map (declared_in f.class) (option_and_then (slice_get (features_at s f.class)) k)) e ∙ ap (option_map (declared_in f.class)) j
 
 never : {A : Type 0} (o : Option A) → o ≡ None → is_some o ≡ true → ⊥
 never o e i = cc
 
 pub numbered : (s : System) (f : RoutineName) (i : ℕ) → is_some (routine_named s f) ≡ true → feature_number s f ≡ Some i → Numbered s f i
-numbered s f i n e = by_number (number_among f.name (own_names_at s f.class)) refl e
+numbered s f i n e = by_number (number_among f.name (declared_feature_names_at s f.class)) refl e
   where
     nothing_before : (k : ℕ) → 0 + k ≡ k
     nothing_before k = omega arith
 
-    by_feature : (k : ℕ) → number_among f.name (own_names_at s f.class) ≡ Some k → (o : Option Feature) → slice_get (features_at s f.class) k ≡ o → start s.classes f.class + k ≡ i → Numbered s f i
+    by_feature : (k : ℕ) → number_among f.name (declared_feature_names_at s f.class) ≡ Some k → (o : Option Feature) → slice_get (features_at s f.class) k ≡ o → start s.classes f.class + k ≡ i → Numbered s f i
     by_feature k h None j g = absurd (never (routine_named s f) (named_at s f (Some k) None h j) n)
     by_feature k h (Some x) j g = record {
       feature = declared_in f.class x;
@@ -97,20 +97,20 @@ numbered s f i n e = by_number (number_among f.name (own_names_at s f.class)) re
       is_it = named_is s f (declared_in f.class x) (named_at s f (Some k) (Some x) h j);
     }
 
-    by_number : (o : Option ℕ) → number_among f.name (own_names_at s f.class) ≡ o → option_map (λ k. start s.classes f.class + k) o ≡ Some i → Numbered s f i
+    by_number : (o : Option ℕ) → number_among f.name (declared_feature_names_at s f.class) ≡ o → option_map (λ k. start s.classes f.class + k) o ≡ Some i → Numbered s f i
     by_number None h e = cc
     by_number (Some k) h e = by_feature k h (slice_get (features_at s f.class) k) refl (some_is (start s.classes f.class + k) i e)
 
 -- a routine that is declared has a number
 pub has_number : (s : System) (f : RoutineName) → is_some (routine_named s f) ≡ true → is_some (feature_number s f) ≡ true
-has_number s f n = by_number (number_among f.name (own_names_at s f.class)) refl
+has_number s f n = by_number (number_among f.name (declared_feature_names_at s f.class)) refl
   where
-    by_number : (o : Option ℕ) → number_among f.name (own_names_at s f.class) ≡ o → is_some (option_map (λ k. start s.classes f.class + k) o) ≡ true
+    by_number : (o : Option ℕ) → number_among f.name (declared_feature_names_at s f.class) ≡ o → is_some (option_map (λ k. start s.classes f.class + k) o) ≡ true
     by_number None h = absurd (never (routine_named s f) (named_at s f None None h refl) n)
     by_number (Some k) h = refl
 
 -- a number that a name has in its class is within the class's features
-as_many_names : (o : Option Class) → length (option_map_or own_names o []) ≡ length (option_map_or (λ (c : Class). c.features) o [])
+as_many_names : (o : Option Class) → length (option_map_or declared_feature_names o []) ≡ length (option_map_or (λ (c : Class). c.features) o [])
 as_many_names None = refl
 as_many_names (Some c) = length_mapped (λ (f : Feature). f.name) c.features
 
@@ -124,14 +124,14 @@ within (x ∷ xs) (suc k) l e = within xs k (less l) e
 
 -- what has a number is declared
 pub is_declared : (s : System) (f : RoutineName) (i : ℕ) → feature_number s f ≡ Some i → is_some (routine_named s f) ≡ true
-is_declared s f i e = by_number (number_among f.name (own_names_at s f.class)) refl e
+is_declared s f i e = by_number (number_among f.name (declared_feature_names_at s f.class)) refl e
   where
-    by_feature : (k : ℕ) → number_among f.name (own_names_at s f.class) ≡ Some k → (o : Option Feature) → slice_get (features_at s f.class) k ≡ o → is_some (routine_named s f) ≡ true
+    by_feature : (k : ℕ) → number_among f.name (declared_feature_names_at s f.class) ≡ Some k → (o : Option Feature) → slice_get (features_at s f.class) k ≡ o → is_some (routine_named s f) ≡ true
     by_feature k h None j =
-        absurd (within (features_at s f.class) k (subst (λ n. k < n) (as_many_names (slice_get s.classes f.class)) (number_below f.name (own_names_at s f.class) k h)) j)
+        absurd (within (features_at s f.class) k (subst (λ n. k < n) (as_many_names (slice_get s.classes f.class)) (number_below f.name (declared_feature_names_at s f.class) k h)) j)
     by_feature k h (Some x) j = ap is_some (named_at s f (Some k) (Some x) h j)
 
-    by_number : (o : Option ℕ) → number_among f.name (own_names_at s f.class) ≡ o → option_map (λ k. start s.classes f.class + k) o ≡ Some i → is_some (routine_named s f) ≡ true
+    by_number : (o : Option ℕ) → number_among f.name (declared_feature_names_at s f.class) ≡ o → option_map (λ k. start s.classes f.class + k) o ≡ Some i → is_some (routine_named s f) ≡ true
     by_number None h e = cc
     by_number (Some k) h e = by_feature k h (slice_get (features_at s f.class) k) refl
 
@@ -210,7 +210,7 @@ all_named s i d e = named_in (stands_among 0 s.classes i d e)
 
     named_in : Stands 0 s.classes d → is_some (routine_named s (routine_of d)) ≡ true
     named_in t =
-        subst (λ k. is_some (named_among d.feature.name.text (own_features s k)) ≡ true) (sym (t.is_declared_in ∙ nothing_before t.class))
+        subst (λ k. is_some (named_among d.feature.name.text (declared_features s k)) ≡ true) (sym (t.is_declared_in ∙ nothing_before t.class))
         (subst (λ (o : Option Class). is_some (named_among d.feature.name.text (option_map_or (λ (c : Class). map (declared_in t.class) c.features) o [])) ≡ true) (sym t.is_class)
         (found_there t.class t.text.features t.number d.feature t.is_feature))
 

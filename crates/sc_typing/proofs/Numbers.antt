@@ -8,10 +8,10 @@ use Rattle.sc_tree.specs.declared.system.Feature as tree_feature
 use Rattle.sc_tree.specs.Plain.{System, Class, Feature}
 use Rattle.sc_tree.specs.View.{class_of, feature_of}
 use Rattle.sc_class.specs.Names.{number_among}
-use Rattle.sc_class.specs.Own.{own_names, own_names_at}
-use Rattle.sc_class.specs.Features.{DeclaredFeature, declared_in}
-use Rattle.sc_class.specs.declared.own.FeatureEntry.{FeatureEntry}
-use Rattle.sc_class.specs.Entries.{entry_of}
+use Rattle.sc_class.specs.Tables.Declared.{declared_feature_names, declared_feature_names_at}
+use Rattle.sc_class.specs.Tables.Features.{DeclaredFeature, declared_in}
+use Rattle.sc_class.specs.declared.class_tables.feature_entry.FeatureEntry.{FeatureEntry}
+use Rattle.sc_class.specs.View.{entry_of}
 use Rattle.sc_class.proofs.Anys.{at}
 use Rattle.sc_class.proofs.Items.{some_is, item_in}
 use Rattle.sc_class.proofs.NameLemmas.{number_below}
@@ -20,19 +20,19 @@ use Rattle.sc_typing.specs.FeatureNumbers.{features_from, all_features, start, f
 
 -- ---- the number of a name
 
-own_names_are : (s : System) (k : ℕ) (text : tree_class.Class) → Some (class_of text) ≡ slice_get s.classes k → own_names_at s k ≡ map (λ (f : Feature). f.name) (map feature_of text.features.items)
+own_names_are : (s : System) (k : ℕ) (text : tree_class.Class) → Some (class_of text) ≡ slice_get s.classes k → declared_feature_names_at s k ≡ map (λ (f : Feature). f.name) (map feature_of text.features.items)
 unfolding class_of
-own_names_are s k text e = ap (λ (o : Option Class). option_map_or own_names o []) (sym e)
+own_names_are s k text e = ap (λ (o : Option Class). option_map_or declared_feature_names o []) (sym e)
 
 pub place_known : (s : System) (x : List ℕ) (k : ℕ) (text : tree_class.Class) (fs : List tree_feature.Feature) (p : Option ℕ) → Some (class_of text) ≡ slice_get s.classes k → fs ≡ text.features.items →
-    p ≡ number_among x (map (λ (f : Feature). f.name) (map feature_of fs)) → p ≡ number_among x (own_names_at s k)
+    p ≡ number_among x (map (λ (f : Feature). f.name) (map feature_of fs)) → p ≡ number_among x (declared_feature_names_at s k)
 place_known s x k text fs p e f g =
     g ∙ ap (λ fs. number_among x (map (λ (f : Feature). f.name) (map feature_of fs))) f ∙ ap (number_among x) (sym (own_names_are s k text e))
 
-pub none_numbered : (s : System) (x : List ℕ) (k : ℕ) (p : Option ℕ) → p ≡ number_among x (own_names_at s k) → p ≡ None → None ≡ feature_number s (record { class = k; name = x })
+pub none_numbered : (s : System) (x : List ℕ) (k : ℕ) (p : Option ℕ) → p ≡ number_among x (declared_feature_names_at s k) → p ≡ None → None ≡ feature_number s (record { class = k; name = x })
 none_numbered s x k p e f = ap (option_map (λ (i : ℕ). start s.classes k + i)) (sym f ∙ e)
 
-pub some_numbered : (s : System) (x : List ℕ) (k : ℕ) (p : Option ℕ) (i n : ℕ) → p ≡ number_among x (own_names_at s k) → p ≡ Some i → n ≡ start s.classes k →
+pub some_numbered : (s : System) (x : List ℕ) (k : ℕ) (p : Option ℕ) (i n : ℕ) → p ≡ number_among x (declared_feature_names_at s k) → p ≡ Some i → n ≡ start s.classes k →
     Some (n + i) ≡ feature_number s (record { class = k; name = x })
 some_numbered s x k p i n e f g = ap (λ (n : ℕ). Some (n + i)) g ∙ ap (option_map (λ (i : ℕ). start s.classes k + i)) (sym f ∙ e)
 
@@ -64,12 +64,12 @@ start_within j (d ∷ cs) (suc k) c e =
 
 -- the sum is the number of a feature
 pub sum_within : (s : System) (x : List ℕ) (k : ℕ) (text : tree_class.Class) (p : Option ℕ) (i n m : ℕ) → Some (class_of text) ≡ slice_get s.classes k →
-    p ≡ number_among x (own_names_at s k) → p ≡ Some i → n ≡ start s.classes k → m ≡ length (all_features s) → n + i < m
+    p ≡ number_among x (declared_feature_names_at s k) → p ≡ Some i → n ≡ start s.classes k → m ≡ length (all_features s) → n + i < m
 unfolding class_of
 sum_within s x k text p i n m e f g h t =
-    less (start_within 0 s.classes k (class_of text) (sym e)) (number_below x (own_names_at s k) i (sym f ∙ g)) (ap length (own_names_are s k text e) ∙ length-map (map feature_of text.features.items) (λ (f : Feature). f.name)) h t
+    less (start_within 0 s.classes k (class_of text) (sym e)) (number_below x (declared_feature_names_at s k) i (sym f ∙ g)) (ap length (own_names_are s k text e) ∙ length-map (map feature_of text.features.items) (λ (f : Feature). f.name)) h t
   where
-    less : start s.classes k + length (class_of text).features ≤ length (all_features s) → i < length (own_names_at s k) → length (own_names_at s k) ≡ length (map feature_of text.features.items) →
+    less : start s.classes k + length (class_of text).features ≤ length (all_features s) → i < length (declared_feature_names_at s k) → length (declared_feature_names_at s k) ≡ length (map feature_of text.features.items) →
         n ≡ start s.classes k → m ≡ length (all_features s) → n + i < m
     less a b c d e = omega (arith, a, b, c, d, e)
 

@@ -12,17 +12,17 @@ use Rattle.sc_rules.specs.Types.{declared_type}
 use Rattle.sc_rules.specs.Names.{FormalType, formal_type}
 use Rattle.sc_rules.specs.Typing.{has_type, takes_if_any}
 use Rattle.sc_rules.specs.Judging as judging
-use Rattle.sc_rules.specs.Judging.{type_found, is_taken}
-use Rattle.sc_typing.specs.declared.here.Formals.{Formals}
-use Rattle.sc_typing.specs.declared.here.Formals.TheVariants.{Declared}
-use Rattle.sc_typing.specs.declared.typing.Found.{Found}
-use Rattle.sc_typing.specs.Views.{formals_in, judged_in, found_in, types_in}
+use Rattle.sc_rules.specs.Judging.{judged_type, is_taken}
+use Rattle.sc_typing.specs.declared.routine_context.Formals.{Formals}
+use Rattle.sc_typing.specs.declared.routine_context.Formals.TheVariants.{Declared}
+use Rattle.sc_typing.specs.declared.expressions.typing.JudgedActual.{JudgedActual}
+use Rattle.sc_typing.specs.Views.{formals_in, judged_in, actual_in, types_in}
 
 -- the type of the actual at a number
-pub type_at : (fs : List Found) (i : ℕ) (f : Found) → slice_get fs i ≡ Some f → slice_get (types_in fs) i ≡ Some (type_found (judged_in f.judged))
+pub type_at : (fs : List JudgedActual) (i : ℕ) (f : JudgedActual) → slice_get fs i ≡ Some f → slice_get (types_in fs) i ≡ Some (judged_type (judged_in f.judged))
 type_at fs i f e =
-    slice_get-map (λ (r : judging.Found). type_found r.1) (map found_in fs) i
-    ∙ ap (option_map (λ (r : judging.Found). type_found r.1)) (slice_get-map found_in fs i ∙ ap (option_map found_in) e)
+    slice_get-map (λ (r : judging.JudgedActual). judged_type r.1) (map actual_in fs) i
+    ∙ ap (option_map (λ (r : judging.JudgedActual). judged_type r.1)) (slice_get-map actual_in fs i ∙ ap (option_map actual_in) e)
 
 pub has_type-some : (t : Option EntityType) → is_some t ≡ has_type (Some t)
 has_type-some None = refl

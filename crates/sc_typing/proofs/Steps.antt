@@ -9,14 +9,14 @@ use Rattle.sc_proctype.specs.declared.entity_type.EntityType.{EntityType}
 use Rattle.sc_rules.specs.declared.rule.Rule.TheVariants.{ArgumentType, PreconditionArgument}
 use Rattle.sc_rules.specs.declared.position.Context.{Context}
 use Rattle.sc_rules.specs.declared.position.Use.{Use}
-use Rattle.sc_rules.specs.Names.{Here, FormalType, Meaning}
+use Rattle.sc_rules.specs.Names.{RoutineContext, FormalType, Meaning}
 use Rattle.sc_rules.specs.Typing as typing
 use Rattle.sc_rules.specs.Judging as judging
-use Rattle.sc_rules.specs.Judging.{Judged, ◌>>=◌, required, is_taken, may_pass, rest, judge_actuals, judge_name, judge_meant, target_of, formals_of}
-use Rattle.sc_typing.specs.declared.typing.Found.{Found}
+use Rattle.sc_rules.specs.Judging.{Judged, ◌>>=◌, required, is_taken, may_pass, rest, judge_actuals, judge_name, judge_actuals_and_name, target_of, formals_of}
+use Rattle.sc_typing.specs.declared.expressions.typing.JudgedActual.{JudgedActual}
 use Rattle.sc_typing.specs.declared.fault.CheckFault.{CheckFault}
 use Rattle.sc_typing.specs.declared.fault.CheckFault.TheVariants.{Refused, OutOfMemory}
-use Rattle.sc_typing.specs.Views.{judged_in, found_in, types_in}
+use Rattle.sc_typing.specs.Views.{judged_in, actual_in, types_in}
 use Rattle.sc_typing.specs.Judges.{Faults, Judges, Passes, any_separate}
 
 -- ---- one after the other
@@ -62,26 +62,26 @@ pub any_more : (b : Bool) (u : typing.Typing) (j : Judged (List typing.Typing)) 
 any_more b u (Err f) = refl
 any_more b u (Ok us) = ap (λ c. Ok c) (or_assoc b u.is_separate (list_any (λ (t : typing.Typing). t.is_separate) us))
 
-module _ (h : Here) (c : Context) (r : Option EntityType) (t : EntityType) (ts : List (Option EntityType)) where
+module _ (h : RoutineContext) (c : Context) (r : Option EntityType) (t : EntityType) (ts : List (Option EntityType)) where
   -- the actuals from here on, each with its formal
-  abbrev pub judged_from : Bool → List FormalType → List Found → Judged Bool
-  judged_from b fs rs = any_separate b (judge_actuals h c r t ts fs (map found_in rs))
+  abbrev pub judged_from : Bool → List FormalType → List JudgedActual → Judged Bool
+  judged_from b fs rs = any_separate b (judge_actuals h c r t ts fs (map actual_in rs))
 
   -- behind an actual whose type may be passed
-  abbrev pub judged_passed : List FormalType → List Found → typing.Typing → Judged (List typing.Typing)
-  judged_passed fs rs u = judge_actuals h c r t ts (rest fs) (map found_in rs) >>= λ us. Ok (u ∷ us)
+  abbrev pub judged_passed : List FormalType → List JudgedActual → typing.Typing → Judged (List typing.Typing)
+  judged_passed fs rs u = judge_actuals h c r t ts (rest fs) (map actual_in rs) >>= λ us. Ok (u ∷ us)
 
   -- behind an actual that is taken
-  abbrev pub judged_taken : Span → List FormalType → List Found → typing.Typing → Judged (List typing.Typing)
+  abbrev pub judged_taken : Span → List FormalType → List JudgedActual → typing.Typing → Judged (List typing.Typing)
   judged_taken p fs rs u = required (may_pass c r u.type) PreconditionArgument p >>= λ w. judged_passed fs rs u
 
   -- behind what is found of an actual
-  abbrev pub judged_found : Span → List FormalType → List Found → typing.Typing → Judged (List typing.Typing)
+  abbrev pub judged_found : Span → List FormalType → List JudgedActual → typing.Typing → Judged (List typing.Typing)
   judged_found p fs rs u = required (is_taken h.system t ts fs u.type) ArgumentType p >>= λ w. judged_taken p fs rs u
 
-  module _ (fs : List FormalType) (rs : List Found) (i : ℕ) (d : Found) (b : Bool) (total : Judged Bool) (l : i < length rs)
+  module _ (fs : List FormalType) (rs : List JudgedActual) (i : ℕ) (d : JudgedActual) (b : Bool) (total : Judged Bool) (l : i < length rs)
       (inv : total ≡ judged_from b (drop i fs) (drop i rs)) where
-    abbrev x : Found
+    abbrev x : JudgedActual
     x = get_or rs i d
 
     at_actual : total ≡ any_separate b (judged_in x.judged >>= judged_found x.span (drop i fs) (drop (i + 1) rs))
@@ -120,7 +120,7 @@ module _ (h : Here) (c : Context) (r : Option EntityType) (t : EntityType) (ts :
         pub actual_passed : (m : Bool) → m ≡ may_pass c r u.type → required m PreconditionArgument x.span ≡ Ok tt → total ≡ judged_from (b || u.is_separate) (drop (i + 1) fs) (drop (i + 1) rs)
         actual_passed m v o =
             at_formal ∙ ap (λ j. any_separate b (j >>= λ w. judged_passed (drop i fs) (drop (i + 1) rs) u)) (ap (λ m. required m PreconditionArgument x.span) (sym v) ∙ o)
-            ∙ any_more b u (judge_actuals h c r t ts (rest (drop i fs)) (map found_in (drop (i + 1) rs)))
+            ∙ any_more b u (judge_actuals h c r t ts (rest (drop i fs)) (map actual_in (drop (i + 1) rs)))
             ∙ ap (λ gs. judged_from (b || u.is_separate) gs (drop (i + 1) rs)) (rest_drop fs i)
 
 -- ---- the actuals and the name
@@ -138,7 +138,7 @@ as_many_more : {X : Type 0} (a : X) (rs : List X) (u : typing.Typing) (j : Judge
 as_many_more a rs u (Ok us) p = ap suc p
 as_many_more a rs u (Err f) p = tt
 
-pub as_many : (h : Here) (c : Context) (r : Option EntityType) (t : EntityType) (ts : List (Option EntityType)) (fs : List FormalType) (rs : List judging.Found) → AsMany rs (judge_actuals h c r t ts fs rs)
+pub as_many : (h : RoutineContext) (c : Context) (r : Option EntityType) (t : EntityType) (ts : List (Option EntityType)) (fs : List FormalType) (rs : List judging.JudgedActual) → AsMany rs (judge_actuals h c r t ts fs rs)
 as_many h c r t ts fs [] = refl
 as_many h c r t ts fs (a ∷ rs) =
     as_many_then (a ∷ rs) a.1 _
@@ -146,42 +146,42 @@ as_many h c r t ts fs (a ∷ rs) =
     (λ w. as_many_then (a ∷ rs) (required (may_pass c r u.type) PreconditionArgument a.0) _
     (λ w. as_many_more a rs u (judge_actuals h c r t ts (rest fs) rs) (as_many h c r t ts (rest fs) rs))))
 
-module _ (h : Here) (c : Context) (u : Use) (a : Target) (m : Meaning) (p : Span) (fs : List Found) (r : typing.Typing) where
+module _ (h : RoutineContext) (c : Context) (u : Use) (a : Target) (m : Meaning) (p : Span) (fs : List JudgedActual) (r : typing.Typing) where
   -- behind the actuals
   abbrev pub judged_name : Bool → Judged typing.Typing
   judged_name b = judge_name h c u a m (length fs) p >>= λ t. Ok (typing.typing t (r.is_separate || b))
 
   abbrev pub judged_all : Judged Bool
-  judged_all = any_separate false (judge_actuals h c r.type (target_of h m) (types_in fs) (formals_of m) (map found_in fs))
+  judged_all = any_separate false (judge_actuals h c r.type (target_of h m) (types_in fs) (formals_of m) (map actual_in fs))
 
-  pub meant_is : judge_meant h c u a m p (map found_in fs) r ≡ judged_all >>= judged_name
-  meant_is = by (judge_actuals h c r.type (target_of h m) (types_in fs) (formals_of m) (map found_in fs)) (as_many h c r.type (target_of h m) (types_in fs) (formals_of m) (map found_in fs))
+  pub meant_is : judge_actuals_and_name h c u a m p (map actual_in fs) r ≡ judged_all >>= judged_name
+  meant_is = by (judge_actuals h c r.type (target_of h m) (types_in fs) (formals_of m) (map actual_in fs)) (as_many h c r.type (target_of h m) (types_in fs) (formals_of m) (map actual_in fs))
     where
-      by : (j : Judged (List typing.Typing)) → AsMany (map found_in fs) j →
+      by : (j : Judged (List typing.Typing)) → AsMany (map actual_in fs) j →
           (j >>= λ us. judge_name h c u a m (length us) p >>= λ t. Ok (typing.typing t (r.is_separate || list_any (λ (b : typing.Typing). b.is_separate) us))) ≡ any_separate false j >>= judged_name
-      by (Ok us) q = ap (λ k. judge_name h c u a m k p >>= λ t. Ok (typing.typing t (r.is_separate || list_any (λ (b : typing.Typing). b.is_separate) us))) (q ∙ length-map fs found_in)
+      by (Ok us) q = ap (λ k. judge_name h c u a m k p >>= λ t. Ok (typing.typing t (r.is_separate || list_any (λ (b : typing.Typing). b.is_separate) us))) (q ∙ length-map fs actual_in)
       by (Err f) q = refl
 
   module _ (t : EntityType) (gs : List FormalType) (v : t ≡ target_of h m) (w : gs ≡ formals_of m) where
     abbrev pub judged_these : Judged Bool
-    judged_these = any_separate false (judge_actuals h c r.type t (types_in fs) gs (map found_in fs))
+    judged_these = any_separate false (judge_actuals h c r.type t (types_in fs) gs (map actual_in fs))
 
     same : judged_all ≡ judged_these
-    same = sym (ap (λ t. any_separate false (judge_actuals h c r.type t (types_in fs) gs (map found_in fs))) v ∙ ap (λ gs. any_separate false (judge_actuals h c r.type (target_of h m) (types_in fs) gs (map found_in fs))) w)
+    same = sym (ap (λ t. any_separate false (judge_actuals h c r.type t (types_in fs) gs (map actual_in fs))) v ∙ ap (λ gs. any_separate false (judge_actuals h c r.type (target_of h m) (types_in fs) gs (map actual_in fs))) w)
 
-    pub meant_fails : (e : CheckFault) → Faults judged_these e → Faults (judge_meant h c u a m p (map found_in fs) r) e
+    pub meant_fails : (e : CheckFault) → Faults judged_these e → Faults (judge_actuals_and_name h c u a m p (map actual_in fs) r) e
     meant_fails e f = faults_along _ (judged_all >>= judged_name) e meant_is (faults_first judged_all judged_name e (faults_along judged_all judged_these e same f))
 
     module _ (b : Bool) (q : judged_these ≡ Ok b) where
       module _ (k : ℕ) (n : k ≡ length fs) where
-        pub meant_misnamed : (e : CheckFault) → Faults (judge_name h c u a m k p) e → Faults (judge_meant h c u a m p (map found_in fs) r) e
+        pub meant_misnamed : (e : CheckFault) → Faults (judge_name h c u a m k p) e → Faults (judge_actuals_and_name h c u a m p (map actual_in fs) r) e
         meant_misnamed e f =
             faults_along _ (judged_all >>= judged_name) e meant_is
             (faults_then judged_all judged_name b e (same ∙ q)
             (faults_first (judge_name h c u a m (length fs) p) (λ t. Ok (typing.typing t (r.is_separate || b))) e
             (faults_along (judge_name h c u a m (length fs) p) (judge_name h c u a m k p) e (ap (λ k. judge_name h c u a m k p) (sym n)) f)))
 
-        pub meant_done : (o : Option EntityType) (d : Bool) → judge_name h c u a m k p ≡ Ok o → d ≡ r.is_separate || b → judge_meant h c u a m p (map found_in fs) r ≡ Ok (typing.typing o d)
+        pub meant_done : (o : Option EntityType) (d : Bool) → judge_name h c u a m k p ≡ Ok o → d ≡ r.is_separate || b → judge_actuals_and_name h c u a m p (map actual_in fs) r ≡ Ok (typing.typing o d)
         meant_done o d f g =
             meant_is ∙ ap (λ j. j >>= judged_name) (same ∙ q)
             ∙ ap (λ j. j >>= λ t. Ok (typing.typing t (r.is_separate || b))) (ap (λ k. judge_name h c u a m k p) (sym n) ∙ f) ∙ ap (λ d. Ok (typing.typing o d)) (sym g)

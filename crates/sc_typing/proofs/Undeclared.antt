@@ -2,7 +2,7 @@
 use Rattle.std.proofs.Common.{◌≡◌, ℕ, true, false, Option, Some, None, refl, ap, sym, ◌∙◌}
 use Rattle.std.specs.Prelude.{is_some}
 use Rattle.sc_tree.specs.Plain.{System}
-use Rattle.sc_class.specs.Features.{DeclaredFeature}
+use Rattle.sc_class.specs.Tables.Features.{DeclaredFeature}
 use Rattle.sc_rules.specs.Names.{RoutineName}
 use Rattle.sc_rules.specs.Purity.{routine_named}
 use Rattle.sc_typing.specs.FeatureNumbers.{feature_number}

@@ -3,8 +3,8 @@ use Rattle.std.specs.Prelude.{◌+◌, ℕ, zero, suc, Bool, true, false, not, L
 use Rattle.std.specs.Option.{option_map}
 use Rattle.sc_tree.specs.Plain.{System, Class}
 use Rattle.sc_class.specs.Names.{number_among}
-use Rattle.sc_class.specs.Own.{own_names_at}
-use Rattle.sc_class.specs.Features.{DeclaredFeature, declared_in}
+use Rattle.sc_class.specs.Tables.Declared.{declared_feature_names_at}
+use Rattle.sc_class.specs.Tables.Features.{DeclaredFeature, declared_in}
 use Rattle.sc_rules.specs.Names.{RoutineName}
 
 -- the features that these classes declare, of which the first is at the number
@@ -24,7 +24,7 @@ start (c ∷ cs) (suc k) = length c.features + start cs k
 
 -- the number of the feature of this name that the class declares
 abbrev pub feature_number : System → RoutineName → Option ℕ
-feature_number s f = option_map (λ i. start s.classes f.class + i) (number_among f.name (own_names_at s f.class))
+feature_number s f = option_map (λ i. start s.classes f.class + i) (number_among f.name (declared_feature_names_at s f.class))
 
 -- Marks tell the pure functions: those of declared features that aren't marked as impure.
 abbrev pub unmarked : List Bool → Option ℕ → Bool

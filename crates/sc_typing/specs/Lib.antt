@@ -1,5 +1,4 @@
 pub mod FeatureNumbers
 pub mod Judges
 pub mod Marks
-pub mod SystemIn
 pub mod Views

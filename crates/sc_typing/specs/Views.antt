@@ -3,9 +3,9 @@ use Rattle.std.specs.Prelude.{List, [], ◌∷◌, Option, Some, None, Result, O
 use Rattle.std.specs.Option.{option_map}
 use Rattle.sc_tree.specs.Plain as plain
 use Rattle.sc_tree.specs.View.{declaration_of}
-use Rattle.sc_class.specs.declared.own.FeatureEntry.{FeatureEntry}
-use Rattle.sc_class.specs.Entries.{entry_of}
-use Rattle.sc_class.specs.Features.{DeclaredFeature}
+use Rattle.sc_class.specs.declared.class_tables.feature_entry.FeatureEntry.{FeatureEntry}
+use Rattle.sc_class.specs.View.{entry_of}
+use Rattle.sc_class.specs.Tables.Features.{DeclaredFeature}
 use Rattle.sc_proctype.specs.declared.entity_type.EntityType.{EntityType}
 use Rattle.sc_rules.specs.declared.fault.Fault.{Fault}
 use Rattle.sc_rules.specs.Names as names
@@ -13,23 +13,23 @@ use Rattle.sc_rules.specs.Typing as typing
 use Rattle.sc_rules.specs.Judging as judging
 use Rattle.sc_rules.specs.Types.{declared_type}
 use Rattle.sc_typing.specs.Marks.{is_marked}
-use Rattle.sc_typing.specs.SystemIn.{system_in}
-use Rattle.sc_typing.specs.declared.names.Entity.{Entity}
-use Rattle.sc_typing.specs.declared.actuals.FormalType.{FormalType}
-use Rattle.sc_typing.specs.declared.actuals.FormalType.TheVariants as formal
-use Rattle.sc_typing.specs.declared.assigned.Assigned.{Assigned}
-use Rattle.sc_typing.specs.declared.assigned.Assigned.TheVariants.{NoSuch, Fixed, Local, Attribute}
-use Rattle.sc_typing.specs.declared.here.Here.{Here}
-use Rattle.sc_typing.specs.declared.here.Formals.{Formals}
-use Rattle.sc_typing.specs.declared.here.Formals.TheVariants.{Declared, Printed}
-use Rattle.sc_typing.specs.declared.here.Signature.{Signature}
-use Rattle.sc_typing.specs.declared.here.Meaning.{Meaning}
-use Rattle.sc_typing.specs.declared.here.Meaning.TheVariants.{Unknown, Unresolved, Stands}
-use Rattle.sc_typing.specs.declared.typing.Typing.{Typing}
-use Rattle.sc_typing.specs.declared.typing.Found.{Found}
+use Rattle.sc_class.specs.SystemIn.{system_in}
+use Rattle.sc_typing.specs.declared.declarations.names.Entity.{Entity}
+use Rattle.sc_typing.specs.declared.expressions.actuals.FormalType.{FormalType}
+use Rattle.sc_typing.specs.declared.expressions.actuals.FormalType.TheVariants as formal
+use Rattle.sc_typing.specs.declared.declarations.assignee.Assignee.{Assignee}
+use Rattle.sc_typing.specs.declared.declarations.assignee.Assignee.TheVariants as assignee
+use Rattle.sc_typing.specs.declared.routine_context.RoutineContext.{RoutineContext}
+use Rattle.sc_typing.specs.declared.routine_context.Formals.{Formals}
+use Rattle.sc_typing.specs.declared.routine_context.Formals.TheVariants.{Declared, Printed}
+use Rattle.sc_typing.specs.declared.routine_context.Signature.{Signature}
+use Rattle.sc_typing.specs.declared.routine_context.Meaning.{Meaning}
+use Rattle.sc_typing.specs.declared.routine_context.Meaning.TheVariants as meaning
+use Rattle.sc_typing.specs.declared.expressions.typing.Typing.{Typing}
+use Rattle.sc_typing.specs.declared.expressions.typing.JudgedActual.{JudgedActual}
 
-abbrev pub here_in : Here → names.Here
-here_in h = record { system = system_in h.tables.now; class = h.class; formals = map declaration_of h.formals.now; result = h.result; pure = is_marked h.purity.now }
+abbrev pub routine_in : RoutineContext → names.RoutineContext
+routine_in h = record { system = system_in h.tables.now; class = h.class; formals = map declaration_of h.formals.now; result = h.result; pure = is_marked h.purity.now }
 
 abbrev pub entity_of : Entity → names.Entity
 entity_of e = names.entity e.name.now e.entity_type e.role
@@ -47,20 +47,20 @@ signature_in s g =
     record { target = g.target; formals = formals_in s g.formals; gives = g.gives; routine = option_map (λ e. names.routine_of (entry_of e)) g.routine; is_secret = g.is_secret }
 
 abbrev pub meaning_in : plain.System → Meaning → names.Meaning
-meaning_in s Unknown = names.unknown
-meaning_in s Unresolved = names.unresolved
-meaning_in s (Stands g) = names.stands (signature_in s g)
+meaning_in s meaning.Unknown = names.unknown
+meaning_in s meaning.TargetUntyped = names.target_untyped
+meaning_in s (meaning.Named g) = names.named (signature_in s g)
 
-abbrev pub assigned_in : Assigned → names.Assigned
-assigned_in NoSuch = names.no_such
-assigned_in Fixed = names.fixed
-assigned_in (Local t) = names.to_local t
-assigned_in (Attribute t) = names.to_attribute t
+abbrev pub assignee_in : Assignee → names.Assignee
+assignee_in assignee.Unknown = names.unknown_assignee
+assignee_in assignee.NotAssignable = names.unassignable
+assignee_in (assignee.Local t) = names.to_local t
+assignee_in (assignee.Attribute t) = names.to_attribute t
 
 abbrev pub formal_in : FormalType → names.FormalType
 formal_in (formal.Typed t) = names.of_type t
 formal_in formal.Untyped = names.of_none
-formal_in formal.Printed = names.of_expanded
+formal_in formal.Expanded = names.of_expanded
 
 abbrev pub formal_if_any : Option FormalType → Option names.FormalType
 formal_if_any None = None
@@ -74,9 +74,9 @@ judged_in (Ok t) = Ok (typing_of t)
 judged_in (Err f) = Err f
 
 -- an actual with what is found of it
-abbrev pub found_in : Found → judging.Found
-found_in f = (f.span, judged_in f.judged)
+abbrev pub actual_in : JudgedActual → judging.JudgedActual
+actual_in f = (f.span, judged_in f.judged)
 
 -- the types of actuals
-abbrev pub types_in : List Found → List (Option EntityType)
-types_in fs = judging.types_found (map found_in fs)
+abbrev pub types_in : List JudgedActual → List (Option EntityType)
+types_in fs = judging.judged_types (map actual_in fs)

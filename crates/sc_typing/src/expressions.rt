@@ -1,47 +1,38 @@
 // Expressions: what is found, or the first rule that fails (ECMA-367, 8.23, 8.24 and 8.28).
 
 ghost use Rattle.std.specs.Prelude.{◌≡◌, false, IfOk, Ok, map};
-ghost use Rattle.sc_tree.specs.View.{expr_of, exprs_of, name_of, target_of, type_if_any, type_of, declaration_of};
-ghost use Rattle.sc_rules.specs.Positions as spots;
+ghost use Rattle.sc_tree.specs.View.{expr_of, exprs_of, name_of, target_of, type_if_any};
+ghost use Rattle.sc_rules.specs.Positions as positions;
 ghost use Rattle.sc_rules.specs.Judging as judging;
-ghost use Rattle.sc_rules.specs.declared.position.Spot.TheVariants.{Condition};
-ghost use Rattle.sc_typing.specs.Views.{here_in, entity_of, typing_of};
-ghost use Rattle.sc_typing.specs.SystemIn.{system_in};
-ghost use Rattle.sc_typing.specs.Judges.{Judges, Passes, Finds, judge_call};
+ghost use Rattle.sc_rules.specs.declared.position.Position.TheVariants.{Condition};
+ghost use Rattle.sc_typing.specs.Views.{routine_in, entity_of, typing_of};
+ghost use Rattle.sc_typing.specs.Judges.{Judges, Passes, JudgesActuals, judge_call};
 
-use crate::calls::judge_target;
-use crate::fault::{CheckFault, refusal, required};
-use crate::here::Here;
-use crate::names::Entity;
-use crate::operators::{binary_result, unary_result};
-use crate::positions::{beside, is_and_then, span_of, takes_void, under};
-use crate::types::{declared_type, type_class};
-use crate::typing::{
-    Found, Typing, either, is_foreign_type, judge_result, kept, old_stands, operated, plainly,
+use crate::declarations::names::Entity;
+use crate::declarations::types::judge_type;
+use crate::expressions::calls::{CallSite, judge_receiver};
+use crate::expressions::positions::{
+    is_and_then, operand_context, operand_position, span_of, takes_void,
 };
-use sc_class::Tables;
+use crate::expressions::typing::{
+    JudgedActual, Typing, judge_binary, judge_result, judge_unary, keep_fault, simple_typing,
+};
+use crate::fault::{CheckFault, refusal, required};
+use crate::routine_context::RoutineContext;
 use sc_proctype::EntityType;
-use sc_rules::{Context, Role, Rule, Spot, Use};
-use sc_tree::{Call, Declaration, DeclaredType, Expr};
+use sc_rules::{Context, Position, Role, Rule, Use};
+use sc_tree::{Call, DeclaredType, Expr};
 
-/// The class of a declared type, then its tag and its mark.
-pub fn judge_type(
-    tables: &Tables,
-    formals: &[Declaration],
-    declared: &DeclaredType,
-) -> Result<(), CheckFault>
-    ensures { Passes (judging.judge_type (system_in tables.now) (map declaration_of formals.now) (type_of declared.now)) result }
-{
-    let class = type_class(tables, &declared.class.text);
-    required(class.is_some(), Rule::UnknownName, declared.class.span)?;
-    let typed = declared_type(tables, formals, declared);
-    required(typed.is_some(), Rule::TagName, declared.span)
-}
+pub mod actuals;
+pub mod calls;
+pub mod operators;
+pub mod positions;
+pub mod typing;
 
-impl<'t, 's> Here<'t, 's> {
+impl<'t, 's> RoutineContext<'t, 's> {
     /// Judges the type that an object test tests for, where one is written.
     pub fn judge_tested(&self, declared: &Option<DeclaredType>) -> Result<(), CheckFault>
-        ensures { Passes (judging.judge_tested (here_in self.now) (type_if_any declared.now)) result }
+        ensures { Passes (judging.judge_tested (routine_in self.now) (type_if_any declared.now)) result }
     {
         match declared {
             None => Ok(()),
@@ -55,21 +46,21 @@ impl<'t, 's> Here<'t, 's> {
     pub fn expression(
         &self,
         context: Context,
-        spot: Spot,
+        position: Position,
         names: &[Entity<'s>],
         e: &Expr,
     ) -> Result<Typing, CheckFault>
-        requires { spots.is_condition spot ≡ false }
-        ensures { Judges typing_of (judging.judge (here_in self.now) context spot (map entity_of names.now) (expr_of e.now)) result }
+        requires { positions.is_condition position ≡ false }
+        ensures { Judges typing_of (judging.judge (routine_in self.now) context position (map entity_of names.now) (expr_of e.now)) result }
     {
         match e {
-            Expr::Integer(_, _) => Ok(plainly(EntityType::integer())),
-            Expr::Boolean(_, _) => Ok(plainly(EntityType::boolean())),
+            Expr::Integer(_, _) => Ok(simple_typing(EntityType::integer())),
+            Expr::Boolean(_, _) => Ok(simple_typing(EntityType::boolean())),
             Expr::Void(span) => {
-                required(takes_void(spot), Rule::VoidUse, *span)?;
-                Ok(plainly(EntityType::void()))
+                required(takes_void(position), Rule::VoidUse, *span)?;
+                Ok(simple_typing(EntityType::void()))
             }
-            Expr::Current(_) => Ok(plainly(self.current())),
+            Expr::Current(_) => Ok(simple_typing(self.current())),
             Expr::Result(span) => {
                 let entity_type = judge_result(*span, self.result)?;
                 Ok(Typing {
@@ -79,25 +70,18 @@ impl<'t, 's> Here<'t, 's> {
             }
             Expr::Call(call) => self.call(context, Use::Value, names, call),
             Expr::Unary(span, operator, operand) => {
-                let inside = under(*operator, context);
-                let operand = self.expression(inside, Spot::Plain, names, operand)?;
-                required(
-                    old_stands(context, *operator, operand),
-                    Rule::OldPlace,
-                    *span,
-                )?;
-                let given = unary_result(*operator, operand.entity_type);
-                operated(*span, operand.is_separate, given)
+                let inside = operand_context(*operator, context);
+                let operand = self.expression(inside, Position::Plain, names, operand)?;
+                judge_unary(context, *span, *operator, operand)
             }
             Expr::Binary(span, operator, left, right) => {
-                let left = self.expression(context, beside(*operator), names, left)?;
-                let right = self.expression(context, beside(*operator), names, right)?;
-                let given = binary_result(*operator, left.entity_type, right.entity_type);
-                operated(*span, either(left.is_separate, right.is_separate), given)
+                let left = self.expression(context, operand_position(*operator), names, left)?;
+                let right = self.expression(context, operand_position(*operator), names, right)?;
+                judge_binary(*span, *operator, left, right)
             }
             Expr::ObjectTest(span, declared, tested, _) => {
                 self.judge_tested(declared)?;
-                self.expression(context, Spot::Plain, names, tested)?;
+                self.expression(context, Position::Plain, names, tested)?;
                 Err(refusal(Rule::ObjectTestPlace, *span))
             }
         }
@@ -112,17 +96,13 @@ impl<'t, 's> Here<'t, 's> {
         names: &[Entity<'s>],
         target: &Option<Box<Expr>>,
     ) -> Result<Typing, CheckFault>
-        ensures { Judges typing_of (judging.judge_receiver (here_in self.now) context (map entity_of names.now) (target_of target.now)) result }
+        ensures { Judges typing_of (judging.judge_receiver (routine_in self.now) context (map entity_of names.now) (target_of target.now)) result }
     {
         match target {
-            None => Ok(plainly(self.current())),
+            None => Ok(simple_typing(self.current())),
             Some(target) => {
-                let typing = self.expression(context, Spot::Plain, names, target)?;
-                judge_target(span_of(target), typing.entity_type)?;
-                Ok(Typing {
-                    entity_type: typing.entity_type,
-                    is_separate: either(typing.is_separate, is_foreign_type(typing.entity_type)),
-                })
+                let typing = self.expression(context, Position::Plain, names, target)?;
+                judge_receiver(span_of(target), typing)
             }
         }
     }
@@ -130,18 +110,18 @@ impl<'t, 's> Here<'t, 's> {
     /// What is found of the actuals of a call.
     #[cycle(expressions)]
     #[tactic(auto, unfolding(sc_rules::specs::Judging::judge, sc_tree::specs::View::expr_of))]
-    pub fn found(
+    pub fn judged_actuals(
         &self,
         context: Context,
         names: &[Entity<'s>],
         actuals: &[Expr],
-    ) -> Result<Vec<Found>, CheckFault>
-        ensures { Finds (judging.found (here_in self.now) context (map entity_of names.now) (exprs_of actuals.now)) result }
+    ) -> Result<Vec<JudgedActual>, CheckFault>
+        ensures { JudgesActuals (judging.judged_actuals (routine_in self.now) context (map entity_of names.now) (exprs_of actuals.now)) result }
     {
         let mut found = Vec::with_capacity(self.alloc, actuals.len())?;
         for actual in actuals {
-            let judged = kept(self.expression(context, Spot::Source, names, actual))?;
-            found.push(Found {
+            let judged = keep_fault(self.expression(context, Position::Source, names, actual))?;
+            found.push(JudgedActual {
                 span: span_of(actual),
                 judged,
             })?;
@@ -159,20 +139,18 @@ impl<'t, 's> Here<'t, 's> {
         names: &[Entity<'s>],
         call: &Call,
     ) -> Result<Typing, CheckFault>
-        ensures { Judges typing_of (judge_call (here_in self.now) context (map entity_of names.now) usage (target_of call.now.target) (name_of call.now.name) (exprs_of call.now.actuals.items)) result }
+        ensures { Judges typing_of (judge_call (routine_in self.now) context (map entity_of names.now) usage (target_of call.now.target) (name_of call.now.name) (exprs_of call.now.actuals.items)) result }
     {
         let receiver = self.receiver(context, names, &call.target)?;
         let meaning = self.meaning_of(names, &call.target, receiver.entity_type, &call.name);
-        let found = self.found(context, names, &call.actuals)?;
-        self.judge_meant(
+        let found = self.judged_actuals(context, names, &call.actuals)?;
+        let site = CallSite {
             context,
             usage,
-            &call.target,
-            meaning,
-            call.name.span,
-            &found,
-            receiver,
-        )
+            target: &call.target,
+            span: call.name.span,
+        };
+        self.judge_actuals_and_name(&site, &meaning, &found, receiver)
     }
 
     /// Judges the condition of an `if` or an operand of the `and then`s at its top. The names that its object tests give
@@ -184,22 +162,21 @@ impl<'t, 's> Here<'t, 's> {
         names: &mut Vec<Entity<'s>>,
         e: &'s Expr,
     ) -> Result<Typing, CheckFault>
-        ensures judged { Judges typing_of (judging.judge (here_in self.now) context Condition (map entity_of names.old.items) (expr_of e.now)) result }
-        ensures given { IfOk result (λ _. judging.judge_given (here_in self.now) context (map entity_of names.old.items) (expr_of e.now) ≡ Ok (map entity_of names.new.items)) }
+        ensures judged { Judges typing_of (judging.judge (routine_in self.now) context Condition (map entity_of names.old.items) (expr_of e.now)) result }
+        ensures given { IfOk result (λ _. judging.judge_given (routine_in self.now) context (map entity_of names.old.items) (expr_of e.now) ≡ Ok (map entity_of names.new.items)) }
     {
         match e {
             Expr::Binary(span, operator, left, right) => {
                 if !is_and_then(*operator) {
-                    return self.expression(context, Spot::Plain, names, e);
+                    return self.expression(context, Position::Plain, names, e);
                 }
                 let left = self.condition(context, names, left)?;
                 let right = self.condition(context, names, right)?;
-                let given = binary_result(*operator, left.entity_type, right.entity_type);
-                operated(*span, either(left.is_separate, right.is_separate), given)
+                judge_binary(*span, *operator, left, right)
             }
             Expr::ObjectTest(_, declared, tested, name) => {
                 self.judge_tested(declared)?;
-                let tested = self.expression(context, Spot::Plain, names, tested)?;
+                let tested = self.expression(context, Position::Plain, names, tested)?;
                 names.push(Entity {
                     name: name.text.as_str(),
                     entity_type: self.test_type(declared, tested.entity_type),
@@ -210,13 +187,13 @@ impl<'t, 's> Here<'t, 's> {
                     is_separate: tested.is_separate,
                 })
             }
-            Expr::Integer(_, _) => self.expression(context, Spot::Plain, names, e),
-            Expr::Boolean(_, _) => self.expression(context, Spot::Plain, names, e),
-            Expr::Void(_) => self.expression(context, Spot::Plain, names, e),
-            Expr::Current(_) => self.expression(context, Spot::Plain, names, e),
-            Expr::Result(_) => self.expression(context, Spot::Plain, names, e),
-            Expr::Call(_) => self.expression(context, Spot::Plain, names, e),
-            Expr::Unary(_, _, _) => self.expression(context, Spot::Plain, names, e),
+            Expr::Integer(_, _) => self.expression(context, Position::Plain, names, e),
+            Expr::Boolean(_, _) => self.expression(context, Position::Plain, names, e),
+            Expr::Void(_) => self.expression(context, Position::Plain, names, e),
+            Expr::Current(_) => self.expression(context, Position::Plain, names, e),
+            Expr::Result(_) => self.expression(context, Position::Plain, names, e),
+            Expr::Call(_) => self.expression(context, Position::Plain, names, e),
+            Expr::Unary(_, _, _) => self.expression(context, Position::Plain, names, e),
         }
     }
 }

@@ -13,7 +13,7 @@ pub use numbering::Numbering;
 #[derive(Drop)]
 pub enum Purity<'t, 's> {
     /// Every function is taken for pure.
-    Every,
+    NotAsked,
     /// The pure functions are known.
     Known(Marks<'t, 's>),
 }
@@ -25,7 +25,7 @@ impl<'t, 's> Purity<'t, 's> {
         ensures { result ≡ is_marked self.now (record { class = class; name = name.now }) }
     {
         match self {
-            Purity::Every => true,
+            Purity::NotAsked => true,
             Purity::Known(marks) => marks.is_pure(class, name),
         }
     }

@@ -4,10 +4,11 @@ ghost use Rattle.std.specs.Prelude.{◌≡◌, IfErr, IfOk, OnOk};
 ghost use Rattle.sc_rules.specs.JudgingSystem as judging_system;
 ghost use Rattle.sc_rules.specs.SystemRules.{WellFormed};
 ghost use Rattle.sc_check.specs.CheckFaults.{IsFirstOf, IsTrueOf};
+ghost use Rattle.sc_check.specs.CheckedSystems.{IsChecked};
 ghost use Rattle.sc_check.specs.CheckedTables.{tables_of};
 ghost use Rattle.sc_typing.specs.Judges.{Passes};
 ghost use Rattle.sc_typing.specs.Marks.{is_marked};
-ghost use Rattle.sc_typing.specs.SystemIn.{system_in};
+ghost use Rattle.sc_class.specs.SystemIn.{system_in};
 ghost use Rattle.sc_typing.specs.declared.fault.CheckFault.TheVariants.{OutOfMemory};
 
 use crate::checked::Checked;
@@ -25,7 +26,7 @@ fn judge_classes<'t, 's>(
 ) -> Result<(), CheckFault>
     ensures { Passes (judging_system.judge_system (system_in tables.now) (is_marked purity.now)) result }
 {
-    let classes = tables.outline.hierarchy.classes();
+    let classes = tables.classes();
     for class in 0..classes.len() {
         let text = ClassText {
             alloc,
@@ -41,6 +42,7 @@ fn judge_classes<'t, 's>(
 /// Whether no rule fails in the system of the tables.
 fn judge_system(alloc: Global, tables: &Tables) -> Result<(), CheckFault>
     ensures accepted { OnOk result (WellFormed (system_in tables.now)) }
+    ensures checked { OnOk result (IsChecked (system_in tables.now)) }
     ensures refused { IfErr result (IsTrueOf (system_in tables.now)) }
     ensures first { IfErr result (IsFirstOf (system_in tables.now)) }
 {
@@ -57,6 +59,7 @@ fn judge_system(alloc: Global, tables: &Tables) -> Result<(), CheckFault>
 /// features along ancestors and for the search for pure functions.
 pub fn check<'s>(alloc: Global, tables: Tables<'s>) -> Result<Checked<'s>, CheckFault>
     ensures accepted { OnOk result (WellFormed (system_in tables.entry)) }
+    ensures checked { OnOk result (IsChecked (system_in tables.entry)) }
     ensures of_it { IfOk result (λ checked. tables_of checked ≡ tables.entry) }
     ensures refused { IfErr result (IsTrueOf (system_in tables.entry)) }
     ensures first { IfErr result (IsFirstOf (system_in tables.entry)) }

@@ -2,7 +2,7 @@ use Rattle.std.proofs.Common.{ap, subst}
 use Rattle.sc_tree.specs.Plain.{System}
 use Rattle.sc_rules.specs.Purity.{IsPurity}
 use Rattle.sc_typing.specs.FeatureNumbers.{pure_by}
-use Rattle.sc_typing.specs.SystemIn.{system_in}
+use Rattle.sc_class.specs.SystemIn.{system_in}
 use Rattle.sc_purity.proofs.pure_functions.Goals as goal
 
 pub returns-clause-pure : goal.returns-clause-pure

@@ -2,7 +2,7 @@
 
 ghost use Rattle.std.specs.Prelude.{◌≡◌};
 ghost use Rattle.sc_typing.specs.FeatureNumbers.{pure_by};
-ghost use Rattle.sc_typing.specs.SystemIn.{system_in};
+ghost use Rattle.sc_class.specs.SystemIn.{system_in};
 
 use crate::purity::numbering::Numbering;
 

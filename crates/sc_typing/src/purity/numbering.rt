@@ -2,14 +2,14 @@
 
 ghost use Rattle.std.specs.Prelude.{◌≡◌, ◌<◌, ◌++◌, ℕ, Some, IfOk, OnOk, map, length, slice_get};
 ghost use Rattle.std.specs.Option.{option_map};
-ghost use Rattle.sc_tree.specs.View.{feature_of, system_of};
-ghost use Rattle.sc_class.specs.Entries.{entry_of};
-ghost use Rattle.sc_class.specs.Features.{declared_in};
+ghost use Rattle.sc_tree.specs.View.{feature_of};
+ghost use Rattle.sc_class.specs.View.{entry_of};
+ghost use Rattle.sc_class.specs.Tables.Features.{declared_in};
 ghost use Rattle.sc_class.specs.Names.{number_among};
 ghost use Rattle.std.proofs.Props.{props};
 ghost use Rattle.sc_rules.specs.Names.{routine_of};
 ghost use Rattle.sc_typing.specs.FeatureNumbers.{all_features, start, feature_number};
-ghost use Rattle.sc_typing.specs.SystemIn.{system_in};
+ghost use Rattle.sc_class.specs.SystemIn.{system_in};
 
 use sc_class::{FeatureEntry, Tables};
 use sc_tree::Feature;
@@ -22,9 +22,9 @@ pub struct Numbering<'t, 's> {
     /// By number, each feature with the class that declares it.
     pub features: Vec<FeatureEntry<'s>>,
     starts: Vec<usize>,
-    ghost are_all: { map (λ e. routine_of (entry_of e)) features.items ≡ map routine_of (all_features (system_of tables.now.outline.hierarchy.system.now)) } by { Prim.hlevel props },
-    ghost as_many: { length starts.items ≡ length (system_of tables.now.outline.hierarchy.system.now).classes },
-    ghost are_starts: { (k : ℕ) → k < length starts.items → slice_get starts.items k ≡ Some (start (system_of tables.now.outline.hierarchy.system.now).classes k) } by { Prim.hlevel props },
+    ghost are_all: { map (λ e. routine_of (entry_of e)) features.items ≡ map routine_of (all_features (system_in tables.now)) } by { Prim.hlevel props },
+    ghost as_many: { length starts.items ≡ length (system_in tables.now).classes },
+    ghost are_starts: { (k : ℕ) → k < length starts.items → slice_get starts.items k ≡ Some (start (system_in tables.now).classes k) } by { Prim.hlevel props },
 }
 
 /// How many of the features stand before the first of this name, where one is.
@@ -59,7 +59,7 @@ impl<'t, 's> Numbering<'t, 's> {
     pub fn of(alloc: Global, tables: &'t Tables<'s>) -> Result<Self, AllocError>
         ensures { IfOk result (λ numbering. numbering.tables.now ≡ tables.now) }
     {
-        let classes = tables.outline.hierarchy.classes();
+        let classes = tables.classes();
         let mut features = Vec::new(alloc);
         let mut starts = Vec::with_capacity(alloc, classes.len())?;
         for class in 0..classes.len() {
@@ -95,7 +95,7 @@ impl<'t, 's> Numbering<'t, 's> {
     pub fn number(&self, class: usize, name: &str) -> Option<usize>
         ensures { result ≡ feature_number (system_in self.now.tables.now) (record { class = class; name = name.now }) }
     {
-        match self.tables.outline.declared(class, name) {
+        match self.tables.declared(class, name) {
             None => None,
             Some(_) => self.place_number(class, name),
         }

@@ -1,5 +1,5 @@
 use Rattle.std.proofs.lemmas.Result.{err_from_is_err_and}
-use Rattle.sc_typing.specs.SystemIn.{system_in}
+use Rattle.sc_class.specs.SystemIn.{system_in}
 use Rattle.sc_check.proofs.Checking.{memory_alone}
 use Rattle.sc_check.proofs.checked.checking.check.Goals as goal
 

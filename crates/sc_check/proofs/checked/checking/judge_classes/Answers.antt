@@ -1,7 +1,7 @@
 use Rattle.std.proofs.Common.{ap, sym, arith}
 use Rattle.std.proofs.lemmas.Result.{err_from_is_err_and}
 use Rattle.sc_rules.specs.JudgingSystem.{judge_classes}
-use Rattle.sc_typing.specs.SystemIn.{system_in}
+use Rattle.sc_class.specs.SystemIn.{system_in}
 use Rattle.sc_typing.specs.Marks.{is_marked}
 use Rattle.sc_check.proofs.ClassSteps.{class_fails, class_passes, classes_pass}
 use Rattle.sc_check.proofs.checked.checking.judge_classes.Goals as goal

@@ -1,7 +1,7 @@
 use Rattle.std.proofs.Common.{◌≡◌, drop, map}
 use Rattle.sc_tree.specs.View.{class_of}
 use Rattle.sc_rules.specs.JudgingSystem.{judge_classes, judge_system}
-use Rattle.sc_typing.specs.SystemIn.{system_in}
+use Rattle.sc_class.specs.SystemIn.{system_in}
 use Rattle.sc_typing.specs.Marks.{is_marked}
 use Rattle.sc_check.proofs.checked.checking.judge_classes.Given as goal
 

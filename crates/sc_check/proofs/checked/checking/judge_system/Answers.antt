@@ -1,7 +1,7 @@
 use Rattle.std.proofs.lemmas.Result.{err_from_is_err_and}
 use Rattle.sc_typing.specs.Marks.{is_marked}
-use Rattle.sc_typing.specs.SystemIn.{system_in}
-use Rattle.sc_check.proofs.Checking.{passed, refused, first, memory_is_true, memory_is_first}
+use Rattle.sc_class.specs.SystemIn.{system_in}
+use Rattle.sc_check.proofs.Checking.{passed, passed_checked, refused, first, memory_is_true, memory_is_first}
 use Rattle.sc_check.proofs.checked.checking.judge_system.Goals as goal
 
 -- the search for pure functions fails for want of memory alone
@@ -18,6 +18,10 @@ returns-in_err-purity-clause-first c =
 pub returns-clause-accepted : goal.returns-clause-accepted
 returns-clause-accepted c =
     passed (system_in c.args.tables.now) (is_marked c.in_ok-purity.purity) c.judge_classes.result c.in_ok-purity.ensures.pure c.judge_classes.ensures
+
+pub returns-clause-checked : goal.returns-clause-checked
+returns-clause-checked c =
+    passed_checked (system_in c.args.tables.now) (is_marked c.in_ok-purity.purity) c.judge_classes.result c.in_ok-purity.ensures.pure c.judge_classes.ensures
 
 pub returns-clause-refused : goal.returns-clause-refused
 returns-clause-refused c =

@@ -1,4 +1,4 @@
-use Rattle.sc_purity.proofs.Searching.{callers_more}
+use Rattle.sc_purity.proofs.CallerLemmas.{callers_more}
 use Rattle.sc_purity.proofs.search.Callers.new.Goals as goal
 
 pub loop-number-preserved : goal.loop-number-preserved

@@ -1,5 +1,5 @@
 use Rattle.std.proofs.Common.{◌≡◌, ℕ, [], length}
-use Rattle.sc_purity.specs.Searching.{callers_in}
+use Rattle.sc_purity.specs.Internal.Callers.{callers_in}
 use Rattle.sc_purity.proofs.search.Callers.new.Given as goal
 
 abbrev pub invariant-loop-number : goal.invariant-loop-number

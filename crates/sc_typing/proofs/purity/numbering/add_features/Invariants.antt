@@ -1,6 +1,6 @@
 use Rattle.std.proofs.Common.{◌≡◌, map, drop, ◌++◌}
-use Rattle.sc_class.specs.Entries.{entry_of}
-use Rattle.sc_class.specs.Features.{declared_in}
+use Rattle.sc_class.specs.View.{entry_of}
+use Rattle.sc_class.specs.Tables.Features.{declared_in}
 use Rattle.sc_tree.specs.View.{feature_of}
 use Rattle.sc_typing.proofs.purity.numbering.add_features.Given as goal
 

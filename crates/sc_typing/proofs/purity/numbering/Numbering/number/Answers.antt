@@ -1,7 +1,7 @@
 use Rattle.std.proofs.Common.{ap}
 use Rattle.std.specs.Option.{option_map}
-use Rattle.sc_class.specs.Entries.{entry_of}
-use Rattle.sc_typing.specs.SystemIn.{system_in}
+use Rattle.sc_class.specs.View.{entry_of}
+use Rattle.sc_class.specs.SystemIn.{system_in}
 use Rattle.sc_typing.proofs.Undeclared.{undeclared}
 use Rattle.sc_typing.proofs.purity.numbering.Numbering.number.Goals as goal
 

@@ -1,5 +1,5 @@
 use Rattle.std.proofs.Common.{◌∙◌}
-use Rattle.sc_typing.specs.SystemIn.{system_in}
+use Rattle.sc_class.specs.SystemIn.{system_in}
 use Rattle.sc_typing.specs.FeatureNumbers.{all_features}
 use Rattle.sc_typing.proofs.Numbers.{numbered_none, numbered_more, all_numbered, all_started, starts_known}
 use Rattle.sc_typing.proofs.purity.numbering.Numbering.of.Goals as goal

@@ -1,4 +1,4 @@
-use Rattle.sc_typing.specs.SystemIn.{system_in}
+use Rattle.sc_class.specs.SystemIn.{system_in}
 use Rattle.sc_typing.specs.FeatureNumbers.{all_features}
 use Rattle.sc_typing.proofs.Numbers.{AreNumbered}
 use Rattle.sc_typing.proofs.purity.numbering.Numbering.of.Given as goal

@@ -1,9 +1,9 @@
 use Rattle.std.proofs.Common.{◌≡◌, length, arith, sym, ◌∙◌, ap}
 use Rattle.std.proofs.lemmas.List.{length-map}
-use Rattle.sc_class.specs.Entries.{entry_of}
+use Rattle.sc_class.specs.View.{entry_of}
 use Rattle.sc_rules.specs.Names.{routine_of}
 use Rattle.sc_typing.specs.FeatureNumbers.{all_features}
-use Rattle.sc_typing.specs.SystemIn.{system_in}
+use Rattle.sc_class.specs.SystemIn.{system_in}
 use Rattle.sc_typing.proofs.Numbers.{place_known, none_numbered, some_numbered, start_read, sum_within}
 use Rattle.sc_typing.proofs.purity.numbering.Numbering.place_number.Goals as goal
 

@@ -1,0 +1,28 @@
+use Rattle.std.proofs.Common.{map}
+use Rattle.sc_typing.specs.Views.{routine_in, entity_of}
+use Rattle.sc_purity.proofs.EffectSteps.{in_if, in_loop, in_block}
+use Rattle.sc_purity.proofs.body.+instruction_effects.Goals as goal
+
+pub add_instruction-returns-in_ok-add_instructions-in-If : goal.add_instruction-returns-in_ok-add_instructions-in-If
+add_instruction-returns-in_ok-add_instructions-in-If t c =
+    in_if (routine_in c.args.routine.now) (map entity_of c.args.names.now) c.args.instruction.now
+    c.in-If.field-0 c.in-If.condition c.in-If.body c.in-If.branches c.in-If.other c.in-If.is
+    c.deref.result.now c.deref.ensures.value c.deref-in-If.result.now c.deref-in-If.ensures.value c.deref-in-If-2.result.now c.deref-in-If-2.ensures.value
+    c.args.effects.now.items c.add_branch_effects.new.effects.items c.add_branches.new.effects.items c.add_instructions.new.effects.items
+    c.in_ok-add_branch_effects-in-If.ensures c.in_ok-add_branches-in-If.ensures c.in_ok-add_instructions-in-If.ensures
+
+pub add_instruction-returns-in_ok-add_instructions-in-Loop-2 : goal.add_instruction-returns-in_ok-add_instructions-in-Loop-2
+add_instruction-returns-in_ok-add_instructions-in-Loop-2 t c =
+    in_loop (routine_in c.args.routine.now) (map entity_of c.args.names.now) c.args.instruction.now
+    c.in-Loop.field-0 c.in-Loop.initial c.in-Loop.condition c.in-Loop.body c.in-Loop.is
+    c.deref-in-Loop.result.now c.deref-in-Loop.ensures.value c.deref-in-Loop-2.result.now c.deref-in-Loop-2.ensures.value
+    c.args.effects.now.items c.add_instructions-in-Loop.new.effects.items c.add_expression-in-Loop.new.effects.items c.add_instructions-in-Loop-2.new.effects.items
+    c.in_ok-add_instructions-in-Loop.ensures c.in_ok-add_expression-in-Loop.ensures.effects c.in_ok-add_instructions-in-Loop-2.ensures
+
+pub add_instruction-returns-in_ok-add_block-in-Block : goal.add_instruction-returns-in_ok-add_block-in-Block
+add_instruction-returns-in_ok-add_block-in-Block t c =
+    in_block (routine_in c.args.routine.now) (map entity_of c.args.names.now) c.args.instruction.now
+    c.in-Block.field-0 c.in-Block.heads c.in-Block.body c.in-Block.is
+    c.deref-in-Block.result.now c.deref-in-Block.ensures.value c.deref-in-Block-2.result.now c.deref-in-Block-2.ensures.value
+    c.args.effects.now.items c.add_side_effect_if-in-Block.new.effects.items c.add_block.new.effects.items
+    c.in_ok-add_side_effect_if-in-Block.ensures c.in_ok-add_block-in-Block.ensures

@@ -1,7 +1,0 @@
-use Rattle.std.proofs.Common.{◌≡◌, take}
-use Rattle.sc_rules.specs.Typing.{knowns}
-use Rattle.sc_typing.specs.Views.{types_in}
-use Rattle.sc_typing.proofs.actuals.knowns.Given as goal
-
-abbrev pub invariant-loop-actual : goal.invariant-loop-actual
-invariant-loop-actual l = l.known.items ≡ knowns (types_in (take l.actual-index l.found))
