@@ -1,9 +1,7 @@
 //! Formulas: the clauses of a class invariant, over the attributes of one object.
 #![tactic(auto, unfolding(crate::specs::Plain::plain_term, crate::specs::Plain::plain_formula))]
 
-ghost use Rattle.std.specs.Prelude.{◌≡◌, ◌↔◌, IfOk, IsTrue, All, map};
-ghost use Rattle.sc_formula.specs.Atom.{kinds_of};
-ghost use Rattle.sc_formula.specs.Fit.{IsFit};
+ghost use Rattle.std.specs.Prelude.{◌≡◌, ◌↔◌, IfOk, IsTrue, map};
 ghost use Rattle.sc_formula.specs.Formula.{Connected, Not, truth_of};
 ghost use Rattle.sc_formula.specs.Invariant.{Meets};
 ghost use Rattle.sc_formula.specs.Plain.{plain_formula};
@@ -78,27 +76,27 @@ impl Clone for Formula {
     }
 }
 
-/// The truth of a formula, or None where it overflows or divides by zero.
+/// The truth of a formula, or None where it overflows or divides by zero, or names an attribute that has no atom of
+/// its kind.
 ///
-/// Each attribute that the formula names has an atom of its kind. No memory is taken but a stack frame for
-/// each level of the formula: a parsed clause has at most 64, and some thousands fit into a megabyte.
+/// No memory is taken but a stack frame for each level of the formula: a parsed clause has at most 64, and some
+/// thousands fit into a megabyte.
 pub fn eval(formula: &Formula, atoms: &[Atom]) -> Option<bool>
-    requires { IsFit (plain_formula formula.now) (kinds_of atoms.now) }
     ensures { result ≡ truth_of (plain_formula formula.now) atoms.now }
 {
     match formula {
         Formula::Constant(value) => Some(*value),
-        Formula::Attribute(number) => match atoms[usize::from(*number)] {
+        Formula::Attribute(number) => match *atoms.get(usize::from(*number))? {
             Atom::Boolean(value) => Some(value),
-            _ => unreachable!(),
+            _ => None,
         },
-        Formula::IsVoid(number) => match atoms[usize::from(*number)] {
+        Formula::IsVoid(number) => match *atoms.get(usize::from(*number))? {
             Atom::Reference { is_void } => Some(is_void),
-            _ => unreachable!(),
+            _ => None,
         },
-        Formula::NotVoid(number) => match atoms[usize::from(*number)] {
+        Formula::NotVoid(number) => match *atoms.get(usize::from(*number))? {
             Atom::Reference { is_void } => Some(!is_void),
-            _ => unreachable!(),
+            _ => None,
         },
         Formula::Not(operand) => Some(!eval(operand, atoms)?),
         Formula::Compared(left, comparison, right) => {
@@ -116,7 +114,6 @@ pub fn eval(formula: &Formula, atoms: &[Atom]) -> Option<bool>
 
 /// Whether an object meets its class invariant: each clause is true.
 pub fn meets(clauses: &[Formula], atoms: &[Atom]) -> bool
-    requires { All (λ clause. IsFit (plain_formula clause) (kinds_of atoms.now)) clauses.now }
     ensures { IsTrue result ↔ Meets (map plain_formula clauses.now) atoms.now }
 {
     clauses

@@ -2,8 +2,6 @@
 #![tactic(auto, unfolding(crate::specs::Plain::plain_term))]
 
 ghost use Rattle.std.specs.Prelude.{◌≡◌, IfOk};
-ghost use Rattle.sc_formula.specs.Atom.{kinds_of};
-ghost use Rattle.sc_formula.specs.Fit.{IsFitTerm};
 ghost use Rattle.sc_formula.specs.Plain.{plain_term};
 ghost use Rattle.sc_formula.specs.Term.{Arithmetic, Identity, Opposite, value_of};
 
@@ -56,16 +54,15 @@ impl Term {
         Ok(Term::Arithmetic(left, operator, right))
     }
 
-    /// The value of the term, or None where it overflows or divides by zero.
+    /// The value of the term, or None where it overflows or divides by zero, or names an attribute that has no INTEGER.
     pub fn value(&self, atoms: &[Atom]) -> Option<i64>
-        requires { IsFitTerm (plain_term self.now) (kinds_of atoms.now) }
         ensures { result ≡ value_of (plain_term self.now) atoms.now }
     {
         match self {
             Term::Integer(value) => Some(*value),
-            Term::Attribute(number) => match atoms[usize::from(*number)] {
+            Term::Attribute(number) => match *atoms.get(usize::from(*number))? {
                 Atom::Integer(value) => Some(value),
-                _ => unreachable!(),
+                _ => None,
             },
             Term::Identity(operand) => operand.value(atoms),
             Term::Opposite(operand) => arithmetic::opposite(operand.value(atoms)?).ok(),

@@ -6,7 +6,7 @@ use Rattle.std.specs.Option.{option_map}
 use Rattle.std.specs.List.{flat_map}
 use Rattle.sc_tree.specs.Plain as tree
 use Rattle.sc_tree.specs.Plain.{System, Clause, FeatureKind}
-use Rattle.sc_class.specs.Features.{DeclaredFeature}
+use Rattle.sc_class.specs.Tables.Features.{DeclaredFeature}
 use Rattle.sc_proctype.specs.declared.entity_type.EntityType.{EntityType}
 use Rattle.sc_rules.specs.Types.{declared_type}
 use Rattle.sc_lockpass.specs.Rights.{held}
@@ -416,7 +416,7 @@ kind_brings : (N : ℕ → Request → Type 0) (s : System) (h : ℕ) (r : Reque
     (takes_kind s h r x below o f k w)
 kind_brings N s h r x below o f (tree.Attribute d) w ok = replies_brings N h r (declared_type s [] d)
     (binding_named x o.attributes) w
-kind_brings N s h r x below o f (tree.Routine a b c d e g) w ok = enters_brings N s h r.target (routine_of s f)
+kind_brings N s h r x below o f (tree.Routine c) w ok = enters_brings N s h r.target (routine_of s f)
     (Requested r) below (r ∷ []) r.actuals w (begins N h w r below ok)
 
 version_brings : (N : ℕ → Request → Type 0) (s : System) (h : ℕ) (r : Request) (x : List ℕ) (below : List Frame)

@@ -5,7 +5,7 @@ use Rattle.std.specs.Prelude.{◌&&◌, ◌||◌, not, if◌then◌else◌, is_s
 use Rattle.std.specs.Option.{option_map}
 use Rattle.sc_tree.specs.Plain as tree
 use Rattle.sc_tree.specs.Plain.{System, Clause, FeatureKind}
-use Rattle.sc_class.specs.Features.{DeclaredFeature}
+use Rattle.sc_class.specs.Tables.Features.{DeclaredFeature}
 use Rattle.sc_proctype.specs.declared.entity_type.EntityType.{EntityType}
 use Rattle.sc_rules.specs.Types.{declared_type}
 use Rattle.sc_lockpass.specs.Rights.{held}
@@ -231,7 +231,7 @@ kind_keeps : (s : System) (h : ℕ) (r : Request) (x : List ℕ) (below : List F
     (k : FeatureKind) (w : World) → Keeps h w (takes_kind s h r x below o f k w)
 kind_keeps s h r x below o f (tree.Attribute d) w = replies_keeps h r (declared_type s [] d)
     (binding_named x o.attributes) w
-kind_keeps s h r x below o f (tree.Routine a b c d e g) w = enters_keeps s h r.target (routine_of s f)
+kind_keeps s h r x below o f (tree.Routine c) w = enters_keeps s h r.target (routine_of s f)
     (Requested r) below (r ∷ []) r.actuals w
 
 version_keeps : (s : System) (h : ℕ) (r : Request) (x : List ℕ) (below : List Frame) (o : Option Object)

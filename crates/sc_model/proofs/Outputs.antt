@@ -5,7 +5,7 @@ use Rattle.std.specs.Prelude.{◌&&◌, ◌||◌, not, if◌then◌else◌, is_s
 use Rattle.std.specs.Option.{option_map}
 use Rattle.sc_tree.specs.Plain as tree
 use Rattle.sc_tree.specs.Plain.{System, Clause, FeatureKind}
-use Rattle.sc_class.specs.Features.{DeclaredFeature}
+use Rattle.sc_class.specs.Tables.Features.{DeclaredFeature}
 use Rattle.sc_proctype.specs.declared.entity_type.EntityType.{EntityType}
 use Rattle.sc_rules.specs.Types.{declared_type}
 use Rattle.sc_lockpass.specs.Rights.{held}
@@ -182,7 +182,7 @@ replies_leads h r None b w = fails_leads h cause.BadCode (r ∷ []) w
 
 kind_leads : (s : System) (h : ℕ) (r : Request) (x : List ℕ) (below : List Frame) (o : Object) (f : DeclaredFeature) (k : FeatureKind) (w : World) → Leads h w (takes_kind s h r x below o f k w)
 kind_leads s h r x below o f (tree.Attribute d) w = replies_leads h r (declared_type s [] d) (binding_named x o.attributes) w
-kind_leads s h r x below o f (tree.Routine a b c d e g) w = enters_leads s h r.target (routine_of s f) (Requested r) below (r ∷ []) r.actuals w
+kind_leads s h r x below o f (tree.Routine c) w = enters_leads s h r.target (routine_of s f) (Requested r) below (r ∷ []) r.actuals w
 
 version_leads : (s : System) (h : ℕ) (r : Request) (x : List ℕ) (below : List Frame) (o : Option Object) (f : Option DeclaredFeature) (w : World) → Leads h w (takes_version s h r x below o f w)
 version_leads s h r x below (Some o) (Some f) w = kind_leads s h r x below o f f.feature.kind w

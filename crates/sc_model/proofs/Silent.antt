@@ -14,11 +14,11 @@ use Rattle.sc_tree.specs.Plain.{System, FeatureKind, DeclaredType, Clause, Head,
 use Rattle.sc_class.specs.declared.identity.ClassId.{ClassId}
 use Rattle.sc_class.specs.declared.identity.ClassId.TheVariants as class
 use Rattle.sc_class.specs.Names.{is_print}
-use Rattle.sc_class.specs.Features.{DeclaredFeature, feature_named}
+use Rattle.sc_class.specs.Tables.Features.{DeclaredFeature, feature_named}
 use Rattle.sc_proctype.specs.declared.tag.Tag.{Tag}
 use Rattle.sc_proctype.specs.declared.tag.Tag.TheVariants as tag
 use Rattle.sc_proctype.specs.declared.entity_type.EntityType.{EntityType}
-use Rattle.sc_rules.specs.Names.{Assigned, no_such, fixed, to_local, to_attribute, assigned_type, Signature, signature_of, current, given, test_type}
+use Rattle.sc_rules.specs.Names.{Assignee, unknown_assignee, unassignable, to_local, to_attribute, assignee_type, Signature, signature_of, current, given_type, test_type}
 use Rattle.sc_model.specs.declared.cause.Cause.{Cause}
 use Rattle.sc_model.specs.declared.cause.Cause.TheVariants as cause
 use Rattle.sc_model.specs.Values.{Reference, Value, Integer, Boolean, Void, Attached, Operand}
@@ -207,8 +207,8 @@ kind_smaller : (n : ℕ) (r : Reference) (x : List ℕ) (us : List Operand) (g :
 unfolding Smaller
 kind_smaller n r x us (Some t) o (tree.Attribute d) p h = attribute_smaller n (binding_named x o.attributes) t p h
 kind_smaller n r x us None o (tree.Attribute d) p h = tt
-kind_smaller n r x us (Some t) o (tree.Routine a b c d e f) p h = tt
-kind_smaller n r x us None o (tree.Routine a b c d e f) p h = tt
+kind_smaller n r x us (Some t) o (tree.Routine c) p h = tt
+kind_smaller n r x us None o (tree.Routine c) p h = tt
 
 version_smaller : (n : ℕ) (r : Reference) (x : List ℕ) (us : List Operand) (g : Option EntityType) (o : Option Object) (f : Option DeclaredFeature) (p : Point) → size p.tasks < n → Smaller n (calls_version r x us g o f p)
 unfolding Smaller
@@ -283,7 +283,7 @@ creates_as_smaller n s me call (Some t) us p = creates_at_smaller n s me call t 
 creates_smaller : (n : ℕ) (s : System) (me : Reference) (x : Variable) (call : Option (List ℕ)) (us : Option (List Operand × List Operand)) (p : Point) → Smaller n (creates s me x call us p)
 unfolding Smaller
 creates_smaller n s me x call None p = tt
-creates_smaller n s me x call (Some (us, vs)) p = creates_as_smaller n s me call (assigned_type (assigned_at s x p)) us (record p { tasks = AssignTo x ∷ p.tasks; values = vs })
+creates_smaller n s me x call (Some (us, vs)) p = creates_as_smaller n s me call (assignee_type (assigned_at s x p)) us (record p { tasks = AssignTo x ∷ p.tasks; values = vs })
 
 -- ---- expressions
 
@@ -307,8 +307,8 @@ reads_own_smaller n (Some t) b p h = attribute_smaller n b t p h
 begins_kind_smaller : (s : System) (me : Reference) (x : List ℕ) (k : FeatureKind) (i : ℕ) (es : Exprs) (p : Point) → Smaller (exprs_size es + 2 + size p.tasks) (begins_kind s me x k i es p)
 unfolding Smaller
 begins_kind_smaller s me x (tree.Attribute d) i es p =
-    reads_own_smaller _ (given s (current (place_in s p.text)) d) (binding_named x (attributes_of me.number p.objects)) p (omega arith)
-begins_kind_smaller s me x (tree.Routine a b c d e f) i es p = evals_smaller _ i es _ p refl (omega arith)
+    reads_own_smaller _ (given_type s (current (place_in s p.text)) d) (binding_named x (attributes_of me.number p.objects)) p (omega arith)
+begins_kind_smaller s me x (tree.Routine c) i es p = evals_smaller _ i es _ p refl (omega arith)
 
 begins_feature_smaller : (s : System) (me : Reference) (x : List ℕ) (f : Option DeclaredFeature) (i : ℕ) (es : Exprs) (p : Point) → Smaller (exprs_size es + 2 + size p.tasks) (begins_feature s me x f i es p)
 unfolding Smaller
@@ -338,15 +338,15 @@ evaluate_smaller s me i (tree.ObjectTest q d a x) p = omega arith
 
 -- ---- instructions
 
-assigns_smaller : (n : ℕ) (me : Reference) (x : Variable) (a : Assigned) (v : Value) (p : Point) → size p.tasks < n → Smaller n (assigns me x a v p)
+assigns_smaller : (n : ℕ) (me : Reference) (x : Variable) (a : Assignee) (v : Value) (p : Point) → size p.tasks < n → Smaller n (assigns me x a v p)
 unfolding Smaller
 assigns_smaller n me (Named x) (to_local t) v p h = h
 assigns_smaller n me (Named x) (to_attribute t) v p h = h
 assigns_smaller n me (ResultVariable q) (to_local (Some t)) v p h = h
-assigns_smaller n me (Named x) no_such v p h = tt
-assigns_smaller n me (Named x) fixed v p h = tt
-assigns_smaller n me (ResultVariable q) no_such v p h = tt
-assigns_smaller n me (ResultVariable q) fixed v p h = tt
+assigns_smaller n me (Named x) unknown_assignee v p h = tt
+assigns_smaller n me (Named x) unassignable v p h = tt
+assigns_smaller n me (ResultVariable q) unknown_assignee v p h = tt
+assigns_smaller n me (ResultVariable q) unassignable v p h = tt
 assigns_smaller n me (ResultVariable q) (to_local None) v p h = tt
 assigns_smaller n me (ResultVariable q) (to_attribute t) v p h = tt
 
@@ -412,7 +412,7 @@ begins_smaller (tree.Assign q x e) p = omega arith
 begins_smaller (tree.PrintText q text) p = tt
 begins_smaller (tree.CallRoutine q tree.no_target x es) p = routine_smaller (is_print x.text) x.text es p
 begins_smaller (tree.CallRoutine q (tree.target a) x es) p = target_smaller _ 0 0 a es _ p refl (omega arith)
-begins_smaller (tree.Create q x k) p = evals_smaller _ 0 (actuals_of k) _ p refl (omega (arith, actuals_size k))
+begins_smaller (tree.Create q c) p = evals_smaller _ 0 (actuals_of c.call) _ p refl (omega (arith, actuals_size c.call))
 begins_smaller (tree.If q e body bs other) p = omega arith
 begins_smaller (tree.Loop q initial e body) p = omega arith
 begins_smaller (tree.Check q ks) p = comes_smaller _ (checks ks) p (omega (arith, checks_size ks))

@@ -4,7 +4,7 @@ use Rattle.sc_text.specs.declared.token.Span.{Span}
 use Rattle.sc_tree.specs.declared.expression.BinaryOperator.{BinaryOperator}
 use Rattle.sc_tree.specs.declared.expression.UnaryOperator.TheVariants as unary
 use Rattle.sc_tree.specs.Plain as tree
-use Rattle.sc_tree.specs.Plain.{System, Class, Feature, Name, DeclaredType, Declaration, HandlerTag, Own, Separate, Clause, Expr, Exprs, no_exprs, expr_then, no_target, target, Variable, Named, ResultVariable, Instr, Instrs, no_instrs, instr_then, no_branches}
+use Rattle.sc_tree.specs.Plain.{System, Class, Feature, Name, DeclaredType, Declaration, HandlerTag, Own, Separate, Clause, Expr, Exprs, no_exprs, expr_then, no_target, target, Variable, Named, ResultVariable, Instr, Instrs, no_instrs, instr_then, no_branches, RoutineDeclaration}
 use Rattle.sc_class.specs.ClassNames.{Root}
 
 abbrev pub nowhere : Span
@@ -94,10 +94,10 @@ abbrev pub call_on : List ℕ → List ℕ → List Expr → Instr
 call_on a x es = tree.CallRoutine nowhere (target (entity a)) (named x) (each es)
 
 abbrev pub create : List ℕ → Instr
-create x = tree.Create nowhere (Named (named x)) None
+create x = tree.Create nowhere (record { variable = Named (named x); call = None })
 
 abbrev pub create_by : List ℕ → List ℕ → List Expr → Instr
-create_by x f es = tree.Create nowhere (Named (named x)) (Some (record { name = named f; actuals = each es }))
+create_by x f es = tree.Create nowhere (record { variable = Named (named x); call = Some (record { name = named f; actuals = each es }) })
 
 abbrev pub clause : Expr → Clause
 clause e = record { tag = None; condition = e }
@@ -107,23 +107,31 @@ check e = tree.Check nowhere (clause e ∷ [])
 
 -- a separate block of one name
 abbrev pub block : Expr → List ℕ → List Instr → Instr
-block e x is = tree.Block nowhere (record { value = e; name = named x } ∷ []) (body is)
+block e x is = tree.block_instr nowhere (record { heads = record { value = e; name = named x } ∷ []; body = body is })
 
 -- ---- features and classes
 
 abbrev pub attribute : List ℕ → DeclaredType → Feature
 attribute x t = record { exports = []; name = named x; kind = tree.Attribute t }
 
+-- a routine that declares, requires, does and ensures nothing
+abbrev pub nothing_done : RoutineDeclaration
+nothing_done = record { formals = []; result_type = None; precondition = []; locals = []; body = no_instrs; postcondition = [] }
+
+abbrev pub with_routine : List ℕ → RoutineDeclaration → Feature
+with_routine x c = record { exports = []; name = named x; kind = tree.Routine c }
+
 -- a routine with its formals, its result, the clauses of its precondition and its body
 abbrev pub routine : List ℕ → List Declaration → Option DeclaredType → List Expr → List Instr → Feature
-routine x formals result pre is = record { exports = []; name = named x; kind = tree.Routine formals result (map clause pre) [] (body is) [] }
+routine x formals result pre is =
+    with_routine x (record nothing_done { formals = formals; result_type = result; precondition = map clause pre; body = body is })
 
 abbrev pub procedure : List ℕ → List Declaration → List Instr → Feature
 procedure x formals is = routine x formals None [] is
 
 -- a routine with the clauses of its postcondition
 abbrev pub ensuring : List ℕ → Option DeclaredType → List Instr → List Expr → Feature
-ensuring x result is post = record { exports = []; name = named x; kind = tree.Routine [] result [] [] (body is) (map clause post) }
+ensuring x result is post = with_routine x (record nothing_done { result_type = result; body = body is; postcondition = map clause post })
 
 abbrev pub class : List ℕ → List (List ℕ) → List Feature → List Expr → Class
 class x creators fs invariant =

@@ -2,8 +2,8 @@
 use Rattle.std.specs.Prelude.{ℕ, Bool, false, not, ◌&&◌, ◌||◌, ◌==◌, List, [], ◌∷◌, Option, Some, None, if◌then◌else◌}
 use Rattle.sc_tree.specs.Plain.{System, FeatureKind, Attribute, Routine}
 use Rattle.sc_class.specs.declared.identity.ClassId.TheVariants as class
-use Rattle.sc_class.specs.Conformance.{is_expanded}
-use Rattle.sc_class.specs.Features.{DeclaredFeature, feature_named}
+use Rattle.sc_class.specs.Tables.Conformance.{is_expanded}
+use Rattle.sc_class.specs.Tables.Features.{DeclaredFeature, feature_named}
 use Rattle.sc_proctype.specs.declared.tag.Tag.{Tag}
 use Rattle.sc_proctype.specs.declared.tag.Tag.TheVariants as tag
 use Rattle.sc_proctype.specs.declared.entity_type.EntityType.{EntityType}
@@ -55,7 +55,7 @@ calls_unqualified s me x (Some (us, vs)) p = calls_own s me x (feature_named s (
 abbrev pub calls_kind : Reference → List ℕ → List Operand → Option EntityType → Object → FeatureKind → Point → Step
 calls_kind r x us (Some t) o (Attribute d) p = reads_attribute (binding_named x o.attributes) t p
 calls_kind r x us None o (Attribute d) p = stuck p
-calls_kind r x us gives o (Routine formals result pre locals body post) p = Does (Enters Qualified r x us gives) p
+calls_kind r x us gives o (Routine c) p = Does (Enters Qualified r x us gives) p
 
 -- an attribute of the object is read, or a routine entered
 abbrev pub calls_version : Reference → List ℕ → List Operand → Option EntityType → Option Object → Option DeclaredFeature → Point → Step

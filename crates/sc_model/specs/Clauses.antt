@@ -2,7 +2,7 @@
 use Rattle.std.specs.Prelude.{ℕ, zero, suc, ◌≡◌, true, List, [], ◌∷◌, Option, Some, None, if◌then◌else◌}
 use Rattle.sc_tree.specs.Plain as tree
 use Rattle.sc_tree.specs.Plain.{System, Clause, FeatureKind}
-use Rattle.sc_class.specs.Features.{DeclaredFeature}
+use Rattle.sc_class.specs.Tables.Features.{DeclaredFeature}
 use Rattle.sc_proctype.specs.declared.entity_type.EntityType.{EntityType}
 use Rattle.sc_model.specs.Values.{Reference, Value, Boolean, Operand, operand, values_of}
 use Rattle.sc_model.specs.Environments.{Binding, binding_named, formals_bound}
@@ -70,7 +70,7 @@ gives_attribute gives b e callers = Sticks
 
 abbrev pub calls_kind : System → Reference → List ℕ → List Operand → List Object → Object → DeclaredFeature → FeatureKind → Evaluation → List Evaluation → Outcome
 calls_kind s r x us objects o f (tree.Attribute d) e callers = gives_attribute e.gives (binding_named x o.attributes) e callers
-calls_kind s r x us objects o f (tree.Routine formals result pre locals body post) e callers = evaluates_routine s r us objects (e ∷ callers) (routine_of s f)
+calls_kind s r x us objects o f (tree.Routine c) e callers = evaluates_routine s r us objects (e ∷ callers) (routine_of s f)
 
 -- the object's version of the feature, on its handler's objects
 abbrev pub calls : System → Reference → List ℕ → List Operand → List Object → Option Object → Option DeclaredFeature → Evaluation → List Evaluation → Outcome

@@ -6,7 +6,7 @@ use Rattle.sc_class.specs.declared.identity.ClassId.TheVariants as class
 use Rattle.sc_proctype.specs.declared.tag.Tag.{Tag}
 use Rattle.sc_proctype.specs.declared.tag.Tag.TheVariants as tag
 use Rattle.sc_proctype.specs.declared.entity_type.EntityType.{EntityType}
-use Rattle.sc_rules.specs.Names.{FormalType, Meaning, unknown, unresolved, stands, Assigned, assigned, assigned_type, attached, far}
+use Rattle.sc_rules.specs.Names.{FormalType, Meaning, unknown, target_untyped, named, Assignee, assignee, assignee_type, attached, qualified_meaning}
 use Rattle.sc_model.specs.declared.cause.Cause.TheVariants as cause
 use Rattle.sc_model.specs.Values.{Reference, Attached, Operand, operand}
 use Rattle.sc_model.specs.Environments.{scope_of}
@@ -19,18 +19,18 @@ use Rattle.sc_model.specs.Steps.{Point, Creation, Creates, CreatesHandler, Enter
 use Rattle.sc_model.specs.Calls.{passes_rights}
 
 -- what a variable stands for at the point
-abbrev pub assigned_at : System → Variable → Point → Assigned
-assigned_at s x p = assigned (place_in s p.text) (scope_of p.environment) x
+abbrev pub assigned_at : System → Variable → Point → Assignee
+assigned_at s x p = assignee (place_in s p.text) (scope_of p.environment) x
 
 abbrev pub formals_meant : Meaning → List FormalType
 formals_meant unknown = []
-formals_meant unresolved = []
-formals_meant (stands g) = g.formals
+formals_meant target_untyped = []
+formals_meant (named g) = g.formals
 
 -- the creation procedure is called with lock passing
 abbrev pub creation_passes : System → Text → EntityType → Option (List ℕ) → List Operand → Bool
 creation_passes s text t None us = false
-creation_passes s text t (Some x) us = passes_rights (formals_meant (far (place_in s text) t x)) us
+creation_passes s text t (Some x) us = passes_rights (formals_meant (qualified_meaning (place_in s text) t x)) us
 
 -- The new object is entered by its procedure, or without one tested at once.
 abbrev pub creates_object : System → Reference → EntityType → Option (List ℕ) → List Operand → Point → Step
@@ -60,4 +60,4 @@ creates_as s me call (Some t) us p = creates_at s me call t t.tag t.class us p
 abbrev pub creates : System → Reference → Variable → Option (List ℕ) → Option (List Operand × List Operand) → Point → Step
 creates s me x call None p = stuck p
 creates s me x call (Some (us, vs)) p =
-    creates_as s me call (assigned_type (assigned_at s x p)) us (record p { tasks = AssignTo x ∷ p.tasks; values = vs })
+    creates_as s me call (assignee_type (assigned_at s x p)) us (record p { tasks = AssignTo x ∷ p.tasks; values = vs })

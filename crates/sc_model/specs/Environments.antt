@@ -3,7 +3,7 @@ use Rattle.std.specs.Prelude.{ℕ, ◌+◌, Bool, true, false, not, ◌&&◌, Li
 use Rattle.std.specs.List.{filter_map}
 use Rattle.std.specs.Option.{option_map, option_and_then}
 use Rattle.sc_tree.specs.Plain.{System, Declaration, Name}
-use Rattle.sc_class.specs.Conformance.{is_expanded}
+use Rattle.sc_class.specs.Tables.Conformance.{is_expanded}
 use Rattle.sc_proctype.specs.declared.tag.Reserved.{Reserved}
 use Rattle.sc_proctype.specs.declared.tag.Reserved.TheVariants.{Formal, BlockName}
 use Rattle.sc_proctype.specs.declared.entity_type.EntityType.{EntityType}

@@ -14,11 +14,11 @@ use Rattle.sc_tree.specs.declared.expression.BinaryOperator.{BinaryOperator}
 use Rattle.sc_tree.specs.Plain as tree
 use Rattle.sc_tree.specs.Plain.{System, FeatureKind, Exprs}
 use Rattle.sc_class.specs.declared.identity.ClassId.TheVariants as class
-use Rattle.sc_class.specs.Features.{DeclaredFeature, feature_named}
+use Rattle.sc_class.specs.Tables.Features.{DeclaredFeature, feature_named}
 use Rattle.sc_proctype.specs.declared.entity_type.EntityType.{EntityType}
 use Rattle.sc_proctype.specs.Conformance.{void}
 use Rattle.sc_rules.specs.CallRules.{count}
-use Rattle.sc_rules.specs.Names.{current, given}
+use Rattle.sc_rules.specs.Names.{current, given_type}
 use Rattle.sc_model.specs.declared.cause.Cause.TheVariants as cause
 use Rattle.sc_model.specs.Values.{Reference, Value, Integer, Boolean, Void, Attached, Operand}
 use Rattle.sc_model.specs.Environments.{Binding, binding_named}
@@ -106,8 +106,8 @@ reads_own (Some t) b p = reads_attribute b t p
 
 -- an attribute of Current, or a routine with these actuals
 abbrev pub begins_kind : System → Reference → List ℕ → FeatureKind → ℕ → Exprs → Point → Step
-begins_kind s me x (tree.Attribute d) i es p = reads_own (given s (current (place_in s p.text)) d) (binding_named x (attributes_of me.number p.objects)) p
-begins_kind s me x (tree.Routine formals result pre locals body post) i es p = comes (evals i es ++ CallUnqualified x (count es) ∷ []) p
+begins_kind s me x (tree.Attribute d) i es p = reads_own (given_type s (current (place_in s p.text)) d) (binding_named x (attributes_of me.number p.objects)) p
+begins_kind s me x (tree.Routine c) i es p = comes (evals i es ++ CallUnqualified x (count es) ∷ []) p
 
 abbrev pub begins_feature : System → Reference → List ℕ → Option DeclaredFeature → ℕ → Exprs → Point → Step
 begins_feature s me x None i es p = stuck p

@@ -5,7 +5,7 @@ use Rattle.sc_tree.specs.Plain as tree
 use Rattle.sc_tree.specs.Plain.{System, Clause, Head, Name, Variable, Named, ResultVariable, CreationCall, Exprs, no_exprs, expr_then, Instr, Instrs, Branches, no_branches, branch_then}
 use Rattle.sc_class.specs.Names.{is_print}
 use Rattle.sc_rules.specs.CallRules.{count}
-use Rattle.sc_rules.specs.Names.{Assigned, to_local, to_attribute}
+use Rattle.sc_rules.specs.Names.{Assignee, to_local, to_attribute}
 use Rattle.sc_model.specs.declared.cause.Cause.{Cause}
 use Rattle.sc_model.specs.Values.{Reference, Value, Integer, Boolean, Void, Attached, Operand, operand}
 use Rattle.sc_model.specs.Environments.{assigned_to, block_bound}
@@ -16,7 +16,7 @@ use Rattle.sc_model.specs.Steps.{Point, Prints, Tests, Refuses, Opens, Step, Goe
 -- ---- assignment (8.22)
 
 -- a local of the name, an attribute of Current, or a Result gets the value
-abbrev pub assigns : Reference → Variable → Assigned → Value → Point → Step
+abbrev pub assigns : Reference → Variable → Assignee → Value → Point → Step
 assigns me (Named x) (to_local t) v p = Goes (record p { environment = assigned_to x.text v p.environment })
 assigns me (Named x) (to_attribute t) v p = Goes (record p { objects = with_attributes me.number (assigned_to x.text v (attributes_of me.number p.objects)) p.objects })
 assigns me (ResultVariable q) (to_local (Some t)) v p = Goes (record p { result = Some (operand v t) })
@@ -95,7 +95,7 @@ begins (tree.Assign q x e) p = comes (Eval 0 e ∷ AssignTo x ∷ []) p
 begins (tree.PrintText q text) p = Does (Prints text) p
 begins (tree.CallRoutine q tree.no_target x es) p = begins_routine (is_print x.text) x.text es p
 begins (tree.CallRoutine q (tree.target a) x es) p = comes (Eval 0 a ∷ evals 0 es ++ CallQualified x.text (count es) ∷ []) p
-begins (tree.Create q x k) p = comes (evals 0 (actuals_of k) ++ CreateBy x (procedure_of k) (count (actuals_of k)) ∷ []) p
+begins (tree.Create q c) p = comes (evals 0 (actuals_of c.call) ++ CreateBy c.variable (procedure_of c.call) (count (actuals_of c.call)) ∷ []) p
 begins (tree.If q e body bs other) p = comes (Eval 0 e ∷ Choose (length p.environment) body bs other ∷ []) p
 begins (tree.Loop q initial e body) p = comes (Do initial ∷ Repeat e body ∷ []) p
 begins (tree.Check q ks) p = comes (checks ks) p

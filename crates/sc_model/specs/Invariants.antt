@@ -18,7 +18,7 @@ use Rattle.sc_tree.specs.declared.expression.BinaryOperator.{BinaryOperator}
 use Rattle.sc_tree.specs.declared.expression.BinaryOperator.TheVariants as binary
 use Rattle.sc_tree.specs.Plain as tree
 use Rattle.sc_tree.specs.Plain.{Expr, Integer, Boolean, Call, no_target, no_exprs, Unary, Binary, Clause, System}
-use Rattle.sc_class.specs.Features.{features, invariant_of}
+use Rattle.sc_class.specs.Tables.Features.{features, invariant_of}
 use Rattle.sc_model.specs.Values as value
 use Rattle.sc_model.specs.Values.{Value}
 use Rattle.sc_model.specs.Environments.{Binding}

@@ -3,7 +3,7 @@ use Rattle.std.specs.Prelude.{ℕ, ◌-◌, ◌==◌, List, [], Option, Some, No
 use Rattle.std.specs.List.{filter_map}
 use Rattle.std.specs.Option.{option_map}
 use Rattle.sc_tree.specs.Plain.{System, FeatureKind, Attribute, Routine}
-use Rattle.sc_class.specs.Features.{DeclaredFeature, features}
+use Rattle.sc_class.specs.Tables.Features.{DeclaredFeature, features}
 use Rattle.sc_proctype.specs.declared.entity_type.EntityType.{EntityType}
 use Rattle.sc_rules.specs.declared.position.Role.TheVariants as role
 use Rattle.sc_rules.specs.Types.{declared_type}
@@ -18,7 +18,7 @@ pub record Object : Type 0 where
 -- an attribute with its default; a routine is none
 abbrev pub fresh_attribute : System → List ℕ → FeatureKind → Option Binding
 fresh_attribute s x (Attribute d) = option_map (λ (t : EntityType). bind x t role.Local (default_of t.class)) (declared_type s [] d)
-fresh_attribute s x (Routine formals result pre locals body post) = None
+fresh_attribute s x (Routine c) = None
 
 abbrev pub fresh_attributes : System → List DeclaredFeature → List Binding
 fresh_attributes s fs = filter_map (λ (f : DeclaredFeature). fresh_attribute s f.feature.name.text f.feature.kind) fs

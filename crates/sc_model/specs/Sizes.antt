@@ -39,7 +39,7 @@ abbrev mutual
   instr_size (tree.PrintText q t) = 1
   instr_size (tree.CallRoutine q no_target x es) = exprs_size es + 2
   instr_size (tree.CallRoutine q (target a) x es) = expr_size a + exprs_size es + 2
-  instr_size (tree.Create q x k) = creation_size k + 2
+  instr_size (tree.Create q c) = creation_size c.call + 2
   instr_size (tree.If q e body bs other) = expr_size e + instrs_size body + branches_size bs + instrs_size other + 4
   instr_size (tree.Loop q initial e body) = instrs_size initial + expr_size e + 4
   instr_size (tree.Check q ks) = clauses_size ks + 1

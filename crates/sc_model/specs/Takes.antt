@@ -2,7 +2,7 @@
 use Rattle.std.specs.Prelude.{ℕ, Bool, true, false, List, [], ◌∷◌, ◌++◌, Option, Some, None, ◌==◌, if◌then◌else◌}
 use Rattle.sc_tree.specs.Plain as tree
 use Rattle.sc_tree.specs.Plain.{System, FeatureKind}
-use Rattle.sc_class.specs.Features.{DeclaredFeature}
+use Rattle.sc_class.specs.Tables.Features.{DeclaredFeature}
 use Rattle.sc_proctype.specs.declared.entity_type.EntityType.{EntityType}
 use Rattle.sc_rules.specs.Types.{declared_type}
 use Rattle.sc_waitcond.specs.declared.session.Release.TheVariants as release_at
@@ -28,7 +28,7 @@ replies h r t b w = fails_with h cause.BadCode (r ∷ []) w
 
 abbrev pub takes_kind : System → ℕ → Request → List ℕ → List Frame → Object → DeclaredFeature → FeatureKind → World → World
 takes_kind s h r x below o f (tree.Attribute d) w = replies h r (declared_type s [] d) (binding_named x o.attributes) w
-takes_kind s h r x below o f (tree.Routine formals result pre locals body post) w =
+takes_kind s h r x below o f (tree.Routine c) w =
     enters s h r.target (routine_of s f) (Requested r) below (r ∷ []) r.actuals w
 
 abbrev pub takes_version : System → ℕ → Request → List ℕ → List Frame → Option Object → Option DeclaredFeature → World → World

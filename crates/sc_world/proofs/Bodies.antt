@@ -21,7 +21,7 @@ use Rattle.sc_tree.specs.Plain as plain
 use Rattle.sc_tree.specs.View.{expr_of, instrs_of, type_if_any, declaration_of, kind_of, feature_of, clause_of}
 use Rattle.sc_world.specs.Object.{Binding, fresh_attribute, fresh_attributes}
 use Rattle.sc_world.specs.Invariant.{formula_of, with_clause, clauses_of}
-use Rattle.sc_world.specs.Turn.{body_of, body_named}
+use Rattle.sc_world.specs.Turn.{body_if_bare, body_of, body_named}
 use Rattle.sc_world.proofs.Views.{feature_name, kind_of-routine, clause_condition}
 
 dropped : {A : Type 0} (xs : List A) (i : ℕ) (x : A) → i < length xs → x ≡ get_or xs i x → drop i xs ≡ x ∷ drop (i + 1) xs
@@ -75,7 +75,7 @@ length_fresh (f ∷ fs) = omega (arith, length_fresh fs, length_cons (fresh_attr
 -- the body of a routine with these parts
 abbrev body_with : List Declaration → Option DeclaredType → List Clause → List Declaration → plain.Instrs → List Clause → Option plain.Instrs
 body_with formals result pre locals body post =
-    body_of (plain.Routine (map declaration_of formals) (type_if_any result) (map clause_of pre) (map declaration_of locals) body (map clause_of post))
+    body_if_bare (map declaration_of formals) (type_if_any result) (map clause_of pre) (map declaration_of locals) (map clause_of post) body
 
 no_items : {A : Type 0} (v : Vec A Global) → (vec_len v == 0) ≡ true → v.items ≡ []
 no_items v e = let none : vec_len v ≡ 0 = grind (arith, nat_tests) in nil_from_length v.items (omega (arith, none, v.ok.0))

@@ -9,7 +9,7 @@ use Rattle.sc_tree.specs.declared.system.Feature.{Feature}
 use Rattle.sc_tree.specs.declared.system.Class.{Class}
 use Rattle.sc_tree.specs.declared.system.System.{System}
 use Rattle.sc_tree.specs.Plain as plain
-use Rattle.sc_tree.specs.View.{expr_of, instrs_of, type_of, type_if_any, declaration_of, kind_of, feature_of, clause_of, class_of, system_of}
+use Rattle.sc_tree.specs.View.{expr_of, type_of, routine_of, kind_of, feature_of, clause_of, class_of, system_of}
 use Rattle.sc_tree.proofs.ViewLemmas.{expr_of-integer, expr_of-boolean, expr_of-void, expr_of-current, expr_of-result, expr_of-call, expr_of-unary, expr_of-binary, expr_of-object_test, instr_of-assign, instr_of-print_text, instr_of-call, instr_of-create, instr_of-if, instr_of-loop, instr_of-check, instr_of-block}
 
 pub feature_name : (f : Feature) → (feature_of f).name.text ≡ string_bytes f.name.text
@@ -24,9 +24,7 @@ pub kind_of-attribute : (t : DeclaredType) → kind_of (kind.Attribute t) ≡ pl
 unfolding kind_of
 kind_of-attribute t = refl
 
-pub kind_of-routine : (r : Routine) →
-    kind_of (kind.Routine r)
-    ≡ plain.Routine (map declaration_of r.formals.items) (type_if_any r.result_type) (map clause_of r.precondition.items) (map declaration_of r.locals.items) (instrs_of r.body.items) (map clause_of r.postcondition.items)
+pub kind_of-routine : (r : Routine) → kind_of (kind.Routine r) ≡ plain.Routine (routine_of r)
 unfolding kind_of
 kind_of-routine r = refl
 

@@ -7,22 +7,22 @@ use Rattle.sc_world.specs.Handler.{Handler}
 use Rattle.sc_world.specs.Turn.{turn}
 use Rattle.sc_world.specs.World.{IsReached, FreeObjectsMeet}
 use Rattle.sc_world.proofs.Reached.{run-append, reached_meet, reached_more}
-use Rattle.sc_world.specs.Kept.{Kept, IsKept, after_run}
+use Rattle.sc_world.specs.WorldState.{WorldState, IsReachable, after_run}
 
-pub after_run-append : (kept : Kept) (first second : List ℕ) → after_run (after_run kept first) second ≡ after_run kept (first ++ second)
-after_run-append kept first second = ap (λ s. record kept { state = s }) (sym (run-append kept.system first second kept.state))
+pub after_run-append : (world : WorldState) (first second : List ℕ) → after_run (after_run world first) second ≡ after_run world (first ++ second)
+after_run-append world first second = ap (λ s. record world { state = s }) (sym (run-append world.system first second world.state))
 
 -- one step more
-pub after_one : (kept : Kept) (numbers : List ℕ) (i d : ℕ) → i < length numbers → after_run (after_run kept (take i numbers)) (get_or numbers i d ∷ []) ≡ after_run kept (take (i + 1) numbers)
-after_one kept numbers i d l = after_run-append kept (take i numbers) (get_or numbers i d ∷ []) ∙ ap (after_run kept) (sym (take_more numbers i d l))
+pub after_one : (world : WorldState) (numbers : List ℕ) (i d : ℕ) → i < length numbers → after_run (after_run world (take i numbers)) (get_or numbers i d ∷ []) ≡ after_run world (take (i + 1) numbers)
+after_one world numbers i d l = after_run-append world (take i numbers) (get_or numbers i d ∷ []) ∙ ap (after_run world) (sym (take_more numbers i d l))
 
--- a turn of handler 0 keeps what a world keeps
-pub kept_turn : (system : System) (root : Root) (class : Class) (h g : Handler) → IsKept system root class (h ∷ []) → g ≡ turn system h → IsKept system root class (g ∷ [])
-kept_turn system root class h g k e = record {
+-- a turn of handler 0 leaves a reachable world
+pub reachable_turn : (system : System) (root : Root) (class : Class) (h g : Handler) → IsReachable system root class (h ∷ []) → g ≡ turn system h → IsReachable system root class (g ∷ [])
+reachable_turn system root class h g k e = record {
   reached = subst (λ t. IsReached system root (t ∷ [])) (sym e) (reached_more system root (h ∷ []) (0 ∷ []) k.reached);
   named = k.named;
 }
 
--- in a world that is kept the objects of free handlers meet their invariant
-pub kept_meet : (system : System) (root : Root) (class : Class) (h : Handler) (kept : Kept) → IsKept system root class (h ∷ []) → record { system = system; root = root; state = h ∷ [] } ≡ kept → FreeObjectsMeet kept.system kept.state
-kept_meet system root class h kept k e = subst (λ t. FreeObjectsMeet t.system t.state) e (reached_meet system root (h ∷ []) k.reached)
+-- in a reachable world the objects of free handlers meet their invariant
+pub reachable_meet : (system : System) (root : Root) (class : Class) (h : Handler) (world : WorldState) → IsReachable system root class (h ∷ []) → record { system = system; root = root; state = h ∷ [] } ≡ world → FreeObjectsMeet world.system world.state
+reachable_meet system root class h world k e = subst (λ t. FreeObjectsMeet t.system t.state) e (reached_meet system root (h ∷ []) k.reached)

@@ -14,9 +14,9 @@ pub mod Stored
 pub mod Report
 pub mod BindingView
 pub mod FrameView
-pub mod Given
+pub mod RootedSystem
 pub mod HandlerView
-pub mod Kept
+pub mod WorldState
 pub mod ObjectView
 pub mod PointView
 pub mod TaskView

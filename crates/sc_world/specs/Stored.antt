@@ -6,7 +6,7 @@ use Rattle.sc_text.specs.declared.token.Span.{Span}
 use Rattle.sc_tree.specs.declared.expression.UnaryOperator.{UnaryOperator}
 use Rattle.sc_tree.specs.declared.expression.BinaryOperator.{BinaryOperator}
 use Rattle.sc_tree.specs.Plain as tree
-use Rattle.sc_tree.specs.Plain.{Name, DeclaredType, Expr, no_target, Exprs, no_exprs, expr_then, Variable, Clause, Head, Instr, Instrs, no_instrs, instr_then, Branches, no_branches, branch_then}
+use Rattle.sc_tree.specs.Plain.{Name, DeclaredType, Expr, no_target, Exprs, no_exprs, expr_then, Variable, CreationCall, Clause, Head, Instr, Instrs, no_instrs, instr_then, Branches, no_branches, branch_then}
 
 -- a node without its parts
 pub data Node : Type 0 where
@@ -77,14 +77,17 @@ abbrev pub heads_nodes : List Head → List Node → List Node
 heads_nodes [] k = no_more_heads ∷ k
 heads_nodes (h ∷ hs) k = expr_nodes h.value (heads_nodes hs (a_head_then h.name ∷ k))
 
+abbrev pub creation_nodes : Span → Variable → Option CreationCall → List Node → List Node
+creation_nodes s v None k = a_creation s v ∷ k
+creation_nodes s v (Some c) k = exprs_nodes c.actuals (a_creation_by s v c.name ∷ k)
+
 abbrev mutual
   pub instr_nodes : Instr → List Node → List Node
   instr_nodes (tree.Assign s v e) k = expr_nodes e (an_assignment s v ∷ k)
   instr_nodes (tree.PrintText s t) k = a_text s t ∷ k
   instr_nodes (tree.CallRoutine s no_target n es) k = exprs_nodes es (a_routine_call s n ∷ k)
   instr_nodes (tree.CallRoutine s (tree.target a) n es) k = expr_nodes a (exprs_nodes es (a_routine_call_on s n ∷ k))
-  instr_nodes (tree.Create s v None) k = a_creation s v ∷ k
-  instr_nodes (tree.Create s v (Some c)) k = exprs_nodes c.actuals (a_creation_by s v c.name ∷ k)
+  instr_nodes (tree.Create s c) k = creation_nodes s c.variable c.call k
   instr_nodes (tree.If s e body elseifs other) k = expr_nodes e (instrs_nodes body (branches_nodes elseifs (instrs_nodes other (an_if s ∷ k))))
   instr_nodes (tree.Loop s initial e body) k = instrs_nodes initial (expr_nodes e (instrs_nodes body (a_loop s ∷ k)))
   instr_nodes (tree.Check s cs) k = clauses_nodes cs (a_check s ∷ k)
@@ -120,8 +123,8 @@ rebuilt (an_assignment s v) (an_expr e ∷ ts) = an_instr (tree.Assign s v e) �
 rebuilt (a_text s t) ts = an_instr (tree.PrintText s t) ∷ ts
 rebuilt (a_routine_call s n) (exprs es ∷ ts) = an_instr (tree.CallRoutine s no_target n es) ∷ ts
 rebuilt (a_routine_call_on s n) (exprs es ∷ an_expr a ∷ ts) = an_instr (tree.CallRoutine s (tree.target a) n es) ∷ ts
-rebuilt (a_creation s v) ts = an_instr (tree.Create s v None) ∷ ts
-rebuilt (a_creation_by s v n) (exprs es ∷ ts) = an_instr (tree.Create s v (Some (record { name = n; actuals = es }))) ∷ ts
+rebuilt (a_creation s v) ts = an_instr (tree.Create s (record { variable = v; call = None })) ∷ ts
+rebuilt (a_creation_by s v n) (exprs es ∷ ts) = an_instr (tree.Create s (record { variable = v; call = Some (record { name = n; actuals = es }) })) ∷ ts
 rebuilt (an_if s) (instrs other ∷ branches elseifs ∷ instrs body ∷ an_expr e ∷ ts) = an_instr (tree.If s e body elseifs other) ∷ ts
 rebuilt (a_loop s) (instrs body ∷ an_expr e ∷ instrs initial ∷ ts) = an_instr (tree.Loop s initial e body) ∷ ts
 rebuilt (a_check s) (clauses cs ∷ ts) = an_instr (tree.Check s cs) ∷ ts
@@ -162,14 +165,18 @@ pub heads_back : (hs : List Head) (k : List Node) (ts : List Tree) → trees_fro
 heads_back [] k ts = refl
 heads_back (h ∷ hs) k ts = expr_back h.value _ ts ∙ heads_back hs _ (an_expr h.value ∷ ts)
 
+pub creation_back : (s : Span) (v : Variable) (c : Option CreationCall) (k : List Node) (ts : List Tree)
+    → trees_from (creation_nodes s v c k) ts ≡ trees_from k (an_instr (tree.Create s (record { variable = v; call = c })) ∷ ts)
+creation_back s v None k ts = refl
+creation_back s v (Some c) k ts = exprs_back c.actuals _ ts
+
 mutual
   pub instr_back : (i : Instr) (k : List Node) (ts : List Tree) → trees_from (instr_nodes i k) ts ≡ trees_from k (an_instr i ∷ ts)
   instr_back (tree.Assign s v e) k ts = expr_back e _ ts
   instr_back (tree.PrintText s t) k ts = refl
   instr_back (tree.CallRoutine s no_target n es) k ts = exprs_back es _ ts
   instr_back (tree.CallRoutine s (tree.target a) n es) k ts = expr_back a _ ts ∙ exprs_back es _ (an_expr a ∷ ts)
-  instr_back (tree.Create s v None) k ts = refl
-  instr_back (tree.Create s v (Some c)) k ts = exprs_back c.actuals _ ts
+  instr_back (tree.Create s c) k ts = creation_back s c.variable c.call k ts
   instr_back (tree.If s e body elseifs other) k ts =
       expr_back e _ ts ∙ instrs_back body _ (an_expr e ∷ ts) ∙ branches_back elseifs _ (instrs body ∷ an_expr e ∷ ts)
       ∙ instrs_back other _ (branches elseifs ∷ instrs body ∷ an_expr e ∷ ts)

@@ -1,7 +1,7 @@
 -- The turn of one handler.
 use Rattle.std.specs.Prelude.{ℕ, ◌+◌, Bool, false, nat_lt, List, [], ◌∷◌, ◌++◌, length, Option, Some, None, if◌then◌else◌}
 use Rattle.std.specs.Option.{option_and_then}
-use Rattle.sc_tree.specs.Plain.{Class, Feature, FeatureKind, Routine, Instrs, System}
+use Rattle.sc_tree.specs.Plain.{Class, Clause, Declaration, DeclaredType, Feature, FeatureKind, Routine, Instrs, System}
 use Rattle.sc_world.specs.declared.cause.Cause.{Cause}
 use Rattle.sc_world.specs.declared.cause.Cause.TheVariants as cause
 use Rattle.sc_world.specs.declared.frame_kind.FrameKind.{FrameKind}
@@ -17,9 +17,14 @@ use Rattle.sc_world.specs.Handler.{Frame, Request, Create, Handler}
 abbrev pub fail : Cause → Handler → Handler
 fail why handler = record handler { stack = []; failure = Some why; queue = [] }
 
+-- the body of a routine with these parts, where there are none
+abbrev pub body_if_bare : List Declaration → Option DeclaredType → List Clause → List Declaration → List Clause → Instrs → Option Instrs
+body_if_bare [] None [] [] [] body = Some body
+body_if_bare formals result precondition locals postcondition body = None
+
 -- A routine's body. A routine with formals, a result, locals or contracts is not run yet.
 abbrev pub body_of : FeatureKind → Option Instrs
-body_of (Routine [] None [] [] body []) = Some body
+body_of (Routine r) = body_if_bare r.formals r.result_type r.precondition r.locals r.postcondition r.body
 body_of other = None
 
 -- the body of the routine of the name

@@ -18,7 +18,7 @@ use crate::frame_kind::FrameKind;
 use crate::frames::{Frame, Frames};
 use crate::objects::{Object, Objects};
 use crate::point::{Act, Point, moves};
-use crate::program::Program;
+use crate::rooted_system::RootedSystem;
 use crate::stacks::{Task, Tasks, Values};
 use crate::status::Status;
 use sc_tree::Instr;
@@ -78,13 +78,13 @@ impl<'s> Handler<'s> {
 
     /// A turn: the request is taken, or the topmost routine goes on up to and with its first visible step. Without
     /// either nothing happens.
-    pub fn turn(&mut self, alloc: Global, program: &Program<'s>) -> Result<(), AllocError>
-        requires { HasObjectsOf program.now.system program.now.class (handler_of self.old) }
-        ensures ok { OnOk result (handler_of self.new ≡ m.turn program.now.system (handler_of self.old)) }
+    pub fn turn(&mut self, alloc: Global, rooted: &RootedSystem<'s>) -> Result<(), AllocError>
+        requires { HasObjectsOf rooted.now.system rooted.now.class (handler_of self.old) }
+        ensures ok { OnOk result (handler_of self.new ≡ m.turn rooted.now.system (handler_of self.old)) }
         ensures err { OnErr result (handler_of self.new ≡ handler_of self.old) }
     {
         let Some(frame) = self.stack.top() else {
-            return take(self, alloc, program);
+            return take(self, alloc, rooted);
         };
         let current = frame.current;
         let kind = frame.kind;
@@ -103,7 +103,7 @@ impl<'s> Handler<'s> {
             tasks,
             values,
         };
-        settle(self, alloc, program, act, current, kind, frame, attributes)
+        settle(self, alloc, rooted, act, current, kind, frame, attributes)
     }
 }
 
@@ -129,21 +129,21 @@ fn point_at<'s>(
 fn take<'s>(
     handler: &mut Handler<'s>,
     alloc: Global,
-    program: &Program<'s>,
+    rooted: &RootedSystem<'s>,
 ) -> Result<(), AllocError>
     requires idle { handler.old.stack ≡ [] }
-    requires requests { All (AsksFor program.now.system program.now.class) (queue_of handler.old.request) }
-    ensures ok { OnOk result (handler_of handler.new ≡ m.take program.now.system (queue_of handler.old.request) (handler_of handler.old)) }
+    requires requests { All (AsksFor rooted.now.system rooted.now.class) (queue_of handler.old.request) }
+    ensures ok { OnOk result (handler_of handler.new ≡ m.take rooted.now.system (queue_of handler.old.request) (handler_of handler.old)) }
     ensures err { OnErr result (handler_of handler.new ≡ handler_of handler.old) }
 {
     let Some(creation) = handler.request else {
         return Ok(());
     };
     let number = handler.objects.len() + 1;
-    let attributes = program.fresh_attributes(alloc)?;
+    let attributes = rooted.fresh_attributes(alloc)?;
     let entered = entry(
         alloc,
-        program,
+        rooted,
         FrameKind::Creation,
         number,
         creation.procedure,
@@ -165,14 +165,14 @@ fn take<'s>(
 /// The frame of the routine of the name as it begins, or None where there is no such routine.
 fn entry<'s>(
     alloc: Global,
-    program: &Program<'s>,
+    rooted: &RootedSystem<'s>,
     kind: FrameKind,
     current: usize,
     routine: &'s str,
 ) -> Result<Option<Frame<'s>>, AllocError>
-    ensures { IfOk result (λ entered. option_map frame_of entered ≡ option_map (m.entry kind current routine.now) (m.routine_named routine.now (Some program.now.class))) }
+    ensures { IfOk result (λ entered. option_map frame_of entered ≡ option_map (m.entry kind current routine.now) (m.routine_named routine.now (Some rooted.now.class))) }
 {
-    let Some(body) = program.routine(routine) else {
+    let Some(body) = rooted.routine(routine) else {
         return Ok(None);
     };
     let mut tasks = Tasks::new(alloc);
@@ -222,7 +222,7 @@ fn keep_and_fail<'s>(
 fn settle<'s>(
     handler: &mut Handler<'s>,
     alloc: Global,
-    program: &Program<'s>,
+    rooted: &RootedSystem<'s>,
     act: Act<'s>,
     current: usize,
     kind: FrameKind,
@@ -232,8 +232,8 @@ fn settle<'s>(
     requires some { 0 < length handler.old.stack }
     requires same { frame.current ≡ current }
     requires same_kind { frame.kind ≡ kind }
-    requires fits { FitsObject program.now.system program.now.class current attributes handler.old.objects }
-    ensures ok { OnOk result (handler_of handler.new ≡ after program.now.system act.entry (frame_of frame.entry) attributes.entry (handler_of handler.old)) }
+    requires fits { FitsObject rooted.now.system rooted.now.class current attributes handler.old.objects }
+    ensures ok { OnOk result (handler_of handler.new ≡ after rooted.now.system act.entry (frame_of frame.entry) attributes.entry (handler_of handler.old)) }
     ensures err { OnErr result (handler_of handler.new ≡ handler_of handler.old) }
 {
     match act {
@@ -256,10 +256,10 @@ fn settle<'s>(
             Ok(())
         }
         Act::Enters(routine) => {
-            enter(handler, alloc, program, current, frame, attributes, routine)
+            enter(handler, alloc, rooted, current, frame, attributes, routine)
         }
         Act::Exits => {
-            exit(handler, alloc, program, current, kind, attributes)?;
+            exit(handler, alloc, rooted, current, kind, attributes)?;
             Ok(())
         }
         Act::Fails(why) => {
@@ -279,7 +279,7 @@ fn boolean_text(truth: bool) -> &'static str
 fn enter<'s>(
     handler: &mut Handler<'s>,
     alloc: Global,
-    program: &Program<'s>,
+    rooted: &RootedSystem<'s>,
     current: usize,
     frame: Frame<'s>,
     attributes: Attributes<'s>,
@@ -287,15 +287,15 @@ fn enter<'s>(
 ) -> Result<(), AllocError>
     requires some { 0 < length handler.old.stack }
     requires same { frame.current ≡ current }
-    requires fits { FitsObject program.now.system program.now.class current attributes handler.old.objects }
-    ensures ok { OnOk result (handler_of handler.new ≡ entered program.now.system (frame_of frame.entry) attributes.entry routine.now (handler_of handler.old)) }
+    requires fits { FitsObject rooted.now.system rooted.now.class current attributes handler.old.objects }
+    ensures ok { OnOk result (handler_of handler.new ≡ entered rooted.now.system (frame_of frame.entry) attributes.entry routine.now (handler_of handler.old)) }
     ensures err { OnErr result (handler_of handler.new ≡ handler_of handler.old) }
 {
     if !handler.objects.contains(current) {
         keep_and_fail(handler, current, attributes, Cause::BadCode);
         return Ok(());
     }
-    match entry(alloc, program, FrameKind::Unqualified, current, routine)? {
+    match entry(alloc, rooted, FrameKind::Unqualified, current, routine)? {
         None => keep_and_fail(handler, current, attributes, Cause::BadCode),
         Some(entered) => {
             if handler.stack.len() < MAX_FRAMES {
@@ -313,16 +313,16 @@ fn enter<'s>(
 fn exit<'s>(
     handler: &mut Handler<'s>,
     alloc: Global,
-    program: &Program<'s>,
+    rooted: &RootedSystem<'s>,
     current: usize,
     kind: FrameKind,
     attributes: Attributes<'s>,
 ) -> Result<(), AllocError>
-    requires fits { FitsObject program.now.system program.now.class current attributes handler.old.objects }
-    ensures ok { OnOk result ((frame : m_handler.Frame) → frame.current ≡ current → frame.kind ≡ kind → handler_of handler.new ≡ exited program.now.system frame attributes.entry (handler_of handler.old)) }
+    requires fits { FitsObject rooted.now.system rooted.now.class current attributes handler.old.objects }
+    ensures ok { OnOk result ((frame : m_handler.Frame) → frame.current ≡ current → frame.kind ≡ kind → handler_of handler.new ≡ exited rooted.now.system frame attributes.entry (handler_of handler.old)) }
     ensures err { OnErr result (handler_of handler.new ≡ handler_of handler.old) }
 {
-    if passes(alloc, &handler.objects, program, current, kind, &attributes)? {
+    if passes(alloc, &handler.objects, rooted, current, kind, &attributes)? {
         handler.objects.set_attributes(current, attributes);
         handler.stack.pop();
     } else {
@@ -335,13 +335,13 @@ fn exit<'s>(
 fn passes<'s>(
     alloc: Global,
     objects: &Objects<'s>,
-    program: &Program<'s>,
+    rooted: &RootedSystem<'s>,
     current: usize,
     kind: FrameKind,
     attributes: &Attributes<'s>,
 ) -> Result<bool, AllocError>
-    requires { FitsObject program.now.system program.now.class current attributes.now objects.now }
-    ensures { IfOk result (λ passed. passed ≡ passes kind (m.object_meets program.now.system (object_numbered current (with_attributes current attributes.now objects.now)))) }
+    requires { FitsObject rooted.now.system rooted.now.class current attributes.now objects.now }
+    ensures { IfOk result (λ passed. passed ≡ passes kind (m.object_meets rooted.now.system (object_numbered current (with_attributes current attributes.now objects.now)))) }
 {
     match kind {
         FrameKind::Creation => {
@@ -349,7 +349,7 @@ fn passes<'s>(
                 return Ok(false);
             }
             let atoms = attributes.atoms(alloc)?;
-            Ok(program.is_met(&atoms))
+            Ok(rooted.is_met(&atoms))
         }
         FrameKind::Unqualified => Ok(true),
     }

@@ -8,11 +8,11 @@ ghost use Rattle.sc_tree.specs.View.{system_of, class_of};
 ghost use Rattle.sc_world.specs.Lookup.{class_named};
 ghost use Rattle.sc_world.specs.World as m;
 ghost use Rattle.sc_world.specs.Report as m_report;
-ghost use Rattle.sc_world.specs.Kept.{opened, after_run, turned_of};
+ghost use Rattle.sc_world.specs.WorldState.{opened, after_run, turned_of};
 
 use crate::handler::Handler;
-use crate::program::Program;
 use crate::report;
+use crate::rooted_system::RootedSystem;
 use crate::status::Status;
 use sc_tree::{Class, Name, System};
 use std::alloc::{AllocError, Global};
@@ -31,7 +31,7 @@ pub enum Turned {
 #[derive(Drop)]
 pub struct World<'s> {
     alloc: Global,
-    program: Program<'s>,
+    rooted: RootedSystem<'s>,
     procedure: &'s str,
     handler: Handler<'s>,
 }
@@ -40,20 +40,20 @@ impl<'s> Model for World<'s> {
     ghost use Rattle.std.specs.Prelude.{[], ◌∷◌};
     ghost use Rattle.sc_world.specs.Stored.{tree_codes};
     ghost use Rattle.sc_world.specs.HandlerView.{handler_of};
-    ghost use Rattle.sc_world.specs.Kept.{Kept, IsKept};
+    ghost use Rattle.sc_world.specs.WorldState.{WorldState, IsReachable};
 
-    ghost Value = { Kept };
+    ghost Value = { WorldState };
 
     ghost coded = { Prim.hlevel tree_codes };
 
     ghost view = { λ world. record {
-      system = world.program.system;
-      root = record { class = world.program.class.name.text; procedure = world.procedure.now };
+      system = world.rooted.system;
+      root = record { class = world.rooted.class.name.text; procedure = world.procedure.now };
       state = handler_of world.handler ∷ [];
     } };
 
-    ghost invariant = { λ world. IsKept world.program.system (record { class = world.program.class.name.text; procedure = world.procedure.now })
-        world.program.class (handler_of world.handler ∷ []) };
+    ghost invariant = { λ world. IsReachable world.rooted.system (record { class = world.rooted.class.name.text; procedure = world.procedure.now })
+        world.rooted.class (handler_of world.handler ∷ []) };
 }
 
 impl<'s> World<'s> {
@@ -71,12 +71,12 @@ impl<'s> World<'s> {
         requires small { length class.now.features.items ≤ 256 }
         ensures { IfOk result (λ world. world ≡ opened (system_of system.now) (record { class = (class_of class.now).name.text; procedure = string_bytes procedure.now.text })) }
     {
-        let program = Program::new(alloc, system, class)?;
+        let rooted = RootedSystem::new(alloc, system, class)?;
         let procedure = procedure.text.as_str();
-        let handler = Handler::opening(alloc, program.class_name(), procedure);
+        let handler = Handler::opening(alloc, rooted.class_name(), procedure);
         Ok(World {
             alloc,
-            program,
+            rooted,
             procedure,
             handler,
         })
@@ -98,7 +98,7 @@ impl<'s> World<'s> {
         if handler != 0 || !self.handler.has_turn() {
             return Ok(Turned::Nothing);
         }
-        self.handler.turn(self.alloc, &self.program)?;
+        self.handler.turn(self.alloc, &self.rooted)?;
         Ok(Turned::Moved)
     }
 

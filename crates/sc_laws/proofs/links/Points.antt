@@ -6,11 +6,11 @@ use Rattle.std.specs.Option.{option_map}
 use Rattle.sc_tree.specs.Plain.{System, Declaration, Name, Head, Clause, Instrs, Exprs, no_exprs, expr_then, FeatureKind, Attribute, Routine}
 use Rattle.sc_class.specs.declared.identity.ClassId.{ClassId}
 use Rattle.sc_class.specs.declared.identity.ClassId.TheVariants as class
-use Rattle.sc_class.specs.Features.{DeclaredFeature, features}
+use Rattle.sc_class.specs.Tables.Features.{DeclaredFeature, features}
 use Rattle.sc_proctype.specs.declared.entity_type.EntityType.{EntityType}
 use Rattle.sc_rules.specs.declared.position.Role.TheVariants as role
-use Rattle.sc_class.specs.Conformance.{is_expanded}
-use Rattle.sc_rules.specs.Names.{fixed, to_local, is_local, is_block, entity_named, assigned_or, assigned, block_type, blocks}
+use Rattle.sc_class.specs.Tables.Conformance.{is_expanded}
+use Rattle.sc_rules.specs.Names.{unassignable, to_local, is_local, is_block, entity_named, assignee_or, assignee, block_type, blocks}
 use Rattle.sc_tree.specs.Plain.{Named}
 use Rattle.sc_model.specs.Routines.{place_in}
 use Rattle.sc_rules.specs.Types.{is_foreign, declared_type}
@@ -263,7 +263,7 @@ fresh_known K s k = every_kept (BindingKnown K) (λ (f : DeclaredFeature). fresh
 
     by : (x : List ℕ) (kind : FeatureKind) → IfSome (BindingKnown K) (fresh_attribute s x kind)
     by x (Attribute d) = attribute x (declared_type s [] d)
-    by x (Routine formals result pre locals body post) = tt
+    by x (Routine c) = tt
 
 pub object_known : (K : ℕ → Type 0) (n : ℕ) (os : List Object) → Every (ObjectKnown K) os → IfSome (ObjectKnown K) (object_numbered n os)
 object_known K n os all = by (n == 0)
@@ -558,20 +558,20 @@ kept_assigned c x v bs ts is k = record {
 
 -- only a local of the routine is assigned, where an entity is
 pub first_local : (s : System) (t : routines.Text) (x : Name) (bs : List Binding) (ty : Option EntityType)
-    → assigned (place_in s t) (scope_of bs) (Named x) ≡ to_local ty → first_is_local x.text bs ≡ true
+    → assignee (place_in s t) (scope_of bs) (Named x) ≡ to_local ty → first_is_local x.text bs ≡ true
 first_local s t x [] ty e = refl
 first_local s t x (b ∷ bs) ty e = by (bytes_eq b.name x.text) e (λ i. first_local s t x bs ty i)
   where
-    by : (c : Bool) → assigned_or (place_in s t) x.text (cond c (Some (known_of b)) (entity_named x.text (scope_of bs))) ≡ to_local ty
-        → (assigned (place_in s t) (scope_of bs) (Named x) ≡ to_local ty → first_is_local x.text bs ≡ true)
+    by : (c : Bool) → assignee_or (place_in s t) x.text (cond c (Some (known_of b)) (entity_named x.text (scope_of bs))) ≡ to_local ty
+        → (assignee (place_in s t) (scope_of bs) (Named x) ≡ to_local ty → first_is_local x.text bs ≡ true)
         → (if c then is_local b.role else first_is_local x.text bs) ≡ true
     by true i more = local (is_local b.role) refl i
       where
-        local : (d : Bool) → is_local b.role ≡ d → (if d then to_local (Some b.type) else fixed) ≡ to_local ty → is_local b.role ≡ true
+        local : (d : Bool) → is_local b.role ≡ d → (if d then to_local (Some b.type) else unassignable) ≡ to_local ty → is_local b.role ≡ true
         local true f i = f
         local false f i = absurd (differ i)
           where
-            differ : fixed ≡ to_local ty → ⊥
+            differ : unassignable ≡ to_local ty → ⊥
             differ i = cc
     by false i more = more i
 

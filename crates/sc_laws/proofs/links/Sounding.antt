@@ -4,7 +4,7 @@ use Rattle.std.specs.Prelude.{if◌then◌else◌, nat_lt, bytes_eq}
 use Rattle.std.specs.Option.{option_map}
 use Rattle.sc_tree.specs.Plain as tree
 use Rattle.sc_tree.specs.Plain.{System, Expr, Clause, FeatureKind}
-use Rattle.sc_class.specs.Features.{DeclaredFeature}
+use Rattle.sc_class.specs.Tables.Features.{DeclaredFeature}
 use Rattle.sc_rules.specs.Types.{declared_type}
 use Rattle.sc_proctype.specs.declared.entity_type.EntityType.{EntityType}
 use Rattle.sc_lockpass.specs.Passing.{Passed}
@@ -223,7 +223,7 @@ takes_sound s h q e below m sound at is = by e
         → IsSound (takes_kind s h q x below o f k m)
     kind x o f (tree.Attribute d) known = taken_replies h q (declared_type s [] d) (binding_named x o.attributes) m sound
         (every_find (BindingKnown (λ j. j < m.count)) (λ (b : Binding). bytes_eq b.name x) o.attributes known)
-    kind x o f (tree.Routine formals result pre locals body post) known = enters_sound s h q.target (routine_of s f) (Requested q) below
+    kind x o f (tree.Routine c) known = enters_sound s h q.target (routine_of s f) (Requested q) below
         (q ∷ []) q.actuals m (sound_but h m sound) is.target (subst (Every (IsFrameSound (λ j. j < m.count) h)) at (sound h).stack) is.actuals
 
     version : (x : List ℕ) (o : Option Object) (f : Option DeclaredFeature) → IfSome (ObjectKnown (λ j. j < m.count)) o

@@ -4,7 +4,7 @@ use Rattle.std.specs.Prelude.{nat_lt, is_some}
 use Rattle.std.specs.List.{list_any}
 use Rattle.sc_tree.specs.Plain as tree
 use Rattle.sc_tree.specs.Plain.{System, FeatureKind}
-use Rattle.sc_class.specs.Features.{DeclaredFeature}
+use Rattle.sc_class.specs.Tables.Features.{DeclaredFeature}
 use Rattle.sc_proctype.specs.declared.entity_type.EntityType.{EntityType}
 use Rattle.sc_rules.specs.Types.{declared_type}
 use Rattle.sc_lockpass.specs.Rights.{Rights}
@@ -153,7 +153,7 @@ module _ (G : World → Type 0) (K : Keeps G) (s : System) (v : World) (h : ℕ)
   kind : (n : machine.World) (x : List ℕ) (o : Object) (f : DeclaredFeature) (k : FeatureKind) → Took v n h q → (n.handlers h).stack ≡ below
       → Leads v (takes_kind s h q x below o f k n)
   kind n x o f (tree.Attribute d) t at = replied n (declared_type s [] d) (binding_named x o.attributes) t
-  kind n x o f (tree.Routine formals result pre locals body post) t at = entered n q.target (routine_of s f) q.actuals t at
+  kind n x o f (tree.Routine c) t at = entered n q.target (routine_of s f) q.actuals t at
 
   version : (n : machine.World) (x : List ℕ) (o : Option Object) (f : Option DeclaredFeature) → Took v n h q → (n.handlers h).stack ≡ below
       → Leads v (takes_version s h q x below o f n)

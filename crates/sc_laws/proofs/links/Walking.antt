@@ -15,12 +15,12 @@ use Rattle.sc_tree.specs.Plain.{System, FeatureKind, DeclaredType, Clause, Head,
 use Rattle.sc_class.specs.declared.identity.ClassId.{ClassId}
 use Rattle.sc_class.specs.declared.identity.ClassId.TheVariants as class
 use Rattle.sc_class.specs.Names.{is_print}
-use Rattle.sc_class.specs.Features.{DeclaredFeature, feature_named}
+use Rattle.sc_class.specs.Tables.Features.{DeclaredFeature, feature_named}
 use Rattle.sc_proctype.specs.declared.tag.Tag.{Tag}
 use Rattle.sc_proctype.specs.declared.tag.Tag.TheVariants as tag
 use Rattle.sc_proctype.specs.declared.entity_type.EntityType.{EntityType}
 use Rattle.sc_rules.specs.declared.position.Role.TheVariants as role
-use Rattle.sc_rules.specs.Names.{Assigned, no_such, fixed, to_local, to_attribute, assigned_type, Signature, signature_of, current, given, test_type}
+use Rattle.sc_rules.specs.Names.{Assignee, unknown_assignee, unassignable, to_local, to_attribute, assignee_type, Signature, signature_of, current, given_type, test_type}
 use Rattle.sc_rules.specs.CallRules.{count}
 use Rattle.sc_model.specs.declared.cause.Cause.{Cause}
 use Rattle.sc_model.specs.declared.cause.Cause.TheVariants as cause
@@ -178,8 +178,8 @@ module _ (K : ℕ → Type 0) (fm : Formals) (s : System) (me : Reference) (ther
   kind_well n r x us (Some t) o (tree.Attribute d) p w is known same = attribute_well n (binding_named x o.attributes) t p w
       (every_find (BindingKnown K) (λ (b : Binding). bytes_eq b.name x) o.attributes known)
   kind_well n r x us None o (tree.Attribute d) p w is known same = (w.objects, refl)
-  kind_well n r x us (Some t) o (tree.Routine a b c d e f) p w is known same = (same, is, w)
-  kind_well n r x us None o (tree.Routine a b c d e f) p w is known same = (same, is, w)
+  kind_well n r x us (Some t) o (tree.Routine c) p w is known same = (same, is, w)
+  kind_well n r x us None o (tree.Routine c) p w is known same = (same, is, w)
 
   version_well : (n : ℕ) (r : Reference) (x : List ℕ) (us : List Operand) (g : Option EntityType) (o : Option Object) (f : Option DeclaredFeature)
       (p : Point) → IsWell K fm n p → Every (OperandKnown K) us → IfSome (ObjectKnown K) o → r.handler ≡ me.handler
@@ -267,7 +267,7 @@ module _ (K : ℕ → Type 0) (fm : Formals) (s : System) (me : Reference) (ther
       → StepsWell K fm me.handler n (creates s me x call us p)
   creates_well n x call None p w is = (w.objects, refl)
   creates_well n x call (Some (us, vs)) p w is =
-      creates_as_well n call (assigned_type (assigned_at s x p)) us (record p { tasks = AssignTo x ∷ p.tasks; values = vs })
+      creates_as_well n call (assignee_type (assigned_at s x p)) us (record p { tasks = AssignTo x ∷ p.tasks; values = vs })
       (light K fm n (AssignTo x ∷ []) (record p { values = vs }) (refl, refl, tt) (with_values K fm n p vs w is.1)) is.0
 
   -- ---- expressions
@@ -291,10 +291,10 @@ module _ (K : ℕ → Type 0) (fm : Formals) (s : System) (me : Reference) (ther
   begins_kind_well : (n : ℕ) (x : List ℕ) (k : FeatureKind) (i : ℕ) (es : Exprs) (p : Point) → IsWell K fm n p
       → StepsWell K fm me.handler n (begins_kind s me x k i es p)
   begins_kind_well n x (tree.Attribute d) i es p w =
-      reads_own_well n (given s (current (place_in s p.text)) d) (binding_named x (attributes_of me.number p.objects)) p w
+      reads_own_well n (given_type s (current (place_in s p.text)) d) (binding_named x (attributes_of me.number p.objects)) p w
       (every_find (BindingKnown K) (λ (b : Binding). bytes_eq b.name x) (attributes_of me.number p.objects)
       (attributes_known K me.number p.objects w.objects))
-  begins_kind_well n x (tree.Routine a b c d e f) i es p w = light K fm n (evals i es ++ CallUnqualified x (count es) ∷ []) p
+  begins_kind_well n x (tree.Routine c) i es p w = light K fm n (evals i es ++ CallUnqualified x (count es) ∷ []) p
       (light_append (evals i es) (CallUnqualified x (count es) ∷ []) (evals_light i es) (refl, refl, tt)) w
 
   begins_feature_well : (n : ℕ) (x : List ℕ) (f : Option DeclaredFeature) (i : ℕ) (es : Exprs) (p : Point) → IsWell K fm n p
@@ -329,7 +329,7 @@ module _ (K : ℕ → Type 0) (fm : Formals) (s : System) (me : Reference) (ther
 
   -- ---- instructions
 
-  assigns_well : (n : ℕ) (x : Variable) (a : Assigned) (v : Value) (p : Point) → IsWell K fm n p → Known K v → assigned_at s x p ≡ a
+  assigns_well : (n : ℕ) (x : Variable) (a : Assignee) (v : Value) (p : Point) → IsWell K fm n p → Known K v → assigned_at s x p ≡ a
       → StepsWell K fm me.handler n (assigns me x a v p)
   assigns_well n (Named x) (to_local t) v p w is e = with_environment K fm n p _ w (assigned_known K x.text v p.environment is w.environment)
       (kept_assigned fm x.text v p.environment p.tasks (first_local s p.text x p.environment t e) w.formals)
@@ -346,10 +346,10 @@ module _ (K : ℕ → Type 0) (fm : Formals) (s : System) (me : Reference) (ther
     left = w.left;
     formals = w.formals;
   }
-  assigns_well n (Named x) no_such v p w is e = (w.objects, refl)
-  assigns_well n (Named x) fixed v p w is e = (w.objects, refl)
-  assigns_well n (ResultVariable q) no_such v p w is e = (w.objects, refl)
-  assigns_well n (ResultVariable q) fixed v p w is e = (w.objects, refl)
+  assigns_well n (Named x) unknown_assignee v p w is e = (w.objects, refl)
+  assigns_well n (Named x) unassignable v p w is e = (w.objects, refl)
+  assigns_well n (ResultVariable q) unknown_assignee v p w is e = (w.objects, refl)
+  assigns_well n (ResultVariable q) unassignable v p w is e = (w.objects, refl)
   assigns_well n (ResultVariable q) (to_local None) v p w is e = (w.objects, refl)
   assigns_well n (ResultVariable q) (to_attribute t) v p w is e = (w.objects, refl)
 
@@ -432,8 +432,10 @@ module _ (K : ℕ → Type 0) (fm : Formals) (s : System) (me : Reference) (ther
   begins_well n (tree.CallRoutine q tree.no_target x es) p w calm = routine_well n (is_print x.text) x.text es p w
   begins_well n (tree.CallRoutine q (tree.target a) x es) p w calm = light K fm n (Eval 0 a ∷ evals 0 es ++ CallQualified x.text (count es) ∷ []) p
       (light_append (Eval 0 a ∷ evals 0 es) (CallQualified x.text (count es) ∷ []) (refl, refl, evals_light 0 es) (refl, refl, tt)) w
-  begins_well n (tree.Create q x k) p w calm = light K fm n (evals 0 (actuals_of k) ++ CreateBy x (procedure_of k) (count (actuals_of k)) ∷ []) p
-      (light_append (evals 0 (actuals_of k)) (CreateBy x (procedure_of k) (count (actuals_of k)) ∷ []) (evals_light 0 (actuals_of k))
+  begins_well n (tree.Create q c) p w calm =
+      let k : Option CreationCall = c.call in
+      light K fm n (evals 0 (actuals_of k) ++ CreateBy c.variable (procedure_of k) (count (actuals_of k)) ∷ []) p
+      (light_append (evals 0 (actuals_of k)) (CreateBy c.variable (procedure_of k) (count (actuals_of k)) ∷ []) (evals_light 0 (actuals_of k))
       (refl, refl, tt)) w
   begins_well n (tree.If q e body bs other) p w calm = quiet K fm n (Eval 0 e ∷ Choose (length p.environment) body bs other ∷ []) p
       (refl, (λ j. refl), (refl, (λ j. refl), tt)) calm (tt, (w.formals.room, tt)) (λ i. refl)

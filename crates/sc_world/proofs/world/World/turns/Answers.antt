@@ -1,5 +1,5 @@
 use Rattle.std.proofs.Common.{[], ◌∷◌, get_or, ap, ◌∙◌}
-use Rattle.sc_world.specs.Kept.{after_run}
+use Rattle.sc_world.specs.WorldState.{after_run}
 use Rattle.sc_world.proofs.Worlds.{after_one}
 use Rattle.sc_world.proofs.world.World.turns.Goals as goal
 

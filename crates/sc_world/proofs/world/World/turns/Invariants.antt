@@ -1,6 +1,6 @@
 use Rattle.std.proofs.Common.{◌≡◌, take}
 use Rattle.sc_world.specs.World.{FreeObjectsMeet}
-use Rattle.sc_world.specs.Kept.{after_run}
+use Rattle.sc_world.specs.WorldState.{after_run}
 use Rattle.sc_world.proofs.world.World.turns.Given as goal
 
 abbrev pub invariant-loop-handler : goal.invariant-loop-handler

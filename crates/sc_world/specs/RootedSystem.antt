@@ -2,6 +2,6 @@
 use Rattle.sc_tree.specs.Plain.{Class, System}
 
 -- a system with its root class
-pub record Given : Type 0 where
+pub record RootedSystem : Type 0 where
   pub system : System
   pub class : Class

@@ -3,7 +3,7 @@ use Rattle.std.proofs.lemmas.List.{length-map}
 use Rattle.sc_tree.specs.View.{feature_of}
 use Rattle.sc_world.specs.Object.{fresh_attributes}
 use Rattle.sc_world.proofs.Bodies.{length_fresh}
-use Rattle.sc_world.proofs.program.Program.new.Goals as goal
+use Rattle.sc_world.proofs.rooted_system.RootedSystem.new.Goals as goal
 
 pub clauses-requires : goal.clauses-requires
 clauses-requires c =

@@ -2,8 +2,8 @@ use Rattle.std.proofs.Common.{ap, sym, ◌∙◌, Some}
 use Rattle.std.specs.Prelude.{not}
 use Rattle.sc_tree.specs.View.{instrs_of}
 use Rattle.sc_world.proofs.Bodies.{clash, body_plain, body_other}
-use Rattle.sc_world.proofs.program.plain_body.Goals as goal
-use Rattle.sc_world.proofs.program.plain_body.Goals.{else-is_empty-via-then-is_empty+then-is_none+then-is_empty-2+then-is_empty-3+else-is_empty-4, else-is_empty-via-then-is_empty+then-is_none+then-is_empty-2+else-is_empty-3, else-is_empty-via-then-is_empty+then-is_none+else-is_empty-2, else-is_empty-via-then-is_empty+else-is_none, else-is_empty-via-else-is_empty}
+use Rattle.sc_world.proofs.rooted_system.plain_body.Goals as goal
+use Rattle.sc_world.proofs.rooted_system.plain_body.Goals.{else-is_empty-via-then-is_empty+then-is_none+then-is_empty-2+then-is_empty-3+else-is_empty-4, else-is_empty-via-then-is_empty+then-is_none+then-is_empty-2+else-is_empty-3, else-is_empty-via-then-is_empty+then-is_none+else-is_empty-2, else-is_empty-via-then-is_empty+else-is_none, else-is_empty-via-else-is_empty}
 
 pub returns-then-is_empty-4 : goal.returns-then-is_empty-4
 returns-then-is_empty-4 c =

@@ -1,7 +1,7 @@
 use Rattle.std.proofs.Common.{◌≡◌, true, false, ap, sym, ◌∙◌}
 use Rattle.std.specs.Prelude.{bytes_eq, string_bytes}
 use Rattle.sc_world.proofs.Bodies.{body_here}
-use Rattle.sc_world.proofs.program.routine_in.Goals as goal
+use Rattle.sc_world.proofs.rooted_system.routine_in.Goals as goal
 
 pub returns-then-eq : goal.returns-then-eq
 returns-then-eq c =

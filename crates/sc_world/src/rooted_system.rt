@@ -18,45 +18,45 @@ use std::marker::Model;
 
 /// A system with its root class, the only one that has objects, and that class's invariant.
 #[derive(Drop)]
-pub struct Program<'s> {
+pub struct RootedSystem<'s> {
     system: &'s System,
     class: &'s Class,
     /// None where some clause is no formula.
     clauses: Option<Vec<Formula>>,
 }
 
-impl<'s> Model for Program<'s> {
+impl<'s> Model for RootedSystem<'s> {
     ghost use Rattle.std.specs.Prelude.{◌≡◌, map};
     ghost use Rattle.std.specs.Option.{option_map};
     ghost use Rattle.sc_formula.specs.Plain.{plain_formula};
     ghost use Rattle.sc_tree.specs.View.{system_of, class_of};
     ghost use Rattle.sc_world.specs.Invariant.{invariant_of};
     ghost use Rattle.sc_world.specs.Stored.{tree_codes};
-    ghost use Rattle.sc_world.specs.Given.{Given};
+    ghost use Rattle.sc_world.specs.RootedSystem as m;
 
-    ghost Value = { Given };
+    ghost Value = { m.RootedSystem };
 
     ghost coded = { Prim.hlevel tree_codes };
 
-    ghost view = { λ program. record { system = system_of program.system.now; class = class_of program.class.now } };
+    ghost view = { λ rooted. record { system = system_of rooted.system.now; class = class_of rooted.class.now } };
 
-    ghost invariant = { λ program. option_map (λ clauses. map plain_formula clauses.items) program.clauses ≡ invariant_of (class_of program.class.now) };
+    ghost invariant = { λ rooted. option_map (λ clauses. map plain_formula clauses.items) rooted.clauses ≡ invariant_of (class_of rooted.class.now) };
 }
 
 #[tactic(auto, using(crate::proofs::Views::class_views))]
-impl<'s> Program<'s> {
+impl<'s> RootedSystem<'s> {
     /// What the turns of the system read where this is its root class.
     pub fn new(
         alloc: Global,
         system: &'s System,
         class: &'s Class,
-    ) -> Result<Program<'s>, AllocError>
+    ) -> Result<RootedSystem<'s>, AllocError>
         requires { length class.now.features.items ≤ 256 }
-        ensures { IfOk result (λ program. program ≡ record { system = system_of system.now; class = class_of class.now }) }
+        ensures { IfOk result (λ rooted. rooted ≡ record { system = system_of system.now; class = class_of class.now }) }
     {
         let attributes = Attributes::fresh(alloc, &class.features)?;
         let clauses = invariant::clauses(alloc, &attributes, &class.invariant)?;
-        Ok(Program {
+        Ok(RootedSystem {
             system,
             class,
             clauses,
