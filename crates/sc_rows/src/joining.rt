@@ -1,7 +1,7 @@
 // The source text of files, one after the other.
 
-use sc_serve::source::LONGEST_SOURCE;
 use sc_serve::{SourceFault, join_sources};
+use sc_text::MAX_SOURCE_BYTES;
 use std::alloc::{AllocError, Global};
 use std::io::{self, ErrorKind, Read};
 use std::process::Abort;
@@ -133,7 +133,7 @@ fn spaces<H: AllocGlobal>(
     Ok(bytes)
 }
 
-const MOST: usize = LONGEST_SOURCE - 1;
+const MOST: usize = MAX_SOURCE_BYTES - 1;
 
 const MARK: &[u8] = b"\xef\xbb\xbf";
 
@@ -192,7 +192,7 @@ fn expect_fault<R: Abort + AllocGlobal>(
 
 #[test]
 fn finds_the_first_file_at_fault(rt: HostRuntime) -> Result<(), Fail> {
-    let long = spaces(&rt, b"", LONGEST_SOURCE, b"\xff")?;
+    let long = spaces(&rt, b"", MAX_SOURCE_BYTES, b"\xff")?;
     let long = long.as_slice();
     let first = Some(SourceFault::NotUtf8 { file: 0 });
     expect_fault(&rt, &[b"\xff", long], None, first)?;
@@ -214,7 +214,7 @@ fn finds_the_first_file_at_fault(rt: HostRuntime) -> Result<(), Fail> {
 /// With its line feed each of these files is just too long, or just not.
 #[test]
 fn counts_the_line_feed_of_each_file(rt: HostRuntime) -> Result<(), Fail> {
-    let rest = spaces(&rt, b"", LONGEST_SOURCE - 2, b"")?;
+    let rest = spaces(&rt, b"", MAX_SOURCE_BYTES - 2, b"")?;
     let rest = rest.as_slice();
     expect_fault(&rt, &[rest, b""], None, None)?;
     expect_fault(

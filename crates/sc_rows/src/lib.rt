@@ -1,8 +1,6 @@
-//! Tests alone: rows of source texts, and what the checker and a call of the program make of them.
+//! Tests alone: rows of source texts, and what a call of the program makes of them.
 #![tactic(auto)]
 
-#[cfg(test)]
-mod checks;
 #[cfg(test)]
 mod joining;
 #[cfg(test)]

@@ -1,6 +1,5 @@
 // Calls of the program with files and writers that stand in the test.
 
-mod checker;
 mod class_faults;
 mod command_line;
 mod explain;
@@ -15,6 +14,7 @@ mod reasons;
 mod refusals;
 mod runs;
 mod sources;
+mod systems;
 
 use crate::program::fake::{FakeFile, FakeFiles};
 use sc_serve::serve::{Exit, serve};
@@ -68,10 +68,14 @@ fn columns(row: &str) -> Result<(&str, &str), Fail> {
 }
 
 /// Calls the program. A call for which memory runs out has no outcome: the test ends there and says so.
-fn call<R: AllocGlobal>(rt: &R, words: &[&str], files: &[FakeFile<'_>]) -> Result<Outcome, Fail> {
+fn call<R: AllocGlobal>(
+    rt: &R,
+    arguments: &[&str],
+    files: &[FakeFile<'_>],
+) -> Result<Outcome, Fail> {
     let mut out = Vec::new(rt.alloc());
     let mut err = Vec::new(rt.alloc());
-    let status = serve(rt, words, &FakeFiles { files }, &mut out, &mut err);
+    let status = serve(rt, arguments, &FakeFiles { files }, &mut out, &mut err);
     if status == Exit::OutOfMemory as u8 {
         return Err(Fail::new("out of memory"));
     }
@@ -89,10 +93,10 @@ fn compare<R: Abort>(rt: &R, outcome: &Outcome, wanted: Wanted<'_>, row: &str) {
     assert_eq!(rt; outcome.status, wanted.status, "for {row}");
 }
 
-/// The words of a call, one after the other.
-fn line_of(alloc: Global, words: &[&str]) -> Result<String, AllocError> {
+/// The arguments of a call, one after the other.
+fn line_of(alloc: Global, arguments: &[&str]) -> Result<String, AllocError> {
     let mut line = String::new(alloc);
-    for word in words {
+    for word in arguments {
         line.push_str(word)?;
         line.push_str(" ")?;
     }
@@ -102,23 +106,23 @@ fn line_of(alloc: Global, words: &[&str]) -> Result<String, AllocError> {
 /// Calls the program, and compares what it writes and its status.
 fn expect_of<R: Abort + AllocGlobal>(
     rt: &R,
-    words: &[&str],
+    arguments: &[&str],
     files: &[FakeFile<'_>],
     wanted: Wanted<'_>,
 ) -> Result<(), Fail> {
-    let outcome = call(rt, words, files)?;
-    compare(rt, &outcome, wanted, &line_of(rt.alloc(), words)?);
+    let outcome = call(rt, arguments, files)?;
+    compare(rt, &outcome, wanted, &line_of(rt.alloc(), arguments)?);
     Ok(())
 }
 
 /// The same on one file, `app.e`.
 fn expect<R: Abort + AllocGlobal>(
     rt: &R,
-    words: &[&str],
+    arguments: &[&str],
     text: &str,
     wanted: Wanted<'_>,
 ) -> Result<(), Fail> {
-    let outcome = call(rt, words, &[FakeFile::new("app.e", text)])?;
+    let outcome = call(rt, arguments, &[FakeFile::new("app.e", text)])?;
     compare(rt, &outcome, wanted, text);
     Ok(())
 }

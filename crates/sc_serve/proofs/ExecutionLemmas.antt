@@ -2,7 +2,7 @@
 use Rattle.std.proofs.Common.{◌≡◌, ℕ, ◌<◌, ◌≤◌, List, [], ◌∷◌, ◌⊎◌, inl, inr, Result, Ok, Err, IfErr, IsErrAnd, MatchResult, length, refl, ap, sym, ◌∙◌, subst, arith}
 use Rattle.sc_text.specs.Kind.{Kind, kinds_of}
 use Rattle.sc_text.specs.declared.token.Token.{Token}
-use Rattle.sc_text.specs.Spelling.{Spells, lexemes_of, lexeme_of}
+use Rattle.sc_text.specs.Spelling.{Spells, lexemes_of, lexeme_of, max_source_bytes}
 use Rattle.sc_tree.specs.Plain.{System}
 use Rattle.sc_tree.specs.Grammar.Classes.{IsSystem}
 use Rattle.sc_tree.specs.Bare.{bare_system}
@@ -15,7 +15,7 @@ use Rattle.sc_parse.specs.declared.fault.ParseFault.TheVariants as parsing
 use Rattle.sc_class.specs.declared.fault.ClassFault.{ClassFault}
 use Rattle.sc_class.specs.declared.fault.ClassFault.TheVariants as classes
 use Rattle.sc_class.specs.ClassNames.{Root}
-use Rattle.sc_class.specs.ClassRules.{Fails, IsFaultless, duplicate_class, unknown_parent, cycle, duplicate_feature, bad_redefinition, no_root, limit, left_out}
+use Rattle.sc_class.specs.Faults.ClassRules.{Fails, IsFaultless, duplicate_class, unknown_parent, cycle, duplicate_feature, bad_redefinition, no_root, limit, left_out}
 use Rattle.sc_rules.specs.SystemRules.{SystemFails}
 use Rattle.sc_typing.specs.declared.fault.CheckFault.{CheckFault}
 use Rattle.sc_typing.specs.declared.fault.CheckFault.TheVariants as checking
@@ -38,7 +38,7 @@ read-spelled text s is =
 
 -- tokens of a text that spell a system, and where it stands: the text spells it
 pub system-read : (text : List ℕ) (ts : List Token) (s : System) (nesting : ℕ) → Spells text (lexemes_of ts) →
-    (1048576 < length text → ⊥) → nesting ≤ 64 → IsSystem (bare_system s) (kinds_of ts) nesting → IsPlaced s (lexemes_of ts) → IsRead text s
+    (max_source_bytes < length text → ⊥) → nesting ≤ 64 → IsSystem (bare_system s) (kinds_of ts) nesting → IsPlaced s (lexemes_of ts) → IsRead text s
 system-read text ts s nesting spelled short shallow grammar placed =
     record {
       tokens = lexemes_of ts;

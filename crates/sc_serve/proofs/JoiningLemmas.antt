@@ -1,5 +1,5 @@
 -- What readers have given.
-use Rattle.std.proofs.Common.{◌≡◌, ℕ, ◌+◌, ◌-◌, ◌<◌, ◌≤◌, List, [], ◌∷◌, ◌++◌, map, take, get_or, set, Option, Some, None, length, IfSome, IsErrAnd, MatchResult, Ok, Err, Result, drop, subst, ap, ◌∙◌, append_assoc, arith, refl, sym}
+use Rattle.std.proofs.Common.{◌≡◌, ℕ, zero, suc, ◌+◌, ◌-◌, ◌<◌, ◌≤◌, List, [], ◌∷◌, ◌++◌, map, take, get_or, set, Option, Some, None, length, IfSome, IsErrAnd, MatchResult, Ok, Err, Result, drop, subst, ap, ◌∙◌, append_assoc, arith, refl, sym}
 use Rattle.std.proofs.lemmas.Grind.{common_steps}
 use Rattle.std.specs.Io.KnownBytes.{Consumes}
 use Rattle.std.specs.Str.{IsUtf8}
@@ -8,9 +8,11 @@ use Rattle.sc_serve.specs.declared.join.SourceFault.{SourceFault}
 use Rattle.sc_serve.specs.declared.reading.FileFault.{FileFault}
 use Rattle.sc_serve.specs.declared.reading.FileFault.TheVariants as file_fault
 use Rattle.std.proofs.lemmas.List.{take_more, take_more_set, drop-drop, drop-set-lt, get_or-drop, map_more, length-map, get_or-map, map-append, length-append}
-use Rattle.std.proofs.lemmas.List.Elements.{All-push}
-use Rattle.sc_serve.specs.Source.{File, joined_texts, line_feed, longest_source, room_after, texts_of, unmarked}
-use Rattle.sc_serve.specs.Joining.{AreSound, AreTold, IsFileFault, IsJoinFault, IsSourceFault, source_fault, source_text, TakesAtMost, TakesMore}
+use Rattle.std.proofs.lemmas.List.Elements.{All-get_or, All-push}
+use Rattle.sc_text.specs.Spelling.{max_source_bytes}
+use Rattle.sc_serve.specs.Source.{File, joined_texts, line_feed, room_after, texts_of, names_of, unmarked}
+use Rattle.sc_serve.specs.Joining.{AreSound, AreTold, IsFileFault, IsJoinFault, IsReaderFault, IsSourceFault, names_for, source_fault, source_text, TakesAtMost}
+use Rattle.sc_serve.specs.Internal.Blocks.{TakesMore}
 use Rattle.sc_serve.proofs.SourceLemmas.{short-push}
 
 -- bytes that are given after others
@@ -45,7 +47,7 @@ sound-more files i source more name below sound texts utf8 room added =
     let pushed : texts_of more ≡ texts_of source ++ unmarked file ∷ [] =
     rw added (map-append (λ f. f.text) source (record { name = name; text = unmarked file } ∷ [])) in
     let is : texts_of more ≡ map unmarked (take (i + 1) files) = rw (pushed, texts) (sym mapped) in
-    let short : length (source_text (take (i + 1) files)) ≤ longest_source =
+    let short : length (source_text (take (i + 1) files)) ≤ max_source_bytes =
     rw (← is) (short-push source more (record { name = name; text = unmarked file }) room added) in
     (record { utf8 = rw split (All-push IsUtf8 (take i files) file sound.utf8 utf8); short = short }, is)
 
@@ -130,14 +132,14 @@ told-fault old new files i (file_fault.Unreadable error) is unread =
     record { before = is.before; here = is.here; unread = unread }
 told-fault old new files i (file_fault.NotUtf8 offset) is unread =
     let size = length-more files i is.here in
-    let fits : length (source_text (take i files)) ≤ longest_source = is.before.short in
-    let few : length (unmarked (get_or files i [])) < longest_source - length (source_text (take i files)) = is.true_of_it.0 in
-    let short : length (source_text (take (i + 1) files)) ≤ longest_source = rw size (omega arith) in
+    let fits : length (source_text (take i files)) ≤ max_source_bytes = is.before.short in
+    let few : length (unmarked (get_or files i [])) < max_source_bytes - length (source_text (take i files)) = is.true_of_it.0 in
+    let short : length (source_text (take (i + 1) files)) ≤ max_source_bytes = rw size (omega arith) in
     (record { before = is.before; here = is.here; unread = unread }, (is.true_of_it.1.0, short))
 told-fault old new files i file_fault.TooLong is unread =
     let size = length-more files i is.here in
-    let many : longest_source - length (source_text (take i files)) ≤ length (unmarked (get_or files i [])) = is.true_of_it in
-    let long : longest_source < length (source_text (take (i + 1) files)) = rw size (omega arith) in
+    let many : max_source_bytes - length (source_text (take i files)) ≤ length (unmarked (get_or files i [])) = is.true_of_it in
+    let long : max_source_bytes < length (source_text (take (i + 1) files)) = rw size (omega arith) in
     (i, (record { before = is.before; here = is.here; unread = unread }, long))
 told-fault old new files i file_fault.OutOfMemory is unread = tt
 
@@ -146,3 +148,47 @@ pub told-error : {T : Type 0} (P : T → Type 0) (Q : SourceFault → Type 0) (r
     IsErrAnd r (λ e. e ≡ fault) → Q fault → MatchResult r P Q
 told-error P Q (Ok t) fault is q = absurd is
 told-error P Q (Err e) fault is q = subst Q (sym is) q
+
+-- ---- names
+
+-- the name of one file more
+names_for-next : (names : List (List ℕ)) (n : ℕ) → names_for names (suc n) ≡ names_for names n ++ get_or names n [] ∷ []
+names_for-next [] zero = refl
+names_for-next (x ∷ xs) zero = refl
+names_for-next [] (suc n) = ap (λ ns. [] ∷ ns) (names_for-next [] n)
+names_for-next (x ∷ xs) (suc n) = ap (λ ns. x ∷ ns) (names_for-next xs n)
+
+-- the step of the loop over the readers
+pub named-more : (names : List (List ℕ)) (i : ℕ) (source more : List File) (name : List ℕ) → names_of source ≡ names_for names i →
+    name ≡ get_or names i [] → names_of more ≡ names_of source ++ name ∷ [] → names_of more ≡ names_for names (i + 1)
+named-more names i source more name so-far is added =
+    let next : suc i ≡ i + 1 = omega arith in
+    added ∙ ap (λ ns. ns ++ name ∷ []) so-far ∙ ap (λ x. names_for names i ++ x ∷ []) is ∙ sym (names_for-next names i) ∙ ap (names_for names) next
+
+-- as many names as files
+pub named-all : (names : List (List ℕ)) → names_for names (length names) ≡ names
+named-all [] = refl
+named-all (x ∷ xs) = ap (λ ns. x ∷ ns) (named-all xs)
+
+-- ---- a text at the limit
+
+-- the first files have no longer a source text than all
+take-short : (files : List (List ℕ)) (i : ℕ) → length (source_text (take i files)) ≤ length (source_text files)
+take-short [] i = grind (arith, common_steps)
+take-short (f ∷ fs) zero = omega arith
+take-short (f ∷ fs) (suc i) =
+    let others = take-short fs i in
+    grind (arith, common_steps, others)
+
+-- sound files are kept from being joined by their readers alone
+pub fault-of-sound : (files : List (List ℕ)) (i : ℕ) (fault : FileFault) → IsJoinFault files (record { file = i; fault = fault }) →
+    AreSound files → IsReaderFault fault
+fault-of-sound files i (file_fault.Unreadable error) is sound = tt
+fault-of-sound files i file_fault.OutOfMemory is sound = tt
+fault-of-sound files i (file_fault.NotUtf8 offset) is sound = is.true_of_it.1.0 (All-get_or IsUtf8 files i [] is.here sound.utf8)
+fault-of-sound files i file_fault.TooLong is sound =
+    let size = length-more files i is.here in
+    let many : max_source_bytes - length (source_text (take i files)) ≤ length (unmarked (get_or files i [])) = is.true_of_it in
+    let part = take-short files (i + 1) in
+    let short : length (source_text files) ≤ max_source_bytes = sound.short in
+    omega (arith, size, many, part, short)

@@ -10,7 +10,7 @@ use Rattle.sc_world.specs.Turn.{turn_with, take}
 use Rattle.sc_world.specs.World.{World, opening, run, has_turn_at}
 use Rattle.sc_world.specs.Report.{report, status_of}
 use Rattle.sc_world.specs.declared.world.Turned.TheVariants.{Nothing}
-use Rattle.sc_world.specs.Kept.{Kept, opened, after_run, turned_of}
+use Rattle.sc_world.specs.WorldState.{WorldState, opened, after_run, turned_of}
 use Rattle.sc_serve.specs.Execution.{IsRun}
 use Rattle.sc_world.proofs.Worlds.{after_run-append}
 
@@ -26,11 +26,11 @@ pub world-stands : (s : System) (w : World) → has_turn_at 0 w ≡ false → ru
 world-stands s [] none = refl
 world-stands s (h ∷ hs) none = ap (λ g. g ∷ hs) (turn-none s h h.stack h.queue refl none)
 
-pub kept-stands : (k : Kept) → has_turn_at 0 k.state ≡ false → after_run k (0 ∷ []) ≡ k
+pub kept-stands : (k : WorldState) → has_turn_at 0 k.state ≡ false → after_run k (0 ∷ []) ≡ k
 kept-stands k none = ap (λ w. record k { state = w }) (world-stands k.system k.state none)
 
 -- one turn more
-pub one-more : (k : Kept) (n : ℕ) → after_run (after_run k (replicate n 0)) (0 ∷ []) ≡ after_run k (replicate (n + 1) 0)
+pub one-more : (k : WorldState) (n : ℕ) → after_run (after_run k (replicate n 0)) (0 ∷ []) ≡ after_run k (replicate (n + 1) 0)
 one-more k n = after_run-append k (replicate n 0) (0 ∷ []) ∙ ap (after_run k) (replicate-append-replicate n 1 0)
 
 -- a step that did nothing had no turn to make
@@ -39,11 +39,11 @@ nothing-due true e = cc
 nothing-due false e = refl
 
 -- what is told of the world after so many turns
-pub run-told : (s : System) (root : Root) (limit n : ℕ) (w : Kept) (text : List ℕ) (status : Option Status) →
+pub run-told : (s : System) (root : Root) (limit n : ℕ) (w : WorldState) (text : List ℕ) (status : Option Status) →
     w ≡ after_run (opened s root) (replicate n 0) → n ≤ limit → (n ≡ limit) ⊎ (has_turn_at 0 w.state ≡ false) →
     text ≡ report w.state → status ≡ option_map status_of (slice_get w.state 0) → IsRun s root limit text status
 run-told s root limit n w text status stands within ended told how =
-    let state : w.state ≡ run s (replicate n 0) (opening root) = ap (λ (k : Kept). k.state) stands in
+    let state : w.state ≡ run s (replicate n 0) (opening root) = ap (λ (k : WorldState). k.state) stands in
     record {
       turns = n;
       within = within;

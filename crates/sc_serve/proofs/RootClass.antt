@@ -12,10 +12,10 @@ use Rattle.sc_tree.specs.View.{name_of, feature_of, class_of}
 use Rattle.sc_class.specs.declared.fault.ClassFault.TheVariants as fault
 use Rattle.sc_class.specs.Names.{is_listed, number_among}
 use Rattle.sc_class.specs.ClassNames.{Root, class_names, is_built_in, number_of}
-use Rattle.sc_class.specs.Ancestors.{line, parent_number}
-use Rattle.sc_class.specs.Features.{declared_in, own_features, redefined_names, not_redefined, features_along}
-use Rattle.sc_class.specs.Limits.{many_features}
-use Rattle.sc_class.specs.ClassRules.{IsFaultless, creates_by, has_root, no_root, limit}
+use Rattle.sc_class.specs.Tables.Ancestors.{ancestors_within, parent_number}
+use Rattle.sc_class.specs.Tables.Features.{declared_features, declared_in, redefined_names, not_redefined, features_along}
+use Rattle.sc_class.specs.Faults.Limits.{many_features}
+use Rattle.sc_class.specs.Faults.ClassRules.{IsFaultless, creates_by, has_root, no_root, limit}
 use Rattle.sc_world.specs.Lookup.{class_named}
 
 -- ---- the first class of a name, by its number
@@ -85,22 +85,22 @@ module _ (s : System) (root : Root) where
 
 -- ---- how many features it has
 
-own_many : (s : System) (k : ℕ) (c : Class) → slice_get s.classes k ≡ Some c → length (own_features s k) ≡ length c.features
+own_many : (s : System) (k : ℕ) (c : Class) → slice_get s.classes k ≡ Some c → length (declared_features s k) ≡ length c.features
 own_many s k c e = ap (λ (o : Option Class). length (option_map_or (λ (c : Class). map (declared_in k) c.features) o [])) e ∙ length-map c.features (declared_in k)
 
-own_few : (s : System) (k n : ℕ) (c : Class) → slice_get s.classes k ≡ Some c → k < n → length c.features ≤ length (features_along s (line n s k))
+own_few : (s : System) (k n : ℕ) (c : Class) → slice_get s.classes k ≡ Some c → k < n → length c.features ≤ length (features_along s (ancestors_within n s k))
 own_few s k zero c e l = absurd (omega (arith, l))
 own_few s k (suc n) c e l =
-    let others = not_redefined (redefined_names s k) (features_along s (option_map_or (line n s) (parent_number s k) [])) in
+    let others = not_redefined (redefined_names s k) (features_along s (option_map_or (ancestors_within n s) (parent_number s k) [])) in
     let own = own_many s k c e in
-    let all = length-append (own_features s k) others in
+    let all = length-append (declared_features s k) others in
     omega (arith, own, all)
 
 few_features : (s : System) (root : Root) → IsFaultless s root → (k : ℕ) (c : Class) → slice_get s.classes k ≡ Some c → length c.features ≤ 256
 few_features s root none k c e =
     let within = slice_get_within s.classes k c e in
     let few = own_few s k (length s.classes) c e within in
-    grind (arith, few, λ (l : 256 < length (features_along s (line (length s.classes) s k))). none fault.Limit (limit (many_features {k = k} within l)))
+    grind (arith, few, λ (l : 256 < length (features_along s (ancestors_within (length s.classes) s k))). none fault.Limit (limit (many_features {k = k} within l)))
 
 -- ---- the same of the class that is found in memory
 

@@ -10,7 +10,8 @@ use Rattle.sc_text.specs.Spelling.{IsWord, IsToken, name, Lexeme, Spells, Begins
 use Rattle.std.proofs.lemmas.List.Sums.{AllPass-from_list_all}
 use Rattle.std.proofs.lemmas.Str.Pattern.{IsSplitOnceResult, split_after}
 use Rattle.sc_text.specs.Characters.{is_letter, is_name_part}
-use Rattle.sc_serve.specs.RootOption.{IsName, NamesRoot, sole_name, name_in, dot}
+use Rattle.sc_serve.specs.RootOption.{IsName, NamesRoot, dot}
+use Rattle.sc_serve.specs.Internal.SoleName.{sole_name, name_in}
 
 -- the text of a NAME is a name, and the token has it in lower case
 pub name-is : {n cs rest : List ℕ} → IsToken (NAME n) cs rest → IsName cs × (n ≡ map to_ascii_lowercase cs)

@@ -4,7 +4,9 @@ use Rattle.std.proofs.lemmas.List.{length-take-le, take-append-le, drop-append-l
 use Rattle.std.proofs.Math.Seq.{take-append_seam, drop-append-add}
 use Rattle.std.proofs.lemmas.Grind.{common_steps}
 use Rattle.std.proofs.lemmas.Bool.Decides.{nat_tests}
-use Rattle.sc_serve.specs.Source.{File, joined, files_in, line_feed, longest_source, place_of, room_after}
+use Rattle.sc_text.specs.Spelling.{max_source_bytes}
+use Rattle.sc_serve.specs.Source.{File, joined, line_feed, place_of, room_after}
+use Rattle.sc_serve.specs.Internal.Files.{files_in}
 use Rattle.sc_serve.specs.declared.source.SourceFile.{SourceFile}
 
 -- where a text is its first n bytes, one byte and what follows, it has more than n bytes
@@ -24,7 +26,7 @@ joined-push (g ∷ gs) f = simp (joined-push gs f, append_assoc)
 
 -- one more file that there is room for
 pub short-push : (fs gs : List File) (f : File) → length f.text < room_after fs → gs ≡ fs ++ f ∷ [] →
-    length (joined gs) ≤ longest_source
+    length (joined gs) ≤ max_source_bytes
 short-push fs gs f room added =
     let text : joined gs ≡ joined fs ++ (f.text ++ (line_feed ∷ [])) = rw added (joined-push fs f) in
     let size : length (joined gs) ≡ length (joined fs) + (length f.text + 1) = rw text (grind (arith, common_steps)) in
@@ -90,7 +92,7 @@ joined-added fs all text before whole t f e len ended pushed listed =
 -- and it isn't too long where there was room
 pub short-added : (fs value : List File) (text before whole t : List ℕ) →
     joined fs ≡ text → fs ≡ value → length t < room_after value →
-    whole ≡ before ++ (line_feed ∷ []) → before ≡ text ++ t → length whole ≤ longest_source
+    whole ≡ before ++ (line_feed ∷ []) → before ≡ text ++ t → length whole ≤ max_source_bytes
 short-added fs value text before whole t e viewed room ended pushed =
     let same : length (joined value) ≡ length text = rw (← viewed, e) refl in
     let size : length whole ≡ length text + (length t + 1) = rw (ended, pushed) (grind (arith, common_steps)) in

@@ -2,7 +2,7 @@
 use Rattle.std.specs.Prelude.{ℕ, ◌≡◌, ◌≤◌, ◌⊎◌, true, false, List, map, length, Option, slice_get, replicate}
 use Rattle.std.specs.Option.{option_map}
 use Rattle.sc_text.specs.Kind.{Kind}
-use Rattle.sc_text.specs.Spelling.{Lexeme, Spells, IsRefused}
+use Rattle.sc_text.specs.Spelling.{Lexeme, Spells, IsRefused, max_source_bytes}
 use Rattle.sc_tree.specs.Plain.{System}
 use Rattle.sc_tree.specs.Bare.{bare_system}
 use Rattle.sc_tree.specs.Grammar.Classes.{IsSystem}
@@ -12,8 +12,8 @@ use Rattle.sc_parse.specs.Places.{IsPlaced}
 use Rattle.sc_parse.specs.declared.fault.ParseFault.{ParseFault}
 use Rattle.sc_text.specs.declared.token.Span.{Span}
 use Rattle.sc_class.specs.ClassNames.{Root}
-use Rattle.sc_class.specs.ClassRules as class_rules
-use Rattle.sc_class.specs.ClassRules.{IsFaultless}
+use Rattle.sc_class.specs.Faults.ClassRules as class_rules
+use Rattle.sc_class.specs.Faults.ClassRules.{IsFaultless}
 use Rattle.sc_world.specs.declared.status.Status.{Status}
 use Rattle.sc_world.specs.Lookup as lookup
 use Rattle.sc_world.specs.World.{World, opening, run, has_turn_at}
@@ -34,7 +34,7 @@ pub record IsSpelled (text : List ℕ) (tree : System) : Type 0 where
   pub tokens : List Lexeme
   pub nesting : ℕ
   pub spelled : Spells text tokens
-  pub short : length text ≤ 1048576
+  pub short : length text ≤ max_source_bytes
   pub shallow : nesting ≤ 64
   pub grammar : IsSystem tree (kinds tokens) nesting
 
@@ -43,7 +43,7 @@ pub record IsRead (text : List ℕ) (system : System) : Type 0 where
   pub tokens : List Lexeme
   pub nesting : ℕ
   pub spelled : Spells text tokens
-  pub short : length text ≤ 1048576
+  pub short : length text ≤ max_source_bytes
   pub shallow : nesting ≤ 64
   pub grammar : IsSystem (bare_system system) (kinds tokens) nesting
   pub placed : IsPlaced system tokens

@@ -1,10 +1,11 @@
 -- What joining the files of a system comes to.
-use Rattle.std.specs.Prelude.{ℕ, ◌≡◌, ◌+◌, ◌-◌, ◌<◌, ◌≤◌, List, [], ◌++◌, Option, Some, length, take, drop, map}
+use Rattle.std.specs.Prelude.{ℕ, zero, suc, ◌≡◌, ◌+◌, ◌-◌, ◌<◌, ◌≤◌, List, [], ◌∷◌, ◌++◌, Option, Some, length, take, drop, map}
 use Rattle.std.specs.List.{All, slice_index_or}
 use Rattle.std.specs.Str.{IsUtf8, IsValidUpTo, valid_up_to}
 use Rattle.std.specs.declared.str.Utf8Error.{Utf8Error}
 use Rattle.std.specs.Io.KnownBytes.{Consumes}
-use Rattle.sc_serve.specs.Source.{File, joined_texts, longest_source, texts_of, unmarked}
+use Rattle.sc_text.specs.Spelling.{max_source_bytes}
+use Rattle.sc_serve.specs.Source.{File, joined_texts, texts_of, unmarked}
 use Rattle.sc_serve.specs.declared.source.JoinFault.{JoinFault}
 use Rattle.sc_serve.specs.declared.join.SourceFault.{SourceFault}
 use Rattle.sc_serve.specs.declared.join.SourceFault.TheVariants as told
@@ -16,11 +17,6 @@ use Rattle.sc_serve.specs.declared.reading.FileFault.TheVariants as fault
 -- A reader has given at most so many bytes.
 abbrev pub TakesAtMost : ℕ → Option (List ℕ) → Option (List ℕ) → Type 0
 TakesAtMost most old new = (taken : List ℕ) × ((length taken ≤ most) × Consumes old new taken)
-
--- A reader has given at most so many bytes, which were added to others.
-abbrev pub TakesMore : ℕ → Option (List ℕ) → Option (List ℕ) → List ℕ → List ℕ → Type 0
-TakesMore most old new before after =
-    (taken : List ℕ) × ((length taken ≤ most) × ((after ≡ before ++ taken) × Consumes old new taken))
 
 abbrev pub no_memory : FileFault
 no_memory = fault.OutOfMemory
@@ -59,10 +55,16 @@ AreTold known files = known ≡ map Some files
 abbrev pub source_text : List (List ℕ) → List ℕ
 source_text files = joined_texts (map unmarked files)
 
+-- the name of each of so many files, in order: a file past the names has an empty one
+abbrev pub names_for : List (List ℕ) → ℕ → List (List ℕ)
+names_for names zero = []
+names_for [] (suc n) = [] ∷ names_for [] n
+names_for (x ∷ xs) (suc n) = x ∷ names_for xs n
+
 -- The files are UTF-8, and their source text isn't too long.
 pub record AreSound (files : List (List ℕ)) : Type 0 where
   pub utf8 : All IsUtf8 files
-  pub short : length (source_text files) ≤ longest_source
+  pub short : length (source_text files) ≤ max_source_bytes
 
 -- They are sound, and these are their texts.
 abbrev pub AreJoined : List (List ℕ) → List File → Type 0
@@ -73,7 +75,7 @@ pub record IsJoinFault (files : List (List ℕ)) (why : JoinFault) : Type 0 wher
   pub before : AreSound (take why.file files)
   pub here : why.file < length files
   pub true_of_it : IsFileFault (slice_index_or files why.file [])
-      (longest_source - length (source_text (take why.file files))) why.fault
+      (max_source_bytes - length (source_text (take why.file files))) why.fault
 
 -- ---- what is told of them
 
@@ -86,6 +88,13 @@ told_of file fault.OutOfMemory = told.OutOfMemory
 
 abbrev pub source_fault : JoinFault → SourceFault
 source_fault why = told_of why.file why.fault
+
+-- A reader failed, or memory ran out.
+abbrev pub IsReadersFault : SourceFault → Type 0
+IsReadersFault (told.Unreadable file) = Unit {0}
+IsReadersFault told.OutOfMemory = Unit {0}
+IsReadersFault (told.NotUtf8 file) = ⊥
+IsReadersFault told.SourceTooLong = ⊥
 
 -- The files are sound up to this one, and the readers after its own are as they were.
 pub record StopsAtFile {R : Type 0} (old new : List R) (files : List (List ℕ)) (file : ℕ) : Type 0 where
@@ -102,7 +111,7 @@ source_text_to files file = source_text (take (file + 1) files)
 abbrev pub IsSourceFault : {R : Type 0} → List R → List R → List (List ℕ) → SourceFault → Type 0
 IsSourceFault old new files (told.Unreadable file) = StopsAtFile old new files file
 IsSourceFault old new files (told.NotUtf8 file) =
-    StopsAtFile old new files file × (¬ IsUtf8 (slice_index_or files file []) × (length (source_text_to files file) ≤ longest_source))
+    StopsAtFile old new files file × (¬ IsUtf8 (slice_index_or files file []) × (length (source_text_to files file) ≤ max_source_bytes))
 IsSourceFault old new files told.SourceTooLong =
-    (file : ℕ) × (StopsAtFile old new files file × (longest_source < length (source_text_to files file)))
+    (file : ℕ) × (StopsAtFile old new files file × (max_source_bytes < length (source_text_to files file)))
 IsSourceFault old new files told.OutOfMemory = Unit {0}

@@ -1,5 +1,6 @@
 -- How a refusal is told.
 use Rattle.std.specs.Prelude.{ℕ, List, [], ◌∷◌, ◌++◌, Option, Some, None, codes, decimal}
+use Rattle.sc_text.specs.declared.token.Span.{Span}
 use Rattle.sc_text.specs.declared.fault.LexFault.{LexFault}
 use Rattle.sc_text.specs.declared.fault.LexFault.TheVariants as lexing
 use Rattle.sc_parse.specs.declared.fault.ParseFault.{ParseFault}
@@ -24,47 +25,55 @@ place_text (Some p) = codes " " ++ (p.file ++ (codes ":" ++ (decimal p.line ++ (
 abbrev pub refusal_line : List ℕ → List ℕ → Option Place → List ℕ
 refusal_line code name place = codes "refused " ++ (code ++ (codes " " ++ (name ++ (place_text place ++ (line_feed ∷ [])))))
 
--- what is told: a code, a name, and the offset of where it stands in the source text, if it stands anywhere
+-- what is told: a code, a name, and the part of the source text that is at fault, if there is one
 pub record Told : Type 0 where
   pub code : List ℕ
   pub name : List ℕ
-  pub offset : Option ℕ
+  pub span : Option Span
 
 abbrev pub seen : Refusal → Told
-seen r = record { code = r.code.now; name = r.name.now; offset = r.offset }
+seen r = record { code = r.code.now; name = r.name.now; span = r.span }
+
+-- of a part of the text
+abbrev pub told_at : List ℕ → List ℕ → Span → Option Told
+told_at code name span = Some (record { code = code; name = name; span = Some span })
+
+-- of the whole
+abbrev pub told_of_all : List ℕ → List ℕ → Option Told
+told_of_all code name = Some (record { code = code; name = name; span = None })
 
 -- why a text spells no tokens
 abbrev pub told_of_text : LexFault → Option Told
-told_of_text (lexing.BadCharacter place) = Some (record { code = codes "L1"; name = codes "BadCharacter"; offset = Some place })
-told_of_text (lexing.UnclosedString place) = Some (record { code = codes "L2"; name = codes "UnclosedString"; offset = Some place })
-told_of_text (lexing.BadEscape place) = Some (record { code = codes "L3"; name = codes "BadEscape"; offset = Some place })
-told_of_text (lexing.IntegerTooLarge place) = Some (record { code = codes "L4"; name = codes "IntegerTooLarge"; offset = Some place })
-told_of_text lexing.SourceTooLong = Some (record { code = codes "L5"; name = codes "SourceTooLong"; offset = None })
+told_of_text (lexing.BadCharacter span) = told_at (codes "L1") (codes "BadCharacter") span
+told_of_text (lexing.UnclosedString span) = told_at (codes "L2") (codes "UnclosedString") span
+told_of_text (lexing.BadEscape span) = told_at (codes "L3") (codes "BadEscape") span
+told_of_text (lexing.IntegerTooLarge span) = told_at (codes "L4") (codes "IntegerTooLarge") span
+told_of_text lexing.SourceTooLong = told_of_all (codes "L5") (codes "SourceTooLong")
 told_of_text lexing.OutOfMemory = None
 
 -- why tokens spell no system
 abbrev pub told_of_tokens : ParseFault → Option Told
-told_of_tokens (parsing.NotInGrammar place) = Some (record { code = codes "P1"; name = codes "NotInGrammar"; offset = Some place })
-told_of_tokens (parsing.TooDeep place) = Some (record { code = codes "P2"; name = codes "TooDeep"; offset = Some place })
+told_of_tokens (parsing.NotInGrammar span) = told_at (codes "P1") (codes "NotInGrammar") span
+told_of_tokens (parsing.TooDeep span) = told_at (codes "P2") (codes "TooDeep") span
 told_of_tokens parsing.OutOfMemory = None
 
 -- what is at fault in the classes of a system
 abbrev pub told_of_classes : ClassFault → Option Told
-told_of_classes (classes.DuplicateClass place) = Some (record { code = codes "C1"; name = codes "DuplicateClass"; offset = Some place.start })
-told_of_classes (classes.UnknownParent place) = Some (record { code = codes "C2"; name = codes "UnknownParent"; offset = Some place.start })
-told_of_classes (classes.Cycle place) = Some (record { code = codes "C3"; name = codes "Cycle"; offset = Some place.start })
-told_of_classes (classes.DuplicateFeature place) = Some (record { code = codes "C4"; name = codes "DuplicateFeature"; offset = Some place.start })
-told_of_classes (classes.BadRedefinition place) = Some (record { code = codes "C5"; name = codes "BadRedefinition"; offset = Some place.start })
-told_of_classes classes.NoRoot = Some (record { code = codes "C6"; name = codes "NoRoot"; offset = None })
-told_of_classes classes.Limit = Some (record { code = codes "C7"; name = codes "Limit"; offset = None })
-told_of_classes (classes.LeftOut what place) = Some (record { code = codes "C8"; name = codes "LeftOut"; offset = Some place.start })
+told_of_classes (classes.DuplicateClass span) = told_at (codes "C1") (codes "DuplicateClass") span
+told_of_classes (classes.UnknownParent span) = told_at (codes "C2") (codes "UnknownParent") span
+told_of_classes (classes.Cycle span) = told_at (codes "C3") (codes "Cycle") span
+told_of_classes (classes.DuplicateFeature span) = told_at (codes "C4") (codes "DuplicateFeature") span
+told_of_classes (classes.BadRedefinition span) = told_at (codes "C5") (codes "BadRedefinition") span
+told_of_classes classes.NoRoot = told_of_all (codes "C6") (codes "NoRoot")
+told_of_classes classes.Limit = told_of_all (codes "C7") (codes "Limit")
+told_of_classes (classes.LeftOut what span) = told_at (codes "C8") (codes "LeftOut") span
 told_of_classes classes.OutOfMemory = None
 
 -- which rule fails in a system
 abbrev pub told_of_system : Fault → Told
-told_of_system fault = record { code = code_of fault.rule; name = name_of fault.rule; offset = Some fault.span.start }
+told_of_system fault = record { code = code_of fault.rule; name = name_of fault.rule; span = Some fault.span }
 
--- Want of memory is no refusal, nor is what isn't run yet.
+-- That memory ran out is no refusal, nor is what isn't run yet.
 abbrev pub told : Rejection → Option Told
 told (rejection.Text fault) = told_of_text fault
 told (rejection.Grammar fault) = told_of_tokens fault

@@ -1,8 +1,7 @@
 -- What `--root` may name.
-use Rattle.std.specs.Prelude.{◌≡◌, ℕ, ◌==◌, ◌&&◌, List, [], ◌∷◌, ◌++◌, Option, Some, None, if◌then◌else◌, map}
+use Rattle.std.specs.Prelude.{◌≡◌, ℕ, List, ◌∷◌, ◌++◌, None, map}
 use Rattle.std.specs.Char.{to_ascii_lowercase}
-use Rattle.sc_text.specs.Kind.{Kind, NAME, INTEGER, STRING, TERMINAL}
-use Rattle.sc_text.specs.Spelling.{IsWord, Lexeme}
+use Rattle.sc_text.specs.Spelling.{IsWord}
 use Rattle.sc_text.specs.Words.{reserved}
 
 abbrev pub dot : ℕ
@@ -22,17 +21,3 @@ pub record NamesRoot (text class procedure : List ℕ) : Type 0 where
   pub second : IsName after
   pub class_is : class ≡ map to_ascii_lowercase before
   pub procedure_is : procedure ≡ map to_ascii_lowercase after
-
--- ---- what code looks for among the tokens of a text
-
-abbrev pub name_in : Kind → Option (List ℕ)
-name_in (NAME n) = Some n
-name_in (INTEGER i) = None
-name_in (STRING s) = None
-name_in (TERMINAL t) = None
-
--- the name that is the only token of a text of this length, and the whole of it
-abbrev pub sole_name : ℕ → List Lexeme → Option (List ℕ)
-sole_name len [] = None
-sole_name len (t ∷ []) = if t.span.start == 0 && t.span.end == len then name_in t.kind else None
-sole_name len (t ∷ u ∷ ts) = None

@@ -1,7 +1,9 @@
 -- The source text of a system, and the places in its files. A text is the list of its bytes.
-use Rattle.std.specs.Prelude.{ℕ, ◌+◌, ◌-◌, ◌==◌, Bool, not, List, [], ◌∷◌, ◌++◌, Option, Some, None, if◌then◌else◌, length, map, take, drop, count_by, nat_eq, nat_le, string_bytes}
+use Rattle.std.specs.Prelude.{ℕ, ◌+◌, ◌-◌, ◌==◌, Bool, not, List, [], ◌∷◌, ◌++◌, Option, Some, None, if◌then◌else◌, length, map, take, drop, count_by, nat_eq, nat_le}
 use Rattle.std.specs.List.{starts_with, suffix_len}
-use Rattle.sc_serve.specs.declared.source.SourceFile.{SourceFile}
+use Rattle.std.specs.Option.{option_and_then}
+use Rattle.sc_text.specs.Spelling.{max_source_bytes}
+use Rattle.sc_text.specs.declared.token.Span.{Span}
 use Rattle.sc_serve.specs.declared.source.Place as code
 
 -- A file's name and its text.
@@ -38,6 +40,10 @@ abbrev pub joined_texts : List (List ℕ) → List ℕ
 joined_texts [] = []
 joined_texts (t ∷ ts) = t ++ (line_feed ∷ joined_texts ts)
 
+-- the names of files
+abbrev pub names_of : List File → List (List ℕ)
+names_of fs = map (λ f. f.name) fs
+
 -- the texts of files
 abbrev pub texts_of : List File → List (List ℕ)
 texts_of fs = map (λ f. f.text) fs
@@ -46,13 +52,9 @@ texts_of fs = map (λ f. f.text) fs
 abbrev pub joined : List File → List ℕ
 joined fs = joined_texts (texts_of fs)
 
--- the most bytes that a source text may have
-abbrev pub longest_source : ℕ
-longest_source = 1048576
-
 -- How short the text of one more file has to be: it has fewer bytes than this, for the line feed after it.
 abbrev pub room_after : List File → ℕ
-room_after fs = longest_source - length (joined fs)
+room_after fs = max_source_bytes - length (joined fs)
 
 -- the line on which a text ends
 abbrev pub line_after : List ℕ → ℕ
@@ -72,8 +74,6 @@ place_of [] offset = None
 place_of (f ∷ fs) offset =
     if nat_le offset (length f.text) then Some (place_in f offset) else place_of fs (offset - (length f.text + 1))
 
--- the files whose source text this is, by their names and the lengths of their texts
-abbrev pub files_in : List ℕ → List SourceFile → List File
-files_in text [] = []
-files_in text (f ∷ fs) =
-    record { name = string_bytes f.name; text = take f.length text } ∷ files_in (drop (f.length + 1) text) fs
+-- where a part of their source text begins, if there is one
+abbrev pub place_at : List File → Option Span → Option Place
+place_at fs span = option_and_then (λ (s : Span). place_of fs s.start) span

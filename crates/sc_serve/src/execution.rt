@@ -5,9 +5,9 @@ ghost use Rattle.sc_tree.specs.Bare.{bare_system};
 ghost use Rattle.sc_tree.specs.Plain as plain;
 ghost use Rattle.sc_tree.specs.View.{system_of};
 ghost use Rattle.sc_tree.specs.Canonical.{canonical_text};
-ghost use Rattle.sc_class.specs.ClassRules.{IsFaultless};
-ghost use Rattle.sc_class.specs.Entries.{root_of};
-ghost use Rattle.sc_check.specs.SystemIn.{system_in};
+ghost use Rattle.sc_class.specs.Faults.ClassRules.{IsFaultless};
+ghost use Rattle.sc_class.specs.View.{root_of};
+ghost use Rattle.sc_class.specs.SystemIn.{system_in};
 ghost use Rattle.sc_check.specs.CheckedTables.{tables_of};
 ghost use Rattle.sc_serve.specs.Execution.{IsAccepted, IsAtFault, IsNotRunFor, IsPrinted, IsRead, IsRefusedFor, IsRun, IsRunOf, IsSound, IsSpelled, IsUnreadable, MustBeAccepted, MustBeRun, run_root};
 

@@ -1,5 +1,10 @@
 // Files by name.
 
+ghost use Rattle.std.specs.Prelude.{◌≡◌, IfOk, map};
+ghost use Rattle.sc_serve.specs.Source.{names_of};
+
+use crate::source::{JoinFault, Source};
+use std::alloc::Global;
 use std::io::{self, Input, Read, Write};
 use std::{fs, rt};
 
@@ -27,6 +32,7 @@ pub struct SystemFiles<'r, R> {
 }
 
 impl<'r, R: rt::Files> SystemFiles<'r, R> {
+    /// The files that the host reaches.
     pub fn new(rt: &'r R) -> Self {
         SystemFiles { rt }
     }
@@ -81,6 +87,7 @@ enum FileState<R> {
 }
 
 impl<'a, F: Files> NamedFile<'a, F> {
+    /// The file of that name among these, which isn't opened yet.
     pub fn new(files: &'a F, name: &'a str) -> Self {
         NamedFile {
             files,
@@ -105,4 +112,15 @@ impl<'a, F: Files> Read for NamedFile<'a, F> {
         }
         Ok(count)
     }
+}
+
+/// The source text of the named files. They are opened and read in order, up to the first that is at fault.
+pub fn read_source<F: Files>(alloc: Global, files: &F, names: &[&str]) -> Result<Source, JoinFault>
+    ensures { IfOk result (λ source. names_of source ≡ map (λ name. name.now) names.now) }
+{
+    let mut readers = Vec::with_capacity(alloc, names.len())?;
+    for name in names {
+        readers.push(NamedFile::new(files, name))?;
+    }
+    Source::join(alloc, names, readers.as_mut_slice())
 }

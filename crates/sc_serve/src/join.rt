@@ -1,9 +1,10 @@
 // The source text of files, one after the other.
 
-ghost use Rattle.std.specs.Prelude.{◌≡◌, ℕ, List, MatchResult, OnOk, map, string_bytes};
+ghost use Rattle.std.specs.Prelude.{◌≡◌, ◌<◌, ℕ, List, IfErr, IsErr, MatchResult, OnOk, length, map, string_bytes};
 ghost use Rattle.std.specs.List.{All};
 ghost use Rattle.std.specs.Io.KnownBytes.{IsAtEnd};
-ghost use Rattle.sc_serve.specs.Joining.{AreSound, AreTold, IsSourceFault, source_fault, source_text};
+ghost use Rattle.sc_text.specs.Spelling.{max_source_bytes};
+ghost use Rattle.sc_serve.specs.Joining.{AreSound, AreTold, IsReadersFault, IsSourceFault, source_fault, source_text};
 
 use crate::reading::FileFault;
 use crate::source::{JoinFault, Source};
@@ -38,7 +39,7 @@ impl From<JoinFault> for SourceFault {
 }
 
 /// Joins the texts of the files that these readers give: each without a byte order mark at its start, and with a
-/// line feed after it.
+/// line feed after it. A text of 1,048,576 bytes is taken.
 ///
 /// The fault is the first one, file by file. A file is `Unreadable` only where its reader failed. The text is
 /// too long as soon as its bytes, with the line feed after the file, would be more than 1,048,576: whatever else is
@@ -48,6 +49,10 @@ pub fn join_sources<R: Read>(alloc: Global, readers: &mut [R]) -> Result<String,
     ensures answer { (files : List (List ℕ)) → AreTold (map R.remaining readers.old) files
         → MatchResult result (λ text. AreSound files × (string_bytes text ≡ source_text files))
         (IsSourceFault readers.old readers.new files) }
+    ensures fits { (files : List (List ℕ)) → AreTold (map R.remaining readers.old) files → AreSound files
+        → IfErr result IsReadersFault }
+    ensures too_long { (files : List (List ℕ)) → AreTold (map R.remaining readers.old) files
+        → max_source_bytes < length (source_text files) → IsErr result }
     ensures ended { OnOk result (All (λ reader. IsAtEnd (R.remaining reader)) readers.new) }
 {
     Ok(Source::join(alloc, &[], readers)?.into_text())

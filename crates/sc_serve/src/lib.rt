@@ -1,4 +1,4 @@
-//! What the program `scoop` does: it reads the words of a command line and the files of a system, and answers the check,
+//! What the program `scoop` does: it reads the arguments of a command line and the files of a system, and answers the check,
 //! the run or the canonical text that they ask for.
 //!
 //! [`serve::serve`] is one call of the program, over files and writers of its caller's. What it answers for a source text
@@ -9,6 +9,7 @@
 //! [`files`] has what a file is opened by.
 #![tactic(auto)]
 
+mod arguments;
 mod excerpt;
 pub mod execution;
 pub mod files;
@@ -20,7 +21,6 @@ mod root;
 pub mod serve;
 pub mod source;
 pub mod unrun;
-mod words;
 
+pub use arguments::UsageFault;
 pub use join::{SourceFault, join_sources};
-pub use words::UsageFault;

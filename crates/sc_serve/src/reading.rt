@@ -1,9 +1,11 @@
 // The text of one file, read to its end or until it is too long.
 
-ghost use Rattle.std.specs.Prelude.{◌≡◌, ◌+◌, ◌-◌, ◌<◌, ◌≤◌, ◌++◌, ℕ, List, length, take, IfErr, IfOk, IfSome, OnErr, OnOk, string_bytes};
+ghost use Rattle.std.specs.Prelude.{◌≡◌, ◌+◌, ◌-◌, ◌<◌, ◌≤◌, ◌++◌, ℕ, List, length, take, IfErr, IfOk, IfSome, IsErr, OnErr, OnOk, string_bytes};
+ghost use Rattle.sc_text.specs.Spelling.{max_source_bytes};
 ghost use Rattle.std.specs.Io.KnownBytes.{Consumes, IsAtEnd};
 ghost use Rattle.sc_serve.specs.Source as spec;
-ghost use Rattle.sc_serve.specs.Joining.{no_memory, not_utf8, IsReadFault, IsReaderFault, TakesAtMost, TakesMore};
+ghost use Rattle.sc_serve.specs.Joining.{no_memory, not_utf8, IsReadFault, IsReaderFault, TakesAtMost};
+ghost use Rattle.sc_serve.specs.Internal.Blocks.{TakesMore};
 
 use std::alloc::{AllocError, Global};
 use std::io::{self, ErrorKind, Read};
@@ -48,10 +50,12 @@ const BLOCK: usize = 8192;
 /// Reads a file to its end, where its text has fewer than `room` bytes; else no further than is needed to
 /// see that, which is a byte order mark and `room` bytes at most.
 pub fn read_bytes<R: Read>(alloc: Global, reader: &mut R, room: usize) -> Result<Vec<u8>, FileFault>
-    requires { room ≤ 1048576 }
+    requires { room ≤ max_source_bytes }
     ensures short { IfOk result (λ file. length (spec.unmarked file.items) < room) }
     ensures ok { IfOk result (λ file. IfSome (R.remaining reader.old) (λ told. file.items ≡ told)) }
     ensures err { IfErr result (λ fault. IfSome (R.remaining reader.old) (λ told. IsReadFault told room fault)) }
+    ensures fits { IfSome (R.remaining reader.old) (λ told. length (spec.unmarked told) < room → IfErr result IsReaderFault) }
+    ensures too_long { IfSome (R.remaining reader.old) (λ told. room ≤ length (spec.unmarked told) → IsErr result) }
     ensures end { OnOk result (IsAtEnd (R.remaining reader.new)) }
     ensures taken { TakesAtMost (room + 3) (R.remaining reader.old) (R.remaining reader.new) }
 {

@@ -1,8 +1,8 @@
 // Refusals of a source text, and the line that tells one.
 
 ghost use Rattle.std.specs.Prelude.{◌≡◌, IfOk, Some, string_bytes};
-ghost use Rattle.std.specs.Option.{option_and_then, option_map};
-ghost use Rattle.sc_serve.specs.Source.{place_of};
+ghost use Rattle.std.specs.Option.{option_map};
+ghost use Rattle.sc_serve.specs.Source.{place_at};
 ghost use Rattle.sc_serve.specs.Refusal as spec;
 
 use crate::source::{Place, Source};
@@ -30,30 +30,24 @@ pub enum Rejection {
     OutOfMemory,
 }
 
-/// How a refusal is told: its code, its name, and the offset of the byte where it stands, if there is one.
+/// How a refusal is told: its code, its name, and the part of the source text that is at fault, if there is one.
 #[derive(Clone, Copy, Debug, PartialEq, Eq)]
 pub struct Refusal {
     pub code: &'static str,
     pub name: &'static str,
-    pub offset: Option<usize>,
+    pub span: Option<Span>,
 }
 
 impl Refusal {
-    fn new(code: &'static str, name: &'static str, offset: Option<usize>) -> Self
-        ensures { spec.seen result ≡ record { code = code.entry.now; name = name.entry.now; offset = offset } }
-    {
-        Refusal { code, name, offset }
-    }
-
-    /// The line that tells the refusal, `refused CODE Name FILE:LINE:COLUMN`, without a place where
-    /// there is none.
+    /// The line that tells the refusal, `refused CODE Name FILE:LINE:COLUMN`, with the place where its part of the text
+    /// begins, or without a place.
     pub fn line(&self, alloc: Global, source: &Source) -> Result<String, AllocError>
         ensures { IfOk result (λ line. string_bytes line ≡ spec.refusal_line self.now.code.now
-            self.now.name.now (option_and_then (place_of source.now) self.now.offset)) }
+            self.now.name.now (place_at source.now self.now.span)) }
     {
         let code = self.code;
         let name = self.name;
-        match self.offset.and_then(|offset| source.place_of(offset)) {
+        match self.span.and_then(|span| source.place_of(span.start)) {
             Some(Place { file, line, column }) => {
                 format!(in alloc; "refused {code} {name} {file}:{line}:{column}\n")
             }
@@ -63,7 +57,7 @@ impl Refusal {
 }
 
 impl Rejection {
-    /// How it is told. Want of memory is no refusal, nor is what isn't run yet.
+    /// How it is told. That memory ran out is no refusal, nor is what isn't run yet.
     pub fn refusal(&self) -> Option<Refusal>
         ensures { option_map spec.seen result ≡ spec.told self.now }
     {
@@ -71,7 +65,7 @@ impl Rejection {
             Rejection::Text(fault) => text_refusal(fault),
             Rejection::Grammar(fault) => grammar_refusal(*fault),
             Rejection::Classes(fault) => class_refusal(*fault),
-            Rejection::Rules(fault) => Some(rules_refusal(*fault)),
+            Rejection::Rules(fault) => rules_refusal(*fault),
             Rejection::NotYet(_) | Rejection::OutOfMemory => None,
         }
     }
@@ -81,19 +75,11 @@ fn text_refusal(fault: &LexFault) -> Option<Refusal>
     ensures { option_map spec.seen result ≡ spec.told_of_text fault.now }
 {
     match fault {
-        LexFault::BadCharacter { place } => Some(Refusal::new("L1", "BadCharacter", Some(*place))),
-        LexFault::UnclosedString { place } => Some(Refusal::new(
-            "L2",
-            "UnclosedString",
-            Some(*place),
-        )),
-        LexFault::BadEscape { place } => Some(Refusal::new("L3", "BadEscape", Some(*place))),
-        LexFault::IntegerTooLarge { place } => Some(Refusal::new(
-            "L4",
-            "IntegerTooLarge",
-            Some(*place),
-        )),
-        LexFault::SourceTooLong => Some(Refusal::new("L5", "SourceTooLong", None)),
+        LexFault::BadCharacter { span } => refusal_at("L1", "BadCharacter", *span),
+        LexFault::UnclosedString { span } => refusal_at("L2", "UnclosedString", *span),
+        LexFault::BadEscape { span } => refusal_at("L3", "BadEscape", *span),
+        LexFault::IntegerTooLarge { span } => refusal_at("L4", "IntegerTooLarge", *span),
+        LexFault::SourceTooLong => refusal_of_all("L5", "SourceTooLong"),
         LexFault::OutOfMemory => None,
     }
 }
@@ -102,8 +88,8 @@ fn grammar_refusal(fault: ParseFault) -> Option<Refusal>
     ensures { option_map spec.seen result ≡ spec.told_of_tokens fault }
 {
     match fault {
-        ParseFault::NotInGrammar { place } => Some(Refusal::new("P1", "NotInGrammar", Some(place))),
-        ParseFault::TooDeep { place } => Some(Refusal::new("P2", "TooDeep", Some(place))),
+        ParseFault::NotInGrammar { span } => refusal_at("P1", "NotInGrammar", span),
+        ParseFault::TooDeep { span } => refusal_at("P2", "TooDeep", span),
         ParseFault::OutOfMemory => None,
     }
 }
@@ -112,28 +98,44 @@ fn class_refusal(fault: ClassFault) -> Option<Refusal>
     ensures { option_map spec.seen result ≡ spec.told_of_classes fault }
 {
     match fault {
-        ClassFault::DuplicateClass { place } => refusal_at("C1", "DuplicateClass", place),
-        ClassFault::UnknownParent { place } => refusal_at("C2", "UnknownParent", place),
-        ClassFault::Cycle { place } => refusal_at("C3", "Cycle", place),
-        ClassFault::DuplicateFeature { place } => refusal_at("C4", "DuplicateFeature", place),
-        ClassFault::BadRedefinition { place } => refusal_at("C5", "BadRedefinition", place),
-        ClassFault::NoRoot => Some(Refusal::new("C6", "NoRoot", None)),
-        ClassFault::Limit => Some(Refusal::new("C7", "Limit", None)),
-        ClassFault::LeftOut { what: _, place } => refusal_at("C8", "LeftOut", place),
+        ClassFault::DuplicateClass { span } => refusal_at("C1", "DuplicateClass", span),
+        ClassFault::UnknownParent { span } => refusal_at("C2", "UnknownParent", span),
+        ClassFault::Cycle { span } => refusal_at("C3", "Cycle", span),
+        ClassFault::DuplicateFeature { span } => refusal_at("C4", "DuplicateFeature", span),
+        ClassFault::BadRedefinition { span } => refusal_at("C5", "BadRedefinition", span),
+        ClassFault::NoRoot => refusal_of_all("C6", "NoRoot"),
+        ClassFault::Limit => refusal_of_all("C7", "Limit"),
+        ClassFault::LeftOut { what: _, span } => refusal_at("C8", "LeftOut", span),
         ClassFault::OutOfMemory => None,
     }
 }
 
-fn refusal_at(code: &'static str, name: &'static str, place: Span) -> Option<Refusal>
-    ensures { option_map spec.seen result ≡ Some (record { code = code.entry.now; name = name.entry.now; offset = Some place.start }) }
+fn rules_refusal(fault: Fault) -> Option<Refusal>
+    ensures { option_map spec.seen result ≡ Some (spec.told_of_system fault) }
 {
-    Some(Refusal::new(code, name, Some(place.start)))
+    refusal_at(fault.rule.code(), fault.rule.name(), fault.span)
 }
 
-fn rules_refusal(fault: Fault) -> Refusal
-    ensures { spec.seen result ≡ spec.told_of_system fault }
+/// The refusal of a part of the text.
+fn refusal_at(code: &'static str, name: &'static str, span: Span) -> Option<Refusal>
+    ensures { option_map spec.seen result ≡ spec.told_at code.entry.now name.entry.now span }
 {
-    Refusal::new(fault.rule.code(), fault.rule.name(), Some(fault.span.start))
+    Some(Refusal {
+        code,
+        name,
+        span: Some(span),
+    })
+}
+
+/// The refusal of the whole text.
+fn refusal_of_all(code: &'static str, name: &'static str) -> Option<Refusal>
+    ensures { option_map spec.seen result ≡ spec.told_of_all code.entry.now name.entry.now }
+{
+    Some(Refusal {
+        code,
+        name,
+        span: None,
+    })
 }
 
 impl From<AllocError> for Rejection {

@@ -2,8 +2,8 @@
 
 ghost use Rattle.std.specs.Prelude.{◌≡◌, ◌≤◌, IfSome, Some, is_some, length, map, option_copied, option_map, string_bytes};
 ghost use Rattle.sc_tree.specs.View.{name_of, class_of, system_of};
-ghost use Rattle.sc_class.specs.ClassRules.{IsFaultless};
-ghost use Rattle.sc_class.specs.Entries.{root_of};
+ghost use Rattle.sc_class.specs.Faults.ClassRules.{IsFaultless};
+ghost use Rattle.sc_class.specs.View.{root_of};
 ghost use Rattle.sc_class.specs.Names.{is_listed};
 ghost use Rattle.sc_world.specs.Lookup as lookup;
 

@@ -1,16 +1,16 @@
-// One call of the program, from its words to its status.
+// One call of the program, from its arguments to its status.
 
-ghost use Rattle.std.specs.Prelude.{◌≡◌, IfOk};
+ghost use Rattle.std.specs.Prelude.{◌≡◌, [], IfErr, IfOk, map};
 ghost use Rattle.sc_serve.specs.Answer as spec;
-ghost use Rattle.sc_serve.specs.Answer.{IsAnswerTo, IsRefusalOf};
+ghost use Rattle.sc_serve.specs.Answer.{IsAnswerOn, IsAnswerTo, IsRefusalOf, IsRejectedFor, too_long};
 
+use crate::arguments::{Command, Invocation, UsageFault, read_arguments};
 use crate::excerpt::excerpt;
 use crate::execution::{check_text, print_text, run_text};
-use crate::files::{Files, NamedFile};
+use crate::files::{Files, read_source};
 use crate::reading::FileFault;
 use crate::refusal::Rejection;
-use crate::source::{JoinFault, Source};
-use crate::words::{Command, Invocation, UsageFault, read_words};
+use crate::source::{JoinFault, Source, name_at};
 use sc_explain::{find, list};
 use sc_text::LexFault;
 use sc_world::Status;
@@ -23,7 +23,7 @@ use std::io::{self, ErrorKind, Write};
 pub enum Exit {
     /// Memory ran out.
     OutOfMemory = 5,
-    /// The words, a file or the output is at fault.
+    /// An argument, a file or the output is at fault.
     Usage = 2,
     /// The system is refused.
     Refused = 1,
@@ -61,13 +61,13 @@ impl Answer {
 #[derive(Drop)]
 pub enum Fault<'a> {
     Usage(UsageFault),
-    /// A word that is no code and no code's name.
+    /// An argument that is no code and no code's name.
     NoCode(&'a str),
     /// A file that can't be opened or read, or isn't UTF-8, and what is wrong with it.
     CannotRead(&'a str, FileFault),
     /// Standard output is closed or full.
     CannotWrite,
-    /// A word of the command line that isn't UTF-8.
+    /// An argument that isn't UTF-8.
     NotText,
     /// A system that uses what isn't run yet, and the line that says what it is and where it stands.
     NotYet(String),
@@ -80,16 +80,16 @@ impl<'a> From<AllocError> for Fault<'a> {
     }
 }
 
-/// Does what `words` ask for, of which the first is the program's name, and answers the status that
+/// Does what `arguments` ask for, of which the first is the program's name, and answers the status that
 /// the program ends with. What was asked for is written to `out`, and why it can't be had to `err`.
 pub fn serve<R: AllocGlobal, S: AsStr, F: Files, O: Write, E: Write>(
     rt: &R,
-    words: &[S],
+    arguments: &[S],
     files: &F,
     out: &mut O,
     err: &mut E,
 ) -> u8 {
-    let answer = match respond(rt.alloc(), words, files) {
+    let answer = match respond(rt.alloc(), arguments, files) {
         Ok(answer) => answer,
         Err(fault) => return end_with(&fault, err),
     };
@@ -115,7 +115,7 @@ fn write_out<O: Write>(text: &[u8], out: &mut O) -> io::Result<()> {
 /// Says on `err` why the program ends without an answer, and answers its status.
 pub fn end_with<E: Write>(fault: &Fault<'_>, err: &mut E) -> u8 {
     // The program ends in any case: nobody is left to be told that `err` failed. Its status still says so
-    // where it failed for want of memory.
+    // where it failed since memory ran out.
     match (fault, say(fault, err)) {
         (Fault::Usage(UsageFault::OutOfMemory) | Fault::OutOfMemory, _) => Exit::OutOfMemory as u8,
         (_, Err(error)) if error.kind() == ErrorKind::OutOfMemory => Exit::OutOfMemory as u8,
@@ -125,7 +125,7 @@ pub fn end_with<E: Write>(fault: &Fault<'_>, err: &mut E) -> u8 {
 
 fn say<E: Write>(fault: &Fault<'_>, err: &mut E) -> io::Result<()> {
     match fault {
-        Fault::Usage(UsageFault::Words(error)) => write!(err, "{error}"),
+        Fault::Usage(UsageFault::Arguments(error)) => write!(err, "{error}"),
         Fault::Usage(UsageFault::NoCommand) => writeln!(err, "no command"),
         Fault::Usage(UsageFault::BadRoot) => writeln!(err, "bad root"),
         Fault::NoCode(word) => writeln!(err, "no code {word}\n`scoop explain` lists the codes"),
@@ -134,7 +134,7 @@ fn say<E: Write>(fault: &Fault<'_>, err: &mut E) -> io::Result<()> {
             say_reason(fault, err)
         }
         Fault::CannotWrite => writeln!(err, "cannot write standard output"),
-        Fault::NotText => writeln!(err, "a word of the command line isn't UTF-8"),
+        Fault::NotText => writeln!(err, "an argument isn't UTF-8"),
         Fault::NotYet(line) => write!(err, "not yet\n{line}"),
         Fault::Usage(UsageFault::OutOfMemory) | Fault::OutOfMemory => writeln!(
             err,
@@ -161,12 +161,12 @@ fn say_reason<E: Write>(fault: &FileFault, err: &mut E) -> io::Result<()> {
 
 fn respond<'a, S: AsStr, F: Files>(
     alloc: Global,
-    words: &'a [S],
+    arguments: &'a [S],
     files: &F,
 ) -> Result<Answer, Fault<'a>> {
-    let invocation = match read_words(alloc, words) {
+    let invocation = match read_arguments(alloc, arguments) {
         Ok(invocation) => invocation,
-        Err(UsageFault::Words(error)) if !error.use_stderr() => {
+        Err(UsageFault::Arguments(error)) if !error.use_stderr() => {
             let text = error.to_string(alloc)?.into_bytes();
             return Ok(Answer::new(alloc, text, Exit::Done));
         }
@@ -195,7 +195,10 @@ fn answer_on_files<'a, F: Files>(
     command: &Command,
     files: &F,
     names: &[&'a str],
-) -> Result<Answer, Fault<'a>> {
+) -> Result<Answer, Fault<'a>>
+    ensures { let named = map (λ name. name.now) names.now in
+        IfOk result (λ answer. IsAnswerOn command.now named answer.text.items answer.exit) }
+{
     let source = match read_source(alloc, files, names) {
         Ok(source) => source,
         Err(fault) => return answer_unread(alloc, names, fault),
@@ -220,7 +223,7 @@ fn is_explained(command: &Command) -> bool {
     }
 }
 
-/// The line of the source text in which something is refused, with a caret, and where more is said of it.
+/// The line of the source text in which something is refused, with carets, and where more is said of it.
 fn explanation(
     alloc: Global,
     source: &Source,
@@ -229,8 +232,8 @@ fn explanation(
     let Some(refusal) = rejection.refusal() else {
         return Ok(Vec::new(alloc));
     };
-    let mut lines = match refusal.offset {
-        Some(offset) => excerpt(alloc, source.text().as_bytes(), offset)?,
+    let mut lines = match refusal.span {
+        Some(span) => excerpt(alloc, source.text().as_bytes(), span)?,
         None => Vec::new(alloc),
     };
     let code = refusal.code;
@@ -239,21 +242,14 @@ fn explanation(
     Ok(lines)
 }
 
-/// The source text of the named files. They are opened and read in order, up to the first that is at fault.
-fn read_source<F: Files>(alloc: Global, files: &F, names: &[&str]) -> Result<Source, JoinFault> {
-    let mut readers = Vec::with_capacity(alloc, names.len())?;
-    for name in names {
-        readers.push(NamedFile::new(files, name))?;
-    }
-    Source::join(alloc, names, readers.as_mut_slice())
-}
-
 /// What is answered where the named files have no source text.
 fn answer_unread<'a>(
     alloc: Global,
     names: &[&'a str],
     unread: JoinFault,
-) -> Result<Answer, Fault<'a>> {
+) -> Result<Answer, Fault<'a>>
+    ensures { IfOk result (λ answer. IsRefusalOf [] too_long answer.text.items answer.exit) }
+{
     let JoinFault { file, fault } = unread;
     match fault {
         FileFault::TooLong => {
@@ -262,7 +258,7 @@ fn answer_unread<'a>(
         }
         FileFault::OutOfMemory => Err(Fault::OutOfMemory),
         FileFault::Unreadable(_) | FileFault::NotUtf8 { offset: _ } => {
-            let name = names.get(file).copied().unwrap_or("");
+            let name = name_at(names, file);
             Err(Fault::CannotRead(name, fault))
         }
     }
@@ -291,7 +287,8 @@ fn answer_rejected<'a>(
 
 /// Does with the system of a source text what is asked for.
 fn examine(alloc: Global, command: &Command, text: &str) -> Result<Answer, Rejection>
-    ensures { IfOk result (λ answer. IsAnswerTo command.now text.now answer.text.items answer.exit) }
+    ensures answer { IfOk result (λ answer. IsAnswerTo command.now text.now answer.text.items answer.exit) }
+    ensures rejected { IfErr result (IsRejectedFor command.now text.now) }
 {
     match command {
         Command::Check(options) => {

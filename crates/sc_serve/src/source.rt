@@ -1,20 +1,20 @@
 // The source text of a system: the texts of its files, one after the other.
 
-ghost use Rattle.std.specs.Prelude.{◌≡◌, ◌+◌, ◌<◌, ◌≤◌, ◌∷◌, ◌++◌, [], ℕ, List, IfErr, IfSome, MatchResult, OnOk, OnErr, drop, length, map, option_map, string_bytes};
+ghost use Rattle.std.specs.Prelude.{◌≡◌, ◌+◌, ◌<◌, ◌≤◌, ◌∷◌, ◌++◌, [], ℕ, List, IfErr, IfOk, IfSome, IsErr, MatchResult, OnOk, OnErr, drop, get_or, length, map, option_map, string_bytes};
 ghost use Rattle.std.specs.List.{All};
 ghost use Rattle.std.specs.Str.{IsUtf8};
 ghost use Rattle.std.specs.Io.KnownBytes.{IsAtEnd};
-ghost use Rattle.sc_serve.specs.Joining.{AreJoined, AreTold, IsFileFault, IsJoinFault, TakesAtMost};
+ghost use Rattle.sc_text.specs.Spelling.{max_source_bytes};
+ghost use Rattle.sc_serve.specs.Joining.{AreJoined, AreSound, AreTold, IsFileFault, IsJoinFault, IsReaderFault, TakesAtMost, names_for, source_text};
+ghost use Rattle.sc_serve.specs.Internal.Files.{files_in};
 ghost use Rattle.sc_serve.specs.Source as spec;
 
 use crate::reading::{FileFault, read_bytes};
+use sc_text::MAX_SOURCE_BYTES;
 use std::alloc::{AllocError, AllocFailed, Global};
 use std::io::Read;
 use std::marker::Model;
 use std::str;
-
-/// The most bytes that a source text may have.
-pub const LONGEST_SOURCE: usize = 1_048_576;
 
 /// The source text of a system: the text of each file in order, each with a line feed after it. A byte
 /// order mark at the start of a file is no part of its text.
@@ -66,10 +66,10 @@ pub struct Place<'s> {
 impl Model for Source {
     ghost Value = { List spec.File };
 
-    ghost view = { λ s. spec.files_in (string_bytes s.text) s.files.items };
+    ghost view = { λ s. files_in (string_bytes s.text) s.files.items };
 
-    ghost invariant = { λ s. (spec.joined (spec.files_in (string_bytes s.text) s.files.items)
-        ≡ string_bytes s.text) × (length (string_bytes s.text) ≤ spec.longest_source) };
+    ghost invariant = { λ s. (spec.joined (files_in (string_bytes s.text) s.files.items)
+        ≡ string_bytes s.text) × (length (string_bytes s.text) ≤ max_source_bytes) };
 }
 
 impl Source {
@@ -90,8 +90,9 @@ impl Source {
         self.text.as_str()
     }
 
-    /// The source text of the files that these readers give, which have these names: a file past the names has
-    /// none. The fault is the first one, file by file, and no reader after it is read from.
+    /// The source text of the files that these readers give, which have these names: a file past the names has an
+    /// empty one. A text of 1,048,576 bytes is taken, and one byte more is `TooLong`. The fault is the first one, file by
+    /// file, and no reader after it is read from.
     pub fn join<R: Read>(
         alloc: Global,
         names: &[&str],
@@ -99,12 +100,17 @@ impl Source {
     ) -> Result<Self, JoinFault>
         ensures answer { (files : List (List ℕ)) → AreTold (map R.remaining readers.old) files
             → MatchResult result (AreJoined files) (IsJoinFault files) }
+        ensures fits { (files : List (List ℕ)) → AreTold (map R.remaining readers.old) files → AreSound files
+            → IfErr result (λ why. IsReaderFault why.fault) }
+        ensures too_long { (files : List (List ℕ)) → AreTold (map R.remaining readers.old) files
+            → max_source_bytes < length (source_text files) → IsErr result }
+        ensures named { IfOk result (λ source. spec.names_of source ≡ names_for (map (λ name. name.now) names.now) (length readers.old)) }
         ensures ended { OnOk result (All (λ reader. IsAtEnd (R.remaining reader)) readers.new) }
         ensures unread { IfErr result (λ fault. drop (fault.file + 1) readers.new ≡ drop (fault.file + 1) readers.old) }
     {
         let mut source = Source::new(alloc);
         for (file, reader) in readers.iter_mut().enumerate() {
-            let name = names.get(file).copied().unwrap_or("");
+            let name = name_at(names, file);
             if let Err(fault) = source.read_file(alloc, name, reader) {
                 return Err(JoinFault { file, fault });
             }
@@ -123,11 +129,12 @@ impl Source {
             × ((length (spec.unmarked file) < spec.room_after self.old)
             × (self.new ≡ self.old ++ record { name = name.now; text = spec.unmarked file } ∷ [])))) }
         ensures err { IfErr result (λ fault. IfSome (R.remaining reader.old) (λ file. IsFileFault file (spec.room_after self.old) fault)) }
+        ensures named { OnOk result (spec.names_of self.new ≡ spec.names_of self.old ++ name.now ∷ []) }
         ensures unchanged { OnErr result (self.new ≡ self.old) }
         ensures end { OnOk result (IsAtEnd (R.remaining reader.new)) }
         ensures taken { TakesAtMost (spec.room_after self.old + 3) (R.remaining reader.old) (R.remaining reader.new) }
     {
-        let room = LONGEST_SOURCE - self.text.len();
+        let room = MAX_SOURCE_BYTES - self.text.len();
         let bytes = read_bytes(alloc, reader, room)?;
         let text = str::from_utf8(bytes.as_slice())?;
         self.add(alloc, name, text)?;
@@ -175,6 +182,13 @@ impl Source {
         }
         None
     }
+}
+
+/// The name of the file of this number, from 0: an empty one past the names.
+pub fn name_at<'a>(names: &[&'a str], file: usize) -> &'a str
+    ensures { result.now ≡ get_or (map (λ name. name.now) names.now) file [] }
+{
+    names.get(file).copied().unwrap_or("")
 }
 
 const BYTE_ORDER_MARK: &str = "\u{feff}";

@@ -1,6 +1,6 @@
 // What keeps a system from being run, and where it stands.
 
-use crate::not_yet::{is_known_type, printed};
+use crate::not_yet::{is_runnable_type, printed};
 use crate::source::{Place, Source};
 use sc_class::Tables;
 use sc_text::Span;
@@ -10,18 +10,18 @@ use sc_tree::{
 };
 use std::alloc::{AllocError, Global};
 
-/// A construct that isn't run yet, and the offset of the byte where it stands.
+/// A construct that isn't run yet, and the part of the text that tells where it stands.
 #[derive(Clone, Copy, Debug, PartialEq, Eq)]
 pub struct Unrun {
     pub construct: Construct,
-    pub offset: usize,
+    pub span: Span,
 }
 
 impl Unrun {
     /// The line that tells it: `FILE:LINE:COLUMN: a loop isn't run yet`.
     pub fn line(&self, alloc: Global, source: &Source) -> Result<String, AllocError> {
         let construct = self.construct.text();
-        match source.place_of(self.offset) {
+        match source.place_of(self.span.start) {
             Some(Place { file, line, column }) => {
                 format!(in alloc; "{file}:{line}:{column}: {construct} isn't run yet\n")
             }
@@ -83,14 +83,14 @@ impl Construct {
     fn at(self, span: Span) -> Unrun {
         Unrun {
             construct: self,
-            offset: span.start,
+            span,
         }
     }
 }
 
 /// The first construct of the system that isn't run yet, class by class. None where all of it is run.
 pub fn first_unrun(tables: &Tables) -> Option<Unrun> {
-    for class in tables.outline.hierarchy.classes() {
+    for class in tables.classes() {
         if let Some(unrun) = unrun_in_class(tables, class) {
             return Some(unrun);
         }
@@ -124,7 +124,7 @@ fn unrun_in_feature(tables: &Tables, feature: &Feature) -> Option<Unrun> {
         return Some(Construct::ExportList.at(class.span));
     }
     match &feature.kind {
-        FeatureKind::Attribute(declared) if is_known_type(tables, declared) => None,
+        FeatureKind::Attribute(declared) if is_runnable_type(tables, declared) => None,
         FeatureKind::Attribute(declared) => Some(Construct::ReferenceAttribute.at(declared.span)),
         FeatureKind::Routine(routine) => unrun_in_routine(routine),
     }
@@ -138,7 +138,7 @@ fn unrun_in_routine(routine: &Routine) -> Option<Unrun> {
         return Some(Construct::Function.at(declared.span));
     }
     if let Some(clause) = routine.precondition.first() {
-        return Some(Construct::Precondition.at(span_of(&clause.condition)));
+        return Some(Construct::Precondition.at(clause.condition.span()));
     }
     if let Some(local) = routine.locals.first() {
         return Some(Construct::Local.at(local.name.span));
@@ -147,7 +147,7 @@ fn unrun_in_routine(routine: &Routine) -> Option<Unrun> {
         return Some(unrun);
     }
     let clause = routine.postcondition.first()?;
-    Some(Construct::Postcondition.at(span_of(&clause.condition)))
+    Some(Construct::Postcondition.at(clause.condition.span()))
 }
 
 #[cycle(unrun)]
@@ -235,18 +235,4 @@ fn unrun_of_call(call: &Call) -> Option<Unrun> {
         return None;
     }
     Some(Construct::Actuals.at(call.name.span))
-}
-
-fn span_of(e: &Expr) -> Span {
-    match e {
-        Expr::Integer(span, _)
-        | Expr::Boolean(span, _)
-        | Expr::Void(span)
-        | Expr::Current(span)
-        | Expr::Result(span)
-        | Expr::Unary(span, _, _)
-        | Expr::Binary(span, _, _, _)
-        | Expr::ObjectTest(span, _, _, _) => *span,
-        Expr::Call(call) => call.span,
-    }
 }

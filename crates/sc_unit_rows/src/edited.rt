@@ -2,7 +2,7 @@
 
 use crate::grammar::{ENDLESS, Fit, Grammar, Item, Set};
 use sc_parse::{MAX_NESTING, ParseFault, parse_within};
-use sc_text::{Token, lex};
+use sc_text::{Span, Token, lex};
 use std::alloc::{AllocError, Global};
 use std::process::Abort;
 use std::test::Fail;
@@ -35,14 +35,14 @@ const WORDS: &str =
 /// The nesting that is tried besides the greatest.
 const SHALLOW: u8 = 2;
 
-/// Where the first token stands that no system has there, or the end where only more is wanted.
-fn place_of(tokens: &[Token], index: usize) -> usize {
+/// The first token that no system has there, or the end where only more is wanted.
+fn span_of(tokens: &[Token], index: usize) -> Span {
     match tokens.get(index) {
-        Some(token) => token.span.start,
-        None => match tokens.last() {
-            Some(token) => token.span.end,
-            None => 0,
-        },
+        Some(token) => token.span,
+        None => {
+            let end = tokens.last().map_or(0, |token| token.span.end);
+            Span { start: end, end }
+        }
     }
 }
 
@@ -125,11 +125,11 @@ fn expected(tokens: &[Token], any: Option<usize>, shallow: Option<usize>) -> Opt
     let deep = shallow?;
     Some(if deep < wrong {
         ParseFault::TooDeep {
-            place: place_of(tokens, deep),
+            span: span_of(tokens, deep),
         }
     } else {
         ParseFault::NotInGrammar {
-            place: place_of(tokens, wrong),
+            span: span_of(tokens, wrong),
         }
     })
 }

@@ -1,6 +1,6 @@
 // Tokens of source texts, each with its place, and the first fault in a text that has none.
 
-use sc_text::{Span, TokenKind, lex};
+use sc_text::{LexFault, Span, TokenKind, lex};
 use std::alloc::{AllocError, Global};
 use std::process::Abort;
 use std::test::Fail;
@@ -42,22 +42,22 @@ const TOKENS: [(&str, &str); 13] = [
 
 /// Texts without tokens, and why.
 const FAULTS: [(&str, &str); 16] = [
-    ("a _1", "BadCharacter { place: 2 }"),
-    ("1_", "BadCharacter { place: 1 }"),
-    ("1__ 2", "BadCharacter { place: 1 }"),
-    ("a \\ b", "BadCharacter { place: 2 }"),
-    ("/", "BadCharacter { place: 0 }"),
-    ("a\0", "BadCharacter { place: 1 }"),
-    ("é", "BadCharacter { place: 0 }"),
-    ("x \u{1F600}", "BadCharacter { place: 2 }"),
-    ("x \"a\n\"", "UnclosedString { place: 2 }"),
-    ("\"a\r\"", "UnclosedString { place: 0 }"),
-    ("\"a%\"\n", "UnclosedString { place: 0 }"),
-    ("\"a%x", "UnclosedString { place: 0 }"),
-    ("\"a%\n\"", "UnclosedString { place: 0 }"),
-    ("\"a%Q%é\" \\", "BadEscape { place: 2 }"),
-    ("\"%%%n\"", "BadEscape { place: 3 }"),
-    ("a 9_223372036854775808", "IntegerTooLarge { place: 2 }"),
+    ("a _1", "BadCharacter 2..3"),
+    ("1_", "BadCharacter 1..2"),
+    ("1__ 2", "BadCharacter 1..2"),
+    ("a \\ b", "BadCharacter 2..3"),
+    ("/", "BadCharacter 0..1"),
+    ("a\0", "BadCharacter 1..2"),
+    ("é", "BadCharacter 0..1"),
+    ("x \u{1F600}", "BadCharacter 2..3"),
+    ("x \"a\n\"", "UnclosedString 2..3"),
+    ("\"a\r\"", "UnclosedString 0..1"),
+    ("\"a%\"\n", "UnclosedString 0..1"),
+    ("\"a%x", "UnclosedString 0..1"),
+    ("\"a%\n\"", "UnclosedString 0..1"),
+    ("\"a%Q%é\" \\", "BadEscape 2..3"),
+    ("\"%%%n\"", "BadEscape 3..4"),
+    ("a 9_223372036854775808", "IntegerTooLarge 2..22"),
 ];
 
 /// The reserved words. Each is the terminal of this very name.
@@ -133,11 +133,25 @@ fn kind_text(alloc: Global, kind: &TokenKind) -> Result<String, AllocError> {
     }
 }
 
+/// Why a text has no tokens, as `NAME START..END`.
+fn fault_text(alloc: Global, fault: &LexFault) -> Result<String, AllocError> {
+    let (name, span) = match fault {
+        LexFault::BadCharacter { span } => ("BadCharacter", span),
+        LexFault::UnclosedString { span } => ("UnclosedString", span),
+        LexFault::BadEscape { span } => ("BadEscape", span),
+        LexFault::IntegerTooLarge { span } => ("IntegerTooLarge", span),
+        LexFault::SourceTooLong => return String::from_str(alloc, "SourceTooLong"),
+        LexFault::OutOfMemory => return Err(AllocError),
+    };
+    let Span { start, end } = *span;
+    format!(in alloc; "{name} {start}..{end}")
+}
+
 /// What the tokens of a text are, one after the other, each as `START..END KIND`, or why it has none.
 fn told(alloc: Global, text: &str) -> Result<String, AllocError> {
     let tokens = match lex(alloc, text) {
         Ok(tokens) => tokens,
-        Err(fault) => return format!(in alloc; "{fault:?}"),
+        Err(fault) => return fault_text(alloc, &fault),
     };
     let mut out = String::new(alloc);
     for token in &tokens {

@@ -3,8 +3,8 @@
 mod outline;
 
 use crate::trees::outline::outline_of;
-use sc_parse::parse;
-use sc_text::lex;
+use sc_parse::{ParseFault, parse};
+use sc_text::{Span, lex};
 use std::alloc::Global;
 use std::process::Abort;
 use std::test::Fail;
@@ -68,37 +68,37 @@ const TREES: [(&str, &str); 10] = [
 /// How often, what stands before, in the middle and after in an expression, and what is answered.
 const EXPRESSIONS: [(usize, &str, &str, &str, &str); 12] = [
     (64, "( ", "1", " )", "ok"),
-    (65, "( ", "1", " )", "TooDeep { place: 154 }"),
-    (10000, "( ", "", "", "TooDeep { place: 154 }"),
+    (65, "( ", "1", " )", "TooDeep 154..155"),
+    (10000, "( ", "", "", "TooDeep 154..155"),
     (64, "", "1", " + 1", "ok"),
-    (65, "", "1", " + 1", "TooDeep { place: 284 }"),
+    (65, "", "1", " + 1", "TooDeep 284..285"),
     (64, "not ", "x", "", "ok"),
-    (65, "not ", "x", "", "TooDeep { place: 282 }"),
-    (65, "", "x", " or else x", "TooDeep { place: 668 }"),
+    (65, "not ", "x", "", "TooDeep 282..285"),
+    (65, "", "x", " or else x", "TooDeep 668..670"),
     (64, "", "x", ".f", "ok"),
-    (65, "", "x", ".f", "TooDeep { place: 155 }"),
+    (65, "", "x", ".f", "TooDeep 155..156"),
     (64, "f(", "x", ")", "ok"),
-    (65, "f(", "x", ")", "TooDeep { place: 155 }"),
+    (65, "f(", "x", ")", "TooDeep 155..156"),
 ];
 
 /// What stands inside 64 `if`s, after which place 661 comes, and what is answered.
 const INSTRUCTIONS: [(&str, &str); 16] = [
     ("", "ok"),
     ("check end", "ok"),
-    ("check ; end", "TooDeep { place: 667 }"),
-    ("check x end", "TooDeep { place: 667 }"),
-    ("attached := 1", "NotInGrammar { place: 661 }"),
+    ("check ; end", "TooDeep 667..668"),
+    ("check x end", "TooDeep 667..668"),
+    ("attached := 1", "NotInGrammar 661..669"),
     ("x := attached { b } x as y", "ok"),
-    ("x . f", "TooDeep { place: 663 }"),
+    ("x . f", "TooDeep 663..664"),
     ("create x", "ok"),
-    ("create x . f", "TooDeep { place: 670 }"),
-    ("print ( \"s\" )", "TooDeep { place: 667 }"),
-    ("f ( )", "TooDeep { place: 663 }"),
-    ("if )", "TooDeep { place: 661 }"),
-    ("from end", "TooDeep { place: 661 }"),
-    ("separate )", "TooDeep { place: 661 }"),
-    ("x := not )", "TooDeep { place: 666 }"),
-    ("x := x + )", "TooDeep { place: 668 }"),
+    ("create x . f", "TooDeep 670..671"),
+    ("print ( \"s\" )", "TooDeep 667..668"),
+    ("f ( )", "TooDeep 663..664"),
+    ("if )", "TooDeep 661..663"),
+    ("from end", "TooDeep 661..665"),
+    ("separate )", "TooDeep 661..669"),
+    ("x := not )", "TooDeep 666..669"),
+    ("x := x + )", "TooDeep 668..669"),
 ];
 
 #[test]
@@ -110,13 +110,17 @@ fn nodes_stand_where_their_words_do(rt: HostRuntime) -> Result<(), Fail> {
     Ok(())
 }
 
-/// What is answered for a source: `ok`, or the fault.
+/// What is answered for a source: `ok`, or the fault and the token that is at fault.
 fn answer_of(alloc: Global, source: &str) -> Result<String, Fail> {
     let tokens = lex(alloc, source)?;
-    Ok(match parse(alloc, &tokens) {
-        Ok(_) => String::from_str(alloc, "ok")?,
-        Err(fault) => format!(in alloc; "{fault:?}")?,
-    })
+    let (name, span) = match parse(alloc, &tokens) {
+        Ok(_) => return Ok(String::from_str(alloc, "ok")?),
+        Err(ParseFault::NotInGrammar { span }) => ("NotInGrammar", span),
+        Err(ParseFault::TooDeep { span }) => ("TooDeep", span),
+        Err(ParseFault::OutOfMemory) => return Err(Fail::new("out of memory")),
+    };
+    let Span { start, end } = span;
+    Ok(format!(in alloc; "{name} {start}..{end}")?)
 }
 
 fn expect_answer<R: Abort + AllocGlobal>(

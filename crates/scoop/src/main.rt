@@ -12,9 +12,9 @@ use std::process::ExitCode;
 fn main(rt: HostRuntime) -> ExitCode {
     let files = SystemFiles::new(&rt);
     let status = match command_line(&rt) {
-        Ok(words) => serve::serve(
+        Ok(arguments) => serve::serve(
             &rt,
-            words.as_slice(),
+            arguments.as_slice(),
             &files,
             &mut rt.stdout(),
             &mut rt.stderr(),
@@ -24,10 +24,10 @@ fn main(rt: HostRuntime) -> ExitCode {
     ExitCode::from(status)
 }
 
-/// The words of the command line, of which the first is the program's name.
+/// The arguments of the command line, of which the first is the program's name.
 fn command_line(rt: &HostRuntime) -> Result<Vec<String>, Fault<'static>> {
     match std::env::args(rt) {
-        Ok(words) => Ok(words.collect(rt.alloc())?),
+        Ok(arguments) => Ok(arguments.collect(rt.alloc())?),
         Err(error) if error.kind() == ErrorKind::OutOfMemory => Err(Fault::OutOfMemory),
         Err(_) => Err(Fault::NotText),
     }

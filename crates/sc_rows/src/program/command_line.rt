@@ -1,4 +1,4 @@
-// The words of the command line.
+// The arguments of the command line.
 
 use super::{Wanted, call, done, expect_of, line_of, usage};
 use crate::program::fake::FakeFile;
@@ -49,14 +49,14 @@ fn takes_options_in_any_place(rt: HostRuntime) -> Result<(), Fail> {
             },
         ),
     ];
-    for &(words, wanted) in &cases {
-        expect_of(&rt, words, &files, wanted)?;
+    for &(arguments, wanted) in &cases {
+        expect_of(&rt, arguments, &files, wanted)?;
     }
     Ok(())
 }
 
-/// Words that the command line doesn't have.
-const OTHER_WORDS: [&[&str]; 16] = [
+/// Arguments that the command line doesn't have.
+const OTHER_ARGUMENTS: [&[&str]; 16] = [
     &["scoop"],
     &["scoop", "a.e"],
     &["scoop", "run"],
@@ -72,16 +72,16 @@ const OTHER_WORDS: [&[&str]; 16] = [
     &["scoop", "run", "--turns", "1", "--turns", "1", "a.e"],
     &["scoop", "run", "a.e", "--turns"],
     &["scoop", "run", "--fast", "a.e"],
-    // Other faults of the words come before a bad root.
+    // Other faults of the arguments come before a bad root.
     &["scoop", "run", "--root", "A", "--turns", "0", "a.e"],
 ];
 
 #[test]
-fn refuses_other_words(rt: HostRuntime) -> Result<(), Fail> {
+fn refuses_other_arguments(rt: HostRuntime) -> Result<(), Fail> {
     let files = [FakeFile::new("a.e", TEXT)];
-    for &words in &OTHER_WORDS {
-        let outcome = call(&rt, words, &files)?;
-        let line = line_of(rt.alloc(), words)?;
+    for &arguments in &OTHER_ARGUMENTS {
+        let outcome = call(&rt, arguments, &files)?;
+        let line = line_of(rt.alloc(), arguments)?;
         assert_eq!(rt; outcome.status, 2, "for {line}");
         assert_eq!(rt; outcome.out.as_str(), "", "for {line}");
         assert!(rt;
@@ -99,13 +99,13 @@ fn tells_a_bad_root(rt: HostRuntime) -> Result<(), Fail> {
     ];
     for &root in &roots {
         // The root is at fault before the file, which isn't there.
-        let words = ["scoop", "check", "--root", root, "a.e"];
-        expect_of(&rt, &words, &[], usage("bad root\n"))?;
+        let arguments = ["scoop", "check", "--root", root, "a.e"];
+        expect_of(&rt, &arguments, &[], usage("bad root\n"))?;
     }
     Ok(())
 }
 
-/// Words that ask for help, and what it has.
+/// Arguments that ask for help, and what it has.
 const HELPS: [(&[&str], &str); 6] = [
     (&["scoop", "--help"], "Usage: scoop <COMMAND>"),
     (&["scoop", "run", "--help"], "--turns <N>"),
@@ -117,9 +117,9 @@ const HELPS: [(&[&str], &str); 6] = [
 
 #[test]
 fn helps(rt: HostRuntime) -> Result<(), Fail> {
-    for &(words, wanted) in &HELPS {
-        let outcome = call(&rt, words, &[])?;
-        let line = line_of(rt.alloc(), words)?;
+    for &(arguments, wanted) in &HELPS {
+        let outcome = call(&rt, arguments, &[])?;
+        let line = line_of(rt.alloc(), arguments)?;
         assert!(rt; outcome.out.as_str().contains(wanted), "for {line}");
         assert_eq!(rt; outcome.err.as_str(), "", "for {line}");
         assert_eq!(rt; outcome.status, 0, "for {line}");

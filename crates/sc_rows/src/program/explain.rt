@@ -38,8 +38,8 @@ fn explains_each_code_by_code_and_name(rt: HostRuntime) -> Result<(), Fail> {
         expect_of(&rt, &["scoop", "explain", name], &[], wanted)?;
     }
     let page = call(&rt, &["scoop", "explain", "v6"], &[])?;
-    let words = ["scoop", "explain", "targetUNCONTROLLED"];
-    expect_of(&rt, &words, &[], done(page.out.as_str()))
+    let arguments = ["scoop", "explain", "targetUNCONTROLLED"];
+    expect_of(&rt, &arguments, &[], done(page.out.as_str()))
 }
 
 #[test]
@@ -60,8 +60,8 @@ fn tells_what_is_no_code(rt: HostRuntime) -> Result<(), Fail> {
     Ok(())
 }
 
-/// Texts that are refused, the line that is answered, and what shows its place.
-const SHOWN: [(&str, &str, &str); 4] = [
+/// Texts that are refused, the line that is answered, and what shows the part that is at fault.
+const SHOWN: [(&str, &str, &str); 8] = [
     (
         "class A # end",
         "refused L1 BadCharacter app.e:1:9\n",
@@ -77,17 +77,39 @@ const SHOWN: [(&str, &str, &str); 4] = [
         "refused V1 UnknownName app.e:2:15\n",
         "\tprint (\"\u{e9}\")\tg end end\n\t           \t^\n`scoop explain V1` says more\n",
     ),
+    // A caret under each character of the part that is at fault.
+    (
+        "class A feature n: INTEGER f do n := 9223372036854775808 end end",
+        "refused L4 IntegerTooLarge app.e:1:38\n",
+        "class A feature n: INTEGER f do n := 9223372036854775808 end end\n                                     ^^^^^^^^^^^^^^^^^^^\n`scoop explain L4` says more\n",
+    ),
+    (
+        "class APPLICATION create make feature make do absent end end",
+        "refused V1 UnknownName app.e:1:47\n",
+        "class APPLICATION create make feature make do absent end end\n                                              ^^^^^^\n`scoop explain V1` says more\n",
+    ),
+    // As far as it lies in its line, without the space at the end, and with tabs as they are.
+    (
+        "class APPLICATION create make feature n: INTEGER make do\n\tn := True\tand then \n\t\tFalse end end",
+        "refused V4 AssignType app.e:2:7\n",
+        "\tn := True\tand then \n\t     ^^^^\t^^^^^^^^\n`scoop explain V4` says more\n",
+    ),
+    (
+        "class APPLICATION create make feature make do\n\tprint (1 + -- \u{e9}\n\tTrue) end end",
+        "refused V9 OperatorType app.e:2:9\n",
+        "\tprint (1 + -- \u{e9}\n\t       ^^^^^^^^\n`scoop explain V9` says more\n",
+    ),
     ("", "refused C6 NoRoot\n", "`scoop explain C6` says more\n"),
 ];
 
 #[test]
 fn shows_where_a_refusal_stands(rt: HostRuntime) -> Result<(), Fail> {
     for command in ["check", "run"] {
-        let words = ["scoop", command, "--explain", "app.e"];
+        let arguments = ["scoop", command, "--explain", "app.e"];
         for (text, out, err) in SHOWN {
             expect(
                 &rt,
-                &words,
+                &arguments,
                 text,
                 Wanted {
                     status: 1,

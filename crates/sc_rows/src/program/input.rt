@@ -2,7 +2,7 @@
 
 use super::{columns, expect_of, refused, usage};
 use crate::program::fake::FakeFile;
-use sc_serve::source::LONGEST_SOURCE;
+use sc_text::MAX_SOURCE_BYTES;
 use std::test::Fail;
 
 #[test]
@@ -34,9 +34,9 @@ fn tells_the_file_that_cannot_be_read(rt: HostRuntime) -> Result<(), Fail> {
         "dir/a.e|there is no such file",
     ] {
         let (name, reason) = columns(row)?;
-        let words = ["scoop", "run", "a.e", name, "a.e"];
+        let arguments = ["scoop", "run", "a.e", name, "a.e"];
         let err = format!(in rt.alloc(); "cannot read {name}\n{reason}\n")?;
-        expect_of(&rt, &words, &files, usage(err.as_str()))?;
+        expect_of(&rt, &arguments, &files, usage(err.as_str()))?;
     }
     Ok(())
 }
@@ -45,11 +45,11 @@ fn tells_the_file_that_cannot_be_read(rt: HostRuntime) -> Result<(), Fail> {
 fn reads_a_file_no_further_than_a_source_may_be_long(rt: HostRuntime) -> Result<(), Fail> {
     // A character of three bytes stands across the place where reading stops, at each of its bytes.
     for extra in 0..3 {
-        let mut bytes = Vec::with_capacity(rt.alloc(), LONGEST_SOURCE + 20)?;
+        let mut bytes = Vec::with_capacity(rt.alloc(), MAX_SOURCE_BYTES + 20)?;
         for _ in 0..extra {
             bytes.push(b' ')?;
         }
-        for _ in 0..LONGEST_SOURCE / 3 + 4 {
+        for _ in 0..MAX_SOURCE_BYTES / 3 + 4 {
             bytes.extend_from_slice("\u{20ac}".as_bytes())?;
         }
         let files = [
@@ -67,12 +67,12 @@ fn reads_a_file_no_further_than_a_source_may_be_long(rt: HostRuntime) -> Result<
         let too_long = refused("refused L5 SourceTooLong\n");
         expect_of(&rt, &["scoop", "check", "a.e"], &files, too_long)?;
         // The files are looked at in order.
-        let words = ["scoop", "check", "a.e", "b.e"];
-        expect_of(&rt, &words, &files, too_long)?;
-        let words = ["scoop", "check", "b.e", "a.e"];
+        let arguments = ["scoop", "check", "a.e", "b.e"];
+        expect_of(&rt, &arguments, &files, too_long)?;
+        let arguments = ["scoop", "check", "b.e", "a.e"];
         expect_of(
             &rt,
-            &words,
+            &arguments,
             &files,
             usage("cannot read b.e\nit isn't UTF-8 at offset 0\n"),
         )?;
@@ -82,8 +82,8 @@ fn reads_a_file_no_further_than_a_source_may_be_long(rt: HostRuntime) -> Result<
 
 #[test]
 fn takes_the_longest_source(rt: HostRuntime) -> Result<(), Fail> {
-    let mut bytes = Vec::with_capacity(rt.alloc(), LONGEST_SOURCE)?;
-    for _ in 1..LONGEST_SOURCE {
+    let mut bytes = Vec::with_capacity(rt.alloc(), MAX_SOURCE_BYTES)?;
+    for _ in 1..MAX_SOURCE_BYTES {
         bytes.push(b' ')?;
     }
     for &wanted in &["refused C6 NoRoot\n", "refused L5 SourceTooLong\n"] {

@@ -262,7 +262,7 @@ const INVARIANTS: [(&str, &str, bool); 26] = [
     ("make do end", "n /= 0 implies 1 // n = 0", true),
 ];
 
-/// The words of a run of one file.
+/// The arguments of a run of one file.
 const RUN: [&str; 3] = ["scoop", "run", "app.e"];
 
 /// Runs such a class, whose handler is to end so.

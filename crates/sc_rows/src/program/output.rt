@@ -44,7 +44,7 @@ impl Write for FailingWriter {
 /// What a call writes to writers that fail after so many calls, and its status.
 fn call_failing<R: AllocGlobal>(
     rt: &R,
-    words: &[&str],
+    arguments: &[&str],
     files: &[FakeFile<'_>],
     calls: [usize; 2],
 ) -> Result<(u8, Vec<u8>, Vec<u8>), Fail> {
@@ -56,7 +56,7 @@ fn call_failing<R: AllocGlobal>(
         bytes: Vec::new(rt.alloc()),
         calls_left: calls[1],
     };
-    let status = serve(rt, words, &FakeFiles { files }, &mut out, &mut err);
+    let status = serve(rt, arguments, &FakeFiles { files }, &mut out, &mut err);
     if status == Exit::OutOfMemory as u8 {
         return Err(Fail::new("out of memory"));
     }
@@ -66,12 +66,12 @@ fn call_failing<R: AllocGlobal>(
 /// Compares what such a call writes, and its status, with those of a call whose output doesn't fail.
 fn expect_cut<R: Abort + AllocGlobal>(
     rt: &R,
-    words: &[&str],
+    arguments: &[&str],
     files: &[FakeFile<'_>],
     calls: usize,
     (status, wanted): (u8, &str),
 ) -> Result<(), Fail> {
-    let (got, out, err) = call_failing(rt, words, files, [calls, usize::MAX])?;
+    let (got, out, err) = call_failing(rt, arguments, files, [calls, usize::MAX])?;
     let is_whole = calls > wanted.len();
     let status = if is_whole { status } else { 2 };
     assert_eq!(rt; got, status, "after {calls} calls");
@@ -92,7 +92,7 @@ fn expect_cut<R: Abort + AllocGlobal>(
 
 const TEXT: &str = "class APPLICATION create make feature make do print (8) end end";
 
-/// Words, and the status and the output of their call.
+/// Arguments, and the status and the output of their call.
 const CALLS: [(&[&str], u8, &str); 3] = [
     (&["scoop", "check", "a.e"], 0, "ok\n"),
     (&["scoop", "check", "b.e"], 1, "refused C6 NoRoot\n"),
@@ -106,16 +106,16 @@ const CALLS: [(&[&str], u8, &str); 3] = [
 #[test]
 fn ends_with_2_where_the_output_fails(rt: HostRuntime) -> Result<(), Fail> {
     let files = [FakeFile::new("a.e", TEXT), FakeFile::new("b.e", "")];
-    for &(words, status, wanted) in &CALLS {
+    for &(arguments, status, wanted) in &CALLS {
         // One call for each byte, and one to flush.
         for calls in 0..wanted.len() + 2 {
-            expect_cut(&rt, words, &files, calls, (status, wanted))?;
+            expect_cut(&rt, arguments, &files, calls, (status, wanted))?;
         }
     }
     Ok(())
 }
 
-/// Words whose calls tell a fault.
+/// Arguments whose calls tell a fault.
 const FAULTY: [&[&str]; 3] = [
     &["scoop", "run"],
     &["scoop", "run", "--root", "A", "a.e"],
@@ -124,10 +124,10 @@ const FAULTY: [&[&str]; 3] = [
 
 #[test]
 fn keeps_its_status_where_standard_error_fails(rt: HostRuntime) -> Result<(), Fail> {
-    for &words in &FAULTY {
+    for &arguments in &FAULTY {
         for calls in 0..40 {
-            let (status, out, _) = call_failing(&rt, words, &[], [usize::MAX, calls])?;
-            let line = line_of(rt.alloc(), words)?;
+            let (status, out, _) = call_failing(&rt, arguments, &[], [usize::MAX, calls])?;
+            let line = line_of(rt.alloc(), arguments)?;
             assert_eq!(rt; status, 2, "for {line}after {calls} calls");
             assert!(rt; out.is_empty(), "for {line}");
         }

@@ -2,12 +2,12 @@
 
 use super::{columns, done, expect, expect_of, refused};
 use crate::program::fake::FakeFile;
-use sc_serve::source::LONGEST_SOURCE;
+use sc_text::MAX_SOURCE_BYTES;
 use std::alloc::{AllocError, Global};
 use std::process::Abort;
 use std::test::Fail;
 
-/// The words of a check of one file.
+/// The arguments of a check of one file.
 pub const CHECK: [&str; 3] = ["scoop", "check", "app.e"];
 
 /// Source texts, and what follows `refused` in their answers.
@@ -151,14 +151,14 @@ const THREE_FILES: [(&str, &str, &str, &str); 8] = [
 
 #[test]
 fn finds_the_file(rt: HostRuntime) -> Result<(), Fail> {
-    let words = ["scoop", "check", "a.e", "b.e", "c.e"];
+    let arguments = ["scoop", "check", "a.e", "b.e", "c.e"];
     for &(a, b, c, wanted) in &THREE_FILES {
         let files = [
             FakeFile::new("a.e", a),
             FakeFile::new("b.e", b),
             FakeFile::new("c.e", c),
         ];
-        expect_of(&rt, &words, &files, refused(wanted))?;
+        expect_of(&rt, &arguments, &files, refused(wanted))?;
     }
     Ok(())
 }
@@ -181,12 +181,12 @@ fn expect_refused<R: Abort + AllocGlobal>(
 #[test]
 fn bounds_the_source(rt: HostRuntime) -> Result<(), Fail> {
     // The joined source has a line feed after each file, and a byte order mark isn't counted.
-    let longest = " ".repeat(rt.alloc(), LONGEST_SOURCE - 1)?;
+    let longest = " ".repeat(rt.alloc(), MAX_SOURCE_BYTES - 1)?;
     expect_refused(&rt, &longest, None, "refused C6 NoRoot\n")?;
     expect_refused(&rt, &longest, Some(""), "refused L5 SourceTooLong\n")?;
     let marked = format!(in rt.alloc(); "\u{feff}{longest}")?;
     expect_refused(&rt, &marked, None, "refused C6 NoRoot\n")?;
-    let too_long = " ".repeat(rt.alloc(), LONGEST_SOURCE)?;
+    let too_long = " ".repeat(rt.alloc(), MAX_SOURCE_BYTES)?;
     expect_refused(&rt, &too_long, None, "refused L5 SourceTooLong\n")?;
     let far_too_long = format!(in rt.alloc(); "#{too_long}{too_long}")?;
     expect_refused(&rt, &far_too_long, Some("#"), "refused L5 SourceTooLong\n")

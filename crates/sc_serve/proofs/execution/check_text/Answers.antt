@@ -1,6 +1,6 @@
 use Rattle.std.proofs.Common.{◌≡◌}
 use Rattle.sc_tree.specs.View.{system_of}
-use Rattle.sc_class.specs.Entries.{root_of}
+use Rattle.sc_class.specs.View.{root_of}
 use Rattle.sc_serve.specs.Execution.{IsRefusedFor}
 use Rattle.sc_serve.specs.Refusal.{out_of_memory}
 use Rattle.sc_serve.proofs.ExecutionLemmas.{err-is, unreadable-refused, fault-refused, sound-in_memory}

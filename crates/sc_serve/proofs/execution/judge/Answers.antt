@@ -1,9 +1,8 @@
 use Rattle.std.proofs.Common.{ap, subst, ◌∙◌}
-use Rattle.sc_tree.specs.declared.system.System.{System}
 use Rattle.sc_tree.specs.View.{system_of}
-use Rattle.sc_class.specs.Entries.{root_of}
+use Rattle.sc_class.specs.View.{root_of}
 use Rattle.sc_rules.specs.SystemRules.{WellFormed}
-use Rattle.sc_check.specs.SystemIn.{system_in}
+use Rattle.sc_class.specs.SystemIn.{system_in}
 use Rattle.sc_serve.specs.Execution.{IsAtFault}
 use Rattle.sc_serve.proofs.ExecutionLemmas.{err-is, class-fault, check-fault}
 use Rattle.sc_serve.proofs.execution.judge.Goals as goal
@@ -17,7 +16,7 @@ pub returns-in_err-check-clause-fault : goal.returns-in_err-check-clause-fault
 returns-in_err-check-clause-fault c =
     let same = c.in_ok-classes.ensures.of_it in
     err-is (IsAtFault (system_of c.args.system.now) (root_of c.args.root.now)) c.from_residual-in_err-check.result _ c.from_residual-in_err-check.ensures.1
-    (check-fault (system_of c.args.system.now) (root_of c.args.root.now) c.in_ok-classes.ensures.faultless _ (ap system_of same) _
+    (check-fault (system_of c.args.system.now) (root_of c.args.root.now) c.in_ok-classes.ensures.faultless _ same _
     c.in_err-check.ensures.refused)
 
 pub returns-clause-sound : goal.returns-clause-sound
@@ -25,8 +24,8 @@ returns-clause-sound c =
     let same = c.in_ok-classes.ensures.of_it in
     record {
       faultless = c.in_ok-classes.ensures.faultless;
-      well_formed = subst (λ (s : System). WellFormed (system_of s)) same c.in_ok-check.ensures.accepted;
+      well_formed = subst WellFormed same c.in_ok-check.ensures.accepted;
     }
 
 pub returns-clause-of_it : goal.returns-clause-of_it
-returns-clause-of_it c = ap system_in c.in_ok-check.ensures.of_it ∙ ap system_of c.in_ok-classes.ensures.of_it
+returns-clause-of_it c = ap system_in c.in_ok-check.ensures.of_it ∙ c.in_ok-classes.ensures.of_it

@@ -3,7 +3,7 @@ use Rattle.sc_world.specs.World.{has_turn_at}
 use Rattle.sc_world.specs.declared.world.Turned.TheVariants.{Nothing}
 use Rattle.sc_tree.specs.View.{class_of, system_of}
 use Rattle.sc_world.specs.Lookup.{class_named}
-use Rattle.sc_world.specs.Kept.{after_run}
+use Rattle.sc_world.specs.WorldState.{after_run}
 use Rattle.sc_serve.proofs.PlayLemmas.{kept-stands, one-more, nothing-due, run-told}
 use Rattle.sc_serve.proofs.execution.play.Goals as goal
 use Rattle.sc_serve.proofs.execution.play.Goals.{else-loop-test, then-loop-test+in_ok-turn+then-eq}

@@ -1,7 +1,7 @@
 use Rattle.std.proofs.Common.{◌≡◌, ◌∙◌, ap, sym}
 use Rattle.sc_tree.specs.View.{system_of}
-use Rattle.sc_class.specs.Entries.{root_of}
-use Rattle.sc_check.specs.SystemIn.{system_in}
+use Rattle.sc_class.specs.View.{root_of}
+use Rattle.sc_class.specs.SystemIn.{system_in}
 use Rattle.sc_serve.specs.NotYet.{is_not_yet}
 use Rattle.sc_serve.specs.Execution.{IsNotRunFor}
 use Rattle.sc_serve.specs.Refusal.{out_of_memory}
@@ -44,8 +44,8 @@ returns-then-not_yet-clause-refused c =
 
 pub returns-then-not_yet-clause-complete : goal.returns-then-not_yet-clause-complete
 returns-then-not_yet-clause-complete c = λ must.
-    let known = (must.runnable _ c.in_ok-system.ensures.read).supported in
-    let unknown = ap is_not_yet (sym (ap system_in c.tables.ensures.same ∙ c.in_ok-checked.ensures.of_it)) ∙ sym c.not_yet.ensures ∙ c.if-not_yet.true in
+    let supported = (must.runnable _ c.in_ok-system.ensures.read).supported in
+    let unsupported = ap is_not_yet (sym (ap system_in c.tables.ensures.same ∙ c.in_ok-checked.ensures.of_it)) ∙ sym c.not_yet.ensures ∙ c.if-not_yet.true in
     cc
 
 pub play-requires : goal.play-requires

@@ -1,7 +1,7 @@
 use Rattle.std.proofs.Common.{ap, sym, ◌∙◌}
 use Rattle.std.specs.Prelude.{map, option_copied}
 use Rattle.sc_tree.specs.View.{name_of, class_of, system_of}
-use Rattle.sc_class.specs.Entries.{root_of}
+use Rattle.sc_class.specs.View.{root_of}
 use Rattle.sc_class.specs.Names.{is_listed}
 use Rattle.sc_serve.proofs.RootClass.{root_is_there, root_named, root_has_name, root_is_small, root_lists}
 use Rattle.sc_world.proofs.Views.{system_classes}

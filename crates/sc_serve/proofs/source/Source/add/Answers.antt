@@ -1,5 +1,6 @@
 use Rattle.std.proofs.Common.{◌≡◌, ◌<◌, ◌∷◌, ◌++◌, [], string_bytes, length, arith, refl}
 use Rattle.std.proofs.lemmas.Grind.{common_steps}
+use Rattle.sc_serve.specs.Internal.Files.{files_in}
 use Rattle.sc_serve.specs.Source as spec
 use Rattle.sc_serve.specs.declared.source.SourceFile.{SourceFile}
 use Rattle.sc_serve.proofs.SourceLemmas.{files-added, joined-added, short-added}
@@ -13,7 +14,7 @@ invariant_of-self-2 c =
     let listed : c.push-2.new.self.items ≡ c.self.inside.files.items ++ file ∷ [] = grind (arith, common_steps) in
     let room : length c.unmarked-text.result.now < spec.room_after c.args.self.now = rw c.unmarked-text.ensures c.requires in (
       joined-added c.self.inside.files.items _ (string_bytes c.self.inside.text) _ _ c.unmarked-text.result.now file c.self.invariant.0 refl ended pushed listed,
-      short-added (spec.files_in (string_bytes c.self.inside.text) c.self.inside.files.items) c.args.self.now _ _ _ c.unmarked-text.result.now
+      short-added (files_in (string_bytes c.self.inside.text) c.self.inside.files.items) c.args.self.now _ _ _ c.unmarked-text.result.now
           c.self.invariant.0 c.self.view_is room ended pushed,
     )
 

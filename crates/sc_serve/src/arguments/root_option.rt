@@ -2,8 +2,8 @@
 
 ghost use Rattle.std.specs.Prelude.{◌≡◌, ◌≤◌, ◌↔◌, List, ℕ, length, map, IfOk, IfSome, IsSome, option_map, string_bytes};
 ghost use Rattle.std.specs.Char.{to_ascii_lowercase};
-ghost use Rattle.sc_text.specs.Spelling.{lexemes_of};
-ghost use Rattle.sc_serve.specs.RootOption as spec;
+ghost use Rattle.sc_text.specs.Spelling.{lexemes_of, max_source_bytes};
+ghost use Rattle.sc_serve.specs.Internal.SoleName as internal;
 ghost use Rattle.sc_serve.specs.RootOption.{IsName, NamesRoot};
 
 use sc_class::Root;
@@ -16,7 +16,7 @@ pub fn root_of(alloc: Global, text: &str) -> Result<Option<Root>, AllocError>
     ensures named { IfOk result (λ found. IfSome found (λ root.
         NamesRoot text.now (string_bytes root.class) (string_bytes root.procedure))) }
     ensures complete { (class procedure : List ℕ) → NamesRoot text.now class procedure
-        → length text.now ≤ 1048576 → IfOk result (λ found. IsSome found) }
+        → length text.now ≤ max_source_bytes → IfOk result (λ found. IsSome found) }
 {
     let Some((class, procedure)) = text.split_once('.') else {
         return Ok(None);
@@ -35,7 +35,7 @@ pub fn root_of(alloc: Global, text: &str) -> Result<Option<Root>, AllocError>
 fn name_of(alloc: Global, text: &str) -> Result<Option<String>, AllocError>
     ensures named { IfOk result (λ found. IfSome found (λ name.
         IsName text.now × (string_bytes name ≡ map to_ascii_lowercase text.now))) }
-    ensures complete { IsName text.now → length text.now ≤ 1048576 → IfOk result (λ found. IsSome found) }
+    ensures complete { IsName text.now → length text.now ≤ max_source_bytes → IfOk result (λ found. IsSome found) }
 {
     let tokens = match lex(alloc, text) {
         Ok(tokens) => tokens,
@@ -54,7 +54,7 @@ fn name_of(alloc: Global, text: &str) -> Result<Option<String>, AllocError>
 
 /// The name that is the only token of a text of that length, and the whole of it.
 fn sole_name(tokens: &[Token], length: usize) -> Option<&str>
-    ensures { option_map (λ name. name.now) result ≡ spec.sole_name length (lexemes_of tokens.now) }
+    ensures { option_map (λ name. name.now) result ≡ internal.sole_name length (lexemes_of tokens.now) }
 {
     match tokens {
         [token] if token.span.start == 0 && token.span.end == length => match &token.kind {

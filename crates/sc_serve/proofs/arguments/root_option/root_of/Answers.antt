@@ -1,6 +1,6 @@
 use Rattle.std.proofs.Common.{arith}
 use Rattle.sc_serve.proofs.RootLemmas.{root-split}
-use Rattle.sc_serve.proofs.words.root_option.root_of.Goals as goal
+use Rattle.sc_serve.proofs.arguments.root_option.root_of.Goals as goal
 
 -- where two names stand with a dot between, the text is split there, and both are found
 pub returns-in_default-clause-complete : goal.returns-in_default-clause-complete

@@ -1,4 +1,4 @@
-// The words of a command line: what is asked for, and of which files.
+// The arguments of a command line: what is asked for, and of which files.
 
 mod root_option;
 
@@ -8,12 +8,12 @@ use sc_class::Root;
 use std::alloc::{AllocError, Global};
 use std::convert::AsStr;
 
-/// What the words of a command line ask for.
+/// What the arguments of a command line ask for.
 #[derive(Drop)]
 pub enum Invocation<'a> {
     /// To do something with the system of these files.
     OnFiles(Command, Vec<&'a str>),
-    /// To explain the code or name that this word gives, or to list all codes.
+    /// To explain this code or name, or to list all codes.
     Explain(Option<&'a str>),
 }
 
@@ -44,12 +44,12 @@ pub struct RunOptions {
     pub is_explained: bool,
 }
 
-/// Why the words ask for nothing that can be done.
+/// Why the arguments ask for nothing that can be done.
 #[derive(Drop)]
 pub enum UsageFault {
-    /// The words don't fit a command, or ask for its help or version: the text for the user.
-    Words(clap::Error),
-    /// There is no command among the words. `Words` comes before it.
+    /// They don't fit a command, or ask for its help or version: the text for the user.
+    Arguments(clap::Error),
+    /// There is no command among them. `Arguments` comes before it.
     NoCommand,
     /// What `--root` gives isn't two names with one dot between.
     BadRoot,
@@ -61,7 +61,7 @@ impl From<clap::Error> for UsageFault {
         if error.kind() == ErrorKind::OutOfMemory {
             UsageFault::OutOfMemory
         } else {
-            UsageFault::Words(error)
+            UsageFault::Arguments(error)
         }
     }
 }
@@ -86,7 +86,7 @@ const STATUS_HELP: &str = "\
 Exit status:
   0  done, and every handler is free
   1  the system is refused
-  2  the words, a file or the output is at fault, or the system uses what isn't
+  2  an argument, a file or the output is at fault, or the system uses what isn't
      run yet
   3  a handler has failed
   4  a handler is waiting or busy
@@ -100,7 +100,7 @@ Limits:
 Exit status:
   0  the system is well formed
   1  it is refused: `scoop explain CODE` says why
-  2  the words, a file or the output is at fault
+  2  an argument, a file or the output is at fault
   5  memory ran out";
 
 const RUN_AFTER_HELP: &str = "\
@@ -110,7 +110,7 @@ Limits:
 Exit status:
   0  done, and every handler is free
   1  the system is refused
-  2  the words, a file or the output is at fault, or the system uses what isn't
+  2  an argument, a file or the output is at fault, or the system uses what isn't
      run yet: the second line says what, and where it stands
   3  a handler has failed
   4  a handler is waiting or busy
@@ -123,7 +123,7 @@ Limits:
 Exit status:
   0  the text is printed
   1  it is no system
-  2  the words, a file or the output is at fault
+  2  an argument, a file or the output is at fault
   5  memory ran out";
 
 const EXPLAIN_AFTER_HELP: &str = "\
@@ -183,12 +183,12 @@ const ROOT_HELP: &str = "The root class and its creation procedure";
 
 const TURNS_HELP: &str = "The most turns that are played, 1 to 10000000";
 
-/// Reads the words of a command line, of which the first is the program's name.
-pub fn read_words<'a, S: AsStr>(
+/// Reads the arguments of a command line, of which the first is the program's name.
+pub fn read_arguments<'a, S: AsStr>(
     alloc: Global,
-    words: &'a [S],
+    arguments: &'a [S],
 ) -> Result<Invocation<'a>, UsageFault> {
-    let matches = scoop_command(alloc)?.try_get_matches_from(words)?;
+    let matches = scoop_command(alloc)?.try_get_matches_from(arguments)?;
     let Some((name, options)) = matches.subcommand() else {
         return Err(UsageFault::NoCommand);
     };

@@ -1,7 +1,7 @@
 use Rattle.std.proofs.Common.{◌∙◌, sym}
 use Rattle.sc_text.specs.Spelling.{lexemes_of}
 use Rattle.sc_serve.proofs.RootLemmas.{name-found, name-spells, sole-is_name}
-use Rattle.sc_serve.proofs.words.root_option.name_of.Goals as goal
+use Rattle.sc_serve.proofs.arguments.root_option.name_of.Goals as goal
 
 -- a name spells its one token, so that no fault but want of memory is answered
 pub returns-in_default : goal.returns-in_default
