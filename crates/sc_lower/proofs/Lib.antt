@@ -1,0 +1,17 @@
+pub mod Hops
+pub mod Names
+pub mod Codes
+pub mod Operators
+pub mod Evaluating
+pub mod Judging
+pub mod Slots
+pub mod Operands
+pub mod Binding
+pub mod Calling
+pub mod Assigning
+pub mod Instructing
+pub mod Controlling
+pub mod Contracts
+pub mod Following
+pub mod Beginning
+pub mod Rows

@@ -1,0 +1,9 @@
+pub mod Operations
+pub mod Places
+pub mod Emitted
+pub mod Machine
+pub mod Typed
+pub mod Stands
+pub mod Lowered
+pub mod View
+pub mod Programs
