@@ -1,0 +1,8 @@
+pub mod Values
+pub mod OperandList
+pub mod Objects
+pub mod Frames
+pub mod Layouts
+pub mod Stores
+pub mod States
+pub mod Lending

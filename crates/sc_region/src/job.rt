@@ -1,0 +1,91 @@
+//! What handlers ask of each other, and what a handler's turns come to.
+
+use crate::value::{Reference, Value};
+use arrayvec::ArrayVec;
+use sc_model::Cause;
+
+/// What a request is for.
+#[derive(Clone, Copy, Debug, PartialEq, Eq)]
+pub enum Errand {
+    /// The feature of the number is called.
+    Calls(u32),
+    /// An object of the target's class is made, by the creation procedure of the number or without one.
+    Makes(Option<u32>),
+}
+
+/// What a handler is asked for. It takes 304 bytes, and no memory beside.
+#[derive(Drop)]
+pub struct Request {
+    /// The handler that asks, but for the creation of the root object.
+    pub poster: Option<u16>,
+    /// The object that the feature is called on, or that is to be made.
+    pub target: Reference,
+    pub errand: Errand,
+    pub actuals: ArrayVec<Value, 16>,
+    /// Whether the poster waits for the answer.
+    pub is_waited: bool,
+}
+
+/// What a handler does next.
+#[derive(Drop)]
+pub enum Job {
+    /// It takes a request: the next of its queue, or a callback.
+    Take(Request),
+    /// It takes the answer to a request that it waits for: the value of a query, or none.
+    Reply(Option<Value>),
+    /// The handler that it waits for has failed.
+    Failed,
+    /// The request that it waits for was refused.
+    Refused,
+    /// Its reserve step has newly reserved these handlers.
+    Granted(ArrayVec<u16, 16>),
+    /// The handler of the number was made for it.
+    Made(u16),
+    /// It goes on.
+    Go,
+}
+
+/// What a turn asks of the other handlers, and tells of the next step.
+#[derive(Drop)]
+pub enum Want {
+    /// Nothing. The next step is always enabled.
+    Continue,
+    /// Nothing. The next step is the reserve step for these handlers, none where all are held already.
+    Reserve(ArrayVec<u16, 16>),
+    /// The request goes to its target's handler, and isn't waited for.
+    Post(Request),
+    /// The request goes to its target's handler with all rights where the call passes locks, and is waited for.
+    Ask {
+        request: Request,
+        passes: bool,
+    },
+    /// A new handler is made, with this creation of an object of the class as its first request.
+    Create {
+        class: u8,
+        procedure: Option<u32>,
+        actuals: ArrayVec<Value, 16>,
+        passes: bool,
+    },
+    /// These handlers are released.
+    Release(ArrayVec<u16, 16>),
+    /// A wait condition is false: these handlers are released and marked, and the same reserve step comes next.
+    Wait(ArrayVec<u16, 16>),
+    /// The request ends, with a value or none, or refused, and these handlers are released.
+    Done {
+        reply: Option<Value>,
+        released: ArrayVec<u16, 16>,
+        refused: bool,
+    },
+    /// The handler has failed.
+    Fail(Cause),
+}
+
+/// What a handler's turns come to.
+#[derive(Drop)]
+pub struct Outcome {
+    pub handler: u16,
+    /// How many turns were made.
+    pub turns: u32,
+    /// What the last of them asks.
+    pub want: Want,
+}

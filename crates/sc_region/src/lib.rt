@@ -1,0 +1,22 @@
+//! The store of a handler: its objects, its frames and its output.
+//!
+//! [`Store`] keeps that each settled object meets its class invariant: where the end of a routine or the making of an
+//! object would leave one that doesn't, the store fails. What a handler is asked for and what it asks for are
+//! [`Request`], [`Job`], [`Want`] and [`Outcome`].
+#![tactic(auto)]
+
+mod frame;
+mod job;
+mod layout;
+mod object;
+mod operands;
+mod state;
+mod store;
+mod value;
+
+pub use frame::{Activation, Origin, Stage};
+pub use job::{Errand, Job, Outcome, Request, Want};
+pub use layout::{ClassLayout, Layout, RoutineLayout};
+pub use operands::{Olds, Operands};
+pub use store::Store;
+pub use value::{Reference, Value};

@@ -1,0 +1,120 @@
+//! The objects of a handler.
+ghost use Rattle.std.specs.Prelude.{◌≤◌, vec_len};
+
+use crate::layout::Layout;
+use crate::value::Value;
+use std::alloc::{AllocError, Global};
+use std::marker::Model;
+
+/// An object: the number of its class, and its attributes by number. It takes 32 bytes, and 16 for each attribute.
+#[derive(Drop)]
+pub struct Object {
+    pub class: u8,
+    pub attributes: Vec<Value>,
+    ghost few: { vec_len attributes ≤ 256 },
+}
+
+impl Object {
+    ghost use Rattle.std.specs.Prelude.{◌≡◌, IfOk};
+    ghost use Rattle.sc_region.specs.Objects.{object_of, with_slot};
+    ghost use Rattle.sc_region.specs.Layouts.{fresh_object};
+
+    /// A new object of the class of the number: each attribute has its default.
+    pub fn fresh(alloc: Global, layout: &Layout, class: u8) -> Result<Object, AllocError>
+        ensures { IfOk result (λ object. object_of object ≡ fresh_object layout.now class) }
+    {
+        let attributes = match layout.classes.get(usize::from(class)) {
+            Some(class) => Vec::from_slice(alloc, &class.defaults)?,
+            None => Vec::new(alloc),
+        };
+        Ok(Object { class, attributes })
+    }
+
+    /// The attribute at the number gets the value, where there is one.
+    fn write(&mut self, slot: u8, value: Value)
+        ensures { object_of self.new ≡ with_slot slot value (object_of self.old) }
+    {
+        let slot = usize::from(slot);
+        if slot < self.attributes.len() {
+            self.attributes[slot] = value;
+        }
+    }
+}
+
+/// The objects of a handler, by number from 1.
+#[derive(Drop)]
+pub struct Objects {
+    items: Vec<Object>,
+}
+
+impl Model for Objects {
+    ghost use Rattle.std.specs.Prelude.{List, map};
+    ghost use Rattle.sc_region.specs.Objects as m;
+    ghost use Rattle.sc_region.specs.Objects.{object_of};
+
+    ghost Value = { List m.PlainObject };
+
+    ghost view = { λ objects. map object_of objects.items.items };
+}
+
+impl Objects {
+    ghost use Rattle.std.specs.Prelude.{◌≡◌, ◌-◌, ◌++◌, [], ◌∷◌, OnOk, OnErr, length, take};
+    ghost use Rattle.std.specs.Option.{option_map};
+    ghost use Rattle.sc_region.specs.Objects.{object_of, object_numbered, attribute_of, with_attribute};
+
+    pub fn new(alloc: Global) -> Objects
+        ensures { result ≡ [] }
+    {
+        Objects {
+            items: Vec::new(alloc),
+        }
+    }
+
+    pub fn len(&self) -> usize
+        ensures { result ≡ length self.now }
+    {
+        self.items.len()
+    }
+
+    /// One more object.
+    pub fn push(&mut self, object: Object) -> Result<(), AllocError>
+        ensures ok { OnOk result (self.new ≡ self.old ++ object_of object ∷ []) }
+        ensures err { OnErr result (self.new ≡ self.old) }
+    {
+        self.items.push(object)?;
+        Ok(())
+    }
+
+    /// The last object goes.
+    pub fn pop(&mut self)
+        ensures { self.new ≡ take (length self.old - 1) self.old }
+    {
+        self.items.pop();
+    }
+
+    /// The object of the number.
+    pub fn get(&self, number: usize) -> Option<&Object>
+        ensures { option_map (λ object. object_of object.now) result ≡ object_numbered number self.now }
+    {
+        if number == 0 {
+            return None;
+        }
+        self.items.get(number - 1)
+    }
+
+    /// The attribute of the object at these numbers.
+    pub fn read(&self, number: usize, slot: u8) -> Option<Value>
+        ensures { result ≡ attribute_of number slot self.now }
+    {
+        self.get(number)?.attributes.get(usize::from(slot)).copied()
+    }
+
+    /// The attribute of the object at these numbers gets the value, where there is one.
+    pub fn write(&mut self, number: usize, slot: u8, value: Value)
+        ensures { self.new ≡ with_attribute number slot value self.old }
+    {
+        if number != 0 && number <= self.items.len() {
+            self.items[number - 1].write(slot, value);
+        }
+    }
+}

@@ -1,0 +1,361 @@
+//! What a store is made of, and what its calls do, whatever its objects meet.
+ghost use Rattle.std.specs.Prelude.{◌≡◌, ◌<◌, ◌≤◌, ◌+◌, ◌^◌, ◌++◌, [], ◌∷◌, OnOk, OnErr, IfOk, IsTrue, false, length, map, take};
+ghost use Rattle.sc_formula.specs.Plain.{plain_formula};
+ghost use Rattle.sc_region.specs.Objects.{object_of, object_numbered};
+ghost use Rattle.sc_region.specs.Frames.{activation_of, frame_of};
+ghost use Rattle.sc_region.specs.Layouts.{meets_invariant, all_hold, object_meets, object_breaks};
+ghost use Rattle.sc_region.specs.Stores.{failed, is_settled, settled, written, beginning, entered, left, with_new, born, born_for, made, made_for, printed};
+ghost use Rattle.sc_region.specs.States.{state_of, stack_below, opened};
+ghost use Rattle.sc_region.specs.Values.{atoms_of};
+
+use crate::frame::{Activation, Frame, Frames, Origin};
+use crate::layout::{Layout, RoutineLayout};
+use crate::object::{Object, Objects};
+use crate::value::{Reference, Value};
+use sc_formula::{Atom, Formula};
+use sc_model::Cause;
+use std::alloc::{AllocError, Global};
+use std::mem;
+
+/// The most objects of a handler.
+const MAX_OBJECTS: usize = 65_536;
+
+/// The most frames of a handler.
+const MAX_FRAMES: usize = 1024;
+
+/// The objects, frames and output of a handler, and its failure.
+#[derive(Drop)]
+pub struct State<'p> {
+    pub alloc: Global,
+    pub layout: &'p Layout,
+    pub objects: Objects,
+    /// The object of the topmost frame, where there is one.
+    pub current: Reference,
+    pub top: Option<Activation>,
+    pub below: Frames,
+    /// What is left of routines that have exited: their memory serves the next ones.
+    pub spare: Vec<Activation>,
+    pub output: Vec<u8>,
+    pub failure: Option<Cause>,
+}
+
+// ---- failure, and settled objects
+
+/// A failure: the frames are dropped.
+pub fn fail(state: &mut State<'_>, why: Cause)
+    ensures { state_of state.new ≡ failed why (state_of state.old) }
+{
+    state.top = None;
+    state.below.clear();
+    state.failure = Some(why);
+}
+
+/// Whether the object of the number is settled.
+pub fn is_settled(state: &State<'_>, number: usize) -> bool
+    ensures { result ≡ is_settled number (state_of state.now) }
+{
+    if state.failure.is_some() {
+        return false;
+    }
+    match &state.top {
+        None => true,
+        Some(_) => { state.current.number as usize != number && !state.below.have_current(number) }
+    }
+}
+
+/// Whether there is an object of the number, and it meets its class invariant.
+pub fn object_meets(state: &State<'_>, number: usize) -> bool
+    ensures { result ≡ object_meets state.now.layout.now (object_numbered number state.now.objects) }
+{
+    match state.objects.get(number) {
+        Some(object) => meets_invariant(state.layout, object),
+        None => false,
+    }
+}
+
+/// Whether there is an object of the number, and it breaks its class invariant.
+fn object_breaks(state: &State<'_>, number: usize) -> bool
+    ensures { result ≡ object_breaks state.now.layout.now (object_numbered number state.now.objects) }
+{
+    match state.objects.get(number) {
+        Some(object) => !meets_invariant(state.layout, object),
+        None => false,
+    }
+}
+
+fn meets_invariant(layout: &Layout, object: &Object) -> bool
+    ensures { result ≡ meets_invariant layout.now (object_of object.now) }
+{
+    match layout.classes.get(usize::from(object.class)) {
+        Some(class) => meets_clauses(&class.invariant, &object.attributes),
+        None => true,
+    }
+}
+
+/// Whether each clause is true of the attributes, of which there are at most 256.
+fn meets_clauses(clauses: &[Formula], attributes: &[Value]) -> bool
+    requires { length attributes.now ≤ 256 }
+    ensures { result ≡ all_hold (map plain_formula clauses.now) (atoms_of attributes.now) }
+{
+    if clauses.is_empty() {
+        return true;
+    }
+    let mut atoms = [Atom::Boolean(false); 256];
+    fill(&mut atoms, attributes);
+    sc_formula::meets(clauses, &atoms[..attributes.len()])
+}
+
+/// Writes what an invariant sees of each attribute.
+fn fill(atoms: &mut [Atom], attributes: &[Value])
+    requires { length attributes.now ≤ length atoms.old }
+    ensures { take (length attributes.now) atoms.new ≡ atoms_of attributes.now }
+{
+    for (place, value) in attributes.iter().enumerate() {
+        atoms[place] = value.atom();
+    }
+}
+
+/// Where the object of the number is settled now and breaks its invariant, the store fails.
+pub fn settle(state: &mut State<'_>, number: usize)
+    ensures { state_of state.new ≡ settled number (state_of state.old) }
+{
+    // The cheapest first: a routine that exits mostly leaves its object to its caller, or in order.
+    if !is_on_top(state, number) && object_breaks(state, number) && is_settled(state, number) {
+        fail(state, Cause::Invariant);
+    }
+}
+
+/// Whether the topmost frame has the object of the number as Current.
+fn is_on_top(state: &State<'_>, number: usize) -> bool
+    ensures { IsTrue result → is_settled number (state_of state.now) ≡ false }
+{
+    state.top.is_some() && state.current.number as usize == number
+}
+
+// ---- attributes
+
+/// The attribute of Current at the number gets the value.
+pub fn write_current(state: &mut State<'_>, slot: u8, value: Value)
+    ensures { state_of state.new ≡ written slot value (state_of state.old) }
+{
+    if state.top.is_some() {
+        let number = state.current.number as usize;
+        state.objects.write(number, slot, value);
+    }
+}
+
+// ---- frames
+
+fn count_frames(state: &State<'_>) -> usize
+    ensures { result ≡ length (state_of state.now).frames }
+{
+    match &state.top {
+        None => 0,
+        Some(_) => state.below.len() + 1,
+    }
+}
+
+/// What a call opens: a frame, or a failure.
+fn open(
+    state: &mut State<'_>,
+    current: Reference,
+    routine: usize,
+    origin: Origin,
+    actuals: &[Value],
+) -> Result<Result<Frame, Cause>, AllocError>
+    ensures kept { state_of state.new ≡ state_of state.old }
+    ensures opened { IfOk result (λ r.
+        opened r (state_of state.old) ≡ entered current routine origin actuals.now (state_of state.old)) }
+{
+    let layout = state.layout;
+    let Some(entered) = layout.routines.get(routine) else {
+        return Ok(Err(Cause::BadCode));
+    };
+    if actuals.len() != entered.formals {
+        return Ok(Err(Cause::BadCode));
+    }
+    if count_frames(state) >= MAX_FRAMES {
+        return Ok(Err(Cause::StackFull));
+    }
+    let activation = activate(state, routine, entered, origin, actuals)?;
+    Ok(Ok(Frame {
+        current,
+        activation,
+    }))
+}
+
+/// A routine begins, in memory that is spare if there is any.
+fn activate(
+    state: &mut State<'_>,
+    routine: usize,
+    layout: &RoutineLayout,
+    origin: Origin,
+    actuals: &[Value],
+) -> Result<Activation, AllocError>
+    ensures kept { state_of state.new ≡ state_of state.old }
+    ensures begun { IfOk result (λ a. activation_of a ≡ beginning routine layout.now origin actuals.now) }
+{
+    let memory = match state.spare.pop() {
+        Some(memory) => memory,
+        None => Activation::empty(state.alloc),
+    };
+    memory.begin(routine, layout, origin, actuals)
+}
+
+/// The frame comes onto the others.
+fn put_frame(state: &mut State<'_>, frame: Frame) -> Result<(), AllocError>
+    ensures ok { OnOk result (state_of state.new ≡ record (state_of state.old) { frames = frame_of frame ∷ (state_of state.old).frames }) }
+    ensures err { OnErr result (state_of state.new ≡ state_of state.old) }
+{
+    match &mut state.top {
+        Some(top) => state.below.enter(&mut state.current, top, frame),
+        None => {
+            state.below.clear();
+            state.current = frame.current;
+            state.top = Some(frame.activation);
+            Ok(())
+        }
+    }
+}
+
+/// The routine of the number is entered on an object.
+pub fn enter(
+    state: &mut State<'_>,
+    current: Reference,
+    routine: usize,
+    origin: Origin,
+    actuals: &[Value],
+) -> Result<(), AllocError>
+    ensures ok { OnOk result (state_of state.new ≡ entered current routine origin actuals.now (state_of state.old)) }
+    ensures err { OnErr result (state_of state.new ≡ state_of state.old) }
+{
+    match open(state, current, routine, origin, actuals)? {
+        Ok(frame) => put_frame(state, frame),
+        Err(why) => {
+            fail(state, why);
+            Ok(())
+        }
+    }
+}
+
+/// The topmost frame goes, and the one below it is the topmost now.
+fn drop_top(state: &mut State<'_>)
+    ensures { state_of state.new ≡ record (state_of state.old) { frames = stack_below state.old.top state.old.below } }
+{
+    if state.top.is_none() {
+        return;
+    }
+    let left = match state.below.pop() {
+        Some(frame) => {
+            state.current = frame.current;
+            mem::replace(&mut state.top, Some(frame.activation))
+        }
+        None => mem::take(&mut state.top),
+    };
+    if let Some(activation) = left {
+        let _ = state.spare.push(activation);
+    }
+}
+
+/// The topmost frame goes.
+pub fn leave(state: &mut State<'_>)
+    ensures { state_of state.new ≡ left (state_of state.old) }
+{
+    if state.top.is_none() {
+        return;
+    }
+    let number = state.current.number as usize;
+    drop_top(state);
+    settle(state, number);
+}
+
+// ---- new objects
+
+fn add_object(state: &mut State<'_>, class: u8) -> Result<(), AllocError>
+    ensures ok { OnOk result (state_of state.new ≡ with_new class (state_of state.old)) }
+    ensures err { OnErr result (state_of state.new ≡ state_of state.old) }
+{
+    let object = Object::fresh(state.alloc, state.layout, class)?;
+    state.objects.push(object)?;
+    Ok(())
+}
+
+/// An object is made by a request, without a procedure.
+pub fn bear(state: &mut State<'_>, class: u8) -> Result<(), AllocError>
+    ensures ok { OnOk result (state_of state.new ≡ born class (state_of state.old)) }
+    ensures err { OnErr result (state_of state.new ≡ state_of state.old) }
+{
+    add_object(state, class)?;
+    let number = state.objects.len();
+    settle(state, number);
+    Ok(())
+}
+
+/// An object is made, and its procedure entered on the object that is named.
+pub fn bear_for(
+    state: &mut State<'_>,
+    current: Reference,
+    routine: usize,
+    origin: Origin,
+    actuals: &[Value],
+) -> Result<(), AllocError>
+    ensures ok { OnOk result (state_of state.new ≡ born_for current routine origin actuals.now (state_of state.old)) }
+    ensures err { OnErr result (state_of state.new ≡ state_of state.old) }
+{
+    add_object(state, current.class)?;
+    if enter(state, current, routine, origin, actuals).is_err() {
+        state.objects.pop();
+        return Err(AllocError);
+    }
+    let number = state.objects.len();
+    settle(state, number);
+    Ok(())
+}
+
+/// An object is made by a routine of this handler, without a procedure.
+pub fn make(state: &mut State<'_>, class: u8) -> Result<(), AllocError>
+    ensures ok { OnOk result (state_of state.new ≡ made class (state_of state.old)) }
+    ensures err { OnErr result (state_of state.new ≡ state_of state.old) }
+{
+    if state.objects.len() >= MAX_OBJECTS {
+        fail(state, Cause::TooManyObjects);
+        return Ok(());
+    }
+    bear(state, class)
+}
+
+/// An object is made by a routine of this handler, and its procedure entered on it.
+pub fn make_for(
+    state: &mut State<'_>,
+    handler: u16,
+    class: u8,
+    routine: usize,
+    actuals: &[Value],
+) -> Result<(), AllocError>
+    ensures ok { OnOk result (state_of state.new ≡ made_for handler class routine actuals.now (state_of state.old)) }
+    ensures err { OnErr result (state_of state.new ≡ state_of state.old) }
+{
+    let count = state.objects.len();
+    if count >= MAX_OBJECTS {
+        fail(state, Cause::TooManyObjects);
+        return Ok(());
+    }
+    let number = count as u32 + 1;
+    let current = Reference {
+        handler,
+        number,
+        class,
+    };
+    bear_for(state, current, routine, Origin::Creation, actuals)
+}
+
+// ---- output
+
+/// Bytes are added to the output.
+pub fn print(state: &mut State<'_>, text: &[u8]) -> Result<(), AllocError>
+    ensures ok { OnOk result (state_of state.new ≡ printed text.now (state_of state.old)) }
+    ensures err { OnErr result (state_of state.new ≡ state_of state.old) }
+{
+    state.output.extend_from_slice(text)?;
+    Ok(())
+}

@@ -1,0 +1,242 @@
+//! The store of a handler.
+ghost use Rattle.std.specs.Prelude.{◌≡◌, ◌↔◌, ◌&&◌, OnOk, OnErr, IsTrue, is_some};
+ghost use Rattle.sc_region.specs.Objects.{object_numbered, attribute_of};
+ghost use Rattle.sc_region.specs.Layouts.{MeetsAt};
+ghost use Rattle.sc_region.specs.Stores.{new_store, is_settled, failed, written, entered, left, born, born_for, made, made_for, printed};
+ghost use Rattle.sc_region.specs.declared.frame.Origin.TheVariants as origin;
+
+use crate::frame::{Activation, Frames, Origin};
+use crate::layout::Layout;
+use crate::object::Objects;
+use crate::state::{self, State};
+use crate::value::{Reference, Value};
+use sc_model::Cause;
+use std::alloc::{AllocError, Global};
+use std::marker::Model;
+
+/// What stands for Current where there is no frame.
+const NOBODY: Reference = Reference {
+    handler: 0,
+    number: 0,
+    class: 0,
+};
+
+/// The store of a handler: its objects, its frames, the topmost first, its output, and the failure that it has ended in.
+///
+/// Each settled object meets its class invariant: one that no frame has as Current, as long as the store hasn't ended in
+/// a failure. There may be 65,536 objects and 1,024 frames. An object takes 32 bytes and 16 for each attribute; a frame
+/// takes 216 bytes, 16 for each slot, for each `old` and for each operand that its routine may have at once, and 40 for
+/// each separate block. What a frame took serves later ones, so that calls take no memory once the stack has been as
+/// high.
+#[derive(Drop)]
+pub struct Store<'p> {
+    state: State<'p>,
+}
+
+impl<'p> Model for Store<'p> {
+    ghost use Rattle.std.specs.Coded.{codes};
+    ghost use Rattle.sc_formula.specs.contracts.formula.Formula as formula;
+    ghost use Rattle.sc_formula.specs.contracts.term.Term as term;
+    ghost use Rattle.sc_region.specs.Stores as m;
+
+    ghost Value = { m.PlainStore };
+
+    ghost coded = { Prim.hlevel (codes, term.the_row.coded, formula.the_row.coded) };
+
+    ghost use Rattle.sc_region.specs.States.{state_of};
+
+    ghost view = { λ s. state_of s.state };
+
+    ghost invariant = { λ s. m.SettledObjectsMeet (state_of s.state) };
+}
+
+impl<'p> Store<'p> {
+    ghost use Rattle.std.specs.Option.{option_map};
+    ghost use Rattle.std.specs.Borrow.{sem};
+    ghost use Rattle.sc_region.specs.Frames.{activation_of, top_current, top_activation};
+    ghost use Rattle.sc_region.specs.Lending.{LendsTop};
+
+    /// A store with no objects and no frames. What grows later takes its memory from this allocator.
+    pub fn new(alloc: Global, layout: &'p Layout) -> Store<'p>
+        ensures { result ≡ new_store layout.now }
+    {
+        Store {
+            state: State {
+                alloc,
+                layout,
+                objects: Objects::new(alloc),
+                current: NOBODY,
+                top: None,
+                below: Frames::new(alloc),
+                spare: Vec::new(alloc),
+                output: Vec::new(alloc),
+                failure: None,
+            },
+        }
+    }
+
+    /// The attribute of the number `slot` of an object, or None where there is none. It takes constant time.
+    pub fn read(&self, number: u32, slot: u8) -> Option<Value>
+        ensures { result ≡ attribute_of number slot self.now.objects }
+    {
+        self.state.objects.read(number as usize, slot)
+    }
+
+    /// The attribute of the number `slot` of Current gets the value. Where there is no frame, or Current has no such
+    /// attribute, nothing changes. It takes constant time.
+    pub fn write_current(&mut self, slot: u8, value: Value)
+        ensures { self.new ≡ written slot value self.old }
+    {
+        state::write_current(&mut self.state, slot, value);
+    }
+
+    /// An object is made by a request that names no procedure: F1 where it breaks its invariant. Err where there is no
+    /// memory; nothing has changed then.
+    pub fn birth(&mut self, class: u8) -> Result<(), AllocError>
+        ensures ok { OnOk result (self.new ≡ born class self.old) }
+        ensures err { OnErr result (self.new ≡ self.old) }
+    {
+        state::bear(&mut self.state, class)
+    }
+
+    /// An object of the class of `target` is made by a request, and its procedure entered on `target`, with these
+    /// actuals: F16 where there is no such routine, or it has another number of formals; F11 where the stack is full;
+    /// F1 where an object that is settled now breaks its invariant. Err where there is no memory; nothing has changed
+    /// then.
+    pub fn birth_with(
+        &mut self,
+        target: Reference,
+        routine: usize,
+        actuals: &[Value],
+    ) -> Result<(), AllocError>
+        ensures ok { OnOk result (self.new ≡ born_for target routine origin.RequestedCreation actuals.now self.old) }
+        ensures err { OnErr result (self.new ≡ self.old) }
+    {
+        state::bear_for(
+            &mut self.state,
+            target,
+            routine,
+            Origin::RequestedCreation,
+            actuals,
+        )
+    }
+
+    /// An object is made by a routine of this handler, without a procedure: F10 where there are as many objects as
+    /// there may be; F1 where it breaks its invariant. Err where there is no memory; nothing has changed then.
+    pub fn make_object(&mut self, class: u8) -> Result<(), AllocError>
+        ensures ok { OnOk result (self.new ≡ made class self.old) }
+        ensures err { OnErr result (self.new ≡ self.old) }
+    {
+        state::make(&mut self.state, class)
+    }
+
+    /// An object is made by a routine of this handler, whose number is `handler`, and its procedure entered on it: F10
+    /// where there are as many objects as there may be; F16 and F11 as in `push`. Err where there is no memory; nothing
+    /// has changed then.
+    pub fn make_object_with(
+        &mut self,
+        handler: u16,
+        class: u8,
+        routine: usize,
+        actuals: &[Value],
+    ) -> Result<(), AllocError>
+        ensures ok { OnOk result (self.new ≡ made_for handler class routine actuals.now self.old) }
+        ensures err { OnErr result (self.new ≡ self.old) }
+    {
+        state::make_for(&mut self.state, handler, class, routine, actuals)
+    }
+
+    /// A routine is entered on an object, with these actuals, and all memory that its operands will need: F16 where
+    /// there is no such routine, or it has another number of formals; F11 where the stack is full. Err where there is no
+    /// memory; nothing has changed then.
+    pub fn push(
+        &mut self,
+        current: Reference,
+        routine: usize,
+        origin: Origin,
+        actuals: &[Value],
+    ) -> Result<(), AllocError>
+        ensures ok { OnOk result (self.new ≡ entered current routine origin actuals.now self.old) }
+        ensures err { OnErr result (self.new ≡ self.old) }
+    {
+        state::enter(&mut self.state, current, routine, origin, actuals)
+    }
+
+    /// The topmost frame goes, where there is one: F1 where its object is settled now and breaks its invariant.
+    pub fn pop(&mut self)
+        ensures { self.new ≡ left self.old }
+    {
+        state::leave(&mut self.state);
+    }
+
+    /// Bytes are added to the output. Err where there is no memory; nothing has changed then.
+    pub fn print(&mut self, text: &[u8]) -> Result<(), AllocError>
+        ensures ok { OnOk result (self.new ≡ printed text.now self.old) }
+        ensures err { OnErr result (self.new ≡ self.old) }
+    {
+        state::print(&mut self.state, text)
+    }
+
+    /// The store ends in a failure: its frames are dropped, its objects and its output stay.
+    pub fn fail(&mut self, why: Cause)
+        ensures { self.new ≡ failed why self.old }
+    {
+        state::fail(&mut self.state, why);
+    }
+
+    /// Whether there is an object of the number, and it is settled: the store hasn't ended in a failure, and no frame
+    /// has it as Current. It meets its class invariant then. Looks at each frame at most once.
+    pub fn settled(&self, number: u32) -> bool
+        ensures settled { result ≡ (is_settled number self.now && is_some (object_numbered number self.now.objects)) }
+        ensures meets { IsTrue result → MeetsAt self.now.layout (object_numbered number self.now.objects) }
+    {
+        let number = number as usize;
+        self.state.objects.get(number).is_some() && state::is_settled(&self.state, number)
+    }
+
+    /// Whether there is an object of the number, and it meets its class invariant.
+    pub fn test_invariant(&self, number: u32) -> bool
+        ensures { IsTrue result ↔ MeetsAt self.now.layout (object_numbered number self.now.objects) }
+    {
+        state::object_meets(&self.state, number as usize)
+    }
+
+    /// The object on which the topmost routine runs, if there is a frame.
+    pub fn current(&self) -> Option<Reference>
+        ensures { result ≡ top_current self.now.frames }
+    {
+        match &self.state.top {
+            Some(_) => Some(self.state.current),
+            None => None,
+        }
+    }
+
+    /// Where the topmost routine stands, if there is a frame.
+    pub fn top(&self) -> Option<&Activation>
+        ensures { option_map (λ activation. activation_of activation.now) result ≡ top_activation self.now.frames }
+    {
+        self.state.top.as_ref()
+    }
+
+    /// The same, to be changed.
+    pub fn top_mut(&mut self) -> Option<&mut Activation>
+        ensures* writes_back { sem 𝓛 (LendsTop self.entry result) }
+        ensures value { option_map (λ activation. activation_of activation.now) result ≡ top_activation self.old.frames }
+    {
+        self.state.top.as_mut()
+    }
+
+    /// What was printed.
+    pub fn output(&self) -> &[u8]
+        ensures { result.now ≡ self.now.output }
+    {
+        self.state.output.as_slice()
+    }
+
+    /// The failure that the store has ended in.
+    pub fn failure(&self) -> Option<Cause>
+        ensures { result ≡ self.now.failure }
+    {
+        self.state.failure
+    }
+}

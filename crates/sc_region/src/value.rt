@@ -1,0 +1,41 @@
+//! Values (ECMA-367, 8.19).
+ghost use Rattle.std.specs.Prelude.{◌≡◌};
+ghost use Rattle.sc_region.specs.Values.{atom_of};
+
+use sc_formula::Atom;
+
+/// A reference to an object. It takes 8 bytes.
+#[derive(Clone, Copy, Debug, PartialEq, Eq)]
+pub struct Reference {
+    /// The handler on which the object lies.
+    pub handler: u16,
+    /// The object's number there, from 1.
+    pub number: u32,
+    /// The number of its class, so that an object that is still to be made has one.
+    pub class: u8,
+}
+
+/// The value of an entity or an expression. It takes 16 bytes.
+#[derive(Clone, Copy, Debug, PartialEq, Eq)]
+pub enum Value {
+    Integer(i64),
+    Boolean(bool),
+    /// A reference to no object.
+    Void,
+    /// A reference to an object.
+    Attached(Reference),
+}
+
+impl Value {
+    /// What an invariant sees of the value.
+    pub fn atom(&self) -> Atom
+        ensures { result ≡ atom_of self.now }
+    {
+        match self {
+            Value::Integer(value) => Atom::Integer(*value),
+            Value::Boolean(value) => Atom::Boolean(*value),
+            Value::Void => Atom::Reference { is_void: true },
+            Value::Attached(_) => Atom::Reference { is_void: false },
+        }
+    }
+}
