@@ -1,0 +1,3 @@
+pub mod ValuesFit
+pub mod Opening
+pub mod Reached

@@ -1,0 +1,84 @@
+-- The opening of a system without faults fits.
+use Rattle.std.proofs.Common.{◌≡◌, ℕ, zero, suc, Bool, true, false, ◌&&◌, List, [], ◌∷◌, Option, Some, None, refl, sym, subst, arith}
+use Rattle.std.specs.Prelude.{Contains, length, is_some, is_none, ◌==◌}
+use Rattle.std.specs.Option.{option_map_or}
+use Rattle.sc_tree.specs.Plain.{System, Declaration, FeatureKind, Attribute, Routine}
+use Rattle.sc_class.specs.declared.fault.ClassFault.TheVariants as fault
+use Rattle.sc_class.specs.ClassNames.{Root, number_of}
+use Rattle.sc_class.specs.Names.{is_listed}
+use Rattle.sc_class.specs.Tables.Declared.{creators_of}
+use Rattle.sc_class.specs.Tables.Features.{DeclaredFeature, features, named_among}
+use Rattle.sc_class.specs.Faults.ClassRules.{is_plain_procedure, creates_by, has_root, no_root, IsFaultless}
+use Rattle.sc_model.specs.Routines.{version_of}
+use Rattle.sc_model.specs.Runs.{root_request, opening}
+use Rattle.sc_values.specs.Places.{formals_of_kind, formals_if_any, of_actuals}
+use Rattle.sc_values.specs.Fitting.{ActualsFit, no_more, is_due, RequestFits, empty}
+use Rattle.sc_values.specs.Values.{OpeningFits}
+
+none_in : {A : Type 0} (x : A) → Contains [] x → ⊥
+none_in x (i, l, e) = absurd (omega (arith, l))
+
+one_in : {A : Type 0} (x y : A) → Contains (x ∷ []) y → x ≡ y
+one_in x y (zero, l, e) = e
+one_in x y (suc i, l, e) = absurd (omega (arith, l))
+
+both : (a b : Bool) → (a && b) ≡ true → (a ≡ true) × (b ≡ true)
+both true b e = (refl, e)
+both false b e = cc
+
+none_long : (ds : List Declaration) → (length ds == 0) ≡ true → ds ≡ []
+none_long [] e = refl
+none_long (d ∷ ds) e = absurd (grind (arith, e))
+
+plain : (k : FeatureKind) → is_plain_procedure k ≡ true → formals_of_kind k ≡ []
+plain (Attribute d) e = cc
+plain (Routine r) e = none_long r.formals (both (length r.formals == 0) (is_none r.result_type) e).0
+
+found : (o : Option DeclaredFeature) → option_map_or (λ (f : DeclaredFeature). is_plain_procedure f.feature.kind) o false ≡ true →
+    (is_some o ≡ true) × (formals_if_any o ≡ [])
+found None e = cc
+found (Some f) e = (refl, plain f.feature.kind e)
+
+of_root : (s : System) (x : List ℕ) (o : Option ℕ) → option_map_or (creates_by s x) o false ≡ true → creates_by s x (option_map_or (λ k. k) o 0) ≡ true
+of_root s x None e = cc
+of_root s x (Some k) e = e
+
+root_there : (s : System) (root : Root) → IsFaultless s root → (b : Bool) → has_root s root ≡ b → b ≡ true
+root_there s root w true e = refl
+root_there s root w false e = absurd (w fault.NoRoot (no_root e))
+
+root_number : System → Root → ℕ
+root_number s root = option_map_or (λ k. k) (number_of s root.class) 0
+
+root_found : (s : System) (root : Root) → IsFaultless s root →
+    (is_some (version_of s (option_map_or (λ k. k) (number_of s root.class) 0) root.procedure) ≡ true) ×
+    (formals_if_any (version_of s (option_map_or (λ k. k) (number_of s root.class) 0) root.procedure) ≡ [])
+root_found s root w =
+    found (named_among root.procedure (features s (option_map_or (λ k. k) (number_of s root.class) 0)))
+    (both (is_listed root.procedure (creators_of s (option_map_or (λ k. k) (number_of s root.class) 0))) _
+    (of_root s root.procedure (number_of s root.class) (root_there s root w (has_root s root) refl))).1
+
+request_fits : (s : System) (root : Root) → IsFaultless s root → RequestFits s (opening s root) 0 (root_request (option_map_or (λ k. k) (number_of s root.class) 0) root.procedure)
+request_fits s root w = record {
+  is_here = refl;
+  is_known = λ x e. named_so x e;
+  target_is_there = is_due {q = root_request (option_map_or (λ k. k) (number_of s root.class) 0) root.procedure} {qs = []} {x = Some root.procedure} (omega arith) refl refl refl refl;
+  actuals_fit = subst (λ ds. ActualsFit s 0 ds (of_actuals []) ds []) (sym (root_found s root w).1) no_more;
+  actuals_are_there = λ v c. absurd (none_in v c);
+}
+  where
+    same : (a b : List ℕ) → Some a ≡ Some b → a ≡ b
+    same a b e = cc
+
+    named_so : (x : List ℕ) → Some root.procedure ≡ Some x → is_some (version_of s (option_map_or (λ k. k) (number_of s root.class) 0) x) ≡ true
+    named_so x e = subst (λ x. is_some (version_of s (option_map_or (λ k. k) (number_of s root.class) 0) x) ≡ true) (same root.procedure x e) (root_found s root w).0
+
+pub opening_fits : OpeningFits
+opening_fits s root pure w zero l = record {
+  objects_fit = λ o c. absurd (none_in o c);
+  frames_fit = λ f c. absurd (none_in f c);
+  frames_are_linked = empty;
+  requests_fit = λ r c. subst (RequestFits s (opening s root) 0) (one_in _ r c) (request_fits s root w);
+  answer_fits = λ f below k t is_creation v e g a. cc;
+}
+opening_fits s root pure w (suc h) l = absurd (omega (arith, l))

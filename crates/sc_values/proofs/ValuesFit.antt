@@ -1,0 +1,74 @@
+-- Where the invariant of a turn holds, each value fits its type.
+use Rattle.std.proofs.Common.{◌≡◌, ◌⊎◌, inl, inr, ℕ, zero, suc, true, false, List, [], ◌∷◌, ◌++◌, Option, Some, refl, sym, subst, ap, ◌∙◌, arith}
+use Rattle.std.specs.Prelude.{Contains, slice_get}
+use Rattle.sc_tree.specs.Plain.{System, Declaration}
+use Rattle.sc_proctype.specs.declared.tag.Reserved.{Reserved}
+use Rattle.sc_proctype.specs.declared.entity_type.EntityType.{EntityType}
+use Rattle.sc_rules.specs.Types.{declared_type}
+use Rattle.sc_model.specs.Values.{Value, Attached, Operand}
+use Rattle.sc_model.specs.Environments.{Binding, handler_named}
+use Rattle.sc_model.specs.Fits.{Lies, Fits, IsUnset, FitsOrUnset, BindingFits}
+use Rattle.sc_values.specs.Places.{attribute, entity, of_result, operand, of_old, actual, reply}
+use Rattle.sc_values.specs.Fitting.{ActualsFit, no_more, one_more, EnvironmentFits, ResultFits, none, one, ValueIsThere}
+use Rattle.sc_values.specs.Values.{FitWhereWorldFits, OwnWhereWorldFits}
+
+none_in : {A : Type 0} (x : A) → Contains [] x → ⊥
+none_in x (i, l, e) = absurd (omega (arith, l))
+
+end_empty : {A : Type 0} (xs : List A) → xs ++ [] ≡ xs
+end_empty [] = refl
+end_empty (x ∷ xs) = ap (λ xs. x ∷ xs) (end_empty xs)
+
+binding_fits : (s : System) (h : ℕ) (bs : List Binding) → EnvironmentFits s h bs → (b : Binding) → Contains bs b → BindingFits s h bs b
+binding_fits s h bs f b c = f bs [] (sym (end_empty bs)) (λ x i. absurd (none_in x i)) b c
+
+result_there : (s : System) (h : ℕ) (bs : List Binding) (g : Option (Option EntityType)) (o : Option Operand) (u : Operand) → ResultFits s h bs g o → o ≡ Some u →
+    FitsOrUnset s h (handler_named bs) u.value u.type
+result_there s h bs _ _ u none e = cc
+result_there s h bs _ _ u (one {u = v} f) e = subst (λ (u : Operand). FitsOrUnset s h (handler_named bs) u.value u.type) (same v u e) f
+  where
+    same : (a b : Operand) → Some a ≡ Some b → a ≡ b
+    same a b e = cc
+
+actual_fits : (s : System) (h : ℕ) (all : List Declaration) (of : Reserved → Option ℕ) (ds : List Declaration) (vs : List Value) → ActualsFit s h all of ds vs →
+    (i : ℕ) (d : Declaration) (t : EntityType) (v : Value) → slice_get ds i ≡ Some d → declared_type s all d.declared_type ≡ Some t → slice_get vs i ≡ Some v →
+    Fits s h of v t
+actual_fits s h all of _ _ no_more i d t v j k l = cc
+actual_fits s h all of _ _ (one_more {d = e} {v = x} {t = u} k f more) zero d t v j m l = at (same e d j) (same x v l)
+  where
+    same : {A : Type 0} (a b : A) → Some a ≡ Some b → a ≡ b
+    same a b e = cc
+
+    at : e ≡ d → x ≡ v → Fits s h of v t
+    at p q = subst (λ v. Fits s h of v t) q (subst (λ t. Fits s h of x t) (same u t (sym k ∙ ap (λ (d : Declaration). declared_type s all d.declared_type) p ∙ m)) f)
+actual_fits s h all of _ _ (one_more {ds} {vs} k f more) (suc i) d t v j m l = actual_fits s h all of ds vs more i d t v j m l
+
+-- the value may be unset
+open_to : {P Q : Type 0} → P ⊎ Q → P ⊎ ((true ≡ true) × Q)
+open_to (inl p) = inl p
+open_to (inr q) = inr (refl, q)
+
+pub fit_where_world_fits : FitWhereWorldFits
+fit_where_world_fits s pure w fits h of v t u (attribute {o} {b} l i j) = open_to (((fits h l).objects_fit o i).fit b j).0
+fit_where_world_fits s pure w fits h of v t u (entity {f} {b} l i j) = binding_fits s h f.environment ((fits h l).frames_fit f i).names_fit b j
+fit_where_world_fits s pure w fits h of v t u (of_result {f} {u = r} l i e) =
+    open_to (result_there s h f.environment f.routine.text.result f.result r ((fits h l).frames_fit f i).result_fits e)
+fit_where_world_fits s pure w fits h of v t u (operand {f} {u = x} l i j) = inl (((fits h l).frames_fit f i).values_fit x j)
+fit_where_world_fits s pure w fits h of v t u (of_old {f} {u = x} l i j) = inl (((fits h l).frames_fit f i).olds_fit x j)
+fit_where_world_fits s pure w fits h of v t u (actual i {r} {d} l c j k m) =
+    let q = (fits h l).requests_fit r c in
+    inl (subst (λ h. Fits s h of v t) q.is_here (actual_fits s r.target.handler _ of _ r.actuals q.actuals_fit i d t v j k m))
+fit_where_world_fits s pure w fits h of v t u (reply {k} {f} {below} {is_creation} l a e g) = at ((fits h l).answer_fits f below k (Some t) is_creation (Some v) e g a t refl)
+  where
+    same : (x v : Value) → Some v ≡ Some x → x ≡ v
+    same x v e = cc
+
+    at : (x : Value) × (Some v ≡ Some x) × Fits s h (handler_named f.environment) x t × ValueIsThere w x → Fits s h (handler_named f.environment) v t ⊎ ((false ≡ true) × IsUnset v t)
+    at (x, p, q, z) = inl (subst (λ v. Fits s h (handler_named f.environment) v t) (same x v p) q)
+
+pub own_where_world_fits : OwnWhereWorldFits
+own_where_world_fits s pure w fits h of r t u p e = at (fit_where_world_fits s pure w fits h of (Attached r) t u p)
+  where
+    at : Fits s h of (Attached r) t ⊎ ((u ≡ true) × IsUnset (Attached r) t) → r.handler ≡ h
+    at (inl (c, l)) = subst (λ g. Lies g h of r.handler) e l
+    at (inr (i, (j, k))) = cc

@@ -1,0 +1,4 @@
+pub mod Places
+pub mod Values
+pub mod Typed
+pub mod Fitting

@@ -1,0 +1,62 @@
+-- Where a value stands in a state of the machine, and the type that the text gives it there.
+use Rattle.std.specs.Prelude.{◌≡◌, ◌<◌, ℕ, Bool, true, false, List, [], ◌∷◌, Option, Some, None, Contains, slice_get}
+use Rattle.std.specs.Option.{option_and_then}
+use Rattle.sc_tree.specs.Plain.{System, Declaration, FeatureKind, Attribute, Routine}
+use Rattle.sc_class.specs.Tables.Features.{DeclaredFeature}
+use Rattle.sc_proctype.specs.declared.entity_type.EntityType.{EntityType}
+use Rattle.sc_proctype.specs.declared.tag.Reserved.{Reserved}
+use Rattle.sc_proctype.specs.declared.tag.Reserved.TheVariants.{Formal, BlockName}
+use Rattle.sc_rules.specs.Names.{is_local}
+use Rattle.sc_rules.specs.Types.{declared_type}
+use Rattle.sc_model.specs.Values.{Value, Operand, handler_of}
+use Rattle.sc_model.specs.Environments.{Binding, handler_named}
+use Rattle.sc_model.specs.Objects.{Object}
+use Rattle.sc_model.specs.Routines.{version_of}
+use Rattle.sc_model.specs.Handlers.{Errand, Calls, Makes, Request, Reply, Awaits, Frame, World}
+use Rattle.sc_model.specs.Failures.{requests_at}
+
+-- no name is known
+abbrev pub no_names : Reserved → Option ℕ
+no_names x = None
+
+-- the handlers of formals, by the actuals
+abbrev pub of_actuals : List Value → Reserved → Option ℕ
+of_actuals vs (Formal i) = option_and_then handler_of (slice_get vs i)
+of_actuals vs (BlockName j) = None
+
+abbrev pub formals_of_kind : FeatureKind → List Declaration
+formals_of_kind (Attribute d) = []
+formals_of_kind (Routine routine) = routine.formals
+
+abbrev pub formals_if_any : Option DeclaredFeature → List Declaration
+formals_if_any None = []
+formals_if_any (Some f) = formals_of_kind f.feature.kind
+
+abbrev pub called_name : Errand → Option (List ℕ)
+called_name (Calls x) = Some x
+called_name (Makes k) = k
+
+-- the formals of what a request calls, in the version of its target's class
+abbrev pub formals_of_request : System → Request → List Declaration
+formals_of_request s r = formals_if_any (option_and_then (version_of s r.target.class) (called_name r.errand))
+
+-- The value stands somewhere in the state, as one of the type, seen from the handler of the number, where names have
+-- these handlers; it may be unset, or it may not.
+pub data StandsAs (s : System) (w : World) : ℕ → (Reserved → Option ℕ) → Value → EntityType → Bool → Type 0 where
+  attribute : {h : ℕ} {o : Object} {b : Binding} → h < w.count → Contains (w.handlers h).objects o →
+      Contains o.attributes b → StandsAs s w h no_names b.value b.type true
+  entity : {h : ℕ} {f : Frame} {b : Binding} → h < w.count → Contains (w.handlers h).stack f →
+      Contains f.environment b → StandsAs s w h (handler_named f.environment) b.value b.type (is_local b.role)
+  of_result : {h : ℕ} {f : Frame} {u : Operand} → h < w.count → Contains (w.handlers h).stack f →
+      f.result ≡ Some u → StandsAs s w h (handler_named f.environment) u.value u.type true
+  operand : {h : ℕ} {f : Frame} {u : Operand} → h < w.count → Contains (w.handlers h).stack f →
+      Contains f.values u → StandsAs s w h (handler_named f.environment) u.value u.type false
+  of_old : {h : ℕ} {f : Frame} {u : Operand} → h < w.count → Contains (w.handlers h).stack f →
+      Contains f.olds u → StandsAs s w h (handler_named f.environment) u.value u.type false
+  actual : {h : ℕ} (i : ℕ) {r : Request} {d : Declaration} {t : EntityType} {v : Value} → h < w.count →
+      Contains (requests_at (w.handlers h)) r → slice_get (formals_of_request s r) i ≡ Some d →
+      declared_type s (formals_of_request s r) d.declared_type ≡ Some t → slice_get r.actuals i ≡ Some v →
+      StandsAs s w h (of_actuals r.actuals) v t false
+  reply : {h k : ℕ} {f : Frame} {below : List Frame} {v : Value} {t : EntityType} {is_creation : Bool} → h < w.count →
+      (w.handlers h).answer ≡ Some (Reply (Some v)) → (w.handlers h).stack ≡ f ∷ below →
+      f.stage ≡ Awaits k (Some t) is_creation → StandsAs s w h (handler_named f.environment) v t false

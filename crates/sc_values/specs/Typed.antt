@@ -1,0 +1,171 @@
+-- What is left to do in a routine is as the rules say, where these names are known and values of these types lie there.
+use Rattle.std.specs.Prelude.{◌≡◌, ◌⊎◌, ℕ, Bool, true, false, not, List, [], ◌∷◌, ◌++◌, Option, Some, None, Contains, length, map, slice_get}
+use Rattle.std.specs.List.{list_all}
+use Rattle.sc_tree.specs.declared.expression.UnaryOperator.{UnaryOperator}
+use Rattle.sc_tree.specs.declared.expression.BinaryOperator.{BinaryOperator}
+use Rattle.sc_tree.specs.Plain.{System, Declaration, DeclaredType, Clause, Name, Variable, Expr, Instrs, Branches}
+use Rattle.sc_class.specs.declared.identity.ClassId.TheVariants as class
+use Rattle.sc_class.specs.Tables.Conformance.{is_expanded}
+use Rattle.sc_class.specs.Tables.Features.{DeclaredFeature, feature_named}
+use Rattle.sc_proctype.specs.declared.tag.Tag.TheVariants as tag
+use Rattle.sc_proctype.specs.declared.entity_type.EntityType.{EntityType}
+use Rattle.sc_proctype.specs.Conformance.{conforms, boolean}
+use Rattle.sc_rules.specs.declared.position.Context.{Context}
+use Rattle.sc_rules.specs.declared.position.Context.TheVariants as context
+use Rattle.sc_rules.specs.declared.position.Position.{Position}
+use Rattle.sc_rules.specs.declared.position.Position.TheVariants.{Plain, Condition}
+use Rattle.sc_rules.specs.declared.position.Role.TheVariants as role
+use Rattle.sc_rules.specs.Types.{is_controlled, is_boolean, unary_type, binary_type}
+use Rattle.sc_rules.specs.Positions.{is_old, is_and_then, is_condition, operand_position}
+use Rattle.sc_rules.specs.Names.{RoutineName, RoutineContext, Entity, Entities, entity, test_type, blocks, block_type, locals_known, Signature, named, current, signature_of, qualified_meaning, assignee, assignee_type}
+use Rattle.sc_rules.specs.Typing.{typing, formals_take, HasType, Gives}
+use Rattle.sc_rules.specs.Sites.{instructions, branches}
+use Rattle.sc_rules.specs.SystemLaws.{Stands}
+use Rattle.sc_model.specs.Environments.{is_formal}
+use Rattle.sc_model.specs.Routines.{Text, Routine, place_in}
+use Rattle.sc_model.specs.Olds.{olds_of}
+use Rattle.sc_model.specs.Tasks.{Task, Do, In, Declare, Forget, Eval, ApplyUnary, EvalRight, ApplyBinary, Conclude, Bind, CallUnqualified, CallQualified, AssignTo, Print, Choose, Repeat, EndLoop, Checked, Require, Required, KeepOld, Ensured, CreateBy, Open, Leave}
+
+-- What is known where tasks are left: the text that they stand in, the names, the types of the `old`s that were kept,
+-- and those of the values, the last one first. Behind a condition its value is the last; where that is true the second
+-- names are known, where it is false the first and perhaps more.
+pub data Known : Type 0 where
+  at : Text → Entities → List EntityType → List EntityType → Known
+  after : Text → Entities → Entities → List EntityType → List EntityType → Known
+
+-- the text as the rules of well-formed systems see it
+abbrev pub context_in : System → (RoutineName → Bool) → Text → RoutineContext
+context_in s pure t = record { system = s; class = t.class; formals = t.formals; result = t.result; pure = pure }
+
+-- the second names are the first and others, none of them a formal
+pub record Extends (n m : Entities) : Type 0 where
+  pub more : Entities
+  pub is_longer : m ≡ n ++ more
+  pub no_formals : list_all (λ (e : Entity). not (is_formal e.role)) more ≡ true
+
+-- the `old`s of an expression, of which the first has this number, were kept as values of their types
+abbrev pub OldsKept : System → Text → Entities → ℕ → Expr → List EntityType → Type 0
+OldsKept s t n i e os = (j : ℕ) (a : Expr) → slice_get (olds_of e) j ≡ Some a → (u : EntityType) × (b : Bool) × HasType (place_in s t) context.Old Plain n a (typing (Some u) b) × (slice_get os j ≡ Some u)
+
+-- actuals of these types may be passed to what has the signature
+abbrev pub Takes : System → List EntityType → Signature → Type 0
+Takes s ts g = (formals_take s g.target (map (λ (t : EntityType). Some t) ts) g.formals (map (λ (t : EntityType). Some t) ts) ≡ true) × (length ts ≡ length g.formals)
+
+-- values in the order of the text, on these
+abbrev pub stacked : List EntityType → List EntityType → List EntityType
+stacked [] us = us
+stacked (t ∷ ts) us = stacked ts (t ∷ us)
+
+-- what a call leaves on these values: a value of the type that it gives, if it gives one
+pub data Leaves : Option (Option EntityType) → List EntityType → List EntityType → Type 0 where
+  nothing : {us : List EntityType} → Leaves None us us
+  a_value : {t : EntityType} {us : List EntityType} → Leaves (Some (Some t)) us (t ∷ us)
+
+-- the names of a block with heads of these types, on these names
+pub data Opens : Entities → List Name → List EntityType → Entities → Type 0 where
+  no_more : {n : Entities} → Opens n [] [] n
+  one_more : {n m : Entities} {x : Name} {xs : List Name} {t : EntityType} {ts : List EntityType} →
+      Opens (n ++ entity x.text (block_type (blocks n) (Some t)) role.Block ∷ []) xs ts m → Opens n (x ∷ xs) (t ∷ ts) m
+
+-- an object may be created for an entity of the type, on the current handler or on a new one
+pub data IsMade (s : System) (h : RoutineContext) (t : EntityType) (ts : List EntityType) : Option (List ℕ) → Type 0 where
+  without : {k : ℕ} → t.class ≡ class.Declared k → (t.tag ≡ tag.Own) ⊎ (t.tag ≡ tag.Any) → ts ≡ [] → IsMade s h t ts None
+  by : {k : ℕ} {x : List ℕ} {g : Signature} → t.class ≡ class.Declared k → (t.tag ≡ tag.Own) ⊎ (t.tag ≡ tag.Any) →
+      qualified_meaning h t x ≡ named g → g.gives ≡ None → Takes s ts g → IsMade s h t ts (Some x)
+
+-- an expression that is evaluated to a value of the type
+abbrev pub IsOf : System → Text → Context → Position → Entities → Expr → EntityType → Type 0
+IsOf s t c k n e a = (b : Bool) × HasType (place_in s t) c k n e (typing (Some a) b)
+
+abbrev pub IsBoolean : EntityType → Type 0
+IsBoolean a = is_boolean a.class ≡ true
+
+pub data IsTyped (s : System) (pure : RoutineName → Bool) (r : Routine) : List Task → Known → Type 0 where
+  -- texts, bodies and names
+  done : {n : Entities} {os : List EntityType} → IsTyped s pure r [] (at r.contract n os [])
+  in_text : {k : List Task} {t u : Text} {n : Entities} {os : List EntityType} → (u ≡ r.text) ⊎ (u ≡ r.contract) →
+      IsTyped s pure r k (at u n os []) → IsTyped s pure r (In u ∷ k) (at t n os [])
+  body : {k : List Task} {n : Entities} {os : List EntityType} {is : Instrs} →
+      Stands s pure (context_in s pure r.text) (instructions n is) → IsTyped s pure r k (at r.text n os []) →
+      IsTyped s pure r (Do is ∷ k) (at r.text n os [])
+  declare : {k : List Task} {n : Entities} {os : List EntityType} {ls : List Declaration} →
+      IsTyped s pure r k (at r.text (n ++ locals_known s r.text.formals ls) os []) →
+      IsTyped s pure r (Declare ls ∷ k) (at r.text n os [])
+  forget : {k : List Task} {t : Text} {n m : Entities} {os : List EntityType} {d : ℕ} → d ≡ length n → Extends n m →
+      IsTyped s pure r k (at t n os []) → IsTyped s pure r (Forget d ∷ k) (at t m os [])
+  -- expressions
+  eval : {k : List Task} {t : Text} {n : Entities} {os vs : List EntityType} {i : ℕ} {e : Expr} {a : EntityType} (c : Context) (q : Position) →
+      is_condition q ≡ false → IsOf s t c q n e a → OldsKept s t n i e os → IsTyped s pure r k (at t n os (a ∷ vs)) →
+      IsTyped s pure r (Eval i e ∷ k) (at t n os vs)
+  condition : {k : List Task} {t : Text} {n m : Entities} {os vs : List EntityType} {i : ℕ} {e : Expr} {a : EntityType} (c : Context) →
+      IsOf s t c Condition n e a → IsBoolean a → Gives (place_in s t) c n e m → IsTyped s pure r k (after t n m os vs) →
+      IsTyped s pure r (Eval i e ∷ k) (at t n os vs)
+  apply_unary : {k : List Task} {t : Text} {n : Entities} {os vs : List EntityType} {op : UnaryOperator} {a b : EntityType} →
+      is_old op ≡ false → unary_type op a ≡ Some b → IsTyped s pure r k (at t n os (b ∷ vs)) →
+      IsTyped s pure r (ApplyUnary op ∷ k) (at t n os (a ∷ vs))
+  eval_right : {k : List Task} {t : Text} {n : Entities} {os vs : List EntityType} {op : BinaryOperator} {i : ℕ} {e : Expr} {a b u : EntityType} (c : Context) →
+      IsOf s t c (operand_position op) n e b → OldsKept s t n i e os → binary_type op a b ≡ Some u →
+      IsTyped s pure r k (at t n os (u ∷ vs)) → IsTyped s pure r (EvalRight op i e ∷ k) (at t n os (a ∷ vs))
+  right_condition : {k : List Task} {t : Text} {n m o : Entities} {os vs : List EntityType} {op : BinaryOperator} {i : ℕ} {e : Expr} {a : EntityType} (c : Context) →
+      is_and_then op ≡ true → IsOf s t c Condition m e a → IsBoolean a → Gives (place_in s t) c m e o → Extends n m →
+      IsTyped s pure r k (after t n o os vs) → IsTyped s pure r (EvalRight op i e ∷ k) (after t n m os vs)
+  apply_binary : {k : List Task} {t : Text} {n : Entities} {os vs : List EntityType} {op : BinaryOperator} {a b u : EntityType} →
+      binary_type op a b ≡ Some u → IsTyped s pure r k (at t n os (u ∷ vs)) → IsTyped s pure r (ApplyBinary op ∷ k) (at t n os (b ∷ a ∷ vs))
+  conclude : {k : List Task} {t : Text} {n : Entities} {os vs : List EntityType} {a : EntityType} → IsBoolean a →
+      IsTyped s pure r k (at t n os (boolean ∷ vs)) → IsTyped s pure r (Conclude ∷ k) (at t n os (a ∷ vs))
+  conclude_condition : {k : List Task} {t : Text} {n m o : Entities} {os vs : List EntityType} → Extends n m →
+      IsTyped s pure r k (after t n o os vs) → IsTyped s pure r (Conclude ∷ k) (after t m o os vs)
+  bind : {k : List Task} {t : Text} {n o : Entities} {os vs : List EntityType} {d : Option DeclaredType} {x : List ℕ} {a b : EntityType} →
+      test_type (place_in s t) d (Some a) ≡ Some b → Extends o n → IsTyped s pure r k (after t o (n ++ entity x (Some b) role.Test ∷ []) os vs) →
+      IsTyped s pure r (Bind d x ∷ k) (at t n os (a ∷ vs))
+  call_unqualified : {k : List Task} {t : Text} {n : Entities} {os vs us ws : List EntityType} (ts : List EntityType) {x : List ℕ} {i : ℕ} {f : DeclaredFeature} →
+      feature_named s (class.Declared t.class) x ≡ Some f → Takes s ts (signature_of s (current (place_in s t)) f) → i ≡ length ts →
+      vs ≡ stacked ts us → Leaves (signature_of s (current (place_in s t)) f).gives us ws → IsTyped s pure r k (at t n os ws) →
+      IsTyped s pure r (CallUnqualified x i ∷ k) (at t n os vs)
+  call_qualified : {k : List Task} {t : Text} {n : Entities} {os vs us ws : List EntityType} (ts : List EntityType) (a : EntityType) {x : List ℕ} {i : ℕ} {f : DeclaredFeature} →
+      is_controlled a ≡ true → feature_named s a.class x ≡ Some f → Takes s ts (signature_of s a f) → i ≡ length ts →
+      vs ≡ stacked ts (a ∷ us) → Leaves (signature_of s a f).gives us ws → IsTyped s pure r k (at t n os ws) →
+      IsTyped s pure r (CallQualified x i ∷ k) (at t n os vs)
+  -- instructions
+  assign : {k : List Task} {n : Entities} {os : List EntityType} {v : Variable} {a u : EntityType} →
+      assignee_type (assignee (place_in s r.text) n v) ≡ Some u → conforms s a u ≡ true → IsTyped s pure r k (at r.text n os []) →
+      IsTyped s pure r (AssignTo v ∷ k) (at r.text n os (a ∷ []))
+  print : {k : List Task} {n : Entities} {os : List EntityType} {a : EntityType} → is_expanded a.class ≡ true →
+      IsTyped s pure r k (at r.text n os []) → IsTyped s pure r (Print ∷ k) (at r.text n os (a ∷ []))
+  choose : {k : List Task} {n m : Entities} {os : List EntityType} {d : ℕ} {is other : Instrs} {bs : Branches} → d ≡ length n → Extends n m →
+      Stands s pure (context_in s pure r.text) (instructions m is) → Stands s pure (context_in s pure r.text) (branches n bs) →
+      Stands s pure (context_in s pure r.text) (instructions n other) → IsTyped s pure r k (at r.text n os []) →
+      IsTyped s pure r (Choose d is bs other ∷ k) (after r.text n m os [])
+  repeat : {k : List Task} {n : Entities} {os : List EntityType} {e : Expr} {a : EntityType} {is : Instrs} →
+      IsOf s r.text context.Body Plain n e a → IsBoolean a → Stands s pure (context_in s pure r.text) (instructions n is) →
+      IsTyped s pure r k (at r.text n os []) → IsTyped s pure r (Repeat e is ∷ k) (at r.text n os [])
+  end_loop : {k : List Task} {n : Entities} {os : List EntityType} {e : Expr} {a b : EntityType} {is : Instrs} → IsBoolean b →
+      IsOf s r.text context.Body Plain n e a → IsBoolean a → Stands s pure (context_in s pure r.text) (instructions n is) →
+      IsTyped s pure r k (at r.text n os []) → IsTyped s pure r (EndLoop e is ∷ k) (at r.text n os (b ∷ []))
+  create : {k : List Task} {n : Entities} {os vs : List EntityType} (ts : List EntityType) {v : Variable} {x : Option (List ℕ)} {i : ℕ} {u : EntityType} →
+      assignee_type (assignee (place_in s r.text) n v) ≡ Some u → IsMade s (place_in s r.text) u ts x → i ≡ length ts → vs ≡ stacked ts [] →
+      IsTyped s pure r k (at r.text n os []) → IsTyped s pure r (CreateBy v x i ∷ k) (at r.text n os vs)
+  open_block : {k : List Task} {n m : Entities} {os vs : List EntityType} (ts : List EntityType) {xs : List Name} {is : Instrs} → Opens n xs ts m →
+      list_all (λ (t : EntityType). t.attached) ts ≡ true → Stands s pure (context_in s pure r.text) (instructions m is) →
+      vs ≡ stacked ts [] → IsTyped s pure r k (at r.text n os []) → IsTyped s pure r (Open xs is ∷ k) (at r.text n os vs)
+  leave_block : {k : List Task} {n m : Entities} {os : List EntityType} {d : ℕ} → d ≡ length n → Extends n m →
+      IsTyped s pure r k (at r.text n os []) → IsTyped s pure r (Leave d ∷ k) (at r.text m os [])
+  -- contracts
+  checked : {k : List Task} {t : Text} {n : Entities} {os : List EntityType} {a : EntityType} → IsBoolean a →
+      IsTyped s pure r k (at t n os []) → IsTyped s pure r (Checked ∷ k) (at t n os (a ∷ []))
+  require : {k : List Task} {n : Entities} {os : List EntityType} {ks : List Clause} →
+      ((q : Clause) → Contains ks q → (a : EntityType) × IsOf s r.contract context.Require Plain n q.condition a × IsBoolean a) →
+      IsTyped s pure r k (at r.contract n os []) → IsTyped s pure r (Require ks ∷ k) (at r.contract n os [])
+  required : {k : List Task} {n : Entities} {os : List EntityType} {q : Clause} {a : EntityType} → IsBoolean a →
+      IsTyped s pure r k (at r.contract n os []) → IsTyped s pure r (Required q ∷ k) (at r.contract n os (a ∷ []))
+  keep_old : {k : List Task} {n : Entities} {os : List EntityType} {a : EntityType} →
+      IsTyped s pure r k (at r.contract n (os ++ a ∷ []) []) → IsTyped s pure r (KeepOld ∷ k) (at r.contract n os (a ∷ []))
+  ensured : {k : List Task} {n : Entities} {os : List EntityType} {a : EntityType} → IsBoolean a →
+      IsTyped s pure r k (at r.contract n os []) → IsTyped s pure r (Ensured ∷ k) (at r.contract n os (a ∷ []))
+  -- the value of any expression is that of a condition that gives no names
+  settled_choice : {k : List Task} {t : Text} {n m : Entities} {os vs : List EntityType} {a : EntityType} {d : ℕ} {is other : Instrs} {bs : Branches} → IsBoolean a →
+      Extends n m → IsTyped s pure r (Choose d is bs other ∷ k) (after t n m os vs) → IsTyped s pure r (Choose d is bs other ∷ k) (at t m os (a ∷ vs))
+  settled_right : {k : List Task} {t : Text} {n m : Entities} {os vs : List EntityType} {a : EntityType} {op : BinaryOperator} {i : ℕ} {e : Expr} → IsBoolean a →
+      Extends n m → IsTyped s pure r (EvalRight op i e ∷ k) (after t n m os vs) → IsTyped s pure r (EvalRight op i e ∷ k) (at t m os (a ∷ vs))
+  settled_conclusion : {k : List Task} {t : Text} {n m : Entities} {os vs : List EntityType} {a : EntityType} → IsBoolean a →
+      Extends n m → IsTyped s pure r (Conclude ∷ k) (after t n m os vs) → IsTyped s pure r (Conclude ∷ k) (at t m os (a ∷ vs))
