@@ -9,7 +9,8 @@ use Rattle.sc_rules.specs.SystemRules.{ClassFails}
 
 -- No rule fails in the text of any class, where the test says which functions contracts and `check` may call.
 abbrev pub NoRuleFails : System → (RoutineName → Bool) → Type 0
-NoRuleFails s pure = (k : ℕ) (c : Class) (r : Rule) (p : Span) → slice_get s.classes k ≡ Some c → ClassFails s pure k c r p → ⊥
+NoRuleFails s pure =
+    (k : ℕ) (c : Class) (r : Rule) (p : Span) → slice_get s.classes k ≡ Some c → ClassFails s pure k c r p → ⊥
 
 -- A test tells the pure functions of the system from its other features, and no rule fails where this test is asked.
 pub record IsChecked (s : System) : Type 0 where

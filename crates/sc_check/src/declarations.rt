@@ -104,7 +104,8 @@ impl<'t, 's> ClassText<'t, 's> {
         formals: &'s [Declaration],
         declared: &Option<DeclaredType>,
     ) -> RoutineContext<'t, 's>
-        ensures { routine_in result ≡ spec.routine_context (system_in self.now.tables.now) (is_marked self.now.purity.now) self.now.class (map declaration_of formals.now) (type_if_any declared.now) }
+        ensures { routine_in result
+            ≡ spec.routine_context (system_in self.now.tables.now) (is_marked self.now.purity.now) self.now.class (map declaration_of formals.now) (type_if_any declared.now) }
     {
         RoutineContext {
             alloc: self.alloc,

@@ -3,25 +3,26 @@ use Rattle.std.proofs.Common.{◌≡◌, ◌<◌, ◌≤◌, ◌+◌, ℕ, Bool,
 use Rattle.std.specs.Prelude.{Any, nat_lt, slice_get}
 use Rattle.std.specs.Option.{option_map_or}
 use Rattle.std.proofs.lemmas.Option.{slice_get_within}
-use Rattle.std.proofs.lemmas.List.{length-map}
+use Rattle.std.proofs.lemmas.List.{length-map, append-nil}
 use Rattle.sc_text.specs.declared.token.Span.{Span}
 use Rattle.sc_tree.specs.declared.system.Class as tree_class
 use Rattle.sc_tree.specs.Plain.{System, Class, Feature, Name}
 use Rattle.sc_tree.specs.View.{class_of}
-use Rattle.sc_class.specs.Internal.Found.{Finds, FindsFirstPlace, first_place}
+use Rattle.sc_class.specs.Internal.Found.{FindsFirstPlace, first_place}
 use Rattle.sc_class.specs.Internal.FaultAt.{FaultAt, FaultBefore}
-use Rattle.sc_class.specs.Names.{IsLikeOne, OneClashes}
+use Rattle.sc_class.specs.Names.{OneClashes}
 use Rattle.sc_class.specs.Tables.Features.{redefined_by, redefined_names, not_redefined, inherited_features, features}
-use Rattle.sc_class.specs.Faults.Scopes.{ClassClashes, declared_clash, inherited_clash, in_routine, in_invariant, InheritedClashes, like_inherited, RoutineClashes, ClausesClash, feature_names}
-use Rattle.sc_class.specs.Internal.InheritedClash.{IsLikeInherited, names_clash}
-use Rattle.sc_class.proofs.Finding.{finds_same, first_same, first_either}
+use Rattle.sc_class.specs.Faults.Scopes.{ClassClashes, in_features, in_routine, in_invariant, inherited_names, RoutineClashes, ClausesClash, feature_names}
+use Rattle.sc_class.specs.declared.faults.scopes.features.Part.TheVariants.{Inherited}
+use Rattle.sc_class.specs.Internal.ScopeSearch.{names_of_part, names_clash}
+use Rattle.sc_class.proofs.Finding.{first_same, first_either}
 use Rattle.sc_class.proofs.Items.{some_is, item_in}
-use Rattle.sc_class.proofs.ClashLemmas.{either, names_found}
+use Rattle.sc_class.proofs.ScopesFound.{names_found}
 
 no_faults_before : (s : System) (P : ℕ → Class → Span → Type 0) (p : Span) → FaultBefore s P 0 p → ⊥
 no_faults_before s P p (k, c, l, e, y) = absurd (omega arith)
 
-pub begins_at : (s : System) (P : ℕ → Class → Span → Type 0) → Finds (FaultBefore s P 0) None
+pub begins_at : (s : System) (P : ℕ → Class → Span → Type 0) → FindsFirstPlace (FaultBefore s P 0) None
 begins_at s P = no_faults_before s P
 
 module _ (s : System) (cs : List tree_class.Class) (all : map class_of cs ≡ s.classes) (P : ℕ → Class → Span → Type 0) where
@@ -48,10 +49,6 @@ module _ (s : System) (cs : List tree_class.Class) (all : map class_of cs ≡ s.
     parts : (p : Span) → FaultBefore s P (n + 1) p → FaultBefore s P n p ⊎ P n (class_of x) p
     parts p (k, c, l, e, y) = parts_at k c e y (below_or k l (nat_lt k n) refl)
 
-    pub one_more_at : (found o next : Option Span) → Finds (FaultBefore s P n) found → Finds (P n (class_of x)) o → next ≡ first_place found o → Finds (FaultBefore s P (n + 1)) next
-    one_more_at found o next h i e =
-        subst (Finds (FaultBefore s P (n + 1))) (sym e) (either {P = FaultBefore s P n} {Q = P n (class_of x)} {R = FaultBefore s P (n + 1)} found o before one_there parts h i)
-
     pub first_of_more_at : (found o next : Option Span) → FindsFirstPlace (FaultBefore s P n) found → FindsFirstPlace (P n (class_of x)) o → next ≡ first_place found o → FindsFirstPlace (FaultBefore s P (n + 1)) next
     first_of_more_at found o next h i e =
         subst (FindsFirstPlace (FaultBefore s P (n + 1))) (sym e)
@@ -63,9 +60,6 @@ module _ (s : System) (cs : List tree_class.Class) (all : map class_of cs ≡ s.
   within : (n : ℕ) → length cs ≤ n → (p : Span) → FaultAt s P p → FaultBefore s P n p
   within n l p (k, c, e, y) = let m = slice_get_within s.classes k c e in (k, c, omega (arith, m, l, ap length all, length-map cs class_of), e, y)
 
-  pub all_seen_at : (n : ℕ) (found : Option Span) → length cs ≤ n → Finds (FaultBefore s P n) found → Finds (FaultAt s P) found
-  all_seen_at n found l h = finds_same {P = FaultBefore s P n} {Q = FaultAt s P} found (some_before n) (within n l) h
-
   pub first_of_all_at : (n : ℕ) (found : Option Span) → length cs ≤ n → FindsFirstPlace (FaultBefore s P n) found → FindsFirstPlace (FaultAt s P) found
   first_of_all_at n found l h = first_same (λ (p : Span). p.start) {P = FaultBefore s P n} {Q = FaultAt s P} found (some_before n) (within n l) h
 
@@ -75,35 +69,31 @@ module _ (s : System) (k : ℕ) (c : Class) (is_class : slice_get s.classes k �
   names_are : redefined_names s k ≡ redefined_by c
   names_are = ap (λ (o : Option Class). option_map_or redefined_by o []) is_class
 
-  like_one : (p : Span) → Any (λ (f : Feature). IsLikeInherited s k f p) c.features → InheritedClashes s k c p
-  like_one p (i, f, l, e, y) =
-      like_inherited (i, l, e) (subst (λ (ns : List Name). IsLikeOne (feature_names (not_redefined ns (inherited_features s k))) f.name p) names_are y)
-
-  one_like : (p : Span) → InheritedClashes s k c p → Any (λ (f : Feature). IsLikeInherited s k f p) c.features
-  one_like p (like_inherited {f = f} (i, l, e) y) = (i, f, l, e, subst (λ (ns : List Name). IsLikeOne (feature_names (not_redefined ns (inherited_features s k))) f.name p) (sym names_are) y)
-
   -- in one of its own routines, or in its invariant
   abbrev InTexts : Span → Type 0
   InTexts p = Any (λ (f : Feature). RoutineClashes (feature_names (features s k)) f.kind p) c.features ⊎ ClausesClash (feature_names (features s k)) c.invariant p
 
-  pub class_found : (a b d e : Option Span) → a ≡ names_clash [] (map (λ (f : Feature). f.name) c.features) → Finds (λ p. Any (λ f. IsLikeInherited s k f p) c.features) b →
-      Finds (λ p. Any (λ f. RoutineClashes (feature_names (features s k)) f.kind p) c.features) d → Finds (ClausesClash (feature_names (features s k)) c.invariant) e →
-      (de bd all : Option Span) → de ≡ first_place d e → bd ≡ first_place b de → all ≡ first_place a bd → Finds (ClassClashes s k c) all
-  class_found a b d e declared f h v de bd all i j l =
-      subst (Finds (ClassClashes s k c)) (sym (l ∙ ap (first_place a) (j ∙ ap (first_place b) i)))
-      (either {P = OneClashes [] (map (λ (f : Feature). f.name) c.features)} {Q = λ p. InheritedClashes s k c p ⊎ InTexts p} {R = ClassClashes s k c} a (first_place b (first_place d e))
-      (λ p. declared_clash) (λ p. within) (λ p. parts) (subst (Finds (OneClashes [] (map (λ (f : Feature). f.name) c.features))) (sym declared) (names_found [] (map (λ (f : Feature). f.name) c.features)))
-      (either {P = InheritedClashes s k c} {Q = InTexts} b (first_place d e) (λ p. inl) (λ p. inr) (λ p y. y) (finds_same b like_one one_like f)
-      (either {P = λ p. Any (λ (f : Feature). RoutineClashes (feature_names (features s k)) f.kind p) c.features} {Q = ClausesClash (feature_names (features s k)) c.invariant} {R = InTexts} d e
-      (λ p. inl) (λ p. inr) (λ p y. y) h v)))
-    where
-      within : {p : Span} → InheritedClashes s k c p ⊎ InTexts p → ClassClashes s k c p
-      within (inl y) = inherited_clash y
-      within (inr (inl y)) = in_routine y
-      within (inr (inr y)) = in_invariant y
+  features_found : FindsFirstPlace (OneClashes (inherited_names s k c) (map (λ (f : Feature). f.name) c.features)) (names_clash (names_of_part Inherited s k) [] (map (λ (f : Feature). f.name) c.features))
+  features_found =
+      subst (λ known. FindsFirstPlace (OneClashes known (map (λ (f : Feature). f.name) c.features)) (names_clash (names_of_part Inherited s k) [] (map (λ (f : Feature). f.name) c.features)))
+      (append-nil (names_of_part Inherited s k) ∙ ap (λ (ns : List Name). feature_names (not_redefined ns (inherited_features s k))) names_are)
+      (names_found (names_of_part Inherited s k) [] (map (λ (f : Feature). f.name) c.features))
 
-      parts : {p : Span} → ClassClashes s k c p → OneClashes [] (map (λ (f : Feature). f.name) c.features) p ⊎ (InheritedClashes s k c p ⊎ InTexts p)
-      parts (declared_clash y) = inl y
-      parts (inherited_clash y) = inr (inl y)
-      parts (in_routine y) = inr (inr (inl y))
-      parts (in_invariant y) = inr (inr (inr y))
+  pub class_found : (a d e : Option Span) → a ≡ names_clash (names_of_part Inherited s k) [] (map (λ (f : Feature). f.name) c.features) →
+      FindsFirstPlace (λ p. Any (λ f. RoutineClashes (feature_names (features s k)) f.kind p) c.features) d → FindsFirstPlace (ClausesClash (feature_names (features s k)) c.invariant) e →
+      (de all : Option Span) → de ≡ first_place d e → all ≡ first_place a de → FindsFirstPlace (ClassClashes s k c) all
+  class_found a d e declared h v de all i j =
+      subst (FindsFirstPlace (ClassClashes s k c)) (sym (j ∙ ap (first_place a) i))
+      (first_either (λ (p : Span). p.start) {P = OneClashes (inherited_names s k c) (map (λ (f : Feature). f.name) c.features)} {Q = InTexts} {R = ClassClashes s k c} a (first_place d e)
+      (λ p. in_features) (λ p. within) (λ p. parts) (subst (FindsFirstPlace (OneClashes (inherited_names s k c) (map (λ (f : Feature). f.name) c.features))) (sym declared) features_found)
+      (first_either (λ (p : Span). p.start) {P = λ p. Any (λ (f : Feature). RoutineClashes (feature_names (features s k)) f.kind p) c.features} {Q = ClausesClash (feature_names (features s k)) c.invariant} {R = InTexts} d e
+      (λ p. inl) (λ p. inr) (λ p y. y) h v))
+    where
+      within : {p : Span} → InTexts p → ClassClashes s k c p
+      within (inl y) = in_routine y
+      within (inr y) = in_invariant y
+
+      parts : {p : Span} → ClassClashes s k c p → OneClashes (inherited_names s k c) (map (λ (f : Feature). f.name) c.features) p ⊎ InTexts p
+      parts (in_features y) = inl y
+      parts (in_routine y) = inr (inl y)
+      parts (in_invariant y) = inr (inr y)

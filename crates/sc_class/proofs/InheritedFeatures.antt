@@ -1,10 +1,10 @@
--- The features of a class by its parent's.
+-- The features of a class by its parent's, and its joined invariant.
 use Rattle.std.proofs.Common.{◌≡◌, ℕ, zero, suc, List, [], ◌∷◌, Option, None, length, refl, ap, ◌∙◌, arith}
 use Rattle.std.proofs.lemmas.List.{append-nil}
 use Rattle.sc_tree.specs.Plain.{System, Class}
 use Rattle.sc_class.specs.Tables.Ancestors.{parent_number, ancestors_within, ancestors_from}
-use Rattle.sc_class.specs.Tables.Features.{features_along, declared_features}
-use Rattle.sc_class.specs.Tables.Heirs.{FeaturesInherited, FeaturesDeclared}
+use Rattle.sc_class.specs.Tables.Features.{features_along, declared_features, invariant_along}
+use Rattle.sc_class.specs.Tables.Heirs.{FeaturesInherited, FeaturesDeclared, InvariantsJoined}
 use Rattle.sc_class.proofs.Acyclic.{ancestors_climb}
 
 pub features_inherited : FeaturesInherited
@@ -21,3 +21,6 @@ alone s k (suc n) l e = ap (λ (o : Option ℕ). features_along s (k ∷ ancesto
 
 pub features_declared : FeaturesDeclared
 features_declared s k e = alone s k (length s.classes) refl e
+
+pub invariants_joined : InvariantsJoined
+invariants_joined s root w k i e = ap (invariant_along s) (ancestors_climb s root w k i e)

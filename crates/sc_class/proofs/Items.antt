@@ -1,5 +1,5 @@
 -- What holds of each item of a list, as a loop goes over the list in memory.
-use Rattle.std.proofs.Common.{◌≡◌, ◌<◌, ◌≤◌, ◌+◌, ℕ, List, Some, length, get_or, map, refl, ap, sym, subst, ◌∙◌, arith, below_more}
+use Rattle.std.proofs.Common.{◌≡◌, ◌<◌, ◌≤◌, ◌+◌, ℕ, zero, suc, List, [], ◌∷◌, ◌++◌, Some, length, get_or, map, refl, ap, sym, subst, ◌∙◌, arith, below_more}
 use Rattle.std.specs.Prelude.{Contains, slice_get}
 use Rattle.std.specs.Option.{option_map}
 use Rattle.std.proofs.lemmas.Option.{slice_get-map, slice_get_read, slice_get_within, get_or_from_slice_get}
@@ -26,3 +26,17 @@ contains_at xs i x e = (i, slice_get_within xs i x e, get_or_from_slice_get xs i
 
 pub contained_at : {A : Type 0} (xs : List A) (x : A) → Contains xs x → (i : ℕ) × (slice_get xs i ≡ Some x)
 contained_at xs x (i, l, e) = (i, slice_get_read xs (length xs) i x refl l (sym e))
+
+-- ---- a list with one more item
+
+pub read_append : {A : Type 0} (xs : List A) (x : A) (k : ℕ) → k < length xs → slice_get (xs ++ x ∷ []) k ≡ slice_get xs k
+read_append [] x k l = absurd (omega arith)
+read_append (y ∷ xs) x zero l = refl
+read_append (y ∷ xs) x (suc k) l = read_append xs x k (less l)
+  where
+    less : suc k < suc (length xs) → k < length xs
+    less l = omega arith
+
+pub read_last : {A : Type 0} (xs : List A) (x : A) → slice_get (xs ++ x ∷ []) (length xs) ≡ Some x
+read_last [] x = refl
+read_last (y ∷ xs) x = read_last xs x

@@ -4,6 +4,7 @@ use Rattle.std.specs.Prelude.{bytes_eq, slice_get}
 use Rattle.std.specs.Option.{option_map, option_and_then}
 use Rattle.std.proofs.lemmas.List.{length-append}
 use Rattle.std.proofs.lemmas.Option.{slice_get-map, slice_get_within}
+use Rattle.sc_text.specs.declared.token.Span.{Span}
 use Rattle.sc_tree.specs.Plain.{System}
 use Rattle.sc_class.specs.declared.class_tables.feature_entry.FeatureEntry.{FeatureEntry}
 use Rattle.sc_class.specs.declared.class_tables.known_features.KnownFeatures.{KnownFeatures}
@@ -11,8 +12,8 @@ use Rattle.sc_class.specs.Names.{number_among}
 use Rattle.sc_class.specs.Tables.Features.{DeclaredFeature, features, declared_features, named_among}
 use Rattle.sc_class.specs.Faults.Scopes.{feature_names}
 use Rattle.sc_class.specs.View.{entry_of}
-use Rattle.sc_class.specs.Internal.KnownFeatures.{entries_of, class_of_first, declarer_known, declarer}
-use Rattle.sc_class.proofs.TableLemmas.{read_append, read_last}
+use Rattle.sc_class.specs.Internal.KnownFeatures.{entries_of, class_of_first, declarer_known, declarer, place_of_name, place_known, place_in}
+use Rattle.sc_class.proofs.Items.{read_append, read_last}
 use Rattle.sc_class.proofs.Standing.{found_stands}
 
 -- ---- by number
@@ -38,19 +39,26 @@ module _ (x : List ℕ) (es : List FeatureEntry) (o : Option ℕ) (e : o ≡ num
 
 -- ---- one class more
 
-pub known_more : (s : System) (ts ts' : List KnownFeatures) (t : KnownFeatures) (n : ℕ) → entries_of t ≡ features s n → ts' ≡ ts ++ t ∷ [] →
-    (length ts ≡ n) × ((k : ℕ) → k < n → (x : List ℕ) → declarer_known ts k x ≡ declarer s k x) → (length ts' ≡ n + 1) × ((k : ℕ) → k < n + 1 → (x : List ℕ) → declarer_known ts' k x ≡ declarer s k x)
-known_more s ts ts' t n e f (l, below) = (ap length f ∙ length-append ts (t ∷ []) ∙ ap (λ k. k + 1) l, below_more (λ k. (x : List ℕ) → declarer_known ts' k x ≡ declarer s k x) n before here)
-  where
-    before : (k : ℕ) → k < n → (x : List ℕ) → declarer_known ts' k x ≡ declarer s k x
-    before k m x =
-        let m' : k < length ts = omega (arith, l, m) in
-        ap (λ (us : List KnownFeatures). declarer_known us k x) f ∙ ap (λ (o : Option KnownFeatures). option_and_then (λ (t : KnownFeatures). class_of_first x (entries_of t)) o) (read_append ts t k m') ∙ below k m x
+-- what is asked of the features of a class by name is what is asked of those that are known of it
+abbrev pub Tells : {X : Type 0} → (List ℕ → List DeclaredFeature → Option X) → System → List KnownFeatures → ℕ → Type 0
+Tells g s ts n = (k : ℕ) → k < n → (x : List ℕ) → option_and_then (λ t. g x (entries_of t)) (slice_get ts k) ≡ g x (features s k)
 
-    here : (x : List ℕ) → declarer_known ts' n x ≡ declarer s n x
-    here x =
-        ap (λ (us : List KnownFeatures). declarer_known us n x) f
-        ∙ ap (λ (o : Option KnownFeatures). option_and_then (λ (t : KnownFeatures). class_of_first x (entries_of t)) o) (ap (slice_get (ts ++ t ∷ [])) (sym l) ∙ read_last ts t) ∙ ap (class_of_first x) e
+module _ {X : Type 0} (g : List ℕ → List DeclaredFeature → Option X) (s : System) (ts ts' : List KnownFeatures) (t : KnownFeatures) (n : ℕ) (e : entries_of t ≡ features s n) (f : ts' ≡ ts ++ t ∷ []) (l : length ts ≡ n) where
+  pub known_more : Tells g s ts n → Tells g s ts' (n + 1)
+  known_more below = below_more (λ k. (x : List ℕ) → option_and_then (λ t. g x (entries_of t)) (slice_get ts' k) ≡ g x (features s k)) n before here
+    where
+      before : (k : ℕ) → k < n → (x : List ℕ) → option_and_then (λ t. g x (entries_of t)) (slice_get ts' k) ≡ g x (features s k)
+      before k m x =
+          let m' : k < length ts = omega (arith, l, m) in
+          ap (λ (us : List KnownFeatures). option_and_then (λ t. g x (entries_of t)) (slice_get us k)) f ∙ ap (λ (o : Option KnownFeatures). option_and_then (λ (t : KnownFeatures). g x (entries_of t)) o) (read_append ts t k m') ∙ below k m x
+
+      here : (x : List ℕ) → option_and_then (λ t. g x (entries_of t)) (slice_get ts' n) ≡ g x (features s n)
+      here x =
+          ap (λ (us : List KnownFeatures). option_and_then (λ t. g x (entries_of t)) (slice_get us n)) f
+          ∙ ap (λ (o : Option KnownFeatures). option_and_then (λ (t : KnownFeatures). g x (entries_of t)) o) (ap (slice_get (ts ++ t ∷ [])) (sym l) ∙ read_last ts t) ∙ ap (g x) e
+
+  pub as_many : length ts' ≡ n + 1
+  as_many = ap length f ∙ length-append ts (t ∷ []) ∙ ap (λ k. k + 1) l
 
 -- ---- by the class that declares it
 
@@ -74,3 +82,7 @@ pub known_at : (s : System) (ts : List KnownFeatures) → ((k : ℕ) → k < len
 known_at s ts are k t e x o f =
     ap (option_map (λ (f : DeclaredFeature). f.class)) f ∙ sym (ap (λ (o : Option KnownFeatures). option_and_then (λ (t : KnownFeatures). class_of_first x (entries_of t)) o) e)
     ∙ are k (slice_get_within ts k t e) x
+
+pub placed_at : (s : System) (ts : List KnownFeatures) → ((k : ℕ) → k < length ts → (x : List ℕ) → place_known ts k x ≡ place_in s k x) → (k : ℕ) (t : KnownFeatures) → slice_get ts k ≡ Some t →
+    (x : List ℕ) (o : Option Span) → o ≡ place_of_name x (entries_of t) → o ≡ place_in s k x
+placed_at s ts are k t e x o f = f ∙ sym (ap (λ (o : Option KnownFeatures). option_and_then (λ (t : KnownFeatures). place_of_name x (entries_of t)) o) e) ∙ are k (slice_get_within ts k t e) x

@@ -1,3 +1,4 @@
+pub mod Places
 pub mod NameLemmas
 pub mod Anys
 pub mod Finding
@@ -6,7 +7,6 @@ pub mod LeftOutLemmas
 pub mod Items
 pub mod CycleLemmas
 pub mod AncestorLemmas
-pub mod ClashLemmas
 pub mod FeatureLemmas
 pub mod RedefinitionLemmas
 pub mod FaultLemmas
@@ -22,4 +22,5 @@ pub mod Standing
 pub mod Heirs
 pub mod Origins
 mod InheritedFeatures
+mod Apart
 pub mod KnownLemmas

@@ -1,7 +1,5 @@
 -- What the functions of `specs/Internal/ScopeSearch` give at each exit of the code that follows them.
-use Rattle.std.proofs.Common.{◌≡◌, ◌<◌, ◌≤◌, ◌+◌, ℕ, Bool, true, false, List, [], ◌∷◌, ◌++◌, length, get_or, drop, map, Option, Some, None, refl, ap, sym, ◌∙◌, arith}
-use Rattle.std.specs.Prelude.{nat_lt, if◌then◌else◌}
-use Rattle.std.proofs.lemmas.Bool.Decides.{nat_tests}
+use Rattle.std.proofs.Common.{◌≡◌, ◌<◌, ◌≤◌, ◌+◌, ℕ, List, [], ◌∷◌, ◌++◌, length, get_or, drop, map, Option, None, ap, sym, ◌∙◌}
 use Rattle.std.proofs.lemmas.List.{append_assoc, append-nil}
 use Rattle.std.specs.declared.vec.Vec.{Vec}
 use Rattle.std.specs.declared.alloc.Global.{Global}
@@ -20,30 +18,7 @@ use Rattle.sc_class.specs.Internal.Found.{first_place}
 use Rattle.sc_class.specs.Faults.Scopes.{tests_of, head_names}
 use Rattle.sc_class.specs.Internal.ScopeSearch.{name_clash, names_clash, expr_clash, target_clash, exprs_clash, condition_clash, values_clash, instr_clash, instrs_clash, branches_clash}
 use Rattle.sc_class.proofs.Anys.{at, drop_end}
-
--- ---- the earliest of several places
-
-pub first_place-none : (a : Option Span) → first_place a None ≡ a
-first_place-none None = refl
-first_place-none (Some p) = refl
-
-abbrev picked : Bool → Span → Span → Option Span
-picked b p q = if b then Some q else Some p
-
-three : (p q r : Span) (a b c : Bool) → nat_lt q.start p.start ≡ a → nat_lt r.start q.start ≡ b → nat_lt r.start p.start ≡ c →
-    first_place (picked a p q) (Some r) ≡ first_place (Some p) (picked b q r)
-three p q r true true true i j k = ap (λ x. picked x q r) j ∙ sym (ap (λ x. picked x p r) k)
-three p q r true true false i j k = absurd (grind (arith, nat_tests))
-three p q r true false c i j k = ap (λ x. picked x q r) j ∙ sym (ap (λ x. picked x p q) i)
-three p q r false true c i j k = refl
-three p q r false false true i j k = absurd (grind (arith, nat_tests))
-three p q r false false false i j k = ap (λ x. picked x p r) k ∙ sym (ap (λ x. picked x p q) i)
-
-pub first_place-assoc : (a b c : Option Span) → first_place (first_place a b) c ≡ first_place a (first_place b c)
-first_place-assoc None b c = refl
-first_place-assoc (Some p) None c = refl
-first_place-assoc (Some p) (Some q) None = first_place-none (first_place (Some p) (Some q))
-first_place-assoc (Some p) (Some q) (Some r) = three p q r (nat_lt q.start p.start) (nat_lt r.start q.start) (nat_lt r.start p.start) refl refl refl
+use Rattle.sc_class.proofs.Places.{first_place-none, first_place-assoc}
 
 -- ---- lists, from the element at an index on
 

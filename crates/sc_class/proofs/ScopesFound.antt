@@ -1,61 +1,117 @@
--- What the functions of `specs/Internal/ScopeSearch` give is a clash, and where they give none there is none.
-use Rattle.std.proofs.Common.{◌≡◌, Bool, true, false, cond, List, [], ◌∷◌, ◌++◌, Option, Some, None, refl, sym, subst, ◌∙◌, ◌⊎◌, inl, inr}
-use Rattle.std.specs.Prelude.{Any, IfOk, Ok, Err, bytes_eq, if◌then◌else◌}
+-- What the functions of `specs/Internal/ScopeSearch` give is the first clash in the text, and where they give none there is none.
+use Rattle.std.proofs.Common.{◌≡◌, ◌≤◌, Bool, true, false, List, [], ◌∷◌, ◌++◌, Option, Some, None, refl, ap, sym, subst, ◌∙◌, ◌⊎◌, inl, inr, arith}
+use Rattle.std.specs.Prelude.{Any, IfOk, Ok, Err, bytes_eq, nat_lt, if◌then◌else◌}
 use Rattle.std.specs.Prelude as result
 use Rattle.std.specs.declared.alloc.AllocError.{AllocError}
 use Rattle.std.specs.Option.{option_map}
+use Rattle.std.proofs.lemmas.Bool.Decides.{nat_tests}
 use Rattle.std.proofs.lemmas.List.{append_assoc, append-nil}
 use Rattle.sc_text.specs.declared.token.Span.{Span}
 use Rattle.sc_tree.specs.declared.expression.UnaryOperator.{UnaryOperator}
 use Rattle.sc_tree.specs.declared.expression.BinaryOperator.{BinaryOperator}
 use Rattle.sc_tree.specs.declared.expression.BinaryOperator.TheVariants.{AndThen}
 use Rattle.sc_tree.specs.Plain.{FeatureKind, Attribute, Routine, RoutineDeclaration, DeclaredType, Clause, Head, Name, Variable, Creation, CreationCall, Expr, Integer, Boolean, Void, Current, Result, Call, Unary, Binary, ObjectTest, Target, no_target, target, Exprs, no_exprs, expr_then, Instr, Assign, PrintText, CallRoutine, Create, If, Loop, Check, Block, Instrs, no_instrs, instr_then, Branches, no_branches, branch_then}
-use Rattle.sc_class.specs.Internal.Found.{Finds, first_place}
-use Rattle.sc_class.specs.Names.{IsLikeOne, Clashes, is_print_itself, is_like, OneClashes, first, further, first_like, is_print, last_place}
+use Rattle.sc_tree.specs.Properties.{is_print}
+use Rattle.sc_class.specs.Internal.Found.{FindsFirstPlace, first_place}
+use Rattle.sc_class.specs.Names.{IsLikeOne, Clashes, is_print_itself, is_like, OneClashes, first, further, last_place}
 use Rattle.sc_class.specs.Faults.Scopes.{tests_of, head_names, entity_names, ExprClashes, in_target, in_actuals, in_operand, in_left, in_right, in_tested, test_name, TargetClashes, in_target_value, ExprsClash, in_first, in_others, ConditionClashes, in_whole, in_left_test, in_right_test, ClausesClash, InstrClashes, in_source, in_call_target, in_call_actuals, in_creation, in_if, in_then, in_elseif, in_else, in_from, in_until, in_loop, in_check, in_heads, head_name, in_block, InstrsClash, in_first_instr, in_other_instrs, BranchesClash, in_branch_condition, in_branch, in_later_branch, RoutineClashes, entity, in_precondition, in_body, in_postcondition}
+use Rattle.sc_class.specs.Internal.NameIndex.{place_among}
 use Rattle.sc_class.specs.Internal.ScopeSearch.{like_place, name_clash, names_clash, expr_clash, target_clash, exprs_clash, is_and_then, condition_clash, clauses_clash, values_clash, creation_clash, instr_clash, instrs_clash, branches_clash, kind_clash}
 use Rattle.sc_class.proofs.Anys.{any_none, any_first, any_later, any_split, any_left, any_right, any_parts}
-use Rattle.sc_class.proofs.Finding.{finds_same, finds_either}
+use Rattle.sc_class.proofs.Finding.{only_one, first_same, first_either}
 use Rattle.sc_class.proofs.Items.{some_is}
 
 -- of one thing or the other, what is found of both
-both : (P Q R : Span → Type 0) (a b : Option Span) → ((p : Span) → P p → R p) → ((p : Span) → Q p → R p) → ((p : Span) → R p → P p ⊎ Q p) → Finds P a → Finds Q b → Finds R (first_place a b)
-both P Q R a b f g h x y = finds_either (λ (p : Span). p.start) {P = P} {Q = Q} {R = R} a b f g h x y
+both : (P Q R : Span → Type 0) (a b : Option Span) → ((p : Span) → P p → R p) → ((p : Span) → Q p → R p) → ((p : Span) → R p → P p ⊎ Q p) → FindsFirstPlace P a → FindsFirstPlace Q b → FindsFirstPlace R (first_place a b)
+both P Q R a b f g h x y = first_either (λ (p : Span). p.start) {P = P} {Q = Q} {R = R} a b f g h x y
 
-same : (P R : Span → Type 0) (a : Option Span) → ((p : Span) → P p → R p) → ((p : Span) → R p → P p) → Finds P a → Finds R a
-same P R a f g x = finds_same {P = P} {Q = R} a f g x
+same : (P R : Span → Type 0) (a : Option Span) → ((p : Span) → P p → R p) → ((p : Span) → R p → P p) → FindsFirstPlace P a → FindsFirstPlace R a
+same P R a f g x = first_same (λ (p : Span). p.start) {P = P} {Q = R} a f g x
 
-either_of : (P Q : Span → Type 0) (a b : Option Span) → Finds P a → Finds Q b → Finds (λ p. P p ⊎ Q p) (first_place a b)
+either_of : (P Q : Span → Type 0) (a b : Option Span) → FindsFirstPlace P a → FindsFirstPlace Q b → FindsFirstPlace (λ p. P p ⊎ Q p) (first_place a b)
 either_of P Q a b x y = both P Q (λ p. P p ⊎ Q p) a b (λ p z. inl z) (λ p z. inr z) (λ p z. z) x y
 
 -- ---- names
 
-like_found : (ns : List Name) (n : Name) → Finds (IsLikeOne ns n) (like_place ns n)
+-- the later one of each place and this one
+abbrev later : Span → Option Span → Option Span
+later n o = option_map (λ p. last_place p n) o
+
+later-first : (n : Span) (a b : Option Span) → later n (first_place a b) ≡ first_place (later n a) (later n b)
+later-first n None b = refl
+later-first n (Some p) None = refl
+later-first n (Some p) (Some q) = by (nat_lt q.start p.start) (nat_lt n.start p.start) (nat_lt n.start q.start) refl refl refl
+  where
+    less : nat_lt n.start n.start ≡ false
+    less = grind (arith, nat_tests)
+
+    less_q : nat_lt n.start q.start ≡ true → nat_lt q.start n.start ≡ false
+    less_q e = grind (arith, nat_tests)
+
+    by : (b c d : Bool) → nat_lt q.start p.start ≡ b → nat_lt n.start p.start ≡ c → nat_lt n.start q.start ≡ d →
+        later n (if b then Some q else Some p) ≡ first_place (Some (if c then p else n)) (Some (if d then q else n))
+    by true true true i j k = ap (λ (b : Bool). Some (if b then q else n)) k ∙ sym (ap (λ (b : Bool). if b then Some q else Some p) i)
+    by true true false i j k = ap (λ (b : Bool). Some (if b then q else n)) k ∙ sym (ap (λ (b : Bool). if b then Some n else Some p) j)
+    by true false true i j k = absurd (grind (arith, nat_tests))
+    by true false false i j k = ap (λ (b : Bool). Some (if b then q else n)) k ∙ sym (ap (λ (b : Bool). if b then Some n else Some n) less)
+    by false true true i j k = ap (λ (b : Bool). Some (if b then p else n)) j ∙ sym (ap (λ (b : Bool). if b then Some q else Some p) i)
+    by false true false i j k = absurd (grind (arith, nat_tests))
+    by false false true i j k = ap (λ (b : Bool). Some (if b then p else n)) j ∙ sym (ap (λ (b : Bool). if b then Some q else Some n) (less_q k))
+    by false false false i j k = ap (λ (b : Bool). Some (if b then p else n)) j ∙ sym (ap (λ (b : Bool). if b then Some n else Some n) less)
+
+-- a name is like this one, and this is the later place of the two
+abbrev Like : Name → Name → Span → Type 0
+Like n m p = (bytes_eq m.text n.text ≡ true) × (p ≡ last_place m.span n.span)
+
+-- this place alone
+abbrev Is : Span → Span → Type 0
+Is p q = q ≡ p
+
+like_found : (ns : List Name) (n : Name) → FindsFirstPlace (IsLikeOne ns n) (like_place ns n)
 like_found [] n = λ p a. any_none a
 like_found (m ∷ ns) n = by (bytes_eq m.text n.text) refl (like_found ns n)
   where
-    is_later : bytes_eq m.text n.text ≡ false → (p : Span) → IsLikeOne (m ∷ ns) n p → IsLikeOne ns n p
-    is_later e p a = of (any_split m ns a)
+    is_first : bytes_eq m.text n.text ≡ true → (p : Span) → IsLikeOne (m ∷ ns) n p → Is (last_place m.span n.span) p ⊎ IsLikeOne ns n p
+    is_first e p a = of (any_split {P = λ m. Like n m p} m ns a)
       where
-        of : ((bytes_eq m.text n.text ≡ true) × (p ≡ last_place m.span n.span)) ⊎ IsLikeOne ns n p → IsLikeOne ns n p
-        of (inl (i, q)) = cc
+        of : Like n m p ⊎ IsLikeOne ns n p → Is (last_place m.span n.span) p ⊎ IsLikeOne ns n p
+        of (inl (i, q)) = inl q
+        of (inr b) = inr b
+
+    is_later : bytes_eq m.text n.text ≡ false → (p : Span) → IsLikeOne (m ∷ ns) n p → IsLikeOne ns n p
+    is_later e p a = of (any_split {P = λ m. Like n m p} m ns a)
+      where
+        of : Like n m p ⊎ IsLikeOne ns n p → IsLikeOne ns n p
+        of (inl (i, q)) = let r : true ≡ false = sym i ∙ e in cc
         of (inr b) = b
 
-    by : (b : Bool) → bytes_eq m.text n.text ≡ b → Finds (IsLikeOne ns n) (like_place ns n) →
-        Finds (IsLikeOne (m ∷ ns) n) (option_map (λ p. last_place p n.span) (option_map (λ n. n.span) (cond b (Some m) (first_like n.text ns))))
-    by true e f = any_first m ns (e, refl)
-    by false e f = same (IsLikeOne ns n) (IsLikeOne (m ∷ ns) n) (like_place ns n) (λ p a. any_later m ns a) (is_later e) f
+    by : (b : Bool) → bytes_eq m.text n.text ≡ b → FindsFirstPlace (IsLikeOne ns n) (like_place ns n) →
+        FindsFirstPlace (IsLikeOne (m ∷ ns) n) (later n.span (first_place (if b then Some m.span else None) (place_among n.text ns)))
+    by true e f =
+        subst (FindsFirstPlace (IsLikeOne (m ∷ ns) n)) (sym (later-first n.span (Some m.span) (place_among n.text ns)))
+        (both (Is (last_place m.span n.span)) (IsLikeOne ns n) (IsLikeOne (m ∷ ns) n) (Some (last_place m.span n.span)) (like_place ns n) (λ p q. any_first {P = λ m. Like n m p} m ns (e, q)) (λ p a. any_later {P = λ m. Like n m p} m ns a) (is_first e)
+        (only_one (λ (p : Span). p.start) {P = Is (last_place m.span n.span)} (last_place m.span n.span) refl (λ p q. q)) f)
+    by false e f = same (IsLikeOne ns n) (IsLikeOne (m ∷ ns) n) (like_place ns n) (λ p a. any_later {P = λ m. Like n m p} m ns a) (is_later e) f
 
 name_parts : (fs ns : List Name) {n : Name} {p : Span} → is_print n.text ≡ false → Clashes (fs ++ ns) n p → IsLikeOne fs n p ⊎ IsLikeOne ns n p
 name_parts fs ns e (is_print_itself i) = cc
 name_parts fs ns e (is_like a) = any_parts fs ns a
 
-pub name_found : (fs ns : List Name) (n : Name) → Finds (Clashes (fs ++ ns) n) (name_clash fs ns n)
+-- no clash of a name stands before it
+not_before : {known : List Name} (n : Name) (p : Span) → Clashes known n p → n.span.start ≤ p.start
+not_before n p (is_print_itself e) = omega arith
+not_before n p (is_like (k, m, l, e, (i, q))) = subst (λ (p : Span). n.span.start ≤ p.start) (sym q) (by (nat_lt n.span.start m.span.start) refl)
+  where
+    by : (b : Bool) → nat_lt n.span.start m.span.start ≡ b → n.span.start ≤ (if b then m.span else n.span).start
+    by true f = grind (arith, nat_tests)
+    by false f = omega arith
+
+pub name_found : (fs ns : List Name) (n : Name) → FindsFirstPlace (Clashes (fs ++ ns) n) (name_clash fs ns n)
 unfolding name_clash
 name_found fs ns n = by (is_print n.text) refl
   where
-    by : (b : Bool) → is_print n.text ≡ b → Finds (Clashes (fs ++ ns) n) (if b then Some n.span else first_place (like_place fs n) (like_place ns n))
-    by true e = is_print_itself e
+    by : (b : Bool) → is_print n.text ≡ b → FindsFirstPlace (Clashes (fs ++ ns) n) (if b then Some n.span else first_place (like_place fs n) (like_place ns n))
+    by true e = (is_print_itself e, λ p c. not_before n p c)
     by false e =
         both (IsLikeOne fs n) (IsLikeOne ns n) (Clashes (fs ++ ns) n) (like_place fs n) (like_place ns n) (λ p a. is_like (any_left fs ns a)) (λ p a. is_like (any_right fs ns a)) (λ p c. name_parts fs ns e c)
         (like_found fs n) (like_found ns n)
@@ -69,13 +125,13 @@ names_parts : {known ms : List Name} {m : Name} {p : Span} → OneClashes known 
 names_parts (first c) = inl c
 names_parts (further c) = inr c
 
-pub names_found : (fs ns ms : List Name) → Finds (OneClashes (fs ++ ns) ms) (names_clash fs ns ms)
+pub names_found : (fs ns ms : List Name) → FindsFirstPlace (OneClashes (fs ++ ns) ms) (names_clash fs ns ms)
 unfolding names_clash
 names_found fs ns [] = λ p x. elim x [ ]
 names_found fs ns (m ∷ ms) =
     both (Clashes (fs ++ ns) m) (OneClashes ((fs ++ ns) ++ m ∷ []) ms) (OneClashes (fs ++ ns) (m ∷ ms)) (name_clash fs ns m) (names_clash fs (ns ++ m ∷ []) ms)
     (λ p c. first c) (λ p c. further c) (λ p c. names_parts c) (name_found fs ns m)
-    (subst (λ k. Finds (OneClashes k ms) (names_clash fs (ns ++ m ∷ []) ms)) (sym (append_assoc fs ns (m ∷ []))) (names_found fs (ns ++ m ∷ []) ms))
+    (subst (λ k. FindsFirstPlace (OneClashes k ms) (names_clash fs (ns ++ m ∷ []) ms)) (sym (append_assoc fs ns (m ∷ []))) (names_found fs (ns ++ m ∷ []) ms))
 
 one_left : {known xs : List Name} (ys : List Name) {p : Span} → OneClashes known xs p → OneClashes known (xs ++ ys) p
 one_left ys (first c) = first c
@@ -125,7 +181,7 @@ exprs_parts (in_others c) = inr c
 mutual
   unfolding expr_clash
 
-  pub expr_found : (fs ns : List Name) (e : Expr) → Finds (ExprClashes (fs ++ ns) e) (expr_clash fs ns e)
+  pub expr_found : (fs ns : List Name) (e : Expr) → FindsFirstPlace (ExprClashes (fs ++ ns) e) (expr_clash fs ns e)
   expr_found fs ns (Integer s i) = λ p x. elim x [ ]
   expr_found fs ns (Boolean s b) = λ p x. elim x [ ]
   expr_found fs ns (Void s) = λ p x. elim x [ ]
@@ -143,12 +199,12 @@ mutual
       both (ExprClashes (fs ++ ns) e) (Clashes (fs ++ ns) n) (ExprClashes (fs ++ ns) (ObjectTest s t e n)) (expr_clash fs ns e) (name_clash fs ns n)
       (λ p c. in_tested c) (λ p c. test_name c) (λ p c. test_parts c) (expr_found fs ns e) (name_found fs ns n)
 
-  pub target_found : (fs ns : List Name) (t : Target) → Finds (TargetClashes (fs ++ ns) t) (target_clash fs ns t)
+  pub target_found : (fs ns : List Name) (t : Target) → FindsFirstPlace (TargetClashes (fs ++ ns) t) (target_clash fs ns t)
   target_found fs ns no_target = λ p x. elim x [ ]
   target_found fs ns (target e) =
       same (ExprClashes (fs ++ ns) e) (TargetClashes (fs ++ ns) (target e)) (expr_clash fs ns e) (λ p c. in_target_value c) (λ p c. target_part c) (expr_found fs ns e)
 
-  pub exprs_found : (fs ns : List Name) (es : Exprs) → Finds (ExprsClash (fs ++ ns) es) (exprs_clash fs ns es)
+  pub exprs_found : (fs ns : List Name) (es : Exprs) → FindsFirstPlace (ExprsClash (fs ++ ns) es) (exprs_clash fs ns es)
   exprs_found fs ns no_exprs = λ p x. elim x [ ]
   exprs_found fs ns (expr_then e es) =
       both (ExprClashes (fs ++ ns) e) (ExprsClash (fs ++ ns) es) (ExprsClash (fs ++ ns) (expr_then e es)) (expr_clash fs ns e) (exprs_clash fs ns es)
@@ -201,19 +257,19 @@ module _ {known : List Name} (s : Span) (op : BinaryOperator) (a b : Expr) (e : 
   in_right_condition p c = subst (λ op. ConditionClashes known (Binary s op a b) p) (sym (and_then_only op e)) (in_right_test c)
 
 module _ (fs ns : List Name) where
-  whole_found : (e : Expr) → joins e ≡ false → Finds (ConditionClashes (fs ++ ns) e) (expr_clash fs ns e)
+  whole_found : (e : Expr) → joins e ≡ false → FindsFirstPlace (ConditionClashes (fs ++ ns) e) (expr_clash fs ns e)
   whole_found e i = same (ExprClashes (fs ++ ns) e) (ConditionClashes (fs ++ ns) e) (expr_clash fs ns e) (λ p c. in_whole c) (λ p c. whole_only i c) (expr_found fs ns e)
 
-  joined_found : (s : Span) (op : BinaryOperator) (a b : Expr) → Finds (ConditionClashes (fs ++ ns) a) (condition_clash fs ns a) → Finds (ConditionClashes (fs ++ (ns ++ tests_of a)) b) (condition_clash fs (ns ++ tests_of a) b) →
+  joined_found : (s : Span) (op : BinaryOperator) (a b : Expr) → FindsFirstPlace (ConditionClashes (fs ++ ns) a) (condition_clash fs ns a) → FindsFirstPlace (ConditionClashes (fs ++ (ns ++ tests_of a)) b) (condition_clash fs (ns ++ tests_of a) b) →
       (c : Bool) → is_and_then op ≡ c →
-      Finds (ConditionClashes (fs ++ ns) (Binary s op a b)) (if c then first_place (condition_clash fs ns a) (condition_clash fs (ns ++ tests_of a) b) else expr_clash fs ns (Binary s op a b))
+      FindsFirstPlace (ConditionClashes (fs ++ ns) (Binary s op a b)) (if c then first_place (condition_clash fs ns a) (condition_clash fs (ns ++ tests_of a) b) else expr_clash fs ns (Binary s op a b))
   joined_found s op a b x y true e =
       both (ConditionClashes (fs ++ ns) a) (ConditionClashes ((fs ++ ns) ++ tests_of a) b) (ConditionClashes (fs ++ ns) (Binary s op a b)) (condition_clash fs ns a) (condition_clash fs (ns ++ tests_of a) b)
       (in_left_condition s op a b e) (in_right_condition s op a b e) (λ p c. condition_parts c) x
-      (subst (λ k. Finds (ConditionClashes k b) (condition_clash fs (ns ++ tests_of a) b)) (sym (append_assoc fs ns (tests_of a))) y)
+      (subst (λ k. FindsFirstPlace (ConditionClashes k b) (condition_clash fs (ns ++ tests_of a) b)) (sym (append_assoc fs ns (tests_of a))) y)
   joined_found s op a b x y false e = whole_found (Binary s op a b) e
 
-pub condition_found : (fs ns : List Name) (e : Expr) → Finds (ConditionClashes (fs ++ ns) e) (condition_clash fs ns e)
+pub condition_found : (fs ns : List Name) (e : Expr) → FindsFirstPlace (ConditionClashes (fs ++ ns) e) (condition_clash fs ns e)
 unfolding condition_clash expr_clash
 condition_found fs ns (Binary s op a b) = joined_found fs ns s op a b (condition_found fs ns a) (condition_found fs (ns ++ tests_of a) b) (is_and_then op) refl
 condition_found fs ns (ObjectTest s t e n) = whole_found fs ns (ObjectTest s t e n) refl
@@ -227,7 +283,7 @@ condition_found fs ns (Unary s op a) = whole_found fs ns (Unary s op a) refl
 
 -- ---- clauses and heads
 
-pub clauses_found : (fs ns : List Name) (ks : List Clause) → Finds (ClausesClash (fs ++ ns) ks) (clauses_clash fs ns ks)
+pub clauses_found : (fs ns : List Name) (ks : List Clause) → FindsFirstPlace (ClausesClash (fs ++ ns) ks) (clauses_clash fs ns ks)
 unfolding clauses_clash
 clauses_found fs ns [] = λ p a. any_none a
 clauses_found fs ns (k ∷ ks) =
@@ -237,7 +293,7 @@ clauses_found fs ns (k ∷ ks) =
 abbrev ValuesClash : List Name → List Head → Span → Type 0
 ValuesClash known hs p = Any (λ h. ExprClashes known h.value p) hs
 
-values_found : (fs ns : List Name) (hs : List Head) → Finds (ValuesClash (fs ++ ns) hs) (values_clash fs ns hs)
+values_found : (fs ns : List Name) (hs : List Head) → FindsFirstPlace (ValuesClash (fs ++ ns) hs) (values_clash fs ns hs)
 unfolding values_clash
 values_found fs ns [] = λ p a. any_none a
 values_found fs ns (h ∷ hs) =
@@ -314,19 +370,19 @@ module _ {known : List Name} {p : Span} where
   instrs_parts (in_other_instrs c) = inr c
 
 -- where more names are known
-grown : (fs ns more : List Name) (is : Instrs) → Finds (InstrsClash (fs ++ (ns ++ more)) is) (instrs_clash fs (ns ++ more) is) → Finds (InstrsClash ((fs ++ ns) ++ more) is) (instrs_clash fs (ns ++ more) is)
-grown fs ns more is x = subst (λ k. Finds (InstrsClash k is) (instrs_clash fs (ns ++ more) is)) (sym (append_assoc fs ns more)) x
+grown : (fs ns more : List Name) (is : Instrs) → FindsFirstPlace (InstrsClash (fs ++ (ns ++ more)) is) (instrs_clash fs (ns ++ more) is) → FindsFirstPlace (InstrsClash ((fs ++ ns) ++ more) is) (instrs_clash fs (ns ++ more) is)
+grown fs ns more is x = subst (λ k. FindsFirstPlace (InstrsClash k is) (instrs_clash fs (ns ++ more) is)) (sym (append_assoc fs ns more)) x
 
-under_found : (fs ns : List Name) (e : Expr) (body : Instrs) → Finds (InstrsClash (fs ++ (ns ++ tests_of e)) body) (instrs_clash fs (ns ++ tests_of e) body) →
-    Finds (UnderClashes (fs ++ ns) e body) (first_place (condition_clash fs ns e) (instrs_clash fs (ns ++ tests_of e) body))
+under_found : (fs ns : List Name) (e : Expr) (body : Instrs) → FindsFirstPlace (InstrsClash (fs ++ (ns ++ tests_of e)) body) (instrs_clash fs (ns ++ tests_of e) body) →
+    FindsFirstPlace (UnderClashes (fs ++ ns) e body) (first_place (condition_clash fs ns e) (instrs_clash fs (ns ++ tests_of e) body))
 under_found fs ns e body x =
     either_of (ConditionClashes (fs ++ ns) e) (InstrsClash ((fs ++ ns) ++ tests_of e) body) (condition_clash fs ns e) (instrs_clash fs (ns ++ tests_of e) body)
     (condition_found fs ns e) (grown fs ns (tests_of e) body x)
 
-creation_found : (fs ns : List Name) (s : Span) (c : Creation) → Finds (InstrClashes (fs ++ ns) (Create s c)) (creation_clash fs ns c.call)
+creation_found : (fs ns : List Name) (s : Span) (c : Creation) → FindsFirstPlace (InstrClashes (fs ++ ns) (Create s c)) (creation_clash fs ns c.call)
 creation_found fs ns s c = by c.call refl
   where
-    by : (o : Option CreationCall) → c.call ≡ o → Finds (InstrClashes (fs ++ ns) (Create s c)) (creation_clash fs ns o)
+    by : (o : Option CreationCall) → c.call ≡ o → FindsFirstPlace (InstrClashes (fs ++ ns) (Create s c)) (creation_clash fs ns o)
     by None e = λ p x. no_creation_part e x
     by (Some k) e =
         same (ExprsClash (fs ++ ns) k.actuals) (InstrClashes (fs ++ ns) (Create s c)) (exprs_clash fs ns k.actuals) (λ p x. in_creation e x) (λ p x. creation_part e x) (exprs_found fs ns k.actuals)
@@ -334,7 +390,7 @@ creation_found fs ns s c = by c.call refl
 mutual
   unfolding instr_clash
 
-  pub instr_found : (fs ns : List Name) (i : Instr) → Finds (InstrClashes (fs ++ ns) i) (instr_clash fs ns i)
+  pub instr_found : (fs ns : List Name) (i : Instr) → FindsFirstPlace (InstrClashes (fs ++ ns) i) (instr_clash fs ns i)
   instr_found fs ns (Assign s v e) = same (ExprClashes (fs ++ ns) e) (InstrClashes (fs ++ ns) (Assign s v e)) (expr_clash fs ns e) (λ p c. in_source c) (λ p c. source_part c) (expr_found fs ns e)
   instr_found fs ns (PrintText s t) = λ p x. elim x [ ]
   instr_found fs ns (CallRoutine s t n es) =
@@ -357,13 +413,13 @@ mutual
       (either_of (OneClashes (fs ++ ns) (head_names hs)) (InstrsClash ((fs ++ ns) ++ head_names hs) body) (names_clash fs ns (head_names hs)) (instrs_clash fs (ns ++ head_names hs) body)
       (names_found fs ns (head_names hs)) (grown fs ns (head_names hs) body (instrs_found fs (ns ++ head_names hs) body)))
 
-  pub instrs_found : (fs ns : List Name) (is : Instrs) → Finds (InstrsClash (fs ++ ns) is) (instrs_clash fs ns is)
+  pub instrs_found : (fs ns : List Name) (is : Instrs) → FindsFirstPlace (InstrsClash (fs ++ ns) is) (instrs_clash fs ns is)
   instrs_found fs ns no_instrs = λ p x. elim x [ ]
   instrs_found fs ns (instr_then i is) =
       both (InstrClashes (fs ++ ns) i) (InstrsClash (fs ++ ns) is) (InstrsClash (fs ++ ns) (instr_then i is)) (instr_clash fs ns i) (instrs_clash fs ns is)
       (λ p c. in_first_instr c) (λ p c. in_other_instrs c) (λ p c. instrs_parts c) (instr_found fs ns i) (instrs_found fs ns is)
 
-  pub branches_found : (fs ns : List Name) (bs : Branches) → Finds (BranchesClash (fs ++ ns) bs) (branches_clash fs ns bs)
+  pub branches_found : (fs ns : List Name) (bs : Branches) → FindsFirstPlace (BranchesClash (fs ++ ns) bs) (branches_clash fs ns bs)
   branches_found fs ns no_branches = λ p x. elim x [ ]
   branches_found fs ns (branch_then e body bs) =
       both (UnderClashes (fs ++ ns) e body) (BranchesClash (fs ++ ns) bs) (BranchesClash (fs ++ ns) (branch_then e body bs))
@@ -392,21 +448,21 @@ module _ {known : List Name} {r : RoutineDeclaration} {p : Span} where
   routine_behind (inr (inl c)) = in_body c
   routine_behind (inr (inr c)) = in_postcondition c
 
-entities_found : (fs xs ys : List Name) → Finds (OneClashes fs (xs ++ ys)) (first_place (names_clash fs [] xs) (names_clash fs xs ys))
+entities_found : (fs xs ys : List Name) → FindsFirstPlace (OneClashes fs (xs ++ ys)) (first_place (names_clash fs [] xs) (names_clash fs xs ys))
 entities_found fs xs ys =
     both (OneClashes fs xs) (OneClashes (fs ++ xs) ys) (OneClashes fs (xs ++ ys)) (names_clash fs [] xs) (names_clash fs xs ys)
     (λ p c. one_left ys c) (λ p c. one_right fs xs ys c) (λ p c. one_parts fs xs ys c)
-    (subst (λ k. Finds (OneClashes k xs) (names_clash fs [] xs)) (append-nil fs) (names_found fs [] xs)) (names_found fs xs ys)
+    (subst (λ k. FindsFirstPlace (OneClashes k xs) (names_clash fs [] xs)) (append-nil fs) (names_found fs [] xs)) (names_found fs xs ys)
 
 parts_found : (fs ms ns inner : List Name) → fs ++ ns ≡ inner → (pre post : List Clause) (body : Instrs) →
-    Finds (PartsClash (fs ++ ms) inner pre body post) (first_place (clauses_clash fs ms pre) (first_place (instrs_clash fs ns body) (clauses_clash fs ms post)))
+    FindsFirstPlace (PartsClash (fs ++ ms) inner pre body post) (first_place (clauses_clash fs ms pre) (first_place (instrs_clash fs ns body) (clauses_clash fs ms post)))
 parts_found fs ms ns inner e pre post body =
-    subst (λ k. Finds (PartsClash (fs ++ ms) k pre body post) (first_place (clauses_clash fs ms pre) (first_place (instrs_clash fs ns body) (clauses_clash fs ms post)))) e
+    subst (λ k. FindsFirstPlace (PartsClash (fs ++ ms) k pre body post) (first_place (clauses_clash fs ms pre) (first_place (instrs_clash fs ns body) (clauses_clash fs ms post)))) e
     (either_of (ClausesClash (fs ++ ms) pre) (λ p. InstrsClash (fs ++ ns) body p ⊎ ClausesClash (fs ++ ms) post p) (clauses_clash fs ms pre) (first_place (instrs_clash fs ns body) (clauses_clash fs ms post))
     (clauses_found fs ms pre)
     (either_of (InstrsClash (fs ++ ns) body) (ClausesClash (fs ++ ms) post) (instrs_clash fs ns body) (clauses_clash fs ms post) (instrs_found fs ns body) (clauses_found fs ms post)))
 
-pub kind_found : (fs : List Name) (k : FeatureKind) → Finds (RoutineClashes fs k) (kind_clash fs k)
+pub kind_found : (fs : List Name) (k : FeatureKind) → FindsFirstPlace (RoutineClashes fs k) (kind_clash fs k)
 unfolding kind_clash
 kind_found fs (Attribute t) = λ p x. elim x [ ]
 kind_found fs (Routine r) =
@@ -418,6 +474,6 @@ kind_found fs (Routine r) =
     (λ p c. entity c) (λ p c. routine_behind c) (λ p c. routine_parts c) (entities_found fs formals locals)
     (parts_found fs formals (formals ++ locals) (fs ++ formals ++ locals) (sym (append_assoc fs formals locals)) r.precondition r.postcondition r.body)
 
-pub found_in_kind : (fs : List Name) (k : FeatureKind) (r : result.Result (Option Span) AllocError) → IfOk r (λ place. place ≡ kind_clash fs k) → IfOk r (Finds (RoutineClashes fs k))
-found_in_kind fs k (Ok place) e = subst (Finds (RoutineClashes fs k)) (sym e) (kind_found fs k)
+pub found_in_kind : (fs : List Name) (k : FeatureKind) (r : result.Result (Option Span) AllocError) → IfOk r (λ place. place ≡ kind_clash fs k) → IfOk r (FindsFirstPlace (RoutineClashes fs k))
+found_in_kind fs k (Ok place) e = subst (FindsFirstPlace (RoutineClashes fs k)) (sym e) (kind_found fs k)
 found_in_kind fs k (Err x) e = tt

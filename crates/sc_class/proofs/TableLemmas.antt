@@ -25,6 +25,7 @@ use Rattle.sc_class.specs.Tables.Features.{invariant_along, invariant_of, declar
 use Rattle.sc_class.specs.Faults.ClassRules.{Fails, IsFaultless, has_root, duplicate_class, unknown_parent, cycle, duplicate_feature, bad_redefinition, no_root, limit, left_out, code_number, HasLeastCode, IsPlacedFirst}
 use Rattle.sc_class.specs.Faults.Limits.{PassesLimit}
 use Rattle.sc_class.specs.Faults.LeftOut.{ClassLeftOut}
+use Rattle.sc_class.proofs.Items.{read_append, read_last}
 use Rattle.sc_class.proofs.CycleLemmas.{cycle_once}
 use Rattle.sc_class.specs.Tables.Ancestors.{ancestors, ancestors_within, parent_of, UnknownParentAt, CycleAt}
 use Rattle.sc_class.specs.ClassNames.{Root, RepeatedAt}
@@ -105,6 +106,9 @@ module _ (s : System) (root : Root) where
   pub first_3 : (p : Span) → CycleAt s p → IsPlacedFirst s root (fault.Cycle p)
   first_3 p x q (cycle y) = let same : p.start ≡ q.start = ap (λ (p : Span). p.start) (cycle_once s p q x y) in omega (arith, same)
 
+  pub first_4 : (p : Span) → FindsFirstPlace (FaultAt s (ClassClashes s)) (Some p) → IsPlacedFirst s root (fault.DuplicateFeature p)
+  first_4 p h q (duplicate_feature {k = k} {c = c} e y) = h.1 q (k, c, e, y)
+
   pub first_5 : (p : Span) → FindsFirstPlace (FaultAt s (BadlyRedefines s)) (Some p) → IsPlacedFirst s root (fault.BadRedefinition p)
   first_5 p h q (bad_redefinition {k = k} {c = c} e y) = h.1 q (k, c, e, y)
 
@@ -125,18 +129,6 @@ applied (inl d) a = inl d
 applied (inr f) a = inr (f a)
 
 -- ---- ancestors of each class
-
-pub read_append : {A : Type 0} (xs : List A) (x : A) (k : ℕ) → k < length xs → slice_get (xs ++ x ∷ []) k ≡ slice_get xs k
-read_append [] x k l = absurd (omega arith)
-read_append (y ∷ xs) x zero l = refl
-read_append (y ∷ xs) x (suc k) l = read_append xs x k (less l)
-  where
-    less : suc k < suc (length xs) → k < length xs
-    less l = omega arith
-
-pub read_last : {A : Type 0} (xs : List A) (x : A) → slice_get (xs ++ x ∷ []) (length xs) ≡ Some x
-read_last [] x = refl
-read_last (y ∷ xs) x = read_last xs x
 
 pub lists_more : (s : System) (lists lines' : List (Vec ℕ Global)) (v : Vec ℕ Global) (n : ℕ) → v.items ≡ ancestors s n → lines' ≡ lists ++ v ∷ [] →
     (length lists ≡ n) × ((k : ℕ) → k < n → ancestors_in lists k ≡ ancestors s k) → (length lines' ≡ n + 1) × ((k : ℕ) → k < n + 1 → ancestors_in lines' k ≡ ancestors s k)

@@ -8,5 +8,4 @@ pub mod KnownFeatures
 pub mod AncestorLists
 pub mod Systems
 pub mod NoFaults
-pub mod InheritedClash
 pub mod ScopeSearch

@@ -1,9 +1,10 @@
 -- Names in a list, in lower case, so that equal texts are the same name; and names that can't stand beside each other.
-use Rattle.std.specs.Prelude.{◌≡◌, ◌+◌, ℕ, Bool, true, List, [], ◌∷◌, ◌++◌, Option, Some, None, Any, codes, bytes_eq, nat_lt, find, if◌then◌else◌}
+use Rattle.std.specs.Prelude.{◌≡◌, ◌+◌, ℕ, Bool, true, List, [], ◌∷◌, ◌++◌, Option, Some, None, Any, bytes_eq, nat_lt, if◌then◌else◌}
 use Rattle.std.specs.List.{list_any}
 use Rattle.std.specs.Option.{option_map}
 use Rattle.sc_text.specs.declared.token.Span.{Span}
 use Rattle.sc_tree.specs.Plain.{Name}
+use Rattle.sc_tree.specs.Properties.{is_print}
 
 -- one of the names is this
 abbrev pub is_listed : List ℕ → List Name → Bool
@@ -13,14 +14,6 @@ is_listed x names = list_any (λ n. bytes_eq n.text x) names
 abbrev pub number_among : List ℕ → List Name → Option ℕ
 number_among x [] = None
 number_among x (n ∷ ns) = if bytes_eq n.text x then Some 0 else option_map (λ k. k + 1) (number_among x ns)
-
--- the first of the names that is this
-abbrev pub first_like : List ℕ → List Name → Option Name
-first_like x names = find (λ n. bytes_eq n.text x) names
-
--- the name of the feature that every class has
-abbrev pub is_print : List ℕ → Bool
-is_print x = bytes_eq x (codes "print")
 
 -- of two places, the one that stands later in the text
 abbrev pub last_place : Span → Span → Span

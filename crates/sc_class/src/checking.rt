@@ -124,8 +124,7 @@ fn sound_outline<'s>(
 }
 
 /// The tables of a system that is run from this root, or a fault of its classes: of the first code that has
-/// one, the one that stands first in the text. Of C4, a name that is like several features is told at the place that
-/// the one of the nearest class gives it.
+/// one, the one that stands first in the text.
 pub fn tables<'s>(alloc: Global, system: &'s System, root: &Root) -> Result<Tables<'s>, ClassFault>
     ensures faultless { OnOk result (IsFaultless (system_of system.now) (root_of root.now)) }
     ensures of_it { IfOk result (λ tables. system_in tables ≡ system_of system.now) }

@@ -5,7 +5,7 @@ pub mod cycles;
 pub mod left_out;
 pub mod limits;
 pub mod parents;
-mod places;
+pub mod places;
 mod ranks;
 pub mod redefinition;
 pub mod root_procedure;

@@ -1,26 +1,16 @@
 // Names, and names in order, each of which is found by hash.
 
 ghost use Rattle.std.specs.Prelude.{◌≡◌, ◌++◌, ◌-◌, [], ◌∷◌, List, OnOk, OnErr, bytes_eq, length, take};
-ghost use Rattle.std.specs.Option.{option_map, option_copied};
 ghost use Rattle.sc_tree.specs.Plain as plain;
 ghost use Rattle.sc_tree.specs.View.{name_of};
-ghost use Rattle.sc_class.specs.Names as names;
-ghost use Rattle.sc_class.specs.Names.{number_among, is_listed, first_like};
-ghost use Rattle.sc_class.specs.Internal.NameIndex.{names_at, IsIndex};
-ghost use Rattle.sc_class.specs.Internal.ScopeSearch.{place_among};
+ghost use Rattle.sc_class.specs.Names.{number_among, is_listed};
+ghost use Rattle.sc_class.specs.Internal.NameIndex.{names_in, place_among, known_then, IsIndex};
 
 use indexmap::IndexMap;
 use sc_text::Span;
 use sc_tree::Name;
 use std::alloc::{AllocError, Global};
 use std::marker::Model;
-
-/// Whether it is the name of the feature that every class has.
-pub fn is_print(name: &str) -> bool
-    ensures { result ≡ names.is_print name.now }
-{
-    name == "print"
-}
 
 /// Whether two names are the same.
 pub fn is_same_text(one: &str, other: &str) -> bool
@@ -29,19 +19,48 @@ pub fn is_same_text(one: &str, other: &str) -> bool
     one == other
 }
 
-/// Names in the order in which they were added. A text is found by hash, at the first name that is it.
+/// What is known of a text: the number of the first name that is it, and the first place in the text of a class at
+/// which such a name stands.
+#[derive(Clone, Copy)]
+pub struct Known {
+    number: usize,
+    place: Span,
+}
+
+/// A name that was added, and what was known of its text before.
+#[derive(Clone, Copy)]
+pub struct Added<'s> {
+    name: &'s Name,
+    before: Option<Known>,
+}
+
+/// What is known of a text where a name that is it is added behind so many others.
+fn known_with(before: Option<Known>, number: usize, place: Span) -> Known
+    ensures { result ≡ known_then before number place }
+{
+    match before {
+        None => Known { number, place },
+        Some(known) if place.start < known.place.start => Known {
+            number: known.number,
+            place,
+        },
+        Some(known) => known,
+    }
+}
+
+/// Names in the order in which they were added. A text is found by hash.
 #[derive(Drop)]
 pub struct NameIndex<'s> {
-    names: Vec<&'s Name>,
-    numbers: IndexMap<&'s str, usize>,
+    names: Vec<Added<'s>>,
+    known: IndexMap<&'s str, Known>,
 }
 
 impl<'s> Model for NameIndex<'s> {
     ghost Value = { List plain.Name };
 
-    ghost view = { λ i. names_at i.names.items };
+    ghost view = { λ i. names_in i.names.items };
 
-    ghost invariant = { λ i. IsIndex i.numbers i.names.items };
+    ghost invariant = { λ i. IsIndex i.known i.names.items };
 }
 
 impl<'s> NameIndex<'s> {
@@ -51,7 +70,7 @@ impl<'s> NameIndex<'s> {
     {
         NameIndex {
             names: Vec::new(alloc),
-            numbers: IndexMap::new(alloc),
+            known: IndexMap::new(alloc),
         }
     }
 
@@ -68,12 +87,11 @@ impl<'s> NameIndex<'s> {
         ensures err { OnErr result (self.new ≡ self.old) }
     {
         let text = name.text.as_str();
-        let number = self.names.len();
+        let before = self.known.get(text).copied();
+        let known = known_with(before, self.names.len(), name.span);
         self.names.reserve(1)?;
-        if !self.numbers.contains_key(text) {
-            self.numbers.insert(text, number)?;
-        }
-        self.names.push_reserved(name);
+        self.known.insert(text, known)?;
+        self.names.push_reserved(Added { name, before });
         Ok(())
     }
 
@@ -81,7 +99,8 @@ impl<'s> NameIndex<'s> {
     pub fn number(&self, text: &str) -> Option<usize>
         ensures { result ≡ number_among text.now self.now }
     {
-        self.numbers.get(text).copied()
+        let known = self.known.get(text)?;
+        Some(known.number)
     }
 
     /// Whether one of the names is this text.
@@ -91,32 +110,28 @@ impl<'s> NameIndex<'s> {
         self.number(text).is_some()
     }
 
-    /// The first name that is this text.
-    pub fn first(&self, text: &str) -> Option<&'s Name>
-        ensures { option_map name_of (option_copied result) ≡ first_like text.now self.now }
-    {
-        match self.number(text) {
-            None => None,
-            Some(number) => Some(self.names[number]),
-        }
-    }
-
-    /// Where the first name that is this text stands.
+    /// The first place at which a name that is this text stands.
     pub fn place(&self, text: &str) -> Option<Span>
         ensures { result ≡ place_among text.now self.now }
     {
-        let name = self.first(text)?;
-        Some(name.span)
+        let known = self.known.get(text)?;
+        Some(known.place)
     }
 
     /// Takes the last name away.
     fn pop(&mut self)
         ensures { self.new ≡ take (length self.old - 1) self.old }
     {
-        if let Some(name) = self.names.pop() {
-            let text = name.text.as_str();
-            if self.numbers.get(text).copied() == Some(self.names.len()) {
-                self.numbers.swap_remove(text);
+        if let Some(last) = self.names.pop() {
+            let text = last.name.text.as_str();
+            match last.before {
+                None => {
+                    self.known.swap_remove(text);
+                }
+                // The text is there, so that this takes no memory.
+                Some(before) => {
+                    self.known.insert(text, before).ok();
+                }
             }
         }
     }

@@ -1,4 +1,5 @@
--- A call as tags see it: the caller and the called routine each have a current handler, and handlers of formals and of names of blocks.
+-- A call as tags see it: the caller and the called routine each have a current handler, and handlers of formals and of
+-- names of blocks.
 use Rattle.std.specs.Prelude.{◌≡◌, ℕ, List, Some, slice_get}
 use Rattle.sc_proctype.specs.declared.tag.Reserved.{Reserved}
 use Rattle.sc_proctype.specs.declared.tag.Reserved.TheVariants.{Formal}
@@ -8,8 +9,9 @@ use Rattle.sc_proctype.specs.Handlers.{LiesOn}
 use Rattle.sc_combine.specs.declared.known.Known.{Known}
 use Rattle.sc_combine.specs.declared.known.Known.TheVariants as known
 
--- Whatever lies where a result of this tag may, seen by the called routine, lies where this other tag says, seen by the caller.
--- Names in the result's tag are the caller's where the target is of its own handler; of others the caller knows nothing.
+-- Whatever lies where a result of this tag may, seen by the called routine, lies where this other tag says, seen by the
+-- caller. Names in the result's tag are the caller's where the target is of its own handler; of others the caller knows
+-- nothing.
 abbrev pub IsResultTag : Tag → Tag → Tag → Type 0
 IsResultTag target result seen =
     (caller called object : ℕ) (of inner : Reserved → ℕ) →
@@ -22,9 +24,11 @@ IsTrueOf known.Own caller of handler = handler ≡ caller
 IsTrueOf (known.With x) caller of handler = handler ≡ of x
 IsTrueOf known.Neither caller of handler = Unit {0}
 
--- Whatever lies where an actual of this tag may, seen by the caller, lies where the formal's tag says, seen by the called routine.
+-- Whatever lies where an actual of this tag may, seen by the caller, lies where the formal's tag says, seen by the
+-- called routine.
 abbrev pub IsActualTag : Tag → Tag → List Known → Tag → Type 0
 IsActualTag target formal actuals seen =
     (caller called object : ℕ) (of inner : Reserved → ℕ) →
-    LiesOn target caller of called → ((y : ℕ) (a : Known) → slice_get actuals y ≡ Some a → IsTrueOf a caller of (inner (Formal y))) →
+    LiesOn target caller of called →
+    ((y : ℕ) (a : Known) → slice_get actuals y ≡ Some a → IsTrueOf a caller of (inner (Formal y))) →
     LiesOn seen caller of object → LiesOn formal called inner object

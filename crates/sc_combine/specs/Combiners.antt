@@ -9,7 +9,8 @@ use Rattle.sc_proctype.specs.declared.entity_type.EntityType.{EntityType}
 use Rattle.sc_combine.specs.declared.known.Known.{Known}
 use Rattle.sc_combine.specs.declared.known.Known.TheVariants as known
 
--- For a target of tag `own` the result keeps its tag, and a result of tag `own` takes the target's; any other has the tag `any`.
+-- For a target of tag `own` the result keeps its tag, and a result of tag `own` takes the target's; any other has the
+-- tag `any`.
 abbrev pub result_tag : Tag → Tag → Tag
 result_tag tag.Own result = result
 result_tag target tag.Own = target
@@ -35,7 +36,8 @@ known_tag known.Own = tag.Own
 known_tag (known.With x) = tag.With x
 known_tag known.Neither = tag.None
 
--- For a formal of tag `any`, `any`; for one of tag `own`, that of the target's handler; for one of another formal's handler, that of its actual's.
+-- For a formal of tag `any`, `any`; for one of tag `own`, that of the target's handler; for one of another formal's
+-- handler, that of its actual's.
 abbrev pub argument_tag : Tag → Tag → List Known → Tag
 argument_tag target tag.Any actuals = tag.Any
 argument_tag target tag.Own actuals = known_tag (known_of target)
@@ -46,4 +48,9 @@ argument_tag target tag.None actuals = tag.None
 -- For an expanded formal the tag is `own`. Mark and class are the formal's.
 abbrev pub combined_argument : EntityType → EntityType → List Known → EntityType
 combined_argument target formal actuals =
-    record { attached = formal.attached; tag = if is_expanded formal.class then tag.Own else argument_tag target.tag formal.tag actuals; class = formal.class }
+    record {
+      attached = formal.attached;
+      tag = if is_expanded formal.class then tag.Own else argument_tag target.tag formal.tag actuals;
+      class =
+          formal.class;
+    }

@@ -13,15 +13,18 @@ use Rattle.sc_combine.specs.Calls.{IsResultTag, IsActualTag}
 
 -- A result that is a reference has the tag `own` only where the target has.
 abbrev pub OwnResult : Type 0
-OwnResult = (target result : EntityType) → is_expanded result.class ≡ false → (combined_result target result).tag ≡ tag.Own → target.tag ≡ tag.Own
+OwnResult = (target result : EntityType) → is_expanded result.class ≡ false →
+    (combined_result target result).tag ≡ tag.Own → target.tag ≡ tag.Own
 
 -- No reference of tag `any` may be an actual for a formal of tag `own`.
 abbrev pub NoTraitor : Type 0
 NoTraitor =
-    (s : System) (actual target formal : EntityType) (actuals : List Known) → is_expanded actual.class ≡ false → actual.tag ≡ tag.Any →
+    (s : System) (actual target formal : EntityType) (actuals : List Known) → is_expanded actual.class ≡ false →
+    actual.tag ≡ tag.Any →
     formal.tag ≡ tag.Own → conforms s actual (combined_argument target formal actuals) ≡ false
 
--- A result may be taken for one of a tag exactly where the combined tag conforms to it. Void is neither a target nor a result's declared type.
+-- A result may be taken for one of a tag exactly where the combined tag conforms to it. Void is neither a target nor a
+-- result's declared type.
 abbrev pub ExactResult : Type 0
 ExactResult =
     (target result seen : Tag) → (target ≡ tag.None → ⊥) → (result ≡ tag.None → ⊥) →

@@ -12,7 +12,7 @@ use Rattle.sc_proctype.specs.declared.tag.Tag.{Tag}
 use Rattle.sc_proctype.specs.declared.tag.Tag.TheVariants as tag
 use Rattle.sc_proctype.specs.Tags.{is_same_reserved, tag_conforms}
 use Rattle.sc_proctype.specs.Conformance.{mark_conforms}
-use Rattle.sc_proctype.specs.Laws.{IsClassOf, IsWithin, Reflexive, Transitive, AttachedOwn, VoidFits, TagsAreHandlers}
+use Rattle.sc_proctype.specs.Laws.{IsClassOf, IsWithin, ExpandedAlone, Reflexive, Transitive, AttachedOwn, VoidFits, TagsAreHandlers}
 use Rattle.sc_class.proofs.Ancestry.{ancestor_itself, ancestor_of_ancestor}
 
 -- ---- truth values
@@ -37,6 +37,31 @@ class_itself s class.None l = refl
 class_itself s class.Integer l = refl
 class_itself s class.Boolean l = refl
 class_itself s (class.Declared k) l = ancestor_itself s k l
+
+-- INTEGER and BOOLEAN, on either side
+pub expanded_alone : ExpandedAlone
+expanded_alone s class.Integer b o = (only b, λ e. subst (λ b. class_conforms s class.Integer b ≡ true) e refl)
+  where
+    only : (b : ClassId) → class_conforms s class.Integer b ≡ true → class.Integer ≡ b
+    only class.Integer e = refl
+    only b e = cc
+expanded_alone s class.Boolean b o = (only b, λ e. subst (λ b. class_conforms s class.Boolean b ≡ true) e refl)
+  where
+    only : (b : ClassId) → class_conforms s class.Boolean b ≡ true → class.Boolean ≡ b
+    only class.Boolean e = refl
+    only b e = cc
+expanded_alone s (class.Declared k) class.Integer o = (λ e. cc, λ e. cc)
+expanded_alone s (class.Declared k) class.Boolean o = (λ e. cc, λ e. cc)
+expanded_alone s class.Any class.Integer o = (λ e. cc, λ e. cc)
+expanded_alone s class.Any class.Boolean o = (λ e. cc, λ e. cc)
+expanded_alone s class.None class.Integer o = (λ e. cc, λ e. cc)
+expanded_alone s class.None class.Boolean o = (λ e. cc, λ e. cc)
+expanded_alone s (class.Declared k) b (inl e) = cc
+expanded_alone s class.Any b (inl e) = cc
+expanded_alone s class.None b (inl e) = cc
+expanded_alone s a (class.Declared k) (inr e) = cc
+expanded_alone s a class.Any (inr e) = cc
+expanded_alone s a class.None (inr e) = cc
 
 class_over : (s : System) (a b c : ClassId) → class_conforms s a b ≡ true → class_conforms s b c ≡ true → class_conforms s a c ≡ true
 class_over s (class.Declared k) (class.Declared j) (class.Declared i) e f = ancestor_of_ancestor s k j i e f

@@ -4,7 +4,8 @@ use Rattle.sc_proctype.specs.declared.tag.Reserved.{Reserved}
 use Rattle.sc_proctype.specs.declared.tag.Tag.{Tag}
 use Rattle.sc_proctype.specs.declared.tag.Tag.TheVariants as tag
 
--- An object of a type with this tag may lie on the handler, seen from the current one, where the formals and the names of blocks have these handlers.
+-- An object of a type with this tag may lie on the handler, seen from the current one, where the formals and the names
+-- of blocks have these handlers.
 abbrev pub LiesOn : Tag → ℕ → (Reserved → ℕ) → ℕ → Type 0
 LiesOn tag.Own current of handler = handler ≡ current
 LiesOn tag.Any current of handler = Unit {0}

@@ -1,9 +1,9 @@
 -- Laws of conformance.
-use Rattle.std.specs.Prelude.{◌≡◌, ◌<◌, ◌⊎◌, ℕ, true, not, ◌&&◌, length}
+use Rattle.std.specs.Prelude.{◌≡◌, ◌<◌, ◌⊎◌, ◌↔◌, ℕ, true, not, ◌&&◌, length}
 use Rattle.sc_tree.specs.Plain.{System}
 use Rattle.sc_class.specs.declared.identity.ClassId.{ClassId}
 use Rattle.sc_class.specs.declared.identity.ClassId.TheVariants as class
-use Rattle.sc_class.specs.Tables.Conformance.{is_expanded}
+use Rattle.sc_class.specs.Tables.Conformance.{is_expanded, class_conforms}
 use Rattle.sc_proctype.specs.declared.tag.Reserved.{Reserved}
 use Rattle.sc_proctype.specs.declared.tag.Tag.{Tag}
 use Rattle.sc_proctype.specs.declared.tag.Tag.TheVariants as tag
@@ -25,6 +25,12 @@ Reflexive = (s : System) (t : EntityType) → IsClassOf s t.class → conforms s
 abbrev pub Transitive : Type 0
 Transitive = (s : System) (t u v : EntityType) → conforms s t u ≡ true → conforms s u v ≡ true → conforms s t v ≡ true
 
+-- INTEGER and BOOLEAN conform to themselves alone, and nothing else conforms to them.
+abbrev pub ExpandedAlone : Type 0
+ExpandedAlone =
+    (s : System) (a b : ClassId) → (is_expanded a ≡ true) ⊎ (is_expanded b ≡ true) →
+    (class_conforms s a b ≡ true) ↔ (a ≡ b)
+
 -- What conforms to an attached type of tag `own` is attached, and its tag is `own` or Void's.
 abbrev pub AttachedOwn : Type 0
 AttachedOwn =
@@ -35,9 +41,11 @@ AttachedOwn =
 abbrev pub VoidFits : Type 0
 VoidFits = (s : System) (u : EntityType) → conforms s void u ≡ (not u.attached && not (is_expanded u.class))
 
--- A tag conforms to another exactly where each handler on which its objects may lie is one of the other's, from wherever it is seen.
+-- A tag conforms to another exactly where each handler on which its objects may lie is one of the other's, from
+-- wherever it is seen.
 abbrev pub IsWithin : Tag → Tag → Type 0
-IsWithin t u = (current : ℕ) (of : Reserved → ℕ) (handler : ℕ) → LiesOn t current of handler → LiesOn u current of handler
+IsWithin t u = (current : ℕ) (of : Reserved → ℕ) (handler : ℕ) → LiesOn t current of handler →
+    LiesOn u current of handler
 
 abbrev pub TagsAreHandlers : Type 0
 TagsAreHandlers = (t u : Tag) → (tag_conforms t u ≡ true → IsWithin t u) × (IsWithin t u → tag_conforms t u ≡ true)

@@ -1,6 +1,6 @@
 //! Laws of conformance, each the contract of a function that does nothing.
 
-ghost use Rattle.sc_proctype.specs.Laws.{AttachedOwn, Reflexive, TagsAreHandlers, Transitive, VoidFits};
+ghost use Rattle.sc_proctype.specs.Laws.{AttachedOwn, ExpandedAlone, Reflexive, TagsAreHandlers, Transitive, VoidFits};
 
 /// Each type conforms to itself.
 pub fn conformance_is_reflexive()
@@ -10,6 +10,11 @@ pub fn conformance_is_reflexive()
 /// What conforms to a type conforms to all that this type conforms to.
 pub fn conformance_is_transitive()
     ensures { Transitive }
+{}
+
+/// INTEGER and BOOLEAN conform to themselves alone, and nothing else conforms to them.
+pub fn expanded_conform_alone()
+    ensures { ExpandedAlone }
 {}
 
 /// What conforms to an attached type of the current handler is attached, and of the current handler or Void's tag.

@@ -3,7 +3,8 @@
 ghost use Rattle.std.specs.Prelude.{◌≡◌};
 ghost use Rattle.sc_proctype.specs.Tags.{tag_conforms};
 
-/// A name of a routine whose handler is reserved where the name is known. Two that are known in one place are told apart.
+/// A name of a routine whose handler is reserved where the name is known. Two that are known in one place are told
+/// apart.
 #[derive(Clone, Copy, Debug, PartialEq, Eq)]
 pub enum Reserved {
     /// The formal at this number of the routine's list, from 0.

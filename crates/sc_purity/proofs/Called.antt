@@ -4,7 +4,8 @@ use Rattle.std.specs.Prelude.{is_some, if◌then◌else◌}
 use Rattle.sc_tree.specs.Plain.{System, FeatureKind, Attribute, Routine, Name, Target, no_target, target}
 use Rattle.sc_class.specs.declared.identity.ClassId.{ClassId}
 use Rattle.sc_class.specs.declared.identity.ClassId.TheVariants as class
-use Rattle.sc_class.specs.Names.{is_listed, is_print}
+use Rattle.sc_tree.specs.Properties.{is_print}
+use Rattle.sc_class.specs.Names.{is_listed}
 use Rattle.sc_class.specs.Tables.Ancestors.{ancestors}
 use Rattle.sc_class.specs.Tables.Features.{DeclaredFeature, declared_features, redefined_names, features_along, named_among, feature_named}
 use Rattle.sc_class.proofs.NameLemmas.{same_text}

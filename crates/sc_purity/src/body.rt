@@ -97,7 +97,8 @@ fn add_heads<'s>(
     effects: &mut Vec<Effect<'s>>,
 ) -> Result<(), CheckFault>
     ensures effects { Adds effects.old.items effects.new.items (spec.effects_of_heads (routine_in routine.now) (map entity_of names.now) (map head_of heads.now)) result }
-    ensures reserved { OnOk result (map entity_of known.new.items ≡ spec.reserved_anyway (routine_in routine.now) (map entity_of names.now) (map entity_of known.old.items) (map head_of heads.now)) }
+    ensures reserved { OnOk result (map entity_of known.new.items
+        ≡ spec.reserved_anyway (routine_in routine.now) (map entity_of names.now) (map entity_of known.old.items) (map head_of heads.now)) }
 {
     for head in heads {
         let value = add_expression(

@@ -91,8 +91,8 @@ fn add_kind<'s>(
     }
 }
 
-/// What bears on the purity of the routine of this name that the class at the number declares. What isn't a function without
-/// attached separate formals does what no pure function does, and so does what isn't declared.
+/// What bears on the purity of the routine of this name that the class at the number declares. What isn't a function
+/// without attached separate formals does what no pure function does, and so does what isn't declared.
 #[tactic(auto, unfolding(sc_tree::specs::View::feature_of))]
 pub fn effects_of<'s>(
     alloc: Global,
@@ -100,7 +100,8 @@ pub fn effects_of<'s>(
     class: usize,
     name: &str,
 ) -> Result<Vec<Effect<'s>>, CheckFault>
-    ensures effects { IfOk result (λ effects. map effect_of effects.items ≡ all_effects (system_in tables.now) (record { class = class; name = name.now })) }
+    ensures effects { IfOk result (λ effects. map effect_of effects.items
+        ≡ all_effects (system_in tables.now) (record { class = class; name = name.now })) }
     ensures memory { IfErr result (λ e. e ≡ OutOfMemory) }
 {
     let mut effects = Vec::new(alloc);

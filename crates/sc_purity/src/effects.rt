@@ -78,8 +78,8 @@ fn add_meaning<'s>(
     }
 }
 
-/// Adds a call whose target has this type, if it has one, apart from what is done in its target and its actuals; gives what
-/// is meant.
+/// Adds a call whose target has this type, if it has one, apart from what is done in its target and its actuals; gives
+/// what is meant.
 #[tactic(auto, using(crate::proofs::EffectSteps::added_two))]
 pub fn add_named<'s>(
     routine: &RoutineContext<'_, 's>,
@@ -89,7 +89,8 @@ pub fn add_named<'s>(
     effects: &mut Vec<Effect<'s>>,
 ) -> Result<Meaning<'s>, CheckFault>
     ensures effects { Adds effects.old.items effects.new.items (spec.effects_of_name (routine_in routine.now) (map entity_of names.now) (target_of call.now.target) receiver (name_of call.now.name)) result }
-    ensures meaning { IfOk result (λ m. meaning_in (system_in routine.now.tables.now) m ≡ names_specs.meaning_of (routine_in routine.now) (map entity_of names.now) (target_of call.now.target) receiver (name_of call.now.name)) }
+    ensures meaning { IfOk result (λ m. meaning_in (system_in routine.now.tables.now) m
+        ≡ names_specs.meaning_of (routine_in routine.now) (map entity_of names.now) (target_of call.now.target) receiver (name_of call.now.name)) }
 {
     let meaning = routine.meaning_of(names, &call.target, receiver, &call.name);
     add_side_effect_if(effects, is_foreign_type(receiver))?;

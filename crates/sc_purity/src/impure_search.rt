@@ -48,7 +48,8 @@ fn mark_named(
     name: &str,
 ) -> Result<(), AllocError>
     requires { length search.old.impure.items ≡ length (all_features (system_in numbering.now.tables.now)) }
-    ensures { let s = system_in numbering.now.tables.now in OnOk result (MarksAll (IsNamedIn s classes.now name.now) search.old search.new) }
+    ensures { let s = system_in numbering.now.tables.now in
+        OnOk result (MarksAll (IsNamedIn s classes.now name.now) search.old search.new) }
 {
     for class in classes {
         mark_if_any(search, numbering.number(*class, name))?;
@@ -121,7 +122,8 @@ fn mark_runners(
     requires as_many { length search.old.impure.items ≡ length (all_features (system_in numbering.now.tables.now)) }
     requires callers { AreCallers (system_in numbering.now.tables.now) callers.now.lists.items (length (all_features (system_in numbering.now.tables.now))) }
     ensures { let s = system_in numbering.now.tables.now in
-        OnOk result (MarksOf (RunsNumber s number) search.old search.new × MarksRunners s number search.new.impure.items) }
+        OnOk result (MarksOf (RunsNumber s number) search.old search.new
+        × MarksRunners s number search.new.impure.items) }
 {
     mark_all(search, callers.of(number))?;
     let entry = numbering.features[number];
@@ -132,7 +134,8 @@ fn mark_runners(
 
 /// Marks the features that aren't pure functions.
 pub fn impure_features(alloc: Global, numbering: &Numbering) -> Result<Vec<bool>, CheckFault>
-    ensures pure { let s = system_in numbering.now.tables.now in IfOk result (λ impure. IsPurity s (pure_by s impure.items)) }
+    ensures pure { let s = system_in numbering.now.tables.now in
+        IfOk result (λ impure. IsPurity s (pure_by s impure.items)) }
     ensures memory { IfErr result (λ fault. fault ≡ OutOfMemory) }
 {
     let count = numbering.features.len();

@@ -22,8 +22,8 @@ use sc_class::Tables;
 use sc_typing::{CheckFault, Marks, Numbering, Purity};
 use std::alloc::Global;
 
-/// The test that tells the pure functions of the system of these tables. It takes time in proportion to the text, to the
-/// calls in it, and to the ancestors of each routine's class. It fails only where no memory is left.
+/// The test that tells the pure functions of the system of these tables. It takes time in proportion to the text, to
+/// the calls in it, and to the ancestors of each routine's class. It fails only where no memory is left.
 pub fn pure_functions<'t, 's>(
     alloc: Global,
     tables: &'t Tables<'s>,

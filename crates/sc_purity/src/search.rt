@@ -1,4 +1,5 @@
-// The search for the features that aren't pure functions: from those that are impure themselves to those that may run them.
+// The search for the features that aren't pure functions: from those that are impure themselves to those that may run
+// them.
 
 ghost use Rattle.std.specs.Prelude.{◌≡◌, ◌<◌, ◌++◌, ℕ, [], ◌∷◌, OnOk, IfOk, length, if◌then◌else◌, ◌==◌};
 ghost use Rattle.sc_class.specs.Search.{IsSeen};
@@ -17,7 +18,8 @@ pub struct Search {
 impl Search {
     /// A search among so many features that has found none of them.
     pub fn new(alloc: Global, count: usize) -> Result<Search, AllocError>
-        ensures { IfOk result (λ search. (length search.impure.items ≡ count) × (search.todo.items ≡ []) × ((k : ℕ) → IsSeen search.impure.items k → ⊥)) }
+        ensures { IfOk result (λ search. (length search.impure.items ≡ count) × (search.todo.items ≡ [])
+            × ((k : ℕ) → IsSeen search.impure.items k → ⊥)) }
     {
         let impure = vec![in alloc; false; count]?;
         Ok(Search {
@@ -63,7 +65,10 @@ impl Callers {
     pub fn add(&mut self, called: usize, caller: usize) -> Result<(), AllocError>
         requires { called < length self.old.lists.items }
         ensures many { OnOk result (length self.new.lists.items ≡ length self.old.lists.items) }
-        ensures added { OnOk result ((k : ℕ) → callers_in self.new.lists.items k ≡ (if k == called then callers_in self.old.lists.items k ++ caller ∷ [] else callers_in self.old.lists.items k)) }
+        ensures added { OnOk result ((k : ℕ) →
+            callers_in self.new.lists.items k
+            ≡ (if k == called then callers_in self.old.lists.items k
+            ++ caller ∷ [] else callers_in self.old.lists.items k)) }
     {
         self.lists[called].push(caller)?;
         Ok(())

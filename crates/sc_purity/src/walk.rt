@@ -213,7 +213,8 @@ pub fn add_condition<'s>(
     effects: &mut Vec<Effect<'s>>,
 ) -> Result<(), CheckFault>
     ensures effects { Adds effects.old.items effects.new.items (spec.effects (routine_in routine.now) context Condition (map entity_of names.old.items) (expr_of e.now)) result }
-    ensures given { OnOk result (map entity_of names.new.items ≡ spec.given_anyway (routine_in routine.now) context (map entity_of names.old.items) (expr_of e.now)) }
+    ensures given { OnOk result (map entity_of names.new.items
+        ≡ spec.given_anyway (routine_in routine.now) context (map entity_of names.old.items) (expr_of e.now)) }
 {
     match e {
         Expr::Binary(_, operator, left, right) if is_and_then(*operator) => {

@@ -4,7 +4,7 @@ use Rattle.std.proofs.Common.{◌≡◌, ℕ, Bool, true, false, not, ◌||◌, 
 use Rattle.std.specs.Prelude.{if◌then◌else◌}
 use Rattle.sc_tree.specs.Plain.{ObjectTest, DeclaredType, FeatureKind, Attribute, Routine, Expr, Exprs, Target, no_target, target, Name, Head, Variable, Named, ResultVariable}
 use Rattle.sc_class.specs.declared.identity.ClassId.TheVariants as class
-use Rattle.sc_class.specs.Names.{is_print}
+use Rattle.sc_tree.specs.Properties.{is_print}
 use Rattle.sc_class.specs.Tables.Features.{DeclaredFeature, feature_named}
 use Rattle.sc_proctype.specs.declared.entity_type.EntityType.{EntityType}
 use Rattle.sc_rules.specs.declared.position.Context.{Context}

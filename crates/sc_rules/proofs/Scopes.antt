@@ -10,7 +10,7 @@ use Rattle.sc_tree.specs.declared.expression.BinaryOperator.TheVariants as binar
 use Rattle.sc_tree.specs.Plain.{System, Declaration, DeclaredType, HandlerTag, Own, Separate, HandlerOf, FeatureKind, Attribute, Routine, Expr, Target, no_target, target, Name}
 use Rattle.sc_class.specs.declared.identity.ClassId.{ClassId}
 use Rattle.sc_class.specs.declared.identity.ClassId.TheVariants as class
-use Rattle.sc_class.specs.Names.{is_print}
+use Rattle.sc_tree.specs.Properties.{is_print}
 use Rattle.sc_class.specs.Tables.Conformance.{is_expanded, type_class}
 use Rattle.sc_class.specs.Tables.Features.{DeclaredFeature, feature_named}
 use Rattle.sc_proctype.specs.declared.tag.Reserved.TheVariants.{Formal}

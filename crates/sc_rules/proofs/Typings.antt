@@ -9,7 +9,8 @@ use Rattle.sc_tree.specs.declared.expression.BinaryOperator.{BinaryOperator}
 use Rattle.sc_tree.specs.Plain.{System, DeclaredType, FeatureKind, Attribute, Routine, Name, Expr, Binary, ObjectTest, Target, no_target, target}
 use Rattle.sc_class.specs.declared.identity.ClassId.{ClassId}
 use Rattle.sc_class.specs.declared.identity.ClassId.TheVariants as class
-use Rattle.sc_class.specs.Names.{is_listed, is_print}
+use Rattle.sc_tree.specs.Properties.{is_print}
+use Rattle.sc_class.specs.Names.{is_listed}
 use Rattle.sc_class.specs.Tables.Features.{DeclaredFeature, declared_features, not_redefined, redefined_names, features_along, features, feature_named}
 use Rattle.sc_class.specs.Tables.Ancestors.{ancestors}
 use Rattle.sc_proctype.specs.declared.entity_type.EntityType.{EntityType}

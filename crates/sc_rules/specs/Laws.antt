@@ -54,7 +54,8 @@ is_declared s (Routine routine) =
 
 -- those of all features are
 abbrev pub AllDeclared : System → Type 0
-AllDeclared s = (k : ℕ) → list_all (λ (f : DeclaredFeature). is_declared s f.feature.kind) (declared_features s k) ≡ true
+AllDeclared s = (k : ℕ) →
+    list_all (λ (f : DeclaredFeature). is_declared s f.feature.kind) (declared_features s k) ≡ true
 
 -- the names have types
 abbrev pub are_typed : Entities → Bool

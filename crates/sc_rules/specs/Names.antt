@@ -4,7 +4,7 @@ use Rattle.std.specs.Option.{option_map}
 use Rattle.sc_text.specs.declared.token.Span.{Span}
 use Rattle.sc_tree.specs.Plain.{System, Declaration, DeclaredType, RoutineDeclaration, FeatureKind, Attribute, Routine, Name, Target, no_target, target, Variable, Named, ResultVariable}
 use Rattle.sc_class.specs.declared.identity.ClassId.TheVariants as class
-use Rattle.sc_class.specs.Names.{is_print}
+use Rattle.sc_tree.specs.Properties.{is_print}
 use Rattle.sc_class.specs.ClassNames.{is_none}
 use Rattle.sc_class.specs.Tables.Features.{DeclaredFeature, feature_named}
 use Rattle.sc_proctype.specs.declared.tag.Reserved.TheVariants.{Formal, BlockName}

@@ -58,7 +58,8 @@ abbrev pub WhereverItStands : (RoutineContext → Site → Type 0) → Type 0
 WhereverItStands law =
     (s : System) (pure : RoutineName → Bool) (h : RoutineContext) (b : Site) → Stands s pure h b → law h b
 
--- The tag of an expression names a formal that is reserved, or a name of a separate block that is known where it stands.
+-- The tag of an expression names a formal that is reserved, or a name of a separate block that is known where it
+-- stands.
 abbrev pub TagsNameKnown : Type 0
 TagsNameKnown = WhereverItStands λ h b. (c : Context) (k : Position) (n : Entities) (e : Expr) (t : EntityType)
     (is_separate : Bool) → b ≡ expression c k n e → HasType h c k n e (typing (Some t) is_separate) →

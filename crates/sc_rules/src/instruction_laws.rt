@@ -6,8 +6,8 @@ pub fn variables_stand()
     ensures { VariablesStand }
 {}
 
-/// In a well-formed system each creation makes an object of the current handler or of a new one, in a way that its class
-/// allows.
+/// In a well-formed system each creation makes an object of the current handler or of a new one, in a way that its
+/// class allows.
 pub fn creations_stand()
     ensures { CreationsStand }
 {}

@@ -2,9 +2,9 @@
 //! system of classes.
 //!
 //! `specs/Typing` gives each expression its type, `specs/Sites` says what stands where and which names are known there,
-//! `specs/Purity` which functions contracts may call, and `specs/TextRules` and `specs/SystemRules` have the premises of
-//! the rules, one constructor each, up to `WellFormed`. `specs/Judging` and its like say which fault is answered where
-//! several rules fail.
+//! `specs/Purity` which functions contracts may call, and `specs/TextRules` and `specs/SystemRules` have the premises
+//! of the rules, one constructor each, up to `WellFormed`. `specs/Judging` and its like say which fault is answered
+//! where several rules fail.
 //!
 //! What follows stands in [`laws`] (types and declarations), [`scope_laws`] (names and tags), [`purity_laws`],
 //! [`system_laws`] (calls and assignments), [`instruction_laws`], [`text_laws`] (contracts, conditions and separate

@@ -21,8 +21,8 @@ pub fn actuals_conform()
     ensures { ActualsConform }
 {}
 
-/// In a well-formed system each actual of a creation conforms to its formal, combined with the created entity's type and
-/// the actuals.
+/// In a well-formed system each actual of a creation conforms to its formal, combined with the created entity's type
+/// and the actuals.
 pub fn creation_actuals_conform()
     ensures { CreationActualsConform }
 {}

@@ -24,7 +24,8 @@ start (c ∷ cs) (suc k) = length c.features + start cs k
 
 -- the number of the feature of this name that the class declares
 abbrev pub feature_number : System → RoutineName → Option ℕ
-feature_number s f = option_map (λ i. start s.classes f.class + i) (number_among f.name (declared_feature_names_at s f.class))
+feature_number s f =
+    option_map (λ i. start s.classes f.class + i) (number_among f.name (declared_feature_names_at s f.class))
 
 -- Marks tell the pure functions: those of declared features that aren't marked as impure.
 abbrev pub unmarked : List Bool → Option ℕ → Bool

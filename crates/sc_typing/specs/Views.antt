@@ -29,7 +29,13 @@ use Rattle.sc_typing.specs.declared.expressions.typing.Typing.{Typing}
 use Rattle.sc_typing.specs.declared.expressions.typing.JudgedActual.{JudgedActual}
 
 abbrev pub routine_in : RoutineContext → names.RoutineContext
-routine_in h = record { system = system_in h.tables.now; class = h.class; formals = map declaration_of h.formals.now; result = h.result; pure = is_marked h.purity.now }
+routine_in h = record {
+  system = system_in h.tables.now;
+  class = h.class;
+  formals = map declaration_of h.formals.now;
+  result = h.result;
+  pure = is_marked h.purity.now;
+}
 
 abbrev pub entity_of : Entity → names.Entity
 entity_of e = names.entity e.name.now e.entity_type e.role
@@ -39,12 +45,19 @@ entry_if_any None = None
 entry_if_any (Some e) = Some (entry_of e)
 
 abbrev pub formals_in : plain.System → Formals → List names.FormalType
-formals_in s (Declared ds) = map (λ (d : plain.Declaration). names.formal_type (declared_type s (map declaration_of ds.now) d.declared_type)) (map declaration_of ds.now)
+formals_in s (Declared ds) =
+    map (λ (d : plain.Declaration). names.formal_type (declared_type s (map declaration_of ds.now) d.declared_type)) (map declaration_of ds.now)
 formals_in s Printed = names.of_expanded ∷ []
 
 abbrev pub signature_in : plain.System → Signature → names.Signature
 signature_in s g =
-    record { target = g.target; formals = formals_in s g.formals; gives = g.gives; routine = option_map (λ e. names.routine_of (entry_of e)) g.routine; is_secret = g.is_secret }
+    record {
+      target = g.target;
+      formals = formals_in s g.formals;
+      gives = g.gives;
+      routine = option_map (λ e. names.routine_of (entry_of e)) g.routine;
+      is_secret = g.is_secret;
+    }
 
 abbrev pub meaning_in : plain.System → Meaning → names.Meaning
 meaning_in s meaning.Unknown = names.unknown

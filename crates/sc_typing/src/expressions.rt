@@ -153,8 +153,8 @@ impl<'t, 's> RoutineContext<'t, 's> {
         self.judge_actuals_and_name(&site, &meaning, &found, receiver)
     }
 
-    /// Judges the condition of an `if` or an operand of the `and then`s at its top. The names that its object tests give
-    /// join those that are known.
+    /// Judges the condition of an `if` or an operand of the `and then`s at its top. The names that its object tests
+    /// give join those that are known.
     #[tactic(auto, unfolding(sc_rules::specs::Judging::judge, sc_tree::specs::View::expr_of))]
     pub fn condition(
         &self,

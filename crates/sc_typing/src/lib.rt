@@ -1,5 +1,5 @@
-//! Typing: what a name stands for in the text of a routine, and the type that an expression has there, or the first rule
-//! that fails in it. The rules are those of `sc_rules`.
+//! Typing: what a name stands for in the text of a routine, and the type that an expression has there, or the first
+//! rule that fails in it. The rules are those of `sc_rules`.
 //!
 //! A [`RoutineContext`] is the routine, or the invariant, whose text is judged: [`RoutineContext::expression`],
 //! [`RoutineContext::call`] and [`RoutineContext::condition`] judge a part of it, where the names that are known are

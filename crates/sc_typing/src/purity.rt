@@ -19,8 +19,8 @@ pub enum Purity<'t, 's> {
 }
 
 impl<'t, 's> Purity<'t, 's> {
-    /// Whether the routine of this name that the class at the number declares is a pure function. It looks once by hash, and
-    /// at the class's features in turn.
+    /// Whether the routine of this name that the class at the number declares is a pure function. It looks once by
+    /// hash, and at the class's features in turn.
     pub fn is_pure(&self, class: usize, name: &str) -> bool
         ensures { result ≡ is_marked self.now (record { class = class; name = name.now }) }
     {

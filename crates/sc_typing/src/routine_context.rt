@@ -5,7 +5,7 @@ ghost use Rattle.std.specs.Option.{option_map};
 ghost use Rattle.sc_tree.specs.View.{feature_of, kind_of, name_of, target_of, type_if_any, type_of};
 ghost use Rattle.sc_class.specs.View.{entry_of};
 ghost use Rattle.sc_class.specs.Tables.Features as features;
-ghost use Rattle.sc_class.specs.Names as class_names;
+ghost use Rattle.sc_tree.specs.Properties as properties;
 ghost use Rattle.sc_rules.specs.Names as spec;
 ghost use Rattle.sc_typing.specs.Views.{entity_of, entry_if_any, routine_in, signature_in, meaning_in};
 ghost use Rattle.sc_class.specs.SystemIn.{system_in};
@@ -79,7 +79,7 @@ fn is_hidden(exports: &[Name]) -> bool
 
 /// Whether it is the name of the feature that every class has.
 pub fn is_print(name: &str) -> bool
-    ensures { result ≡ class_names.is_print name.now }
+    ensures { result ≡ properties.is_print name.now }
 {
     name == "print"
 }
@@ -87,7 +87,8 @@ pub fn is_print(name: &str) -> bool
 /// A feature behind a target of this type.
 #[tactic(auto, unfolding(sc_tree::specs::View::feature_of, sc_tree::specs::View::kind_of))]
 fn signature_of<'s>(tables: &Tables, target: EntityType, entry: FeatureEntry<'s>) -> Signature<'s>
-    ensures { signature_in (system_in tables.now) result ≡ spec.signature_of (system_in tables.now) target (entry_of entry.entry) }
+    ensures { signature_in (system_in tables.now) result
+        ≡ spec.signature_of (system_in tables.now) target (entry_of entry.entry) }
 {
     let is_secret = is_hidden(&entry.feature.exports);
     match &entry.feature.kind {
@@ -114,7 +115,8 @@ fn meaning_of_feature<'s>(
     target: EntityType,
     entry: Option<FeatureEntry<'s>>,
 ) -> Meaning<'s>
-    ensures { meaning_in (system_in tables.now) result ≡ spec.meaning_of_feature (system_in tables.now) target (entry_if_any entry.entry) }
+    ensures { meaning_in (system_in tables.now) result
+        ≡ spec.meaning_of_feature (system_in tables.now) target (entry_if_any entry.entry) }
 {
     match entry {
         None => Meaning::Unknown,
@@ -163,7 +165,8 @@ impl<'t, 's> RoutineContext<'t, 's> {
 
     /// What the use of an entity is judged by.
     fn entity_signature(&self, known: Entity) -> Signature<'s>
-        ensures { signature_in (system_in self.now.tables.now) result ≡ spec.entity_signature (routine_in self.now) (entity_of known.entry) }
+        ensures { signature_in (system_in self.now.tables.now) result
+            ≡ spec.entity_signature (routine_in self.now) (entity_of known.entry) }
     {
         Signature {
             target: self.current(),
@@ -176,7 +179,8 @@ impl<'t, 's> RoutineContext<'t, 's> {
 
     /// What a name stands for that is no entity: `print`, or a feature of the class.
     fn feature_meaning(&self, name: &str) -> Meaning<'s>
-        ensures { meaning_in (system_in self.now.tables.now) result ≡ spec.feature_meaning (routine_in self.now) name.now }
+        ensures { meaning_in (system_in self.now.tables.now) result
+            ≡ spec.feature_meaning (routine_in self.now) name.now }
     {
         if is_print(name) {
             return Meaning::Named(self.print_signature());
@@ -187,7 +191,8 @@ impl<'t, 's> RoutineContext<'t, 's> {
 
     /// What a name stands for without a target.
     fn unqualified_meaning(&self, names: &[Entity], name: &str) -> Meaning<'s>
-        ensures { meaning_in (system_in self.now.tables.now) result ≡ spec.unqualified_meaning (routine_in self.now) (map entity_of names.now) name.now }
+        ensures { meaning_in (system_in self.now.tables.now) result
+            ≡ spec.unqualified_meaning (routine_in self.now) (map entity_of names.now) name.now }
     {
         match entity_named(name, names) {
             None => self.feature_meaning(name),
@@ -197,7 +202,8 @@ impl<'t, 's> RoutineContext<'t, 's> {
 
     /// What a name stands for behind a target of this type.
     pub fn qualified_meaning(&self, target: EntityType, name: &str) -> Meaning<'s>
-        ensures { meaning_in (system_in self.now.tables.now) result ≡ spec.qualified_meaning (routine_in self.now) target name.now }
+        ensures { meaning_in (system_in self.now.tables.now) result
+            ≡ spec.qualified_meaning (routine_in self.now) target name.now }
     {
         let entry = self.tables.feature(target.class, name);
         meaning_of_feature(self.tables, target, entry)
@@ -211,7 +217,8 @@ impl<'t, 's> RoutineContext<'t, 's> {
         target_type: Option<EntityType>,
         name: &Name,
     ) -> Meaning<'s>
-        ensures { meaning_in (system_in self.now.tables.now) result ≡ spec.meaning_of (routine_in self.now) (map entity_of names.now) (target_of target.now) target_type (name_of name.now) }
+        ensures { meaning_in (system_in self.now.tables.now) result
+            ≡ spec.meaning_of (routine_in self.now) (map entity_of names.now) (target_of target.now) target_type (name_of name.now) }
     {
         match target {
             None => self.unqualified_meaning(names, &name.text),

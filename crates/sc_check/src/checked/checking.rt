@@ -50,10 +50,10 @@ fn judge_system(alloc: Global, tables: &Tables) -> Result<(), CheckFault>
     judge_classes(alloc, tables, &purity)
 }
 
-/// The tables of a well-formed system; else a rule that fails in it, and where. Of several it is the first in this walk:
-/// the text of each class in order, in it the `create` list, the features and the invariant; in a feature its types,
-/// `require`, `local`, body and `ensure`; operands before their operator; a target before the actuals, and these before the
-/// call. Of several at one place it is the one of the least number.
+/// The tables of a well-formed system; else a rule that fails in it, and where. Of several it is the first in this
+/// walk: the text of each class in order, in it the `create` list, the features and the invariant; in a feature its
+/// types, `require`, `local`, body and `ensure`; operands before their operator; a target before the actuals, and these
+/// before the call. Of several at one place it is the one of the least number.
 ///
 /// The tables of a refused system are dropped. The walk takes time in proportion to the source, but for the look-ups of
 /// features along ancestors and for the search for pure functions.

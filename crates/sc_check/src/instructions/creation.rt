@@ -92,7 +92,8 @@ fn creation_meaning<'s>(
     created: Option<EntityType>,
     name: &Name,
 ) -> Meaning<'s>
-    ensures { meaning_in (system_in routine.now.tables.now) result ≡ judging_text.creation_meaning (routine_in routine.now) created (name_of name.now) }
+    ensures { meaning_in (system_in routine.now.tables.now) result
+        ≡ judging_text.creation_meaning (routine_in routine.now) created (name_of name.now) }
 {
     match created {
         None => Meaning::TargetUntyped,

@@ -61,14 +61,14 @@ code_number fault.OutOfMemory = 0
 abbrev pub HasLeastCode : System → Root → ClassFault → Type 0
 HasLeastCode s root f = (g : ClassFault) → Fails s root g → code_number f ≤ code_number g
 
--- Of the faults of its code in the system none stands before it. This isn't said of C4; C6 and C7 have no place.
+-- Of the faults of its code in the system none stands before it. C6 and C7 have no place.
 abbrev pub IsPlacedFirst : System → Root → ClassFault → Type 0
 IsPlacedFirst s root (fault.DuplicateClass p) = (q : Span) → Fails s root (fault.DuplicateClass q) → p.start ≤ q.start
 IsPlacedFirst s root (fault.UnknownParent p) = (q : Span) → Fails s root (fault.UnknownParent q) → p.start ≤ q.start
 IsPlacedFirst s root (fault.Cycle p) = (q : Span) → Fails s root (fault.Cycle q) → p.start ≤ q.start
+IsPlacedFirst s root (fault.DuplicateFeature p) = (q : Span) → Fails s root (fault.DuplicateFeature q) → p.start ≤ q.start
 IsPlacedFirst s root (fault.BadRedefinition p) = (q : Span) → Fails s root (fault.BadRedefinition q) → p.start ≤ q.start
 IsPlacedFirst s root (fault.LeftOut what p) = (other : LeftOut) (q : Span) → Fails s root (fault.LeftOut other q) → p.start ≤ q.start
-IsPlacedFirst s root (fault.DuplicateFeature p) = Unit {0}
 IsPlacedFirst s root fault.NoRoot = Unit {0}
 IsPlacedFirst s root fault.Limit = Unit {0}
 IsPlacedFirst s root fault.OutOfMemory = Unit {0}

@@ -1,12 +1,12 @@
 -- The scopes of formals, locals, object tests and blocks (ECMA-367, 8.11 and 8.24), and the names that clash in them.
-use Rattle.std.specs.Prelude.{◌≡◌, Contains, ℕ, List, [], ◌∷◌, ◌++◌, Option, Some, Any, map}
+use Rattle.std.specs.Prelude.{◌≡◌, ℕ, List, [], ◌∷◌, ◌++◌, Option, Some, Any, map}
 use Rattle.sc_text.specs.declared.token.Span.{Span}
 use Rattle.sc_tree.specs.declared.expression.UnaryOperator.{UnaryOperator}
 use Rattle.sc_tree.specs.declared.expression.BinaryOperator.{BinaryOperator}
 use Rattle.sc_tree.specs.declared.expression.BinaryOperator.TheVariants.{AndThen}
-use Rattle.sc_tree.specs.Plain.{System, Class, Feature, FeatureKind, Routine, RoutineDeclaration, Declaration, DeclaredType, Clause, Head, Name, Variable, Creation, CreationCall, Conditional, Iteration, SeparateBlock, Expr, Call, Unary, Binary, ObjectTest, Target, target, Exprs, expr_then, Instr, Assign, CallRoutine, Create, if_instr, loop_instr, Check, block_instr, Instrs, instr_then, Branches, branch_then}
+use Rattle.sc_tree.specs.Plain.{System, Class, FeatureKind, Routine, RoutineDeclaration, Declaration, DeclaredType, Clause, Head, Name, Variable, Creation, CreationCall, Conditional, Iteration, SeparateBlock, Expr, Call, Unary, Binary, ObjectTest, Target, target, Exprs, expr_then, Instr, Assign, CallRoutine, Create, if_instr, loop_instr, Check, block_instr, Instrs, instr_then, Branches, branch_then}
 use Rattle.sc_class.specs.Tables.Features.{DeclaredFeature, redefined_by, not_redefined, inherited_features, features}
-use Rattle.sc_class.specs.Names.{IsLikeOne, Clashes, OneClashes}
+use Rattle.sc_class.specs.Names.{Clashes, OneClashes}
 
 -- The names that a condition gives where it holds: those of the object tests that it is, or that its `and then`s join.
 abbrev pub tests_of : Expr → List Name
@@ -88,14 +88,13 @@ pub data RoutineClashes (known : List Name) : FeatureKind → Span → Type 0 wh
   in_body : {r : RoutineDeclaration} {p : Span} → InstrsClash (known ++ entity_names r.formals ++ entity_names r.locals) r.body p → RoutineClashes known (Routine r) p
   in_postcondition : {r : RoutineDeclaration} {p : Span} → ClausesClash (known ++ entity_names r.formals) r.postcondition p → RoutineClashes known (Routine r) p
 
--- A feature that the class at the number declares is like one that it inherits and doesn't redefine.
-pub data InheritedClashes (s : System) (k : ℕ) (c : Class) : Span → Type 0 where
-  like_inherited : {f : Feature} {p : Span} → Contains c.features f → IsLikeOne (feature_names (not_redefined (redefined_by c) (inherited_features s k))) f.name p → InheritedClashes s k c p
+-- the names of the features that the class at the number inherits and doesn't redefine
+abbrev pub inherited_names : System → ℕ → Class → List Name
+inherited_names s k c = feature_names (not_redefined (redefined_by c) (inherited_features s k))
 
--- In the class at the number, two features that it declares are alike, or one of them is like one that it inherits, or names clash in a
--- routine of its own text or in its invariant, where its features are known.
+-- In the class at the number, one of the features that it declares is like one that it inherits and doesn't redefine or like one before it, or
+-- names clash in a routine of its own text or in its invariant, where its features are known.
 pub data ClassClashes (s : System) (k : ℕ) (c : Class) : Span → Type 0 where
-  declared_clash : {p : Span} → OneClashes [] (map (λ f. f.name) c.features) p → ClassClashes s k c p
-  inherited_clash : {p : Span} → InheritedClashes s k c p → ClassClashes s k c p
+  in_features : {p : Span} → OneClashes (inherited_names s k c) (map (λ f. f.name) c.features) p → ClassClashes s k c p
   in_routine : {p : Span} → Any (λ f. RoutineClashes (feature_names (features s k)) f.kind p) c.features → ClassClashes s k c p
   in_invariant : {p : Span} → ClausesClash (feature_names (features s k)) c.invariant p → ClassClashes s k c p

@@ -1,10 +1,13 @@
 -- The features of each class, as the code holds them.
 use Rattle.std.specs.Prelude.{ℕ, List, Option, map, slice_get}
 use Rattle.std.specs.Option.{option_map, option_and_then}
+use Rattle.sc_text.specs.declared.token.Span.{Span}
 use Rattle.sc_tree.specs.Plain.{System}
 use Rattle.sc_class.specs.declared.class_tables.known_features.KnownFeatures.{KnownFeatures}
 use Rattle.sc_class.specs.Tables.Features.{DeclaredFeature, features, named_among}
+use Rattle.sc_class.specs.Faults.Scopes.{feature_names}
 use Rattle.sc_class.specs.View.{entry_of}
+use Rattle.sc_class.specs.Internal.NameIndex.{place_among}
 
 -- the features that stand together
 abbrev pub entries_of : KnownFeatures → List DeclaredFeature
@@ -20,3 +23,14 @@ declarer_known ts k x = option_and_then (λ t. class_of_first x (entries_of t)) 
 -- the same, by the system
 abbrev pub declarer : System → ℕ → List ℕ → Option ℕ
 declarer s k x = class_of_first x (features s k)
+
+abbrev pub place_of_name : List ℕ → List DeclaredFeature → Option Span
+place_of_name x fs = place_among x (feature_names fs)
+
+-- the first place at which a feature of this name stands, by what is known of the class at a number
+abbrev pub place_known : List KnownFeatures → ℕ → List ℕ → Option Span
+place_known ts k x = option_and_then (λ t. place_of_name x (entries_of t)) (slice_get ts k)
+
+-- the same, by the system
+abbrev pub place_in : System → ℕ → List ℕ → Option Span
+place_in s k x = place_of_name x (features s k)

@@ -5,16 +5,22 @@ use Rattle.std.specs.Option.{option_map}
 use Rattle.sc_text.specs.declared.token.Span.{Span}
 use Rattle.sc_tree.specs.declared.expression.BinaryOperator.{BinaryOperator}
 use Rattle.sc_tree.specs.declared.expression.BinaryOperator.TheVariants.{AndThen}
-use Rattle.sc_tree.specs.Plain.{FeatureKind, Attribute, Routine, Clause, Head, Name, CreationCall, Expr, Integer, Boolean, Void, Current, Result, Call, Unary, Binary, ObjectTest, Target, no_target, target, Exprs, no_exprs, expr_then, Instr, Assign, PrintText, CallRoutine, Create, If, Loop, Check, Block, Instrs, no_instrs, instr_then, Branches, no_branches, branch_then}
+use Rattle.sc_tree.specs.Plain.{System, FeatureKind, Attribute, Routine, Clause, Head, Name, CreationCall, Expr, Integer, Boolean, Void, Current, Result, Call, Unary, Binary, ObjectTest, Target, no_target, target, Exprs, no_exprs, expr_then, Instr, Assign, PrintText, CallRoutine, Create, If, Loop, Check, Block, Instrs, no_instrs, instr_then, Branches, no_branches, branch_then}
+use Rattle.sc_tree.specs.Properties.{is_print}
+use Rattle.sc_class.specs.declared.faults.scopes.features.Part.{Part}
+use Rattle.sc_class.specs.declared.faults.scopes.features.Part.TheVariants.{All, Inherited}
+use Rattle.sc_class.specs.Names.{last_place}
+use Rattle.sc_class.specs.Tables.Features.{redefined_names, not_redefined, inherited_features, features}
+use Rattle.sc_class.specs.Faults.Scopes.{tests_of, head_names, entity_names, feature_names}
 use Rattle.sc_class.specs.Internal.Found.{first_place}
-use Rattle.sc_class.specs.Names.{first_like, is_print, last_place}
-use Rattle.sc_class.specs.Faults.Scopes.{tests_of, head_names, entity_names}
+use Rattle.sc_class.specs.Internal.NameIndex.{place_among}
 
--- the place of the first of the names that is this
-abbrev pub place_among : List ℕ → List Name → Option Span
-place_among x names = option_map (λ n. n.span) (first_like x names)
+-- the names of these features of the class at a number
+abbrev pub names_of_part : Part → System → ℕ → List Name
+names_of_part All s k = feature_names (features s k)
+names_of_part Inherited s k = feature_names (not_redefined (redefined_names s k) (inherited_features s k))
 
--- the later one of this name's place and that of the first that is like it
+-- the later one of this name's place and the first at which one that is like it stands
 abbrev pub like_place : List Name → Name → Option Span
 like_place names n = option_map (λ p. last_place p n.span) (place_among n.text names)
 

@@ -1,5 +1,6 @@
 -- Laws of heirs: which version of a feature a class has, where that stands in the text, and whose contract it keeps (ECMA-367, 8.10).
-use Rattle.std.specs.Prelude.{◌≡◌, ◌⊎◌, ℕ, Bool, true, List, [], ◌∷◌, ◌++◌, ◌&&◌, Option, Some, None, Contains, slice_get}
+use Rattle.std.specs.Prelude.{◌≡◌, ◌⊎◌, ℕ, Bool, true, List, [], ◌∷◌, ◌++◌, ◌&&◌, Option, Some, None, Contains, bytes_eq, map, slice_get}
+use Rattle.std.specs.List.{IsDistinct}
 use Rattle.std.specs.Option.{option_or}
 use Rattle.sc_tree.specs.Plain.{System, Class, FeatureKind, Attribute, Routine, RoutineDeclaration, DeclaredType}
 use Rattle.sc_class.specs.declared.identity.ClassId.TheVariants as class
@@ -7,7 +8,8 @@ use Rattle.sc_class.specs.ClassNames.{Root}
 use Rattle.sc_class.specs.Faults.ClassRules.{IsFaultless}
 use Rattle.sc_class.specs.Tables.Ancestors.{parent_number, ancestors, IsCyclic}
 use Rattle.sc_class.specs.Tables.Conformance.{is_ancestor}
-use Rattle.sc_class.specs.Tables.Features.{DeclaredFeature, declared_features, redefined_names, not_redefined, features, named_among, feature_named}
+use Rattle.sc_class.specs.Tables.Features.{DeclaredFeature, declared_features, redefined_names, not_redefined, features, named_among, feature_named, declared_invariant, invariant_of}
+use Rattle.sc_class.specs.Faults.Scopes.{feature_names}
 use Rattle.sc_class.specs.Faults.Redefinition.{is_same_formals, is_empty_contract, can_redefine}
 
 -- the law of each system without faults
@@ -29,6 +31,14 @@ FeaturesInherited = WhereFaultless λ s. (k i : ℕ) → parent_number s k ≡ S
 -- Those of a class without a parent are its own.
 abbrev pub FeaturesDeclared : Type 0
 FeaturesDeclared = (s : System) (k : ℕ) → parent_number s k ≡ None → features s k ≡ declared_features s k
+
+-- No two features of a class have one name.
+abbrev pub FeaturesDiffer : Type 0
+FeaturesDiffer = WhereFaultless λ s. (k : ℕ) → IsDistinct bytes_eq (map (λ n. n.text) (feature_names (features s k)))
+
+-- The joined invariant of an heir is its parent's and then its own.
+abbrev pub InvariantsJoined : Type 0
+InvariantsJoined = WhereFaultless λ s. (k i : ℕ) → parent_number s k ≡ Some i → invariant_of s k ≡ invariant_of s i ++ declared_invariant s k
 
 -- The feature that a class has of a name stands in the text of one of its ancestors, under that name.
 pub record StandsInText (s : System) (k : ℕ) (x : List ℕ) (f : DeclaredFeature) : Type 0 where

@@ -5,9 +5,11 @@ ghost use Rattle.std.specs.Option.{option_map};
 ghost use Rattle.sc_class.specs.View.{entry_of};
 ghost use Rattle.sc_class.specs.Tables.Features.{named_among};
 ghost use Rattle.sc_class.specs.Faults.Scopes.{feature_names};
+ghost use Rattle.sc_class.specs.Internal.NameIndex.{place_among};
 
 use crate::class_tables::feature_entry::FeatureEntry;
 use crate::names::NameIndex;
+use sc_text::Span;
 use std::alloc::{AllocError, Global};
 
 /// The features of a class, inherited ones too. Each is found by hash.
@@ -47,5 +49,12 @@ impl<'s> KnownFeatures<'s> {
             None => None,
             Some(number) => self.entries.get(number).copied(),
         }
+    }
+
+    /// The first place in the text at which a feature of this name stands. It looks once by hash.
+    pub fn place(&self, name: &str) -> Option<Span>
+        ensures { result ≡ place_among name.now (feature_names (map entry_of self.now.entries.items)) }
+    {
+        self.names.place(name)
     }
 }

@@ -10,7 +10,9 @@ ghost use Rattle.sc_class.specs.Internal.DeclaredNames.{names_of_class};
 ghost use Rattle.sc_class.specs.Tables.Declared.{creators_of};
 ghost use Rattle.sc_class.specs.Tables.Features.{redefined_names, declared_features, features, features_along, inherited_features, named_among, not_redefined};
 ghost use Rattle.sc_class.specs.View.{entry_of};
-ghost use Rattle.sc_class.specs.Internal.KnownFeatures.{declarer, declarer_known};
+ghost use Rattle.sc_class.specs.Faults.Scopes.{feature_names};
+ghost use Rattle.sc_class.specs.Internal.NameIndex.{place_among};
+ghost use Rattle.sc_class.specs.Internal.KnownFeatures.{declarer, declarer_known, place_in, place_known};
 
 use crate::class_tables::ancestry::features_of;
 use crate::class_tables::declared_names::{DeclaredNames, declared_names_of, redefined_in};
@@ -18,7 +20,9 @@ use crate::class_tables::feature_entry::FeatureEntry;
 use crate::class_tables::hierarchy::Hierarchy;
 use crate::class_tables::known_features::KnownFeatures;
 use crate::faults::limits::{MAX_CLASSES, MAX_FEATURES};
+use crate::faults::places::first_place;
 use crate::names::NameIndex;
+use sc_text::Span;
 use sc_tree::{Class, Feature, Name};
 use std::alloc::{AllocError, Global};
 
@@ -32,6 +36,8 @@ pub struct Outline<'s> {
     ghost have_names: { names.items ≡ map names_of_class (system_of hierarchy.system.now).classes },
     ghost are_known: { (k : ℕ) → k < length known.items → (x : List ℕ) → declarer_known known.items k x
         ≡ declarer (system_of hierarchy.system.now) k x },
+    ghost are_placed: { (k : ℕ) → k < length known.items → (x : List ℕ) → place_known known.items k x
+        ≡ place_in (system_of hierarchy.system.now) k x },
 }
 
 /// The names of what each class declares.
@@ -53,8 +59,10 @@ fn known_features<'s>(
     alloc: Global,
     outline: &Outline<'s>,
 ) -> Result<Vec<KnownFeatures<'s>>, AllocError>
-    ensures { IfOk result (λ known. (k : ℕ) → k < length known.items → (x : List ℕ) → declarer_known known.items k x
+    ensures declarers { IfOk result (λ known. (k : ℕ) → k < length known.items → (x : List ℕ) → declarer_known known.items k x
         ≡ declarer (system_of outline.now.hierarchy.system.now) k x) }
+    ensures places { IfOk result (λ known. (k : ℕ) → k < length known.items → (x : List ℕ) → place_known known.items k x
+        ≡ place_in (system_of outline.now.hierarchy.system.now) k x) }
 {
     let count = outline.hierarchy.classes().len().min(MAX_CLASSES);
     let mut known = Vec::new(alloc);
@@ -219,6 +227,72 @@ impl<'s> Outline<'s> {
     {
         let above = self.hierarchy.classes().len().saturating_sub(1);
         self.named_from(self.hierarchy.parent(class), above, name)
+    }
+
+    /// The first place at which a feature of this name stands that the class at the number declares itself. It looks
+    /// once by hash.
+    fn declared_place(&self, class: usize, name: &str) -> Option<Span>
+        ensures { result
+            ≡ place_among name.now (declared_feature_names_at (system_of self.now.hierarchy.system.now) class) }
+    {
+        match self.names.get(class) {
+            None => None,
+            Some(names) => names.features.place(name),
+        }
+    }
+
+    /// The first place at which a feature of this name stands of a class and of so many classes on the way up from it.
+    /// It looks up to twice by hash for each of them.
+    fn place_from(&self, class: Option<usize>, count: usize, name: &str) -> Option<Span>
+        ensures { result
+            ≡ place_among name.now (feature_names (features_along (system_of self.now.hierarchy.system.now)
+            (ancestors_from count (system_of self.now.hierarchy.system.now) class))) }
+    {
+        let mut found = None;
+        let mut next = class;
+        for _done in 0..count {
+            let Some(class) = next else {
+                return found;
+            };
+            found = first_place(found, self.declared_place(class, name));
+            if self.redefines(class, name) {
+                return found;
+            }
+            next = self.hierarchy.parent(class);
+        }
+        found
+    }
+
+    /// The first place at which a feature of this name of the class at the number stands. It looks once by hash, and
+    /// where a limit is passed up to twice for each ancestor.
+    pub fn place(&self, class: usize, name: &str) -> Option<Span>
+        ensures { result ≡ place_among name.now (feature_names (features (system_of self.now.hierarchy.system.now) class)) }
+    {
+        match self.known.get(class) {
+            None => self.place_above(class, name),
+            Some(known) => known.place(name),
+        }
+    }
+
+    /// The same, by a walk up the ancestors.
+    fn place_above(&self, class: usize, name: &str) -> Option<Span>
+        ensures { result ≡ place_among name.now (feature_names (features (system_of self.now.hierarchy.system.now) class)) }
+    {
+        let count = self.hierarchy.classes().len();
+        self.place_from(Some(class), count, name)
+    }
+
+    /// The first place at which a feature of this name stands that the class at the number inherits and doesn't
+    /// redefine. It looks up to twice by hash for each ancestor.
+    pub fn inherited_place(&self, class: usize, name: &str) -> Option<Span>
+        ensures { let s = system_of self.now.hierarchy.system.now in
+            result ≡ place_among name.now (feature_names (not_redefined (redefined_names s class) (inherited_features s class))) }
+    {
+        if self.redefines(class, name) {
+            return None;
+        }
+        let above = self.hierarchy.classes().len().saturating_sub(1);
+        self.place_from(self.hierarchy.parent(class), above, name)
     }
 
     /// Adds the features that the class at the number declares itself, but for those of the redefined names.

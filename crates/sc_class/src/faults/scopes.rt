@@ -7,5 +7,6 @@ mod names;
 mod routine;
 
 pub use expressions::in_clauses;
-pub use features::Features;
+pub use features::{Features, Part};
+pub use names::declare_features;
 pub use routine::routine_clash;

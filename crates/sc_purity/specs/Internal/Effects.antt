@@ -53,7 +53,8 @@ received no_target t = Ok t
 received (target a) t = judge_received (span_of a) t
 
 -- of a call, behind its target and its actuals
-abbrev pub judge_met : RoutineContext → Context → Target → Meaning → Span → List JudgedActual → Judged typing.Typing → Judged typing.Typing
+abbrev pub judge_met : RoutineContext → Context → Target → Meaning → Span → List JudgedActual → Judged typing.Typing →
+    Judged typing.Typing
 judge_met h c a m p rs j = do
   t ← j
   r ← received a t
@@ -65,7 +66,8 @@ judge_behind_operand c p op j = do
   t ← j
   judge_unary c p op t
 
-abbrev pub judge_behind_operands : Span → BinaryOperator → Judged typing.Typing → Judged typing.Typing → Judged typing.Typing
+abbrev pub judge_behind_operands : Span → BinaryOperator → Judged typing.Typing → Judged typing.Typing →
+    Judged typing.Typing
 judge_behind_operands p op i j = do
   t ← i
   u ← j
@@ -82,29 +84,38 @@ judge_misplaced h p d j = do
 
 -- in a call
 abbrev pub effects_in_call : RoutineContext → Context → Entities → Target → Name → Exprs → List judging.Effect
-effects_in_call h c n a x es = judging.effects_of_target h c n a ++ (judging.effects_of_actuals h c n es ++ judging.effects_of_call h c n a x)
+effects_in_call h c n a x es =
+    judging.effects_of_target h c n a ++ (judging.effects_of_actuals h c n es ++ judging.effects_of_call h c n a x)
 
 -- in a condition and what stands under it
 abbrev pub effects_of_branch : RoutineContext → Entities → Expr → Instrs → List judging.Effect
-effects_of_branch h n e is = judging.effects h context.Body Condition n e ++ judging.effects_of_instrs h (judging.given_anyway h context.Body n e) is
+effects_of_branch h n e is =
+    judging.effects h context.Body Condition n e
+    ++ judging.effects_of_instrs h (judging.given_anyway h context.Body n e) is
 
 -- in the heads and the body of a separate block
 abbrev pub effects_of_heads_and_body : RoutineContext → Entities → List Head → Instrs → List judging.Effect
-effects_of_heads_and_body h n ds is = judging.effects_of_heads h n ds ++ judging.effects_of_instrs h (judging.reserved_anyway h n n ds) is
+effects_of_heads_and_body h n ds is =
+    judging.effects_of_heads h n ds ++ judging.effects_of_instrs h (judging.reserved_anyway h n n ds) is
 
 -- in a creation, an `if`, a loop, a separate block
 abbrev pub effects_of_create : RoutineContext → Entities → Option CreationCall → List judging.Effect
 effects_of_create h n k = judging.side_effect ∷ judging.effects_of_creation h n k
 
 abbrev pub effects_of_if : RoutineContext → Entities → Expr → Instrs → Branches → Instrs → List judging.Effect
-effects_of_if h n e body bs other = effects_of_branch h n e body ++ (judging.effects_of_branches h n bs ++ judging.effects_of_instrs h n other)
+effects_of_if h n e body bs other =
+    effects_of_branch h n e body ++ (judging.effects_of_branches h n bs ++ judging.effects_of_instrs h n other)
 
 abbrev pub effects_of_loop : RoutineContext → Entities → Instrs → Expr → Instrs → List judging.Effect
-effects_of_loop h n initial e body = judging.effects_of_instrs h n initial ++ (judging.effects h context.Body Plain n e ++ judging.effects_of_instrs h n body)
+effects_of_loop h n initial e body =
+    judging.effects_of_instrs h n initial
+    ++ (judging.effects h context.Body Plain n e ++ judging.effects_of_instrs h n body)
 
 abbrev pub effects_of_block : RoutineContext → Entities → List Head → Instrs → List judging.Effect
 effects_of_block h n ds body = judging.side_effect ∷ effects_of_heads_and_body h n ds body
 
--- all that bears on the purity of a routine: what isn't a function without attached separate formals does what no pure function does
+-- all that bears on the purity of a routine: what isn't a function without attached separate formals does what no pure
+-- function does
 abbrev pub all_effects : System → RoutineName → List judging.Effect
-all_effects s f = judging.side_effect_if (not (is_pure_candidate_if_any (routine_named s f))) ++ judging.effects_of_routine s f
+all_effects s f = judging.side_effect_if (not (is_pure_candidate_if_any (routine_named s f)))
+    ++ judging.effects_of_routine s f

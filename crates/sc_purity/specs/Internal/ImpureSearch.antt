@@ -13,17 +13,21 @@ use Rattle.sc_purity.specs.Internal.Callers.{callers_in}
 use Rattle.sc_purity.specs.declared.search.Search.{Search}
 use Rattle.sc_purity.specs.declared.search.Callers.{Callers}
 
--- The features marked are impure, and those that are impure themselves or may run a marked one that isn't still to be looked at are marked.
+-- The features marked are impure, and those that are impure themselves or may run a marked one that isn't still to be
+-- looked at are marked.
 pub record AreMarked (s : System) (impure : List Bool) (todo : List ℕ) : Type 0 where
-  pub impure_itself : (f : RoutineName) (i : ℕ) → feature_number s f ≡ Some i → is_impure_itself s f ≡ true → IsSeen impure i
-  pub only_impure : (i : ℕ) (d : DeclaredFeature) → slice_get (all_features s) i ≡ Some d → IsSeen impure i → Impure s (routine_of d)
+  pub impure_itself : (f : RoutineName) (i : ℕ) → feature_number s f ≡ Some i → is_impure_itself s f ≡ true →
+      IsSeen impure i
+  pub only_impure : (i : ℕ) (d : DeclaredFeature) → slice_get (all_features s) i ≡ Some d → IsSeen impure i →
+      Impure s (routine_of d)
   pub todo_seen : (i : ℕ) → IsTodo todo i → IsSeen impure i
   pub followed : (g : RoutineName) (j : ℕ) → feature_number s g ≡ Some j → IsSeen impure j →
       IsTodo todo j ⊎ ((f : RoutineName) (i : ℕ) → feature_number s f ≡ Some i → RunsInto s f g → IsSeen impure i)
 
 -- the feature at the first number may run the one at the second
 abbrev pub RunsNumber : System → ℕ → ℕ → Type 0
-RunsNumber s j i = (d e : DeclaredFeature) → slice_get (all_features s) i ≡ Some d → slice_get (all_features s) j ≡ Some e → RunsInto s (routine_of d) (routine_of e)
+RunsNumber s j i = (d e : DeclaredFeature) → slice_get (all_features s) i ≡ Some d →
+    slice_get (all_features s) j ≡ Some e → RunsInto s (routine_of d) (routine_of e)
 
 -- one of the classes declares a feature of this name, and it has the number
 abbrev pub IsNamedIn : System → List ℕ → List ℕ → ℕ → Type 0
@@ -39,14 +43,16 @@ pub record IsRecorded (s : System) (impure : List Bool) (todo : List ℕ) (lists
   pub found : d ≡ side_effect → IsSeen impure' n
   pub same_length : length lists' ≡ length lists
   pub keeps : (j k : ℕ) → Contains (callers_in lists j) k → Contains (callers_in lists' j) k
-  pub called_before : (j k : ℕ) → Contains (callers_in lists' j) k → Contains (callers_in lists j) k ⊎ ((k ≡ n) × IsCallOf s d j)
+  pub called_before : (j k : ℕ) → Contains (callers_in lists' j) k → Contains (callers_in lists j) k
+      ⊎ ((k ≡ n) × IsCallOf s d j)
   pub added : (j : ℕ) → IsCallOf s d j → Contains (callers_in lists' j) n
 
 -- The lists hold calls of features alone, and those of the features before the number.
 pub record AreCallers (s : System) (lists : List (Vec ℕ Global)) (n : ℕ) : Type 0 where
   pub in_range : (j k : ℕ) → Contains (callers_in lists j) k → k < length (all_features s)
   pub only_callers : (j k : ℕ) → Contains (callers_in lists j) k → RunsNumber s j k
-  pub all_callers : (k j : ℕ) (d : DeclaredFeature) (g : RoutineName) → k < n → slice_get (all_features s) k ≡ Some d → feature_number s g ≡ Some j →
+  pub all_callers : (k j : ℕ) (d : DeclaredFeature) (g : RoutineName) → k < n → slice_get (all_features s) k ≡ Some d →
+      feature_number s g ≡ Some j →
       Lists (routine_call g) (effects_of_routine s (routine_of d)) → Contains (callers_in lists j) k
 
 -- the search has marked some of these features, and those are still to be followed
@@ -62,12 +68,15 @@ abbrev pub Records : System → Search → Callers → Search → Callers → �
 Records s search callers search' callers' n d =
     IsRecorded s search.impure.items search.todo.items callers.lists.items search'.impure.items search'.todo.items callers'.lists.items n d
 
--- The features before the number were looked at: those of them that are impure themselves are found, and nothing else is.
+-- The features before the number were looked at: those of them that are impure themselves are found, and nothing else
+-- is.
 pub record AreCollected (s : System) (impure : List Bool) (todo : List ℕ) (lists : List (Vec ℕ Global)) (n : ℕ) : Type 0 where
   pub as_many : length impure ≡ length (all_features s)
   pub as_many_lists : length lists ≡ length (all_features s)
-  pub impure_itself : (k : ℕ) (d : DeclaredFeature) → k < n → slice_get (all_features s) k ≡ Some d → is_impure_itself s (routine_of d) ≡ true → IsSeen impure k
-  pub only_impure_itself : (k : ℕ) (d : DeclaredFeature) → slice_get (all_features s) k ≡ Some d → IsSeen impure k → is_impure_itself s (routine_of d) ≡ true
+  pub impure_itself : (k : ℕ) (d : DeclaredFeature) → k < n → slice_get (all_features s) k ≡ Some d →
+      is_impure_itself s (routine_of d) ≡ true → IsSeen impure k
+  pub only_impure_itself : (k : ℕ) (d : DeclaredFeature) → slice_get (all_features s) k ≡ Some d → IsSeen impure k →
+      is_impure_itself s (routine_of d) ≡ true
   pub todo_seen : (k : ℕ) → IsTodo todo k → IsSeen impure k
   pub seen_todo : (k : ℕ) → IsSeen impure k → IsTodo todo k
   pub callers : AreCallers s lists n
@@ -80,8 +89,11 @@ Collects s search callers n = AreCollected s search.impure.items search.todo.ite
 pub record IsCollecting (s : System) (impure : List Bool) (todo : List ℕ) (lists : List (Vec ℕ Global)) (n : ℕ) (ds : List Effect) : Type 0 where
   pub collected : AreCollected s impure todo lists n
   pub found : Lists side_effect ds → IsSeen impure n
-  pub calls : (g : RoutineName) (j : ℕ) → feature_number s g ≡ Some j → Lists (routine_call g) ds → Contains (callers_in lists j) n
+  pub calls : (g : RoutineName) (j : ℕ) → feature_number s g ≡ Some j → Lists (routine_call g) ds →
+      Contains (callers_in lists j) n
 
 -- those that may run the feature at the number are found
 abbrev pub MarksRunners : System → ℕ → List Bool → Type 0
-MarksRunners s j impure = (f g : RoutineName) (i : ℕ) → feature_number s g ≡ Some j → feature_number s f ≡ Some i → RunsInto s f g → IsSeen impure i
+MarksRunners s j impure =
+    (f g : RoutineName) (i : ℕ) → feature_number s g ≡ Some j → feature_number s f ≡ Some i → RunsInto s f g →
+    IsSeen impure i

@@ -84,7 +84,8 @@ impl<'t, 's> RoutineContext<'t, 's> {
 
     /// What a name stands for on the left side: an entity, or else a feature of the class.
     fn assignee_named(&self, names: &[Entity], name: &str) -> Assignee
-        ensures { assignee_in result ≡ spec.assignee_or (routine_in self.now) name.now (spec.entity_named name.now (map entity_of names.now)) }
+        ensures { assignee_in result
+            ≡ spec.assignee_or (routine_in self.now) name.now (spec.entity_named name.now (map entity_of names.now)) }
     {
         match entity_named(name, names) {
             Some(known) => assignee_of_entity(known),
@@ -100,7 +101,8 @@ impl<'t, 's> RoutineContext<'t, 's> {
 
     /// What the left side of an assignment, or the entity of a creation, stands for.
     pub fn assignee(&self, names: &[Entity], variable: &Variable) -> Assignee
-        ensures { assignee_in result ≡ spec.assignee (routine_in self.now) (map entity_of names.now) (variable_of variable.now) }
+        ensures { assignee_in result
+            ≡ spec.assignee (routine_in self.now) (map entity_of names.now) (variable_of variable.now) }
     {
         match variable {
             Variable::Named(name) => self.assignee_named(names, &name.text),

@@ -76,7 +76,8 @@ pub fn add_formals<'s>(
     formals: &'s [Declaration],
     names: &mut Vec<Entity<'s>>,
 ) -> Result<(), AllocError>
-    ensures { OnOk result (map entity_of names.new.items ≡ map entity_of names.old.items ++ spec.formals_known (system_in tables.now) (map declaration_of formals.now)) }
+    ensures { OnOk result (map entity_of names.new.items ≡ map entity_of names.old.items
+        ++ spec.formals_known (system_in tables.now) (map declaration_of formals.now)) }
 {
     for index in 0..formals.len() {
         let formal = &formals[index];
@@ -97,7 +98,8 @@ pub fn add_locals<'s>(
     locals: &'s [Declaration],
     names: &mut Vec<Entity<'s>>,
 ) -> Result<(), AllocError>
-    ensures { OnOk result (map entity_of names.new.items ≡ map entity_of names.old.items ++ spec.locals_known (system_in tables.now) (map declaration_of formals.now) (map declaration_of locals.now)) }
+    ensures { OnOk result (map entity_of names.new.items ≡ map entity_of names.old.items
+        ++ spec.locals_known (system_in tables.now) (map declaration_of formals.now) (map declaration_of locals.now)) }
 {
     for local in locals {
         names.push(Entity {

@@ -134,8 +134,8 @@ pub fn declared_type(
     )
 }
 
-/// The type of Result in a routine that is declared with this type, if it is a function; it is none where the declaration
-/// is faulty.
+/// The type of Result in a routine that is declared with this type, if it is a function; it is none where the
+/// declaration is faulty.
 pub fn result_type(tables: &Tables, declared: &Option<DeclaredType>) -> Option<Option<EntityType>>
     ensures { result ≡ option_map (types.declared_type (system_in tables.now) []) (type_if_any declared.now) }
 {

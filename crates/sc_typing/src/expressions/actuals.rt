@@ -36,7 +36,8 @@ pub enum FormalType {
 }
 
 fn formal_type(tables: &Tables, formals: &[Declaration], declared: &DeclaredType) -> FormalType
-    ensures { formal_in result ≡ names.formal_type (types.declared_type (system_in tables.now) (map declaration_of formals.now) (type_of declared.now)) }
+    ensures { formal_in result
+        ≡ names.formal_type (types.declared_type (system_in tables.now) (map declaration_of formals.now) (type_of declared.now)) }
 {
     match declared_type(tables, formals, declared) {
         None => FormalType::Untyped,

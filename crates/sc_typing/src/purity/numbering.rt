@@ -22,9 +22,11 @@ pub struct Numbering<'t, 's> {
     /// By number, each feature with the class that declares it.
     pub features: Vec<FeatureEntry<'s>>,
     starts: Vec<usize>,
-    ghost are_all: { map (λ e. routine_of (entry_of e)) features.items ≡ map routine_of (all_features (system_in tables.now)) } by { Prim.hlevel props },
+    ghost are_all: { map (λ e. routine_of (entry_of e)) features.items
+        ≡ map routine_of (all_features (system_in tables.now)) } by { Prim.hlevel props },
     ghost as_many: { length starts.items ≡ length (system_in tables.now).classes },
-    ghost are_starts: { (k : ℕ) → k < length starts.items → slice_get starts.items k ≡ Some (start (system_in tables.now).classes k) } by { Prim.hlevel props },
+    ghost are_starts: { (k : ℕ) → k < length starts.items →
+        slice_get starts.items k ≡ Some (start (system_in tables.now).classes k) } by { Prim.hlevel props },
 }
 
 /// How many of the features stand before the first of this name, where one is.
@@ -46,7 +48,8 @@ fn add_features<'s>(
     class: usize,
     declared: &'s [Feature],
 ) -> Result<(), AllocError>
-    ensures { OnOk result (map entry_of features.new.items ≡ map entry_of features.old.items ++ map (declared_in class) (map feature_of declared.now)) }
+    ensures { OnOk result (map entry_of features.new.items ≡ map entry_of features.old.items
+        ++ map (declared_in class) (map feature_of declared.now)) }
 {
     for feature in declared {
         features.push(FeatureEntry { class, feature })?;
@@ -73,8 +76,8 @@ impl<'t, 's> Numbering<'t, 's> {
         })
     }
 
-    /// The number of the feature of this name that the class at the number declares. It looks at the class's features in
-    /// turn.
+    /// The number of the feature of this name that the class at the number declares. It looks at the class's features
+    /// in turn.
     fn place_number(&self, class: usize, name: &str) -> Option<usize>
         ensures { result ≡ feature_number (system_in self.now.tables.now) (record { class = class; name = name.now }) }
     {

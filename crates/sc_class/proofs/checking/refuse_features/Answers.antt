@@ -1,18 +1,18 @@
 use Rattle.std.proofs.Common.{inr, sym, subst, ◌∙◌}
 use Rattle.sc_tree.specs.View.{system_of}
-use Rattle.sc_class.specs.Internal.Found.{Finds, FindsFirstPlace}
+use Rattle.sc_class.specs.Internal.Found.{FindsFirstPlace}
 use Rattle.sc_class.specs.Internal.FaultAt.{FaultAt}
 use Rattle.sc_class.specs.Faults.Scopes.{ClassClashes}
 use Rattle.sc_class.specs.Faults.Redefinition.{BadlyRedefines}
 use Rattle.sc_class.specs.Faults.ClassRules.{no_root}
 use Rattle.sc_class.specs.View.{root_of}
-use Rattle.sc_class.proofs.TableLemmas.{duplicated, redefined_badly, least_4, least_5, least_6, first_5}
+use Rattle.sc_class.proofs.TableLemmas.{duplicated, redefined_badly, least_4, least_5, least_6, first_4, first_5}
 use Rattle.sc_class.proofs.checking.refuse_features.Goals as goal
 
 pub returns-in-Some-clause-fault : goal.returns-in-Some-clause-fault
 returns-in-Some-clause-fault c =
     let s = system_of c.args.outline.now.hierarchy.system.now in
-    inr (duplicated s (root_of c.args.root.now) c.in-Some.span (subst (Finds (FaultAt s (ClassClashes s))) c.in-Some.is c.in_ok-span.ensures))
+    inr (duplicated s (root_of c.args.root.now) c.in-Some.span (subst (FindsFirstPlace (FaultAt s (ClassClashes s))) c.in-Some.is c.in_ok-span.ensures).0)
 
 pub returns-in-Some-2-clause-fault : goal.returns-in-Some-2-clause-fault
 returns-in-Some-2-clause-fault c =
@@ -28,12 +28,17 @@ returns-in-Some-clause-first c = inr (least_4 (system_of c.args.outline.now.hier
 pub returns-in-Some-2-clause-first : goal.returns-in-Some-2-clause-first
 returns-in-Some-2-clause-first c =
     let s = system_of c.args.outline.now.hierarchy.system.now in
-    inr (least_5 s (root_of c.args.root.now) (subst (Finds (FaultAt s (ClassClashes s))) c.in_default.is c.in_ok-span.ensures) c.in-Some-2.span)
+    inr (least_5 s (root_of c.args.root.now) (subst (FindsFirstPlace (FaultAt s (ClassClashes s))) c.in_default.is c.in_ok-span.ensures) c.in-Some-2.span)
 
 pub returns-then-not-branch-clause-first : goal.returns-then-not-branch-clause-first
 returns-then-not-branch-clause-first c =
     let s = system_of c.args.outline.now.hierarchy.system.now in
-    inr (least_6 s (root_of c.args.root.now) (subst (Finds (FaultAt s (ClassClashes s))) c.in_default.is c.in_ok-span.ensures) (subst (FindsFirstPlace (FaultAt s (BadlyRedefines s))) c.in_default-2.is c.in_ok-span-2.ensures))
+    inr (least_6 s (root_of c.args.root.now) (subst (FindsFirstPlace (FaultAt s (ClassClashes s))) c.in_default.is c.in_ok-span.ensures) (subst (FindsFirstPlace (FaultAt s (BadlyRedefines s))) c.in_default-2.is c.in_ok-span-2.ensures))
+
+pub returns-in-Some-clause-place : goal.returns-in-Some-clause-place
+returns-in-Some-clause-place c =
+    let s = system_of c.args.outline.now.hierarchy.system.now in
+    first_4 s (root_of c.args.root.now) c.in-Some.span (subst (FindsFirstPlace (FaultAt s (ClassClashes s))) c.in-Some.is c.in_ok-span.ensures)
 
 pub returns-in-Some-2-clause-place : goal.returns-in-Some-2-clause-place
 returns-in-Some-2-clause-place c =

@@ -2,16 +2,16 @@
 
 ghost use Rattle.std.specs.Prelude.{◌≡◌, ◌++◌, ◌∷◌, [], IfOk, OnOk, map};
 ghost use Rattle.std.specs.Option.{option_map};
-ghost use Rattle.sc_tree.specs.View.{name_of, head_of, declaration_of};
+ghost use Rattle.sc_tree.specs.View.{name_of, head_of, declaration_of, feature_of};
 ghost use Rattle.sc_class.specs.Names as names;
 ghost use Rattle.sc_class.specs.Faults.Scopes.{head_names, entity_names};
 ghost use Rattle.sc_class.specs.Internal.ScopeSearch as search;
 
 use crate::faults::places::{first_place, last_place};
 use crate::faults::scopes::features::Features;
-use crate::names::{NameIndex, is_print};
+use crate::names::NameIndex;
 use sc_text::Span;
-use sc_tree::{Declaration, Head, Name};
+use sc_tree::{Declaration, Feature, Head, Name};
 use std::alloc::AllocError;
 
 /// The later of a place, where there is one, and another.
@@ -29,7 +29,7 @@ fn last_place_if_any(one: Option<Span>, other: Span) -> Option<Span>
 pub fn name_clash(features: &Features, known: &NameIndex, name: &Name) -> Option<Span>
     ensures { result ≡ search.name_clash features.now known.now (name_of name.now) }
 {
-    if is_print(&name.text) {
+    if name.is_print() {
         return Some(name.span);
     }
     let feature = last_place_if_any(features.place(&name.text), name.span);
@@ -82,6 +82,23 @@ pub fn declare_entities<'s>(
     let mut found = None;
     for declaration in declarations {
         let place = declare(features, known, &declaration.name)?;
+        found = first_place(found, place);
+    }
+    Ok(found)
+}
+
+/// Makes features known, and tells where one clashes.
+pub fn declare_features<'s>(
+    features: &Features,
+    known: &mut NameIndex<'s>,
+    declared: &'s [Feature],
+) -> Result<Option<Span>, AllocError>
+    ensures { IfOk result (λ place. place
+        ≡ search.names_clash features.now known.old (map (λ f. f.name) (map feature_of declared.now))) }
+{
+    let mut found = None;
+    for feature in declared {
+        let place = declare(features, known, &feature.name)?;
         found = first_place(found, place);
     }
     Ok(found)

@@ -3,7 +3,7 @@
 ghost use Rattle.std.specs.Prelude.{◌≡◌, [], IfOk};
 ghost use Rattle.sc_tree.specs.View.{kind_of};
 ghost use Rattle.sc_tree.specs.declared.system.FeatureKind.TheVariants as kind;
-ghost use Rattle.sc_class.specs.Internal.Found.{Finds};
+ghost use Rattle.sc_class.specs.Internal.Found.{FindsFirstPlace};
 ghost use Rattle.sc_class.specs.Faults.Scopes.{RoutineClashes};
 ghost use Rattle.sc_class.specs.Internal.ScopeSearch as search;
 
@@ -24,7 +24,7 @@ pub fn routine_clash(
     features: &Features,
     kind: &FeatureKind,
 ) -> Result<Option<Span>, AllocError>
-    ensures { IfOk result (Finds (RoutineClashes features.now (kind_of kind.now))) }
+    ensures { IfOk result (FindsFirstPlace (RoutineClashes features.now (kind_of kind.now))) }
 {
     in_kind(alloc, features, kind)
 }

@@ -1,9 +1,18 @@
 use Rattle.std.proofs.Common.{◌∙◌}
 use Rattle.sc_tree.specs.View.{system_of}
-use Rattle.sc_class.proofs.KnownLemmas.{known_more}
+use Rattle.sc_class.specs.Internal.KnownFeatures.{class_of_first, place_of_name}
+use Rattle.sc_class.proofs.KnownLemmas.{known_more, as_many}
 use Rattle.sc_class.proofs.class_tables.outline.known_features.Goals as goal
 
 pub loop-number-preserved : goal.loop-number-preserved
 loop-number-preserved c =
-    known_more (system_of c.args.outline.now.hierarchy.system.now) c.loop-number.known.items c.push.new.self.items c.in_ok-of.field-0 c.loop-number.number (c.in_ok-of.ensures ∙ c.in_ok-entries.ensures) c.in_ok-push.ensures.items
-    c.loop-number.invariant
+    let s = system_of c.args.outline.now.hierarchy.system.now in
+    let entries = c.in_ok-of.ensures ∙ c.in_ok-entries.ensures in
+    let old = c.loop-number.known.items in
+    let new = c.push.new.self.items in
+    let inv = c.loop-number.invariant in
+    record {
+      count = as_many class_of_first s old new c.in_ok-of.field-0 c.loop-number.number entries c.in_ok-push.ensures.items inv.count;
+      declarers = known_more class_of_first s old new c.in_ok-of.field-0 c.loop-number.number entries c.in_ok-push.ensures.items inv.count inv.declarers;
+      places = known_more place_of_name s old new c.in_ok-of.field-0 c.loop-number.number entries c.in_ok-push.ensures.items inv.count inv.places;
+    }

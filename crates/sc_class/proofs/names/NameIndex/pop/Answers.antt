@@ -1,19 +1,20 @@
-use Rattle.std.proofs.Common.{ap, sym, subst, ◌∙◌, ◌≡◌, ℕ, Some, length, arith}
+use Rattle.std.proofs.Common.{Option, sym, subst}
+use Rattle.std.specs.Prelude.{OnOk, bytes_eq}
+use Rattle.std.specs.HashMap.{UpdatesBy}
+use Rattle.sc_class.specs.declared.names.Known.{Known}
 use Rattle.sc_class.specs.Internal.NameIndex.{IsIndex}
-use Rattle.sc_class.proofs.NameLemmas.{indexed_without, indexed_still, is_that, is_not_that}
+use Rattle.sc_class.proofs.NameLemmas.{index_shrunk, index_shrunk_or}
 use Rattle.sc_class.proofs.names.NameIndex.pop.Goals as goal
 
 pub invariant_of-self : goal.invariant_of-self
 invariant_of-self c =
-    let last : c.len.result ≡ length c.pop.new.self.items = omega arith in
-    indexed_without c.self.inside.numbers c.swap_remove.new.self c.pop.new.self.items c.in-Some.name c.as_str-text.result c.as_str-text.ensures.value
-    (subst (IsIndex c.self.inside.numbers) (c.in-Some.ensures.items) c.self.invariant)
-    (sym c.get.ensures.value ∙ sym c.copied.ensures ∙ is_that c.copied.result c.len.result (sym c.eq.ensures ∙ c.if-eq.true) ∙ ap (λ (k : ℕ). Some k) last)
-    c.swap_remove.ensures.updates
+    index_shrunk c.self.inside.known c.swap_remove.new.self c.pop.new.self.items c.in-Some.last c.as_str-text.result.now c.as_str-text.ensures.value
+    (subst (IsIndex c.self.inside.known) c.in-Some.ensures.items c.self.invariant)
+    (subst (λ (o : Option Known). UpdatesBy (λ a b. bytes_eq a.now b.now) (λ k. bytes_eq c.as_str-text.result.now k.now) c.self.inside.known c.swap_remove.new.self o) (sym c.in-None.is) c.swap_remove.ensures.updates)
 
-pub invariant_of-self-else-eq : goal.invariant_of-self-else-eq
-invariant_of-self-else-eq c =
-    let last : c.len.result ≡ length c.pop.new.self.items = omega arith in
-    indexed_still c.self.inside.numbers c.self.inside.numbers c.pop.new.self.items c.in-Some.name c.as_str-text.result c.as_str-text.ensures.value
-    (subst (IsIndex c.self.inside.numbers) (c.in-Some.ensures.items) c.self.invariant)
-    (λ e. is_not_that c.copied.result c.len.result (sym c.eq.ensures ∙ c.if-eq.false) (c.copied.ensures ∙ c.get.ensures.value ∙ e ∙ ap (λ (k : ℕ). Some k) (sym last)))
+pub invariant_of-self-in-Some-before : goal.invariant_of-self-in-Some-before
+invariant_of-self-in-Some-before c =
+    index_shrunk_or c.self.inside.known c.insert.new.self c.pop.new.self.items c.in-Some.last c.as_str-text.result.now c.as_str-text.ensures.value c.insert.result
+    (subst (IsIndex c.self.inside.known) c.in-Some.ensures.items c.self.invariant)
+    (subst (λ (o : Option Known). OnOk c.insert.result (UpdatesBy (λ a b. bytes_eq a.now b.now) (λ k. bytes_eq c.as_str-text.result.now k.now) c.self.inside.known c.insert.new.self o)) (sym c.in-Some-before.is) c.insert.ensures.updates)
+    c.insert.ensures.absent
