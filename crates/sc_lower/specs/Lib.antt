@@ -7,3 +7,7 @@ pub mod Stands
 pub mod Lowered
 pub mod View
 pub mod Programs
+pub mod Unlinked
+pub mod Settings
+pub mod Parts
+pub mod Named

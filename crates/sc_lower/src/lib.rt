@@ -7,10 +7,22 @@
 //! `specs/Emitted` says what code a routine has, and `specs/Machine` what an operation does.
 #![tactic(auto)]
 
+mod call_code;
+mod calls;
+mod code;
+mod known_names;
 pub mod laws;
+mod leaves;
+mod lowered;
+mod olds;
 mod operation;
+mod operator_code;
+mod own_feature;
 mod program;
+mod setting;
 mod site;
+mod sums;
+mod unlinked;
 
 pub use operation::{DefaultValue, Operation};
 pub use program::{AttributeCode, ClassCode, Program, RoutineCode, Version};

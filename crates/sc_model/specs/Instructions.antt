@@ -3,7 +3,7 @@ use Rattle.std.specs.Prelude.{ℕ, Bool, true, false, List, [], ◌∷◌, ◌++
 use Rattle.std.specs.Fmt.{signed_decimal}
 use Rattle.sc_tree.specs.Plain as tree
 use Rattle.sc_tree.specs.Plain.{System, Clause, Head, Name, Variable, Named, ResultVariable, CreationCall, Exprs, no_exprs, expr_then, Instr, Instrs, Branches, no_branches, branch_then}
-use Rattle.sc_class.specs.Names.{is_print}
+use Rattle.sc_tree.specs.Properties.{is_print}
 use Rattle.sc_rules.specs.CallRules.{count}
 use Rattle.sc_rules.specs.Names.{Assignee, to_local, to_attribute}
 use Rattle.sc_model.specs.declared.cause.Cause.{Cause}

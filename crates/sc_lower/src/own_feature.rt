@@ -1,0 +1,12 @@
+// What a name of a class is to its own text.
+
+use sc_proctype::EntityType;
+
+/// What a name of a class is to its own text, with the type that it gives, if that is known.
+#[derive(Clone, Copy)]
+pub enum OwnFeature {
+    /// No feature.
+    Unknown,
+    Attribute(Option<EntityType>),
+    Routine(Option<EntityType>),
+}
