@@ -2,6 +2,8 @@
 ghost use Rattle.std.specs.Prelude.{◌≡◌, ◌<◌, ◌≤◌, [], ◌∷◌, ◌++◌, ◌↔◌, OnOk, IfSome, IfNone, IsTrue, length, slice_get};
 ghost use Rattle.sc_region.specs.OperandList.{last};
 
+mod reach;
+
 use crate::value::Value;
 use std::alloc::{AllocError, Global};
 use std::marker::Model;

@@ -1,0 +1,4 @@
+pub mod GoingOn
+pub mod Ahead
+pub mod Popping
+pub mod Demanding

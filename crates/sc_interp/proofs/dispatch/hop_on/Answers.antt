@@ -1,0 +1,28 @@
+use Rattle.std.proofs.Common.{ap, ◌∙◌}
+use Rattle.sc_lower.specs.declared.operation.Operation.{Operation}
+use Rattle.sc_lower.specs.View.{operation_of}
+use Rattle.sc_lower.specs.Machine.{hop_of}
+use Rattle.sc_region.specs.Frames.{activation_of}
+use Rattle.sc_interp.specs.Values.{reference_of}
+use Rattle.sc_interp.specs.Standing.{state_of}
+use Rattle.sc_interp.proofs.dispatch.hop_on.Goals as goal
+
+pub returns-in-CallRoutine-clause-follows : goal.returns-in-CallRoutine-clause-follows
+returns-in-CallRoutine-clause-follows c = λ s code objects serves fits.
+    ap (λ (o : Operation). hop_of s code (reference_of c.args.me) (operation_of c.args.program.now o) (state_of objects (activation_of c.args.activation.now))) c.in-CallRoutine.is
+    ∙ c.call_routine.ensures.follows c.args.count s code objects serves fits
+
+pub returns-in-Create-clause-follows : goal.returns-in-Create-clause-follows
+returns-in-Create-clause-follows c = λ s code objects serves fits.
+    ap (λ (o : Operation). hop_of s code (reference_of c.args.me) (operation_of c.args.program.now o) (state_of objects (activation_of c.args.activation.now))) c.in-Create.is
+    ∙ c.create.ensures.follows c.args.count s code objects serves fits
+
+pub returns-in-CreateHandler-clause-follows : goal.returns-in-CreateHandler-clause-follows
+returns-in-CreateHandler-clause-follows c = λ s code objects serves fits.
+    ap (λ (o : Operation). hop_of s code (reference_of c.args.me) (operation_of c.args.program.now o) (state_of objects (activation_of c.args.activation.now))) c.in-CreateHandler.is
+    ∙ c.create_handler.ensures.follows c.args.count s code objects serves fits
+
+pub returns-in-Demand-clause-follows : goal.returns-in-Demand-clause-follows
+returns-in-Demand-clause-follows c = λ s code objects serves fits.
+    ap (λ (o : Operation). hop_of s code (reference_of c.args.me) (operation_of c.args.program.now o) (state_of objects (activation_of c.args.activation.now))) c.in-Demand.is
+    ∙ c.demand.ensures.follows c.args.me s code objects serves fits

@@ -1,0 +1,4 @@
+pub mod Values
+pub mod Serving
+pub mod Standing
+pub mod Laws

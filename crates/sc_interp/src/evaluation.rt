@@ -1,0 +1,185 @@
+//! What operators and reads come to.
+ghost use Rattle.std.specs.Prelude.{◌≡◌};
+ghost use Rattle.std.specs.Option.{option_map};
+ghost use Rattle.sc_model.specs.Operators as operators;
+ghost use Rattle.sc_model.specs.Expressions.{decided_by, is_same_object};
+ghost use Rattle.sc_lower.specs.Machine as flat;
+ghost use Rattle.sc_interp.specs.Values.{value_of, reference_of, evaluated};
+
+use sc_formula::{ArithmeticFault, ArithmeticOperator, Comparison, Connective, arithmetic};
+use sc_model::Cause;
+use sc_region::{Reference, Value};
+use sc_tree::{BinaryOperator, UnaryOperator};
+
+/// An entity is read: F7 where its type is attached and it is still Void, F16 where there is none.
+pub fn read(is_attached: bool, value: Option<Value>) -> Result<Value, Cause>
+    ensures { evaluated result ≡ flat.read is_attached (option_map value_of value) }
+{
+    match value {
+        None => Err(Cause::BadCode),
+        Some(Value::Integer(value)) => Ok(Value::Integer(value)),
+        Some(Value::Boolean(value)) => Ok(Value::Boolean(value)),
+        Some(Value::Attached(object)) => Ok(Value::Attached(object)),
+        Some(Value::Void) => {
+            if is_attached {
+                Err(Cause::UnsetEntity)
+            } else {
+                Ok(Value::Void)
+            }
+        }
+    }
+}
+
+/// A kept value is read: F16 where there is none.
+pub fn found(value: Option<Value>) -> Result<Value, Cause>
+    ensures { evaluated result ≡ flat.found (option_map value_of value) }
+{
+    value.ok_or(Cause::BadCode)
+}
+
+fn outcome(found: Result<i64, ArithmeticFault>) -> Result<Value, Cause>
+    ensures { evaluated result ≡ flat.outcome found }
+{
+    match found {
+        Ok(value) => Ok(Value::Integer(value)),
+        Err(ArithmeticFault::Overflow) => Err(Cause::Overflow),
+        Err(ArithmeticFault::DivideByZero) => Err(Cause::DivideByZero),
+    }
+}
+
+/// The value of a unary operator: F16 where it takes no such operand.
+pub fn unary_value(operator: UnaryOperator, operand: Value) -> Result<Value, Cause>
+    ensures { evaluated result ≡ flat.unary_value operator (value_of operand) }
+{
+    match (operator, operand) {
+        (UnaryOperator::Not, Value::Boolean(value)) => Ok(Value::Boolean(!value)),
+        (UnaryOperator::Plus, Value::Integer(value)) => Ok(Value::Integer(value)),
+        (UnaryOperator::Minus, Value::Integer(value)) => outcome(arithmetic::opposite(value)),
+        _ => Err(Cause::BadCode),
+    }
+}
+
+/// The operator on two integers that gives an integer, if it is one.
+fn arithmetic_of(operator: BinaryOperator) -> Option<ArithmeticOperator>
+    ensures { result ≡ operators.arithmetic_of operator }
+{
+    match operator {
+        BinaryOperator::Times => Some(ArithmeticOperator::Times),
+        BinaryOperator::Quotient => Some(ArithmeticOperator::Quotient),
+        BinaryOperator::Remainder => Some(ArithmeticOperator::Remainder),
+        BinaryOperator::Plus => Some(ArithmeticOperator::Plus),
+        BinaryOperator::Minus => Some(ArithmeticOperator::Minus),
+        _ => None,
+    }
+}
+
+/// The operator on two integers that gives a truth value, if it is one.
+fn comparison_of(operator: BinaryOperator) -> Option<Comparison>
+    ensures { result ≡ operators.comparison_of operator }
+{
+    match operator {
+        BinaryOperator::Equal => Some(Comparison::Equal),
+        BinaryOperator::NotEqual => Some(Comparison::NotEqual),
+        BinaryOperator::Less => Some(Comparison::Less),
+        BinaryOperator::Greater => Some(Comparison::Greater),
+        BinaryOperator::LessEqual => Some(Comparison::LessOrEqual),
+        BinaryOperator::GreaterEqual => Some(Comparison::GreaterOrEqual),
+        _ => None,
+    }
+}
+
+/// The operator on two truth values, if it is one.
+fn connective_of(operator: BinaryOperator) -> Option<Connective>
+    ensures { result ≡ operators.connective_of operator }
+{
+    match operator {
+        BinaryOperator::Equal => Some(Connective::Equal),
+        BinaryOperator::NotEqual => Some(Connective::NotEqual),
+        BinaryOperator::And => Some(Connective::And),
+        BinaryOperator::AndThen => Some(Connective::AndThen),
+        BinaryOperator::Or => Some(Connective::Or),
+        BinaryOperator::OrElse => Some(Connective::OrElse),
+        BinaryOperator::Xor => Some(Connective::Xor),
+        BinaryOperator::Implies => Some(Connective::Implies),
+        _ => None,
+    }
+}
+
+/// What `=` and `/=` make of two references, by whether they are the same.
+fn identity_of(operator: BinaryOperator, same: bool) -> Option<bool>
+    ensures { result ≡ operators.identity_of operator same }
+{
+    match operator {
+        BinaryOperator::Equal => Some(same),
+        BinaryOperator::NotEqual => Some(!same),
+        _ => None,
+    }
+}
+
+fn is_same_object(one: Reference, other: Reference) -> bool
+    ensures { result ≡ is_same_object (reference_of one) (reference_of other) }
+{
+    one.handler == other.handler && one.number == other.number
+}
+
+fn truth(found: Option<bool>) -> Result<Value, Cause>
+    ensures { evaluated result ≡ flat.truth found }
+{
+    match found {
+        Some(value) => Ok(Value::Boolean(value)),
+        None => Err(Cause::BadCode),
+    }
+}
+
+fn of_integers(operator: BinaryOperator, left: i64, right: i64) -> Result<Value, Cause>
+    ensures { evaluated result ≡ flat.of_integers (operators.arithmetic_of operator) (operators.comparison_of operator) left right }
+{
+    match arithmetic_of(operator) {
+        Some(arithmetic) => outcome(arithmetic.apply(left, right)),
+        None => match comparison_of(operator) {
+            Some(comparison) => Ok(Value::Boolean(comparison.holds(left, right))),
+            None => Err(Cause::BadCode),
+        },
+    }
+}
+
+fn of_booleans(operator: BinaryOperator, left: bool, right: bool) -> Result<Value, Cause>
+    ensures { evaluated result ≡ flat.of_booleans (operators.connective_of operator) left right }
+{
+    match connective_of(operator) {
+        Some(connective) => Ok(Value::Boolean(connective.apply(left, right))),
+        None => Err(Cause::BadCode),
+    }
+}
+
+/// The value of a binary operator: F16 where it takes no such operands.
+pub fn binary_value(operator: BinaryOperator, left: Value, right: Value) -> Result<Value, Cause>
+    ensures { evaluated result ≡ flat.binary_value operator (value_of left) (value_of right) }
+{
+    match (left, right) {
+        (Value::Integer(left), Value::Integer(right)) => of_integers(operator, left, right),
+        (Value::Boolean(left), Value::Boolean(right)) => of_booleans(operator, left, right),
+        (Value::Attached(left), Value::Attached(right)) => truth(identity_of(
+            operator,
+            is_same_object(left, right),
+        )),
+        (Value::Attached(_), Value::Void) | (Value::Void, Value::Attached(_)) => truth(identity_of(
+            operator, false,
+        )),
+        (Value::Void, Value::Void) => truth(identity_of(operator, true)),
+        _ => Err(Cause::BadCode),
+    }
+}
+
+/// What the left operand of a semistrict operator decides, if it does.
+pub fn decided_by(operator: BinaryOperator, left: Value) -> Option<bool>
+    ensures { result ≡ decided_by operator (value_of left) }
+{
+    match left {
+        Value::Boolean(value) => match connective_of(operator) {
+            Some(connective) => connective.decision(value),
+            None => None,
+        },
+        Value::Integer(_) | Value::Void | Value::Attached(_) => None,
+    }
+}

@@ -1,0 +1,72 @@
+//! Visible operations: what they name is told, and the routine stays as it is.
+ghost use Rattle.std.specs.Prelude.{ℕ};
+ghost use Rattle.sc_lower.specs.declared.operation.Operation.TheVariants as coded;
+ghost use Rattle.sc_region.specs.declared.value.Reference as code;
+ghost use Rattle.sc_region.specs.Frames.{activation_of};
+ghost use Rattle.sc_lower.specs.Operations as flat;
+ghost use Rattle.sc_interp.specs.Standing.{Demands, Follows, Hops, Stays};
+
+use crate::act::{Act, Hop};
+use crate::passing::skip;
+use sc_lower::Program;
+use sc_model::Cause;
+use sc_region::{Activation, Value};
+
+/// The value of the last operand is printed: F16 where it is none of INTEGER or BOOLEAN.
+pub fn print(activation: &mut Activation) -> Hop
+    ensures hops { (count : ℕ) → Hops count flat.Print result (activation_of activation.old) (activation_of activation.new) }
+    ensures stays { Stays (activation_of activation.old) (activation_of activation.new) }
+{
+    match activation.operands.pop() {
+        Some(Value::Integer(value)) => {
+            activation.operands.push(Value::Integer(value));
+            Hop::Comes(Act::PrintInteger(value))
+        }
+        Some(Value::Boolean(value)) => {
+            activation.operands.push(Value::Boolean(value));
+            Hop::Comes(Act::PrintBoolean(value))
+        }
+        Some(Value::Void | Value::Attached(_)) | None => Hop::Failed(Cause::BadCode),
+    }
+}
+
+/// The loop ends where the last operand is True, else its body comes again, so many operations back.
+pub fn end_loop(activation: &mut Activation, back: usize) -> Hop
+    ensures hops { (count : ℕ) → Hops count (flat.EndLoop back) result (activation_of activation.old) (activation_of activation.new) }
+    ensures stays { Stays (activation_of activation.old) (activation_of activation.new) }
+{
+    match activation.operands.pop() {
+        Some(Value::Boolean(ends)) => {
+            activation.operands.push(Value::Boolean(ends));
+            Hop::Comes(Act::Test(if ends { None } else { Some(back) }))
+        }
+        _ => Hop::Failed(Cause::BadCode),
+    }
+}
+
+/// The last operand is the value of a clause of a precondition, which names the formals of the list of the number.
+fn demand_on(activation: &mut Activation, count: usize, number: usize) -> Hop
+    ensures demands { Demands count number result (activation_of activation.old) (activation_of activation.new) }
+    ensures stays { Stays (activation_of activation.old) (activation_of activation.new) }
+{
+    match activation.operands.pop() {
+        Some(Value::Boolean(true)) => skip(activation, count, 0),
+        Some(Value::Boolean(false)) => {
+            activation.operands.push(Value::Boolean(false));
+            Hop::Comes(Act::Refuse(number))
+        }
+        _ => Hop::Failed(Cause::BadCode),
+    }
+}
+
+/// The same, where the program has such a list.
+pub fn demand(program: &Program, activation: &mut Activation, count: usize, number: usize) -> Hop
+    ensures follows { (me : code.Reference) → Follows program.now me count (coded.Demand number) result (activation_of activation.old) (activation_of activation.new) }
+    ensures stays { Stays (activation_of activation.old) (activation_of activation.new) }
+{
+    if number < program.demands.len() {
+        demand_on(activation, count, number)
+    } else {
+        Hop::Failed(Cause::BadCode)
+    }
+}
