@@ -1,6 +1,6 @@
 -- The opening of a system without faults fits.
 use Rattle.std.proofs.Common.{◌≡◌, ℕ, zero, suc, Bool, true, false, ◌&&◌, List, [], ◌∷◌, Option, Some, None, refl, sym, subst, arith}
-use Rattle.std.specs.Prelude.{Contains, length, is_some, is_none, ◌==◌}
+use Rattle.std.specs.Prelude.{length, is_some, is_none, ◌==◌}
 use Rattle.std.specs.Option.{option_map_or}
 use Rattle.sc_tree.specs.Plain.{System, Declaration, FeatureKind, Attribute, Routine}
 use Rattle.sc_class.specs.declared.fault.ClassFault.TheVariants as fault
@@ -14,13 +14,6 @@ use Rattle.sc_model.specs.Runs.{root_request, opening}
 use Rattle.sc_values.specs.Places.{formals_of_kind, formals_if_any, of_actuals}
 use Rattle.sc_values.specs.Fitting.{ActualsFit, no_more, is_due, RequestFits, empty}
 use Rattle.sc_values.specs.Values.{OpeningFits}
-
-none_in : {A : Type 0} (x : A) → Contains [] x → ⊥
-none_in x (i, l, e) = absurd (omega (arith, l))
-
-one_in : {A : Type 0} (x y : A) → Contains (x ∷ []) y → x ≡ y
-one_in x y (zero, l, e) = e
-one_in x y (suc i, l, e) = absurd (omega (arith, l))
 
 both : (a b : Bool) → (a && b) ≡ true → (a ≡ true) × (b ≡ true)
 both true b e = (refl, e)
@@ -64,7 +57,7 @@ request_fits s root w = record {
   is_known = λ x e. named_so x e;
   target_is_there = is_due {q = root_request (option_map_or (λ k. k) (number_of s root.class) 0) root.procedure} {qs = []} {x = Some root.procedure} (omega arith) refl refl refl refl;
   actuals_fit = subst (λ ds. ActualsFit s 0 ds (of_actuals []) ds []) (sym (root_found s root w).1) no_more;
-  actuals_are_there = λ v c. absurd (none_in v c);
+  actuals_are_there = tt;
 }
   where
     same : (a b : List ℕ) → Some a ≡ Some b → a ≡ b
@@ -75,10 +68,10 @@ request_fits s root w = record {
 
 pub opening_fits : OpeningFits
 opening_fits s root pure w zero l = record {
-  objects_fit = λ o c. absurd (none_in o c);
-  frames_fit = λ f c. absurd (none_in f c);
+  objects_fit = tt;
+  frames_fit = tt;
   frames_are_linked = empty;
-  requests_fit = λ r c. subst (RequestFits s (opening s root) 0) (one_in _ r c) (request_fits s root w);
+  requests_fit = (request_fits s root w, tt);
   answer_fits = λ f below k t is_creation v e g a. cc;
 }
 opening_fits s root pure w (suc h) l = absurd (omega (arith, l))

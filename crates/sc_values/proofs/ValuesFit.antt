@@ -1,5 +1,5 @@
 -- Where the invariant of a turn holds, each value fits its type.
-use Rattle.std.proofs.Common.{◌≡◌, ◌⊎◌, inl, inr, ℕ, zero, suc, true, false, List, [], ◌∷◌, ◌++◌, Option, Some, refl, sym, subst, ap, ◌∙◌, arith}
+use Rattle.std.proofs.Common.{◌≡◌, ◌⊎◌, inl, inr, ℕ, zero, suc, true, false, List, Option, Some, refl, sym, subst, ap, ◌∙◌}
 use Rattle.std.specs.Prelude.{Contains, slice_get}
 use Rattle.sc_tree.specs.Plain.{System, Declaration}
 use Rattle.sc_proctype.specs.declared.tag.Reserved.{Reserved}
@@ -7,28 +7,22 @@ use Rattle.sc_proctype.specs.declared.entity_type.EntityType.{EntityType}
 use Rattle.sc_rules.specs.Types.{declared_type}
 use Rattle.sc_model.specs.Values.{Value, Attached, Operand}
 use Rattle.sc_model.specs.Environments.{Binding, handler_named}
-use Rattle.sc_model.specs.Fits.{Lies, Fits, IsUnset, FitsOrUnset, BindingFits}
-use Rattle.sc_values.specs.Places.{attribute, entity, of_result, operand, of_old, actual, reply}
-use Rattle.sc_values.specs.Fitting.{ActualsFit, no_more, one_more, EnvironmentFits, ResultFits, none, one, ValueIsThere}
+use Rattle.sc_model.specs.Failures.{requests_at}
+use Rattle.sc_model.specs.Fits.{Lies, Fits, IsUnset, FitsOrUnset, BindingFits, OperandFits}
+use Rattle.sc_values.specs.Places.{no_names, attribute, entity, of_result, operand, of_old, actual, reply}
+use Rattle.sc_values.specs.Points as point
+use Rattle.sc_values.specs.Points.{EnvironmentFits, ResultFits}
+use Rattle.sc_values.specs.Fitting.{ActualsFit, no_more, one_more, ValueIsThere, ObjectFits, RequestFits, FrameFits}
 use Rattle.sc_values.specs.Values.{FitWhereWorldFits, OwnWhereWorldFits}
-
-none_in : {A : Type 0} (x : A) → Contains [] x → ⊥
-none_in x (i, l, e) = absurd (omega (arith, l))
-
-end_empty : {A : Type 0} (xs : List A) → xs ++ [] ≡ xs
-end_empty [] = refl
-end_empty (x ∷ xs) = ap (λ xs. x ∷ xs) (end_empty xs)
+use Rattle.sc_values.proofs.Lists.{same_some, each_in}
+use Rattle.sc_values.proofs.Environments.{all_fit, olds_now}
 
 binding_fits : (s : System) (h : ℕ) (bs : List Binding) → EnvironmentFits s h bs → (b : Binding) → Contains bs b → BindingFits s h bs b
-binding_fits s h bs f b c = f bs [] (sym (end_empty bs)) (λ x i. absurd (none_in x i)) b c
+binding_fits s h bs f b c = each_in (BindingFits s h bs) bs b (all_fit s h bs f) c
 
-result_there : (s : System) (h : ℕ) (bs : List Binding) (g : Option (Option EntityType)) (o : Option Operand) (u : Operand) → ResultFits s h bs g o → o ≡ Some u →
-    FitsOrUnset s h (handler_named bs) u.value u.type
-result_there s h bs _ _ u none e = cc
-result_there s h bs _ _ u (one {u = v} f) e = subst (λ (u : Operand). FitsOrUnset s h (handler_named bs) u.value u.type) (same v u e) f
-  where
-    same : (a b : Operand) → Some a ≡ Some b → a ≡ b
-    same a b e = cc
+result_there : (s : System) (h : ℕ) (g : Option (Option EntityType)) (o : Option Operand) (u : Operand) → ResultFits s h g o → o ≡ Some u → FitsOrUnset s h no_names u.value u.type
+result_there s h _ _ u point.no_result e = cc
+result_there s h _ _ u (point.a_result {u = v} f) e = subst (λ (u : Operand). FitsOrUnset s h no_names u.value u.type) (same_some e) f
 
 actual_fits : (s : System) (h : ℕ) (all : List Declaration) (of : Reserved → Option ℕ) (ds : List Declaration) (vs : List Value) → ActualsFit s h all of ds vs →
     (i : ℕ) (d : Declaration) (t : EntityType) (v : Value) → slice_get ds i ≡ Some d → declared_type s all d.declared_type ≡ Some t → slice_get vs i ≡ Some v →
@@ -49,14 +43,18 @@ open_to (inl p) = inl p
 open_to (inr q) = inr (refl, q)
 
 pub fit_where_world_fits : FitWhereWorldFits
-fit_where_world_fits s pure w fits h of v t u (attribute {o} {b} l i j) = open_to (((fits h l).objects_fit o i).fit b j).0
-fit_where_world_fits s pure w fits h of v t u (entity {f} {b} l i j) = binding_fits s h f.environment ((fits h l).frames_fit f i).names_fit b j
+fit_where_world_fits s pure w fits h of v t u (attribute {o} {b} l i j) =
+    open_to (each_in (λ (b : Binding). FitsOrUnset s h no_names b.value b.type) o.attributes b (each_in (ObjectFits s w h) (w.handlers h).objects o (fits h l).objects_fit i).attributes_fit.fit j)
+fit_where_world_fits s pure w fits h of v t u (entity {f} {b} l i j) =
+    binding_fits s h f.environment (each_in (FrameFits s pure w h) (w.handlers h).stack f (fits h l).frames_fit i).point_fits.names_fit b j
 fit_where_world_fits s pure w fits h of v t u (of_result {f} {u = r} l i e) =
-    open_to (result_there s h f.environment f.routine.text.result f.result r ((fits h l).frames_fit f i).result_fits e)
-fit_where_world_fits s pure w fits h of v t u (operand {f} {u = x} l i j) = inl (((fits h l).frames_fit f i).values_fit x j)
-fit_where_world_fits s pure w fits h of v t u (of_old {f} {u = x} l i j) = inl (((fits h l).frames_fit f i).olds_fit x j)
+    open_to (result_there s h f.routine.text.result f.result r (each_in (FrameFits s pure w h) (w.handlers h).stack f (fits h l).frames_fit i).point_fits.result_fits e)
+fit_where_world_fits s pure w fits h of v t u (operand {f} {u = x} l i j) =
+    inl (each_in (OperandFits s h f.environment) f.values x (each_in (FrameFits s pure w h) (w.handlers h).stack f (fits h l).frames_fit i).point_fits.values_fit j)
+fit_where_world_fits s pure w fits h of v t u (of_old {f} {u = x} l i j) =
+    inl (each_in (OperandFits s h f.environment) f.olds x (olds_now s h f.environment f.olds (each_in (FrameFits s pure w h) (w.handlers h).stack f (fits h l).frames_fit i).point_fits.olds_fit) j)
 fit_where_world_fits s pure w fits h of v t u (actual i {r} {d} l c j k m) =
-    let q = (fits h l).requests_fit r c in
+    let q = each_in (RequestFits s w h) (requests_at (w.handlers h)) r (fits h l).requests_fit c in
     inl (subst (λ h. Fits s h of v t) q.is_here (actual_fits s r.target.handler _ of _ r.actuals q.actuals_fit i d t v j k m))
 fit_where_world_fits s pure w fits h of v t u (reply {k} {f} {below} {is_creation} l a e g) = at ((fits h l).answer_fits f below k (Some t) is_creation (Some v) e g a t refl)
   where

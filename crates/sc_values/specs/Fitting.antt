@@ -1,27 +1,20 @@
 -- What is true of the values of each state that is reached: the invariant of a turn.
-use Rattle.std.specs.Prelude.{◌≡◌, ◌<◌, ℕ, Bool, true, false, List, [], ◌∷◌, ◌++◌, Option, Some, None, Contains, length, map, is_some}
-use Rattle.sc_tree.specs.Plain.{System, Declaration}
-use Rattle.sc_proctype.specs.declared.tag.Reserved.{Reserved}
+use Rattle.std.specs.Prelude.{◌++◌, ◌<◌, Bool, List, None, Option, Some, [], is_some, true, ℕ, ◌∷◌, ◌≡◌}
+use Rattle.sc_tree.specs.Plain.{Declaration, System}
 use Rattle.sc_proctype.specs.declared.entity_type.EntityType.{EntityType}
-use Rattle.sc_proctype.specs.Conformance.{boolean}
-use Rattle.sc_rules.specs.Names.{RoutineName, Entities}
+use Rattle.sc_proctype.specs.declared.tag.Reserved.{Reserved}
+use Rattle.sc_rules.specs.Names.{RoutineName}
 use Rattle.sc_rules.specs.Types.{declared_type}
-use Rattle.sc_model.specs.Values.{Reference, Value, Boolean, Attached, Operand, operand}
-use Rattle.sc_model.specs.Environments.{Binding, known_of, scope_of, handler_named, is_formal}
-use Rattle.sc_model.specs.Objects.{Object, object_numbered, fresh_object}
-use Rattle.sc_model.specs.Fits.{Fits, FitsOrUnset, BindingFits, OperandFits}
-use Rattle.sc_model.specs.Routines.{version_of}
-use Rattle.sc_model.specs.Handlers.{Makes, Request, Reply, Requested, Stage, Runs, Reserves, ReservesBlock, InCall, Awaits, Frame, World}
+use Rattle.sc_model.specs.Environments.{Binding, handler_named}
 use Rattle.sc_model.specs.Failures.{requests_at}
-use Rattle.sc_values.specs.Places.{no_names, of_actuals, formals_of_request, called_name}
-use Rattle.sc_values.specs.Typed.{Known, at, after, Extends, IsTyped}
-
-abbrev pub listed : {A : Type 0} → Option A → List A
-listed None = []
-listed (Some x) = x ∷ []
-
-abbrev pub Each : {A : Type 0} → (A → Type 0) → List A → Type 0
-Each P xs = (x : _) → Contains xs x → P x
+use Rattle.sc_model.specs.Fits.{Fits}
+use Rattle.sc_model.specs.Handlers.{Awaits, Frame, InCall, Makes, Reply, Request, Requested, Reserves, ReservesBlock, Runs, Stage, World, point_of}
+use Rattle.sc_model.specs.Objects.{Object, object_numbered}
+use Rattle.sc_model.specs.Routines.{routine_named, version_of}
+use Rattle.sc_model.specs.Steps.{gives}
+use Rattle.sc_model.specs.Values.{Attached, Operand, Reference, Value}
+use Rattle.sc_values.specs.Places.{called_name, formals_of_request, no_names, of_actuals}
+use Rattle.sc_values.specs.Points.{AttributesFit, Each, IsAmong, PointFits, listed}
 
 -- ---- objects
 
@@ -35,11 +28,10 @@ pub data IsThere (w : World) (r : Reference) : Type 0 where
 abbrev pub ValueIsThere : World → Value → Type 0
 ValueIsThere w v = (r : Reference) → v ≡ Attached r → IsThere w r
 
--- The object has the attributes of its class, each with a value that fits or with none yet.
+-- Its attributes fit, and lie where there are objects.
 pub record ObjectFits (s : System) (w : World) (h : ℕ) (o : Object) : Type 0 where
-  pub is_of_class : o.class < length s.classes
-  pub has_attributes : map known_of o.attributes ≡ map known_of (fresh_object s o.class).attributes
-  pub fit : Each (λ (b : Binding). FitsOrUnset s h no_names b.value b.type × ValueIsThere w b.value) o.attributes
+  pub attributes_fit : AttributesFit s h o
+  pub are_there : Each (λ (b : Binding). ValueIsThere w b.value) o.attributes
 
 -- ---- requests
 
@@ -59,17 +51,6 @@ pub record RequestFits (s : System) (w : World) (h : ℕ) (r : Request) : Type 0
 
 -- ---- frames
 
-abbrev pub types_of : List Operand → List EntityType
-types_of us = map (λ (u : Operand). u.type) us
-
--- What is known at a frame, where values of these types are still to come onto its own.
-pub data Agrees (f : Frame) (coming : List EntityType) : Known → Type 0 where
-  here : Agrees f coming (at f.text (scope_of f.environment) (types_of f.olds) (coming ++ types_of f.values))
-  held : {n m : Entities} {us : List Operand} → coming ≡ [] → f.values ≡ operand (Boolean true) boolean ∷ us → scope_of f.environment ≡ m →
-      Agrees f coming (after f.text n m (types_of f.olds) (types_of us))
-  denied : {n m : Entities} {us : List Operand} → coming ≡ [] → f.values ≡ operand (Boolean false) boolean ∷ us → Extends n (scope_of f.environment) →
-      Agrees f coming (after f.text n m (types_of f.olds) (types_of us))
-
 -- what a stage waits for
 abbrev pub coming_to : Stage → List EntityType
 coming_to Runs = []
@@ -78,44 +59,28 @@ coming_to ReservesBlock = []
 coming_to (InCall gives) = listed gives
 coming_to (Awaits k gives is_creation) = listed gives
 
--- Prefix by prefix, but never within the formals, the names fit: so what is forgotten breaks none of those that stay.
-abbrev pub EnvironmentFits : System → ℕ → List Binding → Type 0
-EnvironmentFits s h bs = (pre post : List Binding) → bs ≡ pre ++ post → Each (λ (b : Binding). is_formal b.role ≡ false) post →
-    Each (BindingFits s h pre) pre
-
--- The Result is there where the routine gives one, and is of its type or still unset.
-pub data ResultFits (s : System) (h : ℕ) (bs : List Binding) : Option (Option EntityType) → Option Operand → Type 0 where
-  none : ResultFits s h bs None None
-  one : {u : Operand} → FitsOrUnset s h (handler_named bs) u.value u.type → ResultFits s h bs (Some (Some u.type)) (Some u)
-
+-- Its routine is a version of its object's class, what is left to do is typed, and its values fit and lie where there are objects.
 pub record FrameFits (s : System) (pure : RoutineName → Bool) (w : World) (h : ℕ) (f : Frame) : Type 0 where
   pub is_own : f.current.handler ≡ h
-  pub is_there : IsThere w f.current
-  -- what is left to do is typed
-  pub known : Known
-  pub agrees : Agrees f (coming_to f.stage) known
-  pub is_typed : IsTyped s pure f.routine f.tasks known
-  -- its values fit and lie where there are objects
-  pub names_fit : EnvironmentFits s h f.environment
-  pub result_fits : ResultFits s h f.environment f.routine.text.result f.result
-  pub olds_fit : Each (OperandFits s h f.environment) f.olds
-  pub values_fit : Each (OperandFits s h f.environment) f.values
+  pub is_there : IsAmong (w.handlers h).objects f.current
+  pub is_version : routine_named s f.current.class f.routine.name ≡ Some f.routine
+  pub point_fits : PointFits s pure f.routine h (coming_to f.stage) (point_of f (w.handlers h).objects)
   pub names_are_there : Each (λ (b : Binding). ValueIsThere w b.value) f.environment
   pub values_are_there : Each (λ (u : Operand). ValueIsThere w u.value) (f.values ++ f.olds ++ listed f.result)
 
 -- ---- what a frame gives to whom
 
 -- What the routine gives, where it fits its type at the supplier, fits the type that the caller waits for.
-abbrev pub Gives : System → ℕ → List Binding → Option (Option EntityType) → ℕ → List Binding → Option EntityType → Type 0
-Gives s h bs (Some (Some t)) k cs (Some u) = (v : Value) → Fits s h (handler_named bs) v t → Fits s k (handler_named cs) v u
-Gives s h bs None k cs None = Unit {0}
-Gives s h bs g k cs u = ⊥
+abbrev pub Gives : System → ℕ → Option (Option EntityType) → ℕ → List Binding → Option EntityType → Type 0
+Gives s h (Some (Some t)) k cs (Some u) = (v : Value) → Fits s h no_names v t → Fits s k (handler_named cs) v u
+Gives s h None k cs None = Unit {0}
+Gives s h g k cs u = ⊥
 
 -- The frames of a stack, each called by the one below it on its own handler, or for a request.
 pub data Linked (s : System) (h : ℕ) : List Frame → Type 0 where
   alone : {f : Frame} {r : Request} {below : List Frame} → f.origin ≡ Requested r → Linked s h below → Linked s h (f ∷ below)
   called : {f g : Frame} {below : List Frame} {t : Option EntityType} → g.stage ≡ InCall t →
-      Gives s h f.environment f.routine.text.result h g.environment t → Linked s h (g ∷ below) → Linked s h (f ∷ g ∷ below)
+      Gives s h f.routine.text.result h g.environment t → Linked s h (g ∷ below) → Linked s h (f ∷ g ∷ below)
   empty : Linked s h []
 
 -- A request that is waited for is answered by what the poster's waiting frame takes: the link is by the poster, whose topmost frame

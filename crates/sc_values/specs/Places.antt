@@ -1,19 +1,19 @@
 -- Where a value stands in a state of the machine, and the type that the text gives it there.
-use Rattle.std.specs.Prelude.{◌≡◌, ◌<◌, ℕ, Bool, true, false, List, [], ◌∷◌, Option, Some, None, Contains, slice_get}
 use Rattle.std.specs.Option.{option_and_then}
-use Rattle.sc_tree.specs.Plain.{System, Declaration, FeatureKind, Attribute, Routine}
+use Rattle.std.specs.Prelude.{◌<◌, Bool, Contains, List, None, Option, Some, [], false, slice_get, true, ℕ, ◌∷◌, ◌≡◌}
+use Rattle.sc_tree.specs.Plain.{Attribute, Declaration, FeatureKind, System, Routine}
 use Rattle.sc_class.specs.Tables.Features.{DeclaredFeature}
 use Rattle.sc_proctype.specs.declared.entity_type.EntityType.{EntityType}
 use Rattle.sc_proctype.specs.declared.tag.Reserved.{Reserved}
-use Rattle.sc_proctype.specs.declared.tag.Reserved.TheVariants.{Formal, BlockName}
+use Rattle.sc_proctype.specs.declared.tag.Reserved.TheVariants.{BlockName, Formal}
 use Rattle.sc_rules.specs.Names.{is_local}
 use Rattle.sc_rules.specs.Types.{declared_type}
-use Rattle.sc_model.specs.Values.{Value, Operand, handler_of}
 use Rattle.sc_model.specs.Environments.{Binding, handler_named}
+use Rattle.sc_model.specs.Failures.{requests_at}
+use Rattle.sc_model.specs.Handlers.{Awaits, Calls, Errand, Frame, Makes, Reply, Request, World}
 use Rattle.sc_model.specs.Objects.{Object}
 use Rattle.sc_model.specs.Routines.{version_of}
-use Rattle.sc_model.specs.Handlers.{Errand, Calls, Makes, Request, Reply, Awaits, Frame, World}
-use Rattle.sc_model.specs.Failures.{requests_at}
+use Rattle.sc_model.specs.Values.{Operand, Value, handler_of}
 
 -- no name is known
 abbrev pub no_names : Reserved → Option ℕ
@@ -23,6 +23,10 @@ no_names x = None
 abbrev pub of_actuals : List Value → Reserved → Option ℕ
 of_actuals vs (Formal i) = option_and_then handler_of (slice_get vs i)
 of_actuals vs (BlockName j) = None
+
+abbrev pub is_routine : FeatureKind → Bool
+is_routine (Attribute d) = false
+is_routine (Routine routine) = true
 
 abbrev pub formals_of_kind : FeatureKind → List Declaration
 formals_of_kind (Attribute d) = []
@@ -48,7 +52,7 @@ pub data StandsAs (s : System) (w : World) : ℕ → (Reserved → Option ℕ) �
   entity : {h : ℕ} {f : Frame} {b : Binding} → h < w.count → Contains (w.handlers h).stack f →
       Contains f.environment b → StandsAs s w h (handler_named f.environment) b.value b.type (is_local b.role)
   of_result : {h : ℕ} {f : Frame} {u : Operand} → h < w.count → Contains (w.handlers h).stack f →
-      f.result ≡ Some u → StandsAs s w h (handler_named f.environment) u.value u.type true
+      f.result ≡ Some u → StandsAs s w h no_names u.value u.type true
   operand : {h : ℕ} {f : Frame} {u : Operand} → h < w.count → Contains (w.handlers h).stack f →
       Contains f.values u → StandsAs s w h (handler_named f.environment) u.value u.type false
   of_old : {h : ℕ} {f : Frame} {u : Operand} → h < w.count → Contains (w.handlers h).stack f →

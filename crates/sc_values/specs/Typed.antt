@@ -1,30 +1,32 @@
 -- What is left to do in a routine is as the rules say, where these names are known and values of these types lie there.
-use Rattle.std.specs.Prelude.{◌≡◌, ◌⊎◌, ℕ, Bool, true, false, not, List, [], ◌∷◌, ◌++◌, Option, Some, None, Contains, length, map, slice_get}
 use Rattle.std.specs.List.{list_all}
-use Rattle.sc_tree.specs.declared.expression.UnaryOperator.{UnaryOperator}
+use Rattle.std.specs.Prelude.{◌+◌, ◌++◌, ◌<◌, Bool, Contains, List, None, Option, Some, [], false, length, map, not, slice_get, true, ℕ, ◌∷◌, ◌≡◌, ◌⊎◌}
+use Rattle.sc_tree.specs.Plain.{Branches, Clause, Declaration, DeclaredType, Expr, Instrs, Name, System, Variable}
 use Rattle.sc_tree.specs.declared.expression.BinaryOperator.{BinaryOperator}
-use Rattle.sc_tree.specs.Plain.{System, Declaration, DeclaredType, Clause, Name, Variable, Expr, Instrs, Branches}
-use Rattle.sc_class.specs.declared.identity.ClassId.TheVariants as class
+use Rattle.sc_tree.specs.declared.expression.UnaryOperator.{UnaryOperator}
 use Rattle.sc_class.specs.Tables.Conformance.{is_expanded}
 use Rattle.sc_class.specs.Tables.Features.{DeclaredFeature, feature_named}
-use Rattle.sc_proctype.specs.declared.tag.Tag.TheVariants as tag
+use Rattle.sc_class.specs.declared.identity.ClassId.TheVariants as class
+use Rattle.sc_proctype.specs.Conformance.{boolean, conforms}
 use Rattle.sc_proctype.specs.declared.entity_type.EntityType.{EntityType}
-use Rattle.sc_proctype.specs.Conformance.{conforms, boolean}
+use Rattle.sc_proctype.specs.declared.tag.Tag.TheVariants as tag
+use Rattle.sc_rules.specs.Laws.{are_declared}
+use Rattle.sc_rules.specs.Names.{Entities, Entity, RoutineContext, RoutineName, Signature, assignee, assignee_type, block_type, blocks, current, entity, locals_known, named, qualified_meaning, signature_of, test_type}
+use Rattle.sc_rules.specs.Positions.{is_and_then, is_condition, is_ensure, is_old, operand_position}
+use Rattle.sc_rules.specs.Sites.{branches, instructions}
+use Rattle.sc_rules.specs.SystemLaws.{Stands}
+use Rattle.sc_rules.specs.Types.{binary_type, is_boolean, is_controlled, unary_type}
+use Rattle.sc_rules.specs.Typing.{Gives, HasType, formals_take, typing}
 use Rattle.sc_rules.specs.declared.position.Context.{Context}
 use Rattle.sc_rules.specs.declared.position.Context.TheVariants as context
 use Rattle.sc_rules.specs.declared.position.Position.{Position}
-use Rattle.sc_rules.specs.declared.position.Position.TheVariants.{Plain, Condition}
+use Rattle.sc_rules.specs.declared.position.Position.TheVariants.{Condition, Plain}
 use Rattle.sc_rules.specs.declared.position.Role.TheVariants as role
-use Rattle.sc_rules.specs.Types.{is_controlled, is_boolean, unary_type, binary_type}
-use Rattle.sc_rules.specs.Positions.{is_old, is_and_then, is_condition, operand_position}
-use Rattle.sc_rules.specs.Names.{RoutineName, RoutineContext, Entity, Entities, entity, test_type, blocks, block_type, locals_known, Signature, named, current, signature_of, qualified_meaning, assignee, assignee_type}
-use Rattle.sc_rules.specs.Typing.{typing, formals_take, HasType, Gives}
-use Rattle.sc_rules.specs.Sites.{instructions, branches}
-use Rattle.sc_rules.specs.SystemLaws.{Stands}
 use Rattle.sc_model.specs.Environments.{is_formal}
-use Rattle.sc_model.specs.Routines.{Text, Routine, place_in}
 use Rattle.sc_model.specs.Olds.{olds_of}
-use Rattle.sc_model.specs.Tasks.{Task, Do, In, Declare, Forget, Eval, ApplyUnary, EvalRight, ApplyBinary, Conclude, Bind, CallUnqualified, CallQualified, AssignTo, Print, Choose, Repeat, EndLoop, Checked, Require, Required, KeepOld, Ensured, CreateBy, Open, Leave}
+use Rattle.sc_model.specs.Routines.{Routine, Text, place_in}
+use Rattle.sc_model.specs.Tasks.{ApplyBinary, ApplyUnary, AssignTo, Bind, CallQualified, CallUnqualified, Checked, Choose, Conclude, CreateBy, Declare, Do, EndLoop, Ensured, Eval, EvalRight, Forget, In, KeepOld, Leave, Open, Print, Repeat, Require, Required, Task}
+use Rattle.sc_values.specs.Places.{is_routine}
 
 -- What is known where tasks are left: the text that they stand in, the names, the types of the `old`s that were kept,
 -- and those of the values, the last one first. Behind a condition its value is the last; where that is true the second
@@ -43,9 +45,14 @@ pub record Extends (n m : Entities) : Type 0 where
   pub is_longer : m ≡ n ++ more
   pub no_formals : list_all (λ (e : Entity). not (is_formal e.role)) more ≡ true
 
--- the `old`s of an expression, of which the first has this number, were kept as values of their types
+-- these operands of `old`, of which the first has this number, were kept as values of their types
+abbrev pub AreKept : System → Text → Entities → ℕ → List Expr → List EntityType → Type 0
+AreKept s t n i es os = (j : ℕ) (a : Expr) → slice_get es j ≡ Some a →
+    (u : EntityType) × (b : Bool) × HasType (place_in s t) context.Old Plain n a (typing (Some u) b) × (slice_get os (i + j) ≡ Some u)
+
+-- those of an expression were
 abbrev pub OldsKept : System → Text → Entities → ℕ → Expr → List EntityType → Type 0
-OldsKept s t n i e os = (j : ℕ) (a : Expr) → slice_get (olds_of e) j ≡ Some a → (u : EntityType) × (b : Bool) × HasType (place_in s t) context.Old Plain n a (typing (Some u) b) × (slice_get os j ≡ Some u)
+OldsKept s t n i e os = AreKept s t n i (olds_of e) os
 
 -- actuals of these types may be passed to what has the signature
 abbrev pub Takes : System → List EntityType → Signature → Type 0
@@ -69,8 +76,8 @@ pub data Opens : Entities → List Name → List EntityType → Entities → Typ
 
 -- an object may be created for an entity of the type, on the current handler or on a new one
 pub data IsMade (s : System) (h : RoutineContext) (t : EntityType) (ts : List EntityType) : Option (List ℕ) → Type 0 where
-  without : {k : ℕ} → t.class ≡ class.Declared k → (t.tag ≡ tag.Own) ⊎ (t.tag ≡ tag.Any) → ts ≡ [] → IsMade s h t ts None
-  by : {k : ℕ} {x : List ℕ} {g : Signature} → t.class ≡ class.Declared k → (t.tag ≡ tag.Own) ⊎ (t.tag ≡ tag.Any) →
+  without : {k : ℕ} → k < length s.classes → t.class ≡ class.Declared k → (t.tag ≡ tag.Own) ⊎ (t.tag ≡ tag.Any) → ts ≡ [] → IsMade s h t ts None
+  by : {k : ℕ} {x : List ℕ} {g : Signature} → k < length s.classes → t.class ≡ class.Declared k → (t.tag ≡ tag.Own) ⊎ (t.tag ≡ tag.Any) →
       qualified_meaning h t x ≡ named g → g.gives ≡ None → Takes s ts g → IsMade s h t ts (Some x)
 
 -- an expression that is evaluated to a value of the type
@@ -82,15 +89,15 @@ IsBoolean a = is_boolean a.class ≡ true
 
 pub data IsTyped (s : System) (pure : RoutineName → Bool) (r : Routine) : List Task → Known → Type 0 where
   -- texts, bodies and names
-  done : {n : Entities} {os : List EntityType} → IsTyped s pure r [] (at r.contract n os [])
+  done : {t : Text} {n : Entities} {os : List EntityType} → t ≡ r.contract → IsTyped s pure r [] (at t n os [])
   in_text : {k : List Task} {t u : Text} {n : Entities} {os : List EntityType} → (u ≡ r.text) ⊎ (u ≡ r.contract) →
       IsTyped s pure r k (at u n os []) → IsTyped s pure r (In u ∷ k) (at t n os [])
-  body : {k : List Task} {n : Entities} {os : List EntityType} {is : Instrs} →
-      Stands s pure (context_in s pure r.text) (instructions n is) → IsTyped s pure r k (at r.text n os []) →
-      IsTyped s pure r (Do is ∷ k) (at r.text n os [])
-  declare : {k : List Task} {n : Entities} {os : List EntityType} {ls : List Declaration} →
-      IsTyped s pure r k (at r.text (n ++ locals_known s r.text.formals ls) os []) →
-      IsTyped s pure r (Declare ls ∷ k) (at r.text n os [])
+  body : {k : List Task} {t : Text} {n : Entities} {os : List EntityType} {is : Instrs} → t ≡ r.text →
+      Stands s pure (context_in s pure t) (instructions n is) → IsTyped s pure r k (at t n os []) →
+      IsTyped s pure r (Do is ∷ k) (at t n os [])
+  declare : {k : List Task} {t : Text} {n : Entities} {os : List EntityType} {ls : List Declaration} → t ≡ r.text → are_declared s t.formals ls ≡ true →
+      IsTyped s pure r k (at t (n ++ locals_known s t.formals ls) os []) →
+      IsTyped s pure r (Declare ls ∷ k) (at t n os [])
   forget : {k : List Task} {t : Text} {n m : Entities} {os : List EntityType} {d : ℕ} → d ≡ length n → Extends n m →
       IsTyped s pure r k (at t n os []) → IsTyped s pure r (Forget d ∷ k) (at t m os [])
   -- expressions
@@ -98,7 +105,7 @@ pub data IsTyped (s : System) (pure : RoutineName → Bool) (r : Routine) : List
       is_condition q ≡ false → IsOf s t c q n e a → OldsKept s t n i e os → IsTyped s pure r k (at t n os (a ∷ vs)) →
       IsTyped s pure r (Eval i e ∷ k) (at t n os vs)
   condition : {k : List Task} {t : Text} {n m : Entities} {os vs : List EntityType} {i : ℕ} {e : Expr} {a : EntityType} (c : Context) →
-      IsOf s t c Condition n e a → IsBoolean a → Gives (place_in s t) c n e m → IsTyped s pure r k (after t n m os vs) →
+      is_ensure c ≡ false → IsOf s t c Condition n e a → IsBoolean a → Gives (place_in s t) c n e m → IsTyped s pure r k (after t n m os vs) →
       IsTyped s pure r (Eval i e ∷ k) (at t n os vs)
   apply_unary : {k : List Task} {t : Text} {n : Entities} {os vs : List EntityType} {op : UnaryOperator} {a b : EntityType} →
       is_old op ≡ false → unary_type op a ≡ Some b → IsTyped s pure r k (at t n os (b ∷ vs)) →
@@ -107,7 +114,7 @@ pub data IsTyped (s : System) (pure : RoutineName → Bool) (r : Routine) : List
       IsOf s t c (operand_position op) n e b → OldsKept s t n i e os → binary_type op a b ≡ Some u →
       IsTyped s pure r k (at t n os (u ∷ vs)) → IsTyped s pure r (EvalRight op i e ∷ k) (at t n os (a ∷ vs))
   right_condition : {k : List Task} {t : Text} {n m o : Entities} {os vs : List EntityType} {op : BinaryOperator} {i : ℕ} {e : Expr} {a : EntityType} (c : Context) →
-      is_and_then op ≡ true → IsOf s t c Condition m e a → IsBoolean a → Gives (place_in s t) c m e o → Extends n m →
+      is_and_then op ≡ true → is_ensure c ≡ false → IsOf s t c Condition m e a → IsBoolean a → Gives (place_in s t) c m e o → Extends n m →
       IsTyped s pure r k (after t n o os vs) → IsTyped s pure r (EvalRight op i e ∷ k) (after t n m os vs)
   apply_binary : {k : List Task} {t : Text} {n : Entities} {os vs : List EntityType} {op : BinaryOperator} {a b u : EntityType} →
       binary_type op a b ≡ Some u → IsTyped s pure r k (at t n os (u ∷ vs)) → IsTyped s pure r (ApplyBinary op ∷ k) (at t n os (b ∷ a ∷ vs))
@@ -119,7 +126,7 @@ pub data IsTyped (s : System) (pure : RoutineName → Bool) (r : Routine) : List
       test_type (place_in s t) d (Some a) ≡ Some b → Extends o n → IsTyped s pure r k (after t o (n ++ entity x (Some b) role.Test ∷ []) os vs) →
       IsTyped s pure r (Bind d x ∷ k) (at t n os (a ∷ vs))
   call_unqualified : {k : List Task} {t : Text} {n : Entities} {os vs us ws : List EntityType} (ts : List EntityType) {x : List ℕ} {i : ℕ} {f : DeclaredFeature} →
-      feature_named s (class.Declared t.class) x ≡ Some f → Takes s ts (signature_of s (current (place_in s t)) f) → i ≡ length ts →
+      feature_named s (class.Declared t.class) x ≡ Some f → is_routine f.feature.kind ≡ true → Takes s ts (signature_of s (current (place_in s t)) f) → i ≡ length ts →
       vs ≡ stacked ts us → Leaves (signature_of s (current (place_in s t)) f).gives us ws → IsTyped s pure r k (at t n os ws) →
       IsTyped s pure r (CallUnqualified x i ∷ k) (at t n os vs)
   call_qualified : {k : List Task} {t : Text} {n : Entities} {os vs us ws : List EntityType} (ts : List EntityType) (a : EntityType) {x : List ℕ} {i : ℕ} {f : DeclaredFeature} →
@@ -127,41 +134,41 @@ pub data IsTyped (s : System) (pure : RoutineName → Bool) (r : Routine) : List
       vs ≡ stacked ts (a ∷ us) → Leaves (signature_of s a f).gives us ws → IsTyped s pure r k (at t n os ws) →
       IsTyped s pure r (CallQualified x i ∷ k) (at t n os vs)
   -- instructions
-  assign : {k : List Task} {n : Entities} {os : List EntityType} {v : Variable} {a u : EntityType} →
-      assignee_type (assignee (place_in s r.text) n v) ≡ Some u → conforms s a u ≡ true → IsTyped s pure r k (at r.text n os []) →
-      IsTyped s pure r (AssignTo v ∷ k) (at r.text n os (a ∷ []))
-  print : {k : List Task} {n : Entities} {os : List EntityType} {a : EntityType} → is_expanded a.class ≡ true →
-      IsTyped s pure r k (at r.text n os []) → IsTyped s pure r (Print ∷ k) (at r.text n os (a ∷ []))
-  choose : {k : List Task} {n m : Entities} {os : List EntityType} {d : ℕ} {is other : Instrs} {bs : Branches} → d ≡ length n → Extends n m →
-      Stands s pure (context_in s pure r.text) (instructions m is) → Stands s pure (context_in s pure r.text) (branches n bs) →
-      Stands s pure (context_in s pure r.text) (instructions n other) → IsTyped s pure r k (at r.text n os []) →
-      IsTyped s pure r (Choose d is bs other ∷ k) (after r.text n m os [])
-  repeat : {k : List Task} {n : Entities} {os : List EntityType} {e : Expr} {a : EntityType} {is : Instrs} →
-      IsOf s r.text context.Body Plain n e a → IsBoolean a → Stands s pure (context_in s pure r.text) (instructions n is) →
-      IsTyped s pure r k (at r.text n os []) → IsTyped s pure r (Repeat e is ∷ k) (at r.text n os [])
-  end_loop : {k : List Task} {n : Entities} {os : List EntityType} {e : Expr} {a b : EntityType} {is : Instrs} → IsBoolean b →
-      IsOf s r.text context.Body Plain n e a → IsBoolean a → Stands s pure (context_in s pure r.text) (instructions n is) →
-      IsTyped s pure r k (at r.text n os []) → IsTyped s pure r (EndLoop e is ∷ k) (at r.text n os (b ∷ []))
-  create : {k : List Task} {n : Entities} {os vs : List EntityType} (ts : List EntityType) {v : Variable} {x : Option (List ℕ)} {i : ℕ} {u : EntityType} →
-      assignee_type (assignee (place_in s r.text) n v) ≡ Some u → IsMade s (place_in s r.text) u ts x → i ≡ length ts → vs ≡ stacked ts [] →
-      IsTyped s pure r k (at r.text n os []) → IsTyped s pure r (CreateBy v x i ∷ k) (at r.text n os vs)
-  open_block : {k : List Task} {n m : Entities} {os vs : List EntityType} (ts : List EntityType) {xs : List Name} {is : Instrs} → Opens n xs ts m →
-      list_all (λ (t : EntityType). t.attached) ts ≡ true → Stands s pure (context_in s pure r.text) (instructions m is) →
-      vs ≡ stacked ts [] → IsTyped s pure r k (at r.text n os []) → IsTyped s pure r (Open xs is ∷ k) (at r.text n os vs)
-  leave_block : {k : List Task} {n m : Entities} {os : List EntityType} {d : ℕ} → d ≡ length n → Extends n m →
-      IsTyped s pure r k (at r.text n os []) → IsTyped s pure r (Leave d ∷ k) (at r.text m os [])
+  assign : {k : List Task} {t : Text} {n : Entities} {os : List EntityType} {v : Variable} {a u : EntityType} → t ≡ r.text →
+      assignee_type (assignee (place_in s t) n v) ≡ Some u → conforms s a u ≡ true → IsTyped s pure r k (at t n os []) →
+      IsTyped s pure r (AssignTo v ∷ k) (at t n os (a ∷ []))
+  print : {k : List Task} {t : Text} {n : Entities} {os : List EntityType} {a : EntityType} → is_expanded a.class ≡ true →
+      IsTyped s pure r k (at t n os []) → IsTyped s pure r (Print ∷ k) (at t n os (a ∷ []))
+  choose : {k : List Task} {t : Text} {n m : Entities} {os : List EntityType} {d : ℕ} {is other : Instrs} {bs : Branches} → t ≡ r.text → d ≡ length n → Extends n m →
+      Stands s pure (context_in s pure t) (instructions m is) → Stands s pure (context_in s pure t) (branches n bs) →
+      Stands s pure (context_in s pure t) (instructions n other) → IsTyped s pure r k (at t n os []) →
+      IsTyped s pure r (Choose d is bs other ∷ k) (after t n m os [])
+  repeat : {k : List Task} {t : Text} {n : Entities} {os : List EntityType} {e : Expr} {a : EntityType} {is : Instrs} → t ≡ r.text →
+      IsOf s t context.Body Plain n e a → IsBoolean a → Stands s pure (context_in s pure t) (instructions n is) →
+      IsTyped s pure r k (at t n os []) → IsTyped s pure r (Repeat e is ∷ k) (at t n os [])
+  end_loop : {k : List Task} {t : Text} {n : Entities} {os : List EntityType} {e : Expr} {a b : EntityType} {is : Instrs} → t ≡ r.text → IsBoolean b →
+      IsOf s t context.Body Plain n e a → IsBoolean a → Stands s pure (context_in s pure t) (instructions n is) →
+      IsTyped s pure r k (at t n os []) → IsTyped s pure r (EndLoop e is ∷ k) (at t n os (b ∷ []))
+  create : {k : List Task} {t : Text} {n : Entities} {os vs : List EntityType} (ts : List EntityType) {v : Variable} {x : Option (List ℕ)} {i : ℕ} {u : EntityType} → t ≡ r.text →
+      assignee_type (assignee (place_in s t) n v) ≡ Some u → IsMade s (place_in s t) u ts x → i ≡ length ts → vs ≡ stacked ts [] →
+      IsTyped s pure r k (at t n os []) → IsTyped s pure r (CreateBy v x i ∷ k) (at t n os vs)
+  open_block : {k : List Task} {t : Text} {n m : Entities} {os vs : List EntityType} (ts : List EntityType) {xs : List Name} {is : Instrs} → t ≡ r.text → Opens n xs ts m →
+      list_all (λ (t : EntityType). t.attached) ts ≡ true → Stands s pure (context_in s pure t) (instructions m is) →
+      vs ≡ stacked ts [] → IsTyped s pure r k (at t n os []) → IsTyped s pure r (Open xs is ∷ k) (at t n os vs)
+  leave_block : {k : List Task} {t : Text} {n m : Entities} {os : List EntityType} {d : ℕ} → t ≡ r.text → d ≡ length n → Extends n m →
+      IsTyped s pure r k (at t n os []) → IsTyped s pure r (Leave d ∷ k) (at t m os [])
   -- contracts
   checked : {k : List Task} {t : Text} {n : Entities} {os : List EntityType} {a : EntityType} → IsBoolean a →
       IsTyped s pure r k (at t n os []) → IsTyped s pure r (Checked ∷ k) (at t n os (a ∷ []))
-  require : {k : List Task} {n : Entities} {os : List EntityType} {ks : List Clause} →
-      ((q : Clause) → Contains ks q → (a : EntityType) × IsOf s r.contract context.Require Plain n q.condition a × IsBoolean a) →
-      IsTyped s pure r k (at r.contract n os []) → IsTyped s pure r (Require ks ∷ k) (at r.contract n os [])
-  required : {k : List Task} {n : Entities} {os : List EntityType} {q : Clause} {a : EntityType} → IsBoolean a →
-      IsTyped s pure r k (at r.contract n os []) → IsTyped s pure r (Required q ∷ k) (at r.contract n os (a ∷ []))
-  keep_old : {k : List Task} {n : Entities} {os : List EntityType} {a : EntityType} →
-      IsTyped s pure r k (at r.contract n (os ++ a ∷ []) []) → IsTyped s pure r (KeepOld ∷ k) (at r.contract n os (a ∷ []))
-  ensured : {k : List Task} {n : Entities} {os : List EntityType} {a : EntityType} → IsBoolean a →
-      IsTyped s pure r k (at r.contract n os []) → IsTyped s pure r (Ensured ∷ k) (at r.contract n os (a ∷ []))
+  require : {k : List Task} {t : Text} {n : Entities} {os : List EntityType} {ks : List Clause} →
+      ((q : Clause) → Contains ks q → (a : EntityType) × IsOf s t context.Require Plain n q.condition a × IsBoolean a) →
+      IsTyped s pure r k (at t n os []) → IsTyped s pure r (Require ks ∷ k) (at t n os [])
+  required : {k : List Task} {t : Text} {n : Entities} {os : List EntityType} {q : Clause} {a : EntityType} → IsBoolean a →
+      IsTyped s pure r k (at t n os []) → IsTyped s pure r (Required q ∷ k) (at t n os (a ∷ []))
+  keep_old : {k : List Task} {t : Text} {n : Entities} {os : List EntityType} {a : EntityType} → list_all (λ (e : Entity). is_formal e.role) n ≡ true →
+      IsTyped s pure r k (at t n (os ++ a ∷ []) []) → IsTyped s pure r (KeepOld ∷ k) (at t n os (a ∷ []))
+  ensured : {k : List Task} {t : Text} {n : Entities} {os : List EntityType} {a : EntityType} → IsBoolean a →
+      IsTyped s pure r k (at t n os []) → IsTyped s pure r (Ensured ∷ k) (at t n os (a ∷ []))
   -- the value of any expression is that of a condition that gives no names
   settled_choice : {k : List Task} {t : Text} {n m : Entities} {os vs : List EntityType} {a : EntityType} {d : ℕ} {is other : Instrs} {bs : Branches} → IsBoolean a →
       Extends n m → IsTyped s pure r (Choose d is bs other ∷ k) (after t n m os vs) → IsTyped s pure r (Choose d is bs other ∷ k) (at t m os (a ∷ vs))

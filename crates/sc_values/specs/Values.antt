@@ -1,24 +1,35 @@
 -- What is said of the values of each state that is reached.
-use Rattle.std.specs.Prelude.{◌≡◌, ◌⊎◌, ℕ, Bool, true, false, Option, Some}
+use Rattle.std.specs.Prelude.{◌<◌, Bool, List, Option, Some, [], false, true, ℕ, ◌∷◌, ◌≡◌, ◌⊎◌}
 use Rattle.sc_tree.specs.Plain.{System}
 use Rattle.sc_class.specs.ClassNames.{Root}
 use Rattle.sc_class.specs.Faults.ClassRules.{IsFaultless}
 use Rattle.sc_proctype.specs.declared.entity_type.EntityType.{EntityType}
 use Rattle.sc_proctype.specs.declared.tag.Reserved.{Reserved}
 use Rattle.sc_proctype.specs.declared.tag.Tag.TheVariants as tag
+use Rattle.sc_rules.specs.Names.{RoutineName}
 use Rattle.sc_rules.specs.Purity.{IsPurity}
 use Rattle.sc_rules.specs.PurityLaws.{SomePurity}
 use Rattle.sc_rules.specs.SystemRules.{WellFormed}
-use Rattle.sc_model.specs.declared.cause.Cause.{Cause}
-use Rattle.sc_model.specs.declared.cause.Cause.TheVariants as cause
-use Rattle.sc_model.specs.Values.{Reference, Value, Attached}
+use Rattle.sc_lockpass.specs.Rights.{Rights}
+use Rattle.sc_waitcond.specs.declared.session.Release.{Release}
+use Rattle.sc_model.specs.Entries.{entry, reserves_block, reserves_entry}
+use Rattle.sc_model.specs.Environments.{Binding, formals_bound}
+use Rattle.sc_model.specs.Failures.{fails_with}
 use Rattle.sc_model.specs.Fits.{Fits, IsUnset}
-use Rattle.sc_model.specs.Handlers.{World}
-use Rattle.sc_model.specs.Runs.{opening, IsReached}
+use Rattle.sc_model.specs.Handlers.{Frame, Origin, Request, Reserves, ReservesBlock, Runs, World, point_of}
+use Rattle.sc_model.specs.Moves.{moves, step}
+use Rattle.sc_model.specs.Objects.{Object}
+use Rattle.sc_model.specs.Routines.{Routine, routine_named}
+use Rattle.sc_model.specs.Runs.{IsReached, opening}
+use Rattle.sc_model.specs.Sessions.{release}
+use Rattle.sc_model.specs.Steps.{Does, Fails, Point}
 use Rattle.sc_model.specs.Turns.{turn}
-use Rattle.sc_rules.specs.Names.{RoutineName}
-use Rattle.sc_values.specs.Places.{StandsAs}
-use Rattle.sc_values.specs.Fitting.{WorldFits}
+use Rattle.sc_model.specs.Values.{Attached, Reference, Value}
+use Rattle.sc_model.specs.declared.cause.Cause.{Cause}
+use Rattle.sc_values.specs.Fitting.{ActualsFit, WorldFits}
+use Rattle.sc_values.specs.Places.{StandsAs, of_actuals}
+use Rattle.sc_values.specs.Points.{IsAmong, PointFits}
+use Rattle.sc_values.specs.Steps.{IsThereIfOwn, StandsSo, StepFits, ValuesDo, is_excluded}
 
 -- what the checker accepts
 abbrev pub WhereAccepted : (System → Root → Type 0) → Type 0
@@ -35,13 +46,6 @@ abbrev pub NonSeparateIsOwn : Type 0
 NonSeparateIsOwn = WhereAccepted λ s root. (most : ℕ) (w : World) → IsReached most s root w →
     (h : ℕ) (of : Reserved → Option ℕ) (r : Reference) (t : EntityType) (may_be_unset : Bool) →
     StandsAs s w h of (Attached r) t may_be_unset → t.tag ≡ tag.Own → r.handler ≡ h
-
--- the failures that no accepted system meets for its values
-abbrev pub is_excluded : Cause → Bool
-is_excluded cause.ForeignObject = true
-is_excluded cause.VoidTarget = true
-is_excluded cause.BadCode = true
-is_excluded _ = false
 
 -- No handler fails so.
 abbrev pub NoneIsExcluded : Type 0
@@ -63,6 +67,62 @@ OwnWhereWorldFits = (s : System) (pure : RoutineName → Bool) (w : World) → W
 -- The opening of a system without faults fits.
 abbrev pub OpeningFits : Type 0
 OpeningFits = (s : System) (root : Root) (pure : RoutineName → Bool) → IsFaultless s root → WorldFits s pure (opening s root)
+
+-- Where a routine stands so that what is left to do is typed and its values fit, and each of its references to its own handler
+-- leads to an object, its next step fits.
+abbrev pub StepsFit : Type 0
+StepsFit = (s : System) (root : Root) (pure : RoutineName → Bool) → IsFaultless s root → WellFormed s → IsPurity s pure → (r : Routine) (me : Reference) →
+    routine_named s me.class r.name ≡ Some r → (p : Point) → StandsSo s pure r me [] p → ValuesDo (IsThereIfOwn me.handler p.objects) p →
+    StepFits s pure r me (step s me p)
+
+-- So does its next turn: the silent steps up to a visible one, and that one.
+abbrev pub MovesFit : Type 0
+MovesFit = (s : System) (root : Root) (pure : RoutineName → Bool) → IsFaultless s root → WellFormed s → IsPurity s pure → (r : Routine) (me : Reference) →
+    routine_named s me.class r.name ≡ Some r → (p : Point) → StandsSo s pure r me [] p → ValuesDo (IsThereIfOwn me.handler p.objects) p →
+    StepFits s pure r me (moves s me p)
+
+-- The formals of the routine are bound to these actuals, and it begins typed, with values that fit.
+pub record EntryBegins (s : System) (pure : RoutineName → Bool) (r : Routine) (me : Reference) (vs : List Value) (o : Origin) (objects : List Object) : Type 0 where
+  pub bindings : List Binding
+  pub are_bound : formals_bound s r.text.formals 0 r.text.formals vs ≡ Some bindings
+  pub fits : PointFits s pure r me.handler [] (point_of (entry me r o bindings) objects)
+
+-- A routine of an accepted system that is entered with actuals that fit begins so.
+abbrev pub EntriesFit : Type 0
+EntriesFit = (s : System) (root : Root) (pure : RoutineName → Bool) → IsFaultless s root → WellFormed s → IsPurity s pure → (r : Routine) (me : Reference) →
+    routine_named s me.class r.name ≡ Some r → (vs : List Value) → ActualsFit s me.handler r.text.formals (of_actuals vs) r.text.formals vs → (o : Origin) (objects : List Object) →
+    EntryBegins s pure r me vs o objects
+
+-- Where the invariant of a turn holds, the topmost frame of a handler makes a move that fits, if it runs.
+abbrev pub RunningFramesMove : Type 0
+RunningFramesMove = (s : System) (root : Root) (pure : RoutineName → Bool) → IsFaultless s root → WellFormed s → IsPurity s pure → (w : World) → WorldFits s pure w →
+    (h : ℕ) → h < w.count → (f : Frame) (below : List Frame) → (w.handlers h).stack ≡ f ∷ below → f.stage ≡ Runs →
+    StepFits s pure f.routine f.current (moves s f.current (point_of f (w.handlers h).objects))
+
+-- No such move fails for a foreign object, a Void target or a missing case.
+abbrev pub NoMoveIsExcluded : Type 0
+NoMoveIsExcluded = (s : System) (root : Root) (pure : RoutineName → Bool) → IsFaultless s root → WellFormed s → IsPurity s pure → (w : World) → WorldFits s pure w →
+    (h : ℕ) → h < w.count → (f : Frame) (below : List Frame) → (w.handlers h).stack ≡ f ∷ below → f.stage ≡ Runs → (why : Cause) (p : Point) →
+    moves s f.current (point_of f (w.handlers h).objects) ≡ Does (Fails why) p → is_excluded why ≡ false
+
+-- Whoever holds whom, each value fits.
+abbrev pub RightsKeepIt : Type 0
+RightsKeepIt = (s : System) (pure : RoutineName → Bool) (w : World) (x : Rights) → WorldFits s pure w → WorldFits s pure (record w { rights = x })
+
+-- The release of handlers keeps the invariant.
+abbrev pub ReleasesKeepIt : Type 0
+ReleasesKeepIt = (s : System) (pure : RoutineName → Bool) (w : World) (how : Release) (ks : List ℕ) → WorldFits s pure w → WorldFits s pure (release how ks w)
+
+-- So does the failure of a handler that has an object, whatever request it takes.
+abbrev pub FailuresKeepIt : Type 0
+FailuresKeepIt = (s : System) (pure : RoutineName → Bool) (w : World) (h : ℕ) (why : Cause) (taken : List Request) (o : Reference) → IsAmong (w.handlers h).objects o →
+    WorldFits s pure w → WorldFits s pure (fails_with h why taken w)
+
+-- A turn in which the topmost frame reserves the handlers of its formals, or of the names of a separate block, keeps the invariant.
+abbrev pub ReservationsKeepIt : Type 0
+ReservationsKeepIt = (s : System) (pure : RoutineName → Bool) (w : World) (h : ℕ) (f : Frame) (below : List Frame) (ks : List ℕ) → WorldFits s pure w → h < w.count →
+    (w.handlers h).stack ≡ f ∷ below →
+    (f.stage ≡ Reserves → WorldFits s pure (reserves_entry h ks f below w)) × (f.stage ≡ ReservesBlock → WorldFits s pure (reserves_block h ks f below w))
 
 -- Each turn keeps the invariant.
 abbrev pub TurnsKeepIt : Type 0

@@ -1,6 +1,7 @@
 //! What follows of the invariant on values, and where it holds.
 
-ghost use Rattle.sc_values.specs.Values.{FitWhereWorldFits, FromTurns, OpeningFits, OwnWhereWorldFits};
+ghost use Rattle.sc_values.specs.Passing.{FitWhereConforming, FitWhereGiven, FitWherePassed};
+ghost use Rattle.sc_values.specs.Values.{EntriesFit, FailuresKeepIt, FitWhereWorldFits, FromTurns, MovesFit, NoMoveIsExcluded, OpeningFits, OwnWhereWorldFits, ReleasesKeepIt, ReservationsKeepIt, RightsKeepIt, RunningFramesMove, StepsFit};
 
 /// Where the invariant on values holds of a state, each value fits its type wherever it stands; an attribute, a local or a
 /// Result may still be unset.
@@ -21,4 +22,67 @@ pub fn opening_fits()
 /// If each turn keeps it, each value fits in every state that an accepted system reaches.
 pub fn values_fit_from_turns()
     ensures { FromTurns }
+{}
+
+/// What fits a type fits each that it conforms to.
+pub fn fit_where_conforming()
+    ensures { FitWhereConforming }
+{}
+
+/// A result that fits its declared type on the target's handler fits the combined type, seen by the caller.
+pub fn fit_where_given()
+    ensures { FitWhereGiven }
+{}
+
+/// Values that the rules let pass as actuals fit the formals on the target's handler.
+pub fn fit_where_passed()
+    ensures { FitWherePassed }
+{}
+
+/// Where what is left to do in a routine of an accepted system is typed and its values fit, its next step fits: what a silent
+/// step leaves is typed and fits again, what a visible step enters, requests or creates is given actuals that fit, and no step
+/// fails for a foreign object, a Void target or a missing case.
+pub fn steps_fit()
+    ensures { StepsFit }
+{}
+
+/// So does its next turn: the silent steps up to a visible one, and that one.
+pub fn moves_fit()
+    ensures { MovesFit }
+{}
+
+/// A routine of an accepted system that is entered with actuals that fit its formals begins typed, with values that fit, also
+/// where it keeps the contract of a routine that it redefines.
+pub fn entries_fit()
+    ensures { EntriesFit }
+{}
+
+/// Where the invariant on values holds of a state, the topmost frame of each handler makes a move that fits, if it runs.
+pub fn running_frames_move()
+    ensures { RunningFramesMove }
+{}
+
+/// Whoever holds whom, each value fits.
+pub fn rights_keep_it()
+    ensures { RightsKeepIt }
+{}
+
+/// The release of handlers keeps the invariant on values.
+pub fn releases_keep_it()
+    ensures { ReleasesKeepIt }
+{}
+
+/// So does the failure of a handler that has an object.
+pub fn failures_keep_it()
+    ensures { FailuresKeepIt }
+{}
+
+/// A turn in which the topmost frame reserves handlers keeps the invariant on values.
+pub fn reservations_keep_it()
+    ensures { ReservationsKeepIt }
+{}
+
+/// No such move fails for a foreign object, a Void target or a missing case.
+pub fn no_move_is_excluded()
+    ensures { NoMoveIsExcluded }
 {}
