@@ -10,7 +10,8 @@ use crate::execution::{check_text, print_text, run_text};
 use crate::files::{Files, read_source};
 use crate::reading::FileFault;
 use crate::refusal::Rejection;
-use crate::source::{JoinFault, Source, name_at};
+use crate::source::{JoinFault, Place, Source, name_at};
+use sc_diagnosis::{Related, diagnose};
 use sc_explain::{find, list};
 use sc_text::LexFault;
 use sc_world::Status;
@@ -223,7 +224,8 @@ fn is_explained(command: &Command) -> bool {
     }
 }
 
-/// The line of the source text in which something is refused, with carets, and where more is said of it.
+/// The line of the source text in which something is refused, with carets, a sentence on the fault, where the text stands
+/// that it goes with, and where more is said of it.
 fn explanation(
     alloc: Global,
     source: &Source,
@@ -237,9 +239,31 @@ fn explanation(
         None => Vec::new(alloc),
     };
     let code = refusal.code;
+    let diagnosis = diagnose(alloc, source.text(), code, refusal.span)?;
+    lines.extend_from_slice(diagnosis.lines.as_bytes())?;
+    if let Some(related) = diagnosis.related {
+        push_related(alloc, &mut lines, source, related)?;
+    }
     let more = format!(in alloc; "`scoop explain {code}` says more\n")?;
     lines.extend_from_slice(more.as_bytes())?;
     Ok(lines)
+}
+
+/// Adds where a part of the source text stands that a fault goes with, and its line with carets.
+fn push_related(
+    alloc: Global,
+    lines: &mut Vec<u8>,
+    source: &Source,
+    related: Related,
+) -> Result<(), AllocError> {
+    let Some(Place { file, line, column }) = source.place_of(related.span.start) else {
+        return Ok(());
+    };
+    let what = related.what;
+    let told = format!(in alloc; "{file}:{line}:{column}: {what}\n")?;
+    lines.extend_from_slice(told.as_bytes())?;
+    let shown = excerpt(alloc, source.text().as_bytes(), related.span)?;
+    lines.extend_from_slice(shown.as_slice())
 }
 
 /// What is answered where the named files have no source text.

@@ -99,7 +99,17 @@ const FIRST_CLASHES: &str = "\
 class a feature f (x: a) local `x: a do end x: integer end
 class a feature f (x: a) do if attached x as `x then end end g (x, x: a) do end end
 class a feature f (x: a) require attached x as y do x := attached g (attached x as `x) as print end y: a end
-class a feature f (x: a) do separate x as y, g (attached x as `x) as y do end end end";
+class a feature f (x: a) do separate x as y, g (attached x as `x) as y do end end end
+class a feature x: integer end class b inherit a feature f (`x: integer) do end x: integer end
+class a feature x: integer end class b inherit a feature f local `x: integer do end x: integer end
+class a feature x: a end class b inherit a feature f (y: a) do if attached y as `x then end end x: a end
+class a feature x do end end class b inherit a redefine x end feature f (x: integer) do end `x do end end
+class b inherit a feature f (x: integer) do end end class a feature `x: integer end
+class a feature x: integer end class c inherit b feature `x: integer end class b inherit a feature x: integer end
+class c inherit b feature x: integer end class a feature `x: integer end class b inherit a feature x: integer end
+class a feature x do end end class b inherit a redefine x end feature x do end end class c inherit b feature `x do end end
+class a feature y: a end class b inherit a feature `y: a invariant attached y as y end
+class a feature x: integer end class b inherit a end class c inherit b feature f (`x: integer) do end x: integer end";
 
 /// What is redefined badly.
 const BAD_REDEFINITIONS: &str = "\

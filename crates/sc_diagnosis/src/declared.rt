@@ -1,0 +1,156 @@
+// The names that a system declares.
+
+use crate::diagnosis::Related;
+use sc_text::Span;
+use sc_tree::{Class, Declaration, Feature, FeatureKind, Name, System};
+
+/// The other declaration of the name at fault: a class's where `is_class`, else that of a feature of the class or of an
+/// ancestor, or of a formal or a local of the routine.
+pub fn other_declaration(
+    system: &System,
+    is_class: bool,
+    name: &str,
+    span: Span,
+) -> Option<Related> {
+    let other = if is_class {
+        other_class(system, name, span)
+    } else {
+        other_entity(system, name, span)
+    };
+    other.map(|span| Related {
+        what: "the name stands here too",
+        span,
+    })
+}
+
+fn other_class(system: &System, name: &str, span: Span) -> Option<Span> {
+    for class in system.classes.iter() {
+        if let Some(found) = other(&class.name, name, span) {
+            return Some(found);
+        }
+    }
+    None
+}
+
+fn other_entity(system: &System, name: &str, span: Span) -> Option<Span> {
+    let class = class_around(system, span)?;
+    if let Some(found) = other_inherited(system, class, name, span) {
+        return Some(found);
+    }
+    let around = feature_around(class, span)?;
+    if around.name.span != span {
+        return other_in_routine(around, name, span);
+    }
+    for heir in system.classes.iter() {
+        if inherits(system, heir, class) {
+            let found = other_in_routines(heir, name, span);
+            if found.is_some() {
+                return found;
+            }
+        }
+    }
+    None
+}
+
+fn other_in_routines(class: &Class, name: &str, span: Span) -> Option<Span> {
+    for feature in class.features.iter() {
+        if let Some(found) = other_in_routine(feature, name, span) {
+            return Some(found);
+        }
+    }
+    None
+}
+
+/// The place of another feature of the name, of the class, an ancestor or an heir.
+fn other_inherited(system: &System, class: &Class, name: &str, span: Span) -> Option<Span> {
+    for other in system.classes.iter() {
+        if inherits(system, class, other) || inherits(system, other, class) {
+            let found = other_feature(other, name, span);
+            if found.is_some() {
+                return found;
+            }
+        }
+    }
+    None
+}
+
+/// Whether one class is the other, or its first parent inherits from it so.
+fn inherits(system: &System, heir: &Class, ancestor: &Class) -> bool {
+    let mut class = heir;
+    for _ in system.classes.iter() {
+        if class.name.text == ancestor.name.text {
+            return true;
+        }
+        let Some(parent) = parent_of(system, class) else {
+            return false;
+        };
+        class = parent;
+    }
+    false
+}
+
+fn other_feature(class: &Class, name: &str, span: Span) -> Option<Span> {
+    for feature in class.features.iter() {
+        if let Some(found) = other(&feature.name, name, span) {
+            return Some(found);
+        }
+    }
+    None
+}
+
+/// The last feature that begins no later than the span.
+fn feature_around(class: &Class, span: Span) -> Option<&Feature> {
+    let mut around = None;
+    for feature in class.features.iter() {
+        if feature.name.span.start <= span.start {
+            around = Some(feature);
+        }
+    }
+    around
+}
+
+/// The place of another formal or local of the name.
+fn other_in_routine(feature: &Feature, name: &str, span: Span) -> Option<Span> {
+    let FeatureKind::Routine(routine) = &feature.kind else {
+        return None;
+    };
+    other_declared(&routine.formals, name, span).or_else(|| other_declared(
+        &routine.locals,
+        name,
+        span,
+    ))
+}
+
+fn other_declared(declarations: &[Declaration], name: &str, span: Span) -> Option<Span> {
+    for declaration in declarations {
+        if let Some(found) = other(&declaration.name, name, span) {
+            return Some(found);
+        }
+    }
+    None
+}
+
+/// Where the name stands, if it is this one at another place.
+fn other(declared: &Name, name: &str, span: Span) -> Option<Span> {
+    let is_other = declared.text.eq_ignore_ascii_case(name) && declared.span != span;
+    is_other.then_some(declared.span)
+}
+
+fn class_around(system: &System, span: Span) -> Option<&Class> {
+    for class in system.classes.iter() {
+        if class.span.start <= span.start && span.start < class.span.end {
+            return Some(class);
+        }
+    }
+    None
+}
+
+fn parent_of<'s>(system: &'s System, class: &Class) -> Option<&'s Class> {
+    let parent = class.parents.first()?;
+    for other in system.classes.iter() {
+        if other.name.text == parent.name.text {
+            return Some(other);
+        }
+    }
+    None
+}

@@ -1,0 +1,113 @@
+// What could stand at a place at which no system goes on.
+
+use crate::reading::tokens_of;
+use sc_parse::{ParseFault, parse};
+use std::alloc::{AllocError, Global};
+
+/// What is tried: how it is called, and a token of it.
+const TOKENS: &[(&str, &str)] = &[
+    ("a name", "x"),
+    ("an integer", "1"),
+    ("a string", "\"\""),
+    ("`and`", "and"),
+    ("`as`", "as"),
+    ("`attached`", "attached"),
+    ("`check`", "check"),
+    ("`class`", "class"),
+    ("`create`", "create"),
+    ("`Current`", "current"),
+    ("`deferred`", "deferred"),
+    ("`detachable`", "detachable"),
+    ("`do`", "do"),
+    ("`else`", "else"),
+    ("`elseif`", "elseif"),
+    ("`end`", "end"),
+    ("`ensure`", "ensure"),
+    ("`expanded`", "expanded"),
+    ("`False`", "false"),
+    ("`feature`", "feature"),
+    ("`from`", "from"),
+    ("`frozen`", "frozen"),
+    ("`if`", "if"),
+    ("`implies`", "implies"),
+    ("`indexing`", "indexing"),
+    ("`inherit`", "inherit"),
+    ("`invariant`", "invariant"),
+    ("`is`", "is"),
+    ("`local`", "local"),
+    ("`loop`", "loop"),
+    ("`note`", "note"),
+    ("`not`", "not"),
+    ("`old`", "old"),
+    ("`or`", "or"),
+    ("`redefine`", "redefine"),
+    ("`require`", "require"),
+    ("`Result`", "result"),
+    ("`separate`", "separate"),
+    ("`then`", "then"),
+    ("`True`", "true"),
+    ("`until`", "until"),
+    ("`Void`", "void"),
+    ("`xor`", "xor"),
+    ("`:=`", ":="),
+    ("`=`", "="),
+    ("`/=`", "/="),
+    ("`<`", "<"),
+    ("`<=`", "<="),
+    ("`>`", ">"),
+    ("`>=`", ">="),
+    ("`+`", "+"),
+    ("`-`", "-"),
+    ("`*`", "*"),
+    ("`//`", "//"),
+    ("`\\\\`", "\\\\"),
+    ("`.`", "."),
+    ("`,`", ","),
+    ("`:`", ":"),
+    ("`;`", ";"),
+    ("`?`", "?"),
+    ("`!`", "!"),
+    ("`(`", "("),
+    ("`)`", ")"),
+    ("`{`", "{"),
+    ("`}`", "}"),
+];
+
+/// Adds a line that says which tokens may stand behind the first `length` bytes of a text: those with which a system may
+/// still begin so.
+pub fn expected(
+    alloc: Global,
+    lines: &mut String,
+    text: &str,
+    length: usize,
+) -> Result<(), AllocError> {
+    let before = text.get(..length).unwrap_or(text);
+    let mut separator = "help: here may stand ";
+    for (name, token) in TOKENS {
+        if may_follow(alloc, before, token)? {
+            lines.push_str(separator)?;
+            lines.push_str(name)?;
+            separator = ", ";
+        }
+    }
+    if separator == ", " {
+        lines.push('\n')?;
+    }
+    Ok(())
+}
+
+/// Whether a system begins with the text and the token.
+fn may_follow(alloc: Global, before: &str, token: &str) -> Result<bool, AllocError> {
+    let mut text = String::from_str(alloc, before)?;
+    text.push(' ')?;
+    text.push_str(token)?;
+    let Some(tokens) = tokens_of(alloc, &text)? else {
+        return Ok(false);
+    };
+    match parse(alloc, &tokens) {
+        Ok(_) => Ok(true),
+        Err(ParseFault::NotInGrammar { span }) => Ok(span.start >= text.len()),
+        Err(ParseFault::OutOfMemory) => Err(AllocError),
+        Err(_) => Ok(false),
+    }
+}

@@ -1,0 +1,15 @@
+//! What is said of one refusal beside its line: a sentence on this very fault with the part of the text that is at fault,
+//! what helps, and where the text stands that it goes with. See [`diagnose`].
+//!
+//! The sentences are for people: nothing of the answer, which is the refusal's line, depends on them.
+#![tactic(auto)]
+
+mod declared;
+mod diagnosis;
+mod expected;
+mod nearest;
+mod open;
+mod reading;
+mod sentences;
+
+pub use diagnosis::{Diagnosis, Related, diagnose};
