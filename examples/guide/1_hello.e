@@ -1,0 +1,4 @@
+class APPLICATION create make
+feature
+	make do print ("hello%N") end
+end
