@@ -10,4 +10,5 @@ use Rattle.sc_parse.specs.Places.{IsPlaced}
 -- No list of tokens has two trees, places included.
 abbrev pub OnePlacedTree : Type 0
 OnePlacedTree = (ts : List Lexeme) (s t : System) (g h : ℕ) →
-    IsSystem (bare_system s) (kinds_of_lexemes ts) g → IsSystem (bare_system t) (kinds_of_lexemes ts) h → IsPlaced s ts → IsPlaced t ts → s ≡ t
+    IsSystem (bare_system s) (kinds_of_lexemes ts) g → IsSystem (bare_system t) (kinds_of_lexemes ts) h →
+    IsPlaced s ts → IsPlaced t ts → s ≡ t

@@ -1,6 +1,6 @@
--- Reading trees from tokens, each part with its place, as the parser does, and what its methods answer by that. The laws
--- in proofs/ say that it reads what the grammar spells, and that each part stands where its tokens do; no public contract
--- speaks of it.
+-- Reading trees from tokens, each part with its place, as the parser does, and what its methods answer by that. The
+-- laws in proofs/ say that it reads what the grammar spells, and that each part stands where its tokens do; no public
+-- contract speaks of it.
 pub mod Looks
 pub mod Types
 pub mod Expressions

@@ -15,7 +15,8 @@ use std::alloc::AllocError;
 impl<'a> Parser<'a> {
     /// Reads a clause's tag, if it has one.
     pub fn tag(&mut self) -> Result<Option<Name>, AllocError>
-        ensures { IfOk result (λ tag. (spec.tag_ahead (ahead self.old) ≡ tag_in tag) × (ahead self.new ≡ spec.past_tag (tag_in tag) (ahead self.old))) }
+        ensures { IfOk result (λ tag. (spec.tag_ahead (ahead self.old) ≡ tag_in tag)
+            × (ahead self.new ≡ spec.past_tag (tag_in tag) (ahead self.old))) }
     {
         match self.rest.split_first() {
             Some(

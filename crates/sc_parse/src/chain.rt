@@ -37,7 +37,8 @@ impl<'a> Parser<'a> {
     #[tactic(auto, using(crate::proofs::Turns::calls_end, crate::proofs::Turns::calls_turn))]
     fn calls(&mut self, room: u8, first: Expr, first_height: u8) -> Result<(Expr, u8), ParseFault>
         requires { first_height ≤ room }
-        ensures read { Reads expr_in (spec.calls (spec.nested room) room (left (ahead self.old)) (expr_in first) first_height (ahead self.old)) result (ahead self.new) }
+        ensures read { Reads expr_in (spec.calls (spec.nested room) room (left (ahead self.old)) (expr_in first)
+            first_height (ahead self.old)) result (ahead self.new) }
         ensures high { IfOk result (λ p. p.1 ≤ room) }
     {
         let mut chain = first;
@@ -70,7 +71,8 @@ impl<'a> Parser<'a> {
         start: usize,
         room: u8,
     ) -> Result<(Expr, u8), ParseFault>
-        ensures read { Reads expr_in (spec.calling (spec.nested room) start (target_in target) (ahead self.old)) result (ahead self.new) }
+        ensures read { Reads expr_in (spec.calling (spec.nested room) start (target_in target) (ahead self.old))
+            result (ahead self.new) }
         ensures high { IfOk result (λ p. p.1 ≤ room) }
     {
         let name = self.name()?;
@@ -127,7 +129,8 @@ impl<'a> Parser<'a> {
     #[cycle(expression)]
     #[tactic(auto, unfolding(crate::specs::Reading::Expressions::object_test))]
     pub fn object_test(&mut self, room: u8) -> Result<(Expr, u8), ParseFault>
-        ensures read { Reads expr_in (spec.object_test (spec.nested room) room (ahead self.old)) result (ahead self.new) }
+        ensures read { Reads expr_in (spec.object_test (spec.nested room) room (ahead self.old))
+            result (ahead self.new) }
         ensures high { IfOk result (λ p. p.1 ≤ room) }
     {
         let start = self.last.start;

@@ -1,4 +1,4 @@
-// Classes (ECMA-367, 8.4 and 8.6).
+// Classes (ECMA-367, 8.4, 8.6, 8.10 and 8.20).
 
 ghost use Rattle.std.specs.Prelude.{◌≡◌, ◌∷◌, [], IfOk, IsTrue};
 ghost use Rattle.sc_tree.specs.Grammar.Classes as grammar;
@@ -105,7 +105,8 @@ impl<'a> Parser<'a> {
     /// The first parent and those that follow it, each with or without a semicolon behind it.
     #[tactic(auto, using(crate::proofs::Lists::parents_begin, crate::proofs::Lists::parents_end, crate::proofs::Lists::parents_turn))]
     fn more_parents(&mut self, first: Parent) -> Result<Vec<Parent>, ParseFault>
-        ensures { Takes parents_in (spec.parents_from (left (ahead self.old)) (parent_in first ∷ []) (skip Terminal.Semicolon (ahead self.old))) result (ahead self.new) }
+        ensures { Takes parents_in (spec.parents_from (left (ahead self.old)) (parent_in first ∷ [])
+            (skip Terminal.Semicolon (ahead self.old))) result (ahead self.new) }
     {
         let mut found = Vec::new(self.alloc);
         found.push(first)?;
@@ -189,7 +190,8 @@ impl<'a> Parser<'a> {
     /// Classes, one after the other, up to the end of the tokens.
     #[tactic(auto, using(crate::proofs::Lists::classes_begin, crate::proofs::Lists::classes_end, crate::proofs::Lists::classes_turn))]
     pub fn classes(&mut self, room: u8) -> Result<Vec<Class>, ParseFault>
-        ensures { Gives classes_in (spec.classes_from room (left (ahead self.old)) [] 0 (ahead self.old)) result (ahead self.new) }
+        ensures { Gives classes_in (spec.classes_from room (left (ahead self.old)) [] 0 (ahead self.old))
+            result (ahead self.new) }
     {
         let mut found = Vec::new(self.alloc);
         for _turn in 0..self.rest.len() {

@@ -65,7 +65,8 @@ impl<'a> Parser<'a> {
 
     /// Reads a token, if one is left.
     pub fn take(&mut self) -> Option<&'a Token>
-        ensures found { MatchOption result ((self.old.rest.now ≡ []) × (self.new.rest.now ≡ [])) (λ t. (self.old.rest.now ≡ t.now ∷ self.new.rest.now) × (self.new.last ≡ t.now.span)) }
+        ensures found { MatchOption result ((self.old.rest.now ≡ []) × (self.new.rest.now ≡ []))
+            (λ t. (self.old.rest.now ≡ t.now ∷ self.new.rest.now) × (self.new.last ≡ t.now.span)) }
         ensures past { ahead self.new ≡ spec.past (ahead self.old) }
     {
         match self.rest.split_first() {
@@ -91,7 +92,8 @@ impl<'a> Parser<'a> {
     /// Reads this terminal.
     #[tactic(auto, unfolding(crate::specs::Reading::Looks::expect))]
     pub fn expect(&mut self, terminal: Terminal) -> Result<(), ParseFault>
-        ensures { MatchResult result (λ _. spec.expect terminal (ahead self.old) ≡ Ok (ahead self.new)) (Fails (spec.expect terminal (ahead self.old))) }
+        ensures { MatchResult result (λ _. spec.expect terminal (ahead self.old) ≡ Ok (ahead self.new))
+            (Fails (spec.expect terminal (ahead self.old))) }
     {
         if self.sees(terminal) {
             self.take();
@@ -106,7 +108,8 @@ impl<'a> Parser<'a> {
     /// Reads the name that is spelled so.
     #[tactic(auto, unfolding(crate::specs::Reading::Looks::expect_word))]
     pub fn expect_word(&mut self, word: &str) -> Result<(), ParseFault>
-        ensures { MatchResult result (λ _. spec.expect_word word.now (ahead self.old) ≡ Ok (ahead self.new)) (Fails (spec.expect_word word.now (ahead self.old))) }
+        ensures { MatchResult result (λ _. spec.expect_word word.now (ahead self.old) ≡ Ok (ahead self.new))
+            (Fails (spec.expect_word word.now (ahead self.old))) }
     {
         if is_word(self.rest, word) {
             self.take();

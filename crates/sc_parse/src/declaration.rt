@@ -1,4 +1,4 @@
-// Formal arguments, locals and result types (ECMA-367, 8.5, 8.8 and 8.10).
+// Formal arguments, locals and result types (ECMA-367, 8.5 and 8.8).
 
 ghost use Rattle.std.specs.Prelude.{◌≡◌, [], IfOk, map};
 ghost use Rattle.sc_parse.specs.Reading.Looks.{left};
@@ -19,7 +19,8 @@ fn declared_with(
     names: Vec<Name>,
     declared: &DeclaredType,
 ) -> Result<Vec<Declaration>, AllocError>
-    ensures { IfOk result (λ ds. declarations_in ds ≡ map (grammar.declared_as (type_in declared.now)) (names_in names)) }
+    ensures { IfOk result (λ ds. declarations_in ds
+        ≡ map (grammar.declared_as (type_in declared.now)) (names_in names)) }
 {
     let mut declarations = Vec::new(alloc);
     for name in names {
@@ -48,7 +49,8 @@ impl<'a> Parser<'a> {
     /// The formals of the first declaration and those of each that follows.
     #[tactic(auto, using(crate::proofs::Lists::declarations_begin, crate::proofs::Lists::declarations_end, crate::proofs::Lists::declarations_turn))]
     fn more_declarations(&mut self, first: Vec<Declaration>) -> Result<Vec<Declaration>, ParseFault>
-        ensures { Takes declarations_in (spec.more_declarations (left (ahead self.old)) (declarations_in first) (ahead self.old)) result (ahead self.new) }
+        ensures { Takes declarations_in (spec.more_declarations (left (ahead self.old)) (declarations_in first)
+            (ahead self.old)) result (ahead self.new) }
     {
         let mut found = first;
         for _turn in 0..self.rest.len() {

@@ -61,7 +61,8 @@ impl<'a> Parser<'a> {
         first_height: u8,
     ) -> Result<(Expr, u8), ParseFault>
         requires { first_height ≤ room }
-        ensures read { Reads expr_in (spec.operators (spec.nested room) room class (left (ahead self.old)) (expr_in first) first_height (ahead self.old)) result (ahead self.new) }
+        ensures read { Reads expr_in (spec.operators (spec.nested room) room class (left (ahead self.old))
+            (expr_in first) first_height (ahead self.old)) result (ahead self.new) }
         ensures high { IfOk result (λ p. p.1 ≤ room) }
     {
         let mut left = first;

@@ -1,4 +1,4 @@
-// Features, and whom they are exported to (ECMA-367, 8.5 to 8.7).
+// Features, and whom they are exported to (ECMA-367, 8.5, 8.7 and 8.8).
 
 ghost use Rattle.std.specs.Prelude.{◌≡◌, ◌∷◌, ℕ, [], IfOk, IsTrue, map};
 ghost use Rattle.sc_parse.specs.Reading.Looks.{left};
@@ -33,7 +33,8 @@ fn attributes_of(
     names: Vec<Name>,
     declared: &DeclaredType,
 ) -> Result<Vec<Feature>, AllocError>
-    ensures { IfOk result (λ features. features_in features ≡ map (grammar.attribute_of (names_in exports.now.value) (type_in declared.now)) (names_in names)) }
+    ensures { IfOk result (λ features. features_in features
+        ≡ map (grammar.attribute_of (names_in exports.now.value) (type_in declared.now)) (names_in names)) }
 {
     let mut features = Vec::new(alloc);
     for name in names {
@@ -56,7 +57,8 @@ fn one_feature(
     name: Name,
     kind: FeatureKind,
 ) -> Result<Vec<Feature>, AllocError>
-    ensures { IfOk result (λ features. features_in features ≡ feature_with (names_in exports.now.value) (name_in name) kind ∷ []) }
+    ensures { IfOk result (λ features. features_in features
+        ≡ feature_with (names_in exports.now.value) (name_in name) kind ∷ []) }
 {
     let exports = exports.clone()?;
     let mut features = Vec::new(alloc);
@@ -141,7 +143,8 @@ impl<'a> Parser<'a> {
         result_type: Option<DeclaredType>,
         room: u8,
     ) -> Result<Vec<Feature>, ParseFault>
-        ensures { Gives features_in (spec.routine room (names_in exports.now.value) (name_in name) (declarations_in formals) (type_if_any_in result_type) (ahead self.old)) result (ahead self.new) }
+        ensures { Gives features_in (spec.routine room (names_in exports.now.value) (name_in name)
+            (declarations_in formals) (type_if_any_in result_type) (ahead self.old)) result (ahead self.new) }
     {
         let (precondition, locals) = self.opening(room)?;
         let (body, postcondition) = self.closing(room)?;
@@ -166,7 +169,8 @@ impl<'a> Parser<'a> {
         result_type: Option<DeclaredType>,
         room: u8,
     ) -> Result<Vec<Feature>, ParseFault>
-        ensures { Gives features_in (spec.attribute_or_routine room (names_in exports.now.value) (name_in name) (declarations_in formals) (type_if_any_in result_type) (ahead self.old)) result (ahead self.new) }
+        ensures { Gives features_in (spec.attribute_or_routine room (names_in exports.now.value) (name_in name)
+            (declarations_in formals) (type_if_any_in result_type) (ahead self.old)) result (ahead self.new) }
     {
         let is_attribute = formals.is_empty() && !self.begins_routine();
         match result_type {
@@ -187,7 +191,8 @@ impl<'a> Parser<'a> {
         first: Name,
         room: u8,
     ) -> Result<Vec<Feature>, ParseFault>
-        ensures { Gives features_in (spec.attributes room (names_in exports.now.value) (name_in first) (ahead self.old)) result (ahead self.new) }
+        ensures { Gives features_in (spec.attributes room (names_in exports.now.value) (name_in first)
+            (ahead self.old)) result (ahead self.new) }
     {
         let names = self.more_names(first)?;
         self.expect(Terminal::Colon)?;
@@ -199,7 +204,8 @@ impl<'a> Parser<'a> {
     /// A routine, or attributes of one type.
     #[tactic(auto, unfolding(crate::specs::Reading::Classes::feature))]
     fn feature(&mut self, exports: &Rc<Vec<Name>>, room: u8) -> Result<Vec<Feature>, ParseFault>
-        ensures { Gives features_in (spec.feature room (names_in exports.now.value) (ahead self.old)) result (ahead self.new) }
+        ensures { Gives features_in (spec.feature room (names_in exports.now.value) (ahead self.old))
+            result (ahead self.new) }
     {
         let name = self.name()?;
         if self.sees(Terminal::Comma) {
@@ -218,7 +224,10 @@ impl<'a> Parser<'a> {
         earlier: Vec<Feature>,
         room: u8,
     ) -> Result<Vec<Feature>, ParseFault>
-        ensures read { (high : ℕ) → Gives features_in (spec.features_from room (names_in exports.now.value) (left (ahead self.old)) (features_in earlier) high (ahead self.old)) result (ahead self.new) }
+        ensures read { (high : ℕ) → Gives features_in
+            (spec.features_from room (names_in exports.now.value) (left (ahead self.old)) (features_in earlier) high
+            (ahead self.old))
+            result (ahead self.new) }
         ensures added { IfOk result (λ found. AddsExported (names_in exports.now.value) earlier.items found.items) }
     {
         let mut found = earlier;

@@ -95,7 +95,8 @@ impl<'a> Parser<'a> {
     /// A variable, and the value that it is assigned.
     #[tactic(auto, unfolding(crate::specs::Reading::Instructions::assignment))]
     fn assignment(&mut self, room: u8) -> Result<Instr, ParseFault>
-        ensures { Gives instr_in (spec.assignment room (spec.nested_instrs room) (ahead self.old)) result (ahead self.new) }
+        ensures { Gives instr_in (spec.assignment room (spec.nested_instrs room) (ahead self.old))
+            result (ahead self.new) }
     {
         let start = self.next_start();
         let variable = self.variable()?;
@@ -111,7 +112,8 @@ impl<'a> Parser<'a> {
     /// `print` of a manifest string.
     #[tactic(auto, unfolding(crate::specs::Reading::Instructions::printing))]
     fn printing(&mut self, room: u8) -> Result<Instr, ParseFault>
-        ensures { Gives instr_in (spec.printing room (spec.nested_instrs room) (begin (ahead self.old)) (past (past (ahead self.old)))) result (ahead self.new) }
+        ensures { Gives instr_in (spec.printing room (spec.nested_instrs room) (begin (ahead self.old))
+            (past (past (ahead self.old)))) result (ahead self.new) }
     {
         let start = self.next_start();
         self.take();
@@ -127,7 +129,8 @@ impl<'a> Parser<'a> {
     /// A chain of calls that ends in a call.
     #[tactic(auto, unfolding(crate::specs::Reading::Instructions::routine_call))]
     fn routine_call(&mut self, room: u8) -> Result<Instr, ParseFault>
-        ensures { Gives instr_in (spec.routine_call room (spec.nested_instrs room) (ahead self.old)) result (ahead self.new) }
+        ensures { Gives instr_in (spec.routine_call room (spec.nested_instrs room) (ahead self.old))
+            result (ahead self.new) }
     {
         let (chain, _) = self.chain(room)?;
         match chain {
@@ -141,7 +144,8 @@ impl<'a> Parser<'a> {
     /// What follows `create`.
     #[tactic(auto, unfolding(crate::specs::Reading::Instructions::creation))]
     fn creation(&mut self, room: u8) -> Result<Instr, ParseFault>
-        ensures { Gives instr_in (spec.creation room (spec.nested_instrs room) (ahead self.old)) result (ahead self.new) }
+        ensures { Gives instr_in (spec.creation room (spec.nested_instrs room) (ahead self.old))
+            result (ahead self.new) }
     {
         let start = self.last.start;
         let variable = self.variable()?;
@@ -164,7 +168,8 @@ impl<'a> Parser<'a> {
     #[cycle(instructions)]
     #[tactic(auto, unfolding(crate::specs::Reading::Instructions::branch))]
     fn branch(&mut self, room: u8) -> Result<Branch, ParseFault>
-        ensures { Gives branch_in (spec.branch room (spec.nested_instrs room) (ahead self.old)) result (ahead self.new) }
+        ensures { Gives branch_in (spec.branch room (spec.nested_instrs room) (ahead self.old))
+            result (ahead self.new) }
     {
         let (condition, _) = self.nested(TOP, room)?;
         self.expect(Terminal::Then)?;
@@ -176,7 +181,8 @@ impl<'a> Parser<'a> {
     #[cycle(instructions)]
     #[tactic(auto, using(crate::proofs::Turns::branches_begin, crate::proofs::Turns::branches_end, crate::proofs::Turns::branches_turn))]
     fn branches(&mut self, room: u8) -> Result<Vec<Branch>, ParseFault>
-        ensures { Gives branches_in (spec.branches room (spec.nested_instrs room) (left (ahead self.old)) no_branches 0 (ahead self.old)) result (ahead self.new) }
+        ensures { Gives branches_in (spec.branches room (spec.nested_instrs room) (left (ahead self.old)) no_branches 0
+            (ahead self.old)) result (ahead self.new) }
     {
         let mut found = Vec::new(self.alloc);
         for _turn in 0..self.rest.len() {
@@ -207,7 +213,8 @@ impl<'a> Parser<'a> {
     #[cycle(instructions)]
     #[tactic(auto, unfolding(crate::specs::Reading::Instructions::conditional))]
     fn conditional(&mut self, room: u8) -> Result<Instr, ParseFault>
-        ensures { Gives instr_in (spec.conditional room (spec.nested_instrs room) (ahead self.old)) result (ahead self.new) }
+        ensures { Gives instr_in (spec.conditional room (spec.nested_instrs room) (ahead self.old))
+            result (ahead self.new) }
     {
         let start = self.last.start;
         let Branch { condition, body } = self.branch(room)?;
@@ -222,7 +229,8 @@ impl<'a> Parser<'a> {
     #[cycle(instructions)]
     #[tactic(auto, unfolding(crate::specs::Reading::Instructions::iteration))]
     fn iteration(&mut self, room: u8) -> Result<Instr, ParseFault>
-        ensures { Gives instr_in (spec.iteration room (spec.nested_instrs room) (ahead self.old)) result (ahead self.new) }
+        ensures { Gives instr_in (spec.iteration room (spec.nested_instrs room) (ahead self.old))
+            result (ahead self.new) }
     {
         let start = self.last.start;
         let initial = self.instructions_inside(room)?;
@@ -238,7 +246,8 @@ impl<'a> Parser<'a> {
     /// The clauses of a `check`.
     #[tactic(auto, using(crate::proofs::Turns::clauses_none, crate::proofs::Turns::clauses_some), unfolding(crate::specs::Reading::Instructions::checked))]
     fn checked(&mut self, room: u8) -> Result<Vec<Clause>, ParseFault>
-        ensures { Gives clauses_in (spec.checked room (spec.nested_instrs room) (ahead self.old)) result (ahead self.new) }
+        ensures { Gives clauses_in (spec.checked room (spec.nested_instrs room) (ahead self.old))
+            result (ahead self.new) }
     {
         if !self.begins_expression() && !self.sees(Terminal::Semicolon) {
             return Ok(Vec::new(self.alloc));
@@ -254,7 +263,8 @@ impl<'a> Parser<'a> {
     /// What follows `check`, up to its `end`.
     #[tactic(auto, unfolding(crate::specs::Reading::Instructions::checking))]
     fn checking(&mut self, room: u8) -> Result<Instr, ParseFault>
-        ensures { Gives instr_in (spec.checking room (spec.nested_instrs room) (ahead self.old)) result (ahead self.new) }
+        ensures { Gives instr_in (spec.checking room (spec.nested_instrs room) (ahead self.old))
+            result (ahead self.new) }
     {
         let start = self.last.start;
         let clauses = self.checked(room)?;

@@ -40,8 +40,8 @@ pub data IsWord : List ℕ → Type 0 where
 -- digits, with underscores allowed between two of them
 pub data IsInteger : List ℕ → Type 0 where
   last_digit : {d : ℕ} → IsTrue (is_digit d) → IsInteger (d ∷ [])
-  digit : {d : ℕ} (us : List ℕ) {ds : List ℕ} → IsTrue (is_digit d) → IsTrue (list_all is_underscore us) → IsInteger ds →
-      IsInteger (d ∷ (us ++ ds))
+  digit : {d : ℕ} (us : List ℕ) {ds : List ℕ} → IsTrue (is_digit d) → IsTrue (list_all is_underscore us) →
+      IsInteger ds → IsInteger (d ∷ (us ++ ds))
 
 -- what stands between the quotes of a manifest string, and the characters that it is read as
 pub data IsManifest : List ℕ → List ℕ → Type 0 where
@@ -65,13 +65,14 @@ pub data IsGap : List ℕ → List ℕ → Type 0 where
 pub data IsToken : Kind → List ℕ → List ℕ → Type 0 where
   name : {cs rest : List ℕ} → IsWord cs → IsFalse (begins_with is_name_part rest) → reserved cs ≡ None →
       IsToken (NAME (map to_ascii_lowercase cs)) cs rest
-  reserved_word : {cs rest : List ℕ} {t : Terminal} → IsWord cs → IsFalse (begins_with is_name_part rest) → reserved cs ≡ Some t →
-      IsToken (TERMINAL t) cs rest
+  reserved_word : {cs rest : List ℕ} {t : Terminal} → IsWord cs → IsFalse (begins_with is_name_part rest) →
+      reserved cs ≡ Some t → IsToken (TERMINAL t) cs rest
   integer : {cs rest : List ℕ} → IsInteger cs → IsFalse (digit_follows rest) → decimal cs ≤ 9223372036854775807 →
       IsToken (INTEGER (pos (decimal cs))) cs rest
   manifest_string : {cs vs rest : List ℕ} → IsManifest cs vs → IsToken (STRING vs) (quote ∷ (cs ++ quote ∷ [])) rest
   long : {a b : ℕ} {rest : List ℕ} {t : Terminal} → long_symbol a b ≡ Some t → IsToken (TERMINAL t) (a ∷ b ∷ []) rest
-  short : {a : ℕ} {rest : List ℕ} {t : Terminal} → short_symbol a ≡ Some t → IsFalse (goes_on a rest) → IsToken (TERMINAL t) (a ∷ []) rest
+  short : {a : ℕ} {rest : List ℕ} {t : Terminal} → short_symbol a ≡ Some t → IsFalse (goes_on a rest) →
+      IsToken (TERMINAL t) (a ∷ []) rest
 
 -- ---- the whole
 
@@ -91,17 +92,21 @@ Spells text ts = BeginsWith 0 text ts (length text) []
 
 -- ---- what is wrong
 
--- What stands at this place is no token, white space or comment: a character that begins none of them, a manifest string
--- that no quote closes on its line or that has a percent sign without a mark, or an integer that is too large. At fault
--- are the character, the opening quote, the percent sign, or the digits.
+-- What stands at this place is no token, white space or comment: a character that begins none of them, a manifest
+-- string that no quote closes on its line or that has a percent sign without a mark, or an integer that is too large.
+-- At fault are the character, the opening quote, the percent sign, or the digits.
 pub data IsFault : ℕ → List ℕ → LexFault → Type 0 where
-  bad_character : {place c : ℕ} {rest : List ℕ} → IsFalse (is_white_space c || is_letter c || is_digit c || c == quote) →
-      short_symbol c ≡ None → IsFalse (goes_on c rest) → IsFault place (c ∷ rest) (fault.BadCharacter (span_at place 1))
+  bad_character : {place c : ℕ} {rest : List ℕ} →
+      IsFalse (is_white_space c || is_letter c || is_digit c || c == quote) → short_symbol c ≡ None →
+      IsFalse (goes_on c rest) → IsFault place (c ∷ rest) (fault.BadCharacter (span_at place 1))
   unclosed_string : {place : ℕ} {rest : List ℕ} → ((cs after : List ℕ) → IsQuoted cs → rest ≡ cs ++ quote ∷ after → ⊥) →
       IsFault place (quote ∷ rest) (fault.UnclosedString (span_at place 1))
-  bad_escape : {place : ℕ} (c : ℕ) {cs vs ds : List ℕ} (rest : List ℕ) → IsManifest cs vs → escape c ≡ None → IsFalse (ends_line c) → IsQuoted ds →
-      IsFault place (quote ∷ (cs ++ percent ∷ c ∷ (ds ++ quote ∷ rest))) (fault.BadEscape (span_at (place + 1 + length cs) 1))
-  integer_too_large : {place : ℕ} {cs : List ℕ} (rest : List ℕ) → IsInteger cs → IsFalse (digit_follows rest) → 9223372036854775807 < decimal cs →
+  bad_escape : {place : ℕ} (c : ℕ) {cs vs ds : List ℕ} (rest : List ℕ) →
+      IsManifest cs vs → escape c ≡ None → IsFalse (ends_line c) → IsQuoted ds →
+      IsFault place (quote ∷ (cs ++ percent ∷ c ∷ (ds ++ quote ∷ rest)))
+      (fault.BadEscape (span_at (place + 1 + length cs) 1))
+  integer_too_large : {place : ℕ} {cs : List ℕ} (rest : List ℕ) →
+      IsInteger cs → IsFalse (digit_follows rest) → 9223372036854775807 < decimal cs →
       IsFault place (cs ++ rest) (fault.IntegerTooLarge (span_at place (length cs)))
 
 -- The text before the fault is the beginning of a spelling, and the fault comes next.

@@ -8,21 +8,26 @@ use Rattle.sc_text.specs.Characters.{hyphen}
 -- each reserved word, in lower case
 unfoldable pub reserved_words : List (List ℕ × Terminal)
 reserved_words =
-    (codes "and", terminal.And) ∷ (codes "as", terminal.As) ∷ (codes "attached", terminal.Attached) ∷ (codes "check", terminal.Check) ∷
-    (codes "class", terminal.Class) ∷ (codes "create", terminal.Create) ∷ (codes "current", terminal.Current) ∷ (codes "deferred", terminal.Deferred) ∷
-    (codes "detachable", terminal.Detachable) ∷ (codes "do", terminal.Do) ∷ (codes "else", terminal.Else) ∷ (codes "elseif", terminal.Elseif) ∷
-    (codes "end", terminal.End) ∷ (codes "ensure", terminal.Ensure) ∷ (codes "expanded", terminal.Expanded) ∷ (codes "false", terminal.False) ∷
-    (codes "feature", terminal.Feature) ∷ (codes "from", terminal.From) ∷ (codes "frozen", terminal.Frozen) ∷ (codes "if", terminal.If) ∷
-    (codes "implies", terminal.Implies) ∷ (codes "indexing", terminal.Indexing) ∷ (codes "inherit", terminal.Inherit) ∷ (codes "invariant", terminal.Invariant) ∷
-    (codes "is", terminal.Is) ∷ (codes "local", terminal.Local) ∷ (codes "loop", terminal.Loop) ∷ (codes "not", terminal.Not) ∷
-    (codes "note", terminal.Note) ∷ (codes "old", terminal.Old) ∷ (codes "or", terminal.Or) ∷ (codes "redefine", terminal.Redefine) ∷
-    (codes "require", terminal.Require) ∷ (codes "result", terminal.Result) ∷ (codes "separate", terminal.Separate) ∷ (codes "then", terminal.Then) ∷
-    (codes "true", terminal.True) ∷ (codes "until", terminal.Until) ∷ (codes "void", terminal.Void) ∷ (codes "xor", terminal.Xor) ∷
-    (codes "across", terminal.Across) ∷ (codes "agent", terminal.Agent) ∷ (codes "alias", terminal.Alias) ∷ (codes "assign", terminal.Assign) ∷
-    (codes "debug", terminal.Debug) ∷ (codes "export", terminal.Export) ∷ (codes "external", terminal.External) ∷ (codes "inspect", terminal.Inspect) ∷
-    (codes "like", terminal.Like) ∷ (codes "once", terminal.Once) ∷ (codes "rename", terminal.Rename) ∷ (codes "rescue", terminal.Rescue) ∷
-    (codes "retry", terminal.Retry) ∷ (codes "select", terminal.Select) ∷ (codes "undefine", terminal.Undefine) ∷ (codes "variant", terminal.Variant) ∷
-    (codes "when", terminal.When) ∷ []
+    (codes "and", terminal.And) ∷ (codes "as", terminal.As) ∷ (codes "attached", terminal.Attached) ∷
+    (codes "check", terminal.Check) ∷ (codes "class", terminal.Class) ∷ (codes "create", terminal.Create) ∷
+    (codes "current", terminal.Current) ∷ (codes "deferred", terminal.Deferred) ∷
+    (codes "detachable", terminal.Detachable) ∷ (codes "do", terminal.Do) ∷ (codes "else", terminal.Else) ∷
+    (codes "elseif", terminal.Elseif) ∷ (codes "end", terminal.End) ∷ (codes "ensure", terminal.Ensure) ∷
+    (codes "expanded", terminal.Expanded) ∷ (codes "false", terminal.False) ∷ (codes "feature", terminal.Feature) ∷
+    (codes "from", terminal.From) ∷ (codes "frozen", terminal.Frozen) ∷ (codes "if", terminal.If) ∷
+    (codes "implies", terminal.Implies) ∷ (codes "indexing", terminal.Indexing) ∷
+    (codes "inherit", terminal.Inherit) ∷ (codes "invariant", terminal.Invariant) ∷ (codes "is", terminal.Is) ∷
+    (codes "local", terminal.Local) ∷ (codes "loop", terminal.Loop) ∷ (codes "not", terminal.Not) ∷
+    (codes "note", terminal.Note) ∷ (codes "old", terminal.Old) ∷ (codes "or", terminal.Or) ∷
+    (codes "redefine", terminal.Redefine) ∷ (codes "require", terminal.Require) ∷ (codes "result", terminal.Result) ∷
+    (codes "separate", terminal.Separate) ∷ (codes "then", terminal.Then) ∷ (codes "true", terminal.True) ∷
+    (codes "until", terminal.Until) ∷ (codes "void", terminal.Void) ∷ (codes "xor", terminal.Xor) ∷
+    (codes "across", terminal.Across) ∷ (codes "agent", terminal.Agent) ∷ (codes "alias", terminal.Alias) ∷
+    (codes "assign", terminal.Assign) ∷ (codes "debug", terminal.Debug) ∷ (codes "export", terminal.Export) ∷
+    (codes "external", terminal.External) ∷ (codes "inspect", terminal.Inspect) ∷ (codes "like", terminal.Like) ∷
+    (codes "once", terminal.Once) ∷ (codes "rename", terminal.Rename) ∷ (codes "rescue", terminal.Rescue) ∷
+    (codes "retry", terminal.Retry) ∷ (codes "select", terminal.Select) ∷ (codes "undefine", terminal.Undefine) ∷
+    (codes "variant", terminal.Variant) ∷ (codes "when", terminal.When) ∷ []
 
 -- the first of these words that a text is, in any letter case
 abbrev pub word_among : List (List ℕ × Terminal) → List ℕ → Option Terminal

@@ -3,6 +3,7 @@
 ghost use Rattle.std.specs.Prelude.{◌≡◌};
 ghost use Rattle.sc_text.specs.Characters.{ends_line, escape, is_comment_part, is_name_part, is_white_space};
 
+/// Whether the character is a space, a tab or an end of a line.
 pub fn is_white_space(byte: u8) -> bool
     ensures { result ≡ is_white_space byte }
 {

@@ -108,6 +108,7 @@ fn word(alloc: Global, text: &[u8]) -> Result<Piece, LexFault>
     Ok(Piece::Token { kind, length })
 }
 
+/// The text of a name, in lower case.
 fn lower_case(alloc: Global, word: &[u8]) -> Result<String, AllocError>
     requires { IsTrue (list_all is_name_part word.now) }
     ensures { IfOk result (λ s. string_bytes s ≡ map to_ascii_lowercase word.now) }

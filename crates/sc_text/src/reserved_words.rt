@@ -67,6 +67,7 @@ const RESERVED_WORDS: [(&[u8], Terminal); 57] = [
     (b"when", Terminal::When),
 ];
 
+/// Whether a text is the word, in any letter case.
 fn is_word(text: &[u8], word: &[u8]) -> bool
     ensures { result ≡ str_eq_ignore_ascii_case text.now word.now }
 {

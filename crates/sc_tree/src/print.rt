@@ -14,10 +14,10 @@ mod expressions;
 mod instructions;
 mod laws;
 mod operators;
-mod words;
+mod terminals;
 
 use crate::expression::Name;
-use crate::print::words::{closes, opens, terminal_text};
+use crate::print::terminals::{closes, opens, terminal_text};
 use crate::system::System;
 pub use laws::{canonical_text_spells, canonical_text_stays, canonical_tokens_spell};
 use sc_text::Terminal;

@@ -87,7 +87,8 @@ exports ts = if sees terminal.OpenBrace ts then export_list (past ts) else Ok ([
 -- what follows the tokens that the test doesn't stop at
 abbrev pub past_free : (Kind → Bool) → Span → List Token → Ahead
 past_free stops s [] = record { last = s; rest = [] }
-past_free stops s (t ∷ r) = if stops (kind_of t.kind) then record { last = s; rest = t ∷ r } else past_free stops t.span r
+past_free stops s (t ∷ r) =
+    if stops (kind_of t.kind) then record { last = s; rest = t ∷ r } else past_free stops t.span r
 
 -- what follows a note of such tokens, if one stands here
 abbrev pub past_note : (Kind → Bool) → Ahead → Ahead
@@ -151,15 +152,24 @@ module _ (room : ℕ) where
     post ← assertion room terminal.Ensure b.2
     rest ← expect terminal.End post.2
     Ok (
-      routine_of es x (record { formals = fs; result_type = t; precondition = pre.0; locals = ls.0; body = b.0; postcondition = post.0 }) ∷ [],
+      routine_of es x (record {
+        formals = fs;
+        result_type = t;
+        precondition = pre.0;
+        locals = ls.0;
+        body = b.0;
+        postcondition = post.0;
+      }) ∷ [],
       max pre.1 (max b.1 post.1),
       rest,
     )
 
   -- an attribute has a type, no formals, and nothing of a routine behind its type
-  abbrev pub attribute_or_routine : List Name → Name → List Declaration → Option DeclaredType → Ahead → Read (List Feature)
+  abbrev pub attribute_or_routine : List Name → Name → List Declaration → Option DeclaredType → Ahead →
+      Read (List Feature)
   attribute_or_routine es x fs None ts = routine es x fs None ts
-  attribute_or_routine es x [] (Some t) ts = if begins_routine ts then routine es x [] (Some t) ts else Ok (attribute_of es t x ∷ [], 0, ts)
+  attribute_or_routine es x [] (Some t) ts =
+      if begins_routine ts then routine es x [] (Some t) ts else Ok (attribute_of es t x ∷ [], 0, ts)
   attribute_or_routine es x (f ∷ fs) (Some t) ts = routine es x (f ∷ fs) (Some t) ts
 
   -- several names, after the first

@@ -117,14 +117,16 @@ module _ (inner : ℕ → Ahead → Read Expr) where
   operand room ts = operand_by room (prefix_ahead ts) ts
 
   -- goes on with the operators just above the class, where there is room for them
-  abbrev pub with_operator : ℕ → ℕ → (Expr → ℕ → Ahead → Read Expr) → Expr → ℕ → Ahead → Option BinaryOperator → Read Expr
+  abbrev pub with_operator : ℕ → ℕ → (Expr → ℕ → Ahead → Read Expr) → Expr → ℕ → Ahead →
+      Option BinaryOperator → Read Expr
   with_operator room k next t h ts None = Ok (t, h, ts)
   with_operator room k next t h ts (Some op) =
       if nat_le room h
       then Err Deep
       else (do
         x ← inner k (past_operator op ts)
-        if groups k then next (Binary (across t x.0) op t x.0) (suc (max h x.1)) x.2 else Ok (Binary (across t x.0) op t x.0, suc (max h x.1), x.2))
+        if groups k then next (Binary (across t x.0) op t x.0) (suc (max h x.1)) x.2
+            else Ok (Binary (across t x.0) op t x.0, suc (max h x.1), x.2))
 
   unfoldable pub operators : ℕ → ℕ → ℕ → Expr → ℕ → Ahead → Read Expr
   operators room k zero t h ts = Ok (t, h, ts)

@@ -66,7 +66,12 @@ module _ (room : ℕ) (inner : Ahead → Read Instrs) where
     if sees terminal.Dot v.1 then (if room == 0 then Err Deep else (do
       x ← name (past v.1)
       es ← actuals (nested room) x.1
-      Ok (Create (up_to r.last.start es.2) (record { variable = v.0; call = Some (record { name = x.0; actuals = es.0 }) }), max 1 es.1, es.2)))
+      Ok (
+        Create (up_to r.last.start es.2)
+            (record { variable = v.0; call = Some (record { name = x.0; actuals = es.0 }) }),
+        max 1 es.1,
+        es.2,
+      )))
         else Ok (Create (up_to r.last.start v.1) (record { variable = v.0; call = None }), 0, v.1)
 
   -- a condition and what stands under it

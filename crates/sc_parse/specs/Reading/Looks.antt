@@ -73,7 +73,9 @@ skip m q = if sees m q then past q else q
 
 abbrev pub past_semicolons : Span → List Token → Ahead
 past_semicolons s [] = record { last = s; rest = [] }
-past_semicolons s (t ∷ r) = if looks.is_terminal terminal.Semicolon (kind_of t.kind) then past_semicolons t.span r else record { last = s; rest = t ∷ r }
+past_semicolons s (t ∷ r) =
+    if looks.is_terminal terminal.Semicolon (kind_of t.kind) then past_semicolons t.span r
+    else record { last = s; rest = t ∷ r }
 
 -- what follows the semicolons that stand here
 abbrev pub skip_semicolons : Ahead → Ahead

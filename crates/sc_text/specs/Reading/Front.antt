@@ -80,7 +80,8 @@ symbol_of place None None = Flaw (fault.BadCharacter (span_at place 1))
 -- a comment or a symbol; past the text's end the second character reads as 0
 unfoldable pub symbol : ℕ → List ℕ → Front
 symbol place text =
-    if slice_index text 0 == hyphen && slice_index text 1 == hyphen then Gap (2 + prefix_len is_comment_part (drop 2 text))
+    if slice_index text 0 == hyphen && slice_index text 1 == hyphen
+    then Gap (2 + prefix_len is_comment_part (drop 2 text))
     else symbol_of place (long_symbol (slice_index text 0) (slice_index text 1)) (short_symbol (slice_index text 0))
 
 -- what stands at the front of a text that isn't empty

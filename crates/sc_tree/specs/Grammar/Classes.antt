@@ -1,4 +1,4 @@
--- Features and classes (ECMA-367, 8.4 to 8.8 and 8.10).
+-- Features and classes (ECMA-367, 8.3 to 8.8, 8.10 and 8.20).
 use Rattle.std.specs.Prelude.{◌≡◌, ℕ, max, Bool, true, false, if◌then◌else◌, List, [], ◌∷◌, ◌++◌, Option, None, Some, map, codes}
 use Rattle.std.specs.Str.{bytes_eq}
 use Rattle.sc_text.specs.Kind.{Kind, NAME, TERMINAL}
