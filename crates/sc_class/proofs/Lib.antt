@@ -1,6 +1,7 @@
 pub mod Places
 pub mod NameLemmas
 pub mod Anys
+pub mod Decisions
 pub mod Finding
 pub mod ClassNameLemmas
 pub mod LeftOutLemmas

@@ -15,8 +15,9 @@ use Rattle.sc_tree.specs.Properties.{is_print}
 use Rattle.sc_class.specs.Internal.Found.{FindsFirstPlace, first_place}
 use Rattle.sc_class.specs.Names.{IsLikeOne, Clashes, is_print_itself, is_like, OneClashes, first, further, last_place}
 use Rattle.sc_class.specs.Faults.Scopes.{tests_of, head_names, entity_names, ExprClashes, in_target, in_actuals, in_operand, in_left, in_right, in_tested, test_name, TargetClashes, in_target_value, ExprsClash, in_first, in_others, ConditionClashes, in_whole, in_left_test, in_right_test, ClausesClash, InstrClashes, in_source, in_call_target, in_call_actuals, in_creation, in_if, in_then, in_elseif, in_else, in_from, in_until, in_loop, in_check, in_heads, head_name, in_block, InstrsClash, in_first_instr, in_other_instrs, BranchesClash, in_branch_condition, in_branch, in_later_branch, RoutineClashes, entity, in_precondition, in_body, in_postcondition}
+use Rattle.sc_tree.specs.Properties.{is_and_then}
 use Rattle.sc_class.specs.Internal.NameIndex.{place_among}
-use Rattle.sc_class.specs.Internal.ScopeSearch.{like_place, name_clash, names_clash, expr_clash, target_clash, exprs_clash, is_and_then, condition_clash, clauses_clash, values_clash, creation_clash, instr_clash, instrs_clash, branches_clash, kind_clash}
+use Rattle.sc_class.specs.Internal.ScopeSearch.{like_place, name_clash, names_clash, expr_clash, target_clash, exprs_clash, condition_clash, clauses_clash, values_clash, creation_clash, instr_clash, instrs_clash, branches_clash, kind_clash}
 use Rattle.sc_class.proofs.Anys.{any_none, any_first, any_later, any_split, any_left, any_right, any_parts}
 use Rattle.sc_class.proofs.Finding.{only_one, first_same, first_either}
 use Rattle.sc_class.proofs.Items.{some_is}

@@ -1,4 +1,4 @@
--- Classes by name and by number (ECMA-367, 8.5). Names are in lower case, so equal texts are the same name.
+-- Classes by name and by number (ECMA-367, 8.3). Names are in lower case, so equal texts are the same name.
 use Rattle.std.specs.Prelude.{◌≡◌, ℕ, Bool, true, List, [], ◌∷◌, ◌++◌, ◌||◌, Option, Some, None, codes, bytes_eq, map, slice_get, if◌then◌else◌}
 use Rattle.std.specs.Option.{option_map}
 use Rattle.sc_text.specs.declared.token.Span.{Span}
@@ -42,7 +42,11 @@ number_of s x = number_in (class_names s.classes) x
 -- the class that a name stands for: one that every system has, or the one that is declared with it
 abbrev pub class_named : System → List ℕ → Option ClassId
 class_named s x =
-    if is_any x then Some class.Any else (if is_none x then Some class.None else (if is_integer x then Some class.Integer else (if is_boolean x then Some class.Boolean else option_map (λ k. class.Declared k) (number_among x (class_names s.classes)))))
+    if is_any x then Some class.Any
+    else (if is_none x then Some class.None
+    else (if is_integer x then Some class.Integer
+    else (if is_boolean x then Some class.Boolean
+    else option_map (λ k. class.Declared k) (number_among x (class_names s.classes)))))
 
 -- the name that a class stands for in the text, where there is such a class
 abbrev pub name_of_class : System → ClassId → Option (List ℕ)
@@ -52,8 +56,12 @@ name_of_class s class.Integer = Some (codes "integer")
 name_of_class s class.Boolean = Some (codes "boolean")
 name_of_class s (class.Declared k) = option_map (λ (c : Class). c.name.text) (slice_get s.classes k)
 
--- Of classes that follow those of the earlier names, the one at this place has the name of one of them, or of one that every system has.
+-- Of classes that follow those of the earlier names, the one at this place has the name of one of them, or of one that
+-- every system has.
 pub data RepeatedAt : List Name → List Class → Span → Type 0 where
-  built_in : {earlier : List Name} {c : Class} {later : List Class} → is_built_in c.name.text ≡ true → RepeatedAt earlier (c ∷ later) c.name.span
-  repeated : {earlier : List Name} {c : Class} {later : List Class} → is_listed c.name.text earlier ≡ true → RepeatedAt earlier (c ∷ later) c.name.span
-  further : {earlier : List Name} {c : Class} {later : List Class} {p : Span} → RepeatedAt (earlier ++ c.name ∷ []) later p → RepeatedAt earlier (c ∷ later) p
+  built_in : {earlier : List Name} {c : Class} {later : List Class} → is_built_in c.name.text ≡ true →
+      RepeatedAt earlier (c ∷ later) c.name.span
+  repeated : {earlier : List Name} {c : Class} {later : List Class} → is_listed c.name.text earlier ≡ true →
+      RepeatedAt earlier (c ∷ later) c.name.span
+  further : {earlier : List Name} {c : Class} {later : List Class} {p : Span} →
+      RepeatedAt (earlier ++ c.name ∷ []) later p → RepeatedAt earlier (c ∷ later) p

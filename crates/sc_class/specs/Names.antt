@@ -31,4 +31,5 @@ pub data Clashes (known : List Name) (n : Name) : Span → Type 0 where
 -- One of these names, each of which stands behind the known ones and those before it, clashes with them.
 pub data OneClashes : List Name → List Name → Span → Type 0 where
   first : {known : List Name} {n : Name} {ns : List Name} {p : Span} → Clashes known n p → OneClashes known (n ∷ ns) p
-  further : {known : List Name} {n : Name} {ns : List Name} {p : Span} → OneClashes (known ++ n ∷ []) ns p → OneClashes known (n ∷ ns) p
+  further : {known : List Name} {n : Name} {ns : List Name} {p : Span} → OneClashes (known ++ n ∷ []) ns p →
+      OneClashes known (n ∷ ns) p

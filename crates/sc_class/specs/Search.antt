@@ -29,7 +29,9 @@ AreInOrder s ranks = (k : ℕ) (c : Class) → slice_get s.classes k ≡ Some c 
 abbrev pub FindsWayBack : System → ℕ → List Parent → Option Span → Type 0
 FindsWayBack s k parents None = (i : ℕ) (q : Parent) → slice_get parents i ≡ Some q → NameLeadsTo s k q → ⊥
 FindsWayBack s k parents (Some p) =
-    (i : ℕ) × (q : Parent) × (slice_get parents i ≡ Some q) × ((j : ℕ) (r : Parent) → j < i → slice_get parents j ≡ Some r → NameLeadsTo s k r → ⊥) × NameLeadsTo s k q × (p ≡ q.name.span)
+    (i : ℕ) × (q : Parent) × (slice_get parents i ≡ Some q)
+    × ((j : ℕ) (r : Parent) → j < i → slice_get parents j ≡ Some r → NameLeadsTo s k r → ⊥) × NameLeadsTo s k q
+    × (p ≡ q.name.span)
 
 -- a search has come to the class
 abbrev pub IsSeen : List Bool → ℕ → Type 0
@@ -44,7 +46,8 @@ abbrev pub left_over : List Bool → List ℕ → ℕ
 left_over seen todo = 2 * sum_by (λ b. if b then 0 else 1) seen + length todo
 
 -- A search has come to some of these classes, each of which is still to be looked at.
-pub record Grows (Are : ℕ → Type 0) (seen : List Bool) (todo : List ℕ) (seen' : List Bool) (todo' : List ℕ) : Type 0 where
+pub record Grows (Are : ℕ → Type 0) (seen : List Bool) (todo : List ℕ) (seen' : List Bool) (todo' : List ℕ)
+    : Type 0 where
   pub same_length : length seen' ≡ length seen
   pub keeps : (k : ℕ) → IsSeen seen k → IsSeen seen' k
   pub seen_before : (k : ℕ) → IsSeen seen' k → IsSeen seen k ⊎ (Are k × IsTodo todo' k)
@@ -52,9 +55,11 @@ pub record Grows (Are : ℕ → Type 0) (seen : List Bool) (todo : List ℕ) (se
   pub todo_before : (k : ℕ) → IsTodo todo' k → IsTodo todo k ⊎ IsSeen seen' k
   pub no_more : left_over seen' todo' ≤ left_over seen todo
 
--- The search has come to the start, and to nothing but what the start leads to. It has looked at the parents of those that aren't still to be looked at.
+-- The search has come to the start, and to nothing but what the start leads to. It has looked at the parents of those
+-- that aren't still to be looked at.
 pub record IsSearch (s : System) (target start : ℕ) (seen : List Bool) (todo : List ℕ) : Type 0 where
   pub started : IsSeen seen start
   pub come_to : (k : ℕ) → IsSeen seen k → LeadsTo s k start
   pub todo_seen : (k : ℕ) → IsTodo todo k → IsSeen seen k
-  pub looked_at : (k : ℕ) → IsSeen seen k → IsTodo todo k ⊎ ((k ≡ target → ⊥) × ((j : ℕ) → IsParent s k j → IsSeen seen j))
+  pub looked_at : (k : ℕ) →
+      IsSeen seen k → IsTodo todo k ⊎ ((k ≡ target → ⊥) × ((j : ℕ) → IsParent s k j → IsSeen seen j))

@@ -27,7 +27,8 @@ use std::alloc::Global;
 /// The faults of classes alone.
 fn refuse_classes(alloc: Global, hierarchy: &Hierarchy, root: &Root) -> Result<(), ClassFault>
     ensures none { OnOk result (ClassesStand (in_hierarchy hierarchy.now)) }
-    ensures fault { IfErr result (λ fault. (fault ≡ OutOfMemory) ⊎ Fails (in_hierarchy hierarchy.now) (root_of root.now) fault) }
+    ensures fault { IfErr result (λ fault. (fault ≡ OutOfMemory)
+        ⊎ Fails (in_hierarchy hierarchy.now) (root_of root.now) fault) }
     ensures first { IfErr result (λ fault. (fault ≡ OutOfMemory)
         ⊎ HasLeastCode (in_hierarchy hierarchy.now) (root_of root.now) fault) }
     ensures place { IfErr result (IsPlacedFirst (in_hierarchy hierarchy.now) (root_of root.now)) }
@@ -47,7 +48,8 @@ fn refuse_classes(alloc: Global, hierarchy: &Hierarchy, root: &Root) -> Result<(
 /// The faults of features, and of what the system is run from.
 fn refuse_features(alloc: Global, outline: &Outline, root: &Root) -> Result<(), ClassFault>
     ensures none { OnOk result (FeaturesStand (in_outline outline.now) (root_of root.now)) }
-    ensures fault { IfErr result (λ fault. (fault ≡ OutOfMemory) ⊎ Fails (in_outline outline.now) (root_of root.now) fault) }
+    ensures fault { IfErr result (λ fault. (fault ≡ OutOfMemory)
+        ⊎ Fails (in_outline outline.now) (root_of root.now) fault) }
     ensures first { let s = in_outline outline.now in
         IfErr result (λ fault. (fault ≡ OutOfMemory) ⊎ (ClassesStand s → HasLeastCode s (root_of root.now) fault)) }
     ensures place { IfErr result (IsPlacedFirst (in_outline outline.now) (root_of root.now)) }
@@ -67,7 +69,8 @@ fn refuse_features(alloc: Global, outline: &Outline, root: &Root) -> Result<(), 
 /// The limits, and what the language leaves out.
 fn refuse_rest(alloc: Global, outline: &Outline, root: &Root) -> Result<(), ClassFault>
     ensures none { OnOk result (RestStands (in_outline outline.now)) }
-    ensures fault { IfErr result (λ fault. (fault ≡ OutOfMemory) ⊎ Fails (in_outline outline.now) (root_of root.now) fault) }
+    ensures fault { IfErr result (λ fault. (fault ≡ OutOfMemory)
+        ⊎ Fails (in_outline outline.now) (root_of root.now) fault) }
     ensures first { let s = in_outline outline.now in let r = root_of root.now in
         IfErr result (λ fault. (fault ≡ OutOfMemory)
         ⊎ (ClassesStand s → FeaturesStand s r → HasLeastCode s r fault)) }
@@ -93,8 +96,10 @@ fn sound_hierarchy<'s>(
 ) -> Result<Hierarchy<'s>, ClassFault>
     ensures none { OnOk result (ClassesStand (system_of system.now)) }
     ensures of_it { IfOk result (λ hierarchy. hierarchy.system.now ≡ system.now) }
-    ensures fault { IfErr result (λ fault. (fault ≡ OutOfMemory) ⊎ Fails (system_of system.now) (root_of root.now) fault) }
-    ensures first { IfErr result (λ fault. (fault ≡ OutOfMemory) ⊎ HasLeastCode (system_of system.now) (root_of root.now) fault) }
+    ensures fault { IfErr result (λ fault. (fault ≡ OutOfMemory)
+        ⊎ Fails (system_of system.now) (root_of root.now) fault) }
+    ensures first { IfErr result (λ fault. (fault ≡ OutOfMemory)
+        ⊎ HasLeastCode (system_of system.now) (root_of root.now) fault) }
     ensures place { IfErr result (IsPlacedFirst (system_of system.now) (root_of root.now)) }
 {
     let hierarchy = Hierarchy::of(alloc, system)?;
@@ -129,8 +134,10 @@ pub fn tables<'s>(alloc: Global, system: &'s System, root: &Root) -> Result<Tabl
     ensures faultless { OnOk result (IsFaultless (system_of system.now) (root_of root.now)) }
     ensures of_it { IfOk result (λ tables. system_in tables ≡ system_of system.now) }
     ensures rooted { IfOk result (λ tables. root_in tables ≡ root_of root.now) }
-    ensures fault { IfErr result (λ fault. (fault ≡ OutOfMemory) ⊎ Fails (system_of system.now) (root_of root.now) fault) }
-    ensures first { IfErr result (λ fault. (fault ≡ OutOfMemory) ⊎ HasLeastCode (system_of system.now) (root_of root.now) fault) }
+    ensures fault { IfErr result (λ fault. (fault ≡ OutOfMemory)
+        ⊎ Fails (system_of system.now) (root_of root.now) fault) }
+    ensures first { IfErr result (λ fault. (fault ≡ OutOfMemory)
+        ⊎ HasLeastCode (system_of system.now) (root_of root.now) fault) }
     ensures place { IfErr result (IsPlacedFirst (system_of system.now) (root_of root.now)) }
 {
     let hierarchy = sound_hierarchy(alloc, system, root)?;

@@ -26,7 +26,7 @@ pub enum LeftOut {
 /// that no memory was left.
 #[derive(Clone, Copy, Debug, Error)]
 pub enum ClassFault {
-    /// C1: the class has the name of an earlier one, or that of a class that every system has (ECMA-367, 8.5).
+    /// C1: the class has the name of an earlier one, or that of a class that every system has (ECMA-367, 8.3).
     #[error("a class has the name of another")]
     DuplicateClass { span: Span },
     /// C2: no class has the name of this parent, or it is INTEGER, BOOLEAN or NONE.

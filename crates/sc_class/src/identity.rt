@@ -1,5 +1,8 @@
 // What a class is known by.
 
+ghost use Rattle.std.specs.Prelude.{◌≡◌};
+ghost use Rattle.sc_class.specs.Tables.Conformance as conformance;
+
 /// A class: one of those that every system has, or the one that is declared at this number of the source
 /// text, from 0.
 #[derive(Clone, Copy, Debug, PartialEq, Eq)]
@@ -11,4 +14,16 @@ pub enum ClassId {
     Integer,
     Boolean,
     Declared(usize),
+}
+
+impl ClassId {
+    /// Whether its values aren't references.
+    pub fn is_expanded(self) -> bool
+        ensures { result ≡ conformance.is_expanded self }
+    {
+        match self {
+            ClassId::Integer | ClassId::Boolean => true,
+            ClassId::Any | ClassId::None | ClassId::Declared(_) => false,
+        }
+    }
 }

@@ -56,10 +56,7 @@ impl EntityType {
     pub fn is_expanded(self) -> bool
         ensures { result ≡ is_expanded self.class }
     {
-        match self.class {
-            ClassId::Integer | ClassId::Boolean => true,
-            ClassId::Any | ClassId::None | ClassId::Declared(_) => false,
-        }
+        self.class.is_expanded()
     }
 
     /// Whether this type's mark conforms to another's: an attached one does to both, a detachable one to a

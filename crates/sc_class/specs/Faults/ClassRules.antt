@@ -22,9 +22,12 @@ abbrev pub is_plain_procedure : FeatureKind → Bool
 is_plain_procedure (Attribute t) = false
 is_plain_procedure (Routine r) = length r.formals == 0 && is_none r.result_type
 
--- the class at the number lists the name under `create`, and has a procedure of that name without formals, its own or inherited
+-- the class at the number lists the name under `create`, and has a procedure of that name without formals, its own or
+-- inherited
 abbrev pub creates_by : System → List ℕ → ℕ → Bool
-creates_by s x k = is_listed x (creators_of s k) && option_map_or (λ (f : DeclaredFeature). is_plain_procedure f.feature.kind) (named_among x (features s k)) false
+creates_by s x k =
+    is_listed x (creators_of s k)
+    && option_map_or (λ (f : DeclaredFeature). is_plain_procedure f.feature.kind) (named_among x (features s k)) false
 
 -- there is a class of the root's name, and it creates its objects by that procedure
 abbrev pub has_root : System → Root → Bool
@@ -33,10 +36,13 @@ has_root s root = option_map_or (creates_by s root.procedure) (number_of s root.
 -- The fault is in the system, which is run from this root.
 pub data Fails (s : System) (root : Root) : ClassFault → Type 0 where
   duplicate_class : {p : Span} → RepeatedAt [] s.classes p → Fails s root (fault.DuplicateClass p)
-  unknown_parent : {p : Span} → Any (λ c. Any (λ q. UnknownParentAt s q p) c.parents) s.classes → Fails s root (fault.UnknownParent p)
+  unknown_parent : {p : Span} → Any (λ c. Any (λ q. UnknownParentAt s q p) c.parents) s.classes →
+      Fails s root (fault.UnknownParent p)
   cycle : {p : Span} → CycleAt s p → Fails s root (fault.Cycle p)
-  duplicate_feature : {p : Span} {k : ℕ} {c : Class} → slice_get s.classes k ≡ Some c → ClassClashes s k c p → Fails s root (fault.DuplicateFeature p)
-  bad_redefinition : {p : Span} {k : ℕ} {c : Class} → slice_get s.classes k ≡ Some c → BadlyRedefines s k c p → Fails s root (fault.BadRedefinition p)
+  duplicate_feature : {p : Span} {k : ℕ} {c : Class} → slice_get s.classes k ≡ Some c → ClassClashes s k c p →
+      Fails s root (fault.DuplicateFeature p)
+  bad_redefinition : {p : Span} {k : ℕ} {c : Class} → slice_get s.classes k ≡ Some c → BadlyRedefines s k c p →
+      Fails s root (fault.BadRedefinition p)
   no_root : has_root s root ≡ false → Fails s root fault.NoRoot
   limit : PassesLimit s → Fails s root fault.Limit
   left_out : {x : Exclusion} → Any (λ c. ClassLeftOut c x) s.classes → Fails s root (fault.LeftOut x.what x.span)
@@ -45,7 +51,7 @@ pub data Fails (s : System) (root : Root) : ClassFault → Type 0 where
 abbrev pub IsFaultless : System → Root → Type 0
 IsFaultless s root = (f : ClassFault) → Fails s root f → ⊥
 
--- the number of a fault's code, C1 to C8; want of memory has none
+-- the number of a fault's code, C1 to C8; out of memory has none
 abbrev pub code_number : ClassFault → ℕ
 code_number (fault.DuplicateClass p) = 1
 code_number (fault.UnknownParent p) = 2
@@ -66,9 +72,11 @@ abbrev pub IsPlacedFirst : System → Root → ClassFault → Type 0
 IsPlacedFirst s root (fault.DuplicateClass p) = (q : Span) → Fails s root (fault.DuplicateClass q) → p.start ≤ q.start
 IsPlacedFirst s root (fault.UnknownParent p) = (q : Span) → Fails s root (fault.UnknownParent q) → p.start ≤ q.start
 IsPlacedFirst s root (fault.Cycle p) = (q : Span) → Fails s root (fault.Cycle q) → p.start ≤ q.start
-IsPlacedFirst s root (fault.DuplicateFeature p) = (q : Span) → Fails s root (fault.DuplicateFeature q) → p.start ≤ q.start
+IsPlacedFirst s root (fault.DuplicateFeature p) =
+    (q : Span) → Fails s root (fault.DuplicateFeature q) → p.start ≤ q.start
 IsPlacedFirst s root (fault.BadRedefinition p) = (q : Span) → Fails s root (fault.BadRedefinition q) → p.start ≤ q.start
-IsPlacedFirst s root (fault.LeftOut what p) = (other : LeftOut) (q : Span) → Fails s root (fault.LeftOut other q) → p.start ≤ q.start
+IsPlacedFirst s root (fault.LeftOut what p) =
+    (other : LeftOut) (q : Span) → Fails s root (fault.LeftOut other q) → p.start ≤ q.start
 IsPlacedFirst s root fault.NoRoot = Unit {0}
 IsPlacedFirst s root fault.Limit = Unit {0}
 IsPlacedFirst s root fault.OutOfMemory = Unit {0}

@@ -30,11 +30,13 @@ pub data MarkLeftOut (c : Class) : Exclusion → Type 0 where
 
 -- It has a second parent.
 pub data ParentLeftOut (c : Class) : Exclusion → Type 0 where
-  second_parent : {q : Parent} → slice_get c.parents 1 ≡ Some q → ParentLeftOut c (excluded MultipleInheritance q.name.span)
+  second_parent : {q : Parent} → slice_get c.parents 1 ≡ Some q →
+      ParentLeftOut c (excluded MultipleInheritance q.name.span)
 
 -- The place is that of the first name of the export list.
 pub data ExportLeftOut (exports : List Name) : Exclusion → Type 0 where
-  export_list : {n : Name} → slice_get exports 0 ≡ Some n → is_plain_export exports ≡ false → ExportLeftOut exports (excluded ExportList n.span)
+  export_list : {n : Name} → slice_get exports 0 ≡ Some n → is_plain_export exports ≡ false →
+      ExportLeftOut exports (excluded ExportList n.span)
 
 -- In a class, this is left out.
 pub data ClassLeftOut (c : Class) : Exclusion → Type 0 where

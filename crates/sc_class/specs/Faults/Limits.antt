@@ -47,7 +47,8 @@ unfoldable mutual
   has_wide_block (PrintText s t) = false
   has_wide_block (CallRoutine s t n es) = false
   has_wide_block (Create s c) = false
-  has_wide_block (If s e body branches other) = has_wide_block_in body || branch_has_wide_block branches || has_wide_block_in other
+  has_wide_block (If s e body branches other) =
+      has_wide_block_in body || branch_has_wide_block branches || has_wide_block_in other
   has_wide_block (Loop s initial e body) = has_wide_block_in initial || has_wide_block_in body
   has_wide_block (Check s clauses) = false
   has_wide_block (Block s heads body) = nat_lt max_heads (length heads) || has_wide_block_in body
@@ -64,7 +65,8 @@ unfoldable mutual
 abbrev pub is_large : FeatureKind → Bool
 is_large (Attribute t) = false
 is_large (Routine r) =
-    nat_lt max_formals (length r.formals) || nat_lt max_locals (length r.locals + block_names_of r.body) || has_wide_block_in r.body
+    nat_lt max_formals (length r.formals) || nat_lt max_locals (length r.locals + block_names_of r.body)
+    || has_wide_block_in r.body
 
 -- the class at the number has too many features
 abbrev pub has_many_features : System → ℕ → Bool

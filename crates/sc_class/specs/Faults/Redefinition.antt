@@ -27,19 +27,23 @@ abbrev pub is_empty_contract : List Clause → Bool
 is_empty_contract [] = true
 is_empty_contract (k ∷ ks) = false
 
--- The first can redefine the second: both are routines with the same formals, its result fits, and it has no contract of its own.
+-- The first can redefine the second: both are routines with the same formals, its result fits, and it has no contract
+-- of its own.
 abbrev pub can_redefine : System → FeatureKind → FeatureKind → Bool
 can_redefine s (Routine r) (Routine q) =
-    is_same_formals r.formals q.formals && result_fits s r.result_type q.result_type && is_empty_contract r.precondition && is_empty_contract r.postcondition
+    is_same_formals r.formals q.formals && result_fits s r.result_type q.result_type
+    && is_empty_contract r.precondition && is_empty_contract r.postcondition
 can_redefine s (Routine r) (Attribute t) = false
 can_redefine s (Attribute t) g = false
 
--- A name that the class at the number lists under `redefine` isn't inherited or isn't declared again, or what is declared can't redefine what is inherited.
+-- A name that the class at the number lists under `redefine` isn't inherited or isn't declared again, or what is
+-- declared can't redefine what is inherited.
 pub data NameBadlyRedefined (s : System) (k : ℕ) (n : Name) : Span → Type 0 where
   not_inherited : named_among n.text (inherited_features s k) ≡ None → NameBadlyRedefined s k n n.span
   not_declared : named_among n.text (declared_features s k) ≡ None → NameBadlyRedefined s k n n.span
-  does_not_fit : {f g : DeclaredFeature} → named_among n.text (declared_features s k) ≡ Some f → named_among n.text (inherited_features s k) ≡ Some g →
-      can_redefine s f.feature.kind g.feature.kind ≡ false → NameBadlyRedefined s k n f.feature.name.span
+  does_not_fit : {f g : DeclaredFeature} → named_among n.text (declared_features s k) ≡ Some f →
+      named_among n.text (inherited_features s k) ≡ Some g → can_redefine s f.feature.kind g.feature.kind ≡ false →
+      NameBadlyRedefined s k n f.feature.name.span
 
 abbrev pub BadlyRedefines : System → ℕ → Class → Span → Type 0
 BadlyRedefines s k c p = Any (λ n. NameBadlyRedefined s k n p) (redefined_by c)

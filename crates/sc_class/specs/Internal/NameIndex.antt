@@ -1,5 +1,5 @@
--- Names that are found by hash: of each text, what a map keeps is the number of the first name that is it, and the first place in the text at
--- which such a name stands.
+-- Names that are found by hash: of each text, what a map keeps is the number of the first name that is it, and the
+-- first place in the text at which such a name stands.
 use Rattle.std.specs.Prelude.{◌≡◌, ℕ, List, [], ◌∷◌, Option, Some, None, map, take, bytes_eq, nat_lt, slice_get, if◌then◌else◌}
 use Rattle.std.specs.Option.{option_map}
 use Rattle.std.specs.Borrow.{Bor}
@@ -34,4 +34,5 @@ IsKnown x ns o = (option_map (λ k. k.number) o ≡ number_among x ns) × (optio
 abbrev pub IsIndex : {S : Type 0} → HashMap (Bor (List ℕ)) Known S → List Added → Type 0
 IsIndex {S} known names =
     ((x : List ℕ) → IsKnown x (names_in names) (get_by (λ k. bytes_eq x k.now) known))
-    × ((i : ℕ) (a : Added) → slice_get names i ≡ Some a → IsKnown (name_of a.name.now).text (take i (names_in names)) a.before)
+    × ((i : ℕ) (a : Added) → slice_get names i ≡ Some a →
+    IsKnown (name_of a.name.now).text (take i (names_in names)) a.before)

@@ -1,12 +1,10 @@
--- Where names clash in a routine: the first place in the text, as functions over the plain tree. `fs` are the names of the class's features,
--- and `ns` those of the formals, locals, object tests and blocks that are known.
-use Rattle.std.specs.Prelude.{ℕ, Bool, true, false, List, [], ◌∷◌, ◌++◌, Option, Some, None, if◌then◌else◌}
+-- Where names clash in a routine: the first place in the text, as functions over the plain tree. `fs` are the names of
+-- the class's features, and `ns` those of the formals, locals, object tests and blocks that are known.
+use Rattle.std.specs.Prelude.{ℕ, List, [], ◌∷◌, ◌++◌, Option, Some, None, if◌then◌else◌}
 use Rattle.std.specs.Option.{option_map}
 use Rattle.sc_text.specs.declared.token.Span.{Span}
-use Rattle.sc_tree.specs.declared.expression.BinaryOperator.{BinaryOperator}
-use Rattle.sc_tree.specs.declared.expression.BinaryOperator.TheVariants.{AndThen}
 use Rattle.sc_tree.specs.Plain.{System, FeatureKind, Attribute, Routine, Clause, Head, Name, CreationCall, Expr, Integer, Boolean, Void, Current, Result, Call, Unary, Binary, ObjectTest, Target, no_target, target, Exprs, no_exprs, expr_then, Instr, Assign, PrintText, CallRoutine, Create, If, Loop, Check, Block, Instrs, no_instrs, instr_then, Branches, no_branches, branch_then}
-use Rattle.sc_tree.specs.Properties.{is_print}
+use Rattle.sc_tree.specs.Properties.{is_print, is_and_then}
 use Rattle.sc_class.specs.declared.faults.scopes.features.Part.{Part}
 use Rattle.sc_class.specs.declared.faults.scopes.features.Part.TheVariants.{All, Inherited}
 use Rattle.sc_class.specs.Names.{last_place}
@@ -54,14 +52,11 @@ unfoldable mutual
   exprs_clash fs ns no_exprs = None
   exprs_clash fs ns (expr_then e es) = first_place (expr_clash fs ns e) (exprs_clash fs ns es)
 
--- the operator behind whose left operand the names of its object tests are known
-abbrev pub is_and_then : BinaryOperator → Bool
-is_and_then AndThen = true
-is_and_then _ = false
-
 -- in the condition of an `if`
 unfoldable pub condition_clash : List Name → List Name → Expr → Option Span
-condition_clash fs ns (Binary s op a b) = if is_and_then op then first_place (condition_clash fs ns a) (condition_clash fs (ns ++ tests_of a) b) else expr_clash fs ns (Binary s op a b)
+condition_clash fs ns (Binary s op a b) =
+    if is_and_then op then first_place (condition_clash fs ns a) (condition_clash fs (ns ++ tests_of a) b)
+    else expr_clash fs ns (Binary s op a b)
 condition_clash fs ns (ObjectTest s t e n) = first_place (expr_clash fs ns e) (name_clash fs ns n)
 condition_clash fs ns (Integer s i) = expr_clash fs ns (Integer s i)
 condition_clash fs ns (Boolean s b) = expr_clash fs ns (Boolean s b)
@@ -91,11 +86,14 @@ unfoldable mutual
   instr_clash fs ns (CallRoutine s t n es) = first_place (target_clash fs ns t) (exprs_clash fs ns es)
   instr_clash fs ns (Create s c) = creation_clash fs ns c.call
   instr_clash fs ns (If s e body branches other) =
-      first_place (first_place (condition_clash fs ns e) (instrs_clash fs (ns ++ tests_of e) body)) (first_place (branches_clash fs ns branches) (instrs_clash fs ns other))
-  instr_clash fs ns (Loop s initial e body) = first_place (instrs_clash fs ns initial) (first_place (expr_clash fs ns e) (instrs_clash fs ns body))
+      first_place (first_place (condition_clash fs ns e) (instrs_clash fs (ns ++ tests_of e) body))
+      (first_place (branches_clash fs ns branches) (instrs_clash fs ns other))
+  instr_clash fs ns (Loop s initial e body) =
+      first_place (instrs_clash fs ns initial) (first_place (expr_clash fs ns e) (instrs_clash fs ns body))
   instr_clash fs ns (Check s clauses) = clauses_clash fs ns clauses
   instr_clash fs ns (Block s heads body) =
-      first_place (values_clash fs ns heads) (first_place (names_clash fs ns (head_names heads)) (instrs_clash fs (ns ++ head_names heads) body))
+      first_place (values_clash fs ns heads)
+      (first_place (names_clash fs ns (head_names heads)) (instrs_clash fs (ns ++ head_names heads) body))
 
   pub instrs_clash : List Name → List Name → Instrs → Option Span
   instrs_clash fs ns no_instrs = None
@@ -103,7 +101,9 @@ unfoldable mutual
 
   pub branches_clash : List Name → List Name → Branches → Option Span
   branches_clash fs ns no_branches = None
-  branches_clash fs ns (branch_then e body bs) = first_place (first_place (condition_clash fs ns e) (instrs_clash fs (ns ++ tests_of e) body)) (branches_clash fs ns bs)
+  branches_clash fs ns (branch_then e body bs) =
+      first_place (first_place (condition_clash fs ns e) (instrs_clash fs (ns ++ tests_of e) body))
+      (branches_clash fs ns bs)
 
 -- in a routine
 unfoldable pub kind_clash : List Name → FeatureKind → Option Span
@@ -112,4 +112,5 @@ kind_clash fs (Routine r) =
     let formals = entity_names r.formals in
     let locals = entity_names r.locals in
     first_place (first_place (names_clash fs [] formals) (names_clash fs formals locals))
-    (first_place (clauses_clash fs formals r.precondition) (first_place (instrs_clash fs (formals ++ locals) r.body) (clauses_clash fs formals r.postcondition)))
+    (first_place (clauses_clash fs formals r.precondition)
+    (first_place (instrs_clash fs (formals ++ locals) r.body) (clauses_clash fs formals r.postcondition)))

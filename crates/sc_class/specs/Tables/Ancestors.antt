@@ -40,9 +40,11 @@ ancestors s k = ancestors_within (length s.classes) s k
 
 -- The second class is one of the parents that the first one names.
 pub data IsParent (s : System) : ℕ → ℕ → Type 0 where
-  names_parent : {k j : ℕ} {c : Class} {p : Parent} → slice_get s.classes k ≡ Some c → Contains c.parents p → number_of s p.name.text ≡ Some j → IsParent s k j
+  names_parent : {k j : ℕ} {c : Class} {p : Parent} → slice_get s.classes k ≡ Some c → Contains c.parents p →
+      number_of s p.name.text ≡ Some j → IsParent s k j
 
--- The ways up from the class at the second number, through any of its parents, lead to the first one: it is that class itself, or one of its parents leads there.
+-- The ways up from the class at the second number, through any of its parents, lead to the first one: it is that class
+-- itself, or one of its parents leads there.
 pub data LeadsTo (s : System) (k : ℕ) : ℕ → Type 0 where
   itself : LeadsTo s k k
   over : {j i : ℕ} → IsParent s j i → LeadsTo s k i → LeadsTo s k j
@@ -55,7 +57,8 @@ NameLeadsTo s k p = (j : ℕ) × (number_of s p.name.text ≡ Some j) × LeadsTo
 pub data IsCyclic (s : System) (k : ℕ) : Type 0 where
   cyclic : {j : ℕ} → IsParent s k j → LeadsTo s k j → IsCyclic s k
 
--- This is the parent's name of the first class in the text that inherits from itself, and the first of its parents that leads back to it.
+-- This is the parent's name of the first class in the text that inherits from itself, and the first of its parents
+-- that leads back to it.
 pub record CycleAt (s : System) (p : Span) : Type 0 where
   pub number : ℕ
   pub class : Class
@@ -64,6 +67,7 @@ pub record CycleAt (s : System) (p : Span) : Type 0 where
   pub parent_index : ℕ
   pub parent : Parent
   pub is_parent : slice_get class.parents parent_index ≡ Some parent
-  pub first_of_them : (i : ℕ) (q : Parent) → i < parent_index → slice_get class.parents i ≡ Some q → NameLeadsTo s number q → ⊥
+  pub first_of_them : (i : ℕ) (q : Parent) → i < parent_index → slice_get class.parents i ≡ Some q →
+      NameLeadsTo s number q → ⊥
   pub leads_back : NameLeadsTo s number parent
   pub place : p ≡ parent.name.span

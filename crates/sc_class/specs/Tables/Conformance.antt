@@ -19,7 +19,8 @@ is_expanded (class.Declared k) = false
 abbrev pub is_ancestor : System → ℕ → ℕ → Bool
 is_ancestor s k j = list_any (λ i. i == j) (ancestors s k)
 
--- Each class conforms to its ancestors, each class of references to ANY, and NONE to each of these. INTEGER and BOOLEAN conform to themselves alone.
+-- Each class conforms to its ancestors, each class of references to ANY, and NONE to each of these. INTEGER and
+-- BOOLEAN conform to themselves alone.
 abbrev pub class_conforms : System → ClassId → ClassId → Bool
 class_conforms s (class.Declared k) (class.Declared j) = is_ancestor s k j
 class_conforms s (class.Declared k) class.Any = true
@@ -55,7 +56,8 @@ is_same_mark true b = b
 is_same_mark false b = not b
 
 abbrev pub is_same_type : DeclaredType → DeclaredType → Bool
-is_same_type t u = bytes_eq t.class.text u.class.text && is_same_mark t.is_detachable u.is_detachable && is_same_tag t.tag u.tag
+is_same_type t u =
+    bytes_eq t.class.text u.class.text && is_same_mark t.is_detachable u.is_detachable && is_same_tag t.tag u.tag
 
 abbrev pub known_conforms : System → Option ClassId → Option ClassId → Bool
 known_conforms s (Some a) (Some b) = class_conforms s a b
@@ -65,4 +67,5 @@ known_conforms s None b = false
 -- A type conforms to an equal one; else its class does, it is attached where the other is, and its tag conforms.
 abbrev pub type_conforms : System → DeclaredType → DeclaredType → Bool
 type_conforms s t u =
-    is_same_type t u || (known_conforms s (type_class s t.class.text) (type_class s u.class.text) && (not t.is_detachable || u.is_detachable) && tag_conforms t.tag u.tag)
+    is_same_type t u || (known_conforms s (type_class s t.class.text) (type_class s u.class.text)
+    && (not t.is_detachable || u.is_detachable) && tag_conforms t.tag u.tag)

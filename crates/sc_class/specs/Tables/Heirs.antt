@@ -1,4 +1,5 @@
--- Laws of heirs: which version of a feature a class has, where that stands in the text, and whose contract it keeps (ECMA-367, 8.10).
+-- Laws of heirs: which version of a feature a class has, where that stands in the text, and whose contract it keeps
+-- (ECMA-367, 8.10).
 use Rattle.std.specs.Prelude.{◌≡◌, ◌⊎◌, ℕ, Bool, true, List, [], ◌∷◌, ◌++◌, ◌&&◌, Option, Some, None, Contains, bytes_eq, map, slice_get}
 use Rattle.std.specs.List.{IsDistinct}
 use Rattle.std.specs.Option.{option_or}
@@ -26,7 +27,9 @@ AncestorsClimb = WhereFaultless λ s. (k i : ℕ) → parent_number s k ≡ Some
 
 -- The features of a class are its own, and then its parent's that it doesn't redefine.
 abbrev pub FeaturesInherited : Type 0
-FeaturesInherited = WhereFaultless λ s. (k i : ℕ) → parent_number s k ≡ Some i → features s k ≡ declared_features s k ++ not_redefined (redefined_names s k) (features s i)
+FeaturesInherited =
+    WhereFaultless λ s. (k i : ℕ) → parent_number s k ≡ Some i →
+    features s k ≡ declared_features s k ++ not_redefined (redefined_names s k) (features s i)
 
 -- Those of a class without a parent are its own.
 abbrev pub FeaturesDeclared : Type 0
@@ -38,7 +41,9 @@ FeaturesDiffer = WhereFaultless λ s. (k : ℕ) → IsDistinct bytes_eq (map (λ
 
 -- The joined invariant of an heir is its parent's and then its own.
 abbrev pub InvariantsJoined : Type 0
-InvariantsJoined = WhereFaultless λ s. (k i : ℕ) → parent_number s k ≡ Some i → invariant_of s k ≡ invariant_of s i ++ declared_invariant s k
+InvariantsJoined =
+    WhereFaultless λ s. (k i : ℕ) → parent_number s k ≡ Some i →
+    invariant_of s k ≡ invariant_of s i ++ declared_invariant s k
 
 -- The feature that a class has of a name stands in the text of one of its ancestors, under that name.
 pub record StandsInText (s : System) (k : ℕ) (x : List ℕ) (f : DeclaredFeature) : Type 0 where
@@ -51,12 +56,15 @@ pub record StandsInText (s : System) (k : ℕ) (x : List ℕ) (f : DeclaredFeatu
 
 -- Each feature that is found does, in every system.
 abbrev pub FoundStands : Type 0
-FoundStands = (s : System) (k : ℕ) (x : List ℕ) (f : DeclaredFeature) → feature_named s (class.Declared k) x ≡ Some f → StandsInText s k x f
+FoundStands =
+    (s : System) (k : ℕ) (x : List ℕ) (f : DeclaredFeature) → feature_named s (class.Declared k) x ≡ Some f →
+    StandsInText s k x f
 
 -- The first is the second, or redefines it, at once or over others.
 pub data Redeclares (s : System) (f : DeclaredFeature) : DeclaredFeature → Type 0 where
   unchanged : Redeclares s f f
-  redefines : {g h : DeclaredFeature} → can_redefine s h.feature.kind g.feature.kind ≡ true → Redeclares s f g → Redeclares s f h
+  redefines : {g h : DeclaredFeature} → can_redefine s h.feature.kind g.feature.kind ≡ true → Redeclares s f g →
+      Redeclares s f h
 
 -- what a class has of an ancestor's feature
 pub record HeirsVersion (s : System) (k : ℕ) (x : List ℕ) (f : DeclaredFeature) : Type 0 where
@@ -66,7 +74,9 @@ pub record HeirsVersion (s : System) (k : ℕ) (x : List ℕ) (f : DeclaredFeatu
 
 -- An heir has a version of each feature.
 abbrev pub HeirsRedeclare : Type 0
-HeirsRedeclare = WhereFaultless λ s. (k j : ℕ) (x : List ℕ) (f : DeclaredFeature) → is_ancestor s k j ≡ true → feature_named s (class.Declared j) x ≡ Some f → HeirsVersion s k x f
+HeirsRedeclare =
+    WhereFaultless λ s. (k j : ℕ) (x : List ℕ) (f : DeclaredFeature) → is_ancestor s k j ≡ true →
+    feature_named s (class.Declared j) x ≡ Some f → HeirsVersion s k x f
 
 -- ---- kept contracts
 
@@ -86,7 +96,8 @@ has_no_contract (Routine r) = is_empty_contract r.precondition && is_empty_contr
 
 -- The first takes the formals of the second: both are routines with the same ones.
 pub data TakesSame : FeatureKind → FeatureKind → Type 0 where
-  takes_same : {r q : RoutineDeclaration} → is_same_formals r.formals q.formals ≡ true → TakesSame (Routine r) (Routine q)
+  takes_same : {r q : RoutineDeclaration} → is_same_formals r.formals q.formals ≡ true →
+      TakesSame (Routine r) (Routine q)
 
 -- what is true of the origin of a feature that a class has
 pub record HasOrigin (s : System) (k : ℕ) (x : List ℕ) (f : DeclaredFeature) : Type 0 where
@@ -99,21 +110,31 @@ pub record HasOrigin (s : System) (k : ℕ) (x : List ℕ) (f : DeclaredFeature)
 
 -- Each feature has an origin, in an ancestor of each class that has the feature.
 abbrev pub OriginsStand : Type 0
-OriginsStand = WhereFaultless λ s. (k : ℕ) (x : List ℕ) (f : DeclaredFeature) → feature_named s (class.Declared k) x ≡ Some f → HasOrigin s k x f
+OriginsStand =
+    WhereFaultless λ s. (k : ℕ) (x : List ℕ) (f : DeclaredFeature) → feature_named s (class.Declared k) x ≡ Some f →
+    HasOrigin s k x f
 
 -- The versions of a feature have one origin.
 abbrev pub VersionsShareOrigin : Type 0
-VersionsShareOrigin = WhereFaultless λ s. (k j : ℕ) (x : List ℕ) (f g : DeclaredFeature) → is_ancestor s k j ≡ true → feature_named s (class.Declared j) x ≡ Some f →
+VersionsShareOrigin =
+    WhereFaultless λ s. (k j : ℕ) (x : List ℕ) (f g : DeclaredFeature) → is_ancestor s k j ≡ true →
+    feature_named s (class.Declared j) x ≡ Some f →
     feature_named s (class.Declared k) x ≡ Some g → origin_of s g ≡ origin_of s f
 
 -- A version that isn't its origin has no contract of its own.
 abbrev pub OneContract : Type 0
-OneContract = (s : System) (f g : DeclaredFeature) → Redeclares s f g → (g ≡ f) ⊎ (has_no_contract g.feature.kind ≡ true)
+OneContract =
+    (s : System) (f g : DeclaredFeature) → Redeclares s f g → (g ≡ f) ⊎ (has_no_contract g.feature.kind ≡ true)
 
 -- The version of a routine is a routine with the same formals.
 abbrev pub RoutinesTakeSame : Type 0
-RoutinesTakeSame = (s : System) (f g : DeclaredFeature) (r : RoutineDeclaration) → Redeclares s f g → g.feature.kind ≡ Routine r → TakesSame g.feature.kind f.feature.kind
+RoutinesTakeSame =
+    (s : System) (f g : DeclaredFeature) (r : RoutineDeclaration) → Redeclares s f g → g.feature.kind ≡ Routine r →
+    TakesSame g.feature.kind f.feature.kind
 
--- The version of an attribute is that attribute, and what a version that is an attribute redeclares is that attribute too.
+-- The version of an attribute is that attribute, and what a version that is an attribute redeclares is that attribute
+-- too.
 abbrev pub AttributesStay : Type 0
-AttributesStay = (s : System) (f g : DeclaredFeature) (d : DeclaredType) → Redeclares s f g → (f.feature.kind ≡ Attribute d) ⊎ (g.feature.kind ≡ Attribute d) → g ≡ f
+AttributesStay =
+    (s : System) (f g : DeclaredFeature) (d : DeclaredType) → Redeclares s f g →
+    (f.feature.kind ≡ Attribute d) ⊎ (g.feature.kind ≡ Attribute d) → g ≡ f

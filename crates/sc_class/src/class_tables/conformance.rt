@@ -34,16 +34,6 @@ pub fn class_named(hierarchy: &Hierarchy, name: &str) -> Option<ClassId>
     }
 }
 
-/// Whether the values of a class aren't references.
-pub fn is_expanded(class: ClassId) -> bool
-    ensures { result ≡ conformance.is_expanded class }
-{
-    match class {
-        ClassId::Integer | ClassId::Boolean => true,
-        ClassId::Any | ClassId::None | ClassId::Declared(_) => false,
-    }
-}
-
 /// Whether the second class is an ancestor of the first. It goes up the ancestors.
 pub fn is_ancestor(hierarchy: &Hierarchy, class: usize, ancestor: usize) -> bool
     ensures { result ≡ conformance.is_ancestor (in_hierarchy hierarchy.now) class ancestor }
@@ -73,14 +63,14 @@ pub fn class_conforms(hierarchy: &Hierarchy, class: ClassId, other: ClassId) -> 
             ClassId::None | ClassId::Integer | ClassId::Boolean => false,
         },
         ClassId::Any => matches!(&other, ClassId::Any),
-        ClassId::None => !is_expanded(other),
+        ClassId::None => !other.is_expanded(),
         ClassId::Integer => matches!(&other, ClassId::Integer),
         ClassId::Boolean => matches!(&other, ClassId::Boolean),
     }
 }
 
-/// The class of a type that is declared with this name.
-fn type_class(hierarchy: &Hierarchy, name: &str) -> Option<ClassId>
+/// The class of a type that is declared with this name. It looks once by hash.
+pub fn type_class(hierarchy: &Hierarchy, name: &str) -> Option<ClassId>
     ensures { result ≡ conformance.type_class (in_hierarchy hierarchy.now) name.now }
 {
     if is_none(name) {

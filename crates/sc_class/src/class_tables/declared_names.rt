@@ -65,7 +65,8 @@ impl<'s> DeclaredNames<'s> {
     /// Adds the names of a class.
     #[tactic(auto, unfolding(sc_tree::specs::View::class_of))]
     fn add(&mut self, class: &'s Class) -> Result<(), AllocError>
-        ensures features { OnOk result (self.new.features ≡ self.old.features ++ declared_feature_names (class_of class.now)) }
+        ensures features { OnOk result (self.new.features ≡ self.old.features
+            ++ declared_feature_names (class_of class.now)) }
         ensures redefined { OnOk result (self.new.redefined ≡ self.old.redefined ++ redefined_by (class_of class.now)) }
         ensures creators { OnOk result (self.new.creators ≡ self.old.creators ++ created_by (class_of class.now)) }
     {

@@ -59,7 +59,8 @@ fn known_features<'s>(
     alloc: Global,
     outline: &Outline<'s>,
 ) -> Result<Vec<KnownFeatures<'s>>, AllocError>
-    ensures declarers { IfOk result (λ known. (k : ℕ) → k < length known.items → (x : List ℕ) → declarer_known known.items k x
+    ensures declarers { IfOk result (λ known. (k : ℕ) → k < length known.items → (x : List ℕ) →
+        declarer_known known.items k x
         ≡ declarer (system_of outline.now.hierarchy.system.now) k x) }
     ensures places { IfOk result (λ known. (k : ℕ) → k < length known.items → (x : List ℕ) → place_known known.items k x
         ≡ place_in (system_of outline.now.hierarchy.system.now) k x) }
@@ -266,7 +267,8 @@ impl<'s> Outline<'s> {
     /// The first place at which a feature of this name of the class at the number stands. It looks once by hash, and
     /// where a limit is passed up to twice for each ancestor.
     pub fn place(&self, class: usize, name: &str) -> Option<Span>
-        ensures { result ≡ place_among name.now (feature_names (features (system_of self.now.hierarchy.system.now) class)) }
+        ensures { result ≡ place_among name.now
+            (feature_names (features (system_of self.now.hierarchy.system.now) class)) }
     {
         match self.known.get(class) {
             None => self.place_above(class, name),
@@ -276,7 +278,8 @@ impl<'s> Outline<'s> {
 
     /// The same, by a walk up the ancestors.
     fn place_above(&self, class: usize, name: &str) -> Option<Span>
-        ensures { result ≡ place_among name.now (feature_names (features (system_of self.now.hierarchy.system.now) class)) }
+        ensures { result ≡ place_among name.now
+            (feature_names (features (system_of self.now.hierarchy.system.now) class)) }
     {
         let count = self.hierarchy.classes().len();
         self.place_from(Some(class), count, name)
@@ -286,7 +289,8 @@ impl<'s> Outline<'s> {
     /// redefine. It looks up to twice by hash for each ancestor.
     pub fn inherited_place(&self, class: usize, name: &str) -> Option<Span>
         ensures { let s = system_of self.now.hierarchy.system.now in
-            result ≡ place_among name.now (feature_names (not_redefined (redefined_names s class) (inherited_features s class))) }
+            result ≡ place_among name.now
+            (feature_names (not_redefined (redefined_names s class) (inherited_features s class))) }
     {
         if self.redefines(class, name) {
             return None;

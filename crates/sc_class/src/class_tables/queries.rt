@@ -62,6 +62,13 @@ impl<'s> Tables<'s> {
         conformance::class_named(&self.outline.hierarchy, name)
     }
 
+    /// The class of a type that is declared with this name: NONE is no such class. It looks once by hash.
+    pub fn type_class(&self, name: &str) -> Option<ClassId>
+        ensures { result ≡ conformance_specs.type_class (system_in self.now) name.now }
+    {
+        conformance::type_class(&self.outline.hierarchy, name)
+    }
+
     /// The text of the class at a number, at once.
     pub fn class(&self, number: usize) -> Option<&'s Class>
         ensures { option_map class_of (option_copied result) ≡ slice_get (system_in self.now).classes number }
@@ -137,7 +144,8 @@ impl<'s> Tables<'s> {
         alloc: Global,
         class: ClassId,
     ) -> Result<Vec<FeatureEntry<'s>>, AllocError>
-        ensures { IfOk result (λ features. map entry_of features.items ≡ by_class.features_of (system_in self.now) class) }
+        ensures { IfOk result (λ features. map entry_of features.items
+            ≡ by_class.features_of (system_in self.now) class) }
     {
         match class {
             ClassId::Declared(number) => features_of(alloc, &self.outline, number),
@@ -150,7 +158,8 @@ impl<'s> Tables<'s> {
 
     /// Adds the clauses of the invariant of the class at a number.
     fn add_invariant(&self, clauses: &mut Vec<&'s Clause>, number: usize) -> Result<(), AllocError>
-        ensures { OnOk result (map (λ c. clause_of c.now) clauses.new.items ≡ map (λ c. clause_of c.now) clauses.old.items
+        ensures { OnOk result (map (λ c. clause_of c.now) clauses.new.items
+            ≡ map (λ c. clause_of c.now) clauses.old.items
             ++ class_features.declared_invariant (system_in self.now) number) }
     {
         let Some(text) = self.class(number) else {

@@ -26,7 +26,8 @@ fn features_clash(
     declared: &[Feature],
 ) -> Result<Option<Span>, AllocError>
     ensures { let inherited = search.names_of_part Inherited (in_ancestry ancestry.now) ancestry.now.number in
-        IfOk result (λ found. found ≡ search.names_clash inherited [] (map (λ f. f.name) (map feature_of declared.now))) }
+        IfOk result (λ found. found
+        ≡ search.names_clash inherited [] (map (λ f. f.name) (map feature_of declared.now))) }
 {
     let inherited = Features::of(ancestry, Part::Inherited);
     let mut known = NameIndex::new(alloc);
@@ -68,7 +69,8 @@ fn class_clash(
     class: &Class,
 ) -> Result<Option<Span>, AllocError>
     requires { slice_get (in_ancestry ancestry.now).classes ancestry.now.number ≡ Some (class_of class.now) }
-    ensures { IfOk result (FindsFirstPlace (ClassClashes (in_ancestry ancestry.now) ancestry.now.number (class_of class.now))) }
+    ensures { IfOk result (FindsFirstPlace
+        (ClassClashes (in_ancestry ancestry.now) ancestry.now.number (class_of class.now))) }
 {
     let declared = features_clash(alloc, ancestry, &class.features)?;
     let inside = routines_clash(alloc, ancestry, &class.features)?;

@@ -1,6 +1,6 @@
 // Classes that inherit from themselves.
 
-ghost use Rattle.std.specs.Prelude.{◌≡◌, ◌<◌, ℕ, [], IfOk, OnOk, MatchBool, map, length, slice_get, unwrap_or};
+ghost use Rattle.std.specs.Prelude.{◌≡◌, ◌<◌, ◌↔◌, ℕ, [], IfOk, IsTrue, OnOk, map, length, slice_get, unwrap_or};
 ghost use Rattle.std.specs.Bool.{OnTrue};
 ghost use Rattle.sc_tree.specs.View.{parent_of};
 ghost use Rattle.sc_class.specs.Tables.Ancestors.{CycleAt, IsParent, LeadsTo, NameLeadsTo};
@@ -119,8 +119,8 @@ fn name_leads_to(
     parent: &Parent,
 ) -> Result<bool, AllocError>
     requires { AreInOrder (in_hierarchy hierarchy.now) ranks.now }
-    ensures { let way = NameLeadsTo (in_hierarchy hierarchy.now) number (parent_of parent.now) in
-        IfOk result (λ b. MatchBool b way (way → ⊥)) }
+    ensures { IfOk result (λ leads. IsTrue leads
+        ↔ NameLeadsTo (in_hierarchy hierarchy.now) number (parent_of parent.now)) }
 {
     match hierarchy.number(&parent.name.text) {
         None => Ok(false),
@@ -141,8 +141,7 @@ fn leads_to(
     start: usize,
 ) -> Result<bool, AllocError>
     requires { start < length hierarchy.now.system.now.classes.items }
-    ensures { let way = LeadsTo (in_hierarchy hierarchy.now) target start in
-        IfOk result (λ b. MatchBool b way (way → ⊥)) }
+    ensures { IfOk result (λ leads. IsTrue leads ↔ LeadsTo (in_hierarchy hierarchy.now) target start) }
 {
     let mut search = Search::new(alloc, hierarchy.classes().len())?;
     search.see(start)?;

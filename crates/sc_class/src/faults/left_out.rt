@@ -38,7 +38,8 @@ fn first_exclusion(one: Option<Exclusion>, other: Option<Exclusion>) -> Option<E
 
 /// What is left out of the language in one of the classes.
 pub fn left_out(hierarchy: &Hierarchy) -> Option<Exclusion>
-    ensures { FindsFirstExclusion (λ x. Any (λ c. left_out.ClassLeftOut c x) (in_hierarchy hierarchy.now).classes) result }
+    ensures { FindsFirstExclusion
+        (λ x. Any (λ c. left_out.ClassLeftOut c x) (in_hierarchy hierarchy.now).classes) result }
 {
     let mut found = None;
     let classes = hierarchy.classes();

@@ -1,7 +1,6 @@
 // How many classes and features there are.
 
-ghost use Rattle.std.specs.Prelude.{◌≡◌, IfOk};
-ghost use Rattle.std.specs.Bool.{MatchBool};
+ghost use Rattle.std.specs.Prelude.{◌≡◌, ◌↔◌, IfOk, IsTrue};
 ghost use Rattle.sc_class.specs.Faults.Limits as limits;
 ghost use Rattle.sc_class.specs.Internal.Systems.{in_outline};
 
@@ -38,8 +37,7 @@ fn has_large_class(alloc: Global, outline: &Outline, count: usize) -> Result<boo
 
 /// Whether a limit is passed.
 pub fn passes_limit(alloc: Global, outline: &Outline) -> Result<bool, AllocError>
-    ensures { let passes = limits.PassesLimit (in_outline outline.now) in
-        IfOk result (λ passed. MatchBool passed passes (passes → ⊥)) }
+    ensures { IfOk result (λ passed. IsTrue passed ↔ limits.PassesLimit (in_outline outline.now)) }
 {
     let classes = outline.hierarchy.classes();
     let count = classes.len();

@@ -1,7 +1,6 @@
 // How large routines are.
 
-ghost use Rattle.std.specs.Prelude.{◌≡◌, ◌+◌, Any, map, min, true};
-ghost use Rattle.std.specs.Bool.{MatchBool};
+ghost use Rattle.std.specs.Prelude.{◌≡◌, ◌+◌, ◌↔◌, Any, IsTrue, map, min, true};
 ghost use Rattle.sc_tree.specs.View.{branches_of, feature_of, instr_of, instrs_of, kind_of};
 ghost use Rattle.sc_class.specs.Faults.Limits as limits;
 ghost use Rattle.sc_class.specs.Internal.Systems.{in_hierarchy};
@@ -19,9 +18,8 @@ const MAX_HEADS: usize = 16;
 /// Whether one of the routines has too many formals, locals, or names of a block. It goes over each of
 /// their instructions twice.
 pub fn has_large_routine(hierarchy: &Hierarchy) -> bool
-    ensures { let s = in_hierarchy hierarchy.now in
-        let large = Any (λ c. Any (λ f. limits.is_large f.kind ≡ true) c.features) s.classes in
-        MatchBool result large (large → ⊥) }
+    ensures { IsTrue result
+        ↔ Any (λ c. Any (λ f. limits.is_large f.kind ≡ true) c.features) (in_hierarchy hierarchy.now).classes }
 {
     let classes = hierarchy.classes();
     for class in classes {
@@ -34,8 +32,7 @@ pub fn has_large_routine(hierarchy: &Hierarchy) -> bool
 
 /// Whether one of the features is such a routine.
 fn has_large_among(features: &[Feature]) -> bool
-    ensures { let large = Any (λ f. limits.is_large f.kind ≡ true) (map feature_of features.now) in
-        MatchBool result large (large → ⊥) }
+    ensures { IsTrue result ↔ Any (λ f. limits.is_large f.kind ≡ true) (map feature_of features.now) }
 {
     for feature in features {
         if is_large(&feature.kind) {

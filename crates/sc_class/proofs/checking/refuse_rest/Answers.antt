@@ -1,7 +1,6 @@
-use Rattle.std.proofs.Common.{Bool, inr, subst}
-use Rattle.std.specs.Bool.{MatchBool}
+use Rattle.std.proofs.Common.{inr}
+use Rattle.std.proofs.lemmas.Bool.{iff_false}
 use Rattle.sc_tree.specs.View.{system_of}
-use Rattle.sc_class.specs.Faults.Limits.{PassesLimit}
 use Rattle.sc_class.specs.Faults.ClassRules.{limit, left_out}
 use Rattle.sc_class.specs.View.{root_of}
 use Rattle.sc_class.proofs.TableLemmas.{least_7, least_8, first_8}
@@ -9,8 +8,7 @@ use Rattle.sc_class.proofs.checking.refuse_rest.Goals as goal
 
 pub returns-then-branch-clause-fault : goal.returns-then-branch-clause-fault
 returns-then-branch-clause-fault c =
-    let passes = PassesLimit (system_of c.args.outline.now.hierarchy.system.now) in
-    inr (limit (subst (λ (b : Bool). MatchBool b passes (passes → ⊥)) c.if-branch.true c.in_ok-passes_limit.ensures))
+    inr (limit (c.in_ok-passes_limit.ensures.0 c.if-branch.true))
 
 pub returns-in-Some-clause-fault : goal.returns-in-Some-clause-fault
 returns-in-Some-clause-fault c = inr (left_out {x = c.in-Some.excluded} c.in-Some.ensures.0)
@@ -21,8 +19,13 @@ returns-then-branch-clause-first c = inr (least_7 (system_of c.args.outline.now.
 pub returns-in-Some-clause-first : goal.returns-in-Some-clause-first
 returns-in-Some-clause-first c =
     let s = system_of c.args.outline.now.hierarchy.system.now in
-    let passes = PassesLimit s in
-    inr (λ a b. least_8 s (root_of c.args.root.now) a b (subst (λ (b : Bool). MatchBool b passes (passes → ⊥)) c.if-branch.false c.in_ok-passes_limit.ensures) c.in-Some.excluded.what c.in-Some.excluded.span)
+    inr (λ a b. least_8 s (root_of c.args.root.now) a b (iff_false c.in_ok-passes_limit.ensures c.if-branch.false) c.in-Some.excluded.what c.in-Some.excluded.span)
 
 pub returns-in-Some-clause-place : goal.returns-in-Some-clause-place
 returns-in-Some-clause-place c = first_8 (system_of c.args.outline.now.hierarchy.system.now) (root_of c.args.root.now) c.in-Some.excluded c.in-Some.ensures
+
+pub returns-clause-none : goal.returns-clause-none
+returns-clause-none c = record {
+  within_limits = iff_false c.in_ok-passes_limit.ensures c.if-branch.false;
+  none_left_out = c.in_default.ensures;
+}

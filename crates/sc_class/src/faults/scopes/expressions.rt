@@ -10,7 +10,7 @@ use crate::faults::scopes::features::Features;
 use crate::faults::scopes::names::{declare, name_clash};
 use crate::names::NameIndex;
 use sc_text::Span;
-use sc_tree::{BinaryOperator, Clause, Expr, Head};
+use sc_tree::{Clause, Expr, Head};
 use std::alloc::AllocError;
 
 /// In an expression.
@@ -85,13 +85,6 @@ pub fn in_values(features: &Features, known: &NameIndex, heads: &[Head]) -> Opti
     found
 }
 
-/// Whether the object tests of the left operand are known in the right one.
-fn is_and_then(operator: BinaryOperator) -> bool
-    ensures { result ≡ search.is_and_then operator }
-{
-    matches!(operator, BinaryOperator::AndThen)
-}
-
 /// In the condition of an `if`, whose object tests are known behind it, and behind the left operand of
 /// an `and then` those of that operand.
 #[tactic(auto, unfolding(crate::specs::Internal::ScopeSearch::condition_clash, sc_tree::specs::View::expr_of))]
@@ -104,7 +97,7 @@ pub fn in_condition<'s>(
     ensures added { OnOk result (known.new ≡ known.old ++ tests_of (expr_of e.now)) }
 {
     match e {
-        Expr::Binary(_, operator, left, right) if is_and_then(*operator) => {
+        Expr::Binary(_, operator, left, right) if operator.is_and_then() => {
             let left = in_condition(features, known, left)?;
             let right = in_condition(features, known, right)?;
             Ok(first_place(left, right))

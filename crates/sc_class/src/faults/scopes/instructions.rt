@@ -36,7 +36,8 @@ pub fn in_instruction<'s>(
     known: &mut NameIndex<'s>,
     instruction: &'s Instr,
 ) -> Result<Option<Span>, AllocError>
-    ensures found { IfOk result (λ place. place ≡ search.instr_clash features.now known.old (instr_of instruction.now)) }
+    ensures found { IfOk result (λ place. place
+        ≡ search.instr_clash features.now known.old (instr_of instruction.now)) }
     ensures kept { OnOk result (known.new ≡ known.old) }
 {
     match instruction {
@@ -115,7 +116,8 @@ pub fn in_instructions<'s>(
     known: &mut NameIndex<'s>,
     instructions: &'s [Instr],
 ) -> Result<Option<Span>, AllocError>
-    ensures found { IfOk result (λ place. place ≡ search.instrs_clash features.now known.old (instrs_of instructions.now)) }
+    ensures found { IfOk result (λ place. place
+        ≡ search.instrs_clash features.now known.old (instrs_of instructions.now)) }
     ensures kept { OnOk result (known.new ≡ known.old) }
 {
     let mut found = None;
@@ -133,7 +135,8 @@ fn in_branches<'s>(
     known: &mut NameIndex<'s>,
     branches: &'s [Branch],
 ) -> Result<Option<Span>, AllocError>
-    ensures found { IfOk result (λ place. place ≡ search.branches_clash features.now known.old (branches_of branches.now)) }
+    ensures found { IfOk result (λ place. place
+        ≡ search.branches_clash features.now known.old (branches_of branches.now)) }
     ensures kept { OnOk result (known.new ≡ known.old) }
 {
     let mut found = None;
