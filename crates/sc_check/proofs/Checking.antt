@@ -32,7 +32,7 @@ first s pure (Ok u) i p = tt
 first s pure (Err OutOfMemory) i p = tt
 first s pure (Err (Refused f)) i p = record { pure = pure; tells = i; is_met = p }
 
--- want of memory is true of any system
+-- that memory ran out is true of any system
 pub memory_is_true : (s : System) (e : CheckFault) → e ≡ OutOfMemory → IsTrueOf s e
 memory_is_true s OutOfMemory q = tt
 memory_is_true s (Refused f) q = cc
@@ -41,7 +41,7 @@ pub memory_is_first : (s : System) (e : CheckFault) → e ≡ OutOfMemory → Is
 memory_is_first s OutOfMemory q = tt
 memory_is_first s (Refused f) q = cc
 
--- a well-formed system is refused for want of memory alone
+-- a well-formed system is refused where memory runs out alone
 pub memory_alone : (s : System) → WellFormed s → (e : CheckFault) → IsTrueOf s e → e ≡ OutOfMemory
 memory_alone s w OutOfMemory t = refl
 memory_alone s w (Refused f) t = absurd (w f.rule f.span t)

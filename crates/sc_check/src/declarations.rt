@@ -44,7 +44,8 @@ fn judge_declarations(
     formals: &[Declaration],
     declarations: &[Declaration],
 ) -> Result<(), CheckFault>
-    ensures { Passes (judging_system.judge_declarations (system_in tables.now) (map declaration_of formals.now) (map declaration_of declarations.now)) result }
+    ensures { Passes (judging_system.judge_declarations (system_in tables.now) (map declaration_of formals.now)
+        (map declaration_of declarations.now)) result }
 {
     for declaration in declarations {
         judge_type(tables, formals, &declaration.declared_type)?;
@@ -84,7 +85,8 @@ fn judge_text<'s>(
     body: &'s [Instr],
     postcondition: &[Clause],
 ) -> Result<(), CheckFault>
-    ensures { Passes (parts.judge_text (routine_in routine.now) (map clause_of precondition.now) (map declaration_of locals.now) (instrs_of body.now) (map clause_of postcondition.now)) result }
+    ensures { Passes (parts.judge_text (routine_in routine.now) (map clause_of precondition.now)
+        (map declaration_of locals.now) (instrs_of body.now) (map clause_of postcondition.now)) result }
 {
     let mut names = Vec::new(routine.alloc);
     add_formals(routine.tables, routine.formals, &mut names)?;
@@ -105,7 +107,8 @@ impl<'t, 's> ClassText<'t, 's> {
         declared: &Option<DeclaredType>,
     ) -> RoutineContext<'t, 's>
         ensures { routine_in result
-            ≡ spec.routine_context (system_in self.now.tables.now) (is_marked self.now.purity.now) self.now.class (map declaration_of formals.now) (type_if_any declared.now) }
+            ≡ spec.routine_context (system_in self.now.tables.now) (is_marked self.now.purity.now) self.now.class
+            (map declaration_of formals.now) (type_if_any declared.now) }
     {
         RoutineContext {
             alloc: self.alloc,
@@ -120,7 +123,8 @@ impl<'t, 's> ClassText<'t, 's> {
     /// Judges a routine: its types, precondition, locals, body and postcondition.
     #[tactic(auto, unfolding(sc_tree::specs::View::kind_of))]
     fn judge_routine(&self, declared: &'s Routine) -> Result<(), CheckFault>
-        ensures { Passes (judging_system.judge_feature (system_in self.now.tables.now) (is_marked self.now.purity.now) self.now.class (plain.Routine (routine_of declared.now))) result }
+        ensures { Passes (judging_system.judge_feature (system_in self.now.tables.now) (is_marked self.now.purity.now)
+            self.now.class (plain.Routine (routine_of declared.now))) result }
     {
         judge_declarations(self.tables, &declared.formals, &declared.formals)?;
         judge_result_type(self.tables, &declared.result_type)?;
@@ -137,7 +141,8 @@ impl<'t, 's> ClassText<'t, 's> {
     /// Judges a feature.
     #[tactic(auto, unfolding(sc_tree::specs::View::kind_of))]
     fn judge_feature(&self, kind: &'s FeatureKind) -> Result<(), CheckFault>
-        ensures { Passes (judging_system.judge_feature (system_in self.now.tables.now) (is_marked self.now.purity.now) self.now.class (kind_of kind.now)) result }
+        ensures { Passes (judging_system.judge_feature (system_in self.now.tables.now) (is_marked self.now.purity.now)
+            self.now.class (kind_of kind.now)) result }
     {
         match kind {
             FeatureKind::Attribute(declared) => judge_type(self.tables, &[], declared),
@@ -148,7 +153,8 @@ impl<'t, 's> ClassText<'t, 's> {
     /// Judges a clause of the invariant.
     #[tactic(auto, unfolding(sc_tree::specs::View::clause_of))]
     fn judge_invariant(&self, clause: &Clause) -> Result<(), CheckFault>
-        ensures { Passes (judging_system.judge_invariant (system_in self.now.tables.now) (is_marked self.now.purity.now) self.now.class (clause_of clause.now)) result }
+        ensures { Passes (judging_system.judge_invariant (system_in self.now.tables.now)
+            (is_marked self.now.purity.now) self.now.class (clause_of clause.now)) result }
     {
         let is_formula = is_formula(self.tables, self.class, &clause.condition);
         let routine = self.context(&[], &None);
@@ -159,7 +165,8 @@ impl<'t, 's> ClassText<'t, 's> {
     /// Judges a name that the class lists under `create`.
     #[tactic(auto, unfolding(sc_tree::specs::View::feature_of))]
     fn judge_creator(&self, name: &Name) -> Result<(), CheckFault>
-        ensures { Passes (judging_system.judge_creator (system_in self.now.tables.now) self.now.class (name_of name.now)) result }
+        ensures { Passes (judging_system.judge_creator (system_in self.now.tables.now) self.now.class
+            (name_of name.now)) result }
     {
         match self
             .tables
@@ -172,7 +179,8 @@ impl<'t, 's> ClassText<'t, 's> {
 
     /// Judges the names that the class lists under `create`, one after the other.
     fn judge_creators(&self, names: &[Name]) -> Result<(), CheckFault>
-        ensures { Passes (judging.judge_each (judging_system.judge_creator (system_in self.now.tables.now) self.now.class) (map name_of names.now)) result }
+        ensures { Passes (judging.judge_each (judging_system.judge_creator (system_in self.now.tables.now)
+            self.now.class) (map name_of names.now)) result }
     {
         for name in names {
             self.judge_creator(name)?;
@@ -183,7 +191,8 @@ impl<'t, 's> ClassText<'t, 's> {
     /// Judges the features of the class, one after the other.
     #[tactic(auto, unfolding(sc_tree::specs::View::feature_of))]
     fn judge_features(&self, features: &'s [Feature]) -> Result<(), CheckFault>
-        ensures { Passes (judging.judge_each (parts.judge_declared (system_in self.now.tables.now) (is_marked self.now.purity.now) self.now.class) (map feature_of features.now)) result }
+        ensures { Passes (judging.judge_each (parts.judge_declared (system_in self.now.tables.now)
+            (is_marked self.now.purity.now) self.now.class) (map feature_of features.now)) result }
     {
         for feature in features {
             self.judge_feature(&feature.kind)?;
@@ -193,7 +202,8 @@ impl<'t, 's> ClassText<'t, 's> {
 
     /// Judges the clauses of the invariant, one after the other.
     fn judge_invariants(&self, clauses: &[Clause]) -> Result<(), CheckFault>
-        ensures { Passes (judging.judge_each (judging_system.judge_invariant (system_in self.now.tables.now) (is_marked self.now.purity.now) self.now.class) (map clause_of clauses.now)) result }
+        ensures { Passes (judging.judge_each (judging_system.judge_invariant (system_in self.now.tables.now)
+            (is_marked self.now.purity.now) self.now.class) (map clause_of clauses.now)) result }
     {
         for clause in clauses {
             self.judge_invariant(clause)?;
@@ -204,7 +214,8 @@ impl<'t, 's> ClassText<'t, 's> {
     /// Judges the text of the class: its `create` list, its features, then its invariant.
     #[tactic(auto, unfolding(sc_tree::specs::View::class_of))]
     pub fn judge_class(&self, text: &'s Class) -> Result<(), CheckFault>
-        ensures { Passes (judging_system.judge_class (system_in self.now.tables.now) (is_marked self.now.purity.now) self.now.class (class_of text.now)) result }
+        ensures { Passes (judging_system.judge_class (system_in self.now.tables.now) (is_marked self.now.purity.now)
+            self.now.class (class_of text.now)) result }
     {
         self.judge_creators(&text.creators)?;
         self.judge_features(&text.features)?;

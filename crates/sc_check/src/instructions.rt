@@ -2,6 +2,7 @@
 
 ghost use Rattle.std.specs.Prelude.{◌≡◌, OnOk, map};
 ghost use Rattle.sc_tree.specs.View.{branches_of, expr_of, exprs_of, head_of, instr_of, instrs_of, name_of, target_of};
+ghost use Rattle.sc_class.specs.SystemIn.{system_in};
 ghost use Rattle.sc_rules.specs.JudgingText as judging_text;
 ghost use Rattle.sc_typing.specs.Views.{routine_in, entity_of};
 ghost use Rattle.sc_typing.specs.Judges.{Passes};
@@ -11,6 +12,8 @@ use crate::instructions::assignment::{judge_assignment, judge_variable};
 use crate::instructions::blocks::judge_heads;
 use crate::instructions::conditions::{judge_clauses, judge_condition, judge_if_condition};
 use crate::instructions::creation::judge_creation;
+use sc_class::Tables;
+use sc_proctype::{EntityType, conforms};
 use sc_rules::{Context, Use};
 use sc_tree::{Branch, Call, Expr, Head, Instr};
 use sc_typing::{CheckFault, Entity, RoutineContext, variable_span};
@@ -20,13 +23,27 @@ pub mod blocks;
 pub mod conditions;
 pub mod creation;
 
+/// Whether what has a type conforms.
+fn conforms_if_any(tables: &Tables, actual: Option<EntityType>, to: Option<EntityType>) -> bool
+    ensures { result ≡ judging_text.conforms_if_any (system_in tables.now) actual to }
+{
+    match actual {
+        None => true,
+        Some(actual) => match to {
+            None => true,
+            Some(to) => conforms(tables, actual, to),
+        },
+    }
+}
+
 /// Judges a call that is an instruction.
 fn judge_call<'s>(
     routine: &RoutineContext<'_, 's>,
     names: &[Entity<'s>],
     call: &Call,
 ) -> Result<(), CheckFault>
-    ensures { Passes (parts.judge_command (routine_in routine.now) (map entity_of names.now) (target_of call.now.target) (name_of call.now.name) (exprs_of call.now.actuals.items)) result }
+    ensures { Passes (parts.judge_command (routine_in routine.now) (map entity_of names.now)
+        (target_of call.now.target) (name_of call.now.name) (exprs_of call.now.actuals.items)) result }
 {
     routine.call(Context::Body, Use::Instruction, names, call)?;
     Ok(())
@@ -40,7 +57,8 @@ fn judge_instruction<'s>(
     names: &mut Vec<Entity<'s>>,
     instruction: &'s Instr,
 ) -> Result<(), CheckFault>
-    ensures judged { Passes (judging_text.judge_instr (routine_in routine.now) (map entity_of names.old.items) (instr_of instruction.now)) result }
+    ensures judged { Passes (judging_text.judge_instr (routine_in routine.now) (map entity_of names.old.items)
+        (instr_of instruction.now)) result }
     ensures kept { OnOk result (map entity_of names.new.items ≡ map entity_of names.old.items) }
 {
     match instruction {
@@ -74,7 +92,8 @@ fn judge_branch<'s>(
     body: &'s [Instr],
     condition: &'s Expr,
 ) -> Result<(), CheckFault>
-    ensures judged { Passes (parts.judge_branch (routine_in routine.now) (map entity_of names.old.items) (expr_of condition.now) (instrs_of body.now)) result }
+    ensures judged { Passes (parts.judge_branch (routine_in routine.now) (map entity_of names.old.items)
+        (expr_of condition.now) (instrs_of body.now)) result }
     ensures kept { OnOk result (map entity_of names.new.items ≡ map entity_of names.old.items) }
 {
     let known = names.len();
@@ -92,7 +111,8 @@ fn judge_block<'s>(
     heads: &'s [Head],
     body: &'s [Instr],
 ) -> Result<(), CheckFault>
-    ensures judged { Passes (parts.judge_block (routine_in routine.now) (map entity_of names.old.items) (map head_of heads.now) (instrs_of body.now)) result }
+    ensures judged { Passes (parts.judge_block (routine_in routine.now) (map entity_of names.old.items)
+        (map head_of heads.now) (instrs_of body.now)) result }
     ensures kept { OnOk result (map entity_of names.new.items ≡ map entity_of names.old.items) }
 {
     let outer = names.len();
@@ -110,7 +130,8 @@ pub fn judge_instructions<'s>(
     names: &mut Vec<Entity<'s>>,
     instructions: &'s [Instr],
 ) -> Result<(), CheckFault>
-    ensures judged { Passes (judging_text.judge_instrs (routine_in routine.now) (map entity_of names.old.items) (instrs_of instructions.now)) result }
+    ensures judged { Passes (judging_text.judge_instrs (routine_in routine.now) (map entity_of names.old.items)
+        (instrs_of instructions.now)) result }
     ensures kept { OnOk result (map entity_of names.new.items ≡ map entity_of names.old.items) }
 {
     for instruction in instructions {
@@ -127,7 +148,8 @@ fn judge_branches<'s>(
     names: &mut Vec<Entity<'s>>,
     branches: &'s [Branch],
 ) -> Result<(), CheckFault>
-    ensures judged { Passes (judging_text.judge_branches (routine_in routine.now) (map entity_of names.old.items) (branches_of branches.now)) result }
+    ensures judged { Passes (judging_text.judge_branches (routine_in routine.now) (map entity_of names.old.items)
+        (branches_of branches.now)) result }
     ensures kept { OnOk result (map entity_of names.new.items ≡ map entity_of names.old.items) }
 {
     for branch in branches {

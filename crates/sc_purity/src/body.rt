@@ -1,8 +1,9 @@
 // What is done in instructions that bears on purity.
 
-ghost use Rattle.std.specs.Prelude.{◌≡◌, map, IfErr, IfOk, OnOk};
+ghost use Rattle.std.specs.Prelude.{◌≡◌, false, map, IfErr, IfOk, OnOk};
 ghost use Rattle.sc_tree.specs.View.{branches_of, clause_of, creation_call_of, expr_of, exprs_of, head_of, instr_of, instrs_of, name_of, target_of};
 ghost use Rattle.sc_rules.specs.JudgingPurity as spec;
+ghost use Rattle.sc_rules.specs.Positions as positions;
 ghost use Rattle.sc_rules.specs.declared.position.Context.TheVariants.{Body};
 ghost use Rattle.sc_typing.specs.Views.{routine_in, entity_of};
 ghost use Rattle.sc_purity.specs.Internal.Effects.{Adds, effects_in_call, effects_of_create, effects_of_branch, effects_of_heads_and_body};
@@ -35,7 +36,9 @@ fn add_command<'s>(
     call: &'s Call,
     effects: &mut Vec<Effect<'s>>,
 ) -> Result<(), CheckFault>
-    ensures { Adds effects.old.items effects.new.items (effects_in_call (routine_in routine.now) Body (map entity_of names.now) (target_of call.now.target) (name_of call.now.name) (exprs_of call.now.actuals.items)) result }
+    ensures { Adds effects.old.items effects.new.items
+        (effects_in_call (routine_in routine.now) Body (map entity_of names.now) (target_of call.now.target)
+        (name_of call.now.name) (exprs_of call.now.actuals.items)) result }
 {
     let target = add_target(routine, Context::Body, names, &call.target, effects)?;
     add_actuals(routine, Context::Body, names, &call.actuals, effects)?;
@@ -51,7 +54,8 @@ fn add_creation<'s>(
     call: &'s Option<CreationCall>,
     effects: &mut Vec<Effect<'s>>,
 ) -> Result<(), CheckFault>
-    ensures { Adds effects.old.items effects.new.items (effects_of_create (routine_in routine.now) (map entity_of names.now) (creation_call_of call.now)) result }
+    ensures { Adds effects.old.items effects.new.items
+        (effects_of_create (routine_in routine.now) (map entity_of names.now) (creation_call_of call.now)) result }
 {
     add_side_effect_if(effects, true)?;
     match call {
@@ -71,7 +75,9 @@ fn add_clauses<'s>(
     clauses: &'s [Clause],
     effects: &mut Vec<Effect<'s>>,
 ) -> Result<(), CheckFault>
-    ensures { Adds effects.old.items effects.new.items (spec.effects_of_clauses (routine_in routine.now) (map entity_of names.now) (map clause_of clauses.now)) result }
+    ensures { Adds effects.old.items effects.new.items
+        (spec.effects_of_clauses (routine_in routine.now) (map entity_of names.now)
+        (map clause_of clauses.now)) result }
 {
     for clause in clauses {
         let _ = add_expression(
@@ -96,9 +102,11 @@ fn add_heads<'s>(
     heads: &'s [Head],
     effects: &mut Vec<Effect<'s>>,
 ) -> Result<(), CheckFault>
-    ensures effects { Adds effects.old.items effects.new.items (spec.effects_of_heads (routine_in routine.now) (map entity_of names.now) (map head_of heads.now)) result }
+    ensures effects { Adds effects.old.items effects.new.items
+        (spec.effects_of_heads (routine_in routine.now) (map entity_of names.now) (map head_of heads.now)) result }
     ensures reserved { OnOk result (map entity_of known.new.items
-        ≡ spec.reserved_anyway (routine_in routine.now) (map entity_of names.now) (map entity_of known.old.items) (map head_of heads.now)) }
+        ≡ spec.reserved_anyway (routine_in routine.now) (map entity_of names.now) (map entity_of known.old.items)
+        (map head_of heads.now)) }
 {
     for head in heads {
         let value = add_expression(
@@ -129,7 +137,9 @@ fn add_branch_effects<'s>(
     condition: &'s Expr,
     effects: &mut Vec<Effect<'s>>,
 ) -> Result<(), CheckFault>
-    ensures { Adds effects.old.items effects.new.items (effects_of_branch (routine_in routine.now) (map entity_of names.now) (expr_of condition.now) (instrs_of body.now)) result }
+    ensures { Adds effects.old.items effects.new.items
+        (effects_of_branch (routine_in routine.now) (map entity_of names.now) (expr_of condition.now)
+        (instrs_of body.now)) result }
 {
     let mut known = copied(routine.alloc, names)?;
     add_condition(routine, Context::Body, &mut known, condition, effects)?;
@@ -146,7 +156,9 @@ fn add_branches<'s>(
     branches: &'s [Branch],
     effects: &mut Vec<Effect<'s>>,
 ) -> Result<(), CheckFault>
-    ensures { Adds effects.old.items effects.new.items (spec.effects_of_branches (routine_in routine.now) (map entity_of names.now) (branches_of branches.now)) result }
+    ensures { Adds effects.old.items effects.new.items
+        (spec.effects_of_branches (routine_in routine.now) (map entity_of names.now)
+        (branches_of branches.now)) result }
 {
     for branch in branches {
         add_branch_effects(routine, names, &branch.body, &branch.condition, effects)?;
@@ -164,7 +176,9 @@ fn add_block<'s>(
     body: &'s [Instr],
     effects: &mut Vec<Effect<'s>>,
 ) -> Result<(), CheckFault>
-    ensures { Adds effects.old.items effects.new.items (effects_of_heads_and_body (routine_in routine.now) (map entity_of names.now) (map head_of heads.now) (instrs_of body.now)) result }
+    ensures { Adds effects.old.items effects.new.items
+        (effects_of_heads_and_body (routine_in routine.now) (map entity_of names.now) (map head_of heads.now)
+        (instrs_of body.now)) result }
 {
     let mut known = copied(routine.alloc, names)?;
     add_heads(routine, names, &mut known, heads, effects)?;
@@ -181,11 +195,29 @@ pub fn add_instructions<'s>(
     instructions: &'s [Instr],
     effects: &mut Vec<Effect<'s>>,
 ) -> Result<(), CheckFault>
-    ensures { Adds effects.old.items effects.new.items (spec.effects_of_instrs (routine_in routine.now) (map entity_of names.now) (instrs_of instructions.now)) result }
+    ensures { Adds effects.old.items effects.new.items
+        (spec.effects_of_instrs (routine_in routine.now) (map entity_of names.now)
+        (instrs_of instructions.now)) result }
 {
     for instruction in instructions {
         add_instruction(routine, names, instruction, effects)?;
     }
+    Ok(())
+}
+
+/// Adds what is done in an expression of a body.
+fn add_value<'s>(
+    routine: &RoutineContext<'_, 's>,
+    position: Position,
+    names: &[Entity<'s>],
+    e: &'s Expr,
+    effects: &mut Vec<Effect<'s>>,
+) -> Result<(), CheckFault>
+    requires { positions.is_condition position ≡ false }
+    ensures { Adds effects.old.items effects.new.items
+        (spec.effects (routine_in routine.now) Body position (map entity_of names.now) (expr_of e.now)) result }
+{
+    let _ = add_expression(routine, Context::Body, position, names, e, effects)?;
     Ok(())
 }
 
@@ -198,19 +230,13 @@ fn add_instruction<'s>(
     instruction: &'s Instr,
     effects: &mut Vec<Effect<'s>>,
 ) -> Result<(), CheckFault>
-    ensures { Adds effects.old.items effects.new.items (spec.effects_of_instr (routine_in routine.now) (map entity_of names.now) (instr_of instruction.now)) result }
+    ensures { Adds effects.old.items effects.new.items
+        (spec.effects_of_instr (routine_in routine.now) (map entity_of names.now) (instr_of instruction.now)) result }
 {
     match instruction {
         Instr::Assign(_, variable, value) => {
             add_side_effect_if(effects, is_to_attribute(routine.assignee(names, variable)))?;
-            let _ = add_expression(
-                routine,
-                Context::Body,
-                Position::Source,
-                names,
-                value,
-                effects,
-            )?;
+            add_value(routine, Position::Source, names, value, effects)?;
             Ok(())
         }
         Instr::PrintText(_, _) => add_side_effect_if(effects, true),
@@ -224,14 +250,7 @@ fn add_instruction<'s>(
         }
         Instr::Loop(_, initial, condition, body) => {
             add_instructions(routine, names, initial, effects)?;
-            let _ = add_expression(
-                routine,
-                Context::Body,
-                Position::Plain,
-                names,
-                condition,
-                effects,
-            )?;
+            add_value(routine, Position::Plain, names, condition, effects)?;
             add_instructions(routine, names, body, effects)?;
             Ok(())
         }

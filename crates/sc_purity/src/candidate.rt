@@ -58,7 +58,8 @@ fn add_body<'s>(
     declared: &'s Routine,
     effects: &mut Vec<Effect<'s>>,
 ) -> Result<(), CheckFault>
-    ensures { Adds effects.old.items effects.new.items (spec.effects_of_kind (system_in tables.now) class (plain.Routine (routine_of declared.now))) result }
+    ensures { Adds effects.old.items effects.new.items
+        (spec.effects_of_kind (system_in tables.now) class (plain.Routine (routine_of declared.now))) result }
 {
     let mut names = Vec::new(alloc);
     add_formals(tables, &declared.formals, &mut names)?;
@@ -83,7 +84,8 @@ fn add_kind<'s>(
     kind: &'s FeatureKind,
     effects: &mut Vec<Effect<'s>>,
 ) -> Result<(), CheckFault>
-    ensures { Adds effects.old.items effects.new.items (spec.effects_of_kind (system_in tables.now) class (kind_of kind.now)) result }
+    ensures { Adds effects.old.items effects.new.items
+        (spec.effects_of_kind (system_in tables.now) class (kind_of kind.now)) result }
 {
     match kind {
         FeatureKind::Attribute(_) => Ok(()),

@@ -40,7 +40,8 @@ fn add_routine<'s>(
     effects: &mut Vec<Effect<'s>>,
     routine: Option<FeatureEntry<'s>>,
 ) -> Result<(), CheckFault>
-    ensures { Adds effects.old.items effects.new.items (spec.call_if_any (option_map (λ e. names_specs.routine_of (entry_of e)) routine.entry)) result }
+    ensures { Adds effects.old.items effects.new.items
+        (spec.call_if_any (option_map (λ e. names_specs.routine_of (entry_of e)) routine.entry)) result }
 {
     let Some(routine) = routine else {
         return Ok(());
@@ -66,7 +67,8 @@ fn add_meaning<'s>(
     effects: &mut Vec<Effect<'s>>,
     meaning: &Meaning<'s>,
 ) -> Result<(), CheckFault>
-    ensures { Adds effects.old.items effects.new.items (spec.effects_of_meaning (meaning_in (system_in routine.now.tables.now) meaning.now)) result }
+    ensures { Adds effects.old.items effects.new.items
+        (spec.effects_of_meaning (meaning_in (system_in routine.now.tables.now) meaning.now)) result }
 {
     match meaning {
         Meaning::Unknown | Meaning::TargetUntyped => Ok(()),
@@ -88,9 +90,12 @@ pub fn add_named<'s>(
     receiver: Option<EntityType>,
     effects: &mut Vec<Effect<'s>>,
 ) -> Result<Meaning<'s>, CheckFault>
-    ensures effects { Adds effects.old.items effects.new.items (spec.effects_of_name (routine_in routine.now) (map entity_of names.now) (target_of call.now.target) receiver (name_of call.now.name)) result }
+    ensures effects { Adds effects.old.items effects.new.items
+        (spec.effects_of_name (routine_in routine.now) (map entity_of names.now) (target_of call.now.target) receiver
+        (name_of call.now.name)) result }
     ensures meaning { IfOk result (λ m. meaning_in (system_in routine.now.tables.now) m
-        ≡ names_specs.meaning_of (routine_in routine.now) (map entity_of names.now) (target_of call.now.target) receiver (name_of call.now.name)) }
+        ≡ names_specs.meaning_of (routine_in routine.now) (map entity_of names.now) (target_of call.now.target)
+        receiver (name_of call.now.name)) }
 {
     let meaning = routine.meaning_of(names, &call.target, receiver, &call.name);
     add_side_effect_if(effects, is_foreign_type(receiver))?;

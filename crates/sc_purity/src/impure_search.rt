@@ -95,7 +95,8 @@ fn collect_effects(
 ) -> Result<(), CheckFault>
     requires collected { Collects (system_in numbering.now.tables.now) search.old callers.old number }
     requires in_range { number < length numbering.now.features.items }
-    ensures collected { OnOk result (Collects (system_in numbering.now.tables.now) search.new callers.new (number + 1)) }
+    ensures collected { OnOk result (Collects (system_in numbering.now.tables.now) search.new callers.new
+        (number + 1)) }
     ensures memory { IfErr result (λ fault. fault ≡ OutOfMemory) }
 {
     let entry = numbering.features[number];
@@ -120,7 +121,8 @@ fn mark_runners(
 ) -> Result<(), AllocError>
     requires in_range { number < length numbering.now.features.items }
     requires as_many { length search.old.impure.items ≡ length (all_features (system_in numbering.now.tables.now)) }
-    requires callers { AreCallers (system_in numbering.now.tables.now) callers.now.lists.items (length (all_features (system_in numbering.now.tables.now))) }
+    requires callers { AreCallers (system_in numbering.now.tables.now) callers.now.lists.items
+        (length (all_features (system_in numbering.now.tables.now))) }
     ensures { let s = system_in numbering.now.tables.now in
         OnOk result (MarksOf (RunsNumber s number) search.old search.new
         × MarksRunners s number search.new.impure.items) }

@@ -19,8 +19,8 @@ use sc_text::Span;
 use sc_tree::{BinaryOperator, Call, DeclaredType, Expr, UnaryOperator};
 use sc_typing::{
     CallSite, CheckFault, Entity, JudgedActual, Meaning, RoutineContext, Typing, as_check_result,
-    is_and_then, judge_binary, judge_receiver, judge_unary, judged_type, keep_fault,
-    operand_context, operand_position, refusal, simple_typing, span_of,
+    judge_binary, judge_receiver, judge_unary, judged_type, keep_fault, operand_context,
+    operand_position, refusal, simple_typing,
 };
 
 /// What is found of a target, as what is called sees it.
@@ -29,7 +29,7 @@ fn received(target: &Option<Box<Expr>>, found: Typing) -> Result<Typing, CheckFa
 {
     match target {
         None => Ok(found),
-        Some(target) => judge_receiver(span_of(target), found),
+        Some(target) => judge_receiver(target.span(), found),
     }
 }
 
@@ -52,7 +52,8 @@ fn judge_behind_operands(
     left: Result<Typing, Fault>,
     right: Result<Typing, Fault>,
 ) -> Result<Typing, CheckFault>
-    ensures { Judges typing_of (internal.judge_behind_operands span operator (judged_in left) (judged_in right)) result }
+    ensures { Judges typing_of (internal.judge_behind_operands span operator (judged_in left)
+        (judged_in right)) result }
 {
     let left = as_check_result(left)?;
     judge_binary(span, operator, left, as_check_result(right)?)
@@ -65,7 +66,8 @@ fn judge_misplaced<'s>(
     declared: &Option<DeclaredType>,
     tested: Result<Typing, Fault>,
 ) -> Result<Typing, CheckFault>
-    ensures { Judges typing_of (internal.judge_misplaced (routine_in routine.now) span (type_if_any declared.now) (judged_in tested)) result }
+    ensures { Judges typing_of (internal.judge_misplaced (routine_in routine.now) span (type_if_any declared.now)
+        (judged_in tested)) result }
 {
     routine.judge_tested(declared)?;
     as_check_result(tested)?;
@@ -81,7 +83,9 @@ fn judge_met<'s>(
     found: &[JudgedActual],
     target: Result<Typing, Fault>,
 ) -> Result<Typing, CheckFault>
-    ensures { Judges typing_of (internal.judge_met (routine_in routine.now) context (target_of call.now.target) (meaning_in (system_in routine.now.tables.now) meaning.now) call.now.name.span (map actual_in found.now) (judged_in target)) result }
+    ensures { Judges typing_of (internal.judge_met (routine_in routine.now) context (target_of call.now.target)
+        (meaning_in (system_in routine.now.tables.now) meaning.now) call.now.name.span (map actual_in found.now)
+        (judged_in target)) result }
 {
     let target = as_check_result(target)?;
     let receiver = received(&call.target, target)?;
@@ -104,8 +108,11 @@ pub fn add_target<'s>(
     target: &'s Option<Box<Expr>>,
     effects: &mut Vec<Effect<'s>>,
 ) -> Result<Result<Typing, Fault>, CheckFault>
-    ensures effects { Adds effects.old.items effects.new.items (spec.effects_of_target (routine_in routine.now) context (map entity_of names.now) (target_of target.now)) result }
-    ensures found { IsFound (target_found (routine_in routine.now) context (map entity_of names.now) (target_of target.now)) result }
+    ensures effects { Adds effects.old.items effects.new.items
+        (spec.effects_of_target (routine_in routine.now) context (map entity_of names.now)
+        (target_of target.now)) result }
+    ensures found { IsFound (target_found (routine_in routine.now) context (map entity_of names.now)
+        (target_of target.now)) result }
 {
     match target {
         None => Ok(Ok(simple_typing(routine.current()))),
@@ -123,14 +130,17 @@ pub fn add_actuals<'s>(
     actuals: &'s [Expr],
     effects: &mut Vec<Effect<'s>>,
 ) -> Result<Vec<JudgedActual>, CheckFault>
-    ensures effects { Adds effects.old.items effects.new.items (spec.effects_of_actuals (routine_in routine.now) context (map entity_of names.now) (exprs_of actuals.now)) result }
-    ensures found { JudgesActuals (judging.judged_actuals (routine_in routine.now) context (map entity_of names.now) (exprs_of actuals.now)) result }
+    ensures effects { Adds effects.old.items effects.new.items
+        (spec.effects_of_actuals (routine_in routine.now) context (map entity_of names.now)
+        (exprs_of actuals.now)) result }
+    ensures found { JudgesActuals (judging.judged_actuals (routine_in routine.now) context (map entity_of names.now)
+        (exprs_of actuals.now)) result }
 {
     let mut found = Vec::with_capacity(routine.alloc, actuals.len())?;
     for actual in actuals {
         let judged = add_expression(routine, context, Position::Source, names, actual, effects)?;
         found.push(JudgedActual {
-            span: span_of(actual),
+            span: actual.span(),
             judged,
         })?;
     }
@@ -146,8 +156,11 @@ fn add_call<'s>(
     call: &'s Call,
     effects: &mut Vec<Effect<'s>>,
 ) -> Result<Result<Typing, Fault>, CheckFault>
-    ensures effects { Adds effects.old.items effects.new.items (effects_in_call (routine_in routine.now) context (map entity_of names.now) (target_of call.now.target) (name_of call.now.name) (exprs_of call.now.actuals.items)) result }
-    ensures found { IsFound (judge_call (routine_in routine.now) context (map entity_of names.now) Value (target_of call.now.target) (name_of call.now.name) (exprs_of call.now.actuals.items)) result }
+    ensures effects { Adds effects.old.items effects.new.items
+        (effects_in_call (routine_in routine.now) context (map entity_of names.now) (target_of call.now.target)
+        (name_of call.now.name) (exprs_of call.now.actuals.items)) result }
+    ensures found { IsFound (judge_call (routine_in routine.now) context (map entity_of names.now) Value
+        (target_of call.now.target) (name_of call.now.name) (exprs_of call.now.actuals.items)) result }
 {
     let target = add_target(routine, context, names, &call.target, effects)?;
     let found = add_actuals(routine, context, names, &call.actuals, effects)?;
@@ -167,8 +180,10 @@ pub fn add_expression<'s>(
     effects: &mut Vec<Effect<'s>>,
 ) -> Result<Result<Typing, Fault>, CheckFault>
     requires { positions.is_condition position ≡ false }
-    ensures effects { Adds effects.old.items effects.new.items (spec.effects (routine_in routine.now) context position (map entity_of names.now) (expr_of e.now)) result }
-    ensures found { IsFound (judging.judge (routine_in routine.now) context position (map entity_of names.now) (expr_of e.now)) result }
+    ensures effects { Adds effects.old.items effects.new.items
+        (spec.effects (routine_in routine.now) context position (map entity_of names.now) (expr_of e.now)) result }
+    ensures found { IsFound (judging.judge (routine_in routine.now) context position (map entity_of names.now)
+        (expr_of e.now)) result }
 {
     match e {
         Expr::Integer(_, _) => keep_fault(routine.expression(context, position, names, e)),
@@ -179,15 +194,8 @@ pub fn add_expression<'s>(
         Expr::Call(call) => add_call(routine, context, names, call, effects),
         Expr::Unary(span, operator, operand) => {
             let inside = operand_context(*operator, context);
-            let operand = add_expression(
-                routine,
-                inside,
-                Position::Plain,
-                names,
-                operand,
-                effects,
-            )?;
-            keep_fault(judge_behind_operand(context, *span, *operator, operand))
+            let found = add_expression(routine, inside, Position::Plain, names, operand, effects)?;
+            keep_fault(judge_behind_operand(context, *span, *operator, found))
         }
         Expr::Binary(span, operator, left, right) => {
             let side = operand_position(*operator);
@@ -212,12 +220,14 @@ pub fn add_condition<'s>(
     e: &'s Expr,
     effects: &mut Vec<Effect<'s>>,
 ) -> Result<(), CheckFault>
-    ensures effects { Adds effects.old.items effects.new.items (spec.effects (routine_in routine.now) context Condition (map entity_of names.old.items) (expr_of e.now)) result }
+    ensures effects { Adds effects.old.items effects.new.items
+        (spec.effects (routine_in routine.now) context Condition (map entity_of names.old.items)
+        (expr_of e.now)) result }
     ensures given { OnOk result (map entity_of names.new.items
         ≡ spec.given_anyway (routine_in routine.now) context (map entity_of names.old.items) (expr_of e.now)) }
 {
     match e {
-        Expr::Binary(_, operator, left, right) if is_and_then(*operator) => {
+        Expr::Binary(_, operator, left, right) if operator.is_and_then() => {
             add_condition(routine, context, names, left, effects)?;
             add_condition(routine, context, names, right, effects)?;
             Ok(())

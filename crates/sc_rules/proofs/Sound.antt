@@ -20,7 +20,7 @@ use Rattle.sc_rules.specs.declared.rule.Rule.{Rule}
 use Rattle.sc_rules.specs.declared.rule.Rule.TheVariants.{UnknownName, WrongArity, ArgumentType, TargetDetachable, TargetUncontrolled, OperatorType, TagName, ImpureContract, PreconditionArgument, NotExported, ObjectTestPlace, OldPlace, VoidUse}
 use Rattle.sc_rules.specs.declared.position.Context.{Context}
 use Rattle.sc_rules.specs.declared.position.Position.{Position}
-use Rattle.sc_rules.specs.declared.position.Position.TheVariants as spot
+use Rattle.sc_rules.specs.declared.position.Position.TheVariants as position
 use Rattle.sc_rules.specs.declared.position.Position.TheVariants.{Plain, Condition, Source}
 use Rattle.sc_rules.specs.declared.position.Use.{Use}
 use Rattle.sc_rules.specs.declared.position.Use.TheVariants.{Value, Instruction}
@@ -499,9 +499,9 @@ told_placed : (h : RoutineContext) (c : Context) (k : Position) (n : Entities) (
     is_testable h d ≡ true →
     HasType h c Plain n a t → Told h c k n (ObjectTest s d a x)
     (required (is_condition k) ObjectTestPlace s >>= λ u. Ok (typing (Some boolean) t.is_separate))
-told_placed h c spot.Condition n s d a x t i e = gave (test i e)
-told_placed h c spot.Plain n s d a x t i e = refuses (here (misplaced_test refl))
-told_placed h c spot.Source n s d a x t i e = refuses (here (misplaced_test refl))
+told_placed h c position.Condition n s d a x t i e = gave (test i e)
+told_placed h c position.Plain n s d a x t i e = refuses (here (misplaced_test refl))
+told_placed h c position.Source n s d a x t i e = refuses (here (misplaced_test refl))
 
 mutual
   unfolding judge

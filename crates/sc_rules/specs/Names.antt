@@ -168,7 +168,8 @@ signature_of_kind s t f (Attribute d) =
 signature_of_kind s t f (Routine routine) =
     record {
       target = t;
-      formals = map (λ (d : Declaration). formal_type (declared_type s routine.formals d.declared_type)) routine.formals;
+      formals =
+          map (λ (d : Declaration). formal_type (declared_type s routine.formals d.declared_type)) routine.formals;
       gives = option_map (given_type s t) routine.result_type;
       routine = Some (routine_of f);
       is_secret = is_hidden f.feature.exports;

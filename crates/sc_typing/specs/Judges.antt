@@ -44,7 +44,7 @@ any_separate b j = do
   ts ← j
   Ok (b || list_any (λ (t : typing.Typing). t.is_separate) ts)
 
--- what is found, with its fault apart from want of memory
+-- what is found, or the fault, apart from memory that ran out
 abbrev pub fault_kept : Result Typing CheckFault → Result (Result Typing Fault) CheckFault
 fault_kept (Ok t) = Ok (Ok t)
 fault_kept (Err (Refused f)) = Ok (Err f)

@@ -46,7 +46,8 @@ entry_if_any (Some e) = Some (entry_of e)
 
 abbrev pub formals_in : plain.System → Formals → List names.FormalType
 formals_in s (Declared ds) =
-    map (λ (d : plain.Declaration). names.formal_type (declared_type s (map declaration_of ds.now) d.declared_type)) (map declaration_of ds.now)
+    map (λ (d : plain.Declaration). names.formal_type (declared_type s (map declaration_of ds.now) d.declared_type))
+    (map declaration_of ds.now)
 formals_in s Printed = names.of_expanded ∷ []
 
 abbrev pub signature_in : plain.System → Signature → names.Signature

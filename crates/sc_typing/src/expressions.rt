@@ -11,9 +11,7 @@ ghost use Rattle.sc_typing.specs.Judges.{Judges, Passes, JudgesActuals, judge_ca
 use crate::declarations::names::Entity;
 use crate::declarations::types::judge_type;
 use crate::expressions::calls::{CallSite, judge_receiver};
-use crate::expressions::positions::{
-    is_and_then, operand_context, operand_position, span_of, takes_void,
-};
+use crate::expressions::positions::{operand_context, operand_position, takes_void};
 use crate::expressions::typing::{
     JudgedActual, Typing, judge_binary, judge_result, judge_unary, keep_fault, simple_typing,
 };
@@ -51,7 +49,8 @@ impl<'t, 's> RoutineContext<'t, 's> {
         e: &Expr,
     ) -> Result<Typing, CheckFault>
         requires { positions.is_condition position ≡ false }
-        ensures { Judges typing_of (judging.judge (routine_in self.now) context position (map entity_of names.now) (expr_of e.now)) result }
+        ensures { Judges typing_of (judging.judge (routine_in self.now) context position (map entity_of names.now)
+            (expr_of e.now)) result }
     {
         match e {
             Expr::Integer(_, _) => Ok(simple_typing(EntityType::integer())),
@@ -96,13 +95,14 @@ impl<'t, 's> RoutineContext<'t, 's> {
         names: &[Entity<'s>],
         target: &Option<Box<Expr>>,
     ) -> Result<Typing, CheckFault>
-        ensures { Judges typing_of (judging.judge_receiver (routine_in self.now) context (map entity_of names.now) (target_of target.now)) result }
+        ensures { Judges typing_of (judging.judge_receiver (routine_in self.now) context (map entity_of names.now)
+            (target_of target.now)) result }
     {
         match target {
             None => Ok(simple_typing(self.current())),
             Some(target) => {
                 let typing = self.expression(context, Position::Plain, names, target)?;
-                judge_receiver(span_of(target), typing)
+                judge_receiver(target.span(), typing)
             }
         }
     }
@@ -116,13 +116,14 @@ impl<'t, 's> RoutineContext<'t, 's> {
         names: &[Entity<'s>],
         actuals: &[Expr],
     ) -> Result<Vec<JudgedActual>, CheckFault>
-        ensures { JudgesActuals (judging.judged_actuals (routine_in self.now) context (map entity_of names.now) (exprs_of actuals.now)) result }
+        ensures { JudgesActuals (judging.judged_actuals (routine_in self.now) context (map entity_of names.now)
+            (exprs_of actuals.now)) result }
     {
         let mut found = Vec::with_capacity(self.alloc, actuals.len())?;
         for actual in actuals {
             let judged = keep_fault(self.expression(context, Position::Source, names, actual))?;
             found.push(JudgedActual {
-                span: span_of(actual),
+                span: actual.span(),
                 judged,
             })?;
         }
@@ -139,7 +140,8 @@ impl<'t, 's> RoutineContext<'t, 's> {
         names: &[Entity<'s>],
         call: &Call,
     ) -> Result<Typing, CheckFault>
-        ensures { Judges typing_of (judge_call (routine_in self.now) context (map entity_of names.now) usage (target_of call.now.target) (name_of call.now.name) (exprs_of call.now.actuals.items)) result }
+        ensures { Judges typing_of (judge_call (routine_in self.now) context (map entity_of names.now) usage
+            (target_of call.now.target) (name_of call.now.name) (exprs_of call.now.actuals.items)) result }
     {
         let receiver = self.receiver(context, names, &call.target)?;
         let meaning = self.meaning_of(names, &call.target, receiver.entity_type, &call.name);
@@ -162,12 +164,14 @@ impl<'t, 's> RoutineContext<'t, 's> {
         names: &mut Vec<Entity<'s>>,
         e: &'s Expr,
     ) -> Result<Typing, CheckFault>
-        ensures judged { Judges typing_of (judging.judge (routine_in self.now) context Condition (map entity_of names.old.items) (expr_of e.now)) result }
-        ensures given { IfOk result (λ _. judging.judge_given (routine_in self.now) context (map entity_of names.old.items) (expr_of e.now) ≡ Ok (map entity_of names.new.items)) }
+        ensures judged { Judges typing_of (judging.judge (routine_in self.now) context Condition
+            (map entity_of names.old.items) (expr_of e.now)) result }
+        ensures given { IfOk result (λ _. judging.judge_given (routine_in self.now) context
+            (map entity_of names.old.items) (expr_of e.now) ≡ Ok (map entity_of names.new.items)) }
     {
         match e {
             Expr::Binary(span, operator, left, right) => {
-                if !is_and_then(*operator) {
+                if !operator.is_and_then() {
                     return self.expression(context, Position::Plain, names, e);
                 }
                 let left = self.condition(context, names, left)?;

@@ -14,12 +14,10 @@ mod routine_context;
 
 pub use declarations::assignee::{Assignee, variable_span};
 pub use declarations::names::{Entity, add_formals, add_locals, block_type, blocks};
-pub use declarations::types::{declared_type, is_expanded, is_own, judge_type, result_type};
+pub use declarations::types::{declared_type, is_own, judge_type, result_type};
 pub use expressions::calls::{CallSite, judge_receiver};
 pub use expressions::operators::is_boolean;
-pub use expressions::positions::{
-    is_and_then, is_equality, is_old, operand_context, operand_position, span_of,
-};
+pub use expressions::positions::{operand_context, operand_position};
 pub use expressions::typing::{
     JudgedActual, Typing, as_check_result, is_foreign_type, judge_binary, judge_result,
     judge_unary, judged_type, keep_fault, simple_typing,

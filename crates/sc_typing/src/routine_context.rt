@@ -218,7 +218,8 @@ impl<'t, 's> RoutineContext<'t, 's> {
         name: &Name,
     ) -> Meaning<'s>
         ensures { meaning_in (system_in self.now.tables.now) result
-            ≡ spec.meaning_of (routine_in self.now) (map entity_of names.now) (target_of target.now) target_type (name_of name.now) }
+            ≡ spec.meaning_of (routine_in self.now) (map entity_of names.now) (target_of target.now) target_type
+            (name_of name.now) }
     {
         match target {
             None => self.unqualified_meaning(names, &name.text),

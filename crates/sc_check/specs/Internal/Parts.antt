@@ -34,7 +34,8 @@ judge_command h n a x es = do
 -- the call that an object of this type is created by
 abbrev pub judge_creation_call : RoutineContext → Entities → Option EntityType → Name → Exprs → Judged (Unit {0})
 judge_creation_call h n t x es = do
-  _ ← judge_actuals_and_name h context.Body Instruction no_target (creation_meaning h t x) x.span (judged_actuals h context.Body n es) (typing t false)
+  _ ← judge_actuals_and_name h context.Body Instruction no_target (creation_meaning h t x) x.span
+      (judged_actuals h context.Body n es) (typing t false)
   required (is_made_by_if_any h.system t x) NotCreation x.span
 
 -- what stands under a condition

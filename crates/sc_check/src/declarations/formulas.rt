@@ -14,9 +14,7 @@ use sc_proctype::EntityType;
 use sc_rules::Rule;
 use sc_text::Span;
 use sc_tree::{Call, Clause, Expr, FeatureKind};
-use sc_typing::{
-    CheckFault, declared_type, is_equality, is_expanded, is_old, refusal, required, span_of,
-};
+use sc_typing::{CheckFault, declared_type, refusal, required};
 
 /// The type of an attribute, where it is declared without fault.
 #[tactic(auto, unfolding(sc_tree::specs::View::kind_of))]
@@ -53,7 +51,7 @@ fn is_value_type(attribute: Option<EntityType>) -> bool
 {
     match attribute {
         None => false,
-        Some(attribute) => is_expanded(attribute.class),
+        Some(attribute) => attribute.is_expanded(),
     }
 }
 
@@ -63,7 +61,7 @@ fn is_reference_type(attribute: Option<EntityType>) -> bool
 {
     match attribute {
         None => false,
-        Some(attribute) => !is_expanded(attribute.class),
+        Some(attribute) => !attribute.is_expanded(),
     }
 }
 
@@ -78,7 +76,9 @@ fn is_void(e: &Expr) -> bool
 /// Whether it is the name alone of an attribute of INTEGER or BOOLEAN.
 #[tactic(auto, unfolding(sc_rules::specs::SystemRules::is_formula))]
 fn is_value_attribute(tables: &Tables, class: usize, call: &Call) -> bool
-    ensures { result ≡ rules.is_formula (system_in tables.now) class (plain.Call call.now.span (target_of call.now.target) (name_of call.now.name) (exprs_of call.now.actuals.items)) }
+    ensures { result ≡ rules.is_formula (system_in tables.now) class
+        (plain.Call call.now.span (target_of call.now.target) (name_of call.now.name)
+        (exprs_of call.now.actuals.items)) }
 {
     match &call.target {
         Some(_) => false,
@@ -91,7 +91,9 @@ fn is_value_attribute(tables: &Tables, class: usize, call: &Call) -> bool
 
 /// Whether the call is the name alone of an attribute of references.
 fn is_reference_call(tables: &Tables, class: usize, call: &Call) -> bool
-    ensures { result ≡ rules.is_reference_attribute (system_in tables.now) class (plain.Call call.now.span (target_of call.now.target) (name_of call.now.name) (exprs_of call.now.actuals.items)) }
+    ensures { result ≡ rules.is_reference_attribute (system_in tables.now) class
+        (plain.Call call.now.span (target_of call.now.target) (name_of call.now.name)
+        (exprs_of call.now.actuals.items)) }
 {
     match &call.target {
         Some(_) => false,
@@ -124,11 +126,11 @@ pub fn is_formula(tables: &Tables, class: usize, e: &Expr) -> bool
         Expr::Integer(_, _) | Expr::Boolean(_, _) => true,
         Expr::Call(call) => is_value_attribute(tables, class, call),
         Expr::Unary(_, operator, operand) => {
-            !is_old(*operator) && is_formula(tables, class, operand)
+            !operator.is_old() && is_formula(tables, class, operand)
         }
         Expr::Binary(_, operator, left, right) => {
             if is_void(right) {
-                is_equality(*operator) && is_reference_attribute(tables, class, left)
+                operator.is_equality() && is_reference_attribute(tables, class, left)
             } else {
                 is_formula(tables, class, left) && is_formula(tables, class, right)
             }
@@ -143,10 +145,10 @@ pub fn clause_span(clause: &Clause) -> Span
     ensures { result ≡ rules.clause_span (tag_of clause.now.tag) (expr_of clause.now.condition) }
 {
     match &clause.tag {
-        None => span_of(&clause.condition),
+        None => clause.condition.span(),
         Some(tag) => Span {
             start: tag.span.start,
-            end: span_of(&clause.condition).end,
+            end: clause.condition.span().end,
         },
     }
 }

@@ -4,31 +4,15 @@ ghost use Rattle.std.specs.Prelude.{◌≡◌, map};
 ghost use Rattle.sc_tree.specs.View.{expr_of, variable_of};
 ghost use Rattle.sc_rules.specs.JudgingText as judging_text;
 ghost use Rattle.sc_typing.specs.Views.{assignee_in, routine_in, entity_of};
-ghost use Rattle.sc_class.specs.SystemIn.{system_in};
 ghost use Rattle.sc_typing.specs.Judges.{Judges, Passes};
 ghost use Rattle.sc_check.specs.Internal.Parts as parts;
 
-use sc_class::Tables;
-use sc_proctype::{EntityType, conforms};
+use crate::instructions::conforms_if_any;
+use sc_proctype::EntityType;
 use sc_rules::{Context, Position, Rule};
 use sc_text::Span;
 use sc_tree::{Expr, Variable};
-use sc_typing::{
-    Assignee, CheckFault, Entity, RoutineContext, judge_result, refusal, required, span_of,
-};
-
-/// Whether what has a type conforms.
-pub fn conforms_if_any(tables: &Tables, actual: Option<EntityType>, to: Option<EntityType>) -> bool
-    ensures { result ≡ judging_text.conforms_if_any (system_in tables.now) actual to }
-{
-    match actual {
-        None => true,
-        Some(actual) => match to {
-            None => true,
-            Some(to) => conforms(tables, actual, to),
-        },
-    }
-}
+use sc_typing::{Assignee, CheckFault, Entity, RoutineContext, judge_result, refusal, required};
 
 /// The type of what may be assigned.
 fn judge_assignee(span: Span, assigned: Assignee) -> Result<Option<EntityType>, CheckFault>
@@ -48,7 +32,8 @@ pub fn judge_variable<'s>(
     names: &[Entity<'s>],
     variable: &Variable,
 ) -> Result<Option<EntityType>, CheckFault>
-    ensures { Judges (λ t. t) (judging_text.judge_variable (routine_in routine.now) (map entity_of names.now) (variable_of variable.now)) result }
+    ensures { Judges (λ t. t) (judging_text.judge_variable (routine_in routine.now) (map entity_of names.now)
+        (variable_of variable.now)) result }
 {
     match variable {
         Variable::Named(name) => judge_assignee(name.span, routine.assignee(names, variable)),
@@ -63,10 +48,11 @@ pub fn judge_assignment<'s>(
     variable: &Variable,
     value: &Expr,
 ) -> Result<(), CheckFault>
-    ensures { Passes (parts.judge_assignment (routine_in routine.now) (map entity_of names.now) (variable_of variable.now) (expr_of value.now)) result }
+    ensures { Passes (parts.judge_assignment (routine_in routine.now) (map entity_of names.now)
+        (variable_of variable.now) (expr_of value.now)) result }
 {
     let assigned = judge_variable(routine, names, variable)?;
     let actual = routine.expression(Context::Body, Position::Source, names, value)?;
     let conforms = conforms_if_any(routine.tables, actual.entity_type, assigned);
-    required(conforms, Rule::AssignType, span_of(value))
+    required(conforms, Rule::AssignType, value.span())
 }

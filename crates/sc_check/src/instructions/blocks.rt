@@ -8,12 +8,12 @@ ghost use Rattle.sc_typing.specs.Views.{routine_in, entity_of};
 ghost use Rattle.sc_typing.specs.Judges.{Judges, Knows};
 ghost use Rattle.sc_check.specs.Internal.Parts as parts;
 
-use crate::instructions::assignment::conforms_if_any;
+use crate::instructions::conforms_if_any;
 use sc_class::ClassId;
 use sc_proctype::{EntityType, Tag};
 use sc_rules::{Context, Position, Role, Rule};
 use sc_tree::Head;
-use sc_typing::{CheckFault, Entity, RoutineContext, block_type, blocks, required, span_of};
+use sc_typing::{CheckFault, Entity, RoutineContext, block_type, blocks, required};
 
 /// The type that the head of a separate block has.
 fn separate_any() -> EntityType
@@ -34,11 +34,12 @@ fn judge_head<'s>(
     number: usize,
     head: &'s Head,
 ) -> Result<Entity<'s>, CheckFault>
-    ensures { Judges entity_of (parts.judge_head (routine_in routine.now) (map entity_of names.now) number (head_of head.now)) result }
+    ensures { Judges entity_of (parts.judge_head (routine_in routine.now) (map entity_of names.now) number
+        (head_of head.now)) result }
 {
     let value = routine.expression(Context::Body, Position::Plain, names, &head.value)?;
     let conforms = conforms_if_any(routine.tables, value.entity_type, Some(separate_any()));
-    required(conforms, Rule::ArgumentType, span_of(&head.value))?;
+    required(conforms, Rule::ArgumentType, head.value.span())?;
     Ok(Entity {
         name: head.name.text.as_str(),
         entity_type: block_type(number, value.entity_type),
@@ -52,7 +53,8 @@ pub fn judge_heads<'s>(
     names: &mut Vec<Entity<'s>>,
     heads: &'s [Head],
 ) -> Result<(), CheckFault>
-    ensures { Knows (judging_text.judge_heads (routine_in routine.now) (map entity_of names.old.items) (map entity_of names.old.items) (map head_of heads.now)) result (map entity_of names.new.items) }
+    ensures { Knows (judging_text.judge_heads (routine_in routine.now) (map entity_of names.old.items)
+        (map entity_of names.old.items) (map head_of heads.now)) result (map entity_of names.new.items) }
 {
     let known = names.len();
     for head in heads {

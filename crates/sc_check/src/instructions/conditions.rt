@@ -12,7 +12,7 @@ ghost use Rattle.sc_typing.specs.Judges.{Passes};
 use sc_proctype::EntityType;
 use sc_rules::{Context, Position, Rule};
 use sc_tree::{Clause, Expr};
-use sc_typing::{CheckFault, Entity, RoutineContext, is_boolean, required, span_of};
+use sc_typing::{CheckFault, Entity, RoutineContext, is_boolean, required};
 
 /// Whether it is BOOLEAN, as far as there is a type.
 fn is_boolean_if_any(condition: Option<EntityType>) -> bool
@@ -31,11 +31,12 @@ pub fn judge_condition<'s>(
     names: &[Entity<'s>],
     e: &Expr,
 ) -> Result<(), CheckFault>
-    ensures { Passes (judging_text.judge_condition (routine_in routine.now) context Plain (map entity_of names.now) (expr_of e.now)) result }
+    ensures { Passes (judging_text.judge_condition (routine_in routine.now) context Plain (map entity_of names.now)
+        (expr_of e.now)) result }
 {
     let condition = routine.expression(context, Position::Plain, names, e)?;
     let is_boolean = is_boolean_if_any(condition.entity_type);
-    required(is_boolean, Rule::NotBoolean, span_of(e))
+    required(is_boolean, Rule::NotBoolean, e.span())
 }
 
 /// Judges the condition of an `if`, and makes the names known that it gives.
@@ -44,12 +45,14 @@ pub fn judge_if_condition<'s>(
     names: &mut Vec<Entity<'s>>,
     e: &'s Expr,
 ) -> Result<(), CheckFault>
-    ensures judged { Passes (judging_text.judge_condition (routine_in routine.now) Body Condition (map entity_of names.old.items) (expr_of e.now)) result }
-    ensures given { OnOk result (judging.judge_given (routine_in routine.now) Body (map entity_of names.old.items) (expr_of e.now) ≡ Ok (map entity_of names.new.items)) }
+    ensures judged { Passes (judging_text.judge_condition (routine_in routine.now) Body Condition
+        (map entity_of names.old.items) (expr_of e.now)) result }
+    ensures given { OnOk result (judging.judge_given (routine_in routine.now) Body (map entity_of names.old.items)
+        (expr_of e.now) ≡ Ok (map entity_of names.new.items)) }
 {
     let condition = routine.condition(Context::Body, names, e)?;
     let is_boolean = is_boolean_if_any(condition.entity_type);
-    required(is_boolean, Rule::NotBoolean, span_of(e))
+    required(is_boolean, Rule::NotBoolean, e.span())
 }
 
 /// Judges a clause.
@@ -60,7 +63,8 @@ pub fn judge_clause<'s>(
     names: &[Entity<'s>],
     clause: &Clause,
 ) -> Result<(), CheckFault>
-    ensures { Passes (judging_text.judge_clause (routine_in routine.now) context (map entity_of names.now) (clause_of clause.now)) result }
+    ensures { Passes (judging_text.judge_clause (routine_in routine.now) context (map entity_of names.now)
+        (clause_of clause.now)) result }
 {
     judge_condition(routine, context, names, &clause.condition)
 }
@@ -72,7 +76,8 @@ pub fn judge_clauses<'s>(
     names: &[Entity<'s>],
     clauses: &[Clause],
 ) -> Result<(), CheckFault>
-    ensures { Passes (judging.judge_each (judging_text.judge_clause (routine_in routine.now) context (map entity_of names.now)) (map clause_of clauses.now)) result }
+    ensures { Passes (judging.judge_each (judging_text.judge_clause (routine_in routine.now) context
+        (map entity_of names.now)) (map clause_of clauses.now)) result }
 {
     for clause in clauses {
         judge_clause(routine, context, names, clause)?;

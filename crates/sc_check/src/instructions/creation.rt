@@ -108,7 +108,8 @@ fn judge_creation_call<'s>(
     created: Option<EntityType>,
     call: &CreationCall,
 ) -> Result<(), CheckFault>
-    ensures { Passes (parts.judge_creation_call (routine_in routine.now) (map entity_of names.now) created (name_of call.now.name) (exprs_of call.now.actuals.items)) result }
+    ensures { Passes (parts.judge_creation_call (routine_in routine.now) (map entity_of names.now) created
+        (name_of call.now.name) (exprs_of call.now.actuals.items)) result }
 {
     let found = routine.judged_actuals(Context::Body, names, &call.actuals)?;
     let meaning = creation_meaning(routine, created, &call.name);
@@ -135,7 +136,8 @@ pub fn judge_creation<'s>(
     created: Option<EntityType>,
     call: &Option<CreationCall>,
 ) -> Result<(), CheckFault>
-    ensures { Passes (judging_text.judge_creation (routine_in routine.now) (map entity_of names.now) span created (creation_call_of call.now)) result }
+    ensures { Passes (judging_text.judge_creation (routine_in routine.now) (map entity_of names.now) span created
+        (creation_call_of call.now)) result }
 {
     match call {
         None => {

@@ -38,7 +38,8 @@ abbrev pub IsCallOf : System → Effect → ℕ → Type 0
 IsCallOf s d j = (g : RoutineName) × (d ≡ routine_call g) × (feature_number s g ≡ Some j)
 
 -- What a feature does was held: it is found where no pure function does that, and is a caller of what it calls.
-pub record IsRecorded (s : System) (impure : List Bool) (todo : List ℕ) (lists : List (Vec ℕ Global)) (impure' : List Bool) (todo' : List ℕ) (lists' : List (Vec ℕ Global)) (n : ℕ) (d : Effect) : Type 0 where
+pub record IsRecorded (s : System) (impure : List Bool) (todo : List ℕ) (lists : List (Vec ℕ Global))
+    (impure' : List Bool) (todo' : List ℕ) (lists' : List (Vec ℕ Global)) (n : ℕ) (d : Effect) : Type 0 where
   pub grows : Grows (λ k. (k ≡ n) × (d ≡ side_effect)) impure todo impure' todo'
   pub found : d ≡ side_effect → IsSeen impure' n
   pub same_length : length lists' ≡ length lists
@@ -66,11 +67,13 @@ MarksAll Are old new = MarksOf Are old new × ((k : ℕ) → Are k → IsSeen ne
 -- what a feature does is held by the search and the callers
 abbrev pub Records : System → Search → Callers → Search → Callers → ℕ → Effect → Type 0
 Records s search callers search' callers' n d =
-    IsRecorded s search.impure.items search.todo.items callers.lists.items search'.impure.items search'.todo.items callers'.lists.items n d
+    IsRecorded s search.impure.items search.todo.items callers.lists.items search'.impure.items search'.todo.items
+    callers'.lists.items n d
 
 -- The features before the number were looked at: those of them that are impure themselves are found, and nothing else
 -- is.
-pub record AreCollected (s : System) (impure : List Bool) (todo : List ℕ) (lists : List (Vec ℕ Global)) (n : ℕ) : Type 0 where
+pub record AreCollected (s : System) (impure : List Bool) (todo : List ℕ) (lists : List (Vec ℕ Global)) (n : ℕ)
+    : Type 0 where
   pub as_many : length impure ≡ length (all_features s)
   pub as_many_lists : length lists ≡ length (all_features s)
   pub impure_itself : (k : ℕ) (d : DeclaredFeature) → k < n → slice_get (all_features s) k ≡ Some d →
@@ -86,7 +89,8 @@ abbrev pub Collects : System → Search → Callers → ℕ → Type 0
 Collects s search callers n = AreCollected s search.impure.items search.todo.items callers.lists.items n
 
 -- The features before the number were looked at, and of that one these effects.
-pub record IsCollecting (s : System) (impure : List Bool) (todo : List ℕ) (lists : List (Vec ℕ Global)) (n : ℕ) (ds : List Effect) : Type 0 where
+pub record IsCollecting (s : System) (impure : List Bool) (todo : List ℕ) (lists : List (Vec ℕ Global)) (n : ℕ)
+    (ds : List Effect) : Type 0 where
   pub collected : AreCollected s impure todo lists n
   pub found : Lists side_effect ds → IsSeen impure n
   pub calls : (g : RoutineName) (j : ℕ) → feature_number s g ≡ Some j → Lists (routine_call g) ds →

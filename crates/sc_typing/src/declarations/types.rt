@@ -3,7 +3,6 @@
 ghost use Rattle.std.specs.Prelude.{◌≡◌, [], map};
 ghost use Rattle.std.specs.Option.{option_map};
 ghost use Rattle.sc_tree.specs.View.{declaration_of, handler_tag_of, type_if_any, type_of};
-ghost use Rattle.sc_class.specs.Tables.Conformance as class_conformance;
 ghost use Rattle.sc_rules.specs.Types as types;
 ghost use Rattle.sc_rules.specs.Names as names;
 ghost use Rattle.sc_rules.specs.Judging as judging;
@@ -82,23 +81,13 @@ fn is_marked(declared: &DeclaredType) -> bool
     declared.is_detachable || !is_own(&declared.tag)
 }
 
-/// Whether the values of a class aren't references.
-pub fn is_expanded(class: ClassId) -> bool
-    ensures { result ≡ class_conformance.is_expanded class }
-{
-    match class {
-        ClassId::Integer | ClassId::Boolean => true,
-        ClassId::Any | ClassId::None | ClassId::Declared(_) => false,
-    }
-}
-
 /// The type of this class and tag, where both are known; INTEGER and BOOLEAN take no mark.
 fn typed(declared: &DeclaredType, class: Option<ClassId>, tag: Option<Tag>) -> Option<EntityType>
     ensures { result ≡ types.typed (type_of declared.now) class tag }
 {
     let class = class?;
     let tag = tag?;
-    if is_expanded(class) && is_marked(declared) {
+    if class.is_expanded() && is_marked(declared) {
         return None;
     }
     Some(EntityType {
@@ -108,28 +97,18 @@ fn typed(declared: &DeclaredType, class: Option<ClassId>, tag: Option<Tag>) -> O
     })
 }
 
-/// The class of a type that is declared with this name. It looks once by hash.
-pub fn type_class(tables: &Tables, name: &str) -> Option<ClassId>
-    ensures { result ≡ class_conformance.type_class (system_in tables.now) name.now }
-{
-    if name == "none" {
-        None
-    } else {
-        tables.class_named(name)
-    }
-}
-
 /// The type that is declared, where a tag may name these formals; it is none where the declaration is faulty.
 pub fn declared_type(
     tables: &Tables,
     formals: &[Declaration],
     declared: &DeclaredType,
 ) -> Option<EntityType>
-    ensures { result ≡ types.declared_type (system_in tables.now) (map declaration_of formals.now) (type_of declared.now) }
+    ensures { result ≡ types.declared_type (system_in tables.now) (map declaration_of formals.now)
+        (type_of declared.now) }
 {
     typed(
         declared,
-        type_class(tables, &declared.class.text),
+        tables.type_class(&declared.class.text),
         declared_tag(formals, &declared.tag),
     )
 }
@@ -151,9 +130,10 @@ pub fn judge_type(
     formals: &[Declaration],
     declared: &DeclaredType,
 ) -> Result<(), CheckFault>
-    ensures { Passes (judging.judge_type (system_in tables.now) (map declaration_of formals.now) (type_of declared.now)) result }
+    ensures { Passes (judging.judge_type (system_in tables.now) (map declaration_of formals.now)
+        (type_of declared.now)) result }
 {
-    let class = type_class(tables, &declared.class.text);
+    let class = tables.type_class(&declared.class.text);
     required(class.is_some(), Rule::UnknownName, declared.class.span)?;
     let typed = declared_type(tables, formals, declared);
     required(typed.is_some(), Rule::TagName, declared.span)

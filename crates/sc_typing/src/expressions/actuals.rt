@@ -11,7 +11,7 @@ ghost use Rattle.sc_typing.specs.Views.{routine_in, formals_in, formal_in, forma
 ghost use Rattle.sc_class.specs.SystemIn.{system_in};
 ghost use Rattle.sc_typing.specs.Judges.{Judges, any_separate};
 
-use crate::declarations::types::{declared_type, is_expanded};
+use crate::declarations::types::declared_type;
 use crate::expressions::typing::{
     JudgedActual, as_check_result, is_either_separate, judged_type, may_pass,
 };
@@ -35,9 +35,11 @@ pub enum FormalType {
     Expanded,
 }
 
+/// What a formal takes, by its declaration.
 fn formal_type(tables: &Tables, formals: &[Declaration], declared: &DeclaredType) -> FormalType
     ensures { formal_in result
-        ≡ names.formal_type (types.declared_type (system_in tables.now) (map declaration_of formals.now) (type_of declared.now)) }
+        ≡ names.formal_type (types.declared_type (system_in tables.now) (map declaration_of formals.now)
+        (type_of declared.now)) }
 {
     match declared_type(tables, formals, declared) {
         None => FormalType::Untyped,
@@ -137,7 +139,8 @@ struct Passing<'a> {
 impl<'a> Passing<'a> {
     /// Whether an actual of this type may be passed to the formal.
     fn takes(&self, tables: &Tables, formal: FormalType, actual: EntityType) -> bool
-        ensures { result ≡ spec.takes (system_in tables.now) self.now.target (types_in self.now.found.now) (formal_in formal) actual }
+        ensures { result ≡ spec.takes (system_in tables.now) self.now.target (types_in self.now.found.now)
+            (formal_in formal) actual }
     {
         match formal {
             FormalType::Typed(formal) => {
@@ -149,13 +152,14 @@ impl<'a> Passing<'a> {
                     )
             }
             FormalType::Untyped => true,
-            FormalType::Expanded => is_expanded(actual.class),
+            FormalType::Expanded => actual.is_expanded(),
         }
     }
 
     /// Whether an actual of this type, if it has one, may be passed to the formal.
     fn takes_if_any(&self, tables: &Tables, formal: FormalType, actual: Option<EntityType>) -> bool
-        ensures { result ≡ spec.takes_if_any (system_in tables.now) self.now.target (types_in self.now.found.now) (formal_in formal) actual }
+        ensures { result ≡ spec.takes_if_any (system_in tables.now) self.now.target (types_in self.now.found.now)
+            (formal_in formal) actual }
     {
         match actual {
             None => true,
@@ -171,7 +175,8 @@ impl<'a> Passing<'a> {
         number: usize,
         actual: Option<EntityType>,
     ) -> bool
-        ensures { result ≡ judging.is_taken (system_in tables.now) self.now.target (types_in self.now.found.now) (drop number (formals_in (system_in tables.now) formals.entry)) actual }
+        ensures { result ≡ judging.is_taken (system_in tables.now) self.now.target (types_in self.now.found.now)
+            (drop number (formals_in (system_in tables.now) formals.entry)) actual }
     {
         match formal_at(tables, formals, number) {
             None => true,
@@ -191,7 +196,9 @@ impl<'t, 's> RoutineContext<'t, 's> {
         formals: Formals,
         found: &[JudgedActual],
     ) -> Result<bool, CheckFault>
-        ensures { Judges (λ b. b) (any_separate false (judging.judge_actuals (routine_in self.now) context receiver target (types_in found.now) (formals_in (system_in self.now.tables.now) formals.entry) (map actual_in found.now))) result }
+        ensures { Judges (λ b. b) (any_separate false
+            (judging.judge_actuals (routine_in self.now) context receiver target (types_in found.now)
+            (formals_in (system_in self.now.tables.now) formals.entry) (map actual_in found.now))) result }
     {
         let known = known_handlers(self.alloc, found)?;
         let passing = Passing {

@@ -125,7 +125,8 @@ impl<'t, 's> RoutineContext<'t, 's> {
     /// Whether it may be called there: contracts, `check` and `old` call pure functions alone.
     #[tactic(auto, unfolding(sc_tree::specs::View::feature_of))]
     fn may_call(&self, context: Context, routine: Option<FeatureEntry>) -> bool
-        ensures { result ≡ spec.may_call (routine_in self.now) context (option_map (λ e. names.routine_of (entry_of e)) routine.entry) }
+        ensures { result ≡ spec.may_call (routine_in self.now) context
+            (option_map (λ e. names.routine_of (entry_of e)) routine.entry) }
     {
         match routine {
             None => true,
@@ -142,7 +143,9 @@ impl<'t, 's> RoutineContext<'t, 's> {
         signature: &Signature,
         actuals: usize,
     ) -> Result<Option<EntityType>, CheckFault>
-        ensures { Judges (λ t. t) (judging.judge_name (routine_in self.now) site.now.context site.now.usage (target_of site.now.target.now) (names.named (signature_in (system_in self.now.tables.now) signature.now)) actuals site.now.span) result }
+        ensures { Judges (λ t. t) (judging.judge_name (routine_in self.now) site.now.context site.now.usage
+            (target_of site.now.target.now) (names.named (signature_in (system_in self.now.tables.now) signature.now))
+            actuals site.now.span) result }
     {
         let span = site.span;
         required(actuals == count(signature.formals), Rule::WrongArity, span)?;
@@ -167,7 +170,9 @@ impl<'t, 's> RoutineContext<'t, 's> {
         meaning: &Meaning,
         actuals: usize,
     ) -> Result<Option<EntityType>, CheckFault>
-        ensures { Judges (λ t. t) (judging.judge_name (routine_in self.now) site.now.context site.now.usage (target_of site.now.target.now) (meaning_in (system_in self.now.tables.now) meaning.now) actuals site.now.span) result }
+        ensures { Judges (λ t. t) (judging.judge_name (routine_in self.now) site.now.context site.now.usage
+            (target_of site.now.target.now) (meaning_in (system_in self.now.tables.now) meaning.now) actuals
+            site.now.span) result }
     {
         match meaning {
             Meaning::Unknown => Err(refusal(Rule::UnknownName, site.span)),
@@ -184,7 +189,9 @@ impl<'t, 's> RoutineContext<'t, 's> {
         found: &[JudgedActual],
         receiver: Typing,
     ) -> Result<Typing, CheckFault>
-        ensures { Judges typing_of (judging.judge_actuals_and_name (routine_in self.now) site.now.context site.now.usage (target_of site.now.target.now) (meaning_in (system_in self.now.tables.now) meaning.now) site.now.span (map actual_in found.now) (typing_of receiver)) result }
+        ensures { Judges typing_of (judging.judge_actuals_and_name (routine_in self.now) site.now.context
+            site.now.usage (target_of site.now.target.now) (meaning_in (system_in self.now.tables.now) meaning.now)
+            site.now.span (map actual_in found.now) (typing_of receiver)) result }
     {
         let is_separate = self.judge_actuals(
             site.context,

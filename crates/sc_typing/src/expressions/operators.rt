@@ -3,7 +3,6 @@
 ghost use Rattle.std.specs.Prelude.{◌≡◌};
 ghost use Rattle.sc_rules.specs.Types as types;
 
-use crate::declarations::types::is_expanded;
 use sc_class::ClassId;
 use sc_proctype::EntityType;
 use sc_tree::{BinaryOperator, UnaryOperator};
@@ -35,7 +34,7 @@ fn is_comparable(left: ClassId, right: ClassId) -> bool
     match left {
         ClassId::Integer => is_integer(right),
         ClassId::Boolean => is_boolean(right),
-        ClassId::Any | ClassId::None | ClassId::Declared(_) => !is_expanded(right),
+        ClassId::Any | ClassId::None | ClassId::Declared(_) => !right.is_expanded(),
     }
 }
 

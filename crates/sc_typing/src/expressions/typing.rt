@@ -7,9 +7,9 @@ ghost use Rattle.sc_typing.specs.Views.{judged_in, typing_of};
 ghost use Rattle.sc_typing.specs.Judges as judges;
 ghost use Rattle.sc_typing.specs.Judges.{Judges, fault_kept};
 
-use crate::declarations::types::{is_expanded, is_foreign};
+use crate::declarations::types::is_foreign;
 use crate::expressions::operators::{binary_result, unary_result};
-use crate::expressions::positions::{is_ensure, is_old, is_require};
+use crate::expressions::positions::{is_ensure, is_require};
 use crate::fault::{CheckFault, refusal, required};
 use sc_proctype::EntityType;
 use sc_rules::{Context, Fault, Rule};
@@ -67,7 +67,7 @@ pub fn is_value(actual: Option<EntityType>) -> bool
 {
     match actual {
         None => true,
-        Some(actual) => is_expanded(actual.class),
+        Some(actual) => actual.is_expanded(),
     }
 }
 
@@ -83,7 +83,7 @@ pub fn may_pass(context: Context, target: Option<EntityType>, actual: Option<Ent
 fn old_stands(context: Context, operator: UnaryOperator, operand: Typing) -> bool
     ensures { result ≡ spec.old_stands context operator (typing_of operand) }
 {
-    !is_old(operator) || (is_ensure(context) && !operand.is_separate)
+    !operator.is_old() || (is_ensure(context) && !operand.is_separate)
 }
 
 /// What an operator gives, where it takes its operands.

@@ -17,7 +17,8 @@ pub struct Marks<'t, 's> {
 impl<'t, 's> Marks<'t, 's> {
     /// Whether the routine of this name that the class at the number declares is a pure function.
     pub fn is_pure(&self, class: usize, name: &str) -> bool
-        ensures { result ≡ pure_by (system_in self.now.numbering.tables.now) self.now.impure.items (record { class = class; name = name.now }) }
+        ensures { result ≡ pure_by (system_in self.now.numbering.tables.now) self.now.impure.items
+            (record { class = class; name = name.now }) }
     {
         match self.numbering.number(class, name) {
             None => false,

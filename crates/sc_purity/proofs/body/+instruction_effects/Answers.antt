@@ -16,8 +16,8 @@ add_instruction-returns-in_ok-add_instructions-in-Loop-2 t c =
     in_loop (routine_in c.args.routine.now) (map entity_of c.args.names.now) c.args.instruction.now
     c.in-Loop.field-0 c.in-Loop.initial c.in-Loop.condition c.in-Loop.body c.in-Loop.is
     c.deref-in-Loop.result.now c.deref-in-Loop.ensures.value c.deref-in-Loop-2.result.now c.deref-in-Loop-2.ensures.value
-    c.args.effects.now.items c.add_instructions-in-Loop.new.effects.items c.add_expression-in-Loop.new.effects.items c.add_instructions-in-Loop-2.new.effects.items
-    c.in_ok-add_instructions-in-Loop.ensures c.in_ok-add_expression-in-Loop.ensures.effects c.in_ok-add_instructions-in-Loop-2.ensures
+    c.args.effects.now.items c.add_instructions-in-Loop.new.effects.items c.add_value-in-Loop.new.effects.items c.add_instructions-in-Loop-2.new.effects.items
+    c.in_ok-add_instructions-in-Loop.ensures c.in_ok-add_value-in-Loop.ensures c.in_ok-add_instructions-in-Loop-2.ensures
 
 pub add_instruction-returns-in_ok-add_block-in-Block : goal.add_instruction-returns-in_ok-add_block-in-Block
 add_instruction-returns-in_ok-add_block-in-Block t c =

@@ -4,7 +4,7 @@ use Rattle.sc_class.specs.SystemIn.{system_in}
 use Rattle.sc_check.proofs.Checking.{passed, passed_checked, refused, first, memory_is_true, memory_is_first}
 use Rattle.sc_check.proofs.checked.checking.judge_system.Goals as goal
 
--- the search for pure functions fails for want of memory alone
+-- the search for pure functions fails where memory runs out alone
 pub returns-in_err-purity-clause-refused : goal.returns-in_err-purity-clause-refused
 returns-in_err-purity-clause-refused c =
     let q = err_from_is_err_and c.from_residual.result c.from_residual.ensures.1 in
