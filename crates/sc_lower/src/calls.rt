@@ -21,7 +21,7 @@ use crate::unlinked::{UnlinkedCall, UnlinkedOperation};
 use sc_class::Tables;
 use sc_proctype::{EntityType, Tag};
 use sc_tree::Declaration;
-use sc_typing::{Formals, Meaning, Signature, declared_type, is_expanded};
+use sc_typing::{Formals, Meaning, Signature, declared_type};
 use std::alloc::AllocError;
 
 /// The type, where there is one.
@@ -64,7 +64,7 @@ fn passes_one(formal: Option<EntityType>, actual: EntityType) -> bool
 {
     match formal {
         None => false,
-        Some(formal) => formal.attached && is_controlled(actual) && !is_expanded(actual.class),
+        Some(formal) => formal.attached && is_controlled(actual) && !actual.is_expanded(),
     }
 }
 

@@ -17,7 +17,7 @@ pub enum DefaultValue {
 /// One operation, of 16 bytes at most.
 ///
 /// Slots are numbered from 0, the formals first; names, texts, sites, tests, clauses and blocks by their place in the
-/// tables of the [`Program`](crate::Program). A number of operations that are passed counts from the next one.
+/// tables of the [`ConstantPool`](crate::ConstantPool). A number of operations that are passed counts from the next one.
 #[derive(Clone, Copy, Debug, PartialEq, Eq)]
 pub enum Operation {
     PushInteger(i64),

@@ -1,5 +1,14 @@
 // Programs: the code of a system's routines, with the tables that it names.
 
+ghost use Rattle.std.specs.Prelude.{◌≤◌, vec_len};
+
+pub mod attributes;
+pub mod class_code;
+pub mod invariant;
+mod lookup;
+mod operators;
+pub mod versions;
+
 use crate::operation::{DefaultValue, Operation};
 use crate::site::{CallSite, CreationSite, Heads, ObjectTest};
 use sc_formula::Formula;
@@ -16,18 +25,15 @@ pub enum Version {
 /// An attribute of a class, inherited ones too.
 #[derive(Clone, Copy, Debug, PartialEq, Eq)]
 pub struct AttributeCode {
-    /// The number of its name.
-    pub name: usize,
     /// What it holds in a new object.
     pub default: DefaultValue,
     /// Whether its declared type is attached.
     pub is_attached: bool,
 }
 
-/// A class.
+/// A class, which has at most 256 attributes.
 #[derive(Drop)]
 pub struct ClassCode {
-    pub name: String,
     /// Its attributes in the order of its features.
     pub attributes: Vec<AttributeCode>,
     /// For each name of the program what it is here, if it is anything.
@@ -36,6 +42,7 @@ pub struct ClassCode {
     pub conforms: Vec<bool>,
     /// Its joined invariant.
     pub invariant: Vec<Formula>,
+    ghost few: { vec_len attributes ≤ 256 },
 }
 
 /// A routine with the contract that it keeps.
@@ -51,12 +58,16 @@ pub struct RoutineCode {
     pub slots: usize,
     /// The greatest number of its operands.
     pub depth: usize,
+    /// How many `old`s its postcondition has.
+    pub olds: usize,
+    /// How many of its separate blocks are open at once at most.
+    pub blocks: usize,
     pub operations: Vec<Operation>,
 }
 
-/// A system in flat code.
+/// What operations name by number.
 #[derive(Drop)]
-pub struct Program {
+pub struct ConstantPool {
     pub names: Vec<String>,
     pub texts: Vec<String>,
     pub calls: Vec<CallSite>,
@@ -65,10 +76,26 @@ pub struct Program {
     /// For each clause of a precondition the slots of the formals that it names.
     pub demands: Vec<Vec<usize>>,
     pub blocks: Vec<Heads>,
+}
+
+/// The tables of a system in flat code.
+#[derive(Drop)]
+pub struct Image {
+    pub pool: ConstantPool,
+    /// The classes, by number.
     pub classes: Vec<ClassCode>,
-    pub routines: Vec<RoutineCode>,
+    /// For each feature of the system, in the order of the text, its code, if it is a routine.
+    pub routines: Vec<Option<RoutineCode>>,
     /// The number of the class of the root object.
     pub root_class: usize,
     /// The number of the name of the procedure that it is created by.
     pub root_procedure: usize,
+    /// How many instructions all routines have.
+    pub instructions: u32,
+}
+
+/// A system in flat code.
+#[derive(Drop)]
+pub struct Program {
+    image: Image,
 }

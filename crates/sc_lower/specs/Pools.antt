@@ -1,0 +1,32 @@
+-- Tables that grow at their ends.
+use Rattle.std.specs.Prelude.{ℕ, List, map, string_bytes}
+use Rattle.std.specs.declared.vec.Vec.{Vec}
+use Rattle.std.specs.declared.alloc.Global.{Global}
+use Rattle.sc_lower.specs.declared.link_tables.Linker.{Linker}
+use Rattle.sc_lower.specs.View.{Pool}
+use Rattle.sc_lower.specs.Growing.{Extends}
+
+abbrev pub lists_of : List (Vec ℕ Global) → List (List ℕ)
+lists_of ds = map (λ (d : Vec ℕ Global). d.items) ds
+
+-- the tables of a linker
+abbrev pub pool_in : Linker → Pool
+pool_in l = record {
+  names = l.names;
+  texts = map string_bytes l.texts.items;
+  calls = l.calls.items;
+  creations = l.creations.items;
+  tests = l.tests.items;
+  demands = lists_of l.demands.items;
+  blocks = l.blocks.items;
+}
+
+-- What stands in the first tables stands in the second at the same number.
+pub record Grows (p q : Pool) : Type 0 where
+  pub names : Extends p.names q.names
+  pub texts : Extends p.texts q.texts
+  pub calls : Extends p.calls q.calls
+  pub creations : Extends p.creations q.creations
+  pub tests : Extends p.tests q.tests
+  pub demands : Extends p.demands q.demands
+  pub blocks : Extends p.blocks q.blocks

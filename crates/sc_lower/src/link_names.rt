@@ -1,0 +1,54 @@
+// The names of a program, each with a number.
+
+ghost use Rattle.std.specs.Prelude.{◌≡◌, ℕ, List, [], Some, IfOk, OnOk, map, slice_get, string_bytes};
+ghost use Rattle.sc_lower.specs.Growing.{Extends};
+
+use indexmap::IndexSet;
+use std::alloc::{AllocError, Global};
+use std::marker::Model;
+
+/// Names in the order in which they were added, each once. A name is found by hash.
+#[derive(Drop)]
+pub struct Names<'s> {
+    texts: IndexSet<&'s str>,
+}
+
+impl<'s> Model for Names<'s> {
+    ghost use Rattle.std.specs.Prelude.{ℕ, List, map};
+    ghost use Rattle.std.specs.Borrow.{Bor};
+
+    ghost Value = { List (List ℕ) };
+
+    ghost view = { λ names. map (λ (t : Bor (List ℕ)). t.now) names.texts.keys };
+}
+
+impl<'s> Names<'s> {
+    /// No names.
+    pub fn new(alloc: Global) -> Names<'s>
+        ensures { result ≡ [] }
+    {
+        Names {
+            texts: IndexSet::new(alloc),
+        }
+    }
+
+    /// The number of a name, which is added behind the others where it isn't there yet. It looks once by hash.
+    pub fn number(&mut self, text: &'s str) -> Result<usize, AllocError>
+        ensures found { IfOk result (λ number. slice_get self.new number ≡ Some text.now) }
+        ensures kept { OnOk result (Extends self.old self.new) }
+    {
+        let (number, _) = self.texts.insert_full(text)?;
+        Ok(number)
+    }
+
+    /// The names, by number.
+    pub fn texts(&self, alloc: Global) -> Result<Vec<String>, AllocError>
+        ensures { IfOk result (λ texts. map string_bytes texts.items ≡ self.now) }
+    {
+        let mut texts = Vec::with_capacity(alloc, self.texts.len())?;
+        for text in self.texts.as_slice() {
+            texts.push(String::from_str(alloc, text)?)?;
+        }
+        Ok(texts)
+    }
+}

@@ -1,0 +1,131 @@
+// The tables of classes.
+
+ghost use Rattle.std.specs.Prelude.{◌≡◌, ◌<◌, ◌≤◌, IfOk, length, map, string_bytes};
+ghost use Rattle.std.specs.List.{range_with_len};
+ghost use Rattle.sc_formula.specs.Plain.{plain_formula};
+ghost use Rattle.std.specs.Prelude.{None};
+ghost use Rattle.sc_tree.specs.View.{clause_of};
+ghost use Rattle.sc_class.specs.SystemIn.{system_in};
+ghost use Rattle.sc_class.specs.declared.identity.ClassId.TheVariants as class_id;
+ghost use Rattle.sc_class.specs.Tables.Conformance as conformance;
+ghost use Rattle.sc_model.specs.Environments.{Binding};
+ghost use Rattle.sc_model.specs.Values as values;
+ghost use Rattle.sc_model.specs.Invariants as m;
+ghost use Rattle.sc_lower.specs.Attributes.{binding_of, known_formulas};
+ghost use Rattle.sc_lower.specs.Programs.{attribute_in, class_in, class_code_of};
+ghost use Rattle.sc_lower.specs.View.{default_value};
+
+use crate::operation::DefaultValue;
+use crate::program::attributes::{Attribute, attributes_of};
+use crate::program::versions::versions;
+use crate::program::{AttributeCode, ClassCode, invariant};
+use sc_class::{ClassId, Tables};
+use sc_formula::Formula;
+use sc_tree::Clause;
+use sc_typing::Numbering;
+use std::alloc::{AllocError, Global};
+
+/// The default of the entities of a class.
+pub fn default_of(class: ClassId) -> DefaultValue
+    ensures { default_value result ≡ values.default_of class }
+{
+    match class {
+        ClassId::Integer => DefaultValue::Zero,
+        ClassId::Boolean => DefaultValue::False,
+        ClassId::Any | ClassId::None | ClassId::Declared(_) => DefaultValue::Void,
+    }
+}
+
+/// The defaults of the attributes.
+fn attribute_codes(
+    alloc: Global,
+    attributes: &[Attribute],
+) -> Result<Vec<AttributeCode>, AllocError>
+    ensures { IfOk result (λ codes. map attribute_in codes.items ≡ map (λ (b : Binding). (b.value, b.type.attached)) (map binding_of attributes.now)) }
+{
+    let mut codes = Vec::with_capacity(alloc, attributes.len())?;
+    for attribute in attributes {
+        codes.push(AttributeCode {
+            default: default_of(attribute.entity_type.class),
+            is_attached: attribute.entity_type.attached,
+        })?;
+    }
+    Ok(codes)
+}
+
+/// Whether the class at the number conforms to each class.
+#[tactic(auto, using(crate::proofs::Ranges::ranges))]
+fn conforms(alloc: Global, tables: &Tables, class: usize) -> Result<Vec<bool>, AllocError>
+    ensures { IfOk result (λ conforms. conforms.items
+        ≡ map (λ j. conformance.class_conforms (system_in tables.now) (class_id.Declared class) (class_id.Declared j)) (range_with_len 0 (length (system_in tables.now).classes))) }
+{
+    let mut conforms = Vec::new(alloc);
+    for other in 0..tables.classes().len() {
+        conforms.push(tables.class_conforms(ClassId::Declared(class), ClassId::Declared(other)))?;
+    }
+    Ok(conforms)
+}
+
+/// The clauses of an invariant over these attributes; `False` where one of them is no formula.
+fn formulas(
+    alloc: Global,
+    attributes: &[Attribute],
+    clauses: &[&Clause],
+) -> Result<Vec<Formula>, AllocError>
+    requires { length attributes.now ≤ 256 }
+    ensures { IfOk result (λ formulas. map plain_formula formulas.items ≡ known_formulas (m.clauses_of (map binding_of attributes.now) (map (λ c. clause_of c.now) clauses.now))) }
+{
+    match invariant::clauses(alloc, attributes, clauses)? {
+        Some(formulas) => Ok(formulas),
+        None => never_met(alloc),
+    }
+}
+
+/// An invariant that no object meets.
+#[tactic(auto, using(sc_formula::proofs::Plain::plain_trees))]
+fn never_met(alloc: Global) -> Result<Vec<Formula>, AllocError>
+    ensures { IfOk result (λ formulas. map plain_formula formulas.items ≡ known_formulas None) }
+{
+    let mut formulas = Vec::new(alloc);
+    formulas.push(Formula::Constant(false))?;
+    Ok(formulas)
+}
+
+/// The tables of the class at the number, where names have these numbers.
+fn class_code(
+    alloc: Global,
+    numbering: &Numbering,
+    names: &[String],
+    class: usize,
+) -> Result<ClassCode, AllocError>
+    requires { class < length (system_in numbering.now.tables.now).classes }
+    ensures { IfOk result (λ code. class_in code ≡ class_code_of (system_in numbering.now.tables.now) (map string_bytes names.now) class) }
+{
+    let tables = numbering.tables;
+    let features = tables.features(alloc, ClassId::Declared(class))?;
+    let attributes = attributes_of(alloc, tables, &features)?;
+    let clauses = tables.invariant_of(alloc, ClassId::Declared(class))?;
+    Ok(ClassCode {
+        attributes: attribute_codes(alloc, &attributes)?,
+        versions: versions(alloc, numbering, &attributes, class, names)?,
+        conforms: conforms(alloc, tables, class)?,
+        invariant: formulas(alloc, &attributes, &clauses)?,
+    })
+}
+
+/// The tables of each class, where names have these numbers.
+#[tactic(auto, using(crate::proofs::Ranges::ranges))]
+pub fn class_codes(
+    alloc: Global,
+    numbering: &Numbering,
+    names: &[String],
+) -> Result<Vec<ClassCode>, AllocError>
+    ensures { IfOk result (λ codes. map class_in codes.items
+        ≡ map (class_code_of (system_in numbering.now.tables.now) (map string_bytes names.now)) (range_with_len 0 (length (system_in numbering.now.tables.now).classes))) }
+{
+    let mut codes = Vec::new(alloc);
+    for class in 0..numbering.tables.classes().len() {
+        codes.push(class_code(alloc, numbering, names, class)?)?;
+    }
+    Ok(codes)
+}
