@@ -5,10 +5,10 @@ use Rattle.std.specs.Prelude.{◌&&◌, unwrap_or, IsTrue, ◌↔◌}
 use Rattle.sc_formula.specs.declared.atom.Atom.{Atom}
 use Rattle.sc_formula.specs.Formula.{PlainFormula, truth_of}
 use Rattle.sc_formula.specs.Invariant.{Holds, Meets}
-use Rattle.sc_region.specs.declared.layout.Layout.{Layout}
+use Rattle.sc_lower.specs.declared.program.Image.{Image}
 use Rattle.sc_region.specs.Values.{atoms_of}
 use Rattle.sc_region.specs.Objects.{PlainObject}
-use Rattle.sc_region.specs.Layouts.{invariant_of, MeetsInvariant, MeetsAt, all_hold, meets_invariant, object_meets, object_breaks}
+use Rattle.sc_region.specs.Classes.{invariant_of, MeetsInvariant, MeetsAt, all_hold, meets_invariant, object_meets, object_breaks}
 
 pub and_left : (a b : Bool) → a && b ≡ true → a ≡ true
 and_left true b e = refl
@@ -35,14 +35,14 @@ all_are_true (clause ∷ clauses) atoms e =
     (all_are_true clauses atoms (and_right (unwrap_or (truth_of clause atoms) false) (all_hold clauses atoms) e))
 
 -- an object that passes the test meets its class invariant
-pub tested_meets : (l : Layout) (o : PlainObject) → meets_invariant l o ≡ true → MeetsInvariant l o
-tested_meets l o e = all_are_true (invariant_of l o.class) (atoms_of o.attributes) e
+pub tested_meets : (p : Image) (o : PlainObject) → meets_invariant p o ≡ true → MeetsInvariant p o
+tested_meets p o e = all_are_true (invariant_of p o.class) (atoms_of o.attributes) e
 
-pub unbroken_meets : (l : Layout) (found : Option PlainObject) (o : PlainObject) → found ≡ Some o → object_breaks l found ≡ false → MeetsInvariant l o
-unbroken_meets l None o e b = cc
-unbroken_meets l (Some p) o e b =
-    let same : p ≡ o = cc in
-    subst (MeetsInvariant l) same (tested_meets l p (not_false (meets_invariant l p) b))
+pub unbroken_meets : (p : Image) (found : Option PlainObject) (o : PlainObject) → found ≡ Some o → object_breaks p found ≡ false → MeetsInvariant p o
+unbroken_meets p None o e b = cc
+unbroken_meets p (Some it) o e b =
+    let same : it ≡ o = cc in
+    subst (MeetsInvariant p) same (tested_meets p it (not_false (meets_invariant p it) b))
 
 all_tested : (clauses : List PlainFormula) (atoms : List Atom) → Meets clauses atoms → all_hold clauses atoms ≡ true
 all_tested [] atoms m = refl
@@ -60,7 +60,7 @@ truth_is false clauses atoms h =
     ] (all_are_true clauses atoms)
 
 -- the object is there and meets its invariant exactly where it passes the test
-pub test_tells : (l : Layout) (found : Option PlainObject) (b : Bool) → b ≡ object_meets l found → IsTrue b ↔ MeetsAt l found
-test_tells l None b e = ((λ t. let wrong : true ≡ false = sym t ∙ e in cc), (λ m. absurd m))
-test_tells l (Some o) b e =
-    ((λ t. tested_meets l o (sym e ∙ t)), (λ m. e ∙ all_tested (invariant_of l o.class) (atoms_of o.attributes) m))
+pub test_tells : (p : Image) (found : Option PlainObject) (b : Bool) → b ≡ object_meets p found → IsTrue b ↔ MeetsAt p found
+test_tells p None b e = ((λ t. let wrong : true ≡ false = sym t ∙ e in cc), (λ m. absurd m))
+test_tells p (Some o) b e =
+    ((λ t. tested_meets p o (sym e ∙ t)), (λ m. e ∙ all_tested (invariant_of p o.class) (atoms_of o.attributes) m))

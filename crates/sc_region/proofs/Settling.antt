@@ -1,19 +1,19 @@
 -- What a store's calls do keeps that each settled object meets its class invariant.
 use Rattle.std.proofs.Common.{◌≡◌, ◌≢◌, ◌⊎◌, ⊎_elim, inl, inr, ℕ, zero, suc, ◌+◌, List, [], ◌∷◌, Option, Some, None, Bool, true, false, not, length, refl, sym, ap, ◌∙◌, subst, arith}
 use Rattle.std.proofs.lemmas.Bool.Decides.{nat_tests}
-use Rattle.std.specs.Prelude.{◌&&◌, ◌||◌, ◌==◌, nat_lt, slice_get, Result, Ok, Err, OnOk, OnErr, if◌then◌else◌}
+use Rattle.std.specs.Prelude.{◌&&◌, ◌||◌, ◌==◌, nat_lt, Result, Ok, Err, OnOk, OnErr, if◌then◌else◌}
 use Rattle.std.specs.Option.{is_none}
 use Rattle.sc_model.specs.declared.cause.Cause.{Cause}
 use Rattle.sc_model.specs.declared.cause.Cause.TheVariants as cause
 use Rattle.sc_region.specs.declared.value.Value.{Value}
 use Rattle.sc_region.specs.declared.value.Reference.{Reference}
-use Rattle.sc_region.specs.declared.layout.Layout.{Layout}
-use Rattle.sc_region.specs.declared.layout.RoutineLayout.{RoutineLayout}
+use Rattle.sc_lower.specs.declared.program.Image.{Image}
+use Rattle.sc_lower.specs.declared.program.RoutineCode.{RoutineCode}
 use Rattle.sc_region.specs.declared.frame.Origin.{Origin}
 use Rattle.sc_region.specs.declared.frame.Origin.TheVariants as origin
 use Rattle.sc_region.specs.Objects.{PlainObject, object_numbered}
 use Rattle.sc_region.specs.Frames.{PlainFrame, is_current}
-use Rattle.sc_region.specs.Layouts.{fresh_object, MeetsInvariant, object_breaks}
+use Rattle.sc_region.specs.Classes.{routine_at, fresh_object, MeetsInvariant, object_breaks}
 use Rattle.sc_region.specs.Stores.{PlainStore, max_objects, max_frames, new_store, is_settled, SettledObjectsMeet, failed, settled, written_to, written, entry, entered_at, entered, left_to, left, with_new, born, born_for, next_reference, made, made_for, printed}
 use Rattle.sc_region.specs.declared.frame.Activation.{Activation}
 use Rattle.sc_region.specs.declared.state.State.{State}
@@ -49,18 +49,18 @@ same_or_not (suc m) (suc n) = ⊎_elim (λ e. inl (ap suc e)) (λ ne. inr (λ e.
 
 -- what is settled meets its invariant, the object of this number aside
 OthersMeet : ℕ → PlainStore → Type 0
-OthersMeet number x = (k : ℕ) (o : PlainObject) → number ≢ k → is_settled k x ≡ true → object_numbered k x.objects ≡ Some o → MeetsInvariant x.layout o
+OthersMeet number x = (k : ℕ) (o : PlainObject) → number ≢ k → is_settled k x ≡ true → object_numbered k x.objects ≡ Some o → MeetsInvariant x.program o
 
 failed_keeps : (why : Cause) (x : PlainStore) → SettledObjectsMeet (failed why x)
 failed_keeps why x k o s g = none_some why (and_left (is_none (Some why)) (not (is_current k [])) s)
 
-settled_with : (number : ℕ) (x : PlainStore) (s b : Bool) → is_settled number x ≡ s → object_breaks x.layout (object_numbered number x.objects) ≡ b → OthersMeet number x
+settled_with : (number : ℕ) (x : PlainStore) (s b : Bool) → is_settled number x ≡ s → object_breaks x.program (object_numbered number x.objects) ≡ b → OthersMeet number x
     → SettledObjectsMeet (if s && b then failed cause.Invariant x else x)
 unfolding OthersMeet
 settled_with number x true true e f m = failed_keeps cause.Invariant x
 settled_with number x true false e f m = λ k o s g.
     ⊎_elim
-    (λ same. unbroken_meets x.layout (object_numbered number x.objects) o (ap (λ j. object_numbered j x.objects) same ∙ g) f)
+    (λ same. unbroken_meets x.program (object_numbered number x.objects) o (ap (λ j. object_numbered j x.objects) same ∙ g) f)
     (λ ne. m k o ne s g)
     (same_or_not number k)
 settled_with number x false b e f m = λ k o s g.
@@ -70,11 +70,11 @@ settled_with number x false b e f m = λ k o s g.
     (same_or_not number k)
 
 settled_keeps : (number : ℕ) (x : PlainStore) → OthersMeet number x → SettledObjectsMeet (settled number x)
-settled_keeps number x m = settled_with number x (is_settled number x) (object_breaks x.layout (object_numbered number x.objects)) refl refl m
+settled_keeps number x m = settled_with number x (is_settled number x) (object_breaks x.program (object_numbered number x.objects)) refl refl m
 
-pub new_keeps : (l : Layout) → SettledObjectsMeet (new_store l)
-new_keeps l zero o s g = cc
-new_keeps l (suc k) o s g = let none : object_numbered (suc k) [] ≡ None = numbered_suc k [] in cc
+pub new_keeps : (p : Image) → SettledObjectsMeet (new_store p)
+new_keeps p zero o s g = cc
+new_keeps p (suc k) o s g = let none : object_numbered (suc k) [] ≡ None = numbered_suc k [] in cc
 
 pub fail_keeps : (why : Cause) (x : PlainStore) → SettledObjectsMeet (failed why x)
 fail_keeps why x = failed_keeps why x
@@ -105,7 +105,7 @@ written_keeps slot v x m = written_to_keeps x.frames slot v x refl m
 
 -- what is settled meets its invariant, where the number is such
 MeetWhere : (ℕ → Type 0) → PlainStore → Type 0
-MeetWhere P x = (k : ℕ) (o : PlainObject) → P k → is_settled k x ≡ true → object_numbered k x.objects ≡ Some o → MeetsInvariant x.layout o
+MeetWhere P x = (k : ℕ) (o : PlainObject) → P k → is_settled k x ≡ true → object_numbered k x.objects ≡ Some o → MeetsInvariant x.program o
 
 failed_where : (P : ℕ → Type 0) (why : Cause) (x : PlainStore) → MeetWhere P (failed why x)
 unfolding MeetWhere
@@ -130,7 +130,7 @@ entered_with P true true f x m = frame_where P f x m
 entered_with P true false f x m = failed_where P cause.StackFull x
 entered_with P false room f x m = failed_where P cause.BadCode x
 
-entered_where : (P : ℕ → Type 0) (count : ℕ) (me : Reference) (routine : ℕ) (r : Option RoutineLayout) (o : Origin) (us : List Value) (x : PlainStore) →
+entered_where : (P : ℕ → Type 0) (count : ℕ) (me : Reference) (routine : ℕ) (r : Option RoutineCode) (o : Origin) (us : List Value) (x : PlainStore) →
     MeetWhere P x → MeetWhere P (entered_at count me routine r o us x)
 entered_where P count me routine None o us x m = failed_where P cause.BadCode x
 entered_where P count me routine (Some r) o us x m = entered_with P (length us == r.formals) (nat_lt count max_frames) (entry me routine r o us) x m
@@ -146,7 +146,7 @@ from_everywhere x m k o s g = m k o tt s g
 pub entered_keeps : (me : Reference) (routine : ℕ) (o : Origin) (us : List Value) (x : PlainStore) → SettledObjectsMeet x → SettledObjectsMeet (entered me routine o us x)
 entered_keeps me routine o us x m =
     from_everywhere (entered me routine o us x)
-    (entered_where (λ k. Unit {0}) (length x.frames) me routine (slice_get x.layout.routines.items routine) o us x (everywhere x m))
+    (entered_where (λ k. Unit {0}) (length x.frames) me routine (routine_at x.program routine) o us x (everywhere x m))
 
 left_to_keeps : (fs : List PlainFrame) (x : PlainStore) → x.frames ≡ fs → SettledObjectsMeet x → SettledObjectsMeet (left_to fs x)
 unfolding OthersMeet
@@ -164,7 +164,7 @@ left_keeps x m = left_to_keeps x.frames x refl m
 
 new_where : (class : ℕ) (x : PlainStore) → SettledObjectsMeet x → MeetWhere (λ k. length x.objects + 1 ≢ k) (with_new class x)
 unfolding MeetWhere
-new_where class x m k o ne s g = m k o s (sym (numbered_push x.objects (fresh_object x.layout class) k (λ e. ne (sym e))) ∙ g)
+new_where class x m k o ne s g = m k o s (sym (numbered_push x.objects (fresh_object x.program class) k (λ e. ne (sym e))) ∙ g)
 
 settled_where : (number : ℕ) (x : PlainStore) → MeetWhere (λ k. number ≢ k) x → SettledObjectsMeet (settled number x)
 unfolding MeetWhere OthersMeet
@@ -177,7 +177,7 @@ pub born_for_keeps : (me : Reference) (routine : ℕ) (o : Origin) (us : List Va
 born_for_keeps me routine o us x m =
     let y : PlainStore = with_new me.class x in
     settled_where (length x.objects + 1) (entered me routine o us y)
-    (entered_where (λ k. length x.objects + 1 ≢ k) (length y.frames) me routine (slice_get y.layout.routines.items routine) o us y (new_where me.class x m))
+    (entered_where (λ k. length x.objects + 1 ≢ k) (length y.frames) me routine (routine_at y.program routine) o us y (new_where me.class x m))
 
 pub made_keeps : (class : ℕ) (x : PlainStore) → SettledObjectsMeet x → SettledObjectsMeet (made class x)
 made_keeps class x m =

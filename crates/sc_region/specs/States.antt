@@ -18,7 +18,7 @@ stack_below None below = []
 stack_below (Some a) below = below
 
 abbrev pub state_of : State → PlainStore
-state_of s = record { layout = s.layout.now; objects = s.objects; frames = stack_of s.current s.top s.below; output = s.output.items; failure = s.failure }
+state_of s = record { program = s.program.now.image; objects = s.objects; frames = stack_of s.current s.top s.below; output = s.output.items; failure = s.failure }
 
 -- a frame that comes onto the others, or a failure
 abbrev pub opened : Result Frame Cause → PlainStore → PlainStore

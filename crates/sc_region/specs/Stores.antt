@@ -1,23 +1,25 @@
 -- The store of a handler, and what its calls make of it.
-use Rattle.std.specs.Prelude.{ℕ, ◌+◌, ◌≡◌, ◌==◌, ◌&&◌, Bool, true, false, not, List, [], ◌∷◌, ◌++◌, Option, Some, None, length, replicate, nat_lt, slice_get, if◌then◌else◌}
-use Rattle.std.specs.Option.{is_none}
+use Rattle.std.specs.Prelude.{ℕ, ◌+◌, ◌-◌, ◌≡◌, ◌==◌, ◌&&◌, Bool, true, not, List, [], ◌∷◌, ◌++◌, Option, Some, None, length, replicate, nat_lt, if◌then◌else◌}
+use Rattle.std.specs.Option.{is_none, option_map}
 use Rattle.sc_model.specs.declared.cause.Cause.{Cause}
 use Rattle.sc_model.specs.declared.cause.Cause.TheVariants as cause
 use Rattle.sc_region.specs.declared.value.Value.{Value}
 use Rattle.sc_region.specs.declared.value.Value.TheVariants.{Void}
 use Rattle.sc_region.specs.declared.value.Reference.{Reference}
-use Rattle.sc_region.specs.declared.layout.Layout.{Layout}
-use Rattle.sc_region.specs.declared.layout.RoutineLayout.{RoutineLayout}
+use Rattle.sc_lower.specs.declared.operation.DefaultValue.{DefaultValue}
+use Rattle.sc_lower.specs.declared.program.Image.{Image}
+use Rattle.sc_lower.specs.declared.program.RoutineCode.{RoutineCode}
 use Rattle.sc_region.specs.declared.frame.Origin.{Origin}
 use Rattle.sc_region.specs.declared.frame.Origin.TheVariants as origin
 use Rattle.sc_region.specs.declared.frame.Stage.{Stage}
 use Rattle.sc_region.specs.declared.frame.Stage.TheVariants as stage
+use Rattle.sc_region.specs.Values.{default_value}
 use Rattle.sc_region.specs.Objects.{PlainObject, object_numbered, with_attribute}
 use Rattle.sc_region.specs.Frames.{PlainActivation, PlainFrame, is_current}
-use Rattle.sc_region.specs.Layouts.{fresh_object, MeetsInvariant, object_breaks}
+use Rattle.sc_region.specs.Classes.{routine_at, fresh_object, MeetsInvariant, object_breaks}
 
 pub record PlainStore : Type 0 where
-  pub layout : Layout
+  pub program : Image
   pub objects : List PlainObject
   pub frames : List PlainFrame  -- the topmost first
   pub output : List ℕ
@@ -29,8 +31,8 @@ max_objects = 65536
 abbrev pub max_frames : ℕ
 max_frames = 1024
 
-abbrev pub new_store : Layout → PlainStore
-new_store l = record { layout = l; objects = []; frames = []; output = []; failure = None }
+abbrev pub new_store : Image → PlainStore
+new_store p = record { program = p; objects = []; frames = []; output = []; failure = None }
 
 -- ---- settled objects
 
@@ -40,7 +42,7 @@ is_settled number x = is_none x.failure && not (is_current number x.frames)
 
 -- Each settled object meets its class invariant.
 abbrev pub SettledObjectsMeet : PlainStore → Type 0
-SettledObjectsMeet x = (number : ℕ) (o : PlainObject) → is_settled number x ≡ true → object_numbered number x.objects ≡ Some o → MeetsInvariant x.layout o
+SettledObjectsMeet x = (number : ℕ) (o : PlainObject) → is_settled number x ≡ true → object_numbered number x.objects ≡ Some o → MeetsInvariant x.program o
 
 -- ---- failure
 
@@ -50,7 +52,7 @@ failed why x = record x { frames = []; failure = Some why }
 
 -- Where the object of the number is settled now and breaks its invariant, the store fails.
 abbrev pub settled : ℕ → PlainStore → PlainStore
-settled number x = if is_settled number x && object_breaks x.layout (object_numbered number x.objects) then failed cause.Invariant x else x
+settled number x = if is_settled number x && object_breaks x.program (object_numbered number x.objects) then failed cause.Invariant x else x
 
 -- ---- attributes
 
@@ -64,30 +66,31 @@ written slot v x = written_to x.frames slot v x
 
 -- ---- frames
 
-abbrev pub stage_of : Bool → Stage
-stage_of true = stage.Reserves
-stage_of false = stage.Runs
+-- a routine with attached separate formals begins with its reserve step
+abbrev pub stage_of : List ℕ → Stage
+stage_of [] = stage.Runs
+stage_of (slot ∷ slots) = stage.Reserves
 
 -- a routine begins: its first slots have the actuals, the others are Void
-abbrev pub beginning : ℕ → RoutineLayout → Origin → List Value → PlainActivation
+abbrev pub beginning : ℕ → RoutineCode → Origin → List Value → PlainActivation
 beginning routine r o actuals = record {
   routine = routine;
   origin = o;
-  stage = stage_of r.reserves;
+  stage = stage_of r.separate_formals.items;
   place = 0;
-  slots = actuals ++ replicate r.others Void;
-  result = r.result;
+  slots = actuals ++ replicate (r.slots - r.formals) Void;
+  result = option_map (λ (d : DefaultValue × Bool). default_value d.0) r.result;
   olds = record { room = r.olds; values = [] };
   operands = record { depth = r.depth; values = [] };
   reserved = [];
   blocks = [];
 }
 
-abbrev pub entry : Reference → ℕ → RoutineLayout → Origin → List Value → PlainFrame
+abbrev pub entry : Reference → ℕ → RoutineCode → Origin → List Value → PlainFrame
 entry me routine r o actuals = record { current = me; activation = beginning routine r o actuals }
 
 -- The frame comes onto the others, of which there are so many; where there are as many as there may be, the store fails.
-abbrev pub entered_at : ℕ → Reference → ℕ → Option RoutineLayout → Origin → List Value → PlainStore → PlainStore
+abbrev pub entered_at : ℕ → Reference → ℕ → Option RoutineCode → Origin → List Value → PlainStore → PlainStore
 entered_at count me routine None o actuals x = failed cause.BadCode x
 entered_at count me routine (Some r) o actuals x =
     if length actuals == r.formals
@@ -96,7 +99,7 @@ entered_at count me routine (Some r) o actuals x =
 
 -- the routine of the number is entered on this object
 abbrev pub entered : Reference → ℕ → Origin → List Value → PlainStore → PlainStore
-entered me routine o actuals x = entered_at (length x.frames) me routine (slice_get x.layout.routines.items routine) o actuals x
+entered me routine o actuals x = entered_at (length x.frames) me routine (routine_at x.program routine) o actuals x
 
 abbrev pub left_to : List PlainFrame → PlainStore → PlainStore
 left_to [] x = x
@@ -109,7 +112,7 @@ left x = left_to x.frames x
 -- ---- new objects
 
 abbrev pub with_new : ℕ → PlainStore → PlainStore
-with_new class x = record x { objects = x.objects ++ fresh_object x.layout class ∷ [] }
+with_new class x = record x { objects = x.objects ++ fresh_object x.program class ∷ [] }
 
 -- the object is made by a request, without a procedure
 abbrev pub born : ℕ → PlainStore → PlainStore

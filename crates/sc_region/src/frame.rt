@@ -5,10 +5,10 @@ ghost use Rattle.sc_region.specs.Stores.{beginning};
 ghost use Rattle.sc_region.specs.declared.value.Value.TheVariants.{Void};
 ghost use Rattle.sc_region.specs.Frames.{activation_of, frame_of, frame_with, is_current};
 
-use crate::layout::RoutineLayout;
 use crate::operands::{Olds, Operands};
 use crate::value::{Reference, Value};
 use arrayvec::ArrayVec;
+use sc_lower::RoutineCode;
 use std::alloc::{AllocError, Global};
 use std::marker::Model;
 use std::mem;
@@ -92,11 +92,11 @@ impl Activation {
     pub(crate) fn begin(
         self,
         routine: usize,
-        layout: &RoutineLayout,
+        code: &RoutineCode,
         origin: Origin,
         actuals: &[Value],
     ) -> Result<Activation, AllocError>
-        ensures { IfOk result (λ a. activation_of a ≡ beginning routine layout.now origin actuals.now) }
+        ensures { IfOk result (λ a. activation_of a ≡ beginning routine code.now origin actuals.now) }
     {
         let Activation {
             mut slots,
@@ -105,15 +105,15 @@ impl Activation {
             mut blocks,
             ..
         } = self;
-        fill_slots(&mut slots, actuals, layout.others)?;
-        olds.reset(layout.olds)?;
-        operands.reset(layout.depth)?;
+        fill_slots(&mut slots, actuals, code.slots.saturating_sub(code.formals))?;
+        olds.reset(code.olds)?;
+        operands.reset(code.depth)?;
         blocks.clear();
-        blocks.reserve(layout.blocks)?;
-        let stage = if layout.reserves {
-            Stage::Reserves
-        } else {
+        blocks.reserve(code.blocks)?;
+        let stage = if code.separate_formals.is_empty() {
             Stage::Runs
+        } else {
+            Stage::Reserves
         };
         Ok(Activation {
             routine,
@@ -121,7 +121,7 @@ impl Activation {
             stage,
             place: 0,
             slots,
-            result: layout.result,
+            result: code.result.map(|(default, _)| Value::of_default(default)),
             olds,
             operands,
             reserved: ArrayVec::new(),

@@ -7,16 +7,15 @@
 
 mod frame;
 mod job;
-mod layout;
 mod object;
 mod operands;
+mod program;
 mod state;
 mod store;
 mod value;
 
 pub use frame::{Activation, Origin, Stage};
 pub use job::{Errand, Job, Outcome, Request, Want};
-pub use layout::{ClassLayout, Layout, RoutineLayout};
 pub use operands::{Olds, Operands};
 pub use store::Store;
 pub use value::{Reference, Value};

@@ -1,8 +1,9 @@
 //! The objects of a handler.
 ghost use Rattle.std.specs.Prelude.{◌≤◌, vec_len};
 
-use crate::layout::Layout;
+use crate::program::{class_at, defaults};
 use crate::value::Value;
+use sc_lower::Program;
 use std::alloc::{AllocError, Global};
 use std::marker::Model;
 
@@ -17,24 +18,23 @@ pub struct Object {
 impl Object {
     ghost use Rattle.std.specs.Prelude.{◌≡◌, IfOk};
     ghost use Rattle.sc_region.specs.Objects.{object_of, with_slot};
-    ghost use Rattle.sc_region.specs.Layouts.{fresh_object};
+    ghost use Rattle.sc_region.specs.Classes.{fresh_object};
 
     /// A new object of the class of the number: each attribute has its default.
-    pub fn fresh(alloc: Global, layout: &Layout, class: u8) -> Result<Object, AllocError>
-        ensures { IfOk result (λ object. object_of object ≡ fresh_object layout.now class) }
+    pub fn fresh(alloc: Global, program: &Program, class: u8) -> Result<Object, AllocError>
+        ensures { IfOk result (λ object. object_of object ≡ fresh_object program.now.image class) }
     {
-        let attributes = match layout.classes.get(usize::from(class)) {
-            Some(class) => Vec::from_slice(alloc, &class.defaults)?,
+        let attributes = match class_at(program, class) {
+            Some(code) => defaults(alloc, code)?,
             None => Vec::new(alloc),
         };
         Ok(Object { class, attributes })
     }
 
     /// The attribute at the number gets the value, where there is one.
-    fn write(&mut self, slot: u8, value: Value)
+    fn write(&mut self, slot: usize, value: Value)
         ensures { object_of self.new ≡ with_slot slot value (object_of self.old) }
     {
-        let slot = usize::from(slot);
         if slot < self.attributes.len() {
             self.attributes[slot] = value;
         }
@@ -60,7 +60,7 @@ impl Model for Objects {
 impl Objects {
     ghost use Rattle.std.specs.Prelude.{◌≡◌, ◌-◌, ◌++◌, [], ◌∷◌, OnOk, OnErr, length, take};
     ghost use Rattle.std.specs.Option.{option_map};
-    ghost use Rattle.sc_region.specs.Objects.{object_of, object_numbered, attribute_of, with_attribute};
+    ghost use Rattle.sc_region.specs.Objects.{PlainObject, object_of, object_numbered, attribute_of, with_attribute};
 
     pub fn new(alloc: Global) -> Objects
         ensures { result ≡ [] }
@@ -102,15 +102,22 @@ impl Objects {
         self.items.get(number - 1)
     }
 
+    /// The class of the object of the number.
+    pub fn class_of(&self, number: usize) -> Option<u8>
+        ensures { result ≡ option_map (λ (o : PlainObject). o.class) (object_numbered number self.now) }
+    {
+        Some(self.get(number)?.class)
+    }
+
     /// The attribute of the object at these numbers.
-    pub fn read(&self, number: usize, slot: u8) -> Option<Value>
+    pub fn read(&self, number: usize, slot: usize) -> Option<Value>
         ensures { result ≡ attribute_of number slot self.now }
     {
-        self.get(number)?.attributes.get(usize::from(slot)).copied()
+        self.get(number)?.attributes.get(slot).copied()
     }
 
     /// The attribute of the object at these numbers gets the value, where there is one.
-    pub fn write(&mut self, number: usize, slot: u8, value: Value)
+    pub fn write(&mut self, number: usize, slot: usize, value: Value)
         ensures { self.new ≡ with_attribute number slot value self.old }
     {
         if number != 0 && number <= self.items.len() {

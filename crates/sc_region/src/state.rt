@@ -3,16 +3,17 @@ ghost use Rattle.std.specs.Prelude.{◌≡◌, ◌<◌, ◌≤◌, ◌+◌, ◌^
 ghost use Rattle.sc_formula.specs.Plain.{plain_formula};
 ghost use Rattle.sc_region.specs.Objects.{object_of, object_numbered};
 ghost use Rattle.sc_region.specs.Frames.{activation_of, frame_of};
-ghost use Rattle.sc_region.specs.Layouts.{meets_invariant, all_hold, object_meets, object_breaks};
+ghost use Rattle.sc_region.specs.Classes.{meets_invariant, all_hold, object_meets, object_breaks};
 ghost use Rattle.sc_region.specs.Stores.{failed, is_settled, settled, written, beginning, entered, left, with_new, born, born_for, made, made_for, printed};
 ghost use Rattle.sc_region.specs.States.{state_of, stack_below, opened};
 ghost use Rattle.sc_region.specs.Values.{atoms_of};
 
 use crate::frame::{Activation, Frame, Frames, Origin};
-use crate::layout::{Layout, RoutineLayout};
 use crate::object::{Object, Objects};
+use crate::program::{class_at, routine_at};
 use crate::value::{Reference, Value};
 use sc_formula::{Atom, Formula};
+use sc_lower::{Program, RoutineCode};
 use sc_model::Cause;
 use std::alloc::{AllocError, Global};
 use std::mem;
@@ -27,7 +28,7 @@ const MAX_FRAMES: usize = 1024;
 #[derive(Drop)]
 pub struct State<'p> {
     pub alloc: Global,
-    pub layout: &'p Layout,
+    pub program: &'p Program,
     pub objects: Objects,
     /// The object of the topmost frame, where there is one.
     pub current: Reference,
@@ -65,28 +66,28 @@ pub fn is_settled(state: &State<'_>, number: usize) -> bool
 
 /// Whether there is an object of the number, and it meets its class invariant.
 pub fn object_meets(state: &State<'_>, number: usize) -> bool
-    ensures { result ≡ object_meets state.now.layout.now (object_numbered number state.now.objects) }
+    ensures { result ≡ object_meets state.now.program.now.image (object_numbered number state.now.objects) }
 {
     match state.objects.get(number) {
-        Some(object) => meets_invariant(state.layout, object),
+        Some(object) => meets_invariant(state.program, object),
         None => false,
     }
 }
 
 /// Whether there is an object of the number, and it breaks its class invariant.
 fn object_breaks(state: &State<'_>, number: usize) -> bool
-    ensures { result ≡ object_breaks state.now.layout.now (object_numbered number state.now.objects) }
+    ensures { result ≡ object_breaks state.now.program.now.image (object_numbered number state.now.objects) }
 {
     match state.objects.get(number) {
-        Some(object) => !meets_invariant(state.layout, object),
+        Some(object) => !meets_invariant(state.program, object),
         None => false,
     }
 }
 
-fn meets_invariant(layout: &Layout, object: &Object) -> bool
-    ensures { result ≡ meets_invariant layout.now (object_of object.now) }
+fn meets_invariant(program: &Program, object: &Object) -> bool
+    ensures { result ≡ meets_invariant program.now.image (object_of object.now) }
 {
-    match layout.classes.get(usize::from(object.class)) {
+    match class_at(program, object.class) {
         Some(class) => meets_clauses(&class.invariant, &object.attributes),
         None => true,
     }
@@ -135,7 +136,7 @@ fn is_on_top(state: &State<'_>, number: usize) -> bool
 // ---- attributes
 
 /// The attribute of Current at the number gets the value.
-pub fn write_current(state: &mut State<'_>, slot: u8, value: Value)
+pub fn write_current(state: &mut State<'_>, slot: usize, value: Value)
     ensures { state_of state.new ≡ written slot value (state_of state.old) }
 {
     if state.top.is_some() {
@@ -167,8 +168,7 @@ fn open(
     ensures opened { IfOk result (λ r.
         opened r (state_of state.old) ≡ entered current routine origin actuals.now (state_of state.old)) }
 {
-    let layout = state.layout;
-    let Some(entered) = layout.routines.get(routine) else {
+    let Some(entered) = routine_at(state.program, routine) else {
         return Ok(Err(Cause::BadCode));
     };
     if actuals.len() != entered.formals {
@@ -188,18 +188,18 @@ fn open(
 fn activate(
     state: &mut State<'_>,
     routine: usize,
-    layout: &RoutineLayout,
+    code: &RoutineCode,
     origin: Origin,
     actuals: &[Value],
 ) -> Result<Activation, AllocError>
     ensures kept { state_of state.new ≡ state_of state.old }
-    ensures begun { IfOk result (λ a. activation_of a ≡ beginning routine layout.now origin actuals.now) }
+    ensures begun { IfOk result (λ a. activation_of a ≡ beginning routine code.now origin actuals.now) }
 {
     let memory = match state.spare.pop() {
         Some(memory) => memory,
         None => Activation::empty(state.alloc),
     };
-    memory.begin(routine, layout, origin, actuals)
+    memory.begin(routine, code, origin, actuals)
 }
 
 /// The frame comes onto the others.
@@ -275,7 +275,7 @@ fn add_object(state: &mut State<'_>, class: u8) -> Result<(), AllocError>
     ensures ok { OnOk result (state_of state.new ≡ with_new class (state_of state.old)) }
     ensures err { OnErr result (state_of state.new ≡ state_of state.old) }
 {
-    let object = Object::fresh(state.alloc, state.layout, class)?;
+    let object = Object::fresh(state.alloc, state.program, class)?;
     state.objects.push(object)?;
     Ok(())
 }

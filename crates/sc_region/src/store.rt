@@ -1,15 +1,15 @@
 //! The store of a handler.
 ghost use Rattle.std.specs.Prelude.{◌≡◌, ◌↔◌, ◌&&◌, OnOk, OnErr, IsTrue, is_some};
-ghost use Rattle.sc_region.specs.Objects.{object_numbered, attribute_of};
-ghost use Rattle.sc_region.specs.Layouts.{MeetsAt};
+ghost use Rattle.sc_region.specs.Objects.{PlainObject, object_numbered, attribute_of};
+ghost use Rattle.sc_region.specs.Classes.{MeetsAt};
 ghost use Rattle.sc_region.specs.Stores.{new_store, is_settled, failed, written, entered, left, born, born_for, made, made_for, printed};
 ghost use Rattle.sc_region.specs.declared.frame.Origin.TheVariants as origin;
 
 use crate::frame::{Activation, Frames, Origin};
-use crate::layout::Layout;
 use crate::object::Objects;
 use crate::state::{self, State};
 use crate::value::{Reference, Value};
+use sc_lower::Program;
 use sc_model::Cause;
 use std::alloc::{AllocError, Global};
 use std::marker::Model;
@@ -56,14 +56,14 @@ impl<'p> Store<'p> {
     ghost use Rattle.sc_region.specs.Frames.{activation_of, top_current, top_activation};
     ghost use Rattle.sc_region.specs.Lending.{LendsTop};
 
-    /// A store with no objects and no frames. What grows later takes its memory from this allocator.
-    pub fn new(alloc: Global, layout: &'p Layout) -> Store<'p>
-        ensures { result ≡ new_store layout.now }
+    /// A store of a program, with no objects and no frames. What grows later takes its memory from this allocator.
+    pub fn new(alloc: Global, program: &'p Program) -> Store<'p>
+        ensures { result ≡ new_store program.now.image }
     {
         Store {
             state: State {
                 alloc,
-                layout,
+                program,
                 objects: Objects::new(alloc),
                 current: NOBODY,
                 top: None,
@@ -75,8 +75,22 @@ impl<'p> Store<'p> {
         }
     }
 
+    /// The program that the store is of.
+    pub fn program(&self) -> &'p Program
+        ensures { result.now.image ≡ self.now.program }
+    {
+        self.state.program
+    }
+
+    /// The number of the class of an object, or None where there is no object. It takes constant time.
+    pub fn class_of(&self, number: u32) -> Option<u8>
+        ensures { result ≡ option_map (λ (o : PlainObject). o.class) (object_numbered number self.now.objects) }
+    {
+        self.state.objects.class_of(number as usize)
+    }
+
     /// The attribute of the number `slot` of an object, or None where there is none. It takes constant time.
-    pub fn read(&self, number: u32, slot: u8) -> Option<Value>
+    pub fn read(&self, number: u32, slot: usize) -> Option<Value>
         ensures { result ≡ attribute_of number slot self.now.objects }
     {
         self.state.objects.read(number as usize, slot)
@@ -84,7 +98,7 @@ impl<'p> Store<'p> {
 
     /// The attribute of the number `slot` of Current gets the value. Where there is no frame, or Current has no such
     /// attribute, nothing changes. It takes constant time.
-    pub fn write_current(&mut self, slot: u8, value: Value)
+    pub fn write_current(&mut self, slot: usize, value: Value)
         ensures { self.new ≡ written slot value self.old }
     {
         state::write_current(&mut self.state, slot, value);
@@ -188,7 +202,7 @@ impl<'p> Store<'p> {
     /// has it as Current. It meets its class invariant then. Looks at each frame at most once.
     pub fn settled(&self, number: u32) -> bool
         ensures settled { result ≡ (is_settled number self.now && is_some (object_numbered number self.now.objects)) }
-        ensures meets { IsTrue result → MeetsAt self.now.layout (object_numbered number self.now.objects) }
+        ensures meets { IsTrue result → MeetsAt self.now.program (object_numbered number self.now.objects) }
     {
         let number = number as usize;
         self.state.objects.get(number).is_some() && state::is_settled(&self.state, number)
@@ -196,7 +210,7 @@ impl<'p> Store<'p> {
 
     /// Whether there is an object of the number, and it meets its class invariant.
     pub fn test_invariant(&self, number: u32) -> bool
-        ensures { IsTrue result ↔ MeetsAt self.now.layout (object_numbered number self.now.objects) }
+        ensures { IsTrue result ↔ MeetsAt self.now.program (object_numbered number self.now.objects) }
     {
         state::object_meets(&self.state, number as usize)
     }

@@ -1,8 +1,9 @@
 //! Values (ECMA-367, 8.19).
 ghost use Rattle.std.specs.Prelude.{◌≡◌};
-ghost use Rattle.sc_region.specs.Values.{atom_of};
+ghost use Rattle.sc_region.specs.Values.{default_value, atom_of};
 
 use sc_formula::Atom;
+use sc_lower::DefaultValue;
 
 /// A reference to an object. It takes 8 bytes.
 #[derive(Clone, Copy, Debug, PartialEq, Eq)]
@@ -27,6 +28,17 @@ pub enum Value {
 }
 
 impl Value {
+    /// What an entity holds at first.
+    pub fn of_default(default: DefaultValue) -> Value
+        ensures { result ≡ default_value default }
+    {
+        match default {
+            DefaultValue::Zero => Value::Integer(0),
+            DefaultValue::False => Value::Boolean(false),
+            DefaultValue::Void => Value::Void,
+        }
+    }
+
     /// What an invariant sees of the value.
     pub fn atom(&self) -> Atom
         ensures { result ≡ atom_of self.now }
