@@ -1,4 +1,9 @@
 pub mod GoingOn
 pub mod Ahead
 pub mod Popping
-pub mod Demanding
+pub mod Listing
+pub mod Opening
+pub mod Tests
+pub mod Valued
+pub mod Playing
+pub mod Assigning

@@ -1,4 +1,6 @@
 pub mod Values
 pub mod Serving
 pub mod Standing
+pub mod Objects
+pub mod Playing
 pub mod Laws

@@ -1,26 +1,60 @@
 //! Calls, creations and separate blocks: what they name is told, and the routine stays as it is.
-ghost use Rattle.std.specs.Prelude.{◌≡◌, ℕ, ◌||◌, not, drop, length, nat_lt, slice_get};
+ghost use Rattle.std.specs.Prelude.{◌≡◌, ℕ, Some, None, ◌||◌, not, drop, length, nat_lt, slice_get, if◌then◌else◌};
+ghost use Rattle.std.specs.Option.{option_map, option_and_then};
 ghost use Rattle.sc_region.specs.Frames.{activation_of};
 ghost use Rattle.sc_lower.specs.declared.operation.Operation.TheVariants as coded;
-ghost use Rattle.sc_interp.specs.Standing.{Follows, Stays};
+ghost use Rattle.sc_lower.specs.Programs.{pool_of};
+ghost use Rattle.sc_lower.specs.View.{call_of, creation_of, named};
+ghost use Rattle.sc_interp.specs.Standing.{Follows, Stays, listed, call_in, creation_in};
 
 use crate::act::{Act, Calling, Hop};
-use sc_lower::{CallSite, CreationSite, Program};
+use sc_lower::{CallSite, ConstantPool, CreationSite, Program};
 use sc_model::Cause;
 use sc_region::{Activation, Reference};
 
-/// The call's site of the number.
-fn call_at(program: &Program, number: usize) -> Option<CallSite>
-    ensures { result ≡ slice_get program.now.calls.items number }
+/// Whether there is a name of the number.
+pub fn has_name(pool: &ConstantPool, name: usize) -> bool
+    ensures { slice_get (pool_of pool.now).names name ≡ (if result then Some (listed (pool_of pool.now).names name) else None) }
 {
-    program.calls.get(number).copied()
+    name < pool.names.len()
 }
 
-/// The creation's site of the number.
-fn creation_at(program: &Program, number: usize) -> Option<CreationSite>
-    ensures { result ≡ slice_get program.now.creations.items number }
+/// Whether there is a name of the number, where a number is given.
+fn has_procedure(pool: &ConstantPool, procedure: Option<usize>) -> bool
+    ensures { named (pool_of pool.now).names procedure ≡ (if result then Some (option_map (listed (pool_of pool.now).names) procedure) else None) }
 {
-    program.creations.get(number).copied()
+    match procedure {
+        None => true,
+        Some(name) => has_name(pool, name),
+    }
+}
+
+/// The call's site of the number, where it and its name are there.
+fn call_at(program: &Program, number: usize) -> Option<CallSite>
+    ensures { let pool = pool_of program.now.image.pool in
+        option_map (call_in pool) result ≡ option_and_then (call_of pool) (slice_get pool.calls number) }
+{
+    let pool = program.pool();
+    let site = *pool.calls.get(number)?;
+    if has_name(pool, site.name) {
+        Some(site)
+    } else {
+        None
+    }
+}
+
+/// The creation's site of the number, where it and the name of its procedure are there.
+fn creation_at(program: &Program, number: usize) -> Option<CreationSite>
+    ensures { let pool = pool_of program.now.image.pool in
+        option_map (creation_in pool) result ≡ option_and_then (creation_of pool) (slice_get pool.creations number) }
+{
+    let pool = program.pool();
+    let site = *pool.creations.get(number)?;
+    if has_procedure(pool, site.procedure) {
+        Some(site)
+    } else {
+        None
+    }
 }
 
 /// Whether there is room for what comes where the last so many operands are gone, if anything comes.
@@ -49,7 +83,7 @@ pub fn call_routine(
     me: Reference,
     number: usize,
 ) -> Hop
-    ensures follows { (count : ℕ) → Follows program.now me count (coded.CallRoutine number)
+    ensures follows { (count : ℕ) → Follows program.now.image me count (coded.CallRoutine number)
         result (activation_of activation.old) (activation_of activation.new) }
     ensures stays { Stays (activation_of activation.old) (activation_of activation.new) }
 {
@@ -74,7 +108,7 @@ pub fn call_routine(
 
 /// An object of this handler is created, by the number of the creation's site.
 pub fn create(program: &Program, activation: &mut Activation, me: Reference, number: usize) -> Hop
-    ensures follows { (count : ℕ) → Follows program.now me count (coded.Create number)
+    ensures follows { (count : ℕ) → Follows program.now.image me count (coded.Create number)
         result (activation_of activation.old) (activation_of activation.new) }
     ensures stays { Stays (activation_of activation.old) (activation_of activation.new) }
 {
@@ -99,7 +133,7 @@ pub fn create_handler(
     me: Reference,
     number: usize,
 ) -> Hop
-    ensures follows { (count : ℕ) → Follows program.now me count (coded.CreateHandler number) result
+    ensures follows { (count : ℕ) → Follows program.now.image me count (coded.CreateHandler number) result
         (activation_of activation.old) (activation_of activation.new) }
     ensures stays { Stays (activation_of activation.old) (activation_of activation.new) }
 {

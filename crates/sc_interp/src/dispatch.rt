@@ -1,16 +1,18 @@
-//! One operation that asks nothing of the objects.
+//! One operation that asks nothing of the attributes of objects.
 ghost use Rattle.std.specs.Prelude.{◌≡◌, IfOk, OnErr, true};
 ghost use Rattle.sc_region.specs.Frames.{activation_of};
 ghost use Rattle.sc_interp.specs.Standing.{Follows, Stays, is_simple};
 
 use crate::act::{Act, Hop};
+use crate::blocks::open;
 use crate::calling::{call_routine, create, create_handler};
 use crate::passing::{push, skip};
 use crate::reading::{initialize, keep_old, push_old, push_result, push_slot};
 use crate::silent::{
     apply_binary, apply_unary, conclude, decide, expect, skip_if_false, store_result, store_slot,
 };
-use crate::visible::{demand, end_loop, print};
+use crate::testing::test;
+use crate::visible::{demand, end_loop, print, print_text};
 use sc_lower::{Operation, Program};
 use sc_region::{Activation, Reference, Value};
 use std::alloc::AllocError;
@@ -25,7 +27,7 @@ pub fn hop_on(
     operation: Operation,
 ) -> Result<Hop, AllocError>
     requires { is_simple operation ≡ true }
-    ensures follows { IfOk result (λ hop. Follows program.now me count operation hop (activation_of activation.old) (activation_of activation.new)) }
+    ensures follows { IfOk result (λ hop. Follows program.now.image me count operation hop (activation_of activation.old) (activation_of activation.new)) }
     ensures stays { Stays (activation_of activation.old) (activation_of activation.new) }
     ensures err { OnErr result (activation_of activation.new ≡ activation_of activation.old) }
 {
@@ -51,7 +53,7 @@ pub fn hop_on(
         Operation::Initialize { value, slot } => Ok(initialize(activation, count, slot, value)),
         Operation::KeepOld => keep_old(activation, count),
         Operation::Print => Ok(print(activation)),
-        Operation::PrintText(text) => Ok(Hop::Comes(Act::PrintText(text))),
+        Operation::PrintText(text) => Ok(print_text(program, text)),
         Operation::SkipIfFalse(passed) => Ok(skip_if_false(activation, count, passed)),
         Operation::Jump(passed) => Ok(skip(activation, count, passed)),
         Operation::EndLoop(back) => Ok(end_loop(activation, back)),
@@ -62,6 +64,8 @@ pub fn hop_on(
         Operation::CallRoutine(number) => Ok(call_routine(program, activation, me, number)),
         Operation::Create(number) => Ok(create(program, activation, me, number)),
         Operation::CreateHandler(number) => Ok(create_handler(program, activation, me, number)),
+        Operation::Test(number) => Ok(test(program, activation, me, count, number)),
+        Operation::Open(number) => Ok(open(program, activation, number)),
         Operation::Demand(number) => Ok(demand(program, activation, count, number)),
         _ => unreachable!(),
     }

@@ -5,6 +5,8 @@
 #![tactic(auto)]
 
 mod act;
+mod attributes;
+mod blocks;
 mod calling;
 mod dispatch;
 mod evaluation;
@@ -12,7 +14,9 @@ pub mod laws;
 mod passing;
 mod reading;
 mod silent;
+mod testing;
 mod visible;
 
 pub use act::{Act, Calling, Hop};
+pub use attributes::{push_attribute, store_attribute};
 pub use dispatch::hop_on;

@@ -1,5 +1,5 @@
 //! Operations that pass on in the code: in place, on the activation.
-ghost use Rattle.std.specs.Prelude.{◌<◌, ◌∷◌, length};
+ghost use Rattle.std.specs.Prelude.{◌<◌, ◌∷◌, drop, length};
 ghost use Rattle.sc_lower.specs.Machine as flat;
 ghost use Rattle.sc_region.specs.Frames.{activation_of};
 ghost use Rattle.sc_interp.specs.Values.{value_of, evaluated};
@@ -67,6 +67,15 @@ pub fn replace(activation: &mut Activation, count: usize, found: Result<Value, C
         Ok(value) => put_past(activation, count, value, 0),
         Err(why) => Hop::Failed(why),
     }
+}
+
+/// The last operand goes, and on.
+pub fn pass_last(activation: &mut Activation, count: usize) -> Hop
+    ensures passes { Passes count (λ c f. flat.goes_on c (record f { values = drop 1 f.values })) result (activation_of activation.old) (activation_of activation.new) }
+    ensures stays { Stays (activation_of activation.old) (activation_of activation.new) }
+{
+    activation.operands.drop_last(1);
+    skip(activation, count, 0)
 }
 
 /// The slot gets the value; F16 where there is no such slot.

@@ -2,7 +2,7 @@
 ghost use Rattle.std.specs.Prelude.{ℕ};
 ghost use Rattle.sc_lower.specs.declared.operation.Operation.TheVariants as coded;
 ghost use Rattle.sc_region.specs.declared.value.Reference as code;
-ghost use Rattle.sc_region.specs.Frames.{activation_of};
+ghost use Rattle.sc_region.specs.Frames.{PlainActivation, activation_of};
 ghost use Rattle.sc_lower.specs.Operations as flat;
 ghost use Rattle.sc_interp.specs.Standing.{Demands, Follows, Hops, Stays};
 
@@ -27,6 +27,17 @@ pub fn print(activation: &mut Activation) -> Hop
             Hop::Comes(Act::PrintBoolean(value))
         }
         Some(Value::Void | Value::Attached(_)) | None => Hop::Failed(Cause::BadCode),
+    }
+}
+
+/// The text of the number is printed, where there is one.
+pub fn print_text(program: &Program, text: usize) -> Hop
+    ensures follows { (me : code.Reference) (count : ℕ) (a : PlainActivation) → Follows program.now.image me count (coded.PrintText text) result a a }
+{
+    if text < program.pool().texts.len() {
+        Hop::Comes(Act::PrintText(text))
+    } else {
+        Hop::Failed(Cause::BadCode)
     }
 }
 
@@ -61,10 +72,10 @@ fn demand_on(activation: &mut Activation, count: usize, number: usize) -> Hop
 
 /// The same, where the program has such a list.
 pub fn demand(program: &Program, activation: &mut Activation, count: usize, number: usize) -> Hop
-    ensures follows { (me : code.Reference) → Follows program.now me count (coded.Demand number) result (activation_of activation.old) (activation_of activation.new) }
+    ensures follows { (me : code.Reference) → Follows program.now.image me count (coded.Demand number) result (activation_of activation.old) (activation_of activation.new) }
     ensures stays { Stays (activation_of activation.old) (activation_of activation.new) }
 {
-    if number < program.demands.len() {
+    if number < program.pool().demands.len() {
         demand_on(activation, count, number)
     } else {
         Hop::Failed(Cause::BadCode)

@@ -1,37 +1,37 @@
 use Rattle.std.proofs.Common.{◌<◌, ◌≤◌, true, false, length, sym, ap, ◌∙◌, arith}
 use Rattle.std.proofs.lemmas.List.{length-map}
+use Rattle.std.specs.Prelude.{Option}
 use Rattle.std.specs.Option.{option_map}
-use Rattle.sc_lower.specs.declared.site.CallSite.{CallSite}
-use Rattle.sc_lower.specs.Operations.{CallRoutine}
-use Rattle.sc_lower.specs.View.{call_of}
+use Rattle.sc_lower.specs.Operations.{CallSite, CallRoutine}
+use Rattle.sc_lower.specs.Programs.{pool_of}
 use Rattle.sc_lower.specs.Machine.{hop_of}
 use Rattle.sc_region.specs.Frames.{activation_of}
 use Rattle.sc_interp.specs.declared.act.Calling.TheVariants as calling
 use Rattle.sc_interp.specs.Values.{value_of, values_of, reference_of}
-use Rattle.sc_interp.specs.Standing.{state_of, name_at, enters}
+use Rattle.sc_interp.specs.Standing.{call_in, state_of, name_at, enters}
 use Rattle.sc_interp.proofs.Popping.{routine_short, routine_by, room_test, misfits}
 use Rattle.sc_interp.proofs.calling.call_routine.Goals as goal
 
 pub returns-then-count-len-clause-follows : goal.returns-then-count-len-clause-follows
 returns-then-count-len-clause-follows c = λ count s code objects serves fits.
     let a = activation_of c.args.activation.now in
-    let p = c.args.program.now in
+    let p = c.args.program.now.image in
     let me = reference_of c.args.me in
     let f = state_of objects a in
     let site = c.in-Some.site in
     let short : length (values_of a.operands.values) < site.count = omega (arith, length-map a.operands.values value_of, c.if-count-len.true, c.len.ensures) in
-    ap (λ o. hop_of s code me (option_map (λ (k : CallSite). CallRoutine (call_of p k)) o) f) (sym c.call_at.ensures ∙ c.in-Some.is)
+    ap (λ (o : Option CallSite). hop_of s code me (option_map CallRoutine o) f) (sym c.call_at.ensures ∙ ap (option_map (call_in (pool_of p.pool))) c.in-Some.is)
     ∙ routine_short p site me code f short
 
 pub returns-then-not-has_room-clause-follows : goal.returns-then-not-has_room-clause-follows
 returns-then-not-has_room-clause-follows c = λ count s code objects serves fits.
     let a = activation_of c.args.activation.now in
-    let p = c.args.program.now in
+    let p = c.args.program.now.image in
     let me = reference_of c.args.me in
     let f = state_of objects a in
     let site = c.in-Some.site in
     let enough : site.count ≤ length (values_of a.operands.values) = omega (arith, length-map a.operands.values value_of, c.if-count-len.false, c.len.ensures) in
-    ap (λ o. hop_of s code me (option_map (λ (k : CallSite). CallRoutine (call_of p k)) o) f) (sym c.call_at.ensures ∙ c.in-Some.is)
+    ap (λ (o : Option CallSite). hop_of s code me (option_map CallRoutine o) f) (sym c.call_at.ensures ∙ ap (option_map (call_in (pool_of p.pool))) c.in-Some.is)
     ∙ routine_by p site me code f false enough
     (room_test _ _ _ site.count a.operands.values a.operands.depth code.depth c.has_room.ensures c.is_some-gives.ensures fits.depth ∙ c.if-not-has_room.true)
     ∙ misfits p s code me objects site.count c.misfit.result a (activation_of c.misfit.new.activation) c.misfit.ensures.gone c.misfit.ensures.failed
@@ -39,12 +39,12 @@ returns-then-not-has_room-clause-follows c = λ count s code objects serves fits
 pub returns-clause-follows : goal.returns-clause-follows
 returns-clause-follows c = λ count s code objects serves fits.
     let a = activation_of c.args.activation.now in
-    let p = c.args.program.now in
+    let p = c.args.program.now.image in
     let me = reference_of c.args.me in
     let f = state_of objects a in
     let site = c.in-Some.site in
     let enough : site.count ≤ length (values_of a.operands.values) = omega (arith, length-map a.operands.values value_of, c.if-count-len.false, c.len.ensures) in
-    ap (λ o. hop_of s code me (option_map (λ (k : CallSite). CallRoutine (call_of p k)) o) f) (sym c.call_at.ensures ∙ c.in-Some.is)
+    ap (λ (o : Option CallSite). hop_of s code me (option_map CallRoutine o) f) (sym c.call_at.ensures ∙ ap (option_map (call_in (pool_of p.pool))) c.in-Some.is)
     ∙ routine_by p site me code f true enough
     (room_test _ _ _ site.count a.operands.values a.operands.depth code.depth c.has_room.ensures c.is_some-gives.ensures fits.depth ∙ c.if-not-has_room.false)
     ∙ ap (λ g. enters calling.Unqualified me (name_at p site.name) site.count g f) (sym c.is_some-gives.ensures)

@@ -1,35 +1,35 @@
 use Rattle.std.proofs.Common.{◌<◌, ◌≤◌, true, false, length, refl, sym, ap, ◌∙◌, arith}
 use Rattle.std.proofs.lemmas.List.{length-map}
+use Rattle.std.specs.Prelude.{Option}
 use Rattle.std.specs.Option.{option_map}
-use Rattle.sc_lower.specs.declared.site.CreationSite.{CreationSite}
-use Rattle.sc_lower.specs.Operations.{CreateHandler}
-use Rattle.sc_lower.specs.View.{creation_of}
+use Rattle.sc_lower.specs.Operations.{CreationSite, CreateHandler}
+use Rattle.sc_lower.specs.Programs.{pool_of}
 use Rattle.sc_lower.specs.Machine.{hop_of}
 use Rattle.sc_region.specs.Frames.{activation_of}
 use Rattle.sc_interp.specs.Values.{value_of, values_of, reference_of}
-use Rattle.sc_interp.specs.Standing.{state_of}
+use Rattle.sc_interp.specs.Standing.{creation_in, state_of}
 use Rattle.sc_interp.proofs.Popping.{handler_short, handler_by, room_test, misfits}
 use Rattle.sc_interp.proofs.calling.create_handler.Goals as goal
 
 pub returns-then-count-len-clause-follows : goal.returns-then-count-len-clause-follows
 returns-then-count-len-clause-follows c = λ count s code objects serves fits.
     let a = activation_of c.args.activation.now in
-    let p = c.args.program.now in
+    let p = c.args.program.now.image in
     let me = reference_of c.args.me in
     let f = state_of objects a in
     let short : length (values_of a.operands.values) < c.in-Some.site.count = omega (arith, length-map a.operands.values value_of, c.if-count-len.true, c.len.ensures) in
-    ap (λ o. hop_of s code me (option_map (λ (k : CreationSite). CreateHandler (creation_of p k)) o) f) (sym c.creation_at.ensures ∙ c.in-Some.is)
+    ap (λ (o : Option CreationSite). hop_of s code me (option_map CreateHandler o) f) (sym c.creation_at.ensures ∙ ap (option_map (creation_in (pool_of p.pool))) c.in-Some.is)
     ∙ handler_short p c.in-Some.site code f short
 
 pub returns-then-not-has_room-clause-follows : goal.returns-then-not-has_room-clause-follows
 returns-then-not-has_room-clause-follows c = λ count s code objects serves fits.
     let a = activation_of c.args.activation.now in
-    let p = c.args.program.now in
+    let p = c.args.program.now.image in
     let me = reference_of c.args.me in
     let f = state_of objects a in
     let site = c.in-Some.site in
     let enough : site.count ≤ length (values_of a.operands.values) = omega (arith, length-map a.operands.values value_of, c.if-count-len.false, c.len.ensures) in
-    ap (λ o. hop_of s code me (option_map (λ (k : CreationSite). CreateHandler (creation_of p k)) o) f) (sym c.creation_at.ensures ∙ c.in-Some.is)
+    ap (λ (o : Option CreationSite). hop_of s code me (option_map CreateHandler o) f) (sym c.creation_at.ensures ∙ ap (option_map (creation_in (pool_of p.pool))) c.in-Some.is)
     ∙ handler_by p s site me code f false enough
     (room_test true true _ site.count a.operands.values a.operands.depth code.depth c.has_room.ensures refl fits.depth ∙ c.if-not-has_room.true)
     ∙ misfits p s code me objects site.count c.misfit.result a (activation_of c.misfit.new.activation) c.misfit.ensures.gone c.misfit.ensures.failed
@@ -37,11 +37,11 @@ returns-then-not-has_room-clause-follows c = λ count s code objects serves fits
 pub returns-clause-follows : goal.returns-clause-follows
 returns-clause-follows c = λ count s code objects serves fits.
     let a = activation_of c.args.activation.now in
-    let p = c.args.program.now in
+    let p = c.args.program.now.image in
     let me = reference_of c.args.me in
     let f = state_of objects a in
     let site = c.in-Some.site in
     let enough : site.count ≤ length (values_of a.operands.values) = omega (arith, length-map a.operands.values value_of, c.if-count-len.false, c.len.ensures) in
-    ap (λ o. hop_of s code me (option_map (λ (k : CreationSite). CreateHandler (creation_of p k)) o) f) (sym c.creation_at.ensures ∙ c.in-Some.is)
+    ap (λ (o : Option CreationSite). hop_of s code me (option_map CreateHandler o) f) (sym c.creation_at.ensures ∙ ap (option_map (creation_in (pool_of p.pool))) c.in-Some.is)
     ∙ handler_by p s site me code f true enough
     (room_test true true _ site.count a.operands.values a.operands.depth code.depth c.has_room.ensures refl fits.depth ∙ c.if-not-has_room.false)

@@ -1,0 +1,14 @@
+use Rattle.std.proofs.Common.{ap, true}
+use Rattle.sc_lower.specs.Machine.{stores}
+use Rattle.sc_region.specs.OperandList.{OperandList}
+use Rattle.sc_region.specs.Frames.{activation_of}
+use Rattle.sc_region.specs.declared.value.Value.TheVariants.{Boolean}
+use Rattle.sc_interp.specs.Values.{value_of}
+use Rattle.sc_interp.proofs.Tests.{put_first}
+use Rattle.sc_interp.proofs.testing.bind.Goals as goal
+
+pub returns-clause-passes : goal.returns-clause-passes
+returns-clause-passes c =
+    let a = activation_of c.args.activation.now in
+    put_first c.args.count (Boolean true) (λ k f. stores k c.args.slot (value_of c.args.value) f) c.store.result a _ (activation_of c.store.new.activation)
+    (ap (λ (o : OperandList). record a { operands = o }) c.push.ensures) c.store.ensures.passes

@@ -1,0 +1,124 @@
+//! Operations that read and write attributes.
+ghost use Rattle.std.specs.Prelude.{◌≡◌, Some, None, slice_get, if◌then◌else◌};
+ghost use Rattle.std.specs.Option.{option_and_then};
+ghost use Rattle.sc_lower.specs.declared.operation.Operation.TheVariants as coded;
+ghost use Rattle.sc_lower.specs.Programs.{pool_of};
+ghost use Rattle.sc_region.specs.Frames.{PlainActivation, top_activation};
+ghost use Rattle.sc_region.specs.Objects.{PlainObject, object_numbered};
+ghost use Rattle.sc_interp.specs.Playing.{IsAttribute, IsLast, Plays, Remains, written_if};
+ghost use Rattle.sc_interp.specs.Serving.{attribute_in, version_in};
+ghost use Rattle.sc_interp.specs.Standing.{listed};
+
+use crate::act::Hop;
+use crate::calling::has_name;
+use crate::evaluation::read;
+use crate::passing::{pass_last, push_found};
+use sc_lower::{Program, Version};
+use sc_model::Cause;
+use sc_region::{Reference, Store, Value};
+
+/// What the name of a number is in the class of a number.
+pub fn version_in(program: &Program, class: u8, name: usize) -> Option<Version>
+    ensures { result ≡ version_in program.now.image class name }
+{
+    let code = program.classes().get(usize::from(class))?;
+    *code.versions.get(name)?
+}
+
+/// The number of the attribute of this name of the object.
+fn attribute_number(store: &Store<'_>, object: u32, name: usize) -> Option<usize>
+    ensures { result ≡ option_and_then (λ (o : PlainObject). attribute_in (version_in store.now.program o.class name)) (object_numbered object store.now.objects) }
+{
+    let class = store.class_of(object)?;
+    match version_in(store.program(), class, name)? {
+        Version::Attribute(number) => Some(number),
+        Version::Routine(_) => None,
+    }
+}
+
+/// The attribute of this name of the object.
+pub fn attribute_value(store: &Store<'_>, object: u32, name: usize) -> Option<Value>
+    ensures { IsAttribute store.now object name result }
+{
+    match attribute_number(store, object, name) {
+        Some(number) => store.read(object, number),
+        None => None,
+    }
+}
+
+/// Whether the program of the store has a name of the number.
+pub fn is_name(store: &Store<'_>, name: usize) -> bool
+    ensures { slice_get (pool_of store.now.program.pool).names name ≡ (if result then Some (listed (pool_of store.now.program.pool).names name) else None) }
+{
+    has_name(store.program().pool(), name)
+}
+
+/// An attribute of Current, which is `me`, is read: F7 where its type is attached and it is still Void.
+pub fn push_attribute(
+    store: &mut Store<'_>,
+    me: Reference,
+    count: usize,
+    name: usize,
+    is_attached: bool,
+) -> Hop
+    ensures plays { Plays me count (coded.PushAttribute is_attached name) result store.old store.new }
+    ensures remains { Remains store.old store.new }
+{
+    if !is_name(store, name) {
+        return Hop::Failed(Cause::BadCode);
+    }
+    let value = attribute_value(store, me.number, name);
+    match store.top_mut() {
+        Some(activation) => push_found(activation, count, read(is_attached, value)),
+        None => Hop::Failed(Cause::BadCode),
+    }
+}
+
+/// The operand of the topmost routine under the last so many, if there is one.
+pub fn value_under(store: &Store<'_>, count: usize) -> Option<Value>
+    ensures { result ≡ option_and_then (λ (a : PlainActivation). slice_get a.operands.values count) (top_activation store.now.frames) }
+{
+    store.top()?.operands.under(count)
+}
+
+/// The attribute of Current at the number, if one is given, gets the value.
+fn write_if(store: &mut Store<'_>, number: Option<usize>, value: Value)
+    ensures { store.new ≡ written_if number value store.old }
+{
+    match number {
+        Some(number) => store.write_current(number, value),
+        None => (),
+    }
+}
+
+/// The value, which is the last operand, goes into the attribute of Current, which is `me`.
+fn assign(store: &mut Store<'_>, me: Reference, count: usize, name: usize, value: Value) -> Hop
+    requires last { IsLast store.old value }
+    requires named { slice_get (pool_of store.old.program.pool).names name ≡ Some (listed (pool_of store.old.program.pool).names name) }
+    ensures plays { Plays me count (coded.StoreAttribute name) result store.old store.new }
+    ensures remains { Remains store.old store.new }
+{
+    let number = attribute_number(store, me.number, name);
+    match store.top_mut() {
+        Some(activation) => {
+            let hop = pass_last(activation, count);
+            write_if(store, number, value);
+            hop
+        }
+        None => Hop::Failed(Cause::BadCode),
+    }
+}
+
+/// The last operand goes into an attribute of Current, which is `me`.
+pub fn store_attribute(store: &mut Store<'_>, me: Reference, count: usize, name: usize) -> Hop
+    ensures plays { Plays me count (coded.StoreAttribute name) result store.old store.new }
+    ensures remains { Remains store.old store.new }
+{
+    if !is_name(store, name) {
+        return Hop::Failed(Cause::BadCode);
+    }
+    match value_under(store, 0) {
+        Some(value) => assign(store, me, count, name, value),
+        None => Hop::Failed(Cause::BadCode),
+    }
+}

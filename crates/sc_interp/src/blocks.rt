@@ -1,0 +1,48 @@
+//! Separate blocks: the slots of their heads.
+ghost use Rattle.std.specs.Prelude.{◌≡◌, ℕ, slice_get};
+ghost use Rattle.sc_region.specs.declared.value.Reference as code;
+ghost use Rattle.sc_region.specs.Frames.{activation_of};
+ghost use Rattle.sc_lower.specs.declared.operation.Operation.TheVariants as coded;
+ghost use Rattle.sc_lower.specs.Operations as plain;
+ghost use Rattle.sc_lower.specs.Programs.{pool_of};
+ghost use Rattle.sc_interp.specs.Standing.{Follows, Hops};
+
+use crate::act::{Act, Hop};
+use sc_lower::{Heads, Program};
+use sc_model::Cause;
+use sc_region::Activation;
+
+/// The slots of the block of the number.
+fn block_at(program: &Program, number: usize) -> Option<Heads>
+    ensures { result ≡ slice_get (pool_of program.now.image.pool).blocks number }
+{
+    program.pool().blocks.get(number).copied()
+}
+
+/// A separate block begins, whose heads go into these slots: F16 where there are no such slots, or fewer operands.
+fn open_block(activation: &Activation, block: Heads) -> Hop
+    ensures { (count : ℕ) → Hops count (plain.Open block.first block.count) result (activation_of activation.now) (activation_of activation.now) }
+{
+    let (first, count) = (block.first, block.count);
+    if count > activation.operands.len() {
+        return Hop::Failed(Cause::BadCode);
+    }
+    let slots = activation.slots.len();
+    if first > slots {
+        return Hop::Failed(Cause::BadCode);
+    }
+    if count > slots - first {
+        return Hop::Failed(Cause::BadCode);
+    }
+    Hop::Comes(Act::Open { first, count })
+}
+
+/// A separate block begins, by its number.
+pub fn open(program: &Program, activation: &Activation, number: usize) -> Hop
+    ensures { (me : code.Reference) (count : ℕ) → Follows program.now.image me count (coded.Open number) result (activation_of activation.now) (activation_of activation.now) }
+{
+    match block_at(program, number) {
+        Some(block) => open_block(activation, block),
+        None => Hop::Failed(Cause::BadCode),
+    }
+}
