@@ -114,8 +114,8 @@ first_of_types a ts (u ∷ us) e = (u, us, refl, head_is, tail_is)
 module _ (s : System) (pure : RoutineName → Bool) (r : Routine) (me : Reference) (p : Point) (b : BaseOf s r me p) (fs : AllFit s me p p.values) where
   outcome : {u : EntityType} → integer ≡ u → TasksTyped s pure r p p.tasks (u ∷ types_of p.values) → (o : Outcome) → StepFits s pure r me (gives_outcome o p)
   outcome {u} e k (Ok z) = found s pure r me p b (Integer z) integer u e k refl fs
-  outcome e k (Err fault.Overflow) = refl
-  outcome e k (Err fault.DivideByZero) = refl
+  outcome e k (Err fault.Overflow) = (refl, b.store)
+  outcome e k (Err fault.DivideByZero) = (refl, b.store)
 
   -- A unary operator.
   pub apply_unary_step : (op : UnaryOperator) (u : Operand) → TasksTyped s pure r p (ApplyUnary op ∷ p.tasks) (u.type ∷ types_of p.values) → OperandFits s me.handler p.environment u →

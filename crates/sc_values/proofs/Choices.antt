@@ -31,7 +31,7 @@ use Rattle.sc_model.specs.declared.cause.Cause.{Cause}
 use Rattle.sc_values.specs.Points.{types_of}
 use Rattle.sc_values.specs.Steps.{StandsSo, StepFits, is_excluded}
 use Rattle.sc_values.specs.Typed as typed
-use Rattle.sc_values.specs.Typed.{Extends, IsOf, IsTyped, at, context_in}
+use Rattle.sc_values.specs.Typed.{Extends, IsAtEntry, IsOf, IsTyped, at, context_in}
 use Rattle.sc_values.proofs.Conditions.{Forgotten, Tells, forgotten, says_false, says_true}
 use Rattle.sc_values.proofs.Free.{freely, freely_given, gives_extend}
 use Rattle.sc_values.proofs.Lists.{no_both}
@@ -110,31 +110,31 @@ module _ (s : System) (pure : RoutineName → Bool) (r : Routine) (me : Referenc
       where
         by : (c : Bool) → StepFits s pure r me (tests why (Boolean c) (record p { values = [] }))
         by true = no_values_goes p.tasks k
-        by false = w
+        by false = (w, b.store)
 
     -- The next clause of a precondition comes, or the routine starts.
-    pub require_step : (ks : List Clause) →
+    pub require_step : (ks : List Clause) → IsAtEntry s r p.text (scope_of p.environment) (types_of p.olds) →
         ((q : Clause) → Contains ks q → (a : EntityType) × IsOf s p.text context.Require Plain (scope_of p.environment) q.condition a × (is_boolean a.class ≡ true)) →
         TasksTyped s pure r p p.tasks [] → StepFits s pure r me (performs s me (Require ks) [] (record p { values = [] }))
-    require_step [] c k = no_values_goes p.tasks k
-    require_step (q ∷ ks) c k = of_clause (c q (zero, omega arith, refl))
+    require_step [] z c k = no_values_goes p.tasks k
+    require_step (q ∷ ks) z c k = of_clause (c q (zero, omega arith, refl))
       where
         of_clause : (a : EntityType) × IsOf s p.text context.Require Plain (scope_of p.environment) q.condition a × (is_boolean a.class ≡ true) →
             StandsSo s pure r me [] (record p { tasks = Eval 0 q.condition ∷ Required q ∷ Require ks ∷ p.tasks; values = [] })
         of_clause (a, d, y) = no_values_goes (Eval 0 q.condition ∷ Required q ∷ Require ks ∷ p.tasks)
             (typed.eval context.Require Plain refl d (kept_outside s p.text (scope_of p.environment) (types_of p.olds) 0 refl d.1)
-            (typed.required y (typed.require (λ q i. c q (suc i.0, omega (arith, i.1), i.2)) k)))
+            (typed.required z y (typed.require z (λ q i. c q (suc i.0, omega (arith, i.1), i.2)) k)))
 
     -- It holds, or is the first that doesn't.
-    pub required_step : (q : Clause) (u : Operand) → is_boolean u.type.class ≡ true → OperandFits s me.handler p.environment u → TasksTyped s pure r p p.tasks [] →
+    pub required_step : (q : Clause) (u : Operand) → IsAtEntry s r p.text (scope_of p.environment) (types_of p.olds) → is_boolean u.type.class ≡ true → OperandFits s me.handler p.environment u → TasksTyped s pure r p p.tasks [] →
         StepFits s pure r me (performs_on s me (Required q) u (record p { values = [] }))
-    required_step q u c f k =
+    required_step q u z c f k =
         let v = boolean_value s me.handler (handler_named p.environment) u.value u.type c f in
         subst (λ v. StepFits s pure r me (required q v (record p { values = [] }))) (sym v.is) (by v.truth)
       where
         by : (c : Bool) → StepFits s pure r me (required q (Boolean c) (record p { values = [] }))
         by true = no_values_goes p.tasks k
-        by false = no_values_goes p.tasks k
+        by false = (z, no_values_goes p.tasks k)
 
     -- A value that is no reference is printed.
     pub print_step : (u : Operand) → is_expanded u.type.class ≡ true → OperandFits s me.handler p.environment u → TasksTyped s pure r p p.tasks [] →

@@ -119,7 +119,7 @@ module _ (s : System) (pure : RoutineName → Bool) (r : Routine) (me : Referenc
             of_test : (c : Bool) → StepFits s pure r me (if c then Does act.Creates (record p { objects = p.objects ++ fresh_object s k ∷ []; tasks = AssignTo v ∷ p.tasks; values = operand (Attached o) (attached u) ∷ [] })
                 else fails cause.Invariant (record p { objects = p.objects ++ fresh_object s k ∷ []; tasks = AssignTo v ∷ p.tasks; values = [] }))
             of_test true = stands
-            of_test false = refl
+            of_test false = (refl, stands.1)
 
     -- An object is created: of the current handler, or of a new one.
     pub made_step : (call : Option (List ℕ)) (us : List Operand) → (u.tag ≡ tag.Own) ⊎ (u.tag ≡ tag.Any) →
@@ -136,7 +136,7 @@ module _ (s : System) (pure : RoutineName → Bool) (r : Routine) (me : Referenc
         here : u.tag ≡ tag.Own → (c : Bool) → StepFits s pure r me (if c then creates_object s (record { handler = me.handler; number = length p.objects + 1; class = k }) u call us
             (record p { objects = p.objects ++ fresh_object s k ∷ []; tasks = AssignTo v ∷ p.tasks; values = [] }) else fails cause.TooManyObjects (record p { tasks = AssignTo v ∷ p.tasks; values = [] }))
         here e true = created call us (m me.handler (length p.objects + 1) (lies_here e)) (lies_here e) (ap (λ g. tag_conforms g g) e)
-        here e false = refl
+        here e false = (refl, b.store)
 
         passed : u.tag ≡ tag.Any → (call : Option (List ℕ)) →
             ((j number : ℕ) → Lies u.tag me.handler (handler_named p.environment) j → Made s me.handler (handler_named p.environment) (record { handler = j; number = number; class = k }) call us) →

@@ -149,7 +149,7 @@ module _ (s : System) (pure : RoutineName → Bool) (r : Routine) (declared_all 
       required_typed : (ks : List Clause) (k : List Task) → ((q : Clause) → Contains ks q → IsClause s declared_all r.contract has (formals_known s r.text.formals) names_typed context.Require q) →
           IsTyped s pure r k (at r.contract (formals_known s r.text.formals) [] []) → IsTyped s pure r (requires ks ++ k) (at r.contract (formals_known s r.text.formals) [] [])
       required_typed [] k c d = d
-      required_typed (q ∷ ks) k c d = typed.require c d
+      required_typed (q ∷ ks) k c d = typed.require (refl, refl, refl) c d
 
       of_olds : OldsThere s declared_all r.contract has (formals_known s r.text.formals) names_typed (olds_of_clauses r.ensure) → IsTyped s pure r (tasks_of r) (at r.contract (formals_known s r.text.formals) [] [])
       of_olds z =

@@ -126,7 +126,7 @@ module _ (s : System) (root : Root) (pure : RoutineName → Bool) (faultless : I
         by_kind (tree.Attribute d) is = absurd (none_made d (origin_of s f) is i)
         by_kind (tree.Routine own) is = let kept = contracts_are_kept s root faultless all_declared me.class x f e own is in by_origin kept.0 kept.1
 
-    begins_typed : routine_named s me.class r.name ≡ Some r → BeginsTyped r
+    pub begins_typed : routine_named s me.class r.name ≡ Some r → BeginsTyped r
     begins_typed i = by (version_of s me.class r.name) refl i
       where
         by : (o : Option DeclaredFeature) → version_of s me.class r.name ≡ o → option_and_then (routine_of s) o ≡ Some r → BeginsTyped r

@@ -136,7 +136,7 @@ module _ (s : System) (pure : RoutineName → Bool) (r : Routine) (me : Referenc
                   reference_is (inr y) = y.1
 
                   of_mark : (d : Bool) → u.attached ≡ d → StepFits s pure r me (if d then fails cause.UnsetEntity p else gives Void t p)
-                  of_mark true e = refl
+                  of_mark true e = (refl, b.store)
                   of_mark false e = found s pure r me p b Void t t refl k (seen Void u c (e, reference_is f)) fs
 
   -- an attribute of Current is read

@@ -18,7 +18,7 @@ module _ (s : System) (pure : RoutineName → Bool) (w : World) (h : ℕ) where
   -- an object of the handler of a frame is there, since Current is
   pub among : (me : Reference) → IsAmong (w.handlers h).objects me → (o : Reference) → IsThere w o → o.handler ≡ h → IsAmong (w.handlers h).objects o
   among me z o (is_made {o = x} l i c) e = record { object = x; is_there = subst (λ k. object_numbered o.number (w.handlers k).objects ≡ Some x) e i; of_class = c }
-  among me z o (is_due l i j k m) e = absurd (nothing_there z (subst (λ k. (w.handlers k).objects ≡ []) e i))
+  among me z o (is_due l i j k m n) e = absurd (nothing_there z (subst (λ k. (w.handlers k).objects ≡ []) e i))
     where
       nothing_there : IsAmong (w.handlers h).objects me → (w.handlers h).objects ≡ [] → ⊥
       nothing_there z i = by (me.number == 0) (subst (λ os. object_numbered me.number os ≡ Some z.object) i z.is_there)
@@ -76,4 +76,4 @@ running_frames_move s root pure faultless well tells w fits h l f below i r =
 
 pub no_move_is_excluded : NoMoveIsExcluded
 no_move_is_excluded s root pure faultless well tells w fits h l f below i r why p e =
-    subst (StepFits s pure f.routine f.current) e (running_frames_move s root pure faultless well tells w fits h l f below i r)
+    (subst (StepFits s pure f.routine f.current) e (running_frames_move s root pure faultless well tells w fits h l f below i r)).0

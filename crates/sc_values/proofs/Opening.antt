@@ -1,12 +1,12 @@
 -- The opening of a system without faults fits.
-use Rattle.std.proofs.Common.{◌≡◌, ℕ, zero, suc, Bool, true, false, ◌&&◌, List, [], ◌∷◌, Option, Some, None, refl, sym, subst, arith}
-use Rattle.std.specs.Prelude.{length, is_some, is_none, ◌==◌}
+use Rattle.std.proofs.Common.{◌≡◌, ◌<◌, ℕ, zero, suc, Bool, true, false, ◌&&◌, List, [], ◌∷◌, Option, Some, None, refl, sym, subst, arith}
+use Rattle.std.specs.Prelude.{length, is_some, is_none, slice_get, ◌==◌}
 use Rattle.std.specs.Option.{option_map_or}
-use Rattle.sc_tree.specs.Plain.{System, Declaration, FeatureKind, Attribute, Routine}
+use Rattle.sc_tree.specs.Plain.{Class, System, Declaration, FeatureKind, Attribute, Routine}
 use Rattle.sc_class.specs.declared.fault.ClassFault.TheVariants as fault
 use Rattle.sc_class.specs.ClassNames.{Root, number_of}
 use Rattle.sc_class.specs.Names.{is_listed}
-use Rattle.sc_class.specs.Tables.Declared.{creators_of}
+use Rattle.sc_class.specs.Tables.Declared.{created_by, creators_of}
 use Rattle.sc_class.specs.Tables.Features.{DeclaredFeature, features, named_among}
 use Rattle.sc_class.specs.Faults.ClassRules.{is_plain_procedure, creates_by, has_root, no_root, IsFaultless}
 use Rattle.sc_model.specs.Routines.{version_of}
@@ -43,19 +43,35 @@ root_there s root w false e = absurd (w fault.NoRoot (no_root e))
 root_number : System → Root → ℕ
 root_number s root = option_map_or (λ k. k) (number_of s root.class) 0
 
+place_there : {A : Type 0} (xs : List A) (i : ℕ) (x : A) → slice_get xs i ≡ Some x → i < length xs
+place_there [] i x e = cc
+place_there (y ∷ xs) zero x e = omega arith
+place_there (y ∷ xs) (suc i) x e = let l = place_there xs i x e in omega (arith, l)
+
+-- a class that has a creation procedure is there
+creator_there : (s : System) (x : List ℕ) (k : ℕ) → is_listed x (creators_of s k) ≡ true → k < length s.classes
+creator_there s x k = by (slice_get s.classes k) refl
+  where
+    by : (o : Option Class) → slice_get s.classes k ≡ o → is_listed x (option_map_or created_by o []) ≡ true → k < length s.classes
+    by None e i = cc
+    by (Some c) e i = place_there s.classes k c e
+
 root_found : (s : System) (root : Root) → IsFaultless s root →
     (is_some (version_of s (option_map_or (λ k. k) (number_of s root.class) 0) root.procedure) ≡ true) ×
-    (formals_if_any (version_of s (option_map_or (λ k. k) (number_of s root.class) 0) root.procedure) ≡ [])
+    (formals_if_any (version_of s (option_map_or (λ k. k) (number_of s root.class) 0) root.procedure) ≡ []) ×
+    (option_map_or (λ k. k) (number_of s root.class) 0 < length s.classes)
 root_found s root w =
-    found (named_among root.procedure (features s (option_map_or (λ k. k) (number_of s root.class) 0)))
-    (both (is_listed root.procedure (creators_of s (option_map_or (λ k. k) (number_of s root.class) 0))) _
-    (of_root s root.procedure (number_of s root.class) (root_there s root w (has_root s root) refl))).1
+    let z = both (is_listed root.procedure (creators_of s (option_map_or (λ k. k) (number_of s root.class) 0))) _
+    (of_root s root.procedure (number_of s root.class) (root_there s root w (has_root s root) refl)) in
+    let f = found (named_among root.procedure (features s (option_map_or (λ k. k) (number_of s root.class) 0))) z.1 in
+    (f.0, f.1, creator_there s root.procedure (option_map_or (λ k. k) (number_of s root.class) 0) z.0)
 
 request_fits : (s : System) (root : Root) → IsFaultless s root → RequestFits s (opening s root) 0 (root_request (option_map_or (λ k. k) (number_of s root.class) 0) root.procedure)
 request_fits s root w = record {
   is_here = refl;
+  is_of_class = (root_found s root w).2;
   is_known = λ x e. named_so x e;
-  target_is_there = is_due {q = root_request (option_map_or (λ k. k) (number_of s root.class) 0) root.procedure} {qs = []} {x = Some root.procedure} (omega arith) refl refl refl refl;
+  target_is_there = is_due {q = root_request (option_map_or (λ k. k) (number_of s root.class) 0) root.procedure} {qs = []} {x = Some root.procedure} (omega arith) refl refl refl refl refl;
   actuals_fit = subst (λ ds. ActualsFit s 0 ds (of_actuals []) ds []) (sym (root_found s root w).1) no_more;
   actuals_are_there = tt;
 }
@@ -72,6 +88,6 @@ opening_fits s root pure w zero l = record {
   frames_fit = tt;
   frames_are_linked = empty;
   requests_fit = (request_fits s root w, tt);
-  answer_fits = λ f below k t is_creation v e g a. cc;
+  answer_fits = λ v a. cc;
 }
 opening_fits s root pure w (suc h) l = absurd (omega (arith, l))

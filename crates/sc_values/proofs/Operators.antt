@@ -130,8 +130,8 @@ module _ (s : System) (pure : RoutineName → Bool) (r : Routine) (me : Referenc
 
   outcome : integer ≡ u → (o : Outcome) → StepFits s pure r me (gives_outcome o p)
   outcome e (Ok z) = comes_to (Integer z) integer e refl
-  outcome e (Err fault.Overflow) = refl
-  outcome e (Err fault.DivideByZero) = refl
+  outcome e (Err fault.Overflow) = (refl, base.store)
+  outcome e (Err fault.DivideByZero) = (refl, base.store)
 
   -- on integers: what the step on any two of them is, the step is
   on_integers : (f : Value → Value → Point → Step) → (is_integer a.class && is_integer b.class) ≡ true → ((x y : ℤ) → StepFits s pure r me (f (Integer x) (Integer y) p)) → StepFits s pure r me (f v w p)

@@ -1,4 +1,5 @@
--- A silent step makes no reference: each value at the point after it was there before, or is Current, and what was there stays there.
+-- A step makes no reference but that of the object that it creates: each other value at the point after it was there before, or is
+-- Current, and what was there stays there.
 use Rattle.std.specs.List.{cons_option}
 use Rattle.std.specs.Option.{option_map}
 use Rattle.std.specs.Prelude.{◌==◌, Err, Ok, if◌then◌else◌, length, map, nat_lt, slice_get, slice_set, take, ℤ}
@@ -9,7 +10,7 @@ use Rattle.sc_tree.specs.declared.expression.BinaryOperator.{BinaryOperator}
 use Rattle.sc_tree.specs.declared.expression.UnaryOperator.{UnaryOperator}
 use Rattle.sc_tree.specs.declared.expression.UnaryOperator.TheVariants as unary
 use Rattle.sc_tree.specs.Properties.{is_print}
-use Rattle.sc_class.specs.Tables.Features.{DeclaredFeature, feature_named}
+use Rattle.sc_class.specs.Tables.Features.{DeclaredFeature, feature_named, features}
 use Rattle.sc_class.specs.declared.identity.ClassId.{ClassId}
 use Rattle.sc_class.specs.declared.identity.ClassId.TheVariants as class
 use Rattle.sc_proctype.specs.Conformance.{boolean, integer, void}
@@ -17,7 +18,7 @@ use Rattle.sc_proctype.specs.declared.entity_type.EntityType.{EntityType}
 use Rattle.sc_proctype.specs.declared.tag.Tag.{Tag}
 use Rattle.sc_proctype.specs.declared.tag.Tag.TheVariants as tag
 use Rattle.sc_rules.specs.CallRules.{count}
-use Rattle.sc_rules.specs.Names.{Assignee, assignee_type, attached, current, given_type, signature_of, test_type, to_attribute, to_local, unassignable, unknown_assignee}
+use Rattle.sc_rules.specs.Names.{Assignee, assignee_type, attached, block_type, blocks, current, given_type, signature_of, test_type, to_attribute, to_local, unassignable, unknown_assignee}
 use Rattle.sc_rules.specs.Types.{declared_type}
 use Rattle.sc_rules.specs.declared.position.Role.TheVariants as role
 use Rattle.sc_formula.specs.Arithmetic.{Outcome, opposite_of, result_of}
@@ -29,19 +30,19 @@ use Rattle.sc_formula.specs.declared.comparison.Comparison.{Comparison}
 use Rattle.sc_formula.specs.declared.connective.Connective.{Connective}
 use Rattle.sc_model.specs.Calls.{calls_kind, calls_object, calls_on, calls_own, calls_qualified, calls_unqualified, calls_version, enters_unqualified, given_by, passes_rights, requests}
 use Rattle.sc_model.specs.Creations.{assigned_at, creates, creates_as, creates_at, creates_here, creates_object}
-use Rattle.sc_model.specs.Environments.{Binding, assigned_to, bind, binding_named, handler_named, locals_bound}
+use Rattle.sc_model.specs.Environments.{Binding, assigned_to, bind, binding_named, block_bound, handler_named, locals_bound, name_bound, scope_of}
 use Rattle.sc_model.specs.Expressions.{applies, apply_binary, apply_to_booleans, apply_to_integers, apply_unary, begins_feature, begins_kind, begins_name, concludes, decided_by, evals_right, evaluate, gives_found, gives_outcome, gives_truth, is_same_object, reads_own, reads_result}
 use Rattle.sc_model.specs.Instructions.{actuals_of, assigns, begins, begins_routine, chooses, chooses_other, ends_loop, opens, prints, procedure_of, required, tests}
 use Rattle.sc_model.specs.Invariants.{meets_invariant}
 use Rattle.sc_model.specs.Limits.{max_objects}
 use Rattle.sc_model.specs.Moves.{performs, step, step_at}
 use Rattle.sc_model.specs.ObjectTests.{binds, binds_if, is_tested}
-use Rattle.sc_model.specs.Objects.{Object, attributes_in, attributes_of, fresh_object, object_numbered, with_object}
+use Rattle.sc_model.specs.Objects.{Object, attributes_in, attributes_of, fresh_attribute, fresh_attributes, fresh_object, object_numbered, with_object}
 use Rattle.sc_model.specs.Olds.{olds_in}
 use Rattle.sc_model.specs.Operators.{arithmetic_of, comparison_of, connective_of, identity_of, is_short}
 use Rattle.sc_model.specs.Routines.{Text, place_in, version_of}
 use Rattle.sc_model.specs.Steps as act
-use Rattle.sc_model.specs.Steps.{Does, Goes, Point, Step, comes, fails, forgets, gives, popped, reads_as, reads_attribute}
+use Rattle.sc_model.specs.Steps.{Act, Does, Goes, Point, Step, comes, fails, forgets, gives, popped, reads_as, reads_attribute}
 use Rattle.sc_model.specs.Tasks.{ApplyBinary, ApplyUnary, AssignTo, Bind, CallQualified, CallUnqualified, Checked, Choose, Conclude, CreateBy, Declare, Do, EndLoop, Ensured, Eval, EvalRight, Forget, In, KeepOld, Leave, Open, Print, Repeat, Require, Required, Task, checks, evals, head_evals}
 use Rattle.sc_model.specs.Values.{Attached, Boolean, Integer, Operand, Reference, Value, Void, default_of, operand}
 use Rattle.sc_model.specs.declared.cause.Cause.{Cause}
@@ -51,6 +52,7 @@ use Rattle.sc_values.specs.Steps.{BindingsDo, OperandsDo, ValuesDo}
 use Rattle.sc_values.proofs.Assigned.{each_assigned}
 use Rattle.sc_values.proofs.Attributes.{found_each}
 use Rattle.sc_values.proofs.Calls.{numbered_fits}
+use Rattle.sc_values.proofs.Fresh.{among_more, last_there}
 use Rattle.sc_values.proofs.Lists.{each_append, each_at, each_set}
 
 -- what is true of each value but references, and of Current
@@ -89,10 +91,21 @@ pub record Stays (P : Value → Type 0) (objects : List Object) (p : Point) : Ty
   pub there : (o : Reference) → IsAmong objects o → IsAmong p.objects o
 
 module _ (P : Value → Type 0) (me : Reference) (own : HoldsOfOwn P me) (objects : List Object) where
-  -- after a silent step
+  -- so is each object of the handler that is there
+  abbrev pub OwnDo : List Object → Type 0
+  OwnDo os = (o : Reference) → o.handler ≡ me.handler → IsAmong os o → P (Attached o)
+
+  -- after a visible step, and so is what goes with it
+  abbrev pub ActStays : Act → Point → Type 0
+  ActStays (act.Enters c o x us gives) q = Stays P objects q × OperandsDo P us
+  ActStays (act.Requests o x us gives passes) q = Stays P objects q × OperandsDo P us × P (Attached o)
+  ActStays (act.CreatesHandler k x us t passes) q = Stays P objects q × OperandsDo P us
+  ActStays a q = Stays P objects q
+
+  -- after a step
   abbrev pub StepStays : Step → Type 0
   StepStays (Goes q) = Stays P objects q
-  StepStays (Does act q) = Unit {0}
+  StepStays (Does a q) = OwnDo q.objects → ActStays a q
 
   default_does : (c : ClassId) → P (default_of c)
   default_does class.Integer = own.of_integer (pos 0)
@@ -109,6 +122,10 @@ module _ (P : Value → Type 0) (me : Reference) (own : HoldsOfOwn P me) (object
       there = h.there;
     }
 
+    -- a failure leaves the objects
+    fell : OwnDo p.objects → Stays P objects (record p { environment = []; result = None; olds = []; tasks = []; values = [] })
+    fell own = record { values = record { objects_do = h.values.objects_do; names_do = tt; result_does = tt; olds_do = tt; values_do = tt }; there = h.there }
+
     come : (ts : List Task) → StepStays (comes ts p)
     come ts = same (ts ++ p.tasks) p.values h.values.values_do
 
@@ -122,14 +139,14 @@ module _ (P : Value → Type 0) (me : Reference) (own : HoldsOfOwn P me) (object
     read_as d Void t f = by d.attached
       where
         by : (b : Bool) → StepStays (if b then fails cause.UnsetEntity p else gives Void t p)
-        by true = tt
+        by true = fell
         by false = give Void t f
 
     read_attribute : (bs : List Binding) (x : List ℕ) (t : EntityType) → BindingsDo P bs → StepStays (reads_attribute (binding_named x bs) t p)
     read_attribute bs x t f = by (binding_named x bs) refl
       where
         by : (o : Option Binding) → binding_named x bs ≡ o → StepStays (reads_attribute o t p)
-        by None e = tt
+        by None e = fell
         by (Some b) e = read_as t b.value t (found_each (λ (b : Binding). P b.value) x bs b f e)
 
     object_there : (number : ℕ) → BindingsDo P (attributes_of number p.objects)
@@ -143,36 +160,36 @@ module _ (P : Value → Type 0) (me : Reference) (own : HoldsOfOwn P me) (object
 
     outcome : (o : Outcome) → StepStays (gives_outcome o p)
     outcome (Ok z) = give (Integer z) integer (own.of_integer z)
-    outcome (Err fault.Overflow) = tt
-    outcome (Err fault.DivideByZero) = tt
+    outcome (Err fault.Overflow) = fell
+    outcome (Err fault.DivideByZero) = fell
 
     truth : (o : Option Bool) → StepStays (gives_truth o p)
-    truth None = tt
+    truth None = fell
     truth (Some b) = give (Boolean b) boolean (own.of_boolean b)
 
     unary_stays : (op : UnaryOperator) (v : Value) → StepStays (apply_unary op v p)
     unary_stays unary.Not (Boolean b) = give (Boolean (not b)) boolean (own.of_boolean (not b))
     unary_stays unary.Plus (Integer z) = give (Integer z) integer (own.of_integer z)
     unary_stays unary.Minus (Integer z) = outcome (opposite_of z)
-    unary_stays unary.Old v = tt
-    unary_stays unary.Not (Integer z) = tt
-    unary_stays unary.Not Void = tt
-    unary_stays unary.Not (Attached o) = tt
-    unary_stays unary.Plus (Boolean b) = tt
-    unary_stays unary.Plus Void = tt
-    unary_stays unary.Plus (Attached o) = tt
-    unary_stays unary.Minus (Boolean b) = tt
-    unary_stays unary.Minus Void = tt
-    unary_stays unary.Minus (Attached o) = tt
+    unary_stays unary.Old v = fell
+    unary_stays unary.Not (Integer z) = fell
+    unary_stays unary.Not Void = fell
+    unary_stays unary.Not (Attached o) = fell
+    unary_stays unary.Plus (Boolean b) = fell
+    unary_stays unary.Plus Void = fell
+    unary_stays unary.Plus (Attached o) = fell
+    unary_stays unary.Minus (Boolean b) = fell
+    unary_stays unary.Minus Void = fell
+    unary_stays unary.Minus (Attached o) = fell
 
     integers_stay : (op : Option ArithmeticOperator) (c : Option Comparison) (x y : ℤ) → StepStays (apply_to_integers op c x y p)
     integers_stay (Some op) c x y = outcome (result_of op x y)
     integers_stay None (Some c) x y = give (Boolean (compares c x y)) boolean (own.of_boolean (compares c x y))
-    integers_stay None None x y = tt
+    integers_stay None None x y = fell
 
     booleans_stay : (c : Option Connective) (x y : Bool) → StepStays (apply_to_booleans c x y p)
     booleans_stay (Some c) x y = give (Boolean (truth_table c x y)) boolean (own.of_boolean (truth_table c x y))
-    booleans_stay None x y = tt
+    booleans_stay None x y = fell
 
     binary_stays : (op : BinaryOperator) (v w : Value) → StepStays (apply_binary op v w p)
     binary_stays op (Integer x) (Integer y) = integers_stay (arithmetic_of op) (comparison_of op) x y
@@ -181,16 +198,16 @@ module _ (P : Value → Type 0) (me : Reference) (own : HoldsOfOwn P me) (object
     binary_stays op (Attached x) Void = truth (identity_of op false)
     binary_stays op Void (Attached y) = truth (identity_of op false)
     binary_stays op Void Void = truth (identity_of op true)
-    binary_stays op (Integer x) (Boolean y) = tt
-    binary_stays op (Integer x) Void = tt
-    binary_stays op (Integer x) (Attached y) = tt
-    binary_stays op (Boolean x) (Integer y) = tt
-    binary_stays op (Boolean x) Void = tt
-    binary_stays op (Boolean x) (Attached y) = tt
-    binary_stays op Void (Integer y) = tt
-    binary_stays op Void (Boolean y) = tt
-    binary_stays op (Attached x) (Integer y) = tt
-    binary_stays op (Attached x) (Boolean y) = tt
+    binary_stays op (Integer x) (Boolean y) = fell
+    binary_stays op (Integer x) Void = fell
+    binary_stays op (Integer x) (Attached y) = fell
+    binary_stays op (Boolean x) (Integer y) = fell
+    binary_stays op (Boolean x) Void = fell
+    binary_stays op (Boolean x) (Attached y) = fell
+    binary_stays op Void (Integer y) = fell
+    binary_stays op Void (Boolean y) = fell
+    binary_stays op (Attached x) (Integer y) = fell
+    binary_stays op (Attached x) (Boolean y) = fell
 
     right_stays : (o : Option Bool) (short : Bool) (op : BinaryOperator) (i : ℕ) (right : Expr) (u : Operand) → P u.value → StepStays (evals_right o short op i right u p)
     right_stays (Some b) short op i right u f = give (Boolean b) boolean (own.of_boolean b)
@@ -199,9 +216,9 @@ module _ (P : Value → Type 0) (me : Reference) (own : HoldsOfOwn P me) (object
 
     conclude_stays : (v : Value) → StepStays (concludes v p)
     conclude_stays (Boolean b) = give (Boolean b) boolean (own.of_boolean b)
-    conclude_stays (Integer z) = tt
-    conclude_stays Void = tt
-    conclude_stays (Attached o) = tt
+    conclude_stays (Integer z) = fell
+    conclude_stays Void = fell
+    conclude_stays (Attached o) = fell
 
     -- ---- expressions
 
@@ -209,20 +226,20 @@ module _ (P : Value → Type 0) (me : Reference) (own : HoldsOfOwn P me) (object
     found_stays us i f = by (slice_get us i) refl
       where
         by : (o : Option Operand) → slice_get us i ≡ o → StepStays (gives_found o p)
-        by None e = tt
+        by None e = fell
         by (Some u) e = give u.value u.type (each_at (λ (u : Operand). P u.value) us i u f e)
 
     result_stays : (u : Option Operand) (t : Option (Option EntityType)) → OperandsDo P (listed u) → StepStays (reads_result u t p)
     result_stays (Some u) (Some (Some t)) f = read_as u.type u.value t f.0
-    result_stays (Some u) (Some None) f = tt
-    result_stays (Some u) None f = tt
-    result_stays None t f = tt
+    result_stays (Some u) (Some None) f = fell
+    result_stays (Some u) None f = fell
+    result_stays None t f = fell
 
     kind_stays : (s : System) (x : List ℕ) (k : FeatureKind) (i : ℕ) (es : Exprs) → StepStays (begins_kind s me x k i es p)
     kind_stays s x (tree.Attribute d) i es = by (given_type s (current (place_in s p.text)) d)
       where
         by : (o : Option EntityType) → StepStays (reads_own o (binding_named x (attributes_of me.number p.objects)) p)
-        by None = tt
+        by None = fell
         by (Some t) = read_attribute (attributes_of me.number p.objects) x t (object_there me.number)
     kind_stays s x (tree.Routine c) i es = come (evals i es ++ CallUnqualified x (count es) ∷ [])
 
@@ -230,7 +247,7 @@ module _ (P : Value → Type 0) (me : Reference) (own : HoldsOfOwn P me) (object
     name_stays s x i es = by (binding_named x p.environment) refl
       where
         of_feature : (o : Option DeclaredFeature) → StepStays (begins_feature s me x o i es p)
-        of_feature None = tt
+        of_feature None = fell
         of_feature (Some f) = kind_stays s x f.feature.kind i es
 
         by : (o : Option Binding) → binding_named x p.environment ≡ o → StepStays (begins_name s me x o i es p)
@@ -261,7 +278,7 @@ module _ (P : Value → Type 0) (me : Reference) (own : HoldsOfOwn P me) (object
     }
 
     test_stays : (s : System) (d : Option DeclaredType) (x : List ℕ) (v : Value) (o : Option EntityType) → P v → StepStays (binds s me.handler d x v o p)
-    test_stays s d x v None f = tt
+    test_stays s d x v None f = fell
     test_stays s d x v (Some t) f = by (is_tested s me.handler (handler_named p.environment) v d t)
       where
         by : (c : Bool) → StepStays (binds_if c x v t p)
@@ -285,6 +302,16 @@ module _ (P : Value → Type 0) (me : Reference) (own : HoldsOfOwn P me) (object
 
     forget_stays : (n : ℕ) → Stays P objects (forgets n p)
     forget_stays n = with_names (take n p.environment) p.values (taken_do n p.environment h.values.names_do) h.values.values_do
+
+    block_do : (xs : List Name) (us : List Operand) (bs : List Binding) → OperandsDo P us → BindingsDo P bs → BindingsDo P (block_bound xs us bs)
+    block_do [] us bs f g = g
+    block_do (x ∷ xs) [] bs f g = g
+    block_do (x ∷ xs) (u ∷ us) bs f g = block_do xs us (bs ++ name_bound x (block_type (blocks (scope_of bs)) (Some u.type)) u.value) f.1
+        (each_append (λ (b : Binding). P b.value) bs (name_bound x (block_type (blocks (scope_of bs)) (Some u.type)) u.value) g (by (block_type (blocks (scope_of bs)) (Some u.type))))
+      where
+        by : (o : Option EntityType) → BindingsDo P (name_bound x o u.value)
+        by None = tt
+        by (Some t) = (f.0, tt)
 
     -- ---- assignment
 
@@ -318,32 +345,32 @@ module _ (P : Value → Type 0) (me : Reference) (own : HoldsOfOwn P me) (object
             IsAmong (with_object (me.number - 1) (assigned_to x.text v (attributes_of me.number p.objects)) p.objects q) o
         changed_there None e o z = z
         changed_there (Some y) e o z = set_among p.objects me.number (record y { attributes = assigned_to x.text v (attributes_of me.number p.objects) }) y e refl o z
-    assign_stays (tree.Named x) unknown_assignee v f = tt
-    assign_stays (tree.Named x) unassignable v f = tt
+    assign_stays (tree.Named x) unknown_assignee v f = fell
+    assign_stays (tree.Named x) unassignable v f = fell
     assign_stays (tree.ResultVariable q) (to_local (Some t)) v f = record {
       values = record { objects_do = h.values.objects_do; names_do = h.values.names_do; result_does = (f, tt); olds_do = h.values.olds_do; values_do = h.values.values_do };
       there = h.there;
     }
-    assign_stays (tree.ResultVariable q) (to_local None) v f = tt
-    assign_stays (tree.ResultVariable q) (to_attribute t) v f = tt
-    assign_stays (tree.ResultVariable q) unknown_assignee v f = tt
-    assign_stays (tree.ResultVariable q) unassignable v f = tt
+    assign_stays (tree.ResultVariable q) (to_local None) v f = fell
+    assign_stays (tree.ResultVariable q) (to_attribute t) v f = fell
+    assign_stays (tree.ResultVariable q) unknown_assignee v f = fell
+    assign_stays (tree.ResultVariable q) unassignable v f = fell
 
     -- ---- choices and clauses
 
     tests_stay : (why : Cause) (v : Value) → StepStays (tests why v p)
     tests_stay why (Boolean true) = h
-    tests_stay why (Boolean false) = tt
-    tests_stay why (Integer z) = tt
-    tests_stay why Void = tt
-    tests_stay why (Attached o) = tt
+    tests_stay why (Boolean false) = fell
+    tests_stay why (Integer z) = fell
+    tests_stay why Void = fell
+    tests_stay why (Attached o) = fell
 
     required_stays : (k : Clause) (v : Value) → StepStays (required k v p)
     required_stays k (Boolean true) = h
-    required_stays k (Boolean false) = tt
-    required_stays k (Integer z) = tt
-    required_stays k Void = tt
-    required_stays k (Attached o) = tt
+    required_stays k (Boolean false) = λ own. h
+    required_stays k (Integer z) = fell
+    required_stays k Void = fell
+    required_stays k (Attached o) = fell
 
   other_stays : (p : Point) (h : Stays P objects p) (depth : ℕ) (bs : Branches) (other : Instrs) → StepStays (chooses_other depth bs other p)
   other_stays p h depth no_branches other = come p h (Do other ∷ [])
@@ -352,36 +379,24 @@ module _ (P : Value → Type 0) (me : Reference) (own : HoldsOfOwn P me) (object
   choose_stays : (p : Point) (h : Stays P objects p) (depth : ℕ) (v : Value) (body : Instrs) (bs : Branches) (other : Instrs) → StepStays (chooses depth v body bs other p)
   choose_stays p h depth (Boolean true) body bs other = come p h (Do body ∷ Forget depth ∷ [])
   choose_stays p h depth (Boolean false) body bs other = other_stays (forgets depth p) (forget_stays p h depth) depth bs other
-  choose_stays p h depth (Integer z) body bs other = tt
-  choose_stays p h depth Void body bs other = tt
-  choose_stays p h depth (Attached o) body bs other = tt
+  choose_stays p h depth (Integer z) body bs other = fell p h
+  choose_stays p h depth Void body bs other = fell p h
+  choose_stays p h depth (Attached o) body bs other = fell p h
 
-  loop_stays : (p : Point) (v : Value) (e : Expr) (body : Instrs) → StepStays (ends_loop v e body p)
-  loop_stays p (Boolean true) e body = tt
-  loop_stays p (Boolean false) e body = tt
-  loop_stays p (Integer z) e body = tt
-  loop_stays p Void e body = tt
-  loop_stays p (Attached o) e body = tt
+  loop_stays : (p : Point) (h : Stays P objects p) (v : Value) (e : Expr) (body : Instrs) → StepStays (ends_loop v e body p)
+  loop_stays p h (Boolean true) e body = λ own. h
+  loop_stays p h (Boolean false) e body = λ own. same p h (Do body ∷ Repeat e body ∷ p.tasks) p.values h.values.values_do
+  loop_stays p h (Integer z) e body = fell p h
+  loop_stays p h Void e body = fell p h
+  loop_stays p h (Attached o) e body = fell p h
 
-  print_stays : (p : Point) (v : Value) → StepStays (prints v p)
-  print_stays p (Integer z) = tt
-  print_stays p (Boolean b) = tt
-  print_stays p Void = tt
-  print_stays p (Attached o) = tt
+  print_stays : (p : Point) (h : Stays P objects p) (v : Value) → StepStays (prints v p)
+  print_stays p h (Integer z) = λ own. h
+  print_stays p h (Boolean b) = λ own. h
+  print_stays p h Void = fell p h
+  print_stays p h (Attached o) = fell p h
 
   -- ---- calls
-
-  own_call_stays : (p : Point) (s : System) (x : List ℕ) (o : Option (List Operand × List Operand)) → StepStays (calls_unqualified s me x o p)
-  own_call_stays p s x None = tt
-  own_call_stays p s x (Some (us, vs)) = of_feature (feature_named s (class.Declared p.text.class) x)
-    where
-      of_given : (g : Option (Option EntityType)) → StepStays (enters_unqualified me x us g (record p { values = vs }))
-      of_given None = tt
-      of_given (Some t) = tt
-
-      of_feature : (f : Option DeclaredFeature) → StepStays (calls_own s me x f us (record p { values = vs }))
-      of_feature None = tt
-      of_feature (Some f) = of_given (given_by (signature_of s (current (place_in s p.text)) f).gives)
 
   -- what is popped does, and what lies under it
   abbrev PoppedDo : Option (List Operand × List Operand) → Type 0
@@ -396,111 +411,178 @@ module _ (P : Value → Type 0) (me : Reference) (own : HoldsOfOwn P me) (object
       by (suc n) us [] f g = tt
       by (suc n) us (v ∷ vs) f g = by n (v ∷ us) vs (g.0, f) g.1
 
-  requests_stay : (p : Point) (o : Reference) (g : Tag) (x : List ℕ) (us : List Operand) (t : Option EntityType) (b : Bool) → StepStays (requests o g x us t b p)
-  requests_stay p o tag.Own x us t b = tt
-  requests_stay p o (tag.With y) x us t b = tt
-  requests_stay p o tag.Any x us t b = tt
-  requests_stay p o tag.None x us t b = tt
+  own_call_stays : (p : Point) (h : Stays P objects p) (s : System) (x : List ℕ) (o : Option (List Operand × List Operand)) → PoppedDo o → StepStays (calls_unqualified s me x o p)
+  own_call_stays p h s x None f = fell p h
+  own_call_stays p h s x (Some (us, vs)) f = of_feature (feature_named s (class.Declared p.text.class) x)
+    where
+      of_given : (g : Option (Option EntityType)) → StepStays (enters_unqualified me x us g (record p { values = vs }))
+      of_given None = fell p h
+      of_given (Some t) = λ own. (same p h p.tasks vs f.1, f.0)
 
-  on_value_stays : (p : Point) (h : Stays P objects p) (s : System) (x : List ℕ) (v : Value) (t : EntityType) (f : Option DeclaredFeature) (us : List Operand) → StepStays (calls_on s me x v t f us p)
-  on_value_stays p h s x Void t f us = tt
-  on_value_stays p h s x (Integer z) t f us = tt
-  on_value_stays p h s x (Boolean b) t f us = tt
-  on_value_stays p h s x (Attached o) t None us = tt
-  on_value_stays p h s x (Attached o) t (Some f) us = of_given (given_by (signature_of s t f).gives)
+      of_feature : (f : Option DeclaredFeature) → StepStays (calls_own s me x f us (record p { values = vs }))
+      of_feature None = fell p h
+      of_feature (Some f) = of_given (given_by (signature_of s (current (place_in s p.text)) f).gives)
+
+  requests_stay : (p : Point) (h : Stays P objects p) (o : Reference) (g : Tag) (x : List ℕ) (us : List Operand) (t : Option EntityType) (b : Bool) → OperandsDo P us → P (Attached o) →
+      StepStays (requests o g x us t b p)
+  requests_stay p h o tag.Own x us t b f z = fell p h
+  requests_stay p h o (tag.With y) x us t b f z = λ own. (h, f, z)
+  requests_stay p h o tag.Any x us t b f z = λ own. (h, f, z)
+  requests_stay p h o tag.None x us t b f z = λ own. (h, f, z)
+
+  on_value_stays : (p : Point) (h : Stays P objects p) (s : System) (x : List ℕ) (v : Value) (t : EntityType) (f : Option DeclaredFeature) (us : List Operand) → OperandsDo P us → P v →
+      StepStays (calls_on s me x v t f us p)
+  on_value_stays p h s x Void t f us g w = fell p h
+  on_value_stays p h s x (Integer z) t f us g w = fell p h
+  on_value_stays p h s x (Boolean b) t f us g w = fell p h
+  on_value_stays p h s x (Attached o) t None us g w = fell p h
+  on_value_stays p h s x (Attached o) t (Some f) us g w = of_given (given_by (signature_of s t f).gives)
     where
       of_kind : (gives : Option EntityType) (y : Object) (k : FeatureKind) → BindingsDo P y.attributes → StepStays (calls_kind o x us gives y k p)
       of_kind (Some u) y (tree.Attribute d) f = read_attribute p h y.attributes x u f
-      of_kind None y (tree.Attribute d) f = tt
-      of_kind (Some u) y (tree.Routine c) f = tt
-      of_kind None y (tree.Routine c) f = tt
+      of_kind None y (tree.Attribute d) f = fell p h
+      of_kind (Some u) y (tree.Routine c) f = λ own. (h, g)
+      of_kind None y (tree.Routine c) f = λ own. (h, g)
 
       of_version : (gives : Option EntityType) (y : Option Object) (z : Option DeclaredFeature) → BindingsDo P (attributes_in y) → StepStays (calls_version o x us gives y z p)
-      of_version gives None z f = tt
-      of_version gives (Some y) None f = tt
+      of_version gives None z f = fell p h
+      of_version gives (Some y) None f = fell p h
       of_version gives (Some y) (Some z) f = of_kind gives y z.feature.kind f
 
       by : (gives : Option EntityType) (b : Bool) →
           StepStays (if b then calls_version o x us gives (object_numbered o.number p.objects) (version_of s o.class x) p else requests o t.tag x us gives (passes_rights (signature_of s t f).formals us) p)
       by gives true = of_version gives (object_numbered o.number p.objects) (version_of s o.class x) (object_there p h o.number)
-      by gives false = requests_stay p o t.tag x us gives (passes_rights (signature_of s t f).formals us)
+      by gives false = requests_stay p h o t.tag x us gives (passes_rights (signature_of s t f).formals us) g w
 
       of_given : (g : Option (Option EntityType)) → StepStays (calls_object s me o t x us (signature_of s t f) g p)
-      of_given None = tt
+      of_given None = fell p h
       of_given (Some gives) = by gives (o.handler == me.handler)
 
   far_call_stays : (p : Point) (h : Stays P objects p) (s : System) (x : List ℕ) (o : Option (List Operand × List Operand)) → PoppedDo o → StepStays (calls_qualified s me x o p)
-  far_call_stays p h s x None f = tt
-  far_call_stays p h s x (Some (us, [])) f = tt
+  far_call_stays p h s x None f = fell p h
+  far_call_stays p h s x (Some (us, [])) f = fell p h
   far_call_stays p h s x (Some (us, v ∷ vs)) f =
-      on_value_stays (record p { values = vs }) (same p h p.tasks vs f.1.1) s x v.value v.type (feature_named s v.type.class x) us
+      on_value_stays (record p { values = vs }) (same p h p.tasks vs f.1.1) s x v.value v.type (feature_named s v.type.class x) us f.0 f.1.0
 
   -- ---- creations and blocks
 
-  create_stays : (p : Point) (s : System) (v : Variable) (call : Option (List ℕ)) (o : Option (List Operand × List Operand)) → StepStays (creates s me v call o p)
-  create_stays p s v call None = tt
-  create_stays p s v call (Some (us, vs)) = of_type (assignee_type (assigned_at s v p))
+  fresh_do : (s : System) (fs : List DeclaredFeature) → BindingsDo P (fresh_attributes s fs)
+  fresh_do s [] = tt
+  fresh_do s (f ∷ fs) = by f.feature.name.text f.feature.kind (fresh_do s fs)
     where
-      q : Point
-      q = record p { tasks = AssignTo v ∷ p.tasks; values = vs }
+      of_type : (y : List ℕ) (o : Option EntityType) (bs : List Binding) → BindingsDo P bs → BindingsDo P (cons_option (option_map (λ (t : EntityType). bind y t role.Local (default_of t.class)) o) bs)
+      of_type y None bs e = e
+      of_type y (Some t) bs e = (default_does t.class, e)
 
-      made : (call : Option (List ℕ)) (o : Reference) (t : EntityType) (z : Point) → StepStays (creates_object s o t call us z)
-      made (Some x) o t z = tt
-      made None o t z = by (meets_invariant s (fresh_object s o.class))
+      by : (y : List ℕ) (k : FeatureKind) → BindingsDo P (fresh_attributes s fs) → BindingsDo P (cons_option (fresh_attribute s y k) (fresh_attributes s fs))
+      by y (tree.Attribute d) e = of_type y (declared_type s [] d) (fresh_attributes s fs) e
+      by y (tree.Routine c) e = e
+
+  -- a new object stands behind the others
+  with_fresh : (s : System) (k : ℕ) (p : Point) → Stays P objects p → Stays P objects (record p { objects = p.objects ++ fresh_object s k ∷ [] })
+  with_fresh s k p h = record {
+    values = record {
+      objects_do = each_append (λ (o : Object). BindingsDo P o.attributes) p.objects (fresh_object s k ∷ []) h.values.objects_do (fresh_do s (features s k), tt);
+      names_do = h.values.names_do;
+      result_does = h.values.result_does;
+      olds_do = h.values.olds_do;
+      values_do = h.values.values_do;
+    };
+    there = λ o z. among_more p.objects (fresh_object s k) o (h.there o z);
+  }
+
+  create_stays : (p : Point) (h : Stays P objects p) (s : System) (v : Variable) (call : Option (List ℕ)) (o : Option (List Operand × List Operand)) → PoppedDo o → StepStays (creates s me v call o p)
+  create_stays p h s v call None f = fell p h
+  create_stays p h s v call (Some (us, vs)) f = of_type (assignee_type (assigned_at s v p))
+    where
+      q_stays : Stays P objects (record p { tasks = AssignTo v ∷ p.tasks; values = vs })
+      q_stays = same p h (AssignTo v ∷ p.tasks) vs f.1
+
+      -- the new object, and what takes its reference
+      after : (k : ℕ) → Stays P objects (record p { objects = p.objects ++ fresh_object s k ∷ []; tasks = AssignTo v ∷ p.tasks; values = vs })
+      after k = with_fresh s k (record p { tasks = AssignTo v ∷ p.tasks; values = vs }) q_stays
+
+      given : (k : ℕ) (t : EntityType) → OwnDo (p.objects ++ fresh_object s k ∷ []) →
+          Stays P objects (record p {
+            objects = p.objects ++ fresh_object s k ∷ [];
+            tasks = AssignTo v ∷ p.tasks;
+            values = operand (Attached (record { handler = me.handler; number = length p.objects + 1; class = k })) (attached t) ∷ vs;
+          })
+      given k t made = same (record p { objects = p.objects ++ fresh_object s k ∷ []; tasks = AssignTo v ∷ p.tasks; values = vs }) (after k) (AssignTo v ∷ p.tasks)
+          (operand (Attached (record { handler = me.handler; number = length p.objects + 1; class = k })) (attached t) ∷ vs)
+          (made (record { handler = me.handler; number = length p.objects + 1; class = k }) refl (record { object = fresh_object s k; is_there = last_there p.objects (fresh_object s k); of_class = refl }), f.1)
+
+      made : (call : Option (List ℕ)) (k : ℕ) (t : EntityType) → StepStays (creates_object s (record { handler = me.handler; number = length p.objects + 1; class = k }) t call us
+          (record p { objects = p.objects ++ fresh_object s k ∷ []; tasks = AssignTo v ∷ p.tasks; values = vs }))
+      made (Some x) k t = λ own. (given k t own, f.0)
+      made None k t = by (meets_invariant s (fresh_object s k))
         where
-          by : (b : Bool) → StepStays (if b then Does act.Creates (record z { values = operand (Attached o) (attached t) ∷ z.values }) else fails cause.Invariant z)
-          by true = tt
-          by false = tt
+          by : (b : Bool) → StepStays (if b then Does act.Creates (record p {
+            objects = p.objects ++ fresh_object s k ∷ [];
+            tasks = AssignTo v ∷ p.tasks;
+            values = operand (Attached (record { handler = me.handler; number = length p.objects + 1; class = k })) (attached t) ∷ vs;
+          }) else fails cause.Invariant (record p { objects = p.objects ++ fresh_object s k ∷ []; tasks = AssignTo v ∷ p.tasks; values = vs }))
+          by true = given k t
+          by false = fell (record p { objects = p.objects ++ fresh_object s k ∷ []; tasks = AssignTo v ∷ p.tasks; values = vs }) (after k)
 
-      here : (k : ℕ) (t : EntityType) (z : Point) → StepStays (creates_here s me k t call us z)
-      here k t z = by (nat_lt (length z.objects) max_objects)
+      here : (k : ℕ) (t : EntityType) → StepStays (creates_here s me k t call us (record p { tasks = AssignTo v ∷ p.tasks; values = vs }))
+      here k t = by (nat_lt (length p.objects) max_objects)
         where
-          by : (b : Bool) → StepStays (if b then creates_object s (record { handler = me.handler; number = length z.objects + 1; class = k }) t call us (record z { objects = z.objects ++ fresh_object s k ∷ [] })
-              else fails cause.TooManyObjects z)
-          by true = made call (record { handler = me.handler; number = length z.objects + 1; class = k }) t (record z { objects = z.objects ++ fresh_object s k ∷ [] })
-          by false = tt
+          by : (b : Bool) → StepStays (if b then creates_object s (record { handler = me.handler; number = length p.objects + 1; class = k }) t call us
+              (record p { objects = p.objects ++ fresh_object s k ∷ []; tasks = AssignTo v ∷ p.tasks; values = vs }) else fails cause.TooManyObjects (record p { tasks = AssignTo v ∷ p.tasks; values = vs }))
+          by true = made call k t
+          by false = fell p h
 
-      at_tag : (t : EntityType) (g : Tag) (c : ClassId) (z : Point) → StepStays (creates_at s me call t g c us z)
-      at_tag t tag.Own (class.Declared k) z = here k t z
-      at_tag t tag.Any (class.Declared k) z = tt
-      at_tag t (tag.With y) (class.Declared k) z = tt
-      at_tag t tag.None (class.Declared k) z = tt
-      at_tag t tag.Own class.Integer z = tt
-      at_tag t tag.Own class.Boolean z = tt
-      at_tag t tag.Own class.Any z = tt
-      at_tag t tag.Own class.None z = tt
-      at_tag t tag.Any class.Integer z = tt
-      at_tag t tag.Any class.Boolean z = tt
-      at_tag t tag.Any class.Any z = tt
-      at_tag t tag.Any class.None z = tt
-      at_tag t (tag.With y) class.Integer z = tt
-      at_tag t (tag.With y) class.Boolean z = tt
-      at_tag t (tag.With y) class.Any z = tt
-      at_tag t (tag.With y) class.None z = tt
-      at_tag t tag.None class.Integer z = tt
-      at_tag t tag.None class.Boolean z = tt
-      at_tag t tag.None class.Any z = tt
-      at_tag t tag.None class.None z = tt
+      at_tag : (t : EntityType) (g : Tag) (c : ClassId) → StepStays (creates_at s me call t g c us (record p { tasks = AssignTo v ∷ p.tasks; values = vs }))
+      at_tag t tag.Own (class.Declared k) = here k t
+      at_tag t tag.Any (class.Declared k) = λ own. (q_stays, f.0)
+      at_tag t (tag.With y) (class.Declared k) = fell p h
+      at_tag t tag.None (class.Declared k) = fell p h
+      at_tag t tag.Own class.Integer = fell p h
+      at_tag t tag.Own class.Boolean = fell p h
+      at_tag t tag.Own class.Any = fell p h
+      at_tag t tag.Own class.None = fell p h
+      at_tag t tag.Any class.Integer = fell p h
+      at_tag t tag.Any class.Boolean = fell p h
+      at_tag t tag.Any class.Any = fell p h
+      at_tag t tag.Any class.None = fell p h
+      at_tag t (tag.With y) class.Integer = fell p h
+      at_tag t (tag.With y) class.Boolean = fell p h
+      at_tag t (tag.With y) class.Any = fell p h
+      at_tag t (tag.With y) class.None = fell p h
+      at_tag t tag.None class.Integer = fell p h
+      at_tag t tag.None class.Boolean = fell p h
+      at_tag t tag.None class.Any = fell p h
+      at_tag t tag.None class.None = fell p h
 
       of_type : (o : Option EntityType) → StepStays (creates_as s me call o us (record p { tasks = AssignTo v ∷ p.tasks; values = vs }))
-      of_type None = tt
-      of_type (Some t) = at_tag t t.tag t.class (record p { tasks = AssignTo v ∷ p.tasks; values = vs })
+      of_type None = fell p h
+      of_type (Some t) = at_tag t t.tag t.class
 
-  open_stays : (p : Point) (xs : List Name) (body : Instrs) (o : Option (List Operand × List Operand)) → StepStays (opens xs body o p)
-  open_stays p xs body None = tt
-  open_stays p xs body (Some (us, vs)) = tt
+  open_stays : (p : Point) (h : Stays P objects p) (xs : List Name) (body : Instrs) (o : Option (List Operand × List Operand)) → PoppedDo o → StepStays (opens xs body o p)
+  open_stays p h xs body None f = fell p h
+  open_stays p h xs body (Some (us, vs)) f = λ own. record {
+    values = record {
+      objects_do = h.values.objects_do;
+      names_do = block_do p h xs us p.environment f.0 h.values.names_do;
+      result_does = h.values.result_does;
+      olds_do = h.values.olds_do;
+      values_do = f.1;
+    };
+    there = h.there;
+  }
 
   -- ---- instructions
 
   begin_stays : (p : Point) (h : Stays P objects p) (i : Instr) → StepStays (begins i p)
   begin_stays p h (tree.Assign q x e) = come p h (Eval 0 e ∷ AssignTo x ∷ [])
-  begin_stays p h (tree.PrintText q text) = tt
+  begin_stays p h (tree.PrintText q text) = λ own. h
   begin_stays p h (tree.CallRoutine q tree.no_target x es) = by (is_print x.text) es
     where
       by : (b : Bool) (es : Exprs) → StepStays (begins_routine b x.text es p)
-      by true no_exprs = tt
+      by true no_exprs = fell p h
       by true (expr_then e no_exprs) = come p h (Eval 0 e ∷ Print ∷ [])
-      by true (expr_then e (expr_then e' es)) = tt
+      by true (expr_then e (expr_then e' es)) = fell p h
       by false es = come p h (evals 0 es ++ CallUnqualified x.text (count es) ∷ [])
   begin_stays p h (tree.CallRoutine q (tree.target a) x es) = come p h (Eval 0 a ∷ evals 0 es ++ CallQualified x.text (count es) ∷ [])
   begin_stays p h (tree.Create q c) = come p h (evals 0 (actuals_of c.call) ++ CreateBy c.variable (procedure_of c.call) (count (actuals_of c.call)) ∷ [])
@@ -517,7 +599,7 @@ module _ (P : Value → Type 0) (me : Reference) (own : HoldsOfOwn P me) (object
     after_task k us f = same p h k us f
 
     applied_stays : (k : List Task) (op : BinaryOperator) (v : Value) (us : List Operand) → OperandsDo P us → StepStays (applies op v us (record p { tasks = k; values = us }))
-    applied_stays k op v [] f = tt
+    applied_stays k op v [] f = fell p h
     applied_stays k op v (u ∷ us) f = binary_stays (record p { tasks = k; values = us }) (after_task k us f.1) op u.value v
 
     kept_stays : (k : List Task) (u : Operand) (us : List Operand) → P u.value → OperandsDo P us → Stays P objects (record p { olds = p.olds ++ u ∷ []; tasks = k; values = us })
@@ -546,45 +628,45 @@ module _ (P : Value → Type 0) (me : Reference) (own : HoldsOfOwn P me) (object
         (each_append (λ (b : Binding). P b.value) p.environment (locals_bound s p.text.formals ds) h.values.names_do (locals_do p h s p.text.formals ds)) f
     task_stays k (Forget depth) vs f = forget_stays (record p { tasks = k; values = vs }) (after_task k vs f) depth
     task_stays k (Eval i e) vs f = evaluate_stays (record p { tasks = k; values = vs }) (after_task k vs f) s i e
-    task_stays k (CallUnqualified x n) vs f = own_call_stays (record p { tasks = k; values = vs }) s x (popped n [] vs)
+    task_stays k (CallUnqualified x n) vs f = own_call_stays (record p { tasks = k; values = vs }) (after_task k vs f) s x (popped n [] vs) (popped_do n [] vs tt f (popped n [] vs) refl)
     task_stays k (CallQualified x n) vs f = far_call_stays (record p { tasks = k; values = vs }) (after_task k vs f) s x (popped n [] vs) (popped_do n [] vs tt f (popped n [] vs) refl)
     task_stays k (Repeat e body) vs f = after_task (Eval 0 e ∷ EndLoop e body ∷ k) vs f
-    task_stays k (Require []) vs f = tt
+    task_stays k (Require []) vs f = λ own. after_task k vs f
     task_stays k (Require (c ∷ cs)) vs f = after_task (Eval 0 c.condition ∷ Required c ∷ Require cs ∷ k) vs f
-    task_stays k (CreateBy x c n) vs f = create_stays (record p { tasks = k; values = vs }) s x c (popped n [] vs)
-    task_stays k (Open xs body) vs f = open_stays (record p { tasks = k; values = vs }) xs body (popped (length xs) [] vs)
-    task_stays k (Leave depth) vs f = tt
-    task_stays k (ApplyUnary op) [] f = tt
+    task_stays k (CreateBy x c n) vs f = create_stays (record p { tasks = k; values = vs }) (after_task k vs f) s x c (popped n [] vs) (popped_do n [] vs tt f (popped n [] vs) refl)
+    task_stays k (Open xs body) vs f = open_stays (record p { tasks = k; values = vs }) (after_task k vs f) xs body (popped (length xs) [] vs) (popped_do (length xs) [] vs tt f (popped (length xs) [] vs) refl)
+    task_stays k (Leave depth) vs f = λ own. forget_stays (record p { tasks = k; values = vs }) (after_task k vs f) depth
+    task_stays k (ApplyUnary op) [] f = fell p h
     task_stays k (ApplyUnary op) (u ∷ us) f = unary_stays (record p { tasks = k; values = us }) (after_task k us f.1) op u.value
-    task_stays k (EvalRight op i e) [] f = tt
+    task_stays k (EvalRight op i e) [] f = fell p h
     task_stays k (EvalRight op i e) (u ∷ us) f = right_stays (record p { tasks = k; values = us }) (after_task k us f.1) (decided_by op u.value) (is_short op) op i e u f.0
-    task_stays k (ApplyBinary op) [] f = tt
+    task_stays k (ApplyBinary op) [] f = fell p h
     task_stays k (ApplyBinary op) (u ∷ us) f = applied_stays k op u.value us f.1
-    task_stays k (Conclude) [] f = tt
+    task_stays k (Conclude) [] f = fell p h
     task_stays k (Conclude) (u ∷ us) f = conclude_stays (record p { tasks = k; values = us }) (after_task k us f.1) u.value
-    task_stays k (Bind d x) [] f = tt
+    task_stays k (Bind d x) [] f = fell p h
     task_stays k (Bind d x) (u ∷ us) f = test_stays (record p { tasks = k; values = us }) (after_task k us f.1) s d x u.value (test_type (place_in s p.text) d (Some u.type)) f.0
-    task_stays k (AssignTo x) [] f = tt
+    task_stays k (AssignTo x) [] f = fell p h
     task_stays k (AssignTo x) (u ∷ us) f = assign_stays (record p { tasks = k; values = us }) (after_task k us f.1) x (assigned_at s x (record p { tasks = k; values = us })) u.value f.0
-    task_stays k (Print) [] f = tt
-    task_stays k (Print) (u ∷ us) f = print_stays (record p { tasks = k; values = us }) u.value
-    task_stays k (Choose depth body bs other) [] f = tt
+    task_stays k (Print) [] f = fell p h
+    task_stays k (Print) (u ∷ us) f = print_stays (record p { tasks = k; values = us }) (after_task k us f.1) u.value
+    task_stays k (Choose depth body bs other) [] f = fell p h
     task_stays k (Choose depth body bs other) (u ∷ us) f = choose_stays (record p { tasks = k; values = us }) (after_task k us f.1) depth u.value body bs other
-    task_stays k (EndLoop e body) [] f = tt
-    task_stays k (EndLoop e body) (u ∷ us) f = loop_stays (record p { tasks = k; values = us }) u.value e body
-    task_stays k (Checked) [] f = tt
+    task_stays k (EndLoop e body) [] f = fell p h
+    task_stays k (EndLoop e body) (u ∷ us) f = loop_stays (record p { tasks = k; values = us }) (after_task k us f.1) u.value e body
+    task_stays k (Checked) [] f = fell p h
     task_stays k (Checked) (u ∷ us) f = tests_stay (record p { tasks = k; values = us }) (after_task k us f.1) cause.Check u.value
-    task_stays k (Required c) [] f = tt
+    task_stays k (Required c) [] f = fell p h
     task_stays k (Required c) (u ∷ us) f = required_stays (record p { tasks = k; values = us }) (after_task k us f.1) c u.value
-    task_stays k (KeepOld) [] f = tt
+    task_stays k (KeepOld) [] f = fell p h
     task_stays k (KeepOld) (u ∷ us) f = kept_stays k u us f.0 f.1
-    task_stays k (Ensured) [] f = tt
+    task_stays k (Ensured) [] f = fell p h
     task_stays k (Ensured) (u ∷ us) f = tests_stay (record p { tasks = k; values = us }) (after_task k us f.1) cause.Postcondition u.value
 
-  -- A silent step keeps each value.
+  -- A step keeps each value.
   pub step_stays : (s : System) (p : Point) → Stays P objects p → StepStays (step s me p)
   step_stays s p h = by p.tasks
     where
       by : (k : List Task) → StepStays (step_at s me k p)
-      by [] = tt
+      by [] = λ own. h
       by (task ∷ k) = task_stays s p h k task p.values h.values.values_do

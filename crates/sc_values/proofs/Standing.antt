@@ -149,5 +149,5 @@ module _ (s : System) (pure : RoutineName → Bool) (r : Routine) (me : Referenc
         reference_is (inr u) = u.1
 
         by : (c : Bool) → t.attached ≡ c → StepFits s pure r me (if c then fails cause.UnsetEntity p else gives Void t p)
-        by true e = refl
+        by true e = (refl, b.store)
         by false e = found Void t t refl d (e, reference_is f) fs

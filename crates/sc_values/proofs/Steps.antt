@@ -85,10 +85,10 @@ module _ (s : System) (pure : RoutineName → Bool) (r : Routine) (me : Referenc
   known_step (Checked ∷ k) [] d f g = elim d [ ]
   known_step (Checked ∷ k) (u ∷ []) (typed.checked c d) f g = tests_step s pure r me run (q k []) b cause.Check u refl c f.0 d
   known_step (Checked ∷ k) (u ∷ v ∷ us) d f g = elim d [ ]
-  known_step (Require ks ∷ k) [] (typed.require c d) f g = require_step s pure r me run (q k []) b ks c d
+  known_step (Require ks ∷ k) [] (typed.require z c d) f g = require_step s pure r me run (q k []) b ks z c d
   known_step (Require ks ∷ k) (u ∷ us) d f g = elim d [ ]
   known_step (Required c ∷ k) [] d f g = elim d [ ]
-  known_step (Required c ∷ k) (u ∷ []) (typed.required y d) f g = required_step s pure r me run (q k []) b c u y f.0 d
+  known_step (Required c ∷ k) (u ∷ []) (typed.required z y d) f g = required_step s pure r me run (q k []) b c u z y f.0 d
   known_step (Required c ∷ k) (u ∷ v ∷ us) d f g = elim d [ ]
   known_step (KeepOld ∷ k) [] d f g = elim d [ ]
   known_step (KeepOld ∷ k) (u ∷ []) (typed.keep_old e d) f g = keep_step s pure r me (q k []) b u e d f.0

@@ -1,5 +1,5 @@
 -- Where the invariant of a turn holds, each value fits its type.
-use Rattle.std.proofs.Common.{◌≡◌, ◌⊎◌, inl, inr, ℕ, zero, suc, true, false, List, Option, Some, refl, sym, subst, ap, ◌∙◌}
+use Rattle.std.proofs.Common.{◌≡◌, ◌⊎◌, inl, inr, ℕ, zero, suc, Bool, true, false, List, ◌∷◌, Option, Some, refl, sym, subst, ap, ◌∙◌}
 use Rattle.std.specs.Prelude.{Contains, slice_get}
 use Rattle.sc_tree.specs.Plain.{System, Declaration}
 use Rattle.sc_proctype.specs.declared.tag.Reserved.{Reserved}
@@ -8,11 +8,12 @@ use Rattle.sc_rules.specs.Types.{declared_type}
 use Rattle.sc_model.specs.Values.{Value, Attached, Operand}
 use Rattle.sc_model.specs.Environments.{Binding, handler_named}
 use Rattle.sc_model.specs.Failures.{requests_at}
+use Rattle.sc_model.specs.Handlers.{Awaits, Frame}
 use Rattle.sc_model.specs.Fits.{Lies, Fits, IsUnset, FitsOrUnset, BindingFits, OperandFits}
 use Rattle.sc_values.specs.Places.{no_names, attribute, entity, of_result, operand, of_old, actual, reply}
 use Rattle.sc_values.specs.Points as point
 use Rattle.sc_values.specs.Points.{EnvironmentFits, ResultFits}
-use Rattle.sc_values.specs.Fitting.{ActualsFit, no_more, one_more, ValueIsThere, ObjectFits, RequestFits, FrameFits}
+use Rattle.sc_values.specs.Fitting.{ActualsFit, no_more, one_more, ValueIsThere, ObjectFits, ReplyFits, RequestFits, FrameFits}
 use Rattle.sc_values.specs.Values.{FitWhereWorldFits, OwnWhereWorldFits}
 use Rattle.sc_values.proofs.Lists.{same_some, each_in}
 use Rattle.sc_values.proofs.Environments.{all_fit, olds_now}
@@ -56,13 +57,25 @@ fit_where_world_fits s pure w fits h of v t u (of_old {f} {u = x} l i j) =
 fit_where_world_fits s pure w fits h of v t u (actual i {r} {d} l c j k m) =
     let q = each_in (RequestFits s w h) (requests_at (w.handlers h)) r (fits h l).requests_fit c in
     inl (subst (λ h. Fits s h of v t) q.is_here (actual_fits s r.target.handler _ of _ r.actuals q.actuals_fit i d t v j k m))
-fit_where_world_fits s pure w fits h of v t u (reply {k} {f} {below} {is_creation} l a e g) = at ((fits h l).answer_fits f below k (Some t) is_creation (Some v) e g a t refl)
+fit_where_world_fits s pure w fits h of v t u (reply {k} {f} {below} {is_creation} l a e g) = of_reply ((fits h l).answer_fits (Some v) a)
   where
     same : (x v : Value) → Some v ≡ Some x → x ≡ v
     same x v e = cc
 
+    top : {f g : Frame} {fs gs : List Frame} → f ∷ fs ≡ g ∷ gs → f ≡ g
+    top e = cc
+
+    awaited : {j k : ℕ} {t u : Option EntityType} {b c : Bool} → Awaits j t b ≡ Awaits k u c → t ≡ u
+    awaited e = cc
+
     at : (x : Value) × (Some v ≡ Some x) × Fits s h (handler_named f.environment) x t × ValueIsThere w x → Fits s h (handler_named f.environment) v t ⊎ ((false ≡ true) × IsUnset v t)
     at (x, p, q, z) = inl (subst (λ v. Fits s h (handler_named f.environment) v t) (same x v p) q)
+
+    of_reply : ReplyFits s w h (Some v) → Fits s h (handler_named f.environment) v t ⊎ ((false ≡ true) × IsUnset v t)
+    of_reply z =
+        let i : z.frame ≡ f = top (sym z.stack_is ∙ e) in
+        at (subst (λ (y : Frame). (x : Value) × (Some v ≡ Some x) × Fits s h (handler_named y.environment) x t × ValueIsThere w x) i
+        (z.fits t (awaited (sym z.stage_is ∙ ap (λ (y : Frame). y.stage) i ∙ g))))
 
 pub own_where_world_fits : OwnWhereWorldFits
 own_where_world_fits s pure w fits h of r t u p e = at (fit_where_world_fits s pure w fits h of (Attached r) t u p)

@@ -1,5 +1,5 @@
 -- Where a value stands in a state of the machine, and the type that the text gives it there.
-use Rattle.std.specs.Option.{option_and_then}
+use Rattle.std.specs.Option.{option_and_then, option_map}
 use Rattle.std.specs.Prelude.{◌<◌, Bool, Contains, List, None, Option, Some, [], false, slice_get, true, ℕ, ◌∷◌, ◌≡◌}
 use Rattle.sc_tree.specs.Plain.{Attribute, Declaration, FeatureKind, System, Routine}
 use Rattle.sc_class.specs.Tables.Features.{DeclaredFeature}
@@ -43,6 +43,19 @@ called_name (Makes k) = k
 -- the formals of what a request calls, in the version of its target's class
 abbrev pub formals_of_request : System → Request → List Declaration
 formals_of_request s r = formals_if_any (option_and_then (version_of s r.target.class) (called_name r.errand))
+
+-- what a feature of the kind gives, if it gives something: a value of a type
+abbrev pub result_of_kind : System → FeatureKind → Option (Option EntityType)
+result_of_kind s (Attribute d) = Some (declared_type s [] d)
+result_of_kind s (Routine routine) = option_map (declared_type s []) routine.result_type
+
+abbrev pub result_if_any : System → Option DeclaredFeature → Option (Option EntityType)
+result_if_any s None = None
+result_if_any s (Some f) = result_of_kind s f.feature.kind
+
+-- what the request asks for, by the version of its target's class
+abbrev pub result_of_request : System → Request → Option (Option EntityType)
+result_of_request s r = result_if_any s (option_and_then (version_of s r.target.class) (called_name r.errand))
 
 -- The value stands somewhere in the state, as one of the type, seen from the handler of the number, where names have
 -- these handlers; it may be unset, or it may not.

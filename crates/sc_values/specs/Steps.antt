@@ -8,17 +8,18 @@ use Rattle.sc_proctype.specs.declared.entity_type.EntityType.{EntityType}
 use Rattle.sc_proctype.specs.declared.tag.Reserved.{Reserved}
 use Rattle.sc_rules.specs.Names.{RoutineName}
 use Rattle.sc_rules.specs.Types.{declared_type}
-use Rattle.sc_model.specs.Environments.{Binding, handler_named}
+use Rattle.sc_model.specs.Environments.{Binding, handler_named, scope_of}
 use Rattle.sc_model.specs.Fits.{Fits}
 use Rattle.sc_model.specs.Objects.{Object}
 use Rattle.sc_model.specs.Routines.{Routine, version_of}
-use Rattle.sc_model.specs.Steps.{Act, CreatesHandler, Does, Enters, Fails, Goes, Point, Requests, Step, gives}
+use Rattle.sc_model.specs.Steps.{Act, CreatesHandler, Does, Enters, Fails, Goes, Point, Refuses, Requests, Step, gives}
 use Rattle.sc_model.specs.Values.{Attached, Operand, Reference, Value, values_of}
 use Rattle.sc_model.specs.declared.cause.Cause.{Cause}
 use Rattle.sc_model.specs.declared.cause.Cause.TheVariants as cause
 use Rattle.sc_values.specs.Fitting.{ActualsFit}
 use Rattle.sc_values.specs.Places.{is_routine, no_names, of_actuals}
-use Rattle.sc_values.specs.Points.{Each, IsAmong, PointFits, StoreFits, listed}
+use Rattle.sc_values.specs.Points.{Each, IsAmong, PointFits, StoreFits, listed, types_of}
+use Rattle.sc_values.specs.Typed.{IsAtEntry}
 
 -- ---- calls: what they come to on the called object's handler
 
@@ -66,13 +67,14 @@ module _ (s : System) (pure : RoutineName → Bool) (r : Routine) (me : Referenc
 
   -- What the act comes to fits, and after it the routine goes on.
   abbrev pub ActFits : Act → Point → Type 0
-  ActFits (Fails why) p = is_excluded why ≡ false
+  ActFits (Fails why) p = (is_excluded why ≡ false) × StoreFits s me p.objects
   ActFits (Enters c o x us gives) p =
       (o.handler ≡ me.handler) × IsAmong p.objects o × EntryFits s me.handler (handler_named p.environment) o x us gives × StandsSo (listed gives) p
   ActFits (Requests o x us gives passes) p = CallFits s me.handler (handler_named p.environment) o x us gives × StandsSo (listed gives) p
   ActFits (CreatesHandler k x us t passes) p =
       (k < length s.classes) × CreationFits s me.handler (handler_named p.environment) k x us
       × ((j : ℕ) → Fits s me.handler (handler_named p.environment) (Attached (record { handler = j; number = 1; class = k })) t) × StandsSo (t ∷ []) p
+  ActFits (Refuses k) p = IsAtEntry s r p.text (scope_of p.environment) (types_of p.olds) × StandsSo [] p
   ActFits act p = StandsSo [] p
 
   abbrev pub StepFits : Step → Type 0

@@ -11,7 +11,7 @@ use Rattle.sc_proctype.specs.Conformance.{boolean, conforms}
 use Rattle.sc_proctype.specs.declared.entity_type.EntityType.{EntityType}
 use Rattle.sc_proctype.specs.declared.tag.Tag.TheVariants as tag
 use Rattle.sc_rules.specs.Laws.{are_declared}
-use Rattle.sc_rules.specs.Names.{Entities, Entity, RoutineContext, RoutineName, Signature, assignee, assignee_type, block_type, blocks, current, entity, locals_known, named, qualified_meaning, signature_of, test_type}
+use Rattle.sc_rules.specs.Names.{Entities, Entity, RoutineContext, RoutineName, Signature, assignee, assignee_type, block_type, blocks, current, entity, formals_known, locals_known, named, qualified_meaning, signature_of, test_type}
 use Rattle.sc_rules.specs.Positions.{is_and_then, is_condition, is_ensure, is_old, operand_position}
 use Rattle.sc_rules.specs.Sites.{branches, instructions}
 use Rattle.sc_rules.specs.SystemLaws.{Stands}
@@ -87,6 +87,10 @@ IsOf s t c k n e a = (b : Bool) × HasType (place_in s t) c k n e (typing (Some 
 abbrev pub IsBoolean : EntityType → Type 0
 IsBoolean a = is_boolean a.class ≡ true
 
+-- The routine begins, in the text of the contract that it keeps: its formals alone are known, and no `old` is kept.
+abbrev pub IsAtEntry : System → Routine → Text → Entities → List EntityType → Type 0
+IsAtEntry s r t n os = (t ≡ r.contract) × (n ≡ formals_known s r.text.formals) × (os ≡ [])
+
 pub data IsTyped (s : System) (pure : RoutineName → Bool) (r : Routine) : List Task → Known → Type 0 where
   -- texts, bodies and names
   done : {t : Text} {n : Entities} {os : List EntityType} → t ≡ r.contract → IsTyped s pure r [] (at t n os [])
@@ -160,10 +164,10 @@ pub data IsTyped (s : System) (pure : RoutineName → Bool) (r : Routine) : List
   -- contracts
   checked : {k : List Task} {t : Text} {n : Entities} {os : List EntityType} {a : EntityType} → IsBoolean a →
       IsTyped s pure r k (at t n os []) → IsTyped s pure r (Checked ∷ k) (at t n os (a ∷ []))
-  require : {k : List Task} {t : Text} {n : Entities} {os : List EntityType} {ks : List Clause} →
+  require : {k : List Task} {t : Text} {n : Entities} {os : List EntityType} {ks : List Clause} → IsAtEntry s r t n os →
       ((q : Clause) → Contains ks q → (a : EntityType) × IsOf s t context.Require Plain n q.condition a × IsBoolean a) →
       IsTyped s pure r k (at t n os []) → IsTyped s pure r (Require ks ∷ k) (at t n os [])
-  required : {k : List Task} {t : Text} {n : Entities} {os : List EntityType} {q : Clause} {a : EntityType} → IsBoolean a →
+  required : {k : List Task} {t : Text} {n : Entities} {os : List EntityType} {q : Clause} {a : EntityType} → IsAtEntry s r t n os → IsBoolean a →
       IsTyped s pure r k (at t n os []) → IsTyped s pure r (Required q ∷ k) (at t n os (a ∷ []))
   keep_old : {k : List Task} {t : Text} {n : Entities} {os : List EntityType} {a : EntityType} → list_all (λ (e : Entity). is_formal e.role) n ≡ true →
       IsTyped s pure r k (at t n (os ++ a ∷ []) []) → IsTyped s pure r (KeepOld ∷ k) (at t n os (a ∷ []))

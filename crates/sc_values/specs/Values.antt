@@ -16,18 +16,19 @@ use Rattle.sc_model.specs.Entries.{entry, reserves_block, reserves_entry}
 use Rattle.sc_model.specs.Environments.{Binding, formals_bound}
 use Rattle.sc_model.specs.Failures.{fails_with}
 use Rattle.sc_model.specs.Fits.{Fits, IsUnset}
-use Rattle.sc_model.specs.Handlers.{Frame, Origin, Request, Reserves, ReservesBlock, Runs, World, point_of}
+use Rattle.sc_model.specs.Handlers.{Answer, Awaits, Frame, Origin, Reply, Request, Requested, Reserves, ReservesBlock, Runs, World, point_of}
 use Rattle.sc_model.specs.Moves.{moves, step}
 use Rattle.sc_model.specs.Objects.{Object}
 use Rattle.sc_model.specs.Routines.{Routine, routine_named}
 use Rattle.sc_model.specs.Runs.{IsReached, opening}
 use Rattle.sc_model.specs.Sessions.{release}
-use Rattle.sc_model.specs.Steps.{Does, Fails, Point}
-use Rattle.sc_model.specs.Turns.{turn}
+use Rattle.sc_model.specs.Steps.{Act, Creates, CreatesHandler, Does, Enters, Exits, Fails, Leaves, Opens, Point, Prints, Refuses, Requests, Starts, Tests}
+use Rattle.sc_model.specs.Takes.{takes_answer, takes_callback, takes_next}
+use Rattle.sc_model.specs.Turns.{settles, turn}
 use Rattle.sc_model.specs.Values.{Attached, Reference, Value}
 use Rattle.sc_model.specs.declared.cause.Cause.{Cause}
-use Rattle.sc_values.specs.Fitting.{ActualsFit, WorldFits}
-use Rattle.sc_values.specs.Places.{StandsAs, of_actuals}
+use Rattle.sc_values.specs.Fitting.{ActualsFit, CallbacksStandAlone, EndsAreAwaited, IsAwaited, WorldFits}
+use Rattle.sc_values.specs.Places.{StandsAs, of_actuals, result_of_request}
 use Rattle.sc_values.specs.Points.{IsAmong, PointFits}
 use Rattle.sc_values.specs.Steps.{IsThereIfOwn, StandsSo, StepFits, ValuesDo, is_excluded}
 
@@ -124,10 +125,89 @@ ReservationsKeepIt = (s : System) (pure : RoutineName → Bool) (w : World) (h :
     (w.handlers h).stack ≡ f ∷ below →
     (f.stage ≡ Reserves → WorldFits s pure (reserves_entry h ks f below w)) × (f.stage ≡ ReservesBlock → WorldFits s pure (reserves_block h ks f below w))
 
+-- A turn in which the topmost frame makes a move that ends in such an act keeps the invariant.
+abbrev pub ActsKeepIt : (Act → Bool) → Type 0
+ActsKeepIt is_such = (s : System) (root : Root) (pure : RoutineName → Bool) → IsFaultless s root → WellFormed s → IsPurity s pure → (most : ℕ) (w : World) → WorldFits s pure w →
+    (h : ℕ) → h < w.count → (f : Frame) (below : List Frame) → (w.handlers h).stack ≡ f ∷ below → f.stage ≡ Runs → (a : Act) (p : Point) →
+    moves s f.current (point_of f (w.handlers h).objects) ≡ Does a p → is_such a ≡ true → WorldFits s pure (settles most s h (Does a p) f below w)
+
+-- what concerns the own handler alone: no call, no request, no new handler, and no end of the routine
+abbrev pub is_own_act : Act → Bool
+is_own_act (Prints text) = true
+is_own_act Tests = true
+is_own_act Creates = true
+is_own_act Starts = true
+is_own_act Opens = true
+is_own_act Leaves = true
+is_own_act (Fails why) = true
+is_own_act (CreatesHandler class procedure us t passes) = false
+is_own_act (Enters c o x us t) = false
+is_own_act (Requests o x us t passes) = false
+is_own_act (Refuses k) = false
+is_own_act Exits = false
+
+-- a routine of the own handler is called
+abbrev pub is_entry : Act → Bool
+is_entry (Enters c o x us t) = true
+is_entry other = false
+
+-- another handler is asked
+abbrev pub is_request : Act → Bool
+is_request (Requests o x us t passes) = true
+is_request other = false
+
+-- a handler is created
+abbrev pub is_new_handler : Act → Bool
+is_new_handler (CreatesHandler class procedure us t passes) = true
+is_new_handler other = false
+
+-- the precondition of the entry is false
+abbrev pub is_refusal : Act → Bool
+is_refusal (Refuses k) = true
+is_refusal other = false
+
+-- So does the exit of a routine, where whoever waits for the request that began it takes its result.
+abbrev pub ExitsKeepIt : Type 0
+ExitsKeepIt = (s : System) (root : Root) (pure : RoutineName → Bool) → IsFaultless s root → WellFormed s → IsPurity s pure → (most : ℕ) (w : World) → WorldFits s pure w →
+    (h : ℕ) → h < w.count → (f : Frame) (below : List Frame) → (w.handlers h).stack ≡ f ∷ below → f.stage ≡ Runs → (p : Point) →
+    moves s f.current (point_of f (w.handlers h).objects) ≡ Does Exits p → ((r : Request) → f.origin ≡ Requested r → IsAwaited s w h r (result_of_request s r)) →
+    WorldFits s pure (settles most s h (Does Exits p) f below w)
+
+-- A turn in which the topmost frame takes the answer that it waits for keeps the invariant.
+abbrev pub AnswersKeepIt : Type 0
+AnswersKeepIt = (s : System) (pure : RoutineName → Bool) (w : World) → WorldFits s pure w → (h : ℕ) → h < w.count → (f : Frame) (below : List Frame) → (w.handlers h).stack ≡ f ∷ below →
+    (k : ℕ) (t : Option EntityType) (is_creation : Bool) → f.stage ≡ Awaits k t is_creation → (a : Answer) → (w.handlers h).answer ≡ Some a →
+    WorldFits s pure (takes_answer h a k t is_creation f below w)
+
+-- A turn in which a handler without frames takes the first request of its queue keeps the invariant, where whoever waits for it takes
+-- what it asks for.
+abbrev pub NextKeepIt : Type 0
+NextKeepIt = (s : System) (root : Root) (pure : RoutineName → Bool) → IsFaultless s root → WellFormed s → IsPurity s pure → (w : World) → WorldFits s pure w → (h : ℕ) → h < w.count →
+    (r : Request) (rs : List Request) → (w.handlers h).stack ≡ [] → (w.handlers h).queue ≡ r ∷ rs → IsAwaited s w h r (result_of_request s r) → WorldFits s pure (takes_next s h (r ∷ rs) w)
+
+-- So does one in which it takes a callback, where no reply has come.
+abbrev pub CallbacksKeepIt : Type 0
+CallbacksKeepIt = (s : System) (root : Root) (pure : RoutineName → Bool) → IsFaultless s root → WellFormed s → IsPurity s pure → (w : World) → WorldFits s pure w → (h : ℕ) → h < w.count →
+    (r : Request) (f : Frame) (below : List Frame) → (w.handlers h).stack ≡ f ∷ below → (w.handlers h).callback ≡ Some r → ((v : Option Value) → (w.handlers h).answer ≡ Some (Reply v) → ⊥) →
+    IsAwaited s w h r (result_of_request s r) → WorldFits s pure (takes_callback s h r (f ∷ below) w)
+
+-- Each turn keeps the invariant, where no callback stands beside a reply, and whoever waits for what may end takes what it asks for.
+abbrev pub TurnsKeepWhereAwaited : Type 0
+TurnsKeepWhereAwaited = (s : System) (root : Root) (pure : RoutineName → Bool) → IsFaultless s root → WellFormed s → IsPurity s pure → (most h : ℕ) (w : World) → WorldFits s pure w →
+    CallbacksStandAlone w → EndsAreAwaited s w → WorldFits s pure (turn most s h w)
+
 -- Each turn keeps the invariant.
 abbrev pub TurnsKeepIt : Type 0
 TurnsKeepIt = (s : System) (root : Root) (pure : RoutineName → Bool) → IsFaultless s root → WellFormed s → IsPurity s pure →
     (most h : ℕ) (w : World) → IsReached most s root w → WorldFits s pure w → WorldFits s pure (turn most s h w)
+
+-- So it is in each state that is reached.
+abbrev pub EachEndIsAwaited : Type 0
+EachEndIsAwaited = WhereAccepted λ s root. (most : ℕ) (w : World) → IsReached most s root w → CallbacksStandAlone w × EndsAreAwaited s w
+
+-- Then each turn keeps the invariant.
+abbrev pub TurnsFromEnds : Type 0
+TurnsFromEnds = EachEndIsAwaited → TurnsKeepIt
 
 -- If each turn keeps the invariant, each value fits in every state that is reached.
 abbrev pub FromTurns : Type 0

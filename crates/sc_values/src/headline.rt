@@ -1,7 +1,7 @@
 //! What follows of the invariant on values, and where it holds.
 
 ghost use Rattle.sc_values.specs.Passing.{FitWhereConforming, FitWhereGiven, FitWherePassed};
-ghost use Rattle.sc_values.specs.Values.{EntriesFit, FailuresKeepIt, FitWhereWorldFits, FromTurns, MovesFit, NoMoveIsExcluded, OpeningFits, OwnWhereWorldFits, ReleasesKeepIt, ReservationsKeepIt, RightsKeepIt, RunningFramesMove, StepsFit};
+ghost use Rattle.sc_values.specs.Values.{ActsKeepIt, AnswersKeepIt, CallbacksKeepIt, EntriesFit, ExitsKeepIt, FailuresKeepIt, FitWhereWorldFits, FromTurns, MovesFit, NextKeepIt, NoMoveIsExcluded, OpeningFits, OwnWhereWorldFits, ReleasesKeepIt, ReservationsKeepIt, RightsKeepIt, RunningFramesMove, StepsFit, TurnsFromEnds, TurnsKeepWhereAwaited, is_entry, is_new_handler, is_own_act, is_refusal, is_request};
 
 /// Where the invariant on values holds of a state, each value fits its type wherever it stands; an attribute, a local or a
 /// Result may still be unset.
@@ -85,4 +85,62 @@ pub fn reservations_keep_it()
 /// No such move fails for a foreign object, a Void target or a missing case.
 pub fn no_move_is_excluded()
     ensures { NoMoveIsExcluded }
+{}
+
+/// A turn in which a routine does what concerns its own handler alone keeps the invariant: it prints, ends a round of a
+/// loop, creates an object of its handler without a call, starts, opens or ends a separate block, or fails.
+pub fn own_acts_keep_it()
+    ensures { ActsKeepIt is_own_act }
+{}
+
+/// So does one in which it calls a routine of its own handler.
+pub fn entries_keep_it()
+    ensures { ActsKeepIt is_entry }
+{}
+
+/// So does one in which its precondition is false: the entry waits, its request is refused, or its handler fails.
+pub fn refusals_keep_it()
+    ensures { ActsKeepIt is_refusal }
+{}
+
+/// So does one in which a routine exits, where whoever waits for the request that began it takes its result.
+pub fn exits_keep_it()
+    ensures { ExitsKeepIt }
+{}
+
+/// A turn in which the topmost frame takes the answer that it waits for keeps the invariant on values.
+pub fn answers_keep_it()
+    ensures { AnswersKeepIt }
+{}
+
+/// So does one in which it asks another handler, with lock passing or without.
+pub fn requests_keep_it()
+    ensures { ActsKeepIt is_request }
+{}
+
+/// So does one in which it creates a handler.
+pub fn creations_keep_it()
+    ensures { ActsKeepIt is_new_handler }
+{}
+
+/// So does one in which a handler without frames takes the first request of its queue, where whoever waits for it takes what
+/// it asks for.
+pub fn next_keep_it()
+    ensures { NextKeepIt }
+{}
+
+/// So does one in which it takes a callback, where no reply has come.
+pub fn callbacks_keep_it()
+    ensures { CallbacksKeepIt }
+{}
+
+/// Each turn keeps the invariant on values, where no callback stands beside a reply, and whoever waits for a request that may
+/// end in the next turn of its handler takes what the request asks for.
+pub fn turns_keep_where_awaited()
+    ensures { TurnsKeepWhereAwaited }
+{}
+
+/// If that is so in every state that an accepted system reaches, each turn keeps it there.
+pub fn turns_from_ends()
+    ensures { TurnsFromEnds }
 {}
