@@ -1,0 +1,5 @@
+mod Plays
+mod Rows
+mod Turns
+mod Opening
+mod Filling

@@ -1,0 +1,17 @@
+-- What a core in memory stands for.
+use Rattle.std.specs.Prelude.{List}
+use Rattle.sc_request.specs.declared.center.Core as coded
+use Rattle.sc_request.specs.declared.settlement.Settlement.{Settlement}
+use Rattle.sc_request.specs.Handlers.{State}
+use Rattle.sc_request.specs.Logs.{Center}
+use Rattle.sc_request.specs.Tables as tables
+use Rattle.sc_request.specs.Tables.{center}
+
+abbrev pub state_of : coded.Core → State
+state_of c = tables.state_of c.count c.handlers.items c.sessions.items c.rights
+
+abbrev pub center_of : coded.Core → Center
+center_of c = center c.count c.handlers.items c.sessions.items c.rights c.last
+
+abbrev pub log_of : coded.Core → List Settlement
+log_of c = c.log.items

@@ -1,0 +1,10 @@
+pub mod Handlers
+pub mod Picking
+pub mod Sessions
+pub mod Settling
+pub mod Asked
+pub mod Halves
+pub mod Logs
+pub mod Laws
+pub mod Tables
+pub mod Cores

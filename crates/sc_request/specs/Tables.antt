@@ -1,0 +1,102 @@
+-- How the state of the core lies in memory.
+use Rattle.std.specs.Prelude.{ℕ, ◌+◌, List, [], ◌∷◌, Option, Some, None, is_some, map, slice_get, slice_index, if◌then◌else◌}
+use Rattle.std.specs.Option.{option_map, option_and_then}
+use Rattle.sc_lockpass.specs.Tables.{Table, rights_of, passed_of}
+use Rattle.sc_waitcond.specs.declared.mark.Marked.{Marked}
+use Rattle.sc_region.specs.declared.job.Job.{Job}
+use Rattle.sc_region.specs.declared.job.Request.{Request}
+use Rattle.sc_request.specs.declared.handler.Answer as coded_answer
+use Rattle.sc_request.specs.declared.handler.Answer.TheVariants as answer
+use Rattle.sc_request.specs.declared.handler.Stage as coded_stage
+use Rattle.sc_request.specs.declared.handler.Stage.TheVariants as stage
+use Rattle.sc_request.specs.declared.handler.Posting.{Posting}
+use Rattle.sc_request.specs.declared.handler.Handler as coded
+use Rattle.sc_request.specs.Handlers.{Posted, posted, Answer, Replied, SupplierFailed, Refused, Stage, Idle, Runs, HasMade, Reserves, Awaits, Service, service, Handler, State, new_handler}
+use Rattle.sc_request.specs.Logs.{Center}
+
+-- ---- a handler
+
+abbrev pub answer_of : coded_answer.Answer → Answer
+answer_of (answer.Replied v) = Replied v
+answer_of answer.SupplierFailed = SupplierFailed
+answer_of answer.Refused = Refused
+
+abbrev pub answers_of : Option coded_answer.Answer → Option Answer
+answers_of a = option_map answer_of a
+
+-- the stage, of a handler with this entry and this mark
+abbrev pub stage_of : List ℕ → List Marked → coded_stage.Stage → Stage
+stage_of entry mark stage.Idle = Idle
+stage_of entry mark stage.Runs = Runs
+stage_of entry mark (stage.HasMade k) = HasMade k
+stage_of entry mark stage.Reserves = Reserves entry mark
+stage_of entry mark (stage.Awaits k is_creation) = Awaits k is_creation
+
+abbrev pub posting_of : Posting → Posted
+posting_of p = posted p.request (option_map passed_of p.passed)
+
+abbrev pub service_of : Posting → Service
+service_of p = service (posting_of p) (stage_of [] [] p.over)
+
+-- the only one of a list, if there is one
+abbrev pub first_posted : List Posting → Option Posted
+first_posted [] = None
+first_posted (p ∷ ps) = Some (posting_of p)
+
+-- the handler, no session of which has ended
+abbrev pub handler_of : coded.Handler → Handler
+handler_of x = record {
+  stage = stage_of x.entry.items x.mark x.stage;
+  services = map service_of x.services;
+  entry = x.entry.items;
+  queue = map posting_of x.queue;
+  callback = first_posted x.callback;
+  answer = answers_of x.answer;
+  failure = x.failure;
+  sessions = 0;
+  refused = x.refused;
+}
+
+-- a handler that nobody has asked for anything
+abbrev pub fresh : coded.Handler
+fresh = record {
+  stage = stage.Idle;
+  entry = record { items = [] };
+  mark = [];
+  services = [];
+  queue = [];
+  callback = [];
+  answer = None;
+  failure = None;
+  refused = 0;
+  out = None;
+}
+
+-- one that is asked for this alone
+abbrev pub asked : Request → coded.Handler
+asked r = record fresh { queue = record { request = r; passed = None; over = stage.Idle } ∷ [] }
+
+-- ---- all of them
+
+abbrev pub handler_in : Option coded.Handler → Handler
+handler_in None = new_handler
+handler_in (Some x) = handler_of x
+
+-- the handler of the number, by the tables of handlers and of the sessions that have ended
+abbrev pub handler_at : List coded.Handler → List ℕ → ℕ → Handler
+handler_at xs sessions k = record (handler_in (slice_get xs k)) { sessions = slice_index sessions k }
+
+abbrev pub state_of : ℕ → List coded.Handler → List ℕ → Table → State
+state_of count xs sessions rights = record { count = count; handlers = handler_at xs sessions; rights = rights_of rights }
+
+-- the job that the handler of the number is out with
+abbrev pub out_at : List coded.Handler → ℕ → Option Job
+out_at xs k = option_and_then (λ (x : coded.Handler). x.out) (slice_get xs k)
+
+-- how many of these are out
+abbrev pub out_total : List coded.Handler → ℕ
+out_total [] = 0
+out_total (x ∷ xs) = if is_some x.out then out_total xs + 1 else out_total xs
+
+abbrev pub center : ℕ → List coded.Handler → List ℕ → Table → ℕ → Center
+center count xs sessions rights last = record { state = state_of count xs sessions rights; out = out_at xs; last = last }

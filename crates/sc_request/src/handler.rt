@@ -1,0 +1,125 @@
+//! What the core keeps of a handler.
+ghost use Rattle.std.specs.Prelude.{◌≡◌, ◌&&◌, ◌||◌, not, IfOk, map, is_some};
+ghost use Rattle.sc_waitcond.specs.Reservations.{is_idle};
+ghost use Rattle.sc_request.specs.Handlers.{has_requests, standing_of};
+ghost use Rattle.sc_request.specs.Tables.{fresh, asked, handler_of, posting_of, first_posted, answers_of};
+
+use arrayvec::ArrayVec;
+use sc_lockpass::Passed;
+use sc_model::Cause;
+use sc_region::{Job, Request, Value};
+use sc_waitcond::Mark;
+use std::alloc::{AllocError, Global};
+use std::collections::LinkedList;
+
+/// An answer that has come.
+#[derive(Clone, Copy, Debug, PartialEq, Eq)]
+pub(crate) enum Answer {
+    /// The value of a query, or none.
+    Replied(Option<Value>),
+    /// The supplier has failed.
+    SupplierFailed,
+    /// The request was refused.
+    Refused,
+}
+
+/// What the next turn of a handler stands on.
+#[derive(Clone, Copy, Debug, PartialEq, Eq)]
+pub(crate) enum Stage {
+    /// It has no frames.
+    Idle,
+    /// Its next step is always enabled.
+    Runs,
+    /// It goes on with a handler that was made for it.
+    HasMade(u16),
+    /// It reserves what it doesn't hold of the handlers of its entry.
+    Reserves,
+    /// It waits for a supplier's answer, perhaps to a creation.
+    Awaits { supplier: u16, is_creation: bool },
+}
+
+/// A request that stands at a handler, or that frames of it serve.
+#[derive(Drop)]
+pub(crate) struct Posting {
+    pub(crate) request: Request,
+    /// The rights that went with it.
+    pub(crate) passed: Option<Passed>,
+    /// How the handler stood when it was taken.
+    pub(crate) over: Stage,
+}
+
+/// What the core keeps of a handler, but for the count of its sessions.
+#[derive(Drop)]
+pub(crate) struct Handler {
+    pub(crate) stage: Stage,
+    /// The handlers that its last reserve step was for.
+    pub(crate) entry: ArrayVec<u16, 16>,
+    /// The mark of that, if it waits.
+    pub(crate) mark: Mark,
+    /// The requests that its frames serve, the one taken last first.
+    pub(crate) services: LinkedList<Posting>,
+    /// The requests that it is to take, the next first.
+    pub(crate) queue: LinkedList<Posting>,
+    /// The one that it takes before any answer, if there is one.
+    pub(crate) callback: LinkedList<Posting>,
+    pub(crate) answer: Option<Answer>,
+    pub(crate) failure: Option<Cause>,
+    /// How many requests it refused for which nobody waited.
+    pub(crate) refused: u64,
+    /// The job that it is out with.
+    pub(crate) out: Option<Job>,
+}
+
+impl Handler {
+    /// A handler that nobody has asked for anything.
+    pub(crate) fn new(alloc: Global) -> Handler
+        ensures { result ≡ fresh }
+    {
+        Handler {
+            stage: Stage::Idle,
+            entry: ArrayVec::new(),
+            mark: Mark::new(),
+            services: LinkedList::new(alloc),
+            queue: LinkedList::new(alloc),
+            callback: LinkedList::new(alloc),
+            answer: None,
+            failure: None,
+            refused: 0,
+            out: None,
+        }
+    }
+
+    /// A handler that is asked for this alone.
+    pub(crate) fn asked(alloc: Global, request: Request) -> Result<Handler, AllocError>
+        ensures { IfOk result (λ h. h ≡ asked request) }
+    {
+        let mut handler = Handler::new(alloc);
+        handler.queue.push_back(Posting {
+            request,
+            passed: None,
+            over: Stage::Idle,
+        })?;
+        Ok(handler)
+    }
+
+    /// Whether its queue has a request.
+    pub(crate) fn is_asked(&self) -> bool
+        ensures { result ≡ has_requests (map posting_of self.now.queue) }
+    {
+        !self.queue.is_empty()
+    }
+
+    /// Whether it has no frames and hasn't failed, and its queue is empty.
+    pub(crate) fn is_idle(&self) -> bool
+        ensures { result ≡ (is_idle (standing_of (handler_of self.now)) && not (has_requests (map posting_of self.now.queue))) }
+    {
+        self.stage == Stage::Idle && self.failure.is_none() && self.queue.is_empty()
+    }
+
+    /// Whether its callback or an answer has come.
+    pub(crate) fn is_called(&self) -> bool
+        ensures { result ≡ (is_some (first_posted self.now.callback) || is_some (answers_of self.now.answer)) }
+    {
+        !self.callback.is_empty() || self.answer.is_some()
+    }
+}
