@@ -1,0 +1,9 @@
+mod Decimals
+mod WritingLemmas
+mod FaultLemmas
+mod Lines
+mod Next
+mod Whole
+mod StepLemmas
+mod ReadingLemmas
+mod Rows

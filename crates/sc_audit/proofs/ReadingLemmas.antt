@@ -1,0 +1,70 @@
+-- What a reader gave, block after block.
+use Rattle.std.proofs.Common.{◌≡◌, ℕ, ◌≤◌, List, [], ◌++◌, Option, Some, None, Result, Ok, Err, IfErr, IfSome, IsErrAnd, length, refl, sym, ap, ◌∙◌, append-nil, subst, arith}
+use Rattle.std.specs.Io.KnownBytes.{Consumes}
+use Rattle.std.proofs.KnownBytes.{Consumes-trans}
+use Rattle.sc_audit.specs.declared.beginning.Beginning.{Beginning}
+use Rattle.sc_audit.specs.declared.beginning.ReadFault.{ReadFault}
+use Rattle.sc_audit.specs.declared.beginning.ReadFault.TheVariants as fault
+use Rattle.sc_audit.specs.Records.{BeginsRecord}
+use Rattle.sc_audit.specs.Faults.{IsAtFault}
+use Rattle.sc_audit.specs.Reading.{IsReadFault, ReadsFitting, ReadsUpTo}
+use Rattle.sc_audit.specs.Internal.Steps.{IsBlockFault, IsKept, read_of}
+use Rattle.sc_audit.proofs.Whole.{open-begins}
+
+pub kept-begins : (b : Beginning) → IsKept b → BeginsRecord (read_of b)
+kept-begins b kept = open-begins b.version b.lines.items b.expected kept.limits kept.open_end
+
+-- what is at fault in a block is at fault in what the reader tells
+told-fault : (known mid now : Option (List ℕ)) (front bytes : List ℕ) (line : ℕ) → Consumes known mid front → Consumes mid now bytes →
+    ((rest : List ℕ) → IsAtFault (front ++ (bytes ++ rest)) line) → IfSome known (λ text. IsAtFault text line)
+told-fault None mid now front bytes line p q at-fault = tt
+told-fault (Some x) None now front bytes line p q at-fault = absurd p
+told-fault (Some x) (Some y) None front bytes line p q at-fault = absurd q
+told-fault (Some x) (Some y) (Some z) front bytes line p q at-fault =
+    let P : List ℕ → Type 0 = λ bs. IsAtFault bs line in
+    subst P (sym (p ∙ ap (λ bs. front ++ bs) q)) (at-fault z)
+
+-- so are other faults
+pub read-fault : (known mid now : Option (List ℕ)) (b : Beginning) (bytes : List ℕ) (why : ReadFault) → IsKept b → Consumes known mid (read_of b) →
+    Consumes mid now bytes → IsBlockFault b bytes why → IsReadFault known now why
+read-fault known mid now b bytes (fault.BadRecord line) kept so-far block is = told-fault known mid now (read_of b) bytes line so-far block is
+read-fault known mid now b bytes (fault.Unreadable error) kept so-far block is =
+    let P : List ℕ → Type 0 = λ bs. Consumes known now bs in
+    record {
+      fitting = read_of b;
+      consumed = subst P (ap (λ bs. read_of b ++ bs) is ∙ append-nil (read_of b)) (Consumes-trans known mid now (read_of b) bytes so-far block);
+      begins = kept-begins b kept;
+    }
+read-fault known mid now b bytes fault.OutOfMemory kept so-far block is = tt
+
+-- a reader that is given up
+pub reads-fitting : (known now : Option (List ℕ)) (b : Beginning) → IsKept b → Consumes known now (read_of b) → ReadsFitting known now
+reads-fitting known now b kept so-far = record { fitting = read_of b; consumed = so-far; begins = kept-begins b kept }
+
+-- before a block all begins a record
+pub reads-up-to : (most : ℕ) (known mid now : Option (List ℕ)) (b : Beginning) (bytes : List ℕ) → IsKept b → Consumes known mid (read_of b) →
+    Consumes mid now bytes → length bytes ≤ most → ReadsUpTo most known now
+reads-up-to most known mid now b bytes kept so-far block few = record {
+  fitting = read_of b;
+  last = bytes;
+  consumed = Consumes-trans known mid now (read_of b) bytes so-far block;
+  begins = kept-begins b kept;
+  few = few;
+}
+
+-- and where no block comes
+pub reads-no-more : (most : ℕ) (known now : Option (List ℕ)) (b : Beginning) → IsKept b → Consumes known now (read_of b) → ReadsUpTo most known now
+reads-no-more most known now b kept so-far =
+    let P : List ℕ → Type 0 = λ bs. Consumes known now bs in
+    record {
+      fitting = read_of b;
+      last = [];
+      consumed = subst P (sym (append-nil (read_of b))) so-far;
+      begins = kept-begins b kept;
+      few = omega arith;
+    }
+
+-- an error that is told
+pub err-told : {T : Type 0} (Q : ReadFault → Type 0) (r : Result T ReadFault) (why : ReadFault) → IsErrAnd r (λ e. e ≡ why) → Q why → IfErr r Q
+err-told Q (Ok x) why same is = absurd same
+err-told Q (Err e) why same is = subst Q (sym same) is

@@ -1,0 +1,26 @@
+use Rattle.sc_audit.specs.Reading.{IsReadFault}
+use Rattle.sc_audit.proofs.ReadingLemmas.{err-told, read-fault, reads-fitting, reads-no-more, reads-up-to}
+use Rattle.sc_audit.proofs.reading.read_record.Goals as goal
+
+pub returns-in_err-read_block-clause-err : goal.returns-in_err-read_block-clause-err
+returns-in_err-read_block-clause-err g c =
+    err-told (IsReadFault (g.R.Read.remaining c.args.reader.now) (g.R.Read.remaining c.read_block.new.reader)) c.from_residual.result c.in_err-read_block.field-0.0
+    c.from_residual.ensures.1
+    (read-fault _ _ _ c.loop.beginning c.in_err-read_block.ensures.block.bytes c.in_err-read_block.field-0.0 c.loop.invariant.kept c.loop.invariant.consumed
+    c.in_err-read_block.ensures.block.consumed c.in_err-read_block.ensures.block.outcome)
+
+pub returns-in_err-read_block-clause-stops : goal.returns-in_err-read_block-clause-stops
+returns-in_err-read_block-clause-stops g c =
+    reads-up-to 8192 _ _ _ c.loop.beginning c.read_block.ensures.block.bytes c.loop.invariant.kept c.loop.invariant.consumed
+    c.read_block.ensures.block.consumed c.read_block.ensures.block.few
+
+pub returns-in-End-clause-stops : goal.returns-in-End-clause-stops
+returns-in-End-clause-stops g c =
+    reads-up-to 8192 _ _ _ c.loop.beginning c.read_block.ensures.block.bytes c.loop.invariant.kept c.loop.invariant.consumed
+    c.read_block.ensures.block.consumed c.read_block.ensures.block.few
+
+pub returns-clause-err : goal.returns-clause-err
+returns-clause-err g c = reads-fitting _ _ c.loop.beginning c.loop.invariant.kept c.loop.invariant.consumed
+
+pub returns-clause-stops : goal.returns-clause-stops
+returns-clause-stops g c = reads-no-more 8192 _ _ c.loop.beginning c.loop.invariant.kept c.loop.invariant.consumed

@@ -1,0 +1,3 @@
+-- What the reader of records keeps.
+pub mod Parts
+pub mod Steps

@@ -1,0 +1,27 @@
+-- What a reader gave of a record's text.
+use Rattle.std.specs.Prelude.{ℕ, ◌≤◌, List, ◌++◌, Option, IfSome, length}
+use Rattle.std.specs.Io.KnownBytes.{Consumes}
+use Rattle.sc_audit.specs.declared.beginning.ReadFault.{ReadFault}
+use Rattle.sc_audit.specs.declared.beginning.ReadFault.TheVariants as fault
+use Rattle.sc_audit.specs.Records.{BeginsRecord}
+use Rattle.sc_audit.specs.Faults.{IsAtFault}
+
+-- What the reader gave begins a record, but for the last bytes, which are at most so many.
+pub record ReadsUpTo (most : ℕ) (known now : Option (List ℕ)) : Type 0 where
+  pub fitting : List ℕ
+  pub last : List ℕ
+  pub consumed : Consumes known now (fitting ++ last)
+  pub begins : BeginsRecord fitting
+  pub few : length last ≤ most
+
+-- What the reader gave begins a record.
+pub record ReadsFitting (known now : Option (List ℕ)) : Type 0 where
+  pub fitting : List ℕ
+  pub consumed : Consumes known now fitting
+  pub begins : BeginsRecord fitting
+
+-- What is told is true of the bytes: the line is at fault, and where the reader failed nothing before it was.
+abbrev pub IsReadFault : Option (List ℕ) → Option (List ℕ) → ReadFault → Type 0
+IsReadFault known now (fault.BadRecord line) = IfSome known (λ text. IsAtFault text line)
+IsReadFault known now (fault.Unreadable error) = ReadsFitting known now
+IsReadFault known now fault.OutOfMemory = Unit {0}
