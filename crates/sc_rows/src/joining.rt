@@ -1,6 +1,6 @@
 // The source text of files, one after the other.
 
-use sc_serve::{SourceFault, join_sources};
+use sc_source::{SourceFault, join_sources};
 use sc_text::MAX_SOURCE_BYTES;
 use std::alloc::{AllocError, Global};
 use std::io::{self, ErrorKind, Read};

@@ -1,9 +1,7 @@
 pub mod Calls
 pub mod ExecutionLemmas
-pub mod JoiningLemmas
 pub mod Found
 pub mod Runnable
 pub mod PlayLemmas
 pub mod RootClass
 pub mod RootLemmas
-pub mod SourceLemmas

@@ -12,7 +12,7 @@ use Rattle.sc_class.specs.View.{root_of}
 use Rattle.sc_serve.specs.declared.refusal.Rejection.{Rejection}
 use Rattle.sc_serve.specs.declared.refusal.Rejection.TheVariants as rejection
 use Rattle.sc_serve.specs.Refusal.{refusal_line, told}
-use Rattle.sc_serve.specs.Source.{File, joined, names_of, place_at}
+use Rattle.sc_source.specs.Source.{File, joined, names_of, place_at}
 
 -- what the program ends with where handler 0 stands so
 abbrev pub exit_of : Option Status → Exit

@@ -14,7 +14,7 @@ use Rattle.sc_typing.specs.declared.fault.CheckFault.TheVariants as checking
 use Rattle.sc_serve.specs.declared.refusal.Refusal.{Refusal}
 use Rattle.sc_serve.specs.declared.refusal.Rejection.{Rejection}
 use Rattle.sc_serve.specs.declared.refusal.Rejection.TheVariants as rejection
-use Rattle.sc_serve.specs.Source.{Place, line_feed}
+use Rattle.sc_source.specs.Source.{Place, line_feed}
 
 -- ` FILE:LINE:COLUMN`, or nothing where there is no place
 abbrev pub place_text : Option Place → List ℕ

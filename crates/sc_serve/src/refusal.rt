@@ -2,10 +2,10 @@
 
 ghost use Rattle.std.specs.Prelude.{◌≡◌, IfOk, Some, string_bytes};
 ghost use Rattle.std.specs.Option.{option_map};
-ghost use Rattle.sc_serve.specs.Source.{place_at};
+ghost use Rattle.sc_source.specs.Source.{place_at};
 ghost use Rattle.sc_serve.specs.Refusal as spec;
 
-use crate::source::{Place, Source};
+use sc_source::source::{Place, Source};
 use crate::unrun::Unrun;
 use sc_check::CheckFault;
 use sc_class::ClassFault;

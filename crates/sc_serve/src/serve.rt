@@ -7,10 +7,10 @@ ghost use Rattle.sc_serve.specs.Answer.{IsAnswerOn, IsAnswerTo, IsRefusalOf, IsR
 use crate::arguments::{Command, Invocation, UsageFault, read_arguments};
 use crate::excerpt::excerpt;
 use crate::execution::{check_text, print_text, run_text};
-use crate::files::{Files, read_source};
-use crate::reading::FileFault;
+use sc_source::files::{Files, read_source};
+use sc_source::reading::FileFault;
 use crate::refusal::Rejection;
-use crate::source::{JoinFault, Place, Source, name_at};
+use sc_source::source::{JoinFault, Place, Source, name_at};
 use sc_diagnosis::{Related, diagnose};
 use sc_explain::{find, list};
 use sc_text::LexFault;

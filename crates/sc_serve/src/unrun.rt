@@ -1,7 +1,7 @@
 // What keeps a system from being run, and where it stands.
 
 use crate::not_yet::{is_runnable_type, printed};
-use crate::source::{Place, Source};
+use sc_source::source::{Place, Source};
 use sc_class::Tables;
 use sc_text::Span;
 use sc_tree::{

@@ -4,7 +4,7 @@
 //! and `scoop run` plays it from its root procedure and prints the report of the run.
 #![tactic(auto)]
 
-use sc_serve::files::SystemFiles;
+use sc_source::files::SystemFiles;
 use sc_serve::serve::{self, Fault};
 use std::io::ErrorKind;
 use std::process::ExitCode;

@@ -1,6 +1,6 @@
 // Files for tests, which stand in the test itself.
 
-use sc_serve::files::Files;
+use sc_source::files::Files;
 use std::io::{self, ErrorKind, Read, Sink};
 
 /// A file of a test. One that is broken fails once its bytes are read.

@@ -2,7 +2,7 @@
 
 use super::refusals::CHECK;
 use super::{done, expect, usage};
-use sc_serve::files::Files;
+use sc_source::files::Files;
 use sc_serve::serve::{Exit, serve};
 use std::io::{self, Empty, ErrorKind, Sink};
 use std::test::Fail;

@@ -1,0 +1,194 @@
+-- What readers have given.
+use Rattle.std.proofs.Common.{◌≡◌, ℕ, zero, suc, ◌+◌, ◌-◌, ◌<◌, ◌≤◌, List, [], ◌∷◌, ◌++◌, map, take, get_or, set, Option, Some, None, length, IfSome, IsErrAnd, MatchResult, Ok, Err, Result, drop, subst, ap, ◌∙◌, append_assoc, arith, refl, sym}
+use Rattle.std.proofs.lemmas.Grind.{common_steps}
+use Rattle.std.specs.Io.KnownBytes.{Consumes}
+use Rattle.std.specs.Str.{IsUtf8}
+use Rattle.std.specs.List.{All}
+use Rattle.sc_source.specs.declared.join.SourceFault.{SourceFault}
+use Rattle.sc_source.specs.declared.reading.FileFault.{FileFault}
+use Rattle.sc_source.specs.declared.reading.FileFault.TheVariants as file_fault
+use Rattle.std.proofs.lemmas.List.{take_more, take_more_set, drop-drop, drop-set-lt, get_or-drop, map_more, length-map, get_or-map, map-append, length-append}
+use Rattle.std.proofs.lemmas.List.Elements.{All-get_or, All-push}
+use Rattle.sc_text.specs.Spelling.{max_source_bytes}
+use Rattle.sc_source.specs.Source.{File, joined_texts, line_feed, room_after, texts_of, names_of, unmarked}
+use Rattle.sc_source.specs.Joining.{AreSound, AreTold, IsFileFault, IsJoinFault, IsReaderFault, IsSourceFault, names_for, source_fault, source_text, TakesAtMost}
+use Rattle.sc_source.specs.Internal.Blocks.{TakesMore}
+use Rattle.sc_source.proofs.SourceLemmas.{short-push}
+
+-- bytes that are given after others
+pub consumes-both : (first mid last : Option (List ℕ)) (xs ys : List ℕ) →
+    Consumes first mid xs → Consumes mid last ys → Consumes first last (xs ++ ys)
+consumes-both None mid last xs ys one two = tt
+consumes-both (Some os) None last xs ys one two = absurd one
+consumes-both (Some os) (Some bs) None xs ys one two = absurd two
+consumes-both (Some os) (Some bs) (Some cs) xs ys one two = grind (arith, common_steps)
+
+-- with what was given before, no more than `most`
+pub takes-in-all : (most more : ℕ) (first mid last : Option (List ℕ)) (before after : List ℕ) →
+    Consumes first mid before → TakesMore more mid last before after → length before + more ≤ most →
+    TakesAtMost most first last
+takes-in-all most more first mid last before after one more-of-it within =
+    let few : length more-of-it.0 ≤ more = more-of-it.1.0 in
+    let size : length (before ++ more-of-it.0) ≡ length before + length more-of-it.0 = length-append before more-of-it.0 in
+    (before ++ more-of-it.0, (rw size (omega arith), consumes-both first mid last before more-of-it.0 one more-of-it.1.1.1))
+
+-- ---- the files of a system
+
+-- one more file that is sound
+pub sound-more : (files : List (List ℕ)) (i : ℕ) (source more : List File) (name : List ℕ) →
+    i < length files → AreSound (take i files) → texts_of source ≡ map unmarked (take i files) →
+    IsUtf8 (get_or files i []) → length (unmarked (get_or files i [])) < room_after source →
+    more ≡ source ++ record { name = name; text = unmarked (get_or files i []) } ∷ [] →
+    AreSound (take (i + 1) files) × (texts_of more ≡ map unmarked (take (i + 1) files))
+sound-more files i source more name below sound texts utf8 room added =
+    let file = get_or files i [] in
+    let split : take (i + 1) files ≡ take i files ++ file ∷ [] = take_more files i [] below in
+    let mapped : map unmarked (take (i + 1) files) ≡ map unmarked (take i files) ++ unmarked file ∷ [] = map_more unmarked files i [] below in
+    let pushed : texts_of more ≡ texts_of source ++ unmarked file ∷ [] =
+    rw added (map-append (λ f. f.text) source (record { name = name; text = unmarked file } ∷ [])) in
+    let is : texts_of more ≡ map unmarked (take (i + 1) files) = rw (pushed, texts) (sym mapped) in
+    let short : length (source_text (take (i + 1) files)) ≤ max_source_bytes =
+    rw (← is) (short-push source more (record { name = name; text = unmarked file }) room added) in
+    (record { utf8 = rw split (All-push IsUtf8 (take i files) file sound.utf8 utf8); short = short }, is)
+
+-- as many files as readers
+pub told-length : {R : Type 0} (remaining : R → Option (List ℕ)) (readers : List R) (files : List (List ℕ)) →
+    AreTold (map remaining readers) files → length files ≡ length readers
+told-length remaining readers files told = sym (length-map files Some) ∙ (ap length (sym told) ∙ length-map readers remaining)
+
+-- what a reader tells is the file at its place
+pub told-at : {R : Type 0} (remaining : R → Option (List ℕ)) (readers : List R) (files : List (List ℕ)) (i : ℕ) (r : R) →
+    AreTold (map remaining readers) files → i < length readers → remaining (get_or readers i r) ≡ Some (get_or files i [])
+told-at remaining readers files i r told below =
+    let within : i < length files = rw (told-length remaining readers files told) below in
+    sym (get_or-map remaining readers i r (Some []) below) ∙ (ap (λ xs. get_or xs i (Some [])) told ∙ get_or-map Some files i [] (Some []) within)
+
+-- the same where the readers from this one on are as they were
+pub told-now : {R : Type 0} (remaining : R → Option (List ℕ)) (initial now : List R) (files : List (List ℕ)) (i : ℕ) (r : R) →
+    AreTold (map remaining initial) files → i < length now → length now ≡ length initial → drop i now ≡ drop i initial →
+    (i < length files) × (remaining (get_or now i r) ≡ Some (get_or files i []))
+told-now remaining initial now files i r told below same unread =
+    let inside : i < length initial = rw (← same) below in
+    let zero : i + 0 ≡ i = omega arith in
+    let left : get_or (drop i now) 0 r ≡ get_or now i r = get_or-drop i now 0 r ∙ ap (λ n. get_or now n r) zero in
+    let right : get_or (drop i initial) 0 r ≡ get_or initial i r = get_or-drop i initial 0 r ∙ ap (λ n. get_or initial n r) zero in
+    let both : get_or now i r ≡ get_or initial i r = sym left ∙ (ap (λ xs. get_or xs 0 r) unread ∙ right) in (
+      rw (told-length remaining initial files told) inside,
+      ap remaining both ∙ told-at remaining initial files i r told inside,
+    )
+
+-- the readers after one that was read from are as they were
+pub unread-more : {R : Type 0} (initial now : List R) (i : ℕ) (r : R) → drop i now ≡ drop i initial →
+    drop (i + 1) (set now i r) ≡ drop (i + 1) initial
+unread-more initial now i r unread =
+    let past : i < i + 1 = omega arith in
+    drop-set-lt (i + 1) now i r past ∙ (sym (drop-drop 1 i now) ∙ (ap (λ xs. drop 1 xs) unread ∙ drop-drop 1 i initial))
+
+-- and it is at its end
+pub ended-more : {R : Type 0} (P : R → Type 0) (readers : List R) (i : ℕ) (r : R) → i < length readers →
+    All P (take i readers) → P r → All P (take (i + 1) (set readers i r))
+ended-more P readers i r below before this = rw (take_more_set readers i r below) (All-push P (take i readers) r before this)
+
+-- the step of the loop over the readers
+pub joined-more : (files : List (List ℕ)) (i : ℕ) (source more : List File) (name : List ℕ) (known : Option (List ℕ)) →
+    i < length files → known ≡ Some (get_or files i []) →
+    AreSound (take i files) × (texts_of source ≡ map unmarked (take i files)) →
+    IfSome known (λ file. IsUtf8 file × ((length (unmarked file) < room_after source)
+    × (more ≡ source ++ record { name = name; text = unmarked file } ∷ []))) →
+    AreSound (take (i + 1) files) × (texts_of more ≡ map unmarked (take (i + 1) files))
+joined-more files i source more name known below is so-far read =
+    let this = rw is at read in
+    sound-more files i source more name below so-far.0 so-far.1 this.0 this.1.0 this.1.1
+
+-- the fault of the file at which the loop stops
+pub fault-at : (files : List (List ℕ)) (i : ℕ) (source : List File) (known : Option (List ℕ)) (fault : FileFault) →
+    i < length files → known ≡ Some (get_or files i []) →
+    AreSound (take i files) × (texts_of source ≡ map unmarked (take i files)) →
+    IfSome known (λ file. IsFileFault file (room_after source) fault) →
+    IsJoinFault files (record { file = i; fault = fault })
+fault-at files i source known fault below is so-far read =
+    let this = rw is at read in
+    record { before = so-far.0; here = below; true_of_it = rw so-far.1 at this }
+
+-- ---- faults
+
+pub joined_texts-push : (ts : List (List ℕ)) (t : List ℕ) → joined_texts (ts ++ t ∷ []) ≡ joined_texts ts ++ (t ++ (line_feed ∷ []))
+joined_texts-push [] t = refl
+joined_texts-push (u ∷ us) t = simp (joined_texts-push us t, append_assoc)
+
+-- the source text of one file more
+pub length-more : (files : List (List ℕ)) (i : ℕ) → i < length files →
+    length (source_text (take (i + 1) files)) ≡ length (source_text (take i files)) + (length (unmarked (get_or files i [])) + 1)
+length-more files i below =
+    let text : source_text (take (i + 1) files) ≡ source_text (take i files) ++ (unmarked (get_or files i []) ++ (line_feed ∷ [])) =
+    rw (map_more unmarked files i [] below) (joined_texts-push (map unmarked (take i files)) (unmarked (get_or files i []))) in
+    rw text (grind (arith, common_steps))
+
+-- what a fault says of the files
+pub told-fault : {R : Type 0} (old new : List R) (files : List (List ℕ)) (i : ℕ) (fault : FileFault) →
+    IsJoinFault files (record { file = i; fault = fault }) → drop (i + 1) new ≡ drop (i + 1) old →
+    IsSourceFault old new files (source_fault (record { file = i; fault = fault }))
+told-fault old new files i (file_fault.Unreadable error) is unread =
+    record { before = is.before; here = is.here; unread = unread }
+told-fault old new files i (file_fault.NotUtf8 offset) is unread =
+    let size = length-more files i is.here in
+    let fits : length (source_text (take i files)) ≤ max_source_bytes = is.before.short in
+    let few : length (unmarked (get_or files i [])) < max_source_bytes - length (source_text (take i files)) = is.true_of_it.0 in
+    let short : length (source_text (take (i + 1) files)) ≤ max_source_bytes = rw size (omega arith) in
+    (record { before = is.before; here = is.here; unread = unread }, (is.true_of_it.1.0, short))
+told-fault old new files i file_fault.TooLong is unread =
+    let size = length-more files i is.here in
+    let many : max_source_bytes - length (source_text (take i files)) ≤ length (unmarked (get_or files i [])) = is.true_of_it in
+    let long : max_source_bytes < length (source_text (take (i + 1) files)) = rw size (omega arith) in
+    (i, (record { before = is.before; here = is.here; unread = unread }, long))
+told-fault old new files i file_fault.OutOfMemory is unread = tt
+
+-- the error of a result that has one
+pub told-error : {T : Type 0} (P : T → Type 0) (Q : SourceFault → Type 0) (r : Result T SourceFault) (fault : SourceFault) →
+    IsErrAnd r (λ e. e ≡ fault) → Q fault → MatchResult r P Q
+told-error P Q (Ok t) fault is q = absurd is
+told-error P Q (Err e) fault is q = subst Q (sym is) q
+
+-- ---- names
+
+-- the name of one file more
+names_for-next : (names : List (List ℕ)) (n : ℕ) → names_for names (suc n) ≡ names_for names n ++ get_or names n [] ∷ []
+names_for-next [] zero = refl
+names_for-next (x ∷ xs) zero = refl
+names_for-next [] (suc n) = ap (λ ns. [] ∷ ns) (names_for-next [] n)
+names_for-next (x ∷ xs) (suc n) = ap (λ ns. x ∷ ns) (names_for-next xs n)
+
+-- the step of the loop over the readers
+pub named-more : (names : List (List ℕ)) (i : ℕ) (source more : List File) (name : List ℕ) → names_of source ≡ names_for names i →
+    name ≡ get_or names i [] → names_of more ≡ names_of source ++ name ∷ [] → names_of more ≡ names_for names (i + 1)
+named-more names i source more name so-far is added =
+    let next : suc i ≡ i + 1 = omega arith in
+    added ∙ ap (λ ns. ns ++ name ∷ []) so-far ∙ ap (λ x. names_for names i ++ x ∷ []) is ∙ sym (names_for-next names i) ∙ ap (names_for names) next
+
+-- as many names as files
+pub named-all : (names : List (List ℕ)) → names_for names (length names) ≡ names
+named-all [] = refl
+named-all (x ∷ xs) = ap (λ ns. x ∷ ns) (named-all xs)
+
+-- ---- a text at the limit
+
+-- the first files have no longer a source text than all
+take-short : (files : List (List ℕ)) (i : ℕ) → length (source_text (take i files)) ≤ length (source_text files)
+take-short [] i = grind (arith, common_steps)
+take-short (f ∷ fs) zero = omega arith
+take-short (f ∷ fs) (suc i) =
+    let others = take-short fs i in
+    grind (arith, common_steps, others)
+
+-- sound files are kept from being joined by their readers alone
+pub fault-of-sound : (files : List (List ℕ)) (i : ℕ) (fault : FileFault) → IsJoinFault files (record { file = i; fault = fault }) →
+    AreSound files → IsReaderFault fault
+fault-of-sound files i (file_fault.Unreadable error) is sound = tt
+fault-of-sound files i file_fault.OutOfMemory is sound = tt
+fault-of-sound files i (file_fault.NotUtf8 offset) is sound = is.true_of_it.1.0 (All-get_or IsUtf8 files i [] is.here sound.utf8)
+fault-of-sound files i file_fault.TooLong is sound =
+    let size = length-more files i is.here in
+    let many : max_source_bytes - length (source_text (take i files)) ≤ length (unmarked (get_or files i [])) = is.true_of_it in
+    let part = take-short files (i + 1) in
+    let short : length (source_text files) ≤ max_source_bytes = sound.short in
+    omega (arith, size, many, part, short)

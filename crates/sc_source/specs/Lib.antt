@@ -1,0 +1,3 @@
+pub mod Internal
+pub mod Joining
+pub mod Source
