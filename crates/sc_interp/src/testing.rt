@@ -73,13 +73,7 @@ fn resides(residence: Residence, me: u16, slots: &[Value], handler: u16) -> bool
 }
 
 /// Whether a value is of the type that is asked for.
-fn is_of_type(
-    program: &Program,
-    me: u16,
-    slots: &[Value],
-    value: Value,
-    tested: TestedType,
-) -> bool
+fn is_of_type(program: &Program, me: u16, slots: &[Value], value: Value, tested: TestedType) -> bool
     ensures { (s : System) → Serves s program.now.image → result ≡ flat.is_of_type s me (values_of slots.now) (value_of value) (tested_of tested) }
 {
     match value {

@@ -5,12 +5,12 @@ ghost use Rattle.std.specs.Option.{option_map};
 ghost use Rattle.sc_source.specs.Source.{place_at};
 ghost use Rattle.sc_serve.specs.Refusal as spec;
 
-use sc_source::source::{Place, Source};
 use crate::unrun::Unrun;
 use sc_check::CheckFault;
 use sc_class::ClassFault;
 use sc_parse::ParseFault;
 use sc_rules::Fault;
+use sc_source::source::{Place, Source};
 use sc_text::{LexFault, Span};
 use std::alloc::{AllocError, Global};
 

@@ -7,12 +7,12 @@ ghost use Rattle.sc_serve.specs.Answer.{IsAnswerOn, IsAnswerTo, IsRefusalOf, IsR
 use crate::arguments::{Command, Invocation, UsageFault, read_arguments};
 use crate::excerpt::excerpt;
 use crate::execution::{check_text, print_text, run_text};
-use sc_source::files::{Files, read_source};
-use sc_source::reading::FileFault;
 use crate::refusal::Rejection;
-use sc_source::source::{JoinFault, Place, Source, name_at};
 use sc_diagnosis::{Related, diagnose};
 use sc_explain::{find, list};
+use sc_source::files::{Files, read_source};
+use sc_source::reading::FileFault;
+use sc_source::source::{JoinFault, Place, Source, name_at};
 use sc_text::LexFault;
 use sc_world::Status;
 use std::alloc::{AllocError, Global};

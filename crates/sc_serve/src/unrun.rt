@@ -1,8 +1,8 @@
 // What keeps a system from being run, and where it stands.
 
 use crate::not_yet::{is_runnable_type, printed};
-use sc_source::source::{Place, Source};
 use sc_class::Tables;
+use sc_source::source::{Place, Source};
 use sc_text::Span;
 use sc_tree::{
     Branch, Call, Class, Clause, Expr, Feature, FeatureKind, Instr, Routine, UnaryOperator,

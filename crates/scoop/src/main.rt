@@ -4,8 +4,8 @@
 //! and `scoop run` plays it from its root procedure and prints the report of the run.
 #![tactic(auto)]
 
-use sc_source::files::SystemFiles;
 use sc_serve::serve::{self, Fault};
+use sc_source::files::SystemFiles;
 use std::io::ErrorKind;
 use std::process::ExitCode;
 

@@ -2,8 +2,8 @@
 
 use super::refusals::CHECK;
 use super::{done, expect, usage};
-use sc_source::files::Files;
 use sc_serve::serve::{Exit, serve};
+use sc_source::files::Files;
 use std::io::{self, Empty, ErrorKind, Sink};
 use std::test::Fail;
 
