@@ -183,6 +183,7 @@ lands h k b q t w may fine = record {
       refl,
       refl,
       passing_as h b w,
+      refl,
     ),
   );
   old = omega arith;

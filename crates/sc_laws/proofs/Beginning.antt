@@ -10,12 +10,12 @@ use Rattle.sc_laws.proofs.Turns.{no_request, not_numbered}
 use Rattle.sc_laws.proofs.Ending.{number_of}
 
 abbrev pub new_wait : ℕ → Bool → World → Wait
-new_wait k b w = record { number = w.next; target = k; passing = b }
+new_wait k b w = record { number = w.next; target = k; passing = b; asked = w.asks }
 
 abbrev pub began : ℕ → ℕ → Bool → (ℕ → List Grant) → (ℕ → List Grant) → World → World
 began h k b q t w = record w {
   handlers = put h
-      (wait (record { number = w.next; target = k; passing = b }) (w.handlers h)) w.handlers;
+      (wait (record { number = w.next; target = k; passing = b; asked = w.asks }) (w.handlers h)) w.handlers;
   queue = q;
   top = t;
   next =
@@ -251,7 +251,7 @@ module _ (h k : ℕ) (b : Bool) (q t : ℕ → List Grant) (w : World) (may : Ma
         ),
       ))
       (λ (a : (v : Wait) × IsOpen v (w.handlers r.poster) × (v.number ≡ r.number) × (v.target ≡ j) ×
-      (v.passing ≡ passes r)). inr (a.0, more_open h k b q t w may fine r.poster a.0 a.1, a.2, a.3, a.4))
+      (v.passing ≡ passes r) × (v.asked ≡ r.asked)). inr (a.0, more_open h k b q t w may fine r.poster a.0 a.1, a.2, a.3, a.4, a.5))
       (fine.clients j r old waited)
     where
       below : (m n : ℕ) → (n ≤ m → ⊥) → m < n

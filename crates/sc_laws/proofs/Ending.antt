@@ -56,7 +56,7 @@ is_ended h r w fine e =
     let other : r.poster ≢ h = λ ph. ⊎_elim
     (λ a. true_false (sym a.0 ∙ ap (λ y. (w.handlers y).failed) ph ∙ e.active.0))
     (λ (a : (v : Wait) × IsOpen v (w.handlers r.poster) × (v.number ≡ r.number) × (v.target ≡ h) ×
-    (v.passing ≡ passes r)).
+    (v.passing ≡ passes r) × (v.asked ≡ r.asked)).
     absurd (let lt = older a.0.number
     (subst (λ y. HasWait a.0.number (w.handlers y).stack) ph (stack_has a.0 (w.handlers r.poster).stack a.1.0))
     in let n = a.2 in omega (arith, lt, n)))
@@ -82,7 +82,7 @@ is_ended h r w fine e =
       client = ⊎_elim
           (λ a. inl (ap (λ (f : Handler). f.failed) there ∙ a.0, (λ q i. a.1 q (popped_has q r.number i)), a.2))
           (λ (a : (v : Wait) × IsOpen v (w.handlers r.poster) × (v.number ≡ r.number) × (v.target ≡ h) ×
-          (v.passing ≡ passes r)). inr (a.0, subst (IsOpen a.0) (sym there) a.1, a.2, a.3, a.4))
+          (v.passing ≡ passes r) × (v.asked ≡ r.asked)). inr (a.0, subst (IsOpen a.0) (sym there) a.1, a.2, a.3, a.4, a.5))
           client;
       other = other;
     }

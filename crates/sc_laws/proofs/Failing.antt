@@ -159,7 +159,7 @@ failing_clients h w fine k r one waited =
       ),
     ))
     (λ (a : (v : Wait) × IsOpen v (w.handlers r.poster) × (v.number ≡ r.number) × (v.target ≡ k) ×
-    (v.passing ≡ passes r)). ⊎_elim
+    (v.passing ≡ passes r) × (v.asked ≡ r.asked)). ⊎_elim
     (λ ph. inl (
       h_failed h w r.poster ph,
       (λ q i.
@@ -174,7 +174,7 @@ failing_clients h w fine k r one waited =
             (subst (λ m. HasGrant x m (w.top j)) (sym a.2) (fallen_sub h x r.number (w.top j) i)) ∙ a.3),
       ),
     ))
-    (λ np. inr (a.0, fail_open h w r.poster a.0 np a.1, a.2, a.3, a.4))
+    (λ np. inr (a.0, fail_open h w r.poster a.0 np a.1, a.2, a.3, a.4, a.5))
     (cases_eq r.poster h))
     (fine.clients k r (subst (IsOne r)
     (requests_same (w.handlers k) ((fail_by_waits h w).handlers k) (fail_kept h w k ne)) one) waited)

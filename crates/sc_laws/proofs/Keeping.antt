@@ -110,6 +110,7 @@ fails_alike h w lives fine served = λ i. record {
   queue = λ k. fallen h (w.queue k);
   top = λ k. fallen h (w.top k);
   next = w.next;
+  asks = w.asks;
 }
   where
     is_told : Bool → Handler → Handler

@@ -316,13 +316,13 @@ popped_stood h w active fine = stood_at w h (record (w.handlers h) { stack = pop
 
 pub posted_under_right : laws.PostedUnderRight
 posted_under_right w v law (Posts h j active holds lives) = stood_at w j
-    (arrive false (record { number = w.next; poster = h; waited = false; passed = None }) (w.handlers j))
+    (arrive false (record { number = w.next; poster = h; waited = false; passed = None; asked = w.asks }) (w.handlers j))
     (λ r one. ⊎_elim
     (λ old. inl old)
     (λ e. inr (ap (λ (z : Request). z.number) (sym e), subst (λ (z : Request). Holds w z.poster j) e holds))
-    (one_end r (record { number = w.next; poster = h; waited = false; passed = None }) (requests_of (w.handlers j))
+    (one_end r (record { number = w.next; poster = h; waited = false; passed = None; asked = w.asks }) (requests_of (w.handlers j))
     (subst (IsOne r) (requests_end (w.handlers j)
-    (record { number = w.next; poster = h; waited = false; passed = None })) one)))
+    (record { number = w.next; poster = h; waited = false; passed = None; asked = w.asks })) one)))
 posted_under_right w v law (Asks h j may) = asked_stood h j false w.queue w.top w may (has h (w.top j))
     (plain_calls h j w may law.consistent)
 posted_under_right w v law (AsksPassing h j may) = asked_stood h j true (passing_queue h j w)

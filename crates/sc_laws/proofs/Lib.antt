@@ -33,3 +33,6 @@ pub mod links
 pub mod Machine
 pub mod Posting
 pub mod Queues
+pub mod Named
+pub mod Pairing
+pub mod Meeting

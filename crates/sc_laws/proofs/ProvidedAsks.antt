@@ -1,7 +1,7 @@
 -- An ask keeps what frames need.
-use Rattle.std.proofs.Common.{◌≡◌, ◌≢◌, ⊎_elim, inl, inr, ℕ, suc, ◌<◌, ◌≤◌, List, [], ◌∷◌, None, Bool, true, false, refl, sym, ap, ◌∙◌, subst, arith}
+use Rattle.std.proofs.Common.{◌≡◌, ◌≢◌, ⊎_elim, inl, inr, ℕ, suc, ◌<◌, ◌≤◌, List, [], ◌∷◌, Option, None, Bool, true, false, refl, sym, ap, ◌∙◌, subst, arith}
 use Rattle.std.specs.Prelude.{if◌then◌else◌}
-use Rattle.sc_laws.specs.World.{Grant, Reservation, Wait, Frame, Handler, World, has, passed_on, waiting, request, ask, ask_passing}
+use Rattle.sc_laws.specs.World.{Asked, Grant, Reservation, Wait, Frame, Handler, World, has, passed_on, waiting, request, ask, ask_passing}
 use Rattle.sc_laws.specs.Steps.{waits_for, MayAsk}
 use Rattle.sc_laws.specs.Consistent.{IsFirst, HasGrant, HadBefore, IsStuckFrom, IsConsistent}
 use Rattle.sc_laws.specs.Provided.{lowest, Each, HadAlone, IsAssured, KeepsReserved, IsBetween, under, AreHeld, all_reserved, Falling, IsProvided}
@@ -22,13 +22,13 @@ record Lasts (w v : World) (h : ℕ) : Type 0 where
       (HadBefore p w.next (w.top j) → HadBefore p (suc w.next) (v.top j)) ×
       ((i : ℕ) → HadAlone p w.next i (w.queue j) → HadAlone p (suc w.next) i (v.queue j))
 
-begins : (S : ℕ → ℕ → Type 0) (K : ℕ → Reservation → Type 0) (k n : ℕ) (b : Bool) (fs : List Frame)
+begins : (S : ℕ → ℕ → Type 0) (K : ℕ → Reservation → Type 0) (k n : ℕ) (b : Bool) (o : Option Asked) (fs : List Frame)
     → waits_for fs ≡ None → AreHeld S K n fs → AreHeld S K (suc n)
-    (waiting (record { number = n; target = k; passing = b }) fs)
-begins S K k n b [] free is = is
-begins S K k n b (f ∷ fs) free is =
-    let i = subst (λ o. (lowest o n ≤ n) × Each (S (lowest o n)) f.needs × Each (K (lowest o n)) f.reserved × Each
-    (IsBetween fs (lowest o n)) f.reserved × AreHeld S K (under f.reserved (lowest o n)) fs) free is in
+    (waiting (record { number = n; target = k; passing = b; asked = o }) fs)
+begins S K k n b o [] free is = is
+begins S K k n b o (f ∷ fs) free is =
+    let i = subst (λ v. (lowest v n ≤ n) × Each (S (lowest v n)) f.needs × Each (K (lowest v n)) f.reserved × Each
+    (IsBetween fs (lowest v n)) f.reserved × AreHeld S K (under f.reserved (lowest v n)) fs) free is in
     (omega arith, i.1, i.2, i.3, i.4)
 
 waiting_reserved : (u : Wait) (fs : List Frame) → all_reserved (waiting u fs) ≡ all_reserved fs
@@ -51,7 +51,7 @@ beginning_provided h k b q t w may fine moves lasts provided =
       held = λ p. at_each (λ y. AreHeld (IsAssured v y) (KeepsReserved v y) (suc w.next) (v.handlers y).stack) h p
           (subst (λ (g : Handler). AreHeld (IsAssured v h) (KeepsReserved v h) (suc w.next) g.stack)
           (sym (began_on h k b q t w may))
-          (begins (IsAssured v h) (KeepsReserved v h) k w.next b (w.handlers h).stack may.active.1
+          (begins (IsAssured v h) (KeepsReserved v h) k w.next b w.asks (w.handlers h).stack may.active.1
           (frames_same (IsAssured w h) (IsAssured v h) (KeepsReserved w h) (KeepsReserved v h)
           (w.handlers h).stack w.next (maps h) (provided.held h))))
           (λ ne. subst (λ (g : Handler). AreHeld (IsAssured v p) (KeepsReserved v p) (suc w.next) g.stack)

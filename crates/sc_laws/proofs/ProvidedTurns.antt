@@ -14,9 +14,9 @@ pub posting_provided : (h k : ℕ) (w : World) → (w.handlers k).failed ≡ fal
     → IsProvided (post h k w)
 posting_provided h k w alive fine provided =
     let s = posting_simple h k w alive fine in
-    simple_provided w k (arrive false (record { number = w.next; poster = h; waited = false; passed = None })
+    simple_provided w k (arrive false (record { number = w.next; poster = h; waited = false; passed = None; asked = w.asks })
     (w.handlers k)) (suc w.next) s fine provided
-    (simple_frames w k (arrive false (record { number = w.next; poster = h; waited = false; passed = None })
+    (simple_frames w k (arrive false (record { number = w.next; poster = h; waited = false; passed = None; asked = w.asks })
     (w.handlers k)) (suc w.next) s fine k (w.handlers k).stack (provided.held k))
     (falling_later w.next (suc w.next) (all_reserved (w.handlers k).stack) (omega arith) (provided.apart k))
 

@@ -25,7 +25,7 @@ pub the_client : (h : ℕ) (r : Request) (u : World) → Ended h r u → (u.hand
 the_client h r u e alive = ⊎_elim
     (λ a. true_false (sym a.0 ∙ alive))
     (λ (a : (v : Wait) × IsOpen v (u.handlers r.poster) × (v.number ≡ r.number) × (v.target ≡ h) ×
-    (v.passing ≡ passes r)). record { wait = a.0; still = a.1; number = a.2; target = a.3; passing = a.4 })
+    (v.passing ≡ passes r) × (v.asked ≡ r.asked)). record { wait = a.0; still = a.1; number = a.2; target = a.3; passing = a.4 })
     e.client
 
 -- .. with its top frame, and has no answer yet
@@ -38,7 +38,7 @@ pub record Heard (h : ℕ) (r : Request) (u : World) : Type 0 where
   pub number : wait.number ≡ r.number
   pub target : wait.target ≡ h
 
-top_or_below : (v : Wait) (fs : List Frame) → StackWaits v fs → (waits_for fs ≡ Some v) ⊎ StackWaits v (popped fs)
+pub top_or_below : (v : Wait) (fs : List Frame) → StackWaits v fs → (waits_for fs ≡ Some v) ⊎ StackWaits v (popped fs)
 top_or_below v [] s = absurd s
 top_or_below v (f ∷ fs) (inl e) = inl e
 top_or_below v (f ∷ fs) (inr s) = inr s
@@ -271,7 +271,7 @@ pub to_h : (h : ℕ) (r : Request) (u : World) → IsConsistent u → Ended h r 
 to_h h r u fine e j x = ⊎_elim
     (λ a. a.2 j x)
     (λ (a : (v : Wait) × IsOpen v (u.handlers r.poster) × (v.number ≡ r.number) × (v.target ≡ h) ×
-    (v.passing ≡ passes r)). (
+    (v.passing ≡ passes r) × (v.asked ≡ r.asked)). (
       (λ i. fine.queue_grants j r.poster x a.0 a.1.0 (subst (λ m. HasGrant x m (u.queue j)) (sym a.2) i) ∙ a.3),
       (λ i. fine.top_grants j r.poster x a.0 a.1.0 (subst (λ m. HasGrant x m (u.top j)) (sym a.2) i) ∙ a.3),
     ))
@@ -371,7 +371,7 @@ unheard_shrinks h r w ends deaf before =
           let kp : k ≡ r.poster = ⊎_elim
           (λ a. absurd (a.1 k mine))
           (λ (a : (v : Wait) × IsOpen v (u.handlers r.poster) × (v.number ≡ r.number) × (v.target ≡ h) ×
-          (v.passing ≡ passes r)). fine.one_poster k r.poster r.number mine
+          (v.passing ≡ passes r) × (v.asked ≡ r.asked)). fine.one_poster k r.poster r.number mine
           (subst (λ m. HasWait m (u.handlers r.poster).stack) a.2
           (stack_has a.0 (u.handlers r.poster).stack a.1.0)))
           e.client in

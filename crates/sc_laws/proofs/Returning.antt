@@ -169,11 +169,11 @@ other_number h k j r q u fine e one waited x grant same = ⊎_elim
     (stack_has b.0 (u.handlers q.poster).stack b.1.0)))
     (fine.clients k q one waited))
     (λ (a : (v : Wait) × IsOpen v (u.handlers r.poster) × (v.number ≡ r.number) × (v.target ≡ h) ×
-    (v.passing ≡ passes r)). ⊎_elim
+    (v.passing ≡ passes r) × (v.asked ≡ r.asked)). ⊎_elim
     (λ b. b.1 r.poster (subst (λ m. HasWait m (u.handlers r.poster).stack) (a.2 ∙ sym same)
     (stack_has a.0 (u.handlers r.poster).stack a.1.0)))
     (λ (b : (v : Wait) × IsOpen v (u.handlers q.poster) × (v.number ≡ q.number) × (v.target ≡ k) ×
-    (v.passing ≡ passes q)).
+    (v.passing ≡ passes q) × (v.asked ≡ q.asked)).
     let num : b.0.number ≡ a.0.number = b.2 ∙ same ∙ sym a.2 in
     let pp : q.poster ≡ r.poster = fine.one_poster q.poster r.poster a.0.number
     (subst (λ m. HasWait m (u.handlers q.poster).stack) num (stack_has b.0 (u.handlers q.poster).stack b.1.0))

@@ -201,7 +201,7 @@ failing_returns h w may fine is = relisting_returns w (fail_by_waits h w) (recor
     only k r one waited j x = ⊎_elim
         (λ a. a.2 j x)
         (λ (a : (v : Wait) × IsOpen v (w.handlers r.poster) × (v.number ≡ r.number) × (v.target ≡ k) ×
-        (v.passing ≡ passes r)). (
+        (v.passing ≡ passes r) × (v.asked ≡ r.asked)). (
           (λ i. fine.queue_grants j r.poster x a.0 a.1.0 (subst (λ m. HasGrant x m (w.queue j)) (sym a.2) i) ∙ a.3),
           (λ i. fine.top_grants j r.poster x a.0 a.1.0 (subst (λ m. HasGrant x m (w.top j)) (sym a.2) i) ∙ a.3),
         ))

@@ -19,10 +19,10 @@ use Rattle.sc_laws.proofs.Returning.{grant_of, returns_granted, listed_back, rel
 pub posting_returns : (h k : ℕ) (w : World) → (w.handlers k).failed ≡ false → IsConsistent w → IsReturnable w
     → IsReturnable (post h k w)
 posting_returns h k w alive fine is =
-    let r : Request = record { number = w.next; poster = h; waited = false; passed = None } in
+    let r : Request = record { number = w.next; poster = h; waited = false; passed = None; asked = w.asks } in
     quiet_returns w k (record (w.handlers k) {
       requests =
-          (w.handlers k).requests ++ record { number = w.next; poster = h; waited = false; passed = None } ∷ [];
+          (w.handlers k).requests ++ record { number = w.next; poster = h; waited = false; passed = None; asked = w.asks } ∷ [];
     })
     (suc w.next) fine (posting_simple h k w alive fine)
     (λ q one. ⊎_elim (λ old. inl old) (λ e. inr (ap (λ (x : Request). x.passed) (sym e)))

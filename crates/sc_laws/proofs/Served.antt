@@ -111,5 +111,5 @@ pub told_by_waits : (h : ℕ) (w : World) → IsConsistent w → (r : Request) �
 told_by_waits h w fine r one waited lives = ⊎_elim
     (λ a. true_false (sym a.0 ∙ lives))
     (λ (a : (v : Wait) × IsOpen v (w.handlers r.poster) × (v.number ≡ r.number) × (v.target ≡ h) ×
-    (v.passing ≡ passes r)). opens h (w.handlers r.poster) a.0 a.1 a.3)
+    (v.passing ≡ passes r) × (v.asked ≡ r.asked)). opens h (w.handlers r.poster) a.0 a.1 a.3)
     (fine.clients h r one waited)

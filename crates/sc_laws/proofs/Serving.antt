@@ -25,8 +25,8 @@ one_last q (x ∷ rs) = inr (one_last q rs)
 pub posting_served : (h k : ℕ) (w : World) → (w.handlers k).failed ≡ false → IsConsistent w → IsServed w → IsServed
     (post h k w)
 posting_served h k w alive fine served =
-    let q : Request = record { number = w.next; poster = h; waited = false; passed = None } in
-    simple_served w k (arrive false (record { number = w.next; poster = h; waited = false; passed = None })
+    let q : Request = record { number = w.next; poster = h; waited = false; passed = None; asked = w.asks } in
+    simple_served w k (arrive false (record { number = w.next; poster = h; waited = false; passed = None; asked = w.asks })
     (w.handlers k)) (suc w.next) (posting_simple h k w alive fine)
     (λ p x r o th one num poster waited. inr
     (subst (IsOne r) (sym (requests_end (w.handlers k) q)) (one_more r q (requests_of (w.handlers k)) one)))

@@ -98,13 +98,14 @@ grown_client w v h c k r one (inl a) = inl (
   λ j x.
       ((λ i. (a.2 j x).0 (c.queue_less j x r.number i)), (λ i. (a.2 j x).1 (c.top_less j x r.number i))),
 )
-grown_client w v h c k r one (inr (u, s, num, to, passing)) = inr (
+grown_client w v h c k r one (inr (u, s, num, to, passing, asked)) = inr (
   u,
   at_each (λ y. IsOpen u (w.handlers y) → IsOpen u (v.handlers y)) h r.poster (λ o. c.client k r u one o num to)
       (λ ne o. subst (IsOpen u) (sym (c.other r.poster ne)) o) s,
   num,
   to,
   passing,
+  asked,
 )
 
 pub numbered_later : (n m : ℕ) (rs : List Request) → n ≤ m → AreNumbered n rs → AreNumbered m rs

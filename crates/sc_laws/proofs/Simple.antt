@@ -50,7 +50,7 @@ IsGone w h j = (Stuck w h j → ⊥) × ((k x : ℕ) → (HasGrant x j (w.queue 
 -- its poster, another, waits for it
 abbrev pub IsPosted : World → ℕ → Request → Type 0
 IsPosted w h r = (r.poster ≢ h) ×
-    ((u : Wait) × IsOpen u (w.handlers r.poster) × (u.number ≡ r.number) × (u.target ≡ h) × (u.passing ≡ passes r))
+    ((u : Wait) × IsOpen u (w.handlers r.poster) × (u.number ≡ r.number) × (u.target ≡ h) × (u.passing ≡ passes r) × (u.asked ≡ r.asked))
 
 pub record Simple (w : World) (h : ℕ) (g : Handler) (n : ℕ) : Type 0 where
   pub lives : (w.handlers h).failed ≡ false
@@ -165,7 +165,7 @@ simple_shrinks w h g n fine s =
           (λ old. inl old)
           (λ new. ⊎_elim
           (λ (a : IsPosted w h r). inr (inr
-          (a.1.0, subst (IsOpen a.1.0) (sym (off_h w h g n s r.poster a.0)) a.1.1, a.1.2, a.1.3, a.1.4)))
+          (a.1.0, subst (IsOpen a.1.0) (sym (off_h w h g n s r.poster a.0)) a.1.1, a.1.2, a.1.3, a.1.4, a.1.5)))
           (λ not. true_false (sym waited ∙ not.0))
           new)
           (s.requests r (subst (λ f. IsOne r (requests_of f)) e i));

@@ -64,11 +64,11 @@ numbered_end n m r (q ∷ rs) is new le lt = (
 pub posting_simple : (h k : ℕ) (w : World) → (w.handlers k).failed ≡ false → IsConsistent w → Simple w k
     (record (w.handlers k) {
       requests =
-          (w.handlers k).requests ++ record { number = w.next; poster = h; waited = false; passed = None } ∷ [];
+          (w.handlers k).requests ++ record { number = w.next; poster = h; waited = false; passed = None; asked = w.asks } ∷ [];
     })
     (suc w.next)
 posting_simple h k w alive fine =
-    let r : Request = record { number = w.next; poster = h; waited = false; passed = None } in
+    let r : Request = record { number = w.next; poster = h; waited = false; passed = None; asked = w.asks } in
     let g : Handler = record (w.handlers k) { requests = (w.handlers k).requests ++ r ∷ [] } in
     (record {
       lives = alive;
@@ -115,7 +115,7 @@ pub posting_keeps : (h k : ℕ) (w : World) → (w.handlers k).failed ≡ false 
 posting_keeps h k w alive fine = simple_keeps w k
     (record (w.handlers k) {
       requests =
-          (w.handlers k).requests ++ record { number = w.next; poster = h; waited = false; passed = None } ∷ [];
+          (w.handlers k).requests ++ record { number = w.next; poster = h; waited = false; passed = None; asked = w.asks } ∷ [];
     })
     (suc w.next) fine (posting_simple h k w alive fine)
 

@@ -1,7 +1,8 @@
 -- A world of rights stands for a state of the machine: it has the same rights, requests, waits and failures.
 use Rattle.std.specs.Prelude.{◌⊎◌, ℕ, zero, suc, ◌≡◌, ◌≤◌, true, false, List, [], ◌∷◌, take, drop, Option, Some, None, is_some}
 use Rattle.std.specs.Option.{option_map}
-use Rattle.sc_laws.specs.World.{Wait, Request, Reservation, Frame, Answer, Handler, World, rights_of}
+use Rattle.sc_proctype.specs.declared.entity_type.EntityType.{EntityType}
+use Rattle.sc_laws.specs.World.{Asked, Wait, Request, Reservation, Frame, Answer, Handler, World, rights_of}
 use Rattle.sc_laws.specs.Steps.{waits_for}
 use Rattle.sc_lockpass.specs.Rights.{is_among}
 use Rattle.sc_model.specs.Values.{Value, Integer, Boolean, Void, Attached}
@@ -16,11 +17,17 @@ abbrev pub IsPoster : Request → Option ℕ → Type 0
 IsPoster r None = r.waited ≡ false
 IsPoster r (Some p) = r.poster ≡ p
 
+-- what a request of the machine's asks for
+abbrev pub AsksFor : Option Asked → machine.Request → Type 0
+AsksFor None q = ⊥
+AsksFor (Some a) q = (q.poster ≡ Some a.poster) × (q.target ≡ a.target) × (q.errand ≡ a.errand)
+
 pub record IsRequest (r : Request) (q : machine.Request) : Type 0 where
   pub poster : IsPoster r q.poster
   pub waited : r.waited ≡ q.is_waited
   pub passed : r.passed ≡ q.passed
   pub plain : r.waited ≡ false → r.passed ≡ None
+  pub asked : q.is_waited ≡ true → AsksFor r.asked q
 
 abbrev pub AreRequests : List Request → List machine.Request → Type 0
 AreRequests [] [] = Unit {0}
@@ -94,28 +101,34 @@ AreBlocks Names (ks ∷ kss) Below (g ∷ gs) =
     (g.origin ≡ None) × (handlers_of g.reserved ≡ ks) × (waits_for gs ≡ None)
     × AreBlocks (λ i. Names (suc i)) kss Below gs × Names 0 g.needs
 
--- the topmost one waits for k
-pub record Awaited (k : ℕ) (gs : List Frame) : Type 0 where
+-- what a frame that waits takes, where names stand for these
+abbrev pub TakesAs : Option Asked → List Binding → Option EntityType → Type 0
+TakesAs None bs gives = ⊥
+TakesAs (Some a) bs gives = (a.environment ≡ bs) × (a.takes ≡ gives)
+
+-- the topmost one waits for k, and takes this
+pub record Awaited (k : ℕ) (gives : Option EntityType) (bs : List Binding) (gs : List Frame) : Type 0 where
   pub wait : Wait
   pub waits : waits_for gs ≡ Some wait
   pub target : wait.target ≡ k
+  pub takes : TakesAs wait.asked bs gives
 
 abbrev pub IsCreation : ℕ → (List Frame → Type 0) → List Frame → Type 0
 IsCreation k Below [] = ⊥
 IsCreation k Below (g ∷ gs) = (g.origin ≡ None) × (handlers_of g.reserved ≡ k ∷ []) × (waits_for gs ≡ None) × Below gs
 
-abbrev pub IsStaged : machine.Stage → (List Frame → Type 0) → List Frame → Type 0
-IsStaged (machine.Awaits k gives true) Below gs = Awaited k gs × IsCreation k Below gs
-IsStaged (machine.Awaits k gives false) Below gs = Awaited k gs × Below gs
-IsStaged machine.Runs Below gs = (waits_for gs ≡ None) × Below gs
-IsStaged machine.Reserves Below gs = (waits_for gs ≡ None) × Below gs
-IsStaged machine.ReservesBlock Below gs = (waits_for gs ≡ None) × Below gs
-IsStaged (machine.InCall gives) Below gs = (waits_for gs ≡ None) × Below gs
+abbrev pub IsStaged : machine.Stage → List Binding → (List Frame → Type 0) → List Frame → Type 0
+IsStaged (machine.Awaits k gives true) bs Below gs = Awaited k gives bs gs × IsCreation k Below gs
+IsStaged (machine.Awaits k gives false) bs Below gs = Awaited k gives bs gs × Below gs
+IsStaged machine.Runs bs Below gs = (waits_for gs ≡ None) × Below gs
+IsStaged machine.Reserves bs Below gs = (waits_for gs ≡ None) × Below gs
+IsStaged machine.ReservesBlock bs Below gs = (waits_for gs ≡ None) × Below gs
+IsStaged (machine.InCall gives) bs Below gs = (waits_for gs ≡ None) × Below gs
 
 abbrev pub IsStack : List machine.Frame → List Frame → Type 0
 IsStack [] [] = Unit {0}
 IsStack [] (g ∷ gs) = ⊥
-IsStack (f ∷ fs) gs = IsStaged f.stage (AreBlocks (NamesOf f.stage f) f.blocks (IsRoutine f (NeedsOf f.stage f) (IsStack fs))) gs
+IsStack (f ∷ fs) gs = IsStaged f.stage f.environment (AreBlocks (NamesOf f.stage f) f.blocks (IsRoutine f (NeedsOf f.stage f) (IsStack fs))) gs
 
 -- ---- handlers and worlds
 

@@ -1,8 +1,12 @@
 -- Rights, waits and requests, without values: who has each right and who gets it back, and what a step makes of it.
 use Rattle.std.specs.Prelude.{ℕ, suc, ◌==◌, ◌&&◌, List, [], ◌∷◌, ◌++◌, Option, Some, None, is_some, Bool, true, false, if◌then◌else◌}
 use Rattle.std.specs.List.{list_any}
+use Rattle.sc_proctype.specs.declared.entity_type.EntityType.{EntityType}
 use Rattle.sc_lockpass.specs.Rights.{Rights, is_handler}
 use Rattle.sc_lockpass.specs.Passing.{Passed, passed_by}
+use Rattle.sc_model.specs.Values.{Reference}
+use Rattle.sc_model.specs.Environments.{Binding}
+use Rattle.sc_model.specs.Handlers.{Errand}
 
 -- A handler that was granted a right: by the waited request of this number, with which the right was passed to it, or
 -- by a reservation of this
@@ -11,11 +15,20 @@ pub record Grant : Type 0 where
   pub holder : ℕ
   pub number : ℕ
 
+-- what the request of a handler asks for, and what its poster takes, where names stand for these
+pub record Asked : Type 0 where
+  pub poster : ℕ
+  pub target : Reference
+  pub errand : Errand
+  pub environment : List Binding
+  pub takes : Option EntityType
+
 -- the wait of a frame for the answer to the request of this number
 pub record Wait : Type 0 where
   pub number : ℕ
   pub target : ℕ
   pub passing : Bool
+  pub asked : Option Asked
 
 -- The root request counts as one of handler 0, for which nobody waits.
 pub record Request : Type 0 where
@@ -23,6 +36,7 @@ pub record Request : Type 0 where
   pub poster : ℕ
   pub waited : Bool
   pub passed : Option Passed
+  pub asked : Option Asked
 
 -- a handler that was reserved, by the reservation of this number
 pub record Reservation : Type 0 where
@@ -59,6 +73,7 @@ pub record World : Type 0 where
   pub queue : ℕ → List Grant
   pub top : ℕ → List Grant
   pub next : ℕ  -- the number of the next request or reservation
+  pub asks : Option Asked  -- what the next request asks for
 
 -- ---- trails
 
@@ -134,7 +149,7 @@ passed_if false h w = None
 
 -- a request by the handler that it waits for, with lock passing or without
 abbrev pub request : ℕ → Bool → World → Request
-request h b w = record { number = w.next; poster = h; waited = true; passed = passed_if b h w }
+request h b w = record { number = w.next; poster = h; waited = true; passed = passed_if b h w; asked = w.asks }
 
 -- it was put with lock passing
 abbrev pub passes : Request → Bool
@@ -147,7 +162,7 @@ land b k r w = record w { handlers = put k (arrive b r (w.handlers k)) w.handler
 abbrev pub post : ℕ → ℕ → World → World
 post h k w = record w {
   handlers =
-      put k (arrive false (record { number = w.next; poster = h; waited = false; passed = None }) (w.handlers k))
+      put k (arrive false (record { number = w.next; poster = h; waited = false; passed = None; asked = w.asks }) (w.handlers k))
       w.handlers;
   next = suc w.next;
 }
@@ -159,13 +174,13 @@ begin_wait h v w = record w { handlers = put h (wait v (w.handlers h)) w.handler
 abbrev pub ask : ℕ → ℕ → World → World
 ask h k w =
     land (has h (w.top k)) k (request h false w)
-    (begin_wait h (record { number = w.next; target = k; passing = false }) w)
+    (begin_wait h (record { number = w.next; target = k; passing = false; asked = w.asks }) w)
 
 abbrev pub ask_passing : ℕ → ℕ → World → World
 ask_passing h k w =
     land (has h (w.top k)) k (request h true w)
     (pass_all h (record { holder = k; number = w.next })
-    (begin_wait h (record { number = w.next; target = k; passing = true }) w))
+    (begin_wait h (record { number = w.next; target = k; passing = true; asked = w.asks }) w))
 
 -- ---- taking a request, an own call, taking an answer
 

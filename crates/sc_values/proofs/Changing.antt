@@ -77,6 +77,7 @@ module _ (w v : World) (there : (r : Reference) → IsThere w r → IsThere v r)
       is_here = e.is_here;
       is_of_class = e.is_of_class;
       is_known = e.is_known;
+      made_by_routine = e.made_by_routine;
       target_is_there = there r.target e.target_is_there;
       actuals_fit = e.actuals_fit;
       actuals_are_there = values_led r.actuals e.actuals_are_there;

@@ -4,6 +4,7 @@ use Rattle.std.specs.Prelude.{◌==◌, if◌then◌else◌, is_some, length, na
 use Rattle.std.proofs.Common.{◌++◌, ◌<◌, Bool, List, None, Option, Some, [], ap, arith, false, refl, subst, sym, true, ℕ, ◌∙◌, ◌∷◌, ◌≡◌}
 use Rattle.std.proofs.lemmas.Bool.{eqb-false, eqb-true, ne_eqb}
 use Rattle.sc_tree.specs.Plain.{System}
+use Rattle.sc_class.specs.Tables.Features.{DeclaredFeature}
 use Rattle.sc_proctype.specs.declared.entity_type.EntityType.{EntityType}
 use Rattle.sc_rules.specs.Names.{RoutineName}
 use Rattle.sc_waitcond.specs.declared.session.Release.TheVariants as release_at
@@ -21,7 +22,7 @@ use Rattle.sc_model.specs.Turns.{effect}
 use Rattle.sc_model.specs.Values.{Attached, Operand, Reference, Value, operand, values_of}
 use Rattle.sc_model.specs.declared.cause.Cause.TheVariants as cause
 use Rattle.sc_values.specs.Fitting.{ActualsFit, FrameFits, HandlerFits, IsThere, Linked, ObjectFits, RequestFits, ValueIsThere, WorldFits, coming_to, empty, is_due, is_made, no_more}
-use Rattle.sc_values.specs.Places.{formals_if_any, of_actuals}
+use Rattle.sc_values.specs.Places.{formals_if_any, is_routine, of_actuals}
 use Rattle.sc_values.specs.Points.{Each, IsAmong, PointFits, listed}
 use Rattle.sc_values.specs.Steps.{ActFits, CreationFits, OperandsDo, StepFits}
 use Rattle.sc_values.specs.Values.{ActsKeepIt, is_new_handler}
@@ -30,6 +31,7 @@ use Rattle.sc_values.proofs.Carrying.{ObjectsStay, handler_carried, objects_same
 use Rattle.sc_values.proofs.Changing.{RestStays, at_objects, bindings_led, frames_led, handler_led, itself, objects_led, operands_led, put_at, requests_led, rest_same, values_led}
 use Rattle.sc_values.proofs.Frames.{running_frames_move}
 use Rattle.sc_values.proofs.Handing.{arrived}
+use Rattle.sc_values.proofs.Lists.{same_some}
 use Rattle.sc_values.proofs.Posting.{call_actuals, call_known}
 use Rattle.sc_values.proofs.Requesting.{passes_fit}
 use Rattle.sc_values.proofs.Settled.{Settled, relinked, requests_as, settled_fails, settled_stack}
@@ -109,6 +111,15 @@ module _ (s : System) (pure : RoutineName → Bool) (w : World) (h : ℕ) (t : E
   making_known None g x e = cc
   making_known (Some y) g x e = call_known s h (handler_named f.environment) (record { handler = w.count; number = 1; class = c }) y us None (g w.count).0 x e
 
+  same_made : {a b : Option (List ℕ)} → Makes a ≡ Makes b → a ≡ b
+  same_made e = cc
+
+  making_routine : (o : Option (List ℕ)) → CreationFits s h (handler_named f.environment) c o us → (x : List ℕ) (v : DeclaredFeature) → o ≡ Some x → version_of s c x ≡ Some v →
+      is_routine v.feature.kind ≡ true
+  making_routine None g x v e i = cc
+  making_routine (Some y) g x v e i = subst (λ (u : DeclaredFeature). is_routine u.feature.kind ≡ true)
+      (same_some (sym (g w.count).0.is_version ∙ ap (version_of s c) (same_some e) ∙ i)) (g w.count).1
+
   making_actuals : (o : Option (List ℕ)) → CreationFits s h (handler_named f.environment) c o us →
       ActualsFit s w.count (formals_if_any (option_and_then (version_of s c) o)) (of_actuals (values_of us)) (formals_if_any (option_and_then (version_of s c) o)) (values_of us)
   making_actuals None g = subst (λ us. ActualsFit s w.count [] (of_actuals (values_of us)) [] (values_of us)) (sym g) no_more
@@ -119,6 +130,7 @@ module _ (s : System) (pure : RoutineName → Bool) (w : World) (h : ℕ) (t : E
     is_here = refl;
     is_of_class = less;
     is_known = making_known procedure creation;
+    made_by_routine = λ x v e i. making_routine procedure creation x v (same_made e) i;
     target_is_there = new_there;
     actuals_fit = making_actuals procedure creation;
     actuals_are_there = values_led w posted there_posted (values_of us) (values_led_of w us us_led);

@@ -30,6 +30,7 @@ pub mod Instructions
 pub mod Leading
 pub mod Lists
 pub mod Locals
+pub mod Matching
 pub mod Moves
 pub mod Names
 pub mod Olds
@@ -57,3 +58,7 @@ pub mod Tests
 pub mod Turning
 pub mod ValuesFit
 pub mod Versions
+pub mod Awaiting
+pub mod Spared
+pub mod Sparing
+pub mod Excluding

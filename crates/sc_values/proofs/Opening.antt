@@ -9,11 +9,13 @@ use Rattle.sc_class.specs.Names.{is_listed}
 use Rattle.sc_class.specs.Tables.Declared.{created_by, creators_of}
 use Rattle.sc_class.specs.Tables.Features.{DeclaredFeature, features, named_among}
 use Rattle.sc_class.specs.Faults.ClassRules.{is_plain_procedure, creates_by, has_root, no_root, IsFaultless}
+use Rattle.sc_model.specs.Handlers.{Makes}
 use Rattle.sc_model.specs.Routines.{version_of}
 use Rattle.sc_model.specs.Runs.{root_request, opening}
-use Rattle.sc_values.specs.Places.{formals_of_kind, formals_if_any, of_actuals}
+use Rattle.sc_values.specs.Places.{formals_of_kind, formals_if_any, is_routine, of_actuals}
 use Rattle.sc_values.specs.Fitting.{ActualsFit, no_more, is_due, RequestFits, empty}
 use Rattle.sc_values.specs.Values.{OpeningFits}
+use Rattle.sc_values.proofs.Lists.{same_some}
 
 both : (a b : Bool) → (a && b) ≡ true → (a ≡ true) × (b ≡ true)
 both true b e = (refl, e)
@@ -31,6 +33,15 @@ found : (o : Option DeclaredFeature) → option_map_or (λ (f : DeclaredFeature)
     (is_some o ≡ true) × (formals_if_any o ≡ [])
 found None e = cc
 found (Some f) e = (refl, plain f.feature.kind e)
+
+plain_routine : (k : FeatureKind) → is_plain_procedure k ≡ true → is_routine k ≡ true
+plain_routine (Attribute d) e = cc
+plain_routine (Routine r) e = refl
+
+routine_found : (o : Option DeclaredFeature) → option_map_or (λ (f : DeclaredFeature). is_plain_procedure f.feature.kind) o false ≡ true → (f : DeclaredFeature) → o ≡ Some f →
+    is_routine f.feature.kind ≡ true
+routine_found None e f i = cc
+routine_found (Some g) e f i = subst (λ (u : DeclaredFeature). is_routine u.feature.kind ≡ true) (same_some i) (plain_routine g.feature.kind e)
 
 of_root : (s : System) (x : List ℕ) (o : Option ℕ) → option_map_or (creates_by s x) o false ≡ true → creates_by s x (option_map_or (λ k. k) o 0) ≡ true
 of_root s x None e = cc
@@ -66,16 +77,29 @@ root_found s root w =
     let f = found (named_among root.procedure (features s (option_map_or (λ k. k) (number_of s root.class) 0))) z.1 in
     (f.0, f.1, creator_there s root.procedure (option_map_or (λ k. k) (number_of s root.class) 0) z.0)
 
+-- the root's procedure is a routine
+root_routine : (s : System) (root : Root) → IsFaultless s root → (f : DeclaredFeature) →
+    version_of s (option_map_or (λ k. k) (number_of s root.class) 0) root.procedure ≡ Some f → is_routine f.feature.kind ≡ true
+root_routine s root w f i =
+    let z = both (is_listed root.procedure (creators_of s (option_map_or (λ k. k) (number_of s root.class) 0))) _
+    (of_root s root.procedure (number_of s root.class) (root_there s root w (has_root s root) refl)) in
+    routine_found (named_among root.procedure (features s (option_map_or (λ k. k) (number_of s root.class) 0))) z.1 f i
+
 request_fits : (s : System) (root : Root) → IsFaultless s root → RequestFits s (opening s root) 0 (root_request (option_map_or (λ k. k) (number_of s root.class) 0) root.procedure)
 request_fits s root w = record {
   is_here = refl;
   is_of_class = (root_found s root w).2;
   is_known = λ x e. named_so x e;
+  made_by_routine = λ x f e i. root_routine s root w f
+      (subst (λ x. version_of s (option_map_or (λ k. k) (number_of s root.class) 0) x ≡ Some f) (sym (same_errand root.procedure x e)) i);
   target_is_there = is_due {q = root_request (option_map_or (λ k. k) (number_of s root.class) 0) root.procedure} {qs = []} {x = Some root.procedure} (omega arith) refl refl refl refl refl;
   actuals_fit = subst (λ ds. ActualsFit s 0 ds (of_actuals []) ds []) (sym (root_found s root w).1) no_more;
   actuals_are_there = tt;
 }
   where
+    same_errand : (a b : List ℕ) → Makes (Some a) ≡ Makes (Some b) → a ≡ b
+    same_errand a b e = cc
+
     same : (a b : List ℕ) → Some a ≡ Some b → a ≡ b
     same a b e = cc
 

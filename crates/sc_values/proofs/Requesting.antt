@@ -61,6 +61,7 @@ module _ (s : System) (pure : RoutineName → Bool) (w : World) (h : ℕ) (gives
         is_here = refl;
         is_of_class = class_there s w (settled_objects s pure w h (listed gives) f below z) (settled_requests s pure w h (listed gives) f below z) r there;
         is_known = call_known s h (handler_named f.environment) r x us gives call;
+        made_by_routine = λ y v e i. cc;
         target_is_there = there;
         actuals_fit = call_actuals s h (handler_named f.environment) r x us gives call;
         actuals_are_there = values_led_of w us led;

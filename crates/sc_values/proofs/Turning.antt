@@ -1,6 +1,6 @@
 -- Each turn keeps what fits, where whoever waits for what may end takes its result.
 use Rattle.std.specs.Prelude.{if◌then◌else◌, nat_lt}
-use Rattle.std.proofs.Common.{◌<◌, Bool, List, None, Option, Some, [], false, refl, subst, true, ℕ, ◌∷◌, ◌≡◌}
+use Rattle.std.proofs.Common.{Bool, List, None, Option, Some, [], ap, false, refl, subst, sym, true, ℕ, ◌<◌, ◌∙◌, ◌∷◌, ◌≡◌}
 use Rattle.std.proofs.lemmas.Bool.{ltb-true}
 use Rattle.sc_tree.specs.Plain.{System}
 use Rattle.sc_class.specs.ClassNames.{Root}
@@ -20,7 +20,10 @@ use Rattle.sc_model.specs.declared.cause.Cause.{Cause}
 use Rattle.sc_model.specs.declared.cause.Cause.TheVariants as cause
 use Rattle.sc_values.specs.Fitting.{CallbacksStandAlone, EndsAreAwaited, FrameFits, WorldFits, called_back, next, runs}
 use Rattle.sc_values.specs.Points.{Each}
-use Rattle.sc_values.specs.Values.{TurnsFromEnds, TurnsKeepWhereAwaited}
+use Rattle.sc_values.specs.Values.{EachStandsAlone, TurnsFromEnds, TurnsKeepWhereAwaited}
+use Rattle.sc_laws.specs.Headline.{has_reply}
+use Rattle.sc_laws.proofs.Machine.{machine_callbacks_come_first}
+use Rattle.sc_laws.proofs.links.Reached.{reached_stands}
 use Rattle.sc_values.proofs.Acting.{own_acts_keep_it}
 use Rattle.sc_values.proofs.Calling.{entries_keep_it}
 use Rattle.sc_values.proofs.Carrying.{failures_keep_it}
@@ -82,6 +85,13 @@ turns_keep_where_awaited s root pure faultless well tells most h w fits alone aw
     by true e = turned s root pure faultless well tells most h w fits alone awaited (ltb-true h w.count e) (w.handlers h).failure (w.handlers h).stack refl
     by false e = fits
 
+pub callbacks_stand_alone : EachStandsAlone
+callbacks_stand_alone s root most w reached h r v l e i =
+    let t = reached_stands most s root w reached in none (sym (ap has_reply i) ∙ machine_callbacks_come_first t.0 w t.1 t.2 h r e)
+  where
+    none : true ≡ false → ⊥
+    none e = cc
+
 pub turns_from_ends : TurnsFromEnds
 turns_from_ends each s root pure faultless well tells most h w reached fits =
-    let now = each s root faultless well most w reached in turns_keep_where_awaited s root pure faultless well tells most h w fits now.0 now.1
+    turns_keep_where_awaited s root pure faultless well tells most h w fits (callbacks_stand_alone s root most w reached) (each s root faultless well most w reached)

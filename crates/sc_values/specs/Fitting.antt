@@ -1,6 +1,7 @@
 -- What is true of the values of each state that is reached: the invariant of a turn.
 use Rattle.std.specs.Prelude.{◌++◌, ◌<◌, Bool, List, None, Option, Some, [], is_some, length, true, ℕ, ◌∷◌, ◌≡◌}
 use Rattle.sc_tree.specs.Plain.{Declaration, System}
+use Rattle.sc_class.specs.Tables.Features.{DeclaredFeature}
 use Rattle.sc_proctype.specs.declared.entity_type.EntityType.{EntityType}
 use Rattle.sc_proctype.specs.declared.tag.Reserved.{Reserved}
 use Rattle.sc_rules.specs.Names.{RoutineName}
@@ -13,7 +14,7 @@ use Rattle.sc_model.specs.Objects.{Object, object_numbered}
 use Rattle.sc_model.specs.Routines.{routine_named, version_of}
 use Rattle.sc_model.specs.Steps.{Calling, gives}
 use Rattle.sc_model.specs.Values.{Attached, Operand, Reference, Value}
-use Rattle.sc_values.specs.Places.{called_name, formals_of_request, no_names, of_actuals, result_of_request}
+use Rattle.sc_values.specs.Places.{called_name, formals_of_request, is_routine, no_names, of_actuals, result_of_request}
 use Rattle.sc_values.specs.Points.{AttributesFit, Each, IsAmong, PointFits, listed}
 
 -- ---- objects
@@ -41,11 +42,13 @@ pub data ActualsFit (s : System) (h : ℕ) (all : List Declaration) (of : Reserv
   one_more : {d : Declaration} {ds : List Declaration} {v : Value} {vs : List Value} {t : EntityType} → declared_type s all d.declared_type ≡ Some t →
       Fits s h of v t → ActualsFit s h all of ds vs → ActualsFit s h all of (d ∷ ds) (v ∷ vs)
 
--- The class of the target has a version of what is called; its actuals fit, and lie where there are objects.
+-- The class of the target has a version of what is called, a routine if it makes the object; its actuals fit, and lie where there are objects.
 pub record RequestFits (s : System) (w : World) (h : ℕ) (r : Request) : Type 0 where
   pub is_here : r.target.handler ≡ h
   pub is_of_class : r.target.class < length s.classes
   pub is_known : (x : List ℕ) → called_name r.errand ≡ Some x → is_some (version_of s r.target.class x) ≡ true
+  -- a creation's procedure is a routine
+  pub made_by_routine : (x : List ℕ) (f : DeclaredFeature) → r.errand ≡ Makes (Some x) → version_of s r.target.class x ≡ Some f → is_routine f.feature.kind ≡ true
   pub target_is_there : IsThere w r.target
   pub actuals_fit : ActualsFit s r.target.handler (formals_of_request s r) (of_actuals r.actuals) (formals_of_request s r) r.actuals
   pub actuals_are_there : Each (ValueIsThere w) r.actuals

@@ -1,5 +1,6 @@
 -- What is said of the values of each state that is reached.
-use Rattle.std.specs.Prelude.{◌<◌, Bool, List, Option, Some, [], false, true, ℕ, ◌∷◌, ◌≡◌, ◌⊎◌}
+use Rattle.std.specs.Option.{option_and_then}
+use Rattle.std.specs.Prelude.{◌<◌, Bool, List, None, Option, Some, [], false, true, ℕ, ◌∷◌, ◌≡◌, ◌⊎◌}
 use Rattle.sc_tree.specs.Plain.{System}
 use Rattle.sc_class.specs.ClassNames.{Root}
 use Rattle.sc_class.specs.Faults.ClassRules.{IsFaultless}
@@ -19,16 +20,16 @@ use Rattle.sc_model.specs.Fits.{Fits, IsUnset}
 use Rattle.sc_model.specs.Handlers.{Answer, Awaits, Frame, Origin, Reply, Request, Requested, Reserves, ReservesBlock, Runs, World, point_of}
 use Rattle.sc_model.specs.Moves.{moves, step}
 use Rattle.sc_model.specs.Objects.{Object}
-use Rattle.sc_model.specs.Routines.{Routine, routine_named}
+use Rattle.sc_model.specs.Routines.{Routine, routine_named, version_of}
 use Rattle.sc_model.specs.Runs.{IsReached, opening}
 use Rattle.sc_model.specs.Sessions.{release}
 use Rattle.sc_model.specs.Steps.{Act, Creates, CreatesHandler, Does, Enters, Exits, Fails, Leaves, Opens, Point, Prints, Refuses, Requests, Starts, Tests}
 use Rattle.sc_model.specs.Takes.{takes_answer, takes_callback, takes_next}
 use Rattle.sc_model.specs.Turns.{settles, turn}
-use Rattle.sc_model.specs.Values.{Attached, Reference, Value}
+use Rattle.sc_model.specs.Values.{Attached, Operand, Reference, Value}
 use Rattle.sc_model.specs.declared.cause.Cause.{Cause}
-use Rattle.sc_values.specs.Fitting.{ActualsFit, CallbacksStandAlone, EndsAreAwaited, IsAwaited, WorldFits}
-use Rattle.sc_values.specs.Places.{StandsAs, of_actuals, result_of_request}
+use Rattle.sc_values.specs.Fitting.{ActualsFit, CallbacksStandAlone, EndsAreAwaited, Gives, IsAwaited, WorldFits}
+use Rattle.sc_values.specs.Places.{StandsAs, of_actuals, result_if_any, result_of_request}
 use Rattle.sc_values.specs.Points.{IsAmong, PointFits}
 use Rattle.sc_values.specs.Steps.{IsThereIfOwn, StandsSo, StepFits, ValuesDo, is_excluded}
 
@@ -191,6 +192,16 @@ CallbacksKeepIt = (s : System) (root : Root) (pure : RoutineName → Bool) → I
     (r : Request) (f : Frame) (below : List Frame) → (w.handlers h).stack ≡ f ∷ below → (w.handlers h).callback ≡ Some r → ((v : Option Value) → (w.handlers h).answer ≡ Some (Reply v) → ⊥) →
     IsAwaited s w h r (result_of_request s r) → WorldFits s pure (takes_callback s h r (f ∷ below) w)
 
+-- Where the invariant holds, what a request asks for fits what its poster takes, and a creation of a handler gives nothing.
+abbrev pub RequestsAreMatched : Type 0
+RequestsAreMatched = (s : System) (root : Root) (pure : RoutineName → Bool) → IsFaultless s root → WellFormed s → IsPurity s pure → (w : World) → WorldFits s pure w →
+    (h : ℕ) → h < w.count → (f : Frame) (below : List Frame) → (w.handlers h).stack ≡ f ∷ below → f.stage ≡ Runs → (p : Point) →
+    ((o : Reference) (x : List ℕ) (us : List Operand) (gives : Option EntityType) (passes : Bool) →
+    moves s f.current (point_of f (w.handlers h).objects) ≡ Does (Requests o x us gives passes) p → Gives s o.handler (result_if_any s (version_of s o.class x)) h p.environment gives)
+    × ((c : ℕ) (procedure : Option (List ℕ)) (us : List Operand) (t : EntityType) (passes : Bool) →
+    moves s f.current (point_of f (w.handlers h).objects) ≡ Does (CreatesHandler c procedure us t passes) p → (k : ℕ) →
+    Gives s k (result_if_any s (option_and_then (version_of s c) procedure)) h p.environment None)
+
 -- Each turn keeps the invariant, where no callback stands beside a reply, and whoever waits for what may end takes what it asks for.
 abbrev pub TurnsKeepWhereAwaited : Type 0
 TurnsKeepWhereAwaited = (s : System) (root : Root) (pure : RoutineName → Bool) → IsFaultless s root → WellFormed s → IsPurity s pure → (most h : ℕ) (w : World) → WorldFits s pure w →
@@ -201,9 +212,13 @@ abbrev pub TurnsKeepIt : Type 0
 TurnsKeepIt = (s : System) (root : Root) (pure : RoutineName → Bool) → IsFaultless s root → WellFormed s → IsPurity s pure →
     (most h : ℕ) (w : World) → IsReached most s root w → WorldFits s pure w → WorldFits s pure (turn most s h w)
 
--- So it is in each state that is reached.
+-- No callback stands beside a reply in any state that is reached.
+abbrev pub EachStandsAlone : Type 0
+EachStandsAlone = (s : System) (root : Root) (most : ℕ) (w : World) → IsReached most s root w → CallbacksStandAlone w
+
+-- In each state that an accepted system reaches, whoever waits for what may end takes what it asks for.
 abbrev pub EachEndIsAwaited : Type 0
-EachEndIsAwaited = WhereAccepted λ s root. (most : ℕ) (w : World) → IsReached most s root w → CallbacksStandAlone w × EndsAreAwaited s w
+EachEndIsAwaited = WhereAccepted λ s root. (most : ℕ) (w : World) → IsReached most s root w → EndsAreAwaited s w
 
 -- Then each turn keeps the invariant.
 abbrev pub TurnsFromEnds : Type 0

@@ -1,7 +1,7 @@
 //! What follows of the invariant on values, and where it holds.
 
 ghost use Rattle.sc_values.specs.Passing.{FitWhereConforming, FitWhereGiven, FitWherePassed};
-ghost use Rattle.sc_values.specs.Values.{ActsKeepIt, AnswersKeepIt, CallbacksKeepIt, EntriesFit, ExitsKeepIt, FailuresKeepIt, FitWhereWorldFits, FromTurns, MovesFit, NextKeepIt, NoMoveIsExcluded, OpeningFits, OwnWhereWorldFits, ReleasesKeepIt, ReservationsKeepIt, RightsKeepIt, RunningFramesMove, StepsFit, TurnsFromEnds, TurnsKeepWhereAwaited, is_entry, is_new_handler, is_own_act, is_refusal, is_request};
+ghost use Rattle.sc_values.specs.Values.{ActsKeepIt, AnswersKeepIt, CallbacksKeepIt, EachEndIsAwaited, EachStandsAlone, EntriesFit, ExitsKeepIt, FailuresKeepIt, FitWhereWorldFits, FromTurns, MovesFit, NextKeepIt, NoMoveIsExcluded, NonSeparateIsOwn, NoneIsExcluded, OpeningFits, OwnWhereWorldFits, ReleasesKeepIt, RequestsAreMatched, ReservationsKeepIt, RightsKeepIt, RunningFramesMove, StepsFit, TurnsFromEnds, TurnsKeepIt, TurnsKeepWhereAwaited, ValuesFit, is_entry, is_new_handler, is_own_act, is_refusal, is_request};
 
 /// Where the invariant on values holds of a state, each value fits its type wherever it stands; an attribute, a local or a
 /// Result may still be unset.
@@ -140,7 +140,46 @@ pub fn turns_keep_where_awaited()
     ensures { TurnsKeepWhereAwaited }
 {}
 
-/// If that is so in every state that an accepted system reaches, each turn keeps it there.
+/// If whoever waits for what may end takes what it asks for, in every state that an accepted system reaches, each turn keeps
+/// the invariant there.
 pub fn turns_from_ends()
     ensures { TurnsFromEnds }
+{}
+
+/// No callback stands beside a reply in any state that is reached.
+pub fn callbacks_stand_alone()
+    ensures { EachStandsAlone }
+{}
+
+/// Where the invariant on values holds, what a request asks for fits what its poster takes, and a creation of a handler gives
+/// nothing.
+pub fn requests_are_matched()
+    ensures { RequestsAreMatched }
+{}
+
+/// In each state that an accepted system reaches, whoever waits for a request that may end in the next turn of its handler takes
+/// what the request asks for.
+pub fn ends_are_awaited()
+    ensures { EachEndIsAwaited }
+{}
+
+/// So each turn of an accepted system keeps the invariant on values.
+pub fn turns_keep_it()
+    ensures { TurnsKeepIt }
+{}
+
+/// In each state that an accepted system reaches, each value fits its type wherever it stands; an attribute, a local or a Result
+/// may still be unset.
+pub fn each_value_fits()
+    ensures { ValuesFit }
+{}
+
+/// In each such state, an object that is typed non-separate belongs to the handler from which it is seen.
+pub fn each_non_separate_is_own()
+    ensures { NonSeparateIsOwn }
+{}
+
+/// In each such state, no handler has failed for a foreign object, a Void target or a missing case.
+pub fn none_is_excluded()
+    ensures { NoneIsExcluded }
 {}

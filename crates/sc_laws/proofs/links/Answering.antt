@@ -55,11 +55,11 @@ pub record Answered (w : World) (m : machine.World) (h k : ℕ) (gives : Option 
   pub stands : Stands w m
   pub here : h < m.count
   pub lives : (m.handlers h).failure ≡ None
-  pub parts : IsStaged (Awaits k gives b) (AreBlocks (NamesOf machine.Runs f) f.blocks (IsRoutine f (NeedsOf machine.Runs f) (IsStack below)))
+  pub parts : IsStaged (Awaits k gives b) f.environment (AreBlocks (NamesOf machine.Runs f) f.blocks (IsRoutine f (NeedsOf machine.Runs f) (IsStack below)))
       (w.handlers h).stack
 
 awaited : (w : World) (m : machine.World) (h k : ℕ) (gives : Option EntityType) (b : Bool) (f : machine.Frame) (below : List machine.Frame)
-    → Answered w m h k gives b f below → Awaited k (w.handlers h).stack
+    → Answered w m h k gives b f below → Awaited k gives f.environment (w.handlers h).stack
 awaited w m h k gives true f below a = a.parts.0
 awaited w m h k gives false f below a = a.parts.0
 

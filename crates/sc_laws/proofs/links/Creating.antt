@@ -8,7 +8,9 @@ use Rattle.sc_waitcond.specs.declared.session.Release.TheVariants as release_at
 use Rattle.sc_laws.specs.World as world
 use Rattle.sc_laws.specs.World.{Grant, Wait, Request, Reservation, Frame, Handler, World, holder, rights_of, has, land, post, ask_passing, enter}
 use Rattle.sc_laws.specs.Steps.{waits_for, IsActive, Holds, IsIdle, AnswersNobody, Posts, AsksPassing, Enters, Steps, Then}
-use Rattle.sc_laws.specs.Stands.{NeedsOf, NamesOf, AreRequests, IsCallback, handlers_of, IsRoutine, AreBlocks, IsStaged, IsStack, IsHandler, IsNew, Stands}
+use Rattle.sc_laws.specs.Stands.{AsksFor, TakesAs, NeedsOf, NamesOf, AreRequests, IsCallback, handlers_of, IsRoutine, AreBlocks, IsStaged, IsStack, IsHandler, IsNew, Stands}
+use Rattle.sc_laws.proofs.Waits.{true_false}
+use Rattle.sc_laws.proofs.Named.{asks_kept}
 use Rattle.sc_laws.proofs.links.Maps.{same_rights}
 use Rattle.sc_laws.proofs.links.Lists.{joined, one, put-off, Restacked, restacked_again, restacked_active, restacked_stack, Reserved, reserves, entering}
 use Rattle.sc_laws.proofs.links.Standing.{Looks, looks_by, m_put-own, m_put-off, Put}
@@ -125,7 +127,7 @@ makes w m h f below g runs =
             let mine : IsHandler (record (w.handlers h) { stack = d ∷ (w.handlers h).stack })
             (record (m.handlers h) { stack = record f { blocks = (m.count ∷ []) ∷ f.blocks; tasks = [] } ∷ below }) = record {
               failed = old.failed;
-              stack = subst (λ t. IsStaged t (AreBlocks (NamesOf t (record f { blocks = (m.count ∷ []) ∷ f.blocks; tasks = [] }))
+              stack = subst (λ t. IsStaged t f.environment (AreBlocks (NamesOf t (record f { blocks = (m.count ∷ []) ∷ f.blocks; tasks = [] }))
                   ((m.count ∷ []) ∷ f.blocks)
                   (IsRoutine f (NeedsOf t (record f { blocks = (m.count ∷ []) ∷ f.blocks; tasks = [] })) (IsStack below)))
                   (d ∷ (w.handlers h).stack)) (sym runs)
@@ -193,9 +195,16 @@ restacked_put h a b m = record {
 
 pub created_leads : (w : World) (m : machine.World) (h class : ℕ) (procedure : Option (List ℕ)) (us : List Operand) (t : EntityType) (passing : Bool)
     (f : machine.Frame) (below : List machine.Frame)
+    → w.asks ≡ Some (record {
+      poster = h;
+      target = record { handler = m.count; number = 1; class = class };
+      errand = Makes procedure;
+      environment = f.environment;
+      takes = None;
+    })
     → Going w m h machine.Runs f below → f.stage ≡ Runs
     → Leads w (created h (record { handler = m.count; number = 1; class = class }) procedure us t passing f below m)
-created_leads w m h class procedure us t passing f below g runs = by passing
+created_leads w m h class procedure us t passing f below named g runs = by passing
   where
     other : m.count ≢ h
     other same = let i = g.here in omega (arith, i, same)
@@ -216,11 +225,11 @@ created_leads w m h class procedure us t passing f below g runs = by passing
         let a : List machine.Frame = record f { blocks = (m.count ∷ []) ∷ f.blocks; tasks = [] } ∷ below in
         let m1 = with_stack h a m0 in
         let u = post h k v in
-        let p : Request = record { number = v.next; poster = h; waited = false; passed = None } in
+        let p : Request = record { number = v.next; poster = h; waited = false; passed = None; asked = v.asks } in
         let s : Stands u (send false k q m1) = renumbered (suc v.next) (land false k p v) (send false k q m1)
-        (arrives_stands false k (record { number = v.next; poster = h; waited = false; passed = None }) q v m1 held.stands (omega arith)
-        (record { poster = refl; waited = refl; passed = refl; plain = λ e. refl })) in
-        let same : u.handlers h ≡ v.handlers h = put-off k (world.arrive false (record { number = v.next; poster = h; waited = false; passed = None })
+        (arrives_stands false k (record { number = v.next; poster = h; waited = false; passed = None; asked = v.asks }) q v m1 held.stands (omega arith)
+        (record { poster = refl; waited = refl; passed = refl; plain = λ e. refl; asked = λ e. true_false (sym e) })) in
+        let same : u.handlers h ≡ v.handlers h = put-off k (world.arrive false (record { number = v.next; poster = h; waited = false; passed = None; asked = v.asks })
         (v.handlers k)) v.handlers h (λ e. other (sym e)) in
         let on : IsActive (u.handlers h) = (
           ap (λ (x : Handler). x.failed) same ∙ held.active.0,
@@ -233,7 +242,7 @@ created_leads w m h class procedure us t passing f below g runs = by passing
         (let i = g.here in omega (arith, i)) on
         (ap (λ (x : Handler). x.stack) same ∙ held.stack) held.reserved
         (sent_put false h k q (f1 ∷ below) m1 (with_stack h (f1 ∷ below) m0) other (restacked_put h a (f1 ∷ below) m0)) refl
-        (subst (λ l. IsStaged l (AreBlocks (NamesOf l (record f { values = operand (Attached r') t ∷ f.values })) f.blocks
+        (subst (λ l. IsStaged l f.environment (AreBlocks (NamesOf l (record f { values = operand (Attached r') t ∷ f.values })) f.blocks
         (IsRoutine f (NeedsOf l (record f { values = operand (Attached r') t ∷ f.values }))
         (IsStack below))) (w.handlers h).stack) (sym runs) (g.quiet, g.parts)) in
         let l : Leads u (sessions.release release_at.Creation (k ∷ []) n0) = ended_leads u h held.frame (w.handlers h).stack
@@ -259,6 +268,7 @@ created_leads w m h class procedure us t passing f below g runs = by passing
         let v = held.world in
         let a : List machine.Frame = record f { blocks = (m.count ∷ []) ∷ f.blocks; tasks = [] } ∷ below in
         let st : List machine.Frame = record f { values = operand (Attached r') t ∷ f.values; stage = Awaits m.count None true } ∷ below in
+        let same_asked = asks_kept w v held.steps ∙ named in
         record {
           world = ask_passing h k v;
           steps = joined w v (ask_passing h k v) held.steps (one v (ask_passing h k v) (AsksPassing h k (record {
@@ -271,8 +281,14 @@ created_leads w m h class procedure us t passing f below g runs = by passing
           stands = asked_passing_stands v (with_stack h a m0) (with_stack h st m0) h k false
               (record f { values = operand (Attached r') t ∷ f.values; stage = Awaits m.count None true } ∷ below) q held.frame
               (w.handlers h).stack held.stands
-              (let i = g.here in omega (arith, i)) (omega arith) held.stack (restacked_put h a st m0) refl (ap (has h) held.top) refl refl refl (
-                record { wait = record { number = v.next; target = k; passing = true }; waits = refl; target = refl },
+              (let i = g.here in omega (arith, i)) (omega arith) held.stack (restacked_put h a st m0) refl (ap (has h) held.top) refl refl refl
+              (subst (λ o. AsksFor o (request_by h r' (Makes procedure) us true true m0)) (sym same_asked) (refl, refl, refl)) (
+                record {
+                  wait = record { number = v.next; target = k; passing = true; asked = v.asks };
+                  waits = refl;
+                  target = refl;
+                  takes = subst (λ o. TakesAs o f.environment None) (sym same_asked) (refl, refl);
+                },
                 (held.origin, held.reserved, g.quiet, g.parts),
               );
         }
@@ -283,7 +299,14 @@ created_leads w m h class procedure us t passing f below g runs = by passing
 
 pub creates_leads : (G : World → Type 0) (K : Keeps G) (most : ℕ) (w : World) (m : machine.World) (h class : ℕ) (procedure : Option (List ℕ))
     (us : List Operand) (t : EntityType) (passing : Bool) (f : machine.Frame) (below : List machine.Frame)
+    → w.asks ≡ Some (record {
+      poster = h;
+      target = record { handler = m.count; number = 1; class = class };
+      errand = Makes procedure;
+      environment = f.environment;
+      takes = None;
+    })
     → G w → Going w m h machine.Runs f below → f.stage ≡ Runs → Leads w (creates_handler most h class procedure us t passing f below m)
-creates_leads G K most w m h class procedure us t passing f below good g runs =
-    if_leads w (nat_lt m.count most) _ _ (λ e. created_leads w m h class procedure us t passing f below g runs)
+creates_leads G K most w m h class procedure us t passing f below named good g runs =
+    if_leads w (nat_lt m.count most) _ _ (λ e. created_leads w m h class procedure us t passing f below named g runs)
     (λ e. going_fails w m h machine.Runs f below cause.TooManyHandlers (K.consistent w good) g)

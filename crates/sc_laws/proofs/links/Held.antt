@@ -58,7 +58,7 @@ not_true : {A : Type 0} → false ≡ true → A
 not_true e = cc
 
 going_on : (t : machine.Stage) (f : machine.Frame) (B : List Frame → Type 0) (gs : List Frame) → goes_on t ≡ true
-    → IsStaged t (AreBlocks (NamesOf t f) f.blocks (IsRoutine f (NeedsOf t f) B)) gs → GoingOn t f B gs
+    → IsStaged t f.environment (AreBlocks (NamesOf t f) f.blocks (IsRoutine f (NeedsOf t f) B)) gs → GoingOn t f B gs
 going_on Runs f B gs e is = record { quiet = is.0; parts = is.1 }
 going_on Reserves f B gs e is = not_true e
 going_on ReservesBlock f B gs e is = record { quiet = is.0; parts = is.1 }

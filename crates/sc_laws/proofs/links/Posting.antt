@@ -8,7 +8,7 @@ use Rattle.sc_lockpass.specs.Passing.{pass, passed_by}
 use Rattle.sc_laws.specs.World as world
 use Rattle.sc_laws.specs.World.{Grant, Wait, Request, Frame, Handler, World, holder, rights_of, has, pass_all, arrive, land, begin_wait, wait, waiting, post, ask, ask_passing, enter, pop}
 use Rattle.sc_laws.specs.Steps.{Holds, MayAsk, Posts, Asks, AsksPassing}
-use Rattle.sc_laws.specs.Stands.{NeedsOf, NamesOf, IsPoster, IsRequest, AreRequests, IsRoutine, AreBlocks, IsStaged, IsStack, IsHandler, IsNew, Stands}
+use Rattle.sc_laws.specs.Stands.{AsksFor, TakesAs, NeedsOf, NamesOf, IsPoster, IsRequest, AreRequests, IsRoutine, AreBlocks, IsStaged, IsStack, IsHandler, IsNew, Stands}
 use Rattle.sc_laws.proofs.links.Maps.{put-own, passing_rights}
 use Rattle.sc_laws.proofs.links.Lists.{one, put-off}
 use Rattle.sc_laws.proofs.links.Standing.{Put, put_stack, stands_put, stands_same}
@@ -96,31 +96,31 @@ not_true e = cc
 -- the asks of a handler whose stack is g ∷ gs: `n` is the machine's state as its frame waits
 pub asked_stands : (w : World) (m n : machine.World) (h k : ℕ) (c : Bool) (st : List machine.Frame) (q : machine.Request) (g : Frame)
     (gs : List Frame) → Stands w m → h < m.count → k < m.count → (w.handlers h).stack ≡ g ∷ gs
-    → Put h st m n → n.rights ≡ m.rights → has h (w.top k) ≡ c → q.poster ≡ Some h → q.is_waited ≡ true → q.passed ≡ None
-    → IsStack st (record g { waits = Some (record { number = w.next; target = k; passing = false }) } ∷ gs) → Stands (ask h k w) (send c k q n)
-asked_stands w m n h k c st q g gs s here there at p same back poster waited passed is =
+    → Put h st m n → n.rights ≡ m.rights → has h (w.top k) ≡ c → q.poster ≡ Some h → q.is_waited ≡ true → q.passed ≡ None → AsksFor w.asks q
+    → IsStack st (record g { waits = Some (record { number = w.next; target = k; passing = false; asked = w.asks }) } ∷ gs) → Stands (ask h k w) (send c k q n)
+asked_stands w m n h k c st q g gs s here there at p same back poster waited passed asks is =
     let r : Request = world.request h false w in
-    let v : Wait = record { number = w.next; target = k; passing = false } in
+    let v : Wait = record { number = w.next; target = k; passing = false; asked = w.asks } in
     let u = begin_wait h v w in
-    subst (λ b. Stands (land b k (world.request h false w) (begin_wait h (record { number = w.next; target = k; passing = false }) w)) (send c k q n))
+    subst (λ b. Stands (land b k (world.request h false w) (begin_wait h (record { number = w.next; target = k; passing = false; asked = w.asks }) w)) (send c k q n))
     (sym back)
     (arrives_stands c k (world.request h false w) q u n (begins_stands w m n h st v g gs s here at p same is)
     (let e = p.count in omega (arith, e, there))
-    (record { poster = subst (IsPoster r) (sym poster) refl; waited = sym waited; passed = sym passed; plain = λ e. not_true e }))
+    (record { poster = subst (IsPoster r) (sym poster) refl; waited = sym waited; passed = sym passed; plain = λ e. not_true e; asked = λ e. asks }))
 
 pub asked_passing_stands : (w : World) (m n : machine.World) (h k : ℕ) (c : Bool) (st : List machine.Frame) (q : machine.Request) (g : Frame)
     (gs : List Frame) → Stands w m → h < m.count → k < m.count → (w.handlers h).stack ≡ g ∷ gs
-    → Put h st m n → n.rights ≡ m.rights → has h (w.top k) ≡ c → q.poster ≡ Some h → q.is_waited ≡ true → q.passed ≡ Some (passed_by h m.rights)
-    → IsStack st (record g { waits = Some (record { number = w.next; target = k; passing = true }) } ∷ gs)
+    → Put h st m n → n.rights ≡ m.rights → has h (w.top k) ≡ c → q.poster ≡ Some h → q.is_waited ≡ true → q.passed ≡ Some (passed_by h m.rights) → AsksFor w.asks q
+    → IsStack st (record g { waits = Some (record { number = w.next; target = k; passing = true; asked = w.asks }) } ∷ gs)
     → Stands (ask_passing h k w) (asking.passes true h k (send c k q n))
-asked_passing_stands w m n h k c st q g gs s here there at p same back poster waited passed is =
+asked_passing_stands w m n h k c st q g gs s here there at p same back poster waited passed asks is =
     let r : Request = world.request h true w in
-    let v : Wait = record { number = w.next; target = k; passing = true } in
+    let v : Wait = record { number = w.next; target = k; passing = true; asked = w.asks } in
     let e : Grant = record { holder = k; number = w.next } in
     let o : machine.World = record n { rights = pass h k n.rights } in
     let begun : Stands (begin_wait h v w) n = begins_stands w m n h st v g gs s here at p same is in
     subst (λ b. Stands (land b k (world.request h true w)
-    (pass_all h (record { holder = k; number = w.next }) (begin_wait h (record { number = w.next; target = k; passing = true }) w)))
+    (pass_all h (record { holder = k; number = w.next }) (begin_wait h (record { number = w.next; target = k; passing = true; asked = w.asks }) w)))
     (asking.passes true h k (send c k q n))) (sym back)
     (arrives_stands c k (world.request h true w) q (pass_all h e (begin_wait h v w)) o
     (passed_stands h e (begin_wait h v w) n begun (let i = p.count in omega (arith, i, here))) (let i = p.count in omega (arith, i, there))
@@ -130,6 +130,7 @@ asked_passing_stands w m n h k c st q g gs s here there at p same back poster wa
       passed = ap (λ i. Some (passed_by h i)) s.rights
           ∙ sym passed;
       plain = λ i. not_true i;
+      asked = λ i. asks;
     }))
 
 -- ---- the frame that waits
@@ -191,9 +192,10 @@ held_exists h k w m s holds = by (nat_lt k m.count) refl
 
 pub asks_leads : (w : World) (m : machine.World) (h : ℕ) (f : machine.Frame) (below : List machine.Frame) (r : Reference) (x : List ℕ)
     (us : List Operand) (gives : Option EntityType) (passing : Bool)
+    → w.asks ≡ Some (record { poster = h; target = r; errand = Calls x; environment = f.environment; takes = gives })
     → Going w m h machine.Runs f below → f.stage ≡ Runs → r.handler ≢ h → Holds w h r.handler → (w.handlers r.handler).failed ≡ false
     → Leads w (asks h r x us gives passing (passing || is_some gives || is_callback h r.handler m) f below m)
-asks_leads w m h f below r x us gives passing g runs ne holds lives = by passing (is_some gives) (is_callback h r.handler m) refl
+asks_leads w m h f below r x us gives passing named g runs ne holds lives = by passing (is_some gives) (is_callback h r.handler m) refl
   where
     there : r.handler < m.count
     there = held_exists h r.handler w m g.stands holds
@@ -214,10 +216,18 @@ asks_leads w m h f below r x us gives passing g runs ne holds lives = by passing
     back : has h (w.top r.handler) ≡ is_callback h r.handler m
     back = ap (λ (i : Rights). is_handler h (i.top r.handler)) g.stands.rights
 
-    waiting : (v : Wait) → v.target ≡ r.handler → (p : HasParts (w.handlers h).stack)
+    asks_for : (c : Bool) → AsksFor w.asks (request_by h r (Calls x) us true c m)
+    asks_for c = subst (λ o. AsksFor o (request_by h r (Calls x) us true c m)) (sym named) (refl, refl, refl)
+
+    waiting : (v : Wait) → v.target ≡ r.handler → v.asked ≡ w.asks → (p : HasParts (w.handlers h).stack)
         → IsStack (record f { stage = Awaits r.handler gives false } ∷ below) (record p.frame { waits = Some v } ∷ p.below)
-    waiting v to p = (
-      record { wait = v; waits = refl; target = to },
+    waiting v to same_asked p = (
+      record {
+        wait = v;
+        waits = refl;
+        target = to;
+        takes = subst (λ o. TakesAs o f.environment gives) (sym (same_asked ∙ named)) (refl, refl);
+      },
       waiting_parts (NamesOf machine.Runs f) f.blocks f (NeedsOf machine.Runs f) (IsStack below) p.frame p.below v
           (subst (AreBlocks (NamesOf machine.Runs f) f.blocks (IsRoutine f (NeedsOf machine.Runs f) (IsStack below))) p.is g.parts),
     )
@@ -233,7 +243,8 @@ asks_leads w m h f below r x us gives passing g runs ne holds lives = by passing
           steps = one w (ask h r.handler w) (Asks h r.handler may);
           stands = asked_stands w m (with_stack h st m) h r.handler c (record f { stage = Awaits r.handler gives false } ∷ below)
               (request_by h r (Calls x) us true false m) p.frame p.below g.stands g.here there p.is
-              (put_stack h st m) refl (back ∙ is) refl refl refl (waiting (record { number = w.next; target = r.handler; passing = false }) refl p);
+              (put_stack h st m) refl (back ∙ is) refl refl refl (asks_for false)
+              (waiting (record { number = w.next; target = r.handler; passing = false; asked = w.asks }) refl refl p);
         }
 
     asks_pass : (c : Bool) → is_callback h r.handler m ≡ c
@@ -247,7 +258,8 @@ asks_leads w m h f below r x us gives passing g runs ne holds lives = by passing
           steps = one w (ask_passing h r.handler w) (AsksPassing h r.handler may);
           stands = asked_passing_stands w m (with_stack h st m) h r.handler c (record f { stage = Awaits r.handler gives false } ∷ below)
               (request_by h r (Calls x) us true true m) p.frame p.below g.stands g.here there p.is
-              (put_stack h st m) refl (back ∙ is) refl refl refl (waiting (record { number = w.next; target = r.handler; passing = true }) refl p);
+              (put_stack h st m) refl (back ∙ is) refl refl refl (asks_for true)
+              (waiting (record { number = w.next; target = r.handler; passing = true; asked = w.asks }) refl refl p);
         }
 
     posts : Leads w (asking.passes false h r.handler (send false r.handler (request_by h r (Calls x) us false false m)
@@ -257,13 +269,13 @@ asks_leads w m h f below r x us gives passing g runs ne holds lives = by passing
         record {
           world = post h r.handler w;
           steps = one w (post h r.handler w) (Posts h r.handler (going_active w m h machine.Runs f below g) holds lives);
-          stands = renumbered (suc w.next) (land false r.handler (record { number = w.next; poster = h; waited = false; passed = None }) w) _
-              (arrives_stands false r.handler (record { number = w.next; poster = h; waited = false; passed = None })
+          stands = renumbered (suc w.next) (land false r.handler (record { number = w.next; poster = h; waited = false; passed = None; asked = w.asks }) w) _
+              (arrives_stands false r.handler (record { number = w.next; poster = h; waited = false; passed = None; asked = w.asks })
               (request_by h r (Calls x) us false false m) w (with_stack h st m)
               (stands_same h (f ∷ below) w m (with_stack h st m) g.stands g.here (put_stack h st m)
-              (subst (λ t. IsStaged t (AreBlocks (NamesOf t f) f.blocks (IsRoutine f (NeedsOf t f) (IsStack below))) (w.handlers h).stack) (sym runs)
+              (subst (λ t. IsStaged t f.environment (AreBlocks (NamesOf t f) f.blocks (IsRoutine f (NeedsOf t f) (IsStack below))) (w.handlers h).stack) (sym runs)
               (g.quiet, g.parts)) refl)
-              there (record { poster = refl; waited = refl; passed = refl; plain = λ e. refl }));
+              there (record { poster = refl; waited = refl; passed = refl; plain = λ e. refl; asked = λ e. not_true (sym e) }));
         }
 
     by : (p b c : Bool) → is_callback h r.handler m ≡ c
@@ -276,14 +288,15 @@ asks_leads w m h f below r x us gives passing g runs ne holds lives = by passing
 
 pub request_leads : (G : World → Type 0) (K : Keeps G) (w : World) (m : machine.World) (h : ℕ) (f : machine.Frame) (below : List machine.Frame)
     (r : Reference) (x : List ℕ) (us : List Operand) (gives : Option EntityType) (passing : Bool)
+    → w.asks ≡ Some (record { poster = h; target = r; errand = Calls x; environment = f.environment; takes = gives })
     → G w → Going w m h machine.Runs f below → f.stage ≡ Runs → r.handler ≢ h → Leads w (request h r x us gives passing f below m)
-request_leads G K w m h f below r x us gives passing good g runs ne =
+request_leads G K w m h f below r x us gives passing named good g runs ne =
     let fails = λ (why : Cause). going_fails w m h machine.Runs f below why (K.consistent w good) g in
     if_leads w (not (held m.rights h r.handler)) _ _ (λ e. fails cause.NotHeld)
     (λ e. if_leads w (is_some (m.handlers r.handler).failure) _ _ (λ e'. fails cause.SupplierFailed)
     (λ e'. if_leads w (not (is_callback h r.handler m) && not (nat_lt (length (m.handlers r.handler).queue) max_queue)) _ _
     (λ e''. fails cause.QueueFull)
-    (λ e''. asks_leads w m h f below r x us gives passing g runs ne
+    (λ e''. asks_leads w m h f below r x us gives passing named g runs ne
     (held_right h r.handler w m g.stands.rights ne (not_not (held m.rights h r.handler) e)) ((g.stands.handlers r.handler).failed ∙ e'))))
   where
     not_not : (b : Bool) → not b ≡ false → b ≡ true

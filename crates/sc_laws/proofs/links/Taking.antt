@@ -121,7 +121,7 @@ took_enters v n h q below me r bs t at =
     (record { origin = Some t.request; reserved = []; needs = []; waits = None } ∷ t.below) (pop h v) v n (with_stack h st n) t.popped t.here
     (record { own = mine; others = λ k ne. sym (away.others k ne); top = λ k. refl })
     (put_stack h st n)
-    (entered_stage (separate_formals bs) (IsRoutine (entry me r (machine.Requested q) bs)
+    (entered_stage (separate_formals bs) (entry me r (machine.Requested q) bs).environment (IsRoutine (entry me r (machine.Requested q) bs)
     (NeedsOf (stage_with (separate_formals bs)) (entry me r (machine.Requested q) bs)) (IsStack below))
     (record { origin = Some t.request; reserved = []; needs = []; waits = None } ∷ t.below) refl
     (t.is, refl, under, fresh_needs me r (machine.Requested q) bs))
