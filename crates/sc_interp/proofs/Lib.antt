@@ -7,3 +7,5 @@ pub mod Tests
 pub mod Valued
 pub mod Playing
 pub mod Assigning
+pub mod Targeting
+pub mod Serving

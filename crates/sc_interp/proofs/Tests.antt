@@ -12,7 +12,7 @@ use Rattle.sc_region.specs.declared.value.Value.TheVariants.{Boolean}
 use Rattle.sc_region.specs.declared.value.Reference as reference
 use Rattle.sc_region.specs.Frames.{PlainActivation}
 use Rattle.sc_interp.specs.declared.act.Hop as outcome
-use Rattle.sc_interp.specs.Serving.{Serves}
+use Rattle.sc_interp.specs.Serving.{TellsConformance}
 use Rattle.sc_interp.specs.Values.{value_of, values_of, reference_of}
 use Rattle.sc_interp.specs.Standing.{state_of, hopped, Passes, Tested}
 
@@ -32,7 +32,7 @@ bind_by count slot v is b r a d e next p s me c objects fits =
 -- the value that is tested is popped
 pub test_popped : (p : Image) (me : reference.Reference) (count : ℕ) (t : test.ObjectTest) (v : code.Value) (is : Bool) (h : outcome.Hop) (a b d : PlainActivation)
     → a.operands.values ≡ v ∷ b.operands.values → b ≡ record a { operands = record a.operands { values = b.operands.values } }
-    → ((s : System) → Serves s p → is ≡ is_tested s me.handler (values_of b.slots) (value_of v) (option_map tested_of t.tested))
+    → ((s : System) → TellsConformance s p → is ≡ is_tested s me.handler (values_of b.slots) (value_of v) (option_map tested_of t.tested))
     → Passes count (λ c f. binds_if is c t.slot (value_of v) f) h b d → Tested p me count t h a d
 test_popped p me count t v is h a b d e same tested next s c objects serves fits =
     ap (λ vs. hop_popped s c (reference_of me) (test_of t) (values_of vs) (record (state_of objects a) { values = values_of vs })) e

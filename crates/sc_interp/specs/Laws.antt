@@ -1,9 +1,19 @@
--- What holds of silent operations.
+-- What holds of silent operations, and of the tables of programs.
 use Rattle.std.specs.Prelude.{◌≡◌, ◌<◌, ◌-◌, length}
 use Rattle.sc_tree.specs.Plain.{System}
+use Rattle.sc_class.specs.ClassNames.{Root}
+use Rattle.sc_class.specs.Faults.ClassRules.{IsFaultless}
+use Rattle.sc_rules.specs.Laws.{AllDeclared}
 use Rattle.sc_model.specs.Values.{Reference}
+use Rattle.sc_lower.specs.declared.program.Image.{Image}
+use Rattle.sc_lower.specs.Programs.{IsProgramOf}
 use Rattle.sc_lower.specs.Machine.{Code, State, Goes, hop}
+use Rattle.sc_interp.specs.Serving.{Serves}
 
 -- A silent operation goes ahead: less of the code lies behind its place than before.
 abbrev pub SilentOperationsFall : Type 0
 SilentOperationsFall = (s : System) (c : Code) (me : Reference) (f g : State) → hop s c me f ≡ Goes g → length c.operations - g.place < length c.operations - f.place
+
+-- The tables of a program serve its system, where that has no fault and its types are declared without fault.
+abbrev pub ProgramsServe : Type 0
+ProgramsServe = (s : System) (root : Root) (p : Image) → IsFaultless s root → AllDeclared s → IsProgramOf s root p → Serves s p

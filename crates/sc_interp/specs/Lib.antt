@@ -3,4 +3,5 @@ pub mod Serving
 pub mod Standing
 pub mod Objects
 pub mod Playing
+pub mod Features
 pub mod Laws

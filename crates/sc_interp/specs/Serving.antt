@@ -39,9 +39,13 @@ abbrev pub is_routine : FeatureKind → Bool
 is_routine (tree.Attribute d) = false
 is_routine (tree.Routine r) = true
 
--- Which classes conform to each other, which attribute of a class has a name, and whether its feature of that name is a routine, is read from the tables.
+-- Which classes conform to each other is read from the tables.
+abbrev pub TellsConformance : System → Image → Type 0
+TellsConformance s p = (k j : ℕ) → conforms_in p k j ≡ class_conforms s (class.Declared k) (class.Declared j)
+
+-- The same, which attribute of a class has a name, and whether its feature of that name is a routine.
 pub record Serves (s : System) (p : Image) : Type 0 where
-  pub conforms : (k j : ℕ) → conforms_in p k j ≡ class_conforms s (class.Declared k) (class.Declared j)
+  pub conforms : TellsConformance s p
   pub attributes : (k x : ℕ) (name : List ℕ) → slice_get (pool_of p.pool).names x ≡ Some name → attribute_in (version_in p k x) ≡ attribute_number name (fresh_attributes s (features s k))
   pub routines : (k x : ℕ) (name : List ℕ) → slice_get (pool_of p.pool).names x ≡ Some name →
       is_routine_in (version_in p k x) ≡ option_map (λ (f : DeclaredFeature). is_routine f.feature.kind) (version_of s k name)

@@ -58,7 +58,7 @@ fn creation_at(program: &Program, number: usize) -> Option<CreationSite>
 }
 
 /// Whether there is room for what comes where the last so many operands are gone, if anything comes.
-fn has_room(activation: &Activation, count: usize, gives: bool) -> bool
+pub fn has_room(activation: &Activation, count: usize, gives: bool) -> bool
     ensures { let operands = (activation_of activation.now).operands in
         result ≡ (not gives || nat_lt (length (drop count operands.values)) operands.depth) }
 {

@@ -11,7 +11,7 @@ ghost use Rattle.sc_lower.specs.Machine as flat;
 ghost use Rattle.sc_lower.specs.Programs.{pool_of};
 ghost use Rattle.sc_lower.specs.View.{residence_of, tested_of};
 ghost use Rattle.sc_region.specs.Frames.{activation_of};
-ghost use Rattle.sc_interp.specs.Serving.{Serves, conforms_in};
+ghost use Rattle.sc_interp.specs.Serving.{TellsConformance, conforms_in};
 ghost use Rattle.sc_interp.specs.Standing.{Follows, Passes, Stays, Tested};
 ghost use Rattle.sc_interp.specs.Values.{value_of, values_of};
 
@@ -40,7 +40,7 @@ fn conforms(program: &Program, class: usize, other: usize) -> bool
 
 /// Whether the declared class of the number conforms to this class.
 fn is_of_class(program: &Program, class: usize, other: ClassId) -> bool
-    ensures { (s : System) → Serves s program.now.image → result ≡ class_conforms s (class_id.Declared class) other }
+    ensures { (s : System) → TellsConformance s program.now.image → result ≡ class_conforms s (class_id.Declared class) other }
 {
     match other {
         ClassId::Declared(number) => conforms(program, class, number),
@@ -74,7 +74,7 @@ fn resides(residence: Residence, me: u16, slots: &[Value], handler: u16) -> bool
 
 /// Whether a value is of the type that is asked for.
 fn is_of_type(program: &Program, me: u16, slots: &[Value], value: Value, tested: TestedType) -> bool
-    ensures { (s : System) → Serves s program.now.image → result ≡ flat.is_of_type s me (values_of slots.now) (value_of value) (tested_of tested) }
+    ensures { (s : System) → TellsConformance s program.now.image → result ≡ flat.is_of_type s me (values_of slots.now) (value_of value) (tested_of tested) }
 {
     match value {
         Value::Integer(_) => matches!(tested.class, ClassId::Integer),
@@ -95,7 +95,7 @@ fn is_tested(
     value: Value,
     tested: Option<TestedType>,
 ) -> bool
-    ensures { (s : System) → Serves s program.now.image → result ≡ flat.is_tested s me (values_of slots.now) (value_of value) (option_map tested_of tested) }
+    ensures { (s : System) → TellsConformance s program.now.image → result ≡ flat.is_tested s me (values_of slots.now) (value_of value) (option_map tested_of tested) }
 {
     match tested {
         None => !matches!(value, Value::Void),

@@ -7,7 +7,6 @@ use Rattle.sc_region.specs.Frames.{PlainActivation, activation_of, top_activatio
 use Rattle.sc_region.specs.Lending.{with_top}
 use Rattle.sc_region.specs.Stores.{PlainStore}
 use Rattle.sc_interp.specs.Playing.{Plays, Remains, written_if}
-use Rattle.sc_interp.specs.Standing.{listed}
 use Rattle.sc_interp.proofs.Assigning.{assigns, remains_written}
 use Rattle.sc_interp.proofs.attributes.assign.Goals as goal
 

@@ -1,0 +1,17 @@
+use Rattle.std.proofs.Common.{◌+◌, ap, ◌∙◌}
+use Rattle.sc_model.specs.declared.cause.Cause.TheVariants as cause
+use Rattle.sc_lower.specs.Programs.{pool_of}
+use Rattle.sc_region.specs.Frames.{activation_of}
+use Rattle.sc_interp.specs.Features.{calls_found}
+use Rattle.sc_interp.specs.Standing.{actuals, call_in, state_of, without}
+use Rattle.sc_interp.specs.Values.{reference_of}
+use Rattle.sc_interp.proofs.Targeting.{refused}
+use Rattle.sc_interp.proofs.features.call_found.Goals as goal
+
+pub returns-in-None-clause-calls : goal.returns-in-None-clause-calls
+returns-in-None-clause-calls c = λ p s me code objects fits.
+    let a = activation_of c.args.activation.now in
+    let site = c.args.site in
+    let n = site.count + 1 in
+    ap (λ o. calls_found code (reference_of c.args.object) (call_in (pool_of p.pool) site) (actuals site.count (state_of objects a).values) o (without n (state_of objects a))) c.in-None.is
+    ∙ refused p s code me objects n cause.BadCode c.refuse.result a (activation_of c.refuse.new.activation) c.refuse.ensures.gone c.refuse.ensures.failed

@@ -1,0 +1,19 @@
+use Rattle.std.proofs.Common.{◌+◌}
+use Rattle.std.specs.Option.{option_map}
+use Rattle.sc_model.specs.declared.cause.Cause.TheVariants as cause
+use Rattle.sc_region.specs.Frames.{activation_of}
+use Rattle.sc_interp.specs.Values.{value_of}
+use Rattle.sc_interp.proofs.Targeting.{reads_none, reads_some, refused}
+use Rattle.sc_interp.proofs.features.read_on.Goals as goal
+
+pub returns-in-None-clause-calls : goal.returns-in-None-clause-calls
+returns-in-None-clause-calls c =
+    let a = activation_of c.args.activation.now in
+    let b = activation_of c.refuse.new.activation in
+    reads_none c.args.count c.args.site (option_map value_of c.args.value) c.refuse.result a b c.in-None.is
+    (λ p s k me objects. refused p s k me objects (c.args.site.count + 1) cause.BadCode c.refuse.result a b c.refuse.ensures.gone c.refuse.ensures.failed)
+
+pub returns-in-Some-clause-calls : goal.returns-in-Some-clause-calls
+returns-in-Some-clause-calls c =
+    reads_some c.args.count c.args.site c.in-Some.is_attached (option_map value_of c.args.value) c.read_in_place.result (activation_of c.args.activation.now)
+    (activation_of c.read_in_place.new.activation) c.in-Some.is c.read_in_place.ensures.calls

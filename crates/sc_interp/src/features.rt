@@ -1,0 +1,257 @@
+//! Calls with a target.
+ghost use Rattle.std.specs.Prelude.{◌≡◌, ℕ, ◌<◌, ◌+◌, ◌||◌, Some, drop, is_some, length, nat_lt, not, slice_get};
+ghost use Rattle.std.specs.Option.{option_map, option_and_then};
+ghost use Rattle.sc_model.specs.Steps as steps;
+ghost use Rattle.sc_lower.specs.Machine as flat;
+ghost use Rattle.sc_lower.specs.declared.operation.Operation.TheVariants as coded;
+ghost use Rattle.sc_lower.specs.Programs.{pool_of};
+ghost use Rattle.sc_region.specs.Frames.{PlainActivation, activation_of, top_activation};
+ghost use Rattle.sc_interp.specs.Features.{Calls, IsFeature, IsFeatureAt, IsSite, IsUnder, calls_found, calls_seen, reads};
+ghost use Rattle.sc_interp.specs.Playing.{Plays, Remains};
+ghost use Rattle.sc_interp.specs.Standing.{Stays, listed};
+ghost use Rattle.sc_interp.specs.Values.{reference_of, value_of};
+
+use crate::act::{Act, Calling, Hop};
+use crate::attributes::{attribute_value, is_name, value_under, version_in};
+use crate::calling::has_room;
+use crate::evaluation::read;
+use crate::passing::replace;
+use sc_lower::{CallSite, Version};
+use sc_model::Cause;
+use sc_region::{Activation, Reference, Store, Value};
+
+/// What a feature of an object is.
+#[derive(Clone, Copy, Debug, PartialEq, Eq)]
+pub enum Feature {
+    /// An attribute, with its value, where the object has one.
+    Attribute(Option<Value>),
+    Routine,
+}
+
+/// What the feature of this name of an object of this handler is, if there are both.
+pub fn feature_of(store: &Store<'_>, object: Reference, name: usize) -> Option<Feature>
+    ensures { IsFeature store.now object name result }
+{
+    match store.class_of(object.number) {
+        None => None,
+        Some(_) => match version_in(store.program(), object.class, name) {
+            None => None,
+            Some(Version::Routine(_)) => Some(Feature::Routine),
+            Some(Version::Attribute(_)) => Some(Feature::Attribute(attribute_value(
+                store,
+                object.number,
+                name,
+            ))),
+        },
+    }
+}
+
+/// How many operands a call takes, with its target.
+fn past(activation: &Activation, site: CallSite) -> usize
+    requires { site.count < length (activation_of activation.now).operands.values }
+    ensures { result ≡ site.count + 1 }
+{
+    if site.count < activation.operands.len() {
+        site.count + 1
+    } else {
+        unreachable!()
+    }
+}
+
+/// The handler fails, where the operands of the call are gone.
+fn refuse(activation: &mut Activation, site: CallSite, why: Cause) -> Hop
+    requires { site.count < length (activation_of activation.old).operands.values }
+    ensures gone { activation_of activation.new ≡ record (activation_of activation.old) {
+      operands = record (activation_of activation.old).operands { values = drop (site.count + 1) (activation_of activation.old).operands.values };
+    } }
+    ensures failed { result ≡ Hop.Failed why }
+{
+    let number = past(activation, site);
+    activation.operands.drop_last(number);
+    Hop::Failed(why)
+}
+
+/// Whether there is room for what comes where the operands of the call are gone, if anything comes.
+fn has_room_past(activation: &Activation, site: CallSite, gives: bool) -> bool
+    requires { site.count < length (activation_of activation.now).operands.values }
+    ensures { let operands = (activation_of activation.now).operands in
+        result ≡ (not gives || nat_lt (length (drop (site.count + 1) operands.values)) operands.depth) }
+{
+    has_room(activation, past(activation, site), gives)
+}
+
+/// The value of an attribute comes in the place of the call's operands: F7 where it is still Void and may not be.
+fn read_in_place(
+    activation: &mut Activation,
+    count: usize,
+    site: CallSite,
+    is_attached: bool,
+    value: Option<Value>,
+) -> Hop
+    requires { site.count < length (activation_of activation.old).operands.values }
+    ensures calls { Calls count site (λ c k us f. flat.replaces c (flat.read is_attached (option_map value_of value)) f) result (activation_of activation.old) (activation_of activation.new) }
+    ensures stays { Stays (activation_of activation.old) (activation_of activation.new) }
+{
+    activation.operands.drop_last(site.count);
+    match activation.operands.pop() {
+        Some(_target) => replace(activation, count, read(is_attached, value)),
+        None => Hop::Failed(Cause::BadCode),
+    }
+}
+
+/// An attribute of the target is read.
+fn read_on(activation: &mut Activation, count: usize, site: CallSite, value: Option<Value>) -> Hop
+    requires { site.count < length (activation_of activation.old).operands.values }
+    ensures calls { Calls count site (λ c k us f. reads c k.gives (option_map value_of value) f) result (activation_of activation.old) (activation_of activation.new) }
+    ensures stays { Stays (activation_of activation.old) (activation_of activation.new) }
+{
+    match site.gives {
+        None => refuse(activation, site, Cause::BadCode),
+        Some(is_attached) => read_in_place(activation, count, site, is_attached, value),
+    }
+}
+
+/// A routine of the target is entered.
+fn enter_on(activation: &mut Activation, object: Reference, site: CallSite) -> Hop
+    requires { site.count < length (activation_of activation.old).operands.values }
+    ensures calls { (count : ℕ) → Calls count site (λ c k us f. flat.awaits c (is_some k.gives) (flat.Enters steps.Qualified (reference_of object) k.name us (is_some k.gives)) f)
+        result (activation_of activation.old) (activation_of activation.new) }
+    ensures stays { Stays (activation_of activation.old) (activation_of activation.new) }
+{
+    let gives = site.gives.is_some();
+    if !has_room_past(activation, site, gives) {
+        return refuse(activation, site, Cause::BadCode);
+    }
+    Hop::Comes(Act::Enter {
+        calling: Calling::Qualified,
+        object,
+        name: site.name,
+        count: site.count,
+        gives,
+    })
+}
+
+/// A feature of an object of another handler is asked for.
+fn request_on(activation: &mut Activation, object: Reference, site: CallSite) -> Hop
+    requires { site.count < length (activation_of activation.old).operands.values }
+    ensures calls { (count : ℕ) → Calls count site (λ c k us f. flat.requests c (reference_of object) k us f) result (activation_of activation.old) (activation_of activation.new) }
+    ensures stays { Stays (activation_of activation.old) (activation_of activation.new) }
+{
+    if site.is_own {
+        return refuse(activation, site, Cause::ForeignObject);
+    }
+    let gives = site.gives.is_some();
+    if !has_room_past(activation, site, gives) {
+        return refuse(activation, site, Cause::BadCode);
+    }
+    Hop::Comes(Act::Request {
+        object,
+        name: site.name,
+        count: site.count,
+        gives,
+        passes: site.passes,
+    })
+}
+
+/// The feature of the target, which is of this handler, is called.
+fn call_found(
+    activation: &mut Activation,
+    count: usize,
+    object: Reference,
+    site: CallSite,
+    found: Option<Feature>,
+) -> Hop
+    requires { site.count < length (activation_of activation.old).operands.values }
+    ensures calls { Calls count site (λ c k us f. calls_found c (reference_of object) k us found f) result (activation_of activation.old) (activation_of activation.new) }
+    ensures stays { Stays (activation_of activation.old) (activation_of activation.new) }
+{
+    match found {
+        None => refuse(activation, site, Cause::BadCode),
+        Some(Feature::Attribute(value)) => read_on(activation, count, site, value),
+        Some(Feature::Routine) => enter_on(activation, object, site),
+    }
+}
+
+/// The target, whose object has this feature, is called from the object `me`.
+fn call_on(
+    activation: &mut Activation,
+    me: Reference,
+    count: usize,
+    target: Value,
+    site: CallSite,
+    found: Option<Feature>,
+) -> Hop
+    requires { site.count < length (activation_of activation.old).operands.values }
+    ensures calls { Calls count site (λ c k us f. calls_seen c (reference_of me) k (value_of target) us found f) result (activation_of activation.old) (activation_of activation.new) }
+    ensures stays { Stays (activation_of activation.old) (activation_of activation.new) }
+{
+    match target {
+        Value::Attached(object) => {
+            if object.handler == me.handler {
+                call_found(activation, count, object, site, found)
+            } else {
+                request_on(activation, object, site)
+            }
+        }
+        Value::Void => refuse(activation, site, Cause::VoidTarget),
+        Value::Integer(_) => refuse(activation, site, Cause::BadCode),
+        Value::Boolean(_) => refuse(activation, site, Cause::BadCode),
+    }
+}
+
+/// What the feature of this name of the target is, where that is an object.
+fn feature_at(store: &Store<'_>, target: Value, name: usize) -> Option<Feature>
+    ensures { IsFeatureAt store.now target name result }
+{
+    match target {
+        Value::Attached(object) => feature_of(store, object, name),
+        Value::Integer(_) | Value::Boolean(_) | Value::Void => None,
+    }
+}
+
+/// The call's site of the number, where it and its name are there.
+fn site_at(store: &Store<'_>, number: usize) -> Option<CallSite>
+    ensures { IsSite store.now number result }
+{
+    let site = *store.program().pool().calls.get(number)?;
+    if is_name(store, site.name) {
+        Some(site)
+    } else {
+        None
+    }
+}
+
+/// The call is made on the target, which lies under its actuals.
+fn call_target(
+    store: &mut Store<'_>,
+    me: Reference,
+    count: usize,
+    number: usize,
+    site: CallSite,
+    target: Value,
+) -> Hop
+    requires site { IsSite store.old number (Some site) }
+    requires target { IsUnder store.old site.count target }
+    ensures plays { Plays me count (coded.CallFeature number) result store.old store.new }
+    ensures remains { Remains store.old store.new }
+{
+    let found = feature_at(store, target, site.name);
+    match store.top_mut() {
+        Some(activation) => call_on(activation, me, count, target, site, found),
+        None => Hop::Failed(Cause::BadCode),
+    }
+}
+
+/// A feature of a target is called from the object `me`, by the number of the call's site.
+pub fn call_feature(store: &mut Store<'_>, me: Reference, count: usize, number: usize) -> Hop
+    ensures plays { Plays me count (coded.CallFeature number) result store.old store.new }
+    ensures remains { Remains store.old store.new }
+{
+    match site_at(store, number) {
+        None => Hop::Failed(Cause::BadCode),
+        Some(site) => match value_under(store, site.count) {
+            Some(target) => call_target(store, me, count, number, site, target),
+            None => Hop::Failed(Cause::BadCode),
+        },
+    }
+}
