@@ -11,7 +11,7 @@ use Rattle.sc_tree.specs.Plain.{System, Instrs}
 use Rattle.sc_tree.specs.View.{clause_of, declaration_of, expr_of, instrs_of, routine_of, tag_of, type_if_any}
 use Rattle.sc_rules.specs.declared.position.Context.TheVariants as context
 use Rattle.sc_rules.specs.Names.{RoutineName, RoutineContext, Entities, routine_context, formals_known, locals_known}
-use Rattle.sc_rules.specs.SystemRules.{is_formula, clause_span}
+use Rattle.sc_rules.specs.SystemRules.{may_be_formula, clause_span}
 use Rattle.sc_rules.specs.Judging.{Judged, ◌>>=◌, judge_each}
 use Rattle.sc_rules.specs.JudgingText.{judge_clause, judge_instrs}
 use Rattle.sc_rules.specs.JudgingSystem.{judge_declarations, judge_result_type, judge_feature, judge_invariant, judge_form}
@@ -101,7 +101,7 @@ module _ (s : System) (pure : RoutineName → Bool) (k : ℕ) (r : Routine) (h :
 
 -- a clause of an invariant passes as its form does
 module _ (s : System) (pure : RoutineName → Bool) (k : ℕ) (c : Clause) (b : Bool) (p : Span) (h : RoutineContext) (judged result : Result Unit CheckFault)
-    (bq : b ≡ is_formula s k (expr_of c.condition)) (pq : p ≡ clause_span (tag_of c.tag) (expr_of c.condition)) (hq : h ≡ routine_context s pure k [] None) where
+    (bq : b ≡ may_be_formula s k (expr_of c.condition)) (pq : p ≡ clause_span (tag_of c.tag) (expr_of c.condition)) (hq : h ≡ routine_context s pure k [] None) where
   abbrev clause : RoutineContext → Judged (Unit {0})
   clause h = judge_clause h context.Invariant [] (clause_of c)
 
@@ -110,6 +110,6 @@ module _ (s : System) (pure : RoutineName → Bool) (k : ℕ) (c : Clause) (b : 
   invariant_passes j f =
       passes_along (judge_invariant s pure k (clause_of c)) (judge_form b p (clause h)) result
       (sym (ap (λ b. judge_form b p (clause h)) bq
-      ∙ ap (λ p. judge_form (is_formula s k (expr_of c.condition)) p (clause h)) pq
-      ∙ ap (λ h. judge_form (is_formula s k (expr_of c.condition)) (clause_span (tag_of c.tag) (expr_of c.condition)) (clause h)) hq))
+      ∙ ap (λ p. judge_form (may_be_formula s k (expr_of c.condition)) p (clause h)) pq
+      ∙ ap (λ h. judge_form (may_be_formula s k (expr_of c.condition)) (clause_span (tag_of c.tag) (expr_of c.condition)) (clause h)) hq))
       (f (clause h) j)

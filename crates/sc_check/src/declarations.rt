@@ -13,7 +13,7 @@ ghost use Rattle.sc_class.specs.SystemIn.{system_in};
 ghost use Rattle.sc_typing.specs.Judges.{Passes};
 ghost use Rattle.sc_check.specs.Internal.Parts as parts;
 
-use crate::declarations::formulas::{clause_span, is_formula, judge_form};
+use crate::declarations::formulas::{clause_span, judge_form, may_be_formula};
 use crate::instructions::conditions::{judge_clause, judge_clauses};
 use crate::instructions::judge_instructions;
 use sc_class::{ClassId, Tables};
@@ -156,7 +156,7 @@ impl<'t, 's> ClassText<'t, 's> {
         ensures { Passes (judging_system.judge_invariant (system_in self.now.tables.now)
             (is_marked self.now.purity.now) self.now.class (clause_of clause.now)) result }
     {
-        let is_formula = is_formula(self.tables, self.class, &clause.condition);
+        let is_formula = may_be_formula(self.tables, self.class, &clause.condition);
         let routine = self.context(&[], &None);
         let judged = judge_clause(&routine, Context::Invariant, &[], clause);
         judge_form(is_formula, clause_span(clause), judged)

@@ -7,7 +7,7 @@ use crate::answer::{expect_answer, expect_answers};
 use std::test::Fail;
 
 /// Sources in which several rules fail, each behind the refusal of the one that the walk comes to first, at the mark.
-const FIRST_FAULTS: [&str; 79] = [
+const FIRST_FAULTS: [&str; 91] = [
     "V9 OperatorType|class A feature f do print (`1 + True) end end class B create g end",
     "V1 UnknownName|class A create `g feature f do print (1 + True) end invariant 1 end",
     "V7 ResultType|class A create f, `n, g feature f do m := 1 end n: Q end",
@@ -77,11 +77,23 @@ const FIRST_FAULTS: [&str; 79] = [
     "V20 VoidUse|class A feature d: A invariant t: `Void end",
     "V19 OldPlace|class A feature n: INTEGER invariant `old n = 1 end",
     "V8 NotBoolean|class A feature f: INTEGER do end invariant `f; m end",
+    "V1 UnknownName|class B inherit A invariant n = 1 end class A feature n: `Q end",
+    "|class B inherit A invariant n = 1 end class A feature n: INTEGER end",
+    "V1 UnknownName|class B inherit A invariant not n or n = Void end class A feature n: `Q end",
+    "|class B inherit A invariant n /= Void or n = Void end class A feature n: A end",
+    "V13 TagName|class B inherit A invariant n + 1 > 2 end class A feature n: `detachable INTEGER end",
+    "|class B inherit A invariant n + 1 > 2 end class A feature n: INTEGER end",
+    "V14 InvariantForm|class B inherit A invariant `n = f end class A feature n: Q f: INTEGER do end end",
+    "V14 InvariantForm|class B inherit A invariant `n.m = 1 end class A feature n: Q end",
+    "V14 InvariantForm|class B inherit A invariant `Void = n end class A feature n: Q end",
     "V17 NotExported|class A feature {NONE} n: INTEGER invariant Current.`n = 1 end",
     "V20 VoidUse|class A feature f do q.g (q) q := 1 q := q.h + 1 print (q) if q then end print (- `Void) end q: Q end",
     "V20 VoidUse|class A feature f do create q create q.g (1) separate q as r do r.g end if attached q as r then r.g end print (- `Void) end q: Q end",
     "V20 VoidUse|class A feature f do g (1) g (True) print (- `Void) end g (x: Q) do end end",
     "V20 VoidUse|class A feature f do print (g + 1) if g then end print (- `Void) end g: detachable INTEGER do end end",
+    "V1 UnknownName|class B inherit A feature f do if attached n as t and then 1 then end `m end end class A feature n: Q end",
+    "V9 OperatorType|class B inherit A feature f do if `attached n as t and then 1 then end m end end class A feature n: A end",
+    "|class B inherit A feature f do if attached n as t and then True then end end end class A feature n: A end",
     "V1 UnknownName|class A feature f (y: separate <x.handler> A; x: separate A) do f (y, `m) end end",
     "V1 UnknownName|class A feature f do q.g (`m) end q: Q end",
     "V15 ImpureContract|class A feature s: separate A n: INTEGER f require `g = 1 do end g: INTEGER do Result := s.n end end",

@@ -53,6 +53,8 @@ class A feature n: INTEGER f require `g do end g: BOOLEAN do Result := h.is_one 
 class A feature n: INTEGER f require g do end g: BOOLEAN do Result := h.is_one end is_one: BOOLEAN do end h: A do Result := Current end end
 class A feature n: INTEGER f require `g do end g: BOOLEAN do Result := not h end h: BOOLEAN do n := 1 end end
 class A feature n: INTEGER f require g do end g: BOOLEAN do Result := not h end h: BOOLEAN do Result := n = 1 end end
+class A feature n: INTEGER f require `g do end g: BOOLEAN do check h end end h: BOOLEAN do n := 1 end end
+class A feature n: INTEGER f require g do end g: BOOLEAN do check h end end h: BOOLEAN do Result := n = 1 end end
 class A feature n: INTEGER f require `g do end g: BOOLEAN do if attached h as x then end end h: A do n := 1 end end
 class A feature n: INTEGER f require g do end g: BOOLEAN do if attached h as x then end end h: A do Result := Current end end
 class A feature n: INTEGER f require `g do end g: BOOLEAN do Result := n = 1 and h end h: BOOLEAN do n := 1 end end

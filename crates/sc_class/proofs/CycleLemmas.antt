@@ -15,7 +15,7 @@ use Rattle.sc_class.specs.ClassNames.{class_names, number_in, number_of, is_buil
 use Rattle.sc_class.specs.Names.{number_among}
 use Rattle.sc_class.specs.Tables.Ancestors.{IsParent, names_parent, LeadsTo, itself, over, NameLeadsTo, IsCyclic, cyclic, CycleAt}
 use Rattle.sc_class.specs.Internal.Found.{Finds}
-use Rattle.sc_class.specs.Search.{rank_of, IsNumberOf, AreInOrder, FindsWayBack, IsSeen, IsTodo, left_over, Grows, IsSearch}
+use Rattle.sc_class.specs.Internal.Search.{rank_of, IsNumberOf, AreInOrder, FindsWayBack, IsSeen, IsTodo, left_over, Grows, IsSearch}
 use Rattle.sc_class.proofs.Anys.{any_none, any_left, any_right, any_parts, any_only, any_first}
 use Rattle.sc_class.proofs.Items.{some_is, item_in, items_more, items_all, contains_at, contained_at}
 use Rattle.sc_class.proofs.NameLemmas.{number_below}

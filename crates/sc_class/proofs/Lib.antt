@@ -18,6 +18,7 @@ pub mod LimitLemmas
 pub mod TableLemmas
 pub mod SizeLemmas
 pub mod Ancestry
+mod Reached
 pub mod Acyclic
 pub mod Standing
 pub mod Heirs

@@ -10,3 +10,4 @@ pub mod AncestorLists
 pub mod Systems
 pub mod NoFaults
 pub mod ScopeSearch
+pub mod Search

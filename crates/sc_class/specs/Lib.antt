@@ -4,5 +4,4 @@ pub mod View
 pub mod SystemIn
 pub mod Tables
 pub mod Faults
-pub mod Search
 pub mod Internal

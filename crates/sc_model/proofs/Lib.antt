@@ -7,3 +7,4 @@ pub mod Fewer
 pub mod Silent
 pub mod Follows
 pub mod Outputs
+pub mod InvariantFormulas

@@ -1,4 +1,4 @@
--- Instructions (ECMA-367, 8.17, 8.20, 8.22, 8.24 and 8.25) and the clauses of contracts (8.9).
+-- Instructions (ECMA-367, 8.17, 8.20 and 8.22 to 8.24) and the clauses of contracts (8.9).
 use Rattle.std.specs.Prelude.{ℕ, Bool, true, false, List, [], ◌∷◌, ◌++◌, Option, Some, None, codes, length, map}
 use Rattle.std.specs.Fmt.{signed_decimal}
 use Rattle.sc_tree.specs.Plain as tree

@@ -1,6 +1,13 @@
 -- What holds of every system and every run.
-use Rattle.std.specs.Prelude.{ℕ, ◌≡◌, ◌<◌, ◌≤◌, false, List, ◌++◌, Some}
+use Rattle.std.specs.Prelude.{ℕ, ◌≡◌, ◌<◌, ◌≤◌, Bool, false, List, ◌++◌, Some}
 use Rattle.sc_tree.specs.Plain.{System}
+use Rattle.sc_class.specs.ClassNames.{Root}
+use Rattle.sc_class.specs.Faults.ClassRules.{IsFaultless}
+use Rattle.sc_rules.specs.Names.{RoutineName}
+use Rattle.sc_rules.specs.Purity.{IsPurity}
+use Rattle.sc_rules.specs.SystemRules.{WellFormed}
+use Rattle.sc_formula.specs.Formula.{PlainFormula}
+use Rattle.sc_model.specs.Invariants.{formulas_of}
 use Rattle.sc_model.specs.declared.cause.Cause.{Cause}
 use Rattle.sc_model.specs.Values.{Reference}
 use Rattle.sc_model.specs.Steps.{Point, Step, Goes, Does}
@@ -49,3 +56,9 @@ abbrev pub FailedHandlersStay : Type 0
 FailedHandlersStay =
     (most : ℕ) (s : System) (h : ℕ) (w : World) (k : ℕ) (why : Cause) → k < w.count → (w.handlers k).failure ≡ Some why
     → record ((turn most s h w).handlers k) { sessions = (w.handlers k).sessions } ≡ w.handlers k
+
+-- In an accepted system the joined invariant of each class is a list of formulas over its attributes (ECMA-367, 8.9.16).
+abbrev pub InvariantsHaveFormulas : Type 0
+InvariantsHaveFormulas =
+    (s : System) (root : Root) (pure : RoutineName → Bool) → IsFaultless s root → WellFormed s → IsPurity s pure → (j : ℕ)
+    → (formulas : List PlainFormula) × (formulas_of s j ≡ Some formulas)

@@ -12,7 +12,7 @@ use Rattle.std.proofs.lemmas.List.Elements.{Contains-push, Contains-append_left,
 use Rattle.sc_tree.specs.Plain.{System}
 use Rattle.sc_tree.specs.View.{feature_of}
 use Rattle.sc_class.specs.Tables.Features.{DeclaredFeature}
-use Rattle.sc_class.specs.Search.{IsSeen, IsTodo, Grows}
+use Rattle.sc_class.specs.Internal.Search.{IsSeen, IsTodo, Grows}
 use Rattle.sc_class.specs.declared.class_tables.feature_entry.FeatureEntry.{FeatureEntry}
 use Rattle.sc_class.specs.View.{entry_of}
 use Rattle.sc_class.proofs.Anys.{any_none, any_only, any_parts, seen}

@@ -3,7 +3,7 @@ use Rattle.std.proofs.Common.{◌≡◌, ℕ, zero, suc, Bool, true, false, List
 use Rattle.std.specs.Prelude.{◌⊎◌, not, is_some, slice_get, unwrap_or}
 use Rattle.sc_tree.specs.Plain.{System}
 use Rattle.sc_class.specs.Tables.Features.{DeclaredFeature}
-use Rattle.sc_class.specs.Search.{IsSeen, IsTodo, Grows}
+use Rattle.sc_class.specs.Internal.Search.{IsSeen, IsTodo, Grows}
 use Rattle.sc_class.proofs.Anys.{any_left, any_right, any_parts, any_only, any_first, any_none}
 use Rattle.sc_rules.specs.Names.{RoutineName, routine_of}
 use Rattle.sc_rules.specs.Purity.{routine_named, is_pure_candidate_if_any, no_candidate, Impure, by_itself}

@@ -12,7 +12,7 @@ use Rattle.sc_class.specs.Tables.Ancestors.{ancestors}
 use Rattle.sc_class.specs.Tables.Conformance.{is_ancestor}
 use Rattle.sc_class.specs.Tables.ByClass.{ancestors_of}
 use Rattle.sc_class.specs.Tables.Features.{DeclaredFeature}
-use Rattle.sc_class.specs.Search.{IsSeen, Grows, left_over}
+use Rattle.sc_class.specs.Internal.Search.{IsSeen, Grows, left_over}
 use Rattle.sc_class.proofs.Anys.{any_none, any_first, any_later, any_split}
 use Rattle.sc_class.proofs.CycleLemmas.{grows_then}
 use Rattle.sc_class.proofs.Items.{some_is}

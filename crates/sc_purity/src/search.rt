@@ -2,7 +2,7 @@
 // them.
 
 ghost use Rattle.std.specs.Prelude.{◌≡◌, ◌<◌, ◌++◌, ℕ, [], ◌∷◌, OnOk, IfOk, length, if◌then◌else◌, ◌==◌};
-ghost use Rattle.sc_class.specs.Search.{IsSeen};
+ghost use Rattle.sc_class.specs.Internal.Search.{IsSeen};
 ghost use Rattle.sc_purity.specs.Internal.ImpureSearch.{MarksOf};
 ghost use Rattle.sc_purity.specs.Internal.Callers.{callers_in};
 

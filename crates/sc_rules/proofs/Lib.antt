@@ -24,6 +24,7 @@ pub mod Kept
 pub mod Results
 pub mod Versions
 pub mod TextsStand
+pub mod Formulas
 pub mod InvariantHeirs
 pub mod PureHeirs
 pub mod TextLaws

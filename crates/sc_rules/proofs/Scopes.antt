@@ -20,7 +20,7 @@ use Rattle.sc_proctype.specs.declared.entity_type.EntityType.{EntityType}
 use Rattle.sc_combine.specs.Combiners.{result_tag, combined_result}
 use Rattle.sc_rules.specs.declared.position.Context.{Context}
 use Rattle.sc_rules.specs.declared.position.Position.{Position}
-use Rattle.sc_rules.specs.Types.{is_nameable, number_of_named, declared_tag, is_marked, typed, declared_type, gives_if, unary_type, binary_type, unary_result, binary_result}
+use Rattle.sc_rules.specs.Types.{is_nameable, number_of_named, declared_tag, is_marked, typed, declared_type, gives_if, unary_type, binary_type, unary_result, binary_result, test_result}
 use Rattle.sc_rules.specs.Names.{RoutineContext, Entity, Entities, entity_named, Signature, print_signature, current, Meaning, unknown, target_untyped, named, given_type, signature_of_kind, meaning_of_feature, entity_or, meaning_of}
 use Rattle.sc_rules.specs.Typing.{Typing, HasType, number, truth, void, current_object, result, call, untyped_target_call, unary, binary, and_then, test, HasReceiver, implicit, explicit}
 use Rattle.sc_rules.specs.ScopeLaws.{is_nameable_if_any, names_known}
@@ -230,6 +230,10 @@ unary_scope b unary.Not (Some a) r e i = lifted b (unary_type unary.Not a) r (λ
 unary_scope b unary.Plus (Some a) r e i = lifted b (unary_type unary.Plus a) r (λ t j. own_if b _ _ t refl j) i
 unary_scope b unary.Minus (Some a) r e i = lifted b (unary_type unary.Minus a) r (λ t j. own_if b _ _ t refl j) i
 
+test_scope : (b : Scope) (o : Option EntityType) → type_in_scope b (test_result o) ≡ true
+test_scope b None = refl
+test_scope b (Some t) = refl
+
 made : (b : Scope) (op : BinaryOperator) (a c t : EntityType) → binary_type op a c ≡ Some t → in_scope b t.tag ≡ true
 made b binary.Times a c t j = own_if b _ _ t refl j
 made b binary.Quotient a c t j = own_if b _ _ t refl j
@@ -268,7 +272,7 @@ mutual
   has_scope b r i (unary {op} {t} {r = q} d o e) = unary_scope b op t.type q (has_scope b r i d) e
   has_scope b r i (binary {op} {t} {u} {r = q} j d e f) = binary_scope b op t.type u.type q f
   has_scope b r i (and_then {op} {t} {u} {r = q} j d g e f) = binary_scope b op t.type u.type q f
-  has_scope b r i (test d e) = refl
+  has_scope b r i (test {t} d e) = test_scope b t.type
 
   receiver_scope : {h : RoutineContext} {c : Context} {n : Entities} {a : Target} {t : Typing} (b : Scope) →
       HasScope b h → all_in_scope b n ≡ true → HasReceiver h c n a t → type_in_scope b t.type ≡ true

@@ -13,7 +13,7 @@ use Rattle.sc_class.specs.Tables.Conformance.{is_expanded, type_class}
 use Rattle.sc_class.specs.Tables.Features.{DeclaredFeature, feature_named}
 use Rattle.sc_proctype.specs.declared.tag.Tag.{Tag}
 use Rattle.sc_proctype.specs.declared.entity_type.EntityType.{EntityType}
-use Rattle.sc_proctype.specs.Conformance.{boolean, conforms}
+use Rattle.sc_proctype.specs.Conformance.{conforms}
 use Rattle.sc_proctype.specs.Conformance as conformance
 use Rattle.sc_combine.specs.Combiners.{known_of, combined_argument}
 use Rattle.sc_rules.specs.declared.rule.Rule.{Rule}
@@ -25,7 +25,7 @@ use Rattle.sc_rules.specs.declared.position.Position.TheVariants.{Plain, Conditi
 use Rattle.sc_rules.specs.declared.position.Use.{Use}
 use Rattle.sc_rules.specs.declared.position.Use.TheVariants.{Value, Instruction}
 use Rattle.sc_rules.specs.Types as declared
-use Rattle.sc_rules.specs.Types.{declared_tag, declared_type, is_marked, TypeFails, unknown_class, unknown_tag, marked, is_controlled, is_controlled_tag, unary_result, binary_result}
+use Rattle.sc_rules.specs.Types.{declared_tag, declared_type, is_marked, TypeFails, unknown_class, unknown_tag, marked, is_controlled, is_controlled_tag, unary_result, binary_result, test_result}
 use Rattle.sc_rules.specs.Positions.{span_of, is_old, is_and_then, is_require, is_ensure, is_condition, wants_pure, takes_void, operand_context, operand_position, shares_names}
 use Rattle.sc_rules.specs.declared.position.Role.TheVariants as role
 use Rattle.sc_rules.specs.Names.{RoutineName, RoutineContext, Entities, Entity, entity, test_type, FormalType, of_type, of_none, of_expanded, Signature, Meaning, unknown, target_untyped, named, current, print_signature, entity_or, entity_named, meaning_of_feature, meaning_of, is_qualified}
@@ -498,7 +498,7 @@ told_placed : (h : RoutineContext) (c : Context) (k : Position) (n : Entities) (
     (a : Expr) (x : Name) (t : Typing) →
     is_testable h d ≡ true →
     HasType h c Plain n a t → Told h c k n (ObjectTest s d a x)
-    (required (is_condition k) ObjectTestPlace s >>= λ u. Ok (typing (Some boolean) t.is_separate))
+    (required (is_condition k) ObjectTestPlace s >>= λ u. Ok (typing (test_result t.type) t.is_separate))
 told_placed h c position.Condition n s d a x t i e = gave (test i e)
 told_placed h c position.Plain n s d a x t i e = refuses (here (misplaced_test refl))
 told_placed h c position.Source n s d a x t i e = refuses (here (misplaced_test refl))
@@ -540,9 +540,9 @@ mutual
       (gave_more (up (right_part j)) (told h c (operand_position op) n b))
       (λ u e. operated_told p (t.is_separate || u.is_separate) (binary_result op t.type u.type) (λ i. here (operands j d e i)) (λ r i. binary j d e i))))
   told h c k n (ObjectTest p d a x) =
-      gave_then (λ u. judge h c Plain n a >>= λ t. required (is_condition k) ObjectTestPlace p >>= λ u. Ok (typing (Some boolean) t.is_separate))
+      gave_then (λ u. judge h c Plain n a >>= λ t. required (is_condition k) ObjectTestPlace p >>= λ u. Ok (typing (test_result t.type) t.is_separate))
       (gave_more (λ q s f. test_type_fails h c k n p d a x q s f) (told_tested h d))
-      (λ u i. gave_then (λ t. required (is_condition k) ObjectTestPlace p >>= λ u. Ok (typing (Some boolean) t.is_separate))
+      (λ u i. gave_then (λ t. required (is_condition k) ObjectTestPlace p >>= λ u. Ok (typing (test_result t.type) t.is_separate))
       (gave_more (up tested_part) (told h c Plain n a))
       (λ t e. told_placed h c k n p d a x t i e))
 

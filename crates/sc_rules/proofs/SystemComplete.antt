@@ -13,7 +13,7 @@ use Rattle.sc_rules.specs.declared.position.Context.TheVariants as context
 use Rattle.sc_rules.specs.Types.{TypeFails}
 use Rattle.sc_rules.specs.Names.{RoutineName, RoutineContext, context_of, Entities, formals_known, known_in_body}
 use Rattle.sc_rules.specs.TextRules.{ClauseFails}
-use Rattle.sc_rules.specs.SystemRules.{FeatureFails, attribute_type, formal_type, result_type, precondition, local_type, in_body, postcondition, invariant_context, is_formula, clause_span, InvariantFails, in_invariant_clause, form, is_query, CreatorFails, no_feature, listed_query, ClassFails, in_creators, in_features, in_invariant}
+use Rattle.sc_rules.specs.SystemRules.{FeatureFails, attribute_type, formal_type, result_type, precondition, local_type, in_body, postcondition, invariant_context, may_be_formula, clause_span, InvariantFails, in_invariant_clause, form, is_query, CreatorFails, no_feature, listed_query, ClassFails, in_creators, in_features, in_invariant}
 use Rattle.sc_rules.specs.Judging.{Judged, fault, judge_each, judge_type}
 use Rattle.sc_rules.specs.JudgingText.{judge_clause, judge_instrs}
 use Rattle.sc_rules.specs.JudgingSystem.{judge_clauses, judge_declarations, judge_result_type, judge_feature, is_late, is_same_span, judge_form, judge_invariant, judge_listed, judge_creator, judge_class, judge_classes, judge_system}
@@ -87,10 +87,10 @@ invariant_refused : {s : System} {pure : RoutineName → Bool} {k : ℕ} {c : Cl
     InvariantFails s pure k c r p →
     Refused (judge_invariant s pure k c)
 invariant_refused {s} {pure} {k} {c} (in_invariant_clause f) =
-    form_refused (is_formula s k c.condition) (clause_span c.tag c.condition)
+    form_refused (may_be_formula s k c.condition) (clause_span c.tag c.condition)
     (judge_clause (invariant_context s pure k) context.Invariant [] c) (clause_refused f)
 invariant_refused {s} {pure} {k} {c} (form e) =
-    formless (is_formula s k c.condition) (clause_span c.tag c.condition)
+    formless (may_be_formula s k c.condition) (clause_span c.tag c.condition)
     (judge_clause (invariant_context s pure k) context.Invariant [] c) e
 
 -- ---- creation procedures

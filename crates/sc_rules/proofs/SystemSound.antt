@@ -13,7 +13,7 @@ use Rattle.sc_rules.specs.declared.position.Context.TheVariants as context
 use Rattle.sc_rules.specs.Types.{TypeFails}
 use Rattle.sc_rules.specs.Names.{RoutineName, RoutineContext, context_of, Entities, formals_known, known_in_body}
 use Rattle.sc_rules.specs.TextRules.{ClauseFails}
-use Rattle.sc_rules.specs.SystemRules.{FeatureFails, attribute_type, formal_type, result_type, precondition, local_type, in_body, postcondition, invariant_context, is_formula, clause_span, InvariantFails, in_invariant_clause, form, is_query, CreatorFails, no_feature, listed_query, ClassFails, in_creators, in_features, in_invariant}
+use Rattle.sc_rules.specs.SystemRules.{FeatureFails, attribute_type, formal_type, result_type, precondition, local_type, in_body, postcondition, invariant_context, may_be_formula, clause_span, InvariantFails, in_invariant_clause, form, is_query, CreatorFails, no_feature, listed_query, ClassFails, in_creators, in_features, in_invariant}
 use Rattle.sc_rules.specs.Judging.{Judged, fault, judge_each, judge_type}
 use Rattle.sc_rules.specs.JudgingText.{judge_clause}
 use Rattle.sc_rules.specs.JudgingSystem.{judge_declarations, judge_result_type, judge_feature, is_late, is_same_span, judge_form, judge_invariant, judge_listed, judge_creator, judge_class, judge_classes, judge_system}
@@ -74,7 +74,7 @@ tells_form P b p (tells {f} t) w = tells_either P b (is_same_span f.span p && is
 tells_invariant : (s : System) (pure : RoutineName → Bool) (k : ℕ) (c : Clause) →
     Tells (InvariantFails s pure k c) (judge_invariant s pure k c)
 tells_invariant s pure k c =
-    tells_form (InvariantFails s pure k c) (is_formula s k c.condition) (clause_span c.tag c.condition)
+    tells_form (InvariantFails s pure k c) (may_be_formula s k c.condition) (clause_span c.tag c.condition)
     (tells_more (λ r p f. in_invariant_clause f) (tells_clause (invariant_context s pure k) context.Invariant [] c))
     (λ e. form e)
 

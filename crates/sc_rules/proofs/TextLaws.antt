@@ -18,13 +18,15 @@ use Rattle.sc_rules.specs.Typing.{Typing, typing, HasType}
 use Rattle.sc_rules.specs.Sites.{expression, instruction, Reserves, no_more, one_more, head_part, itself, inside}
 use Rattle.sc_rules.specs.CallRules.{ActualAt, actual_here, actual_later, Untaken, reference, Mismatches, first_pair, later_pair, argument}
 use Rattle.sc_rules.specs.TextRules.{separate_any, head, not_boolean, clause_type, at_instruction}
-use Rattle.sc_rules.specs.SystemRules.{is_formula, in_class, in_invariant, form, in_invariant_clause, precondition, postcondition}
+use Rattle.sc_rules.specs.SystemRules.{may_be_formula, in_class, in_invariant, form, in_invariant_clause, precondition, postcondition}
 use Rattle.sc_rules.specs.TextLaws.{HeadsConform, PrintTakesValues, ClausesAreBoolean, InvariantsAreFormulas, ConditionsGive, BlocksReserve}
 use Rattle.sc_rules.specs.Judging.{Judged}
 use Rattle.sc_rules.specs.SystemLaws as laws
 use Rattle.sc_rules.specs.SystemLaws.{IsText, Stands, stands_in, WhereWellFormed, CallsWith}
 use Rattle.sc_rules.proofs.Refusals.{Gave, gave, refuses}
 use Rattle.sc_rules.proofs.Sound.{told, told_given}
+use Rattle.sc_rules.proofs.TypeLaws.{declared}
+use Rattle.sc_rules.proofs.Formulas.{formula_if_may}
 use Rattle.sc_rules.proofs.WellFormed.{further, feature_fails, none_fails, none_at, call_fails}
 
 holds : (b : Bool) → (b ≡ false → ⊥) → b ≡ true
@@ -72,8 +74,9 @@ clauses_are_boolean s pure w i h c k n e (laws.invariant {c = class} j l) t b d 
     holds (is_boolean t.class) (λ u. w _ _ (in_class i j (in_invariant (one_of _ class.invariant _ l (in_invariant_clause (clause_type (not_boolean d u)))))))
 
 pub invariants_are_formulas : InvariantsAreFormulas
-invariants_are_formulas s pure w i k c q j l = holds (is_formula s k q.condition)
-    (λ f. w _ _ (in_class i j (in_invariant (one_of _ c.invariant q l (form f)))))
+invariants_are_formulas s pure w i k c q j l =
+    formula_if_may s (declared s pure i w) k q.condition
+    (holds (may_be_formula s k q.condition) (λ f. w _ _ (in_class i j (in_invariant (one_of _ c.invariant q l (form f))))))
 
 pub conditions_give : ConditionsGive
 conditions_give s pure w i h c n e v = gave_only (told_given h c n e) (none_fails w i v)

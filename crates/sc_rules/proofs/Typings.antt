@@ -18,7 +18,7 @@ use Rattle.sc_combine.specs.Combiners.{combined_result}
 use Rattle.sc_rules.specs.declared.position.Context.{Context}
 use Rattle.sc_rules.specs.declared.position.Position.{Position}
 use Rattle.sc_rules.specs.declared.position.Role.TheVariants as role
-use Rattle.sc_rules.specs.Types.{declared_type, unary_type, binary_type, unary_result, binary_result}
+use Rattle.sc_rules.specs.Types.{declared_type, unary_type, binary_type, unary_result, binary_result, test_result}
 use Rattle.sc_rules.specs.Names.{RoutineContext, Entity, Entities, entity, test_type, entity_named, Signature, Meaning, named, current, print_signature, entity_signature, given_type, signature_of_kind, signature_of, meaning_of_feature, entity_or, meaning_of}
 use Rattle.sc_rules.specs.Typing.{Typing, HasType, number, truth, void, current_object, result, call, untyped_target_call, unary, binary, and_then, test, HasReceiver, implicit, explicit, Gives, by_test, by_both, nothing, is_testable}
 use Rattle.sc_rules.specs.declared.position.Position.TheVariants.{Condition}
@@ -169,6 +169,10 @@ binary_typed op None p r d e f = cc
 binary_typed op (Some t) None r d e f = cc
 binary_typed op (Some t) (Some u) r d e f = mapped_some (binary_type op t u) r f
 
+result_typed : (o : Option EntityType) → is_some o ≡ true → is_some (test_result o) ≡ true
+result_typed None e = cc
+result_typed (Some t) e = refl
+
 -- ---- expressions
 
 none_some : (o : Option EntityType) → o ≡ None → is_some o ≡ true → ⊥
@@ -229,7 +233,7 @@ mutual
       (every_typed a b w e) f
   every_typed a b w (and_then {op} {t} {u} {r} j d g e f) = binary_typed op t.type u.type r (every_typed a b w d)
       (every_typed a b (gives_typed a b w d g) e) f
-  every_typed a b w (test i d) = refl
+  every_typed a b w (test {t} i d) = result_typed t.type (every_typed a b w d)
 
   pub receiver_typed : {h : RoutineContext} {c : Context} {n : Entities} {a : Target} {r : Typing} →
       AllDeclared h.system → HasResult h → are_typed n ≡ true →

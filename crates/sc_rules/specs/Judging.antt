@@ -18,7 +18,7 @@ use Rattle.sc_rules.specs.declared.position.Position.TheVariants.{Plain, Conditi
 use Rattle.sc_rules.specs.declared.position.Use.{Use}
 use Rattle.sc_rules.specs.declared.position.Use.TheVariants.{Value, Instruction}
 use Rattle.sc_rules.specs.declared.position.Role.TheVariants as role
-use Rattle.sc_rules.specs.Types.{declared_type, is_controlled_tag, unary_result, binary_result}
+use Rattle.sc_rules.specs.Types.{declared_type, is_controlled_tag, unary_result, binary_result, test_result}
 use Rattle.sc_rules.specs.Positions.{span_of, is_and_then, is_require, is_condition, takes_void, operand_context, operand_position, shares_names}
 use Rattle.sc_rules.specs.Names.{RoutineContext, Entities, entity, test_type, FormalType, Meaning, unknown, target_untyped, named, current, meaning_of}
 use Rattle.sc_rules.specs.Typing.{Typing, typing, simple_typing, is_foreign_type, takes_if_any, is_value, may_call, is_exported_to, old_stands}
@@ -187,7 +187,7 @@ unfoldable mutual
     _ ← judge_tested h d
     t ← judge h c Plain n a
     _ ← required (is_condition k) ObjectTestPlace p
-    Ok (typing (Some boolean) t.is_separate)
+    Ok (typing (test_result t.type) t.is_separate)
 
   pub judge_receiver : RoutineContext → Context → Entities → Target → Judged Typing
   judge_receiver h c n no_target = Ok (simple_typing (current h))

@@ -11,7 +11,7 @@ use Rattle.sc_rules.specs.declared.rule.Rule.TheVariants.{UnknownName, ResultTyp
 use Rattle.sc_rules.specs.declared.position.Context.{Context}
 use Rattle.sc_rules.specs.declared.position.Context.TheVariants as context
 use Rattle.sc_rules.specs.Names.{RoutineName, context_of, formals_known, known_in_body}
-use Rattle.sc_rules.specs.SystemRules.{invariant_context, is_formula, clause_span, is_query}
+use Rattle.sc_rules.specs.SystemRules.{invariant_context, may_be_formula, clause_span, is_query}
 use Rattle.sc_rules.specs.Judging.{Judged, ◌>>=◌, fault, required, judge_each, judge_type}
 use Rattle.sc_rules.specs.JudgingText.{judge_clause, judge_instrs}
 
@@ -62,7 +62,7 @@ judge_form b p (Err f) =
 -- a clause of the invariant of the class at the number
 abbrev pub judge_invariant : System → (RoutineName → Bool) → ℕ → Clause → Judged (Unit {0})
 judge_invariant s pure k c =
-    judge_form (is_formula s k c.condition) (clause_span c.tag c.condition)
+    judge_form (may_be_formula s k c.condition) (clause_span c.tag c.condition)
     (judge_clause (invariant_context s pure k) context.Invariant [] c)
 
 abbrev pub judge_listed : Span → Option DeclaredFeature → Judged (Unit {0})

@@ -48,52 +48,68 @@ pub data FeatureFails (s : System) (pure : RoutineName → Bool) (k : ℕ) : Fea
 abbrev pub invariant_context : System → (RoutineName → Bool) → ℕ → RoutineContext
 invariant_context s pure k = routine_context s pure k [] None
 
-abbrev pub attribute_type_of : System → FeatureKind → Option EntityType
-attribute_type_of s (Attribute d) = declared_type s [] d
+-- the type of an attribute, which is none where its declaration is faulty
+abbrev pub attribute_type_of : System → FeatureKind → Option (Option EntityType)
+attribute_type_of s (Attribute d) = Some (declared_type s [] d)
 attribute_type_of s (Routine routine) = None
 
-abbrev pub attribute_type_in : System → Option DeclaredFeature → Option EntityType
+abbrev pub attribute_type_in : System → Option DeclaredFeature → Option (Option EntityType)
 attribute_type_in s None = None
 attribute_type_in s (Some f) = attribute_type_of s f.feature.kind
 
--- the type of the class's attribute of this name, if there is one
-abbrev pub attribute_type_named : System → ℕ → List ℕ → Option EntityType
+-- that of the class's attribute of this name, if there is one
+abbrev pub attribute_type_named : System → ℕ → List ℕ → Option (Option EntityType)
 attribute_type_named s k x = attribute_type_in s (feature_named s (class.Declared k) x)
 
-abbrev pub is_value_type : Option EntityType → Bool
-is_value_type None = false
-is_value_type (Some t) = is_expanded t.class
+-- Of INTEGER or BOOLEAN; the truth value says it of an attribute without a type.
+abbrev pub is_value_type : Bool → Option (Option EntityType) → Bool
+is_value_type untyped None = false
+is_value_type untyped (Some None) = untyped
+is_value_type untyped (Some (Some t)) = is_expanded t.class
 
-abbrev pub is_reference_type : Option EntityType → Bool
-is_reference_type None = false
-is_reference_type (Some t) = not (is_expanded t.class)
+abbrev pub is_reference_type : Bool → Option (Option EntityType) → Bool
+is_reference_type untyped None = false
+is_reference_type untyped (Some None) = untyped
+is_reference_type untyped (Some (Some t)) = not (is_expanded t.class)
 
 -- the name alone of an attribute of references
-abbrev pub is_reference_attribute : System → ℕ → Expr → Bool
-is_reference_attribute s k (Call p no_target x no_exprs) = is_reference_type (attribute_type_named s k x.text)
-is_reference_attribute s k _ = false
+abbrev pub is_reference_attribute : Bool → System → ℕ → Expr → Bool
+is_reference_attribute untyped s k (Call p no_target x no_exprs) =
+    is_reference_type untyped (attribute_type_named s k x.text)
+is_reference_attribute untyped s k _ = false
 
--- A formula over the attributes of the class at the number: integer and truth values, its attributes of INTEGER and
--- BOOLEAN, the operators other than `old`, and the comparison of an attribute of references with Void.
-unfoldable pub is_formula : System → ℕ → Expr → Bool
-is_formula s k (Integer p v) = true
-is_formula s k (Boolean p v) = true
-is_formula s k (Call p no_target x no_exprs) = is_value_type (attribute_type_named s k x.text)
-is_formula s k (Unary p op a) = not (is_old op) && is_formula s k a
-is_formula s k (Binary p op a (Void q)) = is_equality op && is_reference_attribute s k a
-is_formula s k (Binary p op a b) = is_formula s k a && is_formula s k b
-is_formula s k _ = false
+-- Integer and truth values, attributes of INTEGER and BOOLEAN of the class at the number, the operators other than
+-- `old`, and the comparison of an attribute of references with Void. The truth value says whether an attribute without
+-- a type may stand in it.
+unfoldable pub is_formula_where : Bool → System → ℕ → Expr → Bool
+is_formula_where untyped s k (Integer p v) = true
+is_formula_where untyped s k (Boolean p v) = true
+is_formula_where untyped s k (Call p no_target x no_exprs) = is_value_type untyped (attribute_type_named s k x.text)
+is_formula_where untyped s k (Unary p op a) = not (is_old op) && is_formula_where untyped s k a
+is_formula_where untyped s k (Binary p op a (Void q)) = is_equality op && is_reference_attribute untyped s k a
+is_formula_where untyped s k (Binary p op a b) = is_formula_where untyped s k a && is_formula_where untyped s k b
+is_formula_where untyped s k _ = false
+
+-- A formula over the attributes of the class at the number.
+abbrev pub is_formula : System → ℕ → Expr → Bool
+is_formula s k e = is_formula_where false s k e
+
+-- It would be one where the attributes whose declarations are faulty were of fitting types.
+abbrev pub may_be_formula : System → ℕ → Expr → Bool
+may_be_formula s k e = is_formula_where true s k e
 
 -- where a clause stands: from its tag, if it has one, to the end of its condition
 abbrev pub clause_span : Option Name → Expr → Span
 clause_span None e = span_of e
 clause_span (Some t) e = record { start = t.span.start; end = (span_of e).end }
 
--- In a clause of the invariant of the class at the number: as in any other, or where it is no formula.
+-- In a clause of the invariant of the class at the number: as in any other, or where it is no formula, whatever the
+-- types are that faulty declarations don't give.
 pub data InvariantFails (s : System) (pure : RoutineName → Bool) (k : ℕ) (c : Clause) : Rule → Span → Type 0 where
   in_invariant_clause : {r : Rule} {p : Span} → ClauseFails (invariant_context s pure k) context.Invariant [] c r p →
       InvariantFails s pure k c r p
-  form : is_formula s k c.condition ≡ false → InvariantFails s pure k c InvariantForm (clause_span c.tag c.condition)
+  form : may_be_formula s k c.condition ≡ false →
+      InvariantFails s pure k c InvariantForm (clause_span c.tag c.condition)
 
 -- ---- creation procedures
 

@@ -166,3 +166,8 @@ abbrev pub binary_result : BinaryOperator → Option EntityType → Option Entit
 binary_result op None b = Some None
 binary_result op (Some a) None = Some None
 binary_result op (Some a) (Some b) = option_map (λ t. Some t) (binary_type op a b)
+
+-- An object test is BOOLEAN; where the tested expression has no type, it has none.
+abbrev pub test_result : Option EntityType → Option EntityType
+test_result None = None
+test_result (Some a) = Some boolean

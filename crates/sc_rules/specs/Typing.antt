@@ -21,7 +21,7 @@ use Rattle.sc_rules.specs.declared.position.Context.{Context}
 use Rattle.sc_rules.specs.declared.position.Position.{Position}
 use Rattle.sc_rules.specs.declared.position.Position.TheVariants.{Plain, Condition, Source}
 use Rattle.sc_rules.specs.declared.position.Role.TheVariants as role
-use Rattle.sc_rules.specs.Types.{declared_type, is_controlled, is_foreign, unary_result, binary_result}
+use Rattle.sc_rules.specs.Types.{declared_type, is_controlled, is_foreign, unary_result, binary_result, test_result}
 use Rattle.sc_rules.specs.Positions.{is_old, is_and_then, is_require, is_ensure, wants_pure, takes_void, operand_context, operand_position, shares_names, may_give}
 use Rattle.sc_rules.specs.Names.{RoutineName, RoutineContext, Entities, entity, test_type, FormalType, of_type, of_none, of_expanded, Signature, named, current, meaning_of, is_qualified}
 
@@ -173,7 +173,7 @@ mutual
     -- nowhere else than in a condition
     test : {c : Context} {n : Entities} {s : Span} {d : Option DeclaredType} {a : Expr} {x : Name} {t : Typing} →
         is_testable h d ≡ true → HasType h c Plain n a t →
-        HasType h c Condition n (ObjectTest s d a x) (typing (Some boolean) t.is_separate)
+        HasType h c Condition n (ObjectTest s d a x) (typing (test_result t.type) t.is_separate)
 
   -- The target of a call has the type; without one it is Current's. A call on a target that isn't of the current
   -- handler is separate.

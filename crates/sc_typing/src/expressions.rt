@@ -11,6 +11,7 @@ ghost use Rattle.sc_typing.specs.Judges.{Judges, Passes, JudgesActuals, judge_ca
 use crate::declarations::names::Entity;
 use crate::declarations::types::judge_type;
 use crate::expressions::calls::{CallSite, judge_receiver};
+use crate::expressions::operators::test_result;
 use crate::expressions::positions::{operand_context, operand_position, takes_void};
 use crate::expressions::typing::{
     JudgedActual, Typing, judge_binary, judge_result, judge_unary, keep_fault, simple_typing,
@@ -187,7 +188,7 @@ impl<'t, 's> RoutineContext<'t, 's> {
                     role: Role::Test,
                 })?;
                 Ok(Typing {
-                    entity_type: Some(EntityType::boolean()),
+                    entity_type: test_result(tested.entity_type),
                     is_separate: tested.is_separate,
                 })
             }

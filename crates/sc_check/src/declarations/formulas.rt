@@ -1,6 +1,6 @@
 // The form of a class's invariant (ECMA-367, 8.9).
 
-ghost use Rattle.std.specs.Prelude.{◌≡◌};
+ghost use Rattle.std.specs.Prelude.{◌≡◌, true};
 ghost use Rattle.sc_tree.specs.Plain as plain;
 ghost use Rattle.sc_tree.specs.View.{expr_of, exprs_of, kind_of, name_of, tag_of, target_of};
 ghost use Rattle.sc_rules.specs.SystemRules as rules;
@@ -16,20 +16,20 @@ use sc_text::Span;
 use sc_tree::{Call, Clause, Expr, FeatureKind};
 use sc_typing::{CheckFault, declared_type, refusal, required};
 
-/// The type of an attribute, where it is declared without fault.
+/// The type of an attribute, which is none where its declaration is faulty.
 #[tactic(auto, unfolding(sc_tree::specs::View::kind_of))]
-fn attribute_type_of(tables: &Tables, kind: &FeatureKind) -> Option<EntityType>
+fn attribute_type_of(tables: &Tables, kind: &FeatureKind) -> Option<Option<EntityType>>
     ensures { result ≡ rules.attribute_type_of (system_in tables.now) (kind_of kind.now) }
 {
     match kind {
-        FeatureKind::Attribute(declared) => declared_type(tables, &[], declared),
+        FeatureKind::Attribute(declared) => Some(declared_type(tables, &[], declared)),
         FeatureKind::Routine(_) => None,
     }
 }
 
 /// The type of the feature that is found, if it is an attribute.
 #[tactic(auto, unfolding(sc_tree::specs::View::feature_of))]
-fn attribute_type_in(tables: &Tables, entry: Option<FeatureEntry>) -> Option<EntityType>
+fn attribute_type_in(tables: &Tables, entry: Option<FeatureEntry>) -> Option<Option<EntityType>>
     ensures { result ≡ rules.attribute_type_in (system_in tables.now) (entry_if_any entry.entry) }
 {
     match entry {
@@ -39,29 +39,31 @@ fn attribute_type_in(tables: &Tables, entry: Option<FeatureEntry>) -> Option<Ent
 }
 
 /// The type of the class's attribute of this name, if there is one.
-fn attribute_type_named(tables: &Tables, class: usize, name: &str) -> Option<EntityType>
+fn attribute_type_named(tables: &Tables, class: usize, name: &str) -> Option<Option<EntityType>>
     ensures { result ≡ rules.attribute_type_named (system_in tables.now) class name.now }
 {
     attribute_type_in(tables, tables.feature(ClassId::Declared(class), name))
 }
 
-/// Whether it is INTEGER or BOOLEAN.
-fn is_value_type(attribute: Option<EntityType>) -> bool
-    ensures { result ≡ rules.is_value_type attribute }
+/// Whether it is INTEGER or BOOLEAN, or may be as far as is known.
+fn is_value_type(attribute: Option<Option<EntityType>>) -> bool
+    ensures { result ≡ rules.is_value_type true attribute }
 {
     match attribute {
         None => false,
-        Some(attribute) => attribute.is_expanded(),
+        Some(None) => true,
+        Some(Some(attribute)) => attribute.is_expanded(),
     }
 }
 
-/// Whether it is a type of references.
-fn is_reference_type(attribute: Option<EntityType>) -> bool
-    ensures { result ≡ rules.is_reference_type attribute }
+/// Whether it is a type of references, or may be as far as is known.
+fn is_reference_type(attribute: Option<Option<EntityType>>) -> bool
+    ensures { result ≡ rules.is_reference_type true attribute }
 {
     match attribute {
         None => false,
-        Some(attribute) => !attribute.is_expanded(),
+        Some(None) => true,
+        Some(Some(attribute)) => !attribute.is_expanded(),
     }
 }
 
@@ -73,10 +75,10 @@ fn is_void(e: &Expr) -> bool
     matches!(e, Expr::Void(_))
 }
 
-/// Whether it is the name alone of an attribute of INTEGER or BOOLEAN.
-#[tactic(auto, unfolding(sc_rules::specs::SystemRules::is_formula))]
+/// Whether it is the name alone of an attribute that may be of INTEGER or BOOLEAN.
+#[tactic(auto, unfolding(sc_rules::specs::SystemRules::is_formula_where))]
 fn is_value_attribute(tables: &Tables, class: usize, call: &Call) -> bool
-    ensures { result ≡ rules.is_formula (system_in tables.now) class
+    ensures { result ≡ rules.may_be_formula (system_in tables.now) class
         (plain.Call call.now.span (target_of call.now.target) (name_of call.now.name)
         (exprs_of call.now.actuals.items)) }
 {
@@ -89,9 +91,9 @@ fn is_value_attribute(tables: &Tables, class: usize, call: &Call) -> bool
     }
 }
 
-/// Whether the call is the name alone of an attribute of references.
+/// Whether the call is the name alone of an attribute that may be of references.
 fn is_reference_call(tables: &Tables, class: usize, call: &Call) -> bool
-    ensures { result ≡ rules.is_reference_attribute (system_in tables.now) class
+    ensures { result ≡ rules.is_reference_attribute true (system_in tables.now) class
         (plain.Call call.now.span (target_of call.now.target) (name_of call.now.name)
         (exprs_of call.now.actuals.items)) }
 {
@@ -104,10 +106,10 @@ fn is_reference_call(tables: &Tables, class: usize, call: &Call) -> bool
     }
 }
 
-/// Whether it is the name alone of an attribute of references.
+/// Whether it is the name alone of an attribute that may be of references.
 #[tactic(auto, unfolding(sc_tree::specs::View::expr_of))]
 fn is_reference_attribute(tables: &Tables, class: usize, e: &Expr) -> bool
-    ensures { result ≡ rules.is_reference_attribute (system_in tables.now) class (expr_of e.now) }
+    ensures { result ≡ rules.is_reference_attribute true (system_in tables.now) class (expr_of e.now) }
 {
     match e {
         Expr::Call(call) => is_reference_call(tables, class, call),
@@ -117,22 +119,22 @@ fn is_reference_attribute(tables: &Tables, class: usize, e: &Expr) -> bool
     }
 }
 
-/// Whether it is a formula over the attributes of the class.
-#[tactic(auto, unfolding(sc_rules::specs::SystemRules::is_formula, sc_tree::specs::View::expr_of))]
-pub fn is_formula(tables: &Tables, class: usize, e: &Expr) -> bool
-    ensures { result ≡ rules.is_formula (system_in tables.now) class (expr_of e.now) }
+/// Whether it is a formula over the attributes of the class, or would be one were they declared without fault.
+#[tactic(auto, unfolding(sc_rules::specs::SystemRules::is_formula_where, sc_tree::specs::View::expr_of))]
+pub fn may_be_formula(tables: &Tables, class: usize, e: &Expr) -> bool
+    ensures { result ≡ rules.may_be_formula (system_in tables.now) class (expr_of e.now) }
 {
     match e {
         Expr::Integer(_, _) | Expr::Boolean(_, _) => true,
         Expr::Call(call) => is_value_attribute(tables, class, call),
         Expr::Unary(_, operator, operand) => {
-            !operator.is_old() && is_formula(tables, class, operand)
+            !operator.is_old() && may_be_formula(tables, class, operand)
         }
         Expr::Binary(_, operator, left, right) => {
             if is_void(right) {
                 operator.is_equality() && is_reference_attribute(tables, class, left)
             } else {
-                is_formula(tables, class, left) && is_formula(tables, class, right)
+                may_be_formula(tables, class, left) && may_be_formula(tables, class, right)
             }
         }
         Expr::Void(_) | Expr::Current(_) | Expr::Result(_) => false,

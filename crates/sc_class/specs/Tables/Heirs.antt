@@ -1,6 +1,6 @@
 -- Laws of heirs: which version of a feature a class has, where that stands in the text, and whose contract it keeps
 -- (ECMA-367, 8.10).
-use Rattle.std.specs.Prelude.{◌≡◌, ◌⊎◌, ℕ, Bool, true, List, [], ◌∷◌, ◌++◌, ◌&&◌, Option, Some, None, Contains, bytes_eq, map, slice_get}
+use Rattle.std.specs.Prelude.{◌≡◌, ◌<◌, ◌⊎◌, ◌↔◌, ℕ, Bool, true, List, [], ◌∷◌, ◌++◌, ◌&&◌, Option, Some, None, Contains, bytes_eq, length, map, slice_get}
 use Rattle.std.specs.List.{IsDistinct}
 use Rattle.std.specs.Option.{option_or}
 use Rattle.sc_tree.specs.Plain.{System, Class, FeatureKind, Attribute, Routine, RoutineDeclaration, DeclaredType}
@@ -24,6 +24,15 @@ NoneIsCyclic = WhereFaultless λ s. (k : ℕ) → IsCyclic s k → ⊥
 -- The ancestors of a class are the class and its parent's: the list is never cut short.
 abbrev pub AncestorsClimb : Type 0
 AncestorsClimb = WhereFaultless λ s. (k i : ℕ) → parent_number s k ≡ Some i → ancestors s k ≡ k ∷ ancestors s i
+
+-- The first class is reached from the second over parents: it is that class, or is reached from its parent.
+pub data IsReached (s : System) (j : ℕ) : ℕ → Type 0 where
+  is_itself : IsReached s j j
+  over_parent : {k i : ℕ} → parent_number s k ≡ Some i → IsReached s j i → IsReached s j k
+
+-- The ancestors of a class are those that are reached from it over parents, in every system.
+abbrev pub AncestorsReached : Type 0
+AncestorsReached = (s : System) (k j : ℕ) → k < length s.classes → (is_ancestor s k j ≡ true) ↔ IsReached s j k
 
 -- The features of a class are its own, and then its parent's that it doesn't redefine.
 abbrev pub FeaturesInherited : Type 0

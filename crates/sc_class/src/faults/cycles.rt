@@ -5,7 +5,7 @@ ghost use Rattle.std.specs.Bool.{OnTrue};
 ghost use Rattle.sc_tree.specs.View.{parent_of};
 ghost use Rattle.sc_class.specs.Tables.Ancestors.{CycleAt, IsParent, LeadsTo, NameLeadsTo};
 ghost use Rattle.sc_class.specs.Internal.Found.{Finds};
-ghost use Rattle.sc_class.specs.Search.{AreInOrder, FindsWayBack, Grows, IsBelowNone, IsNotBelow, IsNumberOf, IsSeen};
+ghost use Rattle.sc_class.specs.Internal.Search.{AreInOrder, FindsWayBack, Grows, IsBelowNone, IsNotBelow, IsNumberOf, IsSeen};
 ghost use Rattle.sc_class.specs.Internal.Systems.{in_hierarchy};
 
 use crate::class_tables::hierarchy::Hierarchy;

@@ -4,7 +4,7 @@ use Rattle.std.specs.declared.vec.Vec.{Vec}
 use Rattle.std.specs.declared.alloc.Global.{Global}
 use Rattle.sc_tree.specs.Plain.{System}
 use Rattle.sc_class.specs.Tables.Features.{DeclaredFeature}
-use Rattle.sc_class.specs.Search.{IsSeen, IsTodo, Grows}
+use Rattle.sc_class.specs.Internal.Search.{IsSeen, IsTodo, Grows}
 use Rattle.sc_rules.specs.Names.{RoutineName, routine_of}
 use Rattle.sc_rules.specs.Purity.{Impure}
 use Rattle.sc_rules.specs.JudgingPurity.{Effect, side_effect, routine_call, Lists, effects_of_routine, is_impure_itself, RunsInto}

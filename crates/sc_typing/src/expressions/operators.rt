@@ -116,6 +116,16 @@ fn binary_type(operator: BinaryOperator, left: EntityType, right: EntityType) ->
     }
 }
 
+/// What an object test gives where the tested expression has this type, if it has one.
+pub fn test_result(tested: Option<EntityType>) -> Option<EntityType>
+    ensures { result ≡ types.test_result tested }
+{
+    match tested {
+        None => None,
+        Some(_) => Some(EntityType::boolean()),
+    }
+}
+
 /// What an operator gives where its operand has this type, if it has one: nothing where it doesn't take it.
 pub fn unary_result(
     operator: UnaryOperator,

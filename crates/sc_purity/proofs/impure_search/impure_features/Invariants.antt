@@ -1,5 +1,5 @@
 use Rattle.std.proofs.Common.{◌≡◌, length}
-use Rattle.sc_class.specs.Search.{left_over}
+use Rattle.sc_class.specs.Internal.Search.{left_over}
 use Rattle.sc_class.specs.SystemIn.{system_in}
 use Rattle.sc_typing.specs.FeatureNumbers.{all_features}
 use Rattle.sc_purity.specs.Internal.ImpureSearch.{AreMarked, AreCallers, AreCollected}

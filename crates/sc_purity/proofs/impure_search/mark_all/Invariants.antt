@@ -1,6 +1,6 @@
 use Rattle.std.proofs.Common.{ℕ, take}
 use Rattle.std.specs.Prelude.{Contains}
-use Rattle.sc_class.specs.Search.{IsSeen, Grows}
+use Rattle.sc_class.specs.Internal.Search.{IsSeen, Grows}
 use Rattle.sc_purity.proofs.impure_search.mark_all.Given as goal
 
 -- those so far are found

@@ -1,5 +1,5 @@
 use Rattle.std.proofs.Common.{ℕ, take}
-use Rattle.sc_class.specs.Search.{IsSeen, Grows}
+use Rattle.sc_class.specs.Internal.Search.{IsSeen, Grows}
 use Rattle.sc_class.specs.SystemIn.{system_in}
 use Rattle.sc_purity.specs.Internal.ImpureSearch.{IsNamedIn}
 use Rattle.sc_purity.proofs.impure_search.mark_named.Given as goal

@@ -2,7 +2,7 @@ use Rattle.std.proofs.Common.{ℕ, List, ◌≡◌, Some, map, subst}
 use Rattle.std.specs.Prelude.{slice_get}
 use Rattle.sc_tree.specs.Plain.{Class}
 use Rattle.sc_tree.specs.View.{class_of, parent_of, system_of}
-use Rattle.sc_class.specs.Search.{IsBelowNone}
+use Rattle.sc_class.specs.Internal.Search.{IsBelowNone}
 use Rattle.sc_class.proofs.Items.{items_more, items_all}
 use Rattle.sc_class.proofs.faults.cycles.are_in_order.Goals as goal
 

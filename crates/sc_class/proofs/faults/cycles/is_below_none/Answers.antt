@@ -1,5 +1,5 @@
 use Rattle.sc_tree.specs.View.{parent_of, system_of}
-use Rattle.sc_class.specs.Search.{IsNotBelow}
+use Rattle.sc_class.specs.Internal.Search.{IsNotBelow}
 use Rattle.sc_class.proofs.Items.{items_more, items_all}
 use Rattle.sc_class.proofs.faults.cycles.is_below_none.Goals as goal
 

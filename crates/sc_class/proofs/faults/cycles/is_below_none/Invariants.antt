@@ -2,7 +2,7 @@ use Rattle.std.proofs.Common.{◌≡◌, ◌<◌, ℕ, Some, map}
 use Rattle.std.specs.Prelude.{slice_get}
 use Rattle.sc_tree.specs.Plain.{Parent}
 use Rattle.sc_tree.specs.View.{parent_of, system_of}
-use Rattle.sc_class.specs.Search.{IsNotBelow}
+use Rattle.sc_class.specs.Internal.Search.{IsNotBelow}
 use Rattle.sc_class.proofs.faults.cycles.is_below_none.Given as goal
 
 abbrev pub invariant-loop-parent : goal.invariant-loop-parent

@@ -1,6 +1,6 @@
 use Rattle.std.proofs.Common.{◌≡◌, length}
 use Rattle.sc_tree.specs.View.{system_of}
-use Rattle.sc_class.specs.Search.{IsSearch, left_over}
+use Rattle.sc_class.specs.Internal.Search.{IsSearch, left_over}
 use Rattle.sc_class.proofs.faults.cycles.leads_to.Given as goal
 
 abbrev pub invariant-loop-class : goal.invariant-loop-class

@@ -3,7 +3,7 @@ use Rattle.std.specs.Prelude.{slice_get}
 use Rattle.sc_tree.specs.Plain.{Parent}
 use Rattle.sc_tree.specs.View.{parent_of, system_of}
 use Rattle.sc_class.specs.Tables.Ancestors.{IsParent}
-use Rattle.sc_class.specs.Search.{Grows, IsNumberOf, IsSeen}
+use Rattle.sc_class.specs.Internal.Search.{Grows, IsNumberOf, IsSeen}
 use Rattle.sc_class.proofs.faults.cycles.Search.see_parents.Given as goal
 
 abbrev pub invariant-loop-parent : goal.invariant-loop-parent
