@@ -1,14 +1,15 @@
 -- What a reader gave, block after block.
 use Rattle.std.proofs.Common.{◌≡◌, ℕ, ◌≤◌, List, [], ◌++◌, Option, Some, None, Result, Ok, Err, IfErr, IfSome, IsErrAnd, length, refl, sym, ap, ◌∙◌, append-nil, subst, arith}
-use Rattle.std.specs.Io.KnownBytes.{Consumes}
-use Rattle.std.proofs.KnownBytes.{Consumes-trans}
+use Rattle.std.specs.Io.KnownBytes.{Consumes, IsAtEnd}
+use Rattle.std.proofs.KnownBytes.{Consumes-trans, Consumes-whole}
 use Rattle.sc_audit.specs.declared.beginning.Beginning.{Beginning}
 use Rattle.sc_audit.specs.declared.beginning.ReadFault.{ReadFault}
+use Rattle.sc_audit.specs.declared.beginning.Record.{Record}
 use Rattle.sc_audit.specs.declared.beginning.ReadFault.TheVariants as fault
-use Rattle.sc_audit.specs.Records.{BeginsRecord}
+use Rattle.sc_audit.specs.Records.{BeginsRecord, IsRecordText}
 use Rattle.sc_audit.specs.Faults.{IsAtFault}
-use Rattle.sc_audit.specs.Reading.{IsReadFault, ReadsFitting, ReadsUpTo}
-use Rattle.sc_audit.specs.Internal.Steps.{IsBlockFault, IsKept, read_of}
+use Rattle.sc_audit.specs.Reading.{IsReadFault, IsReaderFault, ReadsFitting, ReadsUpTo}
+use Rattle.sc_audit.specs.Internal.Steps.{Ends, IsBlockFault, IsKept, read_of}
 use Rattle.sc_audit.proofs.Whole.{open-begins}
 
 pub kept-begins : (b : Beginning) → IsKept b → BeginsRecord (read_of b)
@@ -68,3 +69,23 @@ reads-no-more most known now b kept so-far =
 pub err-told : {T : Type 0} (Q : ReadFault → Type 0) (r : Result T ReadFault) (why : ReadFault) → IsErrAnd r (λ e. e ≡ why) → Q why → IfErr r Q
 err-told Q (Ok x) why same is = absurd same
 err-told Q (Err e) why same is = subst Q (sym same) is
+
+-- a record's text is kept from being read by its reader alone
+pub fits-of : {T : Type 0} (known now : Option (List ℕ)) (r : Result T ReadFault) → IfErr r (IsReadFault known now) →
+    IfSome known (λ text. IsRecordText text → IfErr r IsReaderFault)
+fits-of None now r is = tt
+fits-of (Some x) now (Ok read) is = λ text. tt
+fits-of (Some x) now (Err (fault.BadRecord line)) is = λ text. is.no_record text
+fits-of (Some x) now (Err (fault.Unreadable error)) is = λ text. tt
+fits-of (Some x) now (Err fault.OutOfMemory) is = λ text. tt
+
+-- the bytes of one block more, which is the last
+pub ended-err : (known mid now : Option (List ℕ)) (old new : Beginning) (bytes : List ℕ) (r : Result Record ReadFault) → Consumes known mid (read_of old) →
+    Consumes mid now bytes → read_of new ≡ read_of old ++ bytes → IsAtEnd now → Ends new r → IfErr r (IsReadFault known now)
+ended-err known mid now old new bytes (Ok read) so-far block text end ends = tt
+ended-err known mid now old new bytes (Err (fault.BadRecord line)) so-far block text end ends =
+    let P : List ℕ → Type 0 = λ bs. Consumes known now bs in
+    Consumes-whole known now (read_of new) (λ text. IsAtFault text line)
+    (subst P (sym text) (Consumes-trans known mid now (read_of old) bytes so-far block)) end ends
+ended-err known mid now old new bytes (Err (fault.Unreadable error)) so-far block text end ends = absurd ends
+ended-err known mid now old new bytes (Err fault.OutOfMemory) so-far block text end ends = absurd ends

@@ -25,3 +25,9 @@ abbrev pub IsReadFault : Option (List ℕ) → Option (List ℕ) → ReadFault �
 IsReadFault known now (fault.BadRecord line) = IfSome known (λ text. IsAtFault text line)
 IsReadFault known now (fault.Unreadable error) = ReadsFitting known now
 IsReadFault known now fault.OutOfMemory = Unit {0}
+
+-- The reader failed, or memory ran out.
+abbrev pub IsReaderFault : ReadFault → Type 0
+IsReaderFault (fault.BadRecord line) = ⊥
+IsReaderFault (fault.Unreadable error) = Unit {0}
+IsReaderFault fault.OutOfMemory = Unit {0}

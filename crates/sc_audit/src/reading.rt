@@ -2,8 +2,8 @@
 
 ghost use Rattle.std.specs.Prelude.{◌≡◌, IfErr, IfOk, IfSome, OnOk};
 ghost use Rattle.std.specs.Io.KnownBytes.{IsAtEnd};
-ghost use Rattle.sc_audit.specs.Records.{IsRecord, text_of};
-ghost use Rattle.sc_audit.specs.Reading.{IsReadFault, ReadsUpTo};
+ghost use Rattle.sc_audit.specs.Records.{IsRecord, IsRecordText, text_of};
+ghost use Rattle.sc_audit.specs.Reading.{IsReadFault, IsReaderFault, ReadsUpTo};
 ghost use Rattle.sc_audit.specs.Internal.Steps.{IsKept, ReadsBlock};
 
 use crate::beginning::{Beginning, ReadFault, Record};
@@ -18,6 +18,7 @@ const BLOCK: usize = 8192;
 pub fn read_record<R: Read>(alloc: Global, reader: &mut R) -> Result<Record, ReadFault>
     ensures limits { IfOk result (λ read. IsRecord read.version read.lines.items) }
     ensures ok { IfOk result (λ read. IfSome (R.remaining reader.old) (λ text. text ≡ text_of read.version read.lines.items)) }
+    ensures fits { IfSome (R.remaining reader.old) (λ text. IsRecordText text → IfErr result IsReaderFault) }
     ensures err { IfErr result (IsReadFault (R.remaining reader.old) (R.remaining reader.new)) }
     ensures end { OnOk result (IsAtEnd (R.remaining reader.new)) }
     ensures stops { ReadsUpTo BLOCK (R.remaining reader.old) (R.remaining reader.new) }

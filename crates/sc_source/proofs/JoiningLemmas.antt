@@ -1,17 +1,18 @@
 -- What readers have given.
-use Rattle.std.proofs.Common.{◌≡◌, ℕ, zero, suc, ◌+◌, ◌-◌, ◌<◌, ◌≤◌, List, [], ◌∷◌, ◌++◌, map, take, get_or, set, Option, Some, None, length, IfSome, IsErrAnd, MatchResult, Ok, Err, Result, drop, subst, ap, ◌∙◌, append_assoc, arith, refl, sym}
+use Rattle.std.proofs.Common.{◌≡◌, ℕ, zero, suc, ◌+◌, ◌-◌, ◌<◌, ◌≤◌, List, [], ◌∷◌, ◌++◌, map, take, get_or, set, Option, Some, None, length, IfSome, IsErrAnd, MatchResult, Ok, Err, Result, drop, subst, ap, ◌∙◌, append_assoc, arith, refl, sym, IfErr, ◌⊎◌, inr}
 use Rattle.std.proofs.lemmas.Grind.{common_steps}
 use Rattle.std.specs.Io.KnownBytes.{Consumes}
 use Rattle.std.specs.Str.{IsUtf8}
 use Rattle.std.specs.List.{All}
 use Rattle.sc_source.specs.declared.join.SourceFault.{SourceFault}
 use Rattle.sc_source.specs.declared.reading.FileFault.{FileFault}
+use Rattle.sc_source.specs.declared.source.JoinFault.{JoinFault}
 use Rattle.sc_source.specs.declared.reading.FileFault.TheVariants as file_fault
-use Rattle.std.proofs.lemmas.List.{take_more, take_more_set, drop-drop, drop-set-lt, get_or-drop, map_more, length-map, get_or-map, map-append, length-append}
+use Rattle.std.proofs.lemmas.List.{take_all, take_more, take_more_set, drop-drop, drop-set-lt, get_or-drop, map_more, length-map, get_or-map, map-append, length-append}
 use Rattle.std.proofs.lemmas.List.Elements.{All-get_or, All-push}
 use Rattle.sc_text.specs.Spelling.{max_source_bytes}
 use Rattle.sc_source.specs.Source.{File, joined_texts, line_feed, room_after, texts_of, names_of, unmarked}
-use Rattle.sc_source.specs.Joining.{AreSound, AreTold, IsFileFault, IsJoinFault, IsReaderFault, IsSourceFault, names_for, source_fault, source_text, TakesAtMost}
+use Rattle.sc_source.specs.Joining.{AreSound, AreTold, IsFileFault, IsJoinFault, IsReaderFault, IsSourceFault, names_for, no_memory, source_fault, source_text, TakesAtMost}
 use Rattle.sc_source.specs.Internal.Blocks.{TakesMore}
 use Rattle.sc_source.proofs.SourceLemmas.{short-push}
 
@@ -192,3 +193,33 @@ fault-of-sound files i file_fault.TooLong is sound =
     let part = take-short files (i + 1) in
     let short : length (source_text files) ≤ max_source_bytes = sound.short in
     omega (arith, size, many, part, short)
+
+-- The file at fault is one of those that have names, where there are as many.
+pub which-name : {A : Type 0} (r : Result A JoinFault) (n m : ℕ) → n ≡ m →
+    IfErr r (λ why. why.file < n) → IfErr r (λ why. (why.fault ≡ no_memory) ⊎ (why.file < m))
+which-name (Ok source) n m e f = tt
+which-name (Err why) n m e f = inr (omega (arith, e, f))
+
+-- ---- files by name
+
+-- one more reader, which has all of the file of the next name left
+pub told-more : {A B : Type 0} (left : A → Option (List ℕ)) (of : B → Option (List ℕ)) (readers now : List A) (names : List B) (i : ℕ) (x : A) (name : B) →
+    now ≡ readers ++ x ∷ [] → i < length names → map left readers ≡ map of (take i names) → left x ≡ of (get_or names i name) →
+    map left now ≡ map of (take (i + 1) names)
+told-more left of readers now names i x name is below so-far this =
+    let pushed : map left now ≡ map left readers ++ (left x ∷ []) = ap (λ xs. map left xs) is ∙ map-append left readers (x ∷ []) in
+    let more : map of (take (i + 1) names) ≡ map of (take i names) ++ of (get_or names i name) ∷ [] = map_more of names i name below in
+    pushed ∙ (ap (λ ys. ys ++ (left x ∷ [])) so-far ∙ (ap (λ y. map of (take i names) ++ (y ∷ [])) this ∙ sym more))
+
+-- a reader for each name: what they tell is what the files of these names have
+pub told-all : {A B : Type 0} (left : A → Option (List ℕ)) (of : B → Option (List ℕ)) (readers now : List A) (names : List B) (i : ℕ) (files : List (List ℕ)) →
+    now ≡ readers → i ≡ length names → map left readers ≡ map of (take i names) → AreTold (map of names) files → AreTold (map left now) files
+told-all left of readers now names i files same many so-far told =
+    let within : length names ≤ i = omega arith in
+    let all : take i names ≡ names = take_all i names within in
+    ap (λ xs. map left xs) same ∙ (so-far ∙ (ap (λ xs. map of xs) all ∙ told))
+
+-- a fault that is told is one of two kinds
+pub or-fault : {A E : Type 0} (r : Result A E) (P : A → Type 0) (Q R : E → Type 0) → MatchResult r P R → MatchResult r P (λ e. Q e ⊎ R e)
+or-fault (Ok x) P Q R it = it
+or-fault (Err e) P Q R it = inr it

@@ -1,5 +1,5 @@
 -- What joining the files of a system comes to.
-use Rattle.std.specs.Prelude.{ℕ, zero, suc, ◌≡◌, ◌+◌, ◌-◌, ◌<◌, ◌≤◌, List, [], ◌∷◌, ◌++◌, Option, Some, length, take, drop, map}
+use Rattle.std.specs.Prelude.{ℕ, zero, suc, ◌≡◌, ◌+◌, ◌-◌, ◌<◌, ◌≤◌, List, [], ◌∷◌, Option, Some, length, take, drop, map}
 use Rattle.std.specs.List.{All, slice_index_or}
 use Rattle.std.specs.Str.{IsUtf8, IsValidUpTo, valid_up_to}
 use Rattle.std.specs.declared.str.Utf8Error.{Utf8Error}

@@ -1,3 +1,4 @@
+pub mod Files
 pub mod Internal
 pub mod Joining
 pub mod Source

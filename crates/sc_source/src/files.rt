@@ -1,6 +1,8 @@
 // Files by name.
 
-ghost use Rattle.std.specs.Prelude.{◌≡◌, IfOk, map};
+ghost use Rattle.std.specs.Prelude.{◌≡◌, ◌<◌, ◌⊎◌, ℕ, List, Option, None, Some, IfErr, IfOk, IfSome, IsErr, MatchResult, length, map};
+ghost use Rattle.sc_text.specs.Spelling.{max_source_bytes};
+ghost use Rattle.sc_source.specs.Joining.{AreJoined, AreSound, AreTold, IsJoinFault, IsReaderFault, no_memory, source_text};
 ghost use Rattle.sc_source.specs.Source.{names_of};
 
 use crate::source::{JoinFault, Source};
@@ -15,9 +17,14 @@ pub trait Files {
     /// Writes a file anew.
     type Writer: Write + Drop;
 
+    // The bytes of the file of a name, where they are known.
+    ghost bytes_of: { Self → List ℕ → Option (List ℕ) } = { λ _ _. None };
+
     /// Opens a file to be read. Fails where there is none, where it can't be opened and where memory
     /// runs out.
-    fn reader(&self, name: &str) -> io::Result<Self::Reader>;
+    fn reader(&self, name: &str) -> io::Result<Self::Reader>
+        ensures { IfOk result (λ reader. IfSome (bytes_of self.now name.now)
+            (λ bytes. Self.Reader.remaining reader ≡ Some bytes)) };
 
     /// Opens a file to be written, empty at first. Fails where it can't be opened or made and where
     /// memory runs out.
@@ -88,7 +95,9 @@ enum FileState<R> {
 
 impl<'a, F: Files> NamedFile<'a, F> {
     /// The file of that name among these, which isn't opened yet.
-    pub fn new(files: &'a F, name: &'a str) -> Self {
+    pub fn new(files: &'a F, name: &'a str) -> Self
+        ensures { ⟦<NamedFile<'a, F> as Read>⟧.remaining result ≡ F.bytes_of files.now name.now }
+    {
         NamedFile {
             files,
             name,
@@ -98,6 +107,10 @@ impl<'a, F: Files> NamedFile<'a, F> {
 }
 
 impl<'a, F: Files> Read for NamedFile<'a, F> {
+    ghost use Rattle.sc_source.specs.Files.{left_of};
+
+    ghost remaining = { λ file. left_of F.Reader.remaining (F.bytes_of file.files.now file.name.now) file.state };
+
     /// Fails where the file can't be opened too.
     fn read(&mut self, buf: &mut [u8]) -> io::Result<usize> {
         if let FileState::Unopened = self.state {
@@ -116,7 +129,15 @@ impl<'a, F: Files> Read for NamedFile<'a, F> {
 
 /// The source text of the named files. They are opened and read in order, up to the first that is at fault.
 pub fn read_source<F: Files>(alloc: Global, files: &F, names: &[&str]) -> Result<Source, JoinFault>
-    ensures { IfOk result (λ source. names_of source ≡ map (λ name. name.now) names.now) }
+    ensures answer { (texts : List (List ℕ)) → AreTold (map (λ name. F.bytes_of files.now name.now) names.now) texts
+        → MatchResult result (AreJoined texts) (λ why. (why.fault ≡ no_memory) ⊎ IsJoinFault texts why) }
+    ensures fits { (texts : List (List ℕ)) → AreTold (map (λ name. F.bytes_of files.now name.now) names.now) texts
+        → AreSound texts → IfErr result (λ why. IsReaderFault why.fault) }
+    ensures too_long { (texts : List (List ℕ)) → AreTold (map (λ name. F.bytes_of files.now name.now) names.now) texts
+        → max_source_bytes < length (source_text texts) → IsErr result }
+    ensures named { IfOk result (λ source. names_of source ≡ map (λ name. name.now) names.now) }
+    ensures which { let named = map (λ name. name.now) names.now in
+        IfErr result (λ why. (why.fault ≡ no_memory) ⊎ (why.file < length named)) }
 {
     let mut readers = Vec::with_capacity(alloc, names.len())?;
     for name in names {

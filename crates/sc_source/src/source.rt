@@ -5,7 +5,7 @@ ghost use Rattle.std.specs.List.{All};
 ghost use Rattle.std.specs.Str.{IsUtf8};
 ghost use Rattle.std.specs.Io.KnownBytes.{IsAtEnd};
 ghost use Rattle.sc_text.specs.Spelling.{max_source_bytes};
-ghost use Rattle.sc_source.specs.Joining.{AreJoined, AreSound, AreTold, IsFileFault, IsJoinFault, IsReaderFault, TakesAtMost, names_for, source_text};
+ghost use Rattle.sc_source.specs.Joining.{AreJoined, AreSound, AreTold, IsFileFault, IsJoinFault, IsReaderFault, TakesAtMost, names_for, no_memory, source_text};
 ghost use Rattle.sc_source.specs.Internal.Files.{files_in};
 ghost use Rattle.sc_source.specs.Source as spec;
 
@@ -33,6 +33,8 @@ pub struct JoinFault {
 }
 
 impl From<AllocError> for JoinFault {
+    ghost from_gives = { λ _ why. why.fault ≡ no_memory };
+
     /// Memory ran out before any file.
     fn from(error: AllocError) -> JoinFault {
         JoinFault {
@@ -43,6 +45,8 @@ impl From<AllocError> for JoinFault {
 }
 
 impl<T: Drop> From<AllocFailed<T>> for JoinFault {
+    ghost from_gives = { λ _ why. why.fault ≡ no_memory };
+
     fn from(error: AllocFailed<T>) -> JoinFault {
         JoinFault::from(AllocError::from(error))
     }
@@ -107,6 +111,7 @@ impl Source {
         ensures named { IfOk result (λ source. spec.names_of source ≡ names_for (map (λ name. name.now) names.now) (length readers.old)) }
         ensures ended { OnOk result (All (λ reader. IsAtEnd (R.remaining reader)) readers.new) }
         ensures unread { IfErr result (λ fault. drop (fault.file + 1) readers.new ≡ drop (fault.file + 1) readers.old) }
+        ensures which { IfErr result (λ why. why.file < length readers.old) }
     {
         let mut source = Source::new(alloc);
         for (file, reader) in readers.iter_mut().enumerate() {
