@@ -6,7 +6,7 @@ use Rattle.std.proofs.lemmas.List.{drop_more}
 use Rattle.sc_rules.specs.Names.{Entities, Entity, is_block}
 use Rattle.sc_typing.specs.declared.declarations.names.Entity as coded
 use Rattle.sc_typing.specs.Views.{entity_of}
-use Rattle.sc_lower.specs.Emitted.{block_slots}
+use Rattle.sc_code.specs.Emitted.{block_slots}
 
 later_got : (l : List ℕ) (j : ℕ) → slice_get (map (λ k. suc k) l) j ≡ option_map (λ k. suc k) (slice_get l j)
 later_got [] j = refl

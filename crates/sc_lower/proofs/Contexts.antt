@@ -5,7 +5,7 @@ use Rattle.sc_proctype.specs.declared.entity_type.EntityType.{EntityType}
 use Rattle.sc_rules.specs.Names.{test_type}
 use Rattle.sc_typing.specs.Views.{routine_in}
 use Rattle.sc_lower.specs.declared.setting.Setting.{Setting}
-use Rattle.sc_lower.specs.Places.{here}
+use Rattle.sc_code.specs.Places.{here}
 use Rattle.sc_lower.specs.Settings.{setting_in}
 
 pub test_type_here : (h : Setting) (d : Option DeclaredType) (t : Option EntityType) → test_type (routine_in h.context) d t ≡ test_type (here (setting_in h)) d t

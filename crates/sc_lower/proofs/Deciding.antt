@@ -4,8 +4,8 @@ use Rattle.std.specs.Prelude.{slice_set, if◌then◌else◌}
 use Rattle.std.proofs.Math.Seq.{set-append_seam}
 use Rattle.sc_tree.specs.declared.expression.BinaryOperator.{BinaryOperator}
 use Rattle.sc_model.specs.Operators.{is_short}
-use Rattle.sc_lower.specs.Operations.{Operation, ApplyBinary, Decide, Conclude}
-use Rattle.sc_lower.specs.Emitted.{right_code}
+use Rattle.sc_code.specs.Operations.{Operation, ApplyBinary, Decide, Conclude}
+use Rattle.sc_code.specs.Emitted.{right_code}
 use Rattle.sc_lower.specs.Parts.{opened}
 
 pub decided : (op : BinaryOperator) (base right old : List Operation) (place passed : ℕ) → is_short op ≡ true → old ≡ base ++ (opened op ++ right) → place ≡ length base →

@@ -11,9 +11,9 @@ use Rattle.sc_class.specs.Faults.Limits.{many_features}
 use Rattle.sc_class.specs.Tables.Features.{DeclaredFeature, features}
 use Rattle.sc_model.specs.Objects.{fresh_attribute, fresh_attributes}
 use Rattle.sc_lower.specs.declared.program.attributes.Attribute.{Attribute}
-use Rattle.sc_lower.specs.Attributes.{binding_of}
-use Rattle.sc_lower.specs.Programs.{attribute_in}
-use Rattle.sc_lower.specs.declared.program.AttributeCode.{AttributeCode}
+use Rattle.sc_lower.specs.AttributeBindings.{binding_of}
+use Rattle.sc_code.specs.Programs.{attribute_in}
+use Rattle.sc_code.specs.declared.program.AttributeCode.{AttributeCode}
 use Rattle.sc_model.specs.Environments.{Binding}
 
 few_features : (s : System) (root : Root) (k : ℕ) → IsFaultless s root → k < length s.classes → length (features s k) ≤ 256

@@ -14,7 +14,7 @@ use Rattle.sc_rules.specs.Names.{Entities, entity, test_type}
 use Rattle.sc_model.specs.Olds.{olds_in}
 use Rattle.sc_typing.specs.declared.declarations.names.Entity.{Entity}
 use Rattle.sc_typing.specs.Views.{entity_of}
-use Rattle.sc_lower.specs.Places.{Setting, here, expr_type, names_given}
+use Rattle.sc_code.specs.Places.{Setting, here, expr_type, names_given}
 
 -- what both operands give, where the operator is `and then`
 pub given_by_operator : (h : Setting) (n : Entities) (i : ℕ) (q : Span) (op : BinaryOperator) (a b : Expr) →

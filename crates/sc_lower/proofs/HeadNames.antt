@@ -8,9 +8,9 @@ use Rattle.sc_rules.specs.declared.position.Role.TheVariants as role
 use Rattle.sc_typing.specs.declared.declarations.names.Entity.{Entity}
 use Rattle.sc_rules.specs.Names.{Entities, entity, block_type, blocks}
 use Rattle.sc_typing.specs.Views.{entity_of}
-use Rattle.sc_lower.specs.Operations.{Operation}
-use Rattle.sc_lower.specs.Places.{Setting, expr_type, head_types, names_given, with_heads, with_type}
-use Rattle.sc_lower.specs.Emitted.{expr_code, heads_code, heads_depth, names_of}
+use Rattle.sc_code.specs.Operations.{Operation}
+use Rattle.sc_code.specs.Places.{Setting, expr_type, head_types, names_given, with_heads, with_type}
+use Rattle.sc_code.specs.Emitted.{expr_code, heads_code, heads_depth, names_of}
 use Rattle.sc_lower.proofs.Given.{Extends, first_left, given_extends}
 
 right : (n : Entities) → n ≡ n ++ []

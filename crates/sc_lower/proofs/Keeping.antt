@@ -3,9 +3,9 @@ use Rattle.std.proofs.Common.{◌≡◌, List, [], ◌∷◌, ◌++◌, Option, 
 use Rattle.sc_tree.specs.Plain.{Expr}
 use Rattle.sc_proctype.specs.declared.entity_type.EntityType.{EntityType}
 use Rattle.sc_rules.specs.Names.{Entities}
-use Rattle.sc_lower.specs.Operations.{Operation, KeepOld}
-use Rattle.sc_lower.specs.Places.{Setting, expr_type, old_types, with_old, with_type}
-use Rattle.sc_lower.specs.Emitted.{expr_code, olds_code}
+use Rattle.sc_code.specs.Operations.{Operation, KeepOld}
+use Rattle.sc_code.specs.Places.{Setting, expr_type, old_types, with_old, with_type}
+use Rattle.sc_code.specs.Emitted.{expr_code, olds_code}
 use Rattle.sc_lower.proofs.HeadNames.{typed_rest}
 
 none_behind : (ts : List EntityType) → ts ≡ ts ++ []

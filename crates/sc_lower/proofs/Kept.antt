@@ -3,13 +3,13 @@ use Rattle.std.proofs.Common.{◌≡◌, ◌<◌, ◌+◌, ℕ, length, take, ge
 use Rattle.std.specs.Prelude.{slice_get}
 use Rattle.std.proofs.lemmas.List.{map-append, take_more}
 use Rattle.std.specs.Option.{option_map, option_and_then}
-use Rattle.sc_lower.specs.declared.operation.Operation as coded
-use Rattle.sc_lower.specs.declared.operation.Operation.TheVariants as op
-use Rattle.sc_lower.specs.declared.site.CallSite as call
-use Rattle.sc_lower.specs.declared.site.CreationSite as creation
-use Rattle.sc_lower.specs.Operations as plain
+use Rattle.sc_code.specs.declared.operation.Operation as coded
+use Rattle.sc_code.specs.declared.operation.Operation.TheVariants as op
+use Rattle.sc_code.specs.declared.site.CallSite as call
+use Rattle.sc_code.specs.declared.site.CreationSite as creation
+use Rattle.sc_code.specs.Operations as plain
 use Rattle.sc_lower.specs.Growing.{Extends}
-use Rattle.sc_lower.specs.View.{Pool, named, call_of, creation_with, creation_of, operation_of, test_of}
+use Rattle.sc_code.specs.View.{Pool, named, call_of, creation_with, creation_of, operation_of, test_of}
 use Rattle.sc_lower.specs.Pools.{Grows}
 use Rattle.sc_lower.proofs.Growing.{extends_itself, extends_further}
 

@@ -5,9 +5,9 @@ use Rattle.std.specs.List.{All}
 use Rattle.std.proofs.Math.Seq.{set-append_seam}
 use Rattle.sc_tree.specs.Plain.{Expr, Instrs, Branches, no_branches, branch_then}
 use Rattle.sc_rules.specs.Names.{Entities}
-use Rattle.sc_lower.specs.Operations.{Operation, SkipIfFalse, Jump, EndLoop}
-use Rattle.sc_lower.specs.Places.{Setting, names_given}
-use Rattle.sc_lower.specs.Emitted.{expr_code, instrs_code, branch_code, loop_code, other_code}
+use Rattle.sc_code.specs.Operations.{Operation, SkipIfFalse, Jump, EndLoop}
+use Rattle.sc_code.specs.Places.{Setting, names_given}
+use Rattle.sc_code.specs.Emitted.{expr_code, instrs_code, branch_code, loop_code, other_code}
 use Rattle.sc_lower.specs.Jumps.{open_branch, jump_of, open_branches, jumps_of, landed}
 
 -- the first jump is set, and stands behind the part that it belongs to

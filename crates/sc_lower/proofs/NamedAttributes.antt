@@ -7,7 +7,7 @@ use Rattle.std.specs.Option.{option_map}
 use Rattle.sc_model.specs.Values.{default_of}
 use Rattle.sc_model.specs.Invariants.{attribute_named}
 use Rattle.sc_lower.specs.declared.program.attributes.Attribute.{Attribute}
-use Rattle.sc_lower.specs.Attributes.{binding_of, is_named}
+use Rattle.sc_lower.specs.AttributeBindings.{binding_of, is_named}
 
 -- the element at this place is the first that passes
 IsFirstAt : {X : Type 0} → (X → Bool) → List X → ℕ → Type 0

@@ -8,9 +8,9 @@ use Rattle.sc_proctype.specs.declared.entity_type.EntityType.{EntityType}
 use Rattle.sc_rules.specs.Names.{RoutineName, Meaning, unknown, target_untyped, named, current, signature_of, signature_of_kind, meaning_of_feature}
 use Rattle.sc_lower.specs.declared.own_feature.OwnFeature.{OwnFeature}
 use Rattle.sc_lower.specs.declared.own_feature.OwnFeature.TheVariants as own
-use Rattle.sc_lower.specs.Operations.{Operation, CallSite}
-use Rattle.sc_lower.specs.Places.{Setting, here, known_type, feature_type}
-use Rattle.sc_lower.specs.Emitted.{attribute_code, kind_code, kind_depth, name_code, name_depth, site_of, call_code}
+use Rattle.sc_code.specs.Operations.{Operation, CallSite}
+use Rattle.sc_code.specs.Places.{Setting, here, known_type, feature_type}
+use Rattle.sc_code.specs.Emitted.{attribute_code, kind_code, kind_depth, name_code, name_depth, site_of, call_code}
 use Rattle.sc_lower.specs.Parts.{own_feature, own_kind, site_named, slot_code}
 
 -- ---- by what is meant

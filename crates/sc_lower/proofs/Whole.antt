@@ -5,9 +5,9 @@ use Rattle.sc_tree.specs.Plain.{System}
 use Rattle.sc_model.specs.Olds.{olds_of_clauses}
 use Rattle.sc_model.specs.Environments.{locals_bound, scope_of}
 use Rattle.sc_model.specs.Routines.{Routine}
-use Rattle.sc_lower.specs.Operations.{Operation, Exit}
-use Rattle.sc_lower.specs.Places.{Setting, old_types}
-use Rattle.sc_lower.specs.Emitted.{require_code, olds_code, declare_code, instrs_code, ensure_code, checks_depth, olds_depth, instrs_depth, instrs_slots, clauses_depth, setting, formals_of, locals_of, olds_of_routine, opening_code, body_code, closing_code, routine_code, opening_depth, body_depth, routine_depth, routine_slots}
+use Rattle.sc_code.specs.Operations.{Operation, Exit}
+use Rattle.sc_code.specs.Places.{Setting, old_types}
+use Rattle.sc_code.specs.Emitted.{require_code, olds_code, declare_code, instrs_code, ensure_code, checks_depth, olds_depth, instrs_depth, instrs_slots, clauses_depth, setting, formals_of, locals_of, olds_of_routine, opening_code, body_code, closing_code, routine_code, opening_depth, body_depth, routine_depth, routine_slots}
 
 -- the settings of the contract, before and behind its `old`s, and of the body, and the names that the parts leave
 module _ (s : System) (r : Routine) (h0 h1 h2 : Setting) (n0 n1 n2 : Entities) (e0 : h0 ≡ setting s r r.contract []) (f0 : n0 ≡ formals_of s r) (f1 : n1 ≡ n0) (f2 : n2 ≡ n1)

@@ -2,9 +2,9 @@
 use Rattle.std.specs.Prelude.{ℕ, suc, ◌+◌, ◌-◌, List, [], ◌∷◌, ◌++◌, length, slice_set}
 use Rattle.sc_tree.specs.Plain.{Branches, no_branches, branch_then}
 use Rattle.sc_rules.specs.Names.{Entities}
-use Rattle.sc_lower.specs.Operations.{Operation, SkipIfFalse, Jump}
-use Rattle.sc_lower.specs.Places.{Setting, names_given}
-use Rattle.sc_lower.specs.Emitted.{expr_code, instrs_code}
+use Rattle.sc_code.specs.Operations.{Operation, SkipIfFalse, Jump}
+use Rattle.sc_code.specs.Places.{Setting, names_given}
+use Rattle.sc_code.specs.Emitted.{expr_code, instrs_code}
 
 -- a condition and what stands under it, with a jump that isn't set
 abbrev pub open_branch : List Operation → List Operation → List Operation

@@ -5,9 +5,9 @@ use Rattle.sc_proctype.specs.declared.entity_type.EntityType.{EntityType}
 use Rattle.sc_rules.specs.Names.{current}
 use Rattle.sc_lower.specs.declared.own_feature.OwnFeature.{OwnFeature}
 use Rattle.sc_lower.specs.declared.own_feature.OwnFeature.TheVariants as own
-use Rattle.sc_lower.specs.Operations.{Operation}
-use Rattle.sc_lower.specs.Places.{Setting, here}
-use Rattle.sc_lower.specs.Emitted.{attribute_code}
+use Rattle.sc_code.specs.Operations.{Operation}
+use Rattle.sc_code.specs.Places.{Setting, here}
+use Rattle.sc_code.specs.Emitted.{attribute_code}
 use Rattle.sc_lower.specs.Parts.{own_feature, slot_code}
 
 -- what the name is of Current's features

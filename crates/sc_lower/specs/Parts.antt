@@ -12,17 +12,13 @@ use Rattle.sc_rules.specs.Names.{given_type, signature_of}
 use Rattle.sc_model.specs.Operators.{is_short}
 use Rattle.sc_lower.specs.declared.own_feature.OwnFeature.{OwnFeature}
 use Rattle.sc_lower.specs.declared.own_feature.OwnFeature.TheVariants as own
-use Rattle.sc_lower.specs.Operations.{Operation, CallSite, PushSlot, Decide}
-use Rattle.sc_lower.specs.Places.{known_type}
-use Rattle.sc_lower.specs.Emitted.{site_of}
+use Rattle.sc_code.specs.Operations.{Operation, CallSite, PushSlot, Decide}
+use Rattle.sc_code.specs.Places.{known_type}
+use Rattle.sc_code.specs.Emitted.{site_of}
 
 -- a call as an expression
 abbrev pub call_in : Call → Expr
 call_in c = tree.Call c.span (target_of c.target) (name_of c.name) (exprs_of c.actuals.items)
-
--- the same with no target
-abbrev pub name_in : Call → Expr
-name_in c = tree.Call c.span tree.no_target (name_of c.name) (exprs_of c.actuals.items)
 
 -- a call of the feature of this name behind a target of this type, if there is such a feature
 abbrev pub site_named : System → List ℕ → ℕ → EntityType → List EntityType → Option CallSite

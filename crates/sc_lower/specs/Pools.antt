@@ -1,13 +1,9 @@
 -- Tables that grow at their ends.
-use Rattle.std.specs.Prelude.{ℕ, List, map, string_bytes}
-use Rattle.std.specs.declared.vec.Vec.{Vec}
-use Rattle.std.specs.declared.alloc.Global.{Global}
+use Rattle.std.specs.Prelude.{map, string_bytes}
 use Rattle.sc_lower.specs.declared.link_tables.Linker.{Linker}
-use Rattle.sc_lower.specs.View.{Pool}
+use Rattle.sc_code.specs.View.{Pool}
+use Rattle.sc_code.specs.Programs.{lists_of}
 use Rattle.sc_lower.specs.Growing.{Extends}
-
-abbrev pub lists_of : List (Vec ℕ Global) → List (List ℕ)
-lists_of ds = map (λ (d : Vec ℕ Global). d.items) ds
 
 -- the tables of a linker
 abbrev pub pool_in : Linker → Pool

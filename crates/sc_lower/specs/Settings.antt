@@ -8,7 +8,7 @@ use Rattle.sc_class.specs.SystemIn.{system_in}
 use Rattle.sc_model.specs.Routines.{Text}
 use Rattle.sc_typing.specs.declared.routine_context.RoutineContext.{RoutineContext}
 use Rattle.sc_lower.specs.declared.setting.Setting as coded
-use Rattle.sc_lower.specs.Places.{Setting}
+use Rattle.sc_code.specs.Places.{Setting}
 
 abbrev pub text_in : RoutineContext → Text
 text_in c = record { class = c.class; formals = map declaration_of c.formals.now; result = c.result }

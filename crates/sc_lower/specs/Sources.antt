@@ -1,11 +1,23 @@
 -- The routine that is lowered.
-use Rattle.std.specs.Prelude.{map}
-use Rattle.sc_tree.specs.Plain.{System}
+use Rattle.std.specs.Prelude.{ℕ, List, Option, Some, None, map, if◌then◌else◌}
+use Rattle.sc_tree.specs.Plain.{System, FeatureKind, Attribute, Routine, RoutineDeclaration}
 use Rattle.sc_tree.specs.View.{clause_of, declaration_of, instrs_of, type_if_any}
-use Rattle.sc_model.specs.Routines.{Routine, text_of}
+use Rattle.sc_class.specs.Names.{is_listed}
+use Rattle.sc_class.specs.Tables.Features.{DeclaredFeature, declared_features, redefined_names, named_among}
+use Rattle.sc_model.specs.Routines as model
+use Rattle.sc_model.specs.Routines.{text_of}
 use Rattle.sc_lower.specs.declared.routine.source.RoutineSource.{RoutineSource}
 
-abbrev pub source_in : System → RoutineSource → Routine
+-- the declaration of the name in the class at the number, where that is no redefinition
+abbrev pub original : System → List ℕ → ℕ → Option DeclaredFeature
+original s x k = if is_listed x (redefined_names s k) then None else named_among x (declared_features s k)
+
+abbrev pub routine_declared : FeatureKind → Option RoutineDeclaration
+routine_declared (Attribute d) = None
+routine_declared (Routine routine) = Some routine
+
+-- the routine with the contract that it keeps
+abbrev pub source_in : System → RoutineSource → model.Routine
 source_in s r = record {
   name = r.name.now;
   text = text_of s r.class (map declaration_of r.routine.now.formals.items) (type_if_any r.routine.now.result_type);

@@ -4,8 +4,8 @@ use Rattle.sc_lower.specs.declared.unlinked.UnlinkedCall.{UnlinkedCall}
 use Rattle.sc_lower.specs.declared.unlinked.UnlinkedCreation.{UnlinkedCreation}
 use Rattle.sc_lower.specs.declared.unlinked.UnlinkedOperation.{UnlinkedOperation}
 use Rattle.sc_lower.specs.declared.unlinked.UnlinkedOperation.TheVariants as op
-use Rattle.sc_lower.specs.View.{default_value, tested_of}
-use Rattle.sc_lower.specs.Operations as plain
+use Rattle.sc_code.specs.View.{default_value, tested_of}
+use Rattle.sc_code.specs.Operations as plain
 
 abbrev pub unlinked_call : UnlinkedCall → plain.CallSite
 unlinked_call c = record { name = c.name.now; count = c.count; gives = c.gives; is_own = c.is_own; passes = c.passes }

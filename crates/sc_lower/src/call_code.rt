@@ -7,9 +7,9 @@ ghost use Rattle.sc_class.specs.SystemIn.{system_in};
 ghost use Rattle.sc_class.specs.Tables.Features.{feature_named};
 ghost use Rattle.sc_model.specs.Olds.{olds_of_each};
 ghost use Rattle.sc_typing.specs.Views.{entity_of};
-ghost use Rattle.sc_lower.specs.Emitted as emitted;
+ghost use Rattle.sc_code.specs.Emitted as emitted;
 ghost use Rattle.sc_lower.specs.Named as named;
-ghost use Rattle.sc_lower.specs.Places as places;
+ghost use Rattle.sc_code.specs.Places as places;
 ghost use Rattle.sc_lower.specs.Settings.{setting_in};
 
 use crate::code::Code;

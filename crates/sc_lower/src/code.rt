@@ -1,7 +1,7 @@
 // The code of a routine while it is written.
 
 ghost use Rattle.std.specs.Prelude.{◌≡◌, ◌<◌, ◌++◌, [], ◌∷◌, List, OnOk, length, map, slice_set};
-ghost use Rattle.sc_lower.specs.Operations as plain;
+ghost use Rattle.sc_code.specs.Operations as plain;
 ghost use Rattle.sc_lower.specs.Unlinked.{unlinked};
 
 use crate::unlinked::UnlinkedOperation;

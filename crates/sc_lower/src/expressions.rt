@@ -4,15 +4,15 @@ ghost use Rattle.std.specs.Prelude.{◌≡◌, ◌+◌, ◌++◌, IfOk, OnOk, le
 ghost use Rattle.sc_tree.specs.View.{expr_of, exprs_of};
 ghost use Rattle.sc_model.specs.Olds.{olds_in, olds_of_each};
 ghost use Rattle.sc_typing.specs.Views.{entity_of};
-ghost use Rattle.sc_lower.specs.Emitted.{expr_code, expr_depth, expr_slots, exprs_code, exprs_depth};
-ghost use Rattle.sc_lower.specs.Places.{expr_type, exprs_types, names_given};
+ghost use Rattle.sc_code.specs.Emitted.{expr_code, expr_depth, expr_slots, exprs_code, exprs_depth};
+ghost use Rattle.sc_code.specs.Places.{expr_type, exprs_types, names_given};
 ghost use Rattle.sc_lower.specs.Parts.{call_in};
 ghost use Rattle.sc_lower.specs.Settings.{setting_in};
 
 use crate::code::Code;
-use crate::leaves::{leaf, push_type};
+use crate::leaves::{leaf, push_leaf, push_type};
 use crate::lowered::{Lowered, LoweredActuals};
-use crate::operator_code::{close_binary, close_unary, open_right};
+use crate::operator_code::{Operands, close_binary, close_unary, open_right};
 use crate::setting::Setting;
 use crate::sums::sum;
 use crate::unlinked::UnlinkedOperation;
@@ -40,6 +40,7 @@ impl<'t, 's> Setting<'t, 's> {
         ensures olds { IfOk result (λ l. l.olds ≡ olds + olds_in (expr_of e.now)) }
         ensures slots { IfOk result (λ l. l.slots ≡ expr_slots (setting_in self.now) (map entity_of names.old.items) olds (expr_of e.now)) }
     {
+        let count = names.len();
         match e {
             Expr::Integer(_, value) => {
                 code.push(UnlinkedOperation::PushInteger(*value))?;
@@ -49,10 +50,7 @@ impl<'t, 's> Setting<'t, 's> {
                 code.push(UnlinkedOperation::PushBoolean(*value))?;
                 Ok(leaf(Some(EntityType::boolean()), olds))
             }
-            Expr::Void(_) => {
-                code.push(UnlinkedOperation::PushVoid)?;
-                Ok(leaf(Some(EntityType::void()), olds))
-            }
+            Expr::Void(_) => push_leaf(code, UnlinkedOperation::PushVoid, EntityType::void(), olds),
             Expr::Current(_) => {
                 code.push(UnlinkedOperation::PushCurrent)?;
                 Ok(leaf(Some(self.context.current()), olds))
@@ -63,21 +61,19 @@ impl<'t, 's> Setting<'t, 's> {
                 if operator.is_old() {
                     return self.lower_old(olds, code);
                 }
-                let count = names.len();
                 let operand = self.lower_condition(names, olds, code, operand)?;
                 names.truncate(count);
                 close_unary(code, *operator, operand)
             }
             Expr::Binary(_, operator, left, right) => {
-                let count = names.len();
                 let left = self.lower_condition(names, olds, code, left)?;
                 let place = code.len();
                 open_right(code, *operator)?;
                 let right = self.lower_condition(names, left.olds, code, right)?;
-                close_binary(names, count, code, *operator, place, left, right)
+                let operands = Operands { left, place, right };
+                close_binary(names, count, code, *operator, operands)
             }
             Expr::ObjectTest(_, declared, tested, name) => {
-                let count = names.len();
                 let tested = self.lower_condition(names, olds, code, tested)?;
                 names.truncate(count);
                 self.close_test(names, code, declared, name, tested)

@@ -3,17 +3,17 @@
 ghost use Rattle.std.specs.Prelude.{◌≡◌, ◌+◌, ◌++◌, [], ◌∷◌, IfOk, OnOk, length, map, max, suc};
 ghost use Rattle.sc_tree.specs.View.{branches_of, expr_of, head_of, instr_of, instrs_of};
 ghost use Rattle.sc_typing.specs.Views.{entity_of};
-ghost use Rattle.sc_lower.specs.Operations as plain;
-ghost use Rattle.sc_lower.specs.Places.{head_types, names_given, with_heads};
-ghost use Rattle.sc_lower.specs.Emitted.{branches_depth, branches_slots, expr_code, expr_depth, expr_slots, heads_code, heads_depth, instr_code, instr_depth, instr_slots, instrs_code, instrs_depth, instrs_slots, names_of};
+ghost use Rattle.sc_code.specs.Operations as plain;
+ghost use Rattle.sc_code.specs.Places.{head_types, names_given, with_heads};
+ghost use Rattle.sc_code.specs.Emitted.{branches_depth, branches_slots, expr_code, expr_depth, expr_slots, heads_code, heads_depth, instr_code, instr_depth, instr_slots, instrs_code, instrs_depth, instrs_slots, names_of};
 ghost use Rattle.sc_lower.specs.Jumps.{jumps_of, open_branch, open_branches};
-ghost use Rattle.sc_lower.specs.Room.{branches_blocks, instr_blocks, instrs_blocks};
+ghost use Rattle.sc_code.specs.Room.{branches_blocks, instr_blocks, instrs_blocks};
 ghost use Rattle.sc_lower.specs.Settings.{setting_in};
 
 use crate::code::Code;
 use crate::instructions::assignment::lower_assignment;
 use crate::instructions::blocks::{add_heads, lower_heads};
-use crate::instructions::calls::lower_call;
+use crate::instructions::calls::lower_call_instruction;
 use crate::instructions::checks::lower_checks;
 use crate::instructions::creation::lower_creation;
 use crate::instructions::jumps::land_jumps;
@@ -58,7 +58,7 @@ fn lower_instruction<'s>(
             code.push(UnlinkedOperation::PrintText(text.as_str()))?;
             Ok(Needs::of_operands(0))
         }
-        Instr::Call(call) => lower_call(setting, names, code, call),
+        Instr::Call(call) => lower_call_instruction(setting, names, code, call),
         Instr::Create(_, variable, call) => lower_creation(setting, names, code, variable, call),
         Instr::If(_, condition, body, branches, other) => {
             let mut jumps = Vec::new(setting.context.alloc);

@@ -5,11 +5,11 @@ ghost use Rattle.std.specs.Option.{option_map};
 ghost use Rattle.sc_model.specs.Environments as environments;
 ghost use Rattle.sc_rules.specs.Names as rules;
 ghost use Rattle.sc_typing.specs.Views.{entity_of};
-ghost use Rattle.sc_lower.specs.Emitted as emitted;
-ghost use Rattle.sc_lower.specs.Places as places;
-ghost use Rattle.sc_lower.specs.View.{residence_of, tested_of};
+ghost use Rattle.sc_code.specs.Emitted as emitted;
+ghost use Rattle.sc_code.specs.Places as places;
+ghost use Rattle.sc_code.specs.View.{residence_of, tested_of};
 
-use crate::site::{Residence, TestedType};
+use sc_code::{Residence, TestedType};
 use sc_proctype::{EntityType, Reserved, Tag};
 use sc_rules::Role;
 use sc_typing::Entity;

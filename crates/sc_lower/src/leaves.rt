@@ -8,12 +8,13 @@ ghost use Rattle.sc_class.specs.Tables.Features.{feature_named};
 ghost use Rattle.sc_proctype.specs.Conformance.{boolean};
 ghost use Rattle.sc_rules.specs.Names as rules;
 ghost use Rattle.sc_typing.specs.Views.{entity_of};
-ghost use Rattle.sc_lower.specs.Emitted as emitted;
-ghost use Rattle.sc_lower.specs.Operations as plain;
+ghost use Rattle.sc_code.specs.Emitted as emitted;
+ghost use Rattle.sc_code.specs.Operations as plain;
 ghost use Rattle.sc_lower.specs.Parts as parts;
-ghost use Rattle.sc_lower.specs.Places as places;
+ghost use Rattle.sc_code.specs.Places as places;
 ghost use Rattle.sc_lower.specs.Settings.{setting_in};
-ghost use Rattle.sc_lower.specs.View.{tested_of};
+ghost use Rattle.sc_lower.specs.Unlinked.{unlinked};
+ghost use Rattle.sc_code.specs.View.{tested_of};
 
 use crate::calls::known_type;
 use crate::code::Code;
@@ -21,9 +22,9 @@ use crate::known_names::tested_type;
 use crate::lowered::Lowered;
 use crate::own_feature::OwnFeature;
 use crate::setting::Setting;
-use crate::site::TestedType;
 use crate::sums::sum;
 use crate::unlinked::UnlinkedOperation;
+use sc_code::TestedType;
 use sc_proctype::EntityType;
 use sc_rules::Role;
 use sc_tree::{DeclaredType, Name};
@@ -40,6 +41,20 @@ pub fn leaf(value: Option<EntityType>, olds: usize) -> Lowered
         olds,
         slots: 0,
     }
+}
+
+/// Adds the operation of a leaf whose value is of this type.
+pub fn push_leaf<'s>(
+    code: &mut Code<'s>,
+    operation: UnlinkedOperation<'s>,
+    value: EntityType,
+    olds: usize,
+) -> Result<Lowered, AllocError>
+    ensures code { OnOk result (code.new ≡ code.old ++ unlinked operation.entry ∷ []) }
+    ensures told { IfOk result (λ l. l ≡ record { value = Some value; depth = 1; olds = olds; slots = 0 }) }
+{
+    code.push(operation)?;
+    Ok(leaf(Some(value), olds))
 }
 
 /// Adds a type, if it is known.

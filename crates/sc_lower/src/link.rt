@@ -3,16 +3,15 @@
 ghost use Rattle.std.specs.Prelude.{◌≡◌, Some, IfOk, OnOk, map, slice_get};
 ghost use Rattle.std.specs.Option.{option_map, option_and_then, option_copied};
 ghost use Rattle.sc_lower.specs.Pools.{pool_in, Grows};
-ghost use Rattle.sc_lower.specs.View.{named, call_of, creation_of, operation_of, test_of};
-ghost use Rattle.sc_lower.specs.Operations as plain;
-ghost use Rattle.sc_lower.specs.declared.site.Heads as heads;
+ghost use Rattle.sc_code.specs.View.{named, call_of, creation_of, operation_of, test_of};
+ghost use Rattle.sc_code.specs.Operations as plain;
+ghost use Rattle.sc_code.specs.declared.site.Heads as heads;
 ghost use Rattle.sc_lower.specs.Unlinked.{unlinked, unlinked_call, unlinked_creation};
 
 use crate::link_pools::add;
 use crate::link_tables::Linker;
-use crate::operation::Operation;
-use crate::site::{CallSite, CreationSite, Heads, ObjectTest, TestedType};
 use crate::unlinked::{UnlinkedCall, UnlinkedCreation, UnlinkedOperation};
+use sc_code::{CallSite, CreationSite, Heads, ObjectTest, Operation, TestedType};
 use std::alloc::AllocError;
 
 /// The number of a name.

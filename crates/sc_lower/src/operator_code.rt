@@ -3,9 +3,9 @@
 ghost use Rattle.std.specs.Prelude.{◌≡◌, ◌<◌, ◌++◌, ◌∷◌, [], IfOk, List, OnOk, length, max, take, true, false, Some};
 ghost use Rattle.sc_model.specs.Operators as model;
 ghost use Rattle.sc_tree.specs.Properties.{is_and_then};
-ghost use Rattle.sc_lower.specs.Emitted as emitted;
-ghost use Rattle.sc_lower.specs.Operations as plain;
-ghost use Rattle.sc_lower.specs.Places as places;
+ghost use Rattle.sc_code.specs.Emitted as emitted;
+ghost use Rattle.sc_code.specs.Operations as plain;
+ghost use Rattle.sc_code.specs.Places as places;
 ghost use Rattle.sc_lower.specs.Parts.{opened};
 
 use crate::code::Code;
@@ -120,24 +120,33 @@ fn forget_names(names: &mut Vec<Entity>, count: usize, operator: BinaryOperator)
     }
 }
 
-/// Adds a binary operator behind its operands, of which the right one begins at the place. So many names were known
-/// before them.
+/// The operands of a binary operator, in code.
+#[derive(Clone, Copy)]
+pub struct Operands {
+    /// The first one.
+    pub left: Lowered,
+    /// Where the code of the second one begins.
+    pub place: usize,
+    /// The second one.
+    pub right: Lowered,
+}
+
+/// Adds a binary operator behind its operands. So many names were known before them.
 pub fn close_binary(
     names: &mut Vec<Entity>,
     count: usize,
     code: &mut Code,
     operator: BinaryOperator,
-    place: usize,
-    left: Lowered,
-    right: Lowered,
+    operands: Operands,
 ) -> Result<Lowered, AllocError>
-    requires { model.is_short operator ≡ true → place < length code.old }
-    ensures code { OnOk result ((base right : List plain.Operation) → code.old ≡ base ++ (opened operator ++ right) → place ≡ length base → code.new ≡ base ++ emitted.right_code operator right) }
+    requires { model.is_short operator ≡ true → operands.place < length code.old }
+    ensures code { OnOk result ((base right : List plain.Operation) → code.old ≡ base ++ (opened operator ++ right) → operands.place ≡ length base → code.new ≡ base ++ emitted.right_code operator right) }
     ensures both { is_and_then operator ≡ true → names.new.items ≡ names.old.items }
     ensures none { is_and_then operator ≡ false → names.new.items ≡ take count names.old.items }
-    ensures told { IfOk result (λ l. l ≡ record { value = Some (places.binary_type operator); depth = max left.depth (emitted.operand_depth operator right.depth); olds = right.olds; slots = max left.slots right.slots }) }
+    ensures told { IfOk result (λ l. l ≡ record { value = Some (places.binary_type operator); depth = max operands.left.depth (emitted.operand_depth operator operands.right.depth); olds = operands.right.olds; slots = max operands.left.slots operands.right.slots }) }
 {
     forget_names(names, count, operator);
+    let Operands { left, place, right } = operands;
     close_right(code, operator, place)?;
     Ok(Lowered {
         value: Some(binary_type(operator)),

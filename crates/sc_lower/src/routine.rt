@@ -7,9 +7,9 @@ ghost use Rattle.sc_typing.specs.Views.{entity_of};
 ghost use Rattle.sc_class.specs.SystemIn.{system_in};
 ghost use Rattle.sc_model.specs.Olds as model;
 ghost use Rattle.sc_model.specs.Routines.{text_of};
-ghost use Rattle.sc_lower.specs.Places.{old_types};
-ghost use Rattle.sc_lower.specs.Emitted as emitted;
-ghost use Rattle.sc_lower.specs.Room.{routine_blocks, routine_olds};
+ghost use Rattle.sc_code.specs.Places.{old_types};
+ghost use Rattle.sc_code.specs.Emitted as emitted;
+ghost use Rattle.sc_code.specs.Room.{routine_blocks, routine_olds};
 ghost use Rattle.sc_lower.specs.Settings.{setting_in};
 ghost use Rattle.sc_lower.specs.Sources.{source_in};
 

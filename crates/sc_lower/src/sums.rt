@@ -1,8 +1,20 @@
 // Sums that may not fit.
 
-ghost use Rattle.std.specs.Prelude.{◌≡◌, ◌+◌, IfOk};
+ghost use Rattle.std.specs.Prelude.{◌≡◌, ◌≤◌, ◌+◌, IfOk};
 
 use std::alloc::AllocError;
+
+/// The number, where it fits 32 bits. One that doesn't has as little memory as any list that is so long.
+pub fn within_32_bits(number: usize) -> Result<usize, AllocError>
+    ensures same { IfOk result (λ same. same ≡ number) }
+    ensures fits { IfOk result (λ same. same ≤ 4294967295) }
+{
+    if number > u32::MAX as usize {
+        Err(AllocError)
+    } else {
+        Ok(number)
+    }
+}
 
 /// The sum. One that doesn't fit has as little memory as any list that is so long.
 pub fn sum(one: usize, other: usize) -> Result<usize, AllocError>

@@ -1,7 +1,6 @@
 // Operations as they are lowered from the trees: what they name stands in them, and no table yet.
 
-use crate::operation::DefaultValue;
-use crate::site::TestedType;
+use sc_code::{DefaultValue, TestedType};
 use sc_model::Cause;
 use sc_tree::{BinaryOperator, UnaryOperator};
 

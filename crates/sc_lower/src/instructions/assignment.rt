@@ -5,8 +5,8 @@ ghost use Rattle.sc_tree.specs.Plain.{Named, ResultVariable};
 ghost use Rattle.sc_tree.specs.View.{expr_of, name_of, variable_of};
 ghost use Rattle.sc_rules.specs.Names.{assignee};
 ghost use Rattle.sc_typing.specs.Views.{assignee_in, entity_of};
-ghost use Rattle.sc_lower.specs.Places.{here};
-ghost use Rattle.sc_lower.specs.Emitted.{assign_code, store_code, variable_slot, expr_code, expr_depth};
+ghost use Rattle.sc_code.specs.Places.{here};
+ghost use Rattle.sc_code.specs.Emitted.{assign_code, store_code, variable_slot, expr_code, expr_depth};
 ghost use Rattle.sc_lower.specs.Settings.{setting_in};
 
 use crate::code::Code;

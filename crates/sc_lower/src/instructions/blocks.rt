@@ -3,8 +3,8 @@
 ghost use Rattle.std.specs.Prelude.{◌≡◌, ◌++◌, [], IfOk, OnOk, map};
 ghost use Rattle.sc_tree.specs.View.{head_of};
 ghost use Rattle.sc_typing.specs.Views.{entity_of};
-ghost use Rattle.sc_lower.specs.Places.{head_types, with_heads};
-ghost use Rattle.sc_lower.specs.Emitted.{heads_code, heads_depth, names_of};
+ghost use Rattle.sc_code.specs.Places.{head_types, with_heads};
+ghost use Rattle.sc_code.specs.Emitted.{heads_code, heads_depth, names_of};
 ghost use Rattle.sc_lower.specs.Settings.{setting_in};
 
 use crate::code::Code;

@@ -6,8 +6,8 @@ ghost use Rattle.sc_tree.specs.declared.instruction.Instr.TheVariants as instr;
 ghost use Rattle.sc_tree.specs.Properties as properties;
 ghost use Rattle.sc_rules.specs.CallRules.{count};
 ghost use Rattle.sc_typing.specs.Views.{entity_of};
-ghost use Rattle.sc_lower.specs.Places.{expr_type, exprs_types};
-ghost use Rattle.sc_lower.specs.Emitted.{expr_code, expr_depth, exprs_code, exprs_depth, feature_call, instr_code, instr_depth, instruction_call, routine_call};
+ghost use Rattle.sc_code.specs.Places.{expr_type, exprs_types};
+ghost use Rattle.sc_code.specs.Emitted.{expr_code, expr_depth, exprs_code, exprs_depth, feature_call, instr_code, instr_depth, instruction_call, routine_call};
 ghost use Rattle.sc_lower.specs.Settings.{setting_in};
 
 use crate::code::Code;
@@ -89,7 +89,7 @@ fn lower_qualified_call<'s>(
 
 /// Lowers a call that is an instruction.
 #[tactic(auto, unfolding(sc_tree::specs::View::instr_of))]
-pub fn lower_call<'s>(
+pub fn lower_call_instruction<'s>(
     setting: &Setting<'_, 's>,
     names: &mut Vec<Entity<'s>>,
     code: &mut Code<'s>,

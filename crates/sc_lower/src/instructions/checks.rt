@@ -3,7 +3,7 @@
 ghost use Rattle.std.specs.Prelude.{◌≡◌, ◌++◌, IfOk, OnOk, map};
 ghost use Rattle.sc_tree.specs.View.{clause_of};
 ghost use Rattle.sc_typing.specs.Views.{entity_of};
-ghost use Rattle.sc_lower.specs.Emitted.{checks_code, checks_depth};
+ghost use Rattle.sc_code.specs.Emitted.{checks_code, checks_depth};
 ghost use Rattle.sc_lower.specs.Settings.{setting_in};
 
 use crate::code::Code;

@@ -9,9 +9,9 @@ ghost use Rattle.sc_typing.specs.Views.{assignee_in, entity_of, meaning_in};
 ghost use Rattle.sc_class.specs.SystemIn.{system_in};
 ghost use Rattle.sc_model.specs.Creations.{formals_meant};
 ghost use Rattle.sc_model.specs.Instructions as instructions;
-ghost use Rattle.sc_lower.specs.Places.{exprs_types, here};
-ghost use Rattle.sc_lower.specs.Emitted.{assign_code, create_code, creation_code, exprs_code, exprs_depth};
-ghost use Rattle.sc_lower.specs.Emitted as emitted;
+ghost use Rattle.sc_code.specs.Places.{exprs_types, here};
+ghost use Rattle.sc_code.specs.Emitted.{assign_code, create_code, creation_code, exprs_code, exprs_depth};
+ghost use Rattle.sc_code.specs.Emitted as emitted;
 ghost use Rattle.sc_lower.specs.Settings.{setting_in};
 
 use crate::calls::types_pass;

@@ -3,8 +3,8 @@
 ghost use Rattle.std.specs.Prelude.{◌≡◌, ◌<◌, ◌+◌, ◌-◌, ◌++◌, [], ◌∷◌, IfOk, OnOk, length, map, slice_set};
 ghost use Rattle.sc_tree.specs.View.{expr_of};
 ghost use Rattle.sc_typing.specs.Views.{entity_of};
-ghost use Rattle.sc_lower.specs.Operations as plain;
-ghost use Rattle.sc_lower.specs.Emitted.{expr_code, expr_depth};
+ghost use Rattle.sc_code.specs.Operations as plain;
+ghost use Rattle.sc_code.specs.Emitted.{expr_code, expr_depth};
 ghost use Rattle.sc_lower.specs.Settings.{setting_in};
 
 use crate::code::Code;

@@ -8,7 +8,7 @@ ghost use Rattle.sc_class.specs.View.{entry_of};
 ghost use Rattle.sc_model.specs.Objects.{fresh_attribute, fresh_attributes};
 ghost use Rattle.sc_model.specs.Values.{default_of};
 ghost use Rattle.sc_model.specs.Invariants.{attribute_named};
-ghost use Rattle.sc_lower.specs.Attributes.{binding_of, is_named};
+ghost use Rattle.sc_lower.specs.AttributeBindings.{binding_of, is_named};
 
 use sc_class::{ClassId, FeatureEntry, Tables};
 use sc_proctype::EntityType;

@@ -9,32 +9,20 @@ ghost use Rattle.sc_class.specs.SystemIn.{system_in};
 ghost use Rattle.sc_class.specs.declared.identity.ClassId.TheVariants as class_id;
 ghost use Rattle.sc_class.specs.Tables.Conformance as conformance;
 ghost use Rattle.sc_model.specs.Environments.{Binding};
-ghost use Rattle.sc_model.specs.Values as values;
 ghost use Rattle.sc_model.specs.Invariants as m;
-ghost use Rattle.sc_lower.specs.Attributes.{binding_of, known_formulas};
-ghost use Rattle.sc_lower.specs.Programs.{attribute_in, class_in, class_code_of};
-ghost use Rattle.sc_lower.specs.View.{default_value};
+ghost use Rattle.sc_lower.specs.AttributeBindings.{binding_of};
+ghost use Rattle.sc_code.specs.Attributes.{known_formulas};
+ghost use Rattle.sc_code.specs.Programs.{attribute_in, class_in, class_code_of};
 
-use crate::operation::DefaultValue;
 use crate::program::attributes::{Attribute, attributes_of};
+use crate::program::invariant;
 use crate::program::versions::versions;
-use crate::program::{AttributeCode, ClassCode, invariant};
 use sc_class::{ClassId, Tables};
+use sc_code::{AttributeCode, ClassCode, DefaultValue};
 use sc_formula::Formula;
 use sc_tree::Clause;
 use sc_typing::Numbering;
 use std::alloc::{AllocError, Global};
-
-/// The default of the entities of a class.
-pub fn default_of(class: ClassId) -> DefaultValue
-    ensures { default_value result ≡ values.default_of class }
-{
-    match class {
-        ClassId::Integer => DefaultValue::Zero,
-        ClassId::Boolean => DefaultValue::False,
-        ClassId::Any | ClassId::None | ClassId::Declared(_) => DefaultValue::Void,
-    }
-}
 
 /// The defaults of the attributes.
 fn attribute_codes(
@@ -46,7 +34,7 @@ fn attribute_codes(
     let mut codes = Vec::with_capacity(alloc, attributes.len())?;
     for attribute in attributes {
         codes.push(AttributeCode {
-            default: default_of(attribute.entity_type.class),
+            default: DefaultValue::of(attribute.entity_type.class),
             is_attached: attribute.entity_type.attached,
         })?;
     }

@@ -8,7 +8,8 @@ ghost use Rattle.sc_tree.specs.View.{name_of, expr_of, target_of, exprs_of, clau
 ghost use Rattle.sc_model.specs.Invariants as m;
 ghost use Rattle.sc_model.specs.Operators.{comparison_of};
 ghost use Rattle.sc_model.specs.Values.{default_of};
-ghost use Rattle.sc_lower.specs.Attributes.{binding_of, known_formulas};
+ghost use Rattle.sc_lower.specs.AttributeBindings.{binding_of};
+ghost use Rattle.sc_code.specs.Attributes.{known_formulas};
 
 use crate::program::attributes::{Attribute, find};
 use crate::program::operators;

@@ -5,12 +5,12 @@ ghost use Rattle.sc_class.specs.SystemIn.{system_in};
 ghost use Rattle.sc_class.specs.Tables.Features.{features};
 ghost use Rattle.sc_class.specs.View.{entry_of};
 ghost use Rattle.sc_model.specs.Objects.{fresh_attributes};
-ghost use Rattle.sc_lower.specs.Attributes.{binding_of};
-ghost use Rattle.sc_lower.specs.Programs.{entry_of_kind, version_entry};
+ghost use Rattle.sc_lower.specs.AttributeBindings.{binding_of};
+ghost use Rattle.sc_code.specs.Programs.{entry_of_kind, version_entry};
 
-use crate::program::Version;
 use crate::program::attributes::{Attribute, find};
 use sc_class::{ClassId, FeatureEntry};
+use sc_code::Version;
 use sc_tree::FeatureKind;
 use sc_typing::Numbering;
 use std::alloc::{AllocError, Global};

@@ -4,35 +4,22 @@ ghost use Rattle.std.specs.Prelude.{◌≡◌, ◌+◌, ◌++◌, IfOk, OnOk, le
 ghost use Rattle.sc_tree.specs.View.{declaration_of, instrs_of};
 ghost use Rattle.sc_typing.specs.Views.{entity_of};
 ghost use Rattle.sc_class.specs.SystemIn.{system_in};
-ghost use Rattle.sc_model.specs.Values as values;
 ghost use Rattle.sc_model.specs.Environments.{locals_bound, scope_of};
-ghost use Rattle.sc_lower.specs.Emitted.{declare_code, instrs_code, instrs_depth, instrs_slots};
-ghost use Rattle.sc_lower.specs.Room.{instrs_blocks};
+ghost use Rattle.sc_code.specs.Emitted.{declare_code, instrs_code, instrs_depth, instrs_slots};
+ghost use Rattle.sc_code.specs.Room.{instrs_blocks};
 ghost use Rattle.sc_lower.specs.Settings.{setting_in};
-ghost use Rattle.sc_lower.specs.View.{default_value};
 
 use crate::code::Code;
 use crate::instructions::lower_instructions;
 use crate::instructions::needs::Needs;
-use crate::operation::DefaultValue;
 use crate::setting::Setting;
 use crate::unlinked::UnlinkedOperation;
-use sc_class::{ClassId, Tables};
+use sc_class::Tables;
+use sc_code::DefaultValue;
 use sc_rules::Role;
 use sc_tree::{Declaration, Instr};
 use sc_typing::{Entity, declared_type};
 use std::alloc::AllocError;
-
-/// What an entity of the class holds before anything is assigned to it.
-pub fn default_of(class: ClassId) -> DefaultValue
-    ensures { default_value result ≡ values.default_of class }
-{
-    match class {
-        ClassId::Integer => DefaultValue::Zero,
-        ClassId::Boolean => DefaultValue::False,
-        ClassId::Any | ClassId::None | ClassId::Declared(_) => DefaultValue::Void,
-    }
-}
 
 /// Lowers the defaults of the locals of a routine with these formals, and makes the locals known.
 fn lower_locals<'s>(
@@ -49,7 +36,7 @@ fn lower_locals<'s>(
         if let Some(entity_type) = declared_type(tables, formals, &local.declared_type) {
             code.push(UnlinkedOperation::Initialize {
                 slot: names.len(),
-                value: default_of(entity_type.class),
+                value: DefaultValue::of(entity_type.class),
             })?;
             names.push(Entity {
                 name: local.name.text.as_str(),

@@ -5,7 +5,7 @@ ghost use Rattle.std.specs.List.{filter_map};
 ghost use Rattle.sc_tree.specs.View.{clause_of, expr_of, exprs_of};
 ghost use Rattle.sc_typing.specs.Views.{entity_of};
 ghost use Rattle.sc_model.specs.Preconditions.{names_in, names_in_each};
-ghost use Rattle.sc_lower.specs.Emitted as emitted;
+ghost use Rattle.sc_code.specs.Emitted as emitted;
 
 use crate::known_names::is_formal;
 use sc_tree::{Call, Clause, Expr};

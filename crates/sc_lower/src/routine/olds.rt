@@ -4,8 +4,8 @@ ghost use Rattle.std.specs.Prelude.{◌≡◌, ◌++◌, IfOk, OnOk, map};
 ghost use Rattle.sc_tree.specs.View.{clause_of};
 ghost use Rattle.sc_typing.specs.Views.{entity_of};
 ghost use Rattle.sc_model.specs.Olds as model;
-ghost use Rattle.sc_lower.specs.Places.{old_types};
-ghost use Rattle.sc_lower.specs.Emitted.{olds_code, olds_depth};
+ghost use Rattle.sc_code.specs.Places.{old_types};
+ghost use Rattle.sc_code.specs.Emitted.{olds_code, olds_depth};
 ghost use Rattle.sc_lower.specs.Settings.{operands_of, setting_in};
 
 use crate::code::Code;

@@ -5,7 +5,7 @@ use Rattle.sc_tree.specs.View.{declaration_of}
 use Rattle.sc_class.specs.SystemIn.{system_in}
 use Rattle.sc_rules.specs.Names.{FormalType, formal_type}
 use Rattle.sc_rules.specs.Types.{declared_type}
-use Rattle.sc_lower.specs.Emitted.{types_pass}
+use Rattle.sc_code.specs.Emitted.{types_pass}
 use Rattle.sc_lower.proofs.calls.declared_types_pass.Goals as goal
 
 none_passes : (fs : List FormalType) → types_pass fs [] ≡ false

@@ -6,10 +6,10 @@ use Rattle.sc_tree.specs.View.{expr_of, head_of, instrs_of, branches_of}
 use Rattle.sc_rules.specs.Names.{Entities}
 use Rattle.sc_typing.specs.Views.{entity_of}
 use Rattle.sc_lower.specs.Jumps.{jump_of, landed}
-use Rattle.sc_lower.specs.Operations.{EndLoop, Jump}
-use Rattle.sc_lower.specs.Places.{names_given, with_heads}
-use Rattle.sc_lower.specs.Emitted.{expr_code, expr_depth, names_of, instr_code, instr_depth, instr_slots, instrs_code, instrs_depth, instrs_slots, branches_depth, branches_slots}
-use Rattle.sc_lower.specs.Room.{instr_blocks}
+use Rattle.sc_code.specs.Operations.{EndLoop, Jump}
+use Rattle.sc_code.specs.Places.{names_given, with_heads}
+use Rattle.sc_code.specs.Emitted.{expr_code, expr_depth, names_of, instr_code, instr_depth, instr_slots, instrs_code, instrs_depth, instrs_slots, branches_depth, branches_slots}
+use Rattle.sc_code.specs.Room.{instr_blocks}
 use Rattle.sc_lower.specs.Settings.{setting_in}
 use Rattle.sc_lower.proofs.Landing.{skip_set, loop_set, if_landed, if_jumps}
 use Rattle.sc_lower.proofs.Shapes.{if_is, loop_is, block_is}

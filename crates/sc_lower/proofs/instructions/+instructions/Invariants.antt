@@ -1,9 +1,9 @@
 use Rattle.std.proofs.Common.{◌≡◌, ◌++◌, drop, length, map, max}
 use Rattle.sc_tree.specs.View.{instrs_of, branches_of}
 use Rattle.sc_typing.specs.Views.{entity_of}
-use Rattle.sc_lower.specs.Emitted.{instrs_code, instrs_depth, instrs_slots, branches_depth, branches_slots}
+use Rattle.sc_code.specs.Emitted.{instrs_code, instrs_depth, instrs_slots, branches_depth, branches_slots}
 use Rattle.sc_lower.specs.Jumps.{open_branches, jumps_of}
-use Rattle.sc_lower.specs.Room.{instrs_blocks, branches_blocks}
+use Rattle.sc_code.specs.Room.{instrs_blocks, branches_blocks}
 use Rattle.sc_lower.specs.Settings.{setting_in}
 use Rattle.sc_lower.proofs.instructions.+instructions.Given as goal
 

@@ -2,7 +2,7 @@ use Rattle.std.proofs.Common.{◌≡◌, ℕ, suc, ◌+◌, drop, map, ap, sym, 
 use Rattle.std.specs.Prelude.{slice_get}
 use Rattle.std.specs.Option.{option_map}
 use Rattle.sc_typing.specs.Views.{entity_of}
-use Rattle.sc_lower.specs.Emitted.{block_slots}
+use Rattle.sc_code.specs.Emitted.{block_slots}
 use Rattle.sc_lower.proofs.Blocks.{passed_block, passed_other}
 use Rattle.sc_lower.proofs.known_names.block_slot.Goals.{then-is_block+else-left-eq0, else-is_block}
 use Rattle.sc_lower.proofs.known_names.block_slot.Goals as goal

@@ -2,7 +2,7 @@ use Rattle.std.proofs.Common.{◌≡◌, ◌+◌, drop, map}
 use Rattle.std.specs.Prelude.{slice_get}
 use Rattle.std.specs.Option.{option_map}
 use Rattle.sc_typing.specs.Views.{entity_of}
-use Rattle.sc_lower.specs.Emitted.{block_slots}
+use Rattle.sc_code.specs.Emitted.{block_slots}
 use Rattle.sc_lower.proofs.known_names.block_slot.Given as goal
 
 abbrev pub invariant-loop-slot : goal.invariant-loop-slot

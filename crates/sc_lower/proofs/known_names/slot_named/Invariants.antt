@@ -1,7 +1,7 @@
 use Rattle.std.proofs.Common.{◌≡◌, ◌+◌, drop, map}
 use Rattle.std.specs.Option.{option_map}
 use Rattle.sc_typing.specs.Views.{entity_of}
-use Rattle.sc_lower.specs.Places.{slot_named}
+use Rattle.sc_code.specs.Places.{slot_named}
 use Rattle.sc_lower.proofs.known_names.slot_named.Given as goal
 
 abbrev pub invariant-loop-slot : goal.invariant-loop-slot

@@ -1,6 +1,6 @@
 use Rattle.std.proofs.Common.{◌≡◌, ◌-◌, ◌++◌, ◌∷◌, [], List, OnOk, Ok, Err, length, sym, ap, ◌∙◌}
-use Rattle.sc_lower.specs.Operations.{Operation, Conclude}
-use Rattle.sc_lower.specs.Emitted.{right_code}
+use Rattle.sc_code.specs.Operations.{Operation, Conclude}
+use Rattle.sc_code.specs.Emitted.{right_code}
 use Rattle.sc_lower.specs.Parts.{opened}
 use Rattle.sc_lower.proofs.Deciding.{decided}
 use Rattle.sc_lower.proofs.operator_code.close_right.Goals as goal

@@ -11,10 +11,10 @@ use Rattle.sc_typing.specs.declared.declarations.names.Entity.{Entity}
 use Rattle.sc_typing.specs.Views.{entity_of}
 use Rattle.sc_model.specs.Environments.{locals_bound, scope_of}
 use Rattle.sc_model.specs.Olds.{olds_of_clauses}
-use Rattle.sc_lower.specs.Operations.{Operation}
-use Rattle.sc_lower.specs.Places.{old_types}
-use Rattle.sc_lower.specs.Emitted.{require_code, olds_code, declare_code, instrs_code, ensure_code, checks_depth, olds_depth, instrs_depth, instrs_slots, clauses_depth, setting, formals_of}
-use Rattle.sc_lower.specs.Room.{instrs_blocks}
+use Rattle.sc_code.specs.Operations.{Operation}
+use Rattle.sc_code.specs.Places.{old_types}
+use Rattle.sc_code.specs.Emitted.{require_code, olds_code, declare_code, instrs_code, ensure_code, checks_depth, olds_depth, instrs_depth, instrs_slots, clauses_depth, setting, formals_of}
+use Rattle.sc_code.specs.Room.{instrs_blocks}
 use Rattle.sc_lower.specs.Settings.{setting_in}
 use Rattle.sc_lower.specs.Sources.{source_in}
 use Rattle.sc_lower.proofs.Whole.{whole_code, whole_depth, whole_slots}

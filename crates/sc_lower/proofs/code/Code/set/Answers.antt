@@ -1,7 +1,7 @@
 use Rattle.std.proofs.Common.{List, ap, ◌∙◌}
 use Rattle.std.specs.Prelude.{slice_set}
 use Rattle.std.proofs.lemmas.List.{map-set}
-use Rattle.sc_lower.specs.Operations.{Operation}
+use Rattle.sc_code.specs.Operations.{Operation}
 use Rattle.sc_lower.specs.Unlinked.{unlinked}
 use Rattle.sc_lower.proofs.code.Code.set.Goals as goal
 

@@ -1,8 +1,8 @@
 use Rattle.std.proofs.Common.{◌≡◌, drop, map}
 use Rattle.sc_tree.specs.View.{head_of}
 use Rattle.sc_typing.specs.Views.{entity_of}
-use Rattle.sc_lower.specs.Places.{with_heads}
-use Rattle.sc_lower.specs.Emitted.{names_of}
+use Rattle.sc_code.specs.Places.{with_heads}
+use Rattle.sc_code.specs.Emitted.{names_of}
 use Rattle.sc_lower.proofs.instructions.blocks.add_heads.Given as goal
 
 -- the names with those of the heads that are left

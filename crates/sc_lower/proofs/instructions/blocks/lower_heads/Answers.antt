@@ -6,8 +6,8 @@ use Rattle.sc_tree.specs.View.{head_of}
 use Rattle.sc_proctype.specs.declared.entity_type.EntityType.{EntityType}
 use Rattle.sc_rules.specs.Names.{Entities}
 use Rattle.sc_typing.specs.Views.{entity_of}
-use Rattle.sc_lower.specs.Places.{head_types}
-use Rattle.sc_lower.specs.Emitted.{expr_depth, heads_code, heads_depth}
+use Rattle.sc_code.specs.Places.{head_types}
+use Rattle.sc_code.specs.Emitted.{expr_depth, heads_code, heads_depth}
 use Rattle.sc_lower.specs.Settings.{setting_in}
 use Rattle.sc_lower.proofs.HeadNames.{heads_deep, next_head_code, next_head_types}
 use Rattle.sc_lower.proofs.instructions.blocks.lower_heads.Goals as goal

@@ -1,8 +1,8 @@
 use Rattle.std.proofs.Common.{◌≡◌, ◌≤◌, ◌+◌, ◌++◌, drop, length, map, max}
 use Rattle.sc_tree.specs.View.{head_of}
 use Rattle.sc_typing.specs.Views.{entity_of}
-use Rattle.sc_lower.specs.Places.{head_types}
-use Rattle.sc_lower.specs.Emitted.{heads_code, heads_depth}
+use Rattle.sc_code.specs.Places.{head_types}
+use Rattle.sc_code.specs.Emitted.{heads_code, heads_depth}
 use Rattle.sc_lower.specs.Settings.{setting_in}
 use Rattle.sc_lower.proofs.instructions.blocks.lower_heads.Given as goal
 

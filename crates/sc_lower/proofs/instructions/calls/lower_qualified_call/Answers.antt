@@ -2,8 +2,8 @@ use Rattle.std.proofs.Common.{ℕ, List, ◌++◌, length, map, refl, ap, ◌∙
 use Rattle.sc_tree.specs.View.{expr_of, exprs_of, name_of}
 use Rattle.sc_rules.specs.Names.{Entities}
 use Rattle.sc_typing.specs.Views.{entity_of}
-use Rattle.sc_lower.specs.Places.{exprs_types}
-use Rattle.sc_lower.specs.Emitted.{exprs_code, feature_call}
+use Rattle.sc_code.specs.Places.{exprs_types}
+use Rattle.sc_code.specs.Emitted.{exprs_code, feature_call}
 use Rattle.sc_lower.specs.Settings.{setting_in}
 use Rattle.sc_lower.proofs.InstructionCalls.{qualified_call}
 use Rattle.sc_lower.proofs.instructions.calls.lower_qualified_call.Goals as goal

@@ -4,7 +4,7 @@ use Rattle.sc_tree.specs.View.{creation_call_of, variable_of}
 use Rattle.sc_rules.specs.Names.{Entities}
 use Rattle.sc_typing.specs.Views.{assignee_in, entity_of}
 use Rattle.sc_model.specs.Instructions.{actuals_of, procedure_of}
-use Rattle.sc_lower.specs.Emitted.{assign_code}
+use Rattle.sc_code.specs.Emitted.{assign_code}
 use Rattle.sc_lower.specs.Settings.{setting_in}
 use Rattle.sc_lower.proofs.Creating.{created}
 use Rattle.sc_lower.proofs.instructions.creation.lower_creation.Goals as goal

@@ -4,7 +4,7 @@ use Rattle.std.specs.Option.{option_map}
 use Rattle.sc_class.specs.SystemIn.{system_in}
 use Rattle.sc_class.specs.View.{entry_of}
 use Rattle.sc_model.specs.Objects.{fresh_attributes}
-use Rattle.sc_lower.specs.Attributes.{binding_of}
+use Rattle.sc_lower.specs.AttributeBindings.{binding_of}
 use Rattle.sc_lower.proofs.FreshAttributes.{listed, fresh_more}
 use Rattle.sc_lower.proofs.program.attributes.attributes_of.Goals as goal
 use Rattle.sc_lower.proofs.program.attributes.attributes_of.Goals.{in-Some+in_ok-push, in_default}

@@ -2,7 +2,7 @@ use Rattle.std.proofs.Common.{rules}
 use borrow.Author.Tests.{tests}
 use Rattle.std.proofs.lemmas.Iterator.{YieldsList-from_slice}
 use Rattle.std.proofs.lemmas.Iterator.Search.{position_from_yields_List}
-use Rattle.sc_lower.specs.Attributes.{is_named}
+use Rattle.sc_lower.specs.AttributeBindings.{is_named}
 use Rattle.sc_lower.proofs.program.attributes.place.Goals as goal
 
 pub returns : goal.returns

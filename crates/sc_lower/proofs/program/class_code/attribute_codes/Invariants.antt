@@ -1,7 +1,7 @@
 use Rattle.std.proofs.Common.{◌≡◌, take, map}
 use Rattle.sc_model.specs.Environments.{Binding}
-use Rattle.sc_lower.specs.Attributes.{binding_of}
-use Rattle.sc_lower.specs.Programs.{attribute_in}
+use Rattle.sc_lower.specs.AttributeBindings.{binding_of}
+use Rattle.sc_code.specs.Programs.{attribute_in}
 use Rattle.sc_lower.proofs.program.class_code.attribute_codes.Given as goal
 
 abbrev pub invariant-loop-attribute : goal.invariant-loop-attribute

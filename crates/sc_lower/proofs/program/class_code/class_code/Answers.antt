@@ -3,7 +3,7 @@ use Rattle.sc_class.specs.SystemIn.{system_in, root_in}
 use Rattle.sc_class.specs.View.{entry_of}
 use Rattle.sc_model.specs.Environments.{Binding}
 use Rattle.sc_model.specs.Objects.{fresh_attributes}
-use Rattle.sc_lower.specs.Attributes.{binding_of}
+use Rattle.sc_lower.specs.AttributeBindings.{binding_of}
 use Rattle.sc_lower.proofs.Few.{few_attributes, as_many_codes}
 use Rattle.sc_lower.proofs.program.class_code.class_code.Goals as goal
 

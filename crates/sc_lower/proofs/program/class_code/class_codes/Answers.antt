@@ -3,7 +3,7 @@ use Rattle.std.specs.Prelude.{string_bytes}
 use Rattle.std.specs.List.{range_with_len}
 use Rattle.std.proofs.lemmas.List.{map-append}
 use Rattle.sc_class.specs.SystemIn.{system_in}
-use Rattle.sc_lower.specs.Programs.{PlainClass, class_in, class_code_of}
+use Rattle.sc_code.specs.Programs.{PlainClass, class_in, class_code_of}
 use Rattle.sc_lower.proofs.Ranges.{range_more}
 use Rattle.sc_lower.proofs.program.class_code.class_codes.Goals as goal
 

@@ -2,7 +2,7 @@ use Rattle.std.proofs.Common.{◌≡◌, map}
 use Rattle.std.specs.Prelude.{string_bytes}
 use Rattle.std.specs.List.{range_with_len}
 use Rattle.sc_class.specs.SystemIn.{system_in}
-use Rattle.sc_lower.specs.Programs.{class_in, class_code_of}
+use Rattle.sc_code.specs.Programs.{class_in, class_code_of}
 use Rattle.sc_lower.proofs.program.class_code.class_codes.Given as goal
 
 abbrev pub invariant-loop-class : goal.invariant-loop-class

@@ -8,7 +8,7 @@ use Rattle.sc_tree.specs.View.{expr_of}
 use Rattle.sc_tree.proofs.ViewLemmas.{expr_of-binary}
 use Rattle.sc_model.specs.Operators.{comparison_of}
 use Rattle.sc_model.specs.Invariants.{term_of, formula_of, comparison_formula, connective_formula}
-use Rattle.sc_lower.specs.Attributes.{binding_of}
+use Rattle.sc_lower.specs.AttributeBindings.{binding_of}
 use Rattle.sc_lower.proofs.Formulas.{compared_formula, connected_formula}
 use Rattle.sc_lower.proofs.program.invariant.+formula.Goals as goal
 

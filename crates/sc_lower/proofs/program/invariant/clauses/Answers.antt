@@ -3,7 +3,7 @@ use Rattle.std.specs.Option.{option_map}
 use Rattle.sc_formula.specs.Plain.{plain_formula}
 use Rattle.sc_tree.specs.View.{clause_of}
 use Rattle.sc_model.specs.Invariants.{with_clause, clauses_of}
-use Rattle.sc_lower.specs.Attributes.{binding_of}
+use Rattle.sc_lower.specs.AttributeBindings.{binding_of}
 use Rattle.sc_lower.proofs.Formulas.{clause_here, clause_pushed}
 use Rattle.sc_lower.proofs.program.invariant.clauses.Goals as goal
 

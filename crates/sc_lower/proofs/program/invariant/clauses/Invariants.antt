@@ -3,7 +3,7 @@ use Rattle.std.specs.Option.{option_map}
 use Rattle.sc_formula.specs.Plain.{plain_formula}
 use Rattle.sc_tree.specs.View.{clause_of}
 use Rattle.sc_model.specs.Invariants.{clauses_of}
-use Rattle.sc_lower.specs.Attributes.{binding_of}
+use Rattle.sc_lower.specs.AttributeBindings.{binding_of}
 use Rattle.sc_lower.proofs.program.invariant.clauses.Given as goal
 
 abbrev pub invariant-loop-clause : goal.invariant-loop-clause

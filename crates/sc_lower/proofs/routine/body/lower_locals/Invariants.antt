@@ -3,7 +3,7 @@ use Rattle.sc_tree.specs.View.{declaration_of}
 use Rattle.sc_class.specs.SystemIn.{system_in}
 use Rattle.sc_typing.specs.Views.{entity_of}
 use Rattle.sc_model.specs.Environments.{locals_bound, scope_of}
-use Rattle.sc_lower.specs.Emitted.{declare_code}
+use Rattle.sc_code.specs.Emitted.{declare_code}
 use Rattle.sc_lower.proofs.routine.body.lower_locals.Given as goal
 
 -- the locals so far, and those that are left, are all of them

@@ -7,7 +7,7 @@ use Rattle.sc_tree.specs.View.{expr_of, exprs_of}
 use Rattle.sc_tree.proofs.ViewLemmas.{expr_of-binary}
 use Rattle.sc_typing.specs.Views.{entity_of}
 use Rattle.sc_model.specs.Preconditions.{names_in, names_in_each}
-use Rattle.sc_lower.specs.Emitted.{formal_slot}
+use Rattle.sc_code.specs.Emitted.{formal_slot}
 use Rattle.sc_lower.proofs.FormalNames.{both_added, formals_joined, names_in_own, names_in_qualified}
 use Rattle.sc_lower.proofs.routine.formals.+names.Goals as goal
 

@@ -3,7 +3,7 @@ use Rattle.std.specs.List.{filter_map}
 use Rattle.sc_tree.specs.View.{exprs_of}
 use Rattle.sc_typing.specs.Views.{entity_of}
 use Rattle.sc_model.specs.Preconditions.{names_in_each}
-use Rattle.sc_lower.specs.Emitted.{formal_slot}
+use Rattle.sc_code.specs.Emitted.{formal_slot}
 use Rattle.sc_lower.proofs.routine.formals.+names.Given as goal
 
 -- the slots of those found so far, and of those that are left

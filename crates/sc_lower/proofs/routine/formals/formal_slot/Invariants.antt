@@ -1,7 +1,7 @@
 use Rattle.std.proofs.Common.{◌≡◌, ◌+◌, drop, map}
 use Rattle.std.specs.Option.{option_map}
 use Rattle.sc_typing.specs.Views.{entity_of}
-use Rattle.sc_lower.specs.Emitted.{formal_slot}
+use Rattle.sc_code.specs.Emitted.{formal_slot}
 use Rattle.sc_lower.proofs.routine.formals.formal_slot.Given as goal
 
 abbrev pub invariant-loop-slot : goal.invariant-loop-slot

@@ -7,8 +7,8 @@ use Rattle.sc_tree.specs.View.{expr_of}
 use Rattle.sc_proctype.specs.declared.entity_type.EntityType.{EntityType}
 use Rattle.sc_rules.specs.Names.{Entities}
 use Rattle.sc_typing.specs.Views.{entity_of}
-use Rattle.sc_lower.specs.Places.{Setting, expr_type, old_types, with_old}
-use Rattle.sc_lower.specs.Emitted.{expr_depth, olds_code, olds_depth}
+use Rattle.sc_code.specs.Places.{Setting, expr_type, old_types, with_old}
+use Rattle.sc_code.specs.Emitted.{expr_depth, olds_code, olds_depth}
 use Rattle.sc_lower.specs.Settings.{operands_of, setting_in}
 use Rattle.sc_lower.proofs.Keeping.{kept, next_old_code, next_old_types}
 use Rattle.sc_lower.proofs.routine.olds.lower_olds.Goals as goal

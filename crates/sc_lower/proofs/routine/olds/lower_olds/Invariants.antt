@@ -1,7 +1,7 @@
 use Rattle.std.proofs.Common.{◌≡◌, ◌++◌, drop, map, max}
 use Rattle.sc_typing.specs.Views.{entity_of}
-use Rattle.sc_lower.specs.Places.{old_types}
-use Rattle.sc_lower.specs.Emitted.{olds_code, olds_depth}
+use Rattle.sc_code.specs.Places.{old_types}
+use Rattle.sc_code.specs.Emitted.{olds_code, olds_depth}
 use Rattle.sc_lower.specs.Settings.{operands_of, setting_in}
 use Rattle.sc_lower.proofs.routine.olds.lower_olds.Given as goal
 

@@ -1,7 +1,7 @@
 use Rattle.std.proofs.Common.{◌≡◌, ◌++◌, drop, map, max}
 use Rattle.sc_tree.specs.View.{clause_of}
 use Rattle.sc_typing.specs.Views.{entity_of}
-use Rattle.sc_lower.specs.Emitted.{clauses_depth, ensure_code}
+use Rattle.sc_code.specs.Emitted.{clauses_depth, ensure_code}
 use Rattle.sc_lower.specs.Settings.{setting_in}
 use Rattle.sc_lower.proofs.routine.postcondition.lower_postcondition.Given as goal
 

@@ -1,7 +1,7 @@
 use Rattle.std.proofs.Common.{◌≡◌, ◌++◌, drop, map, max}
 use Rattle.sc_tree.specs.View.{clause_of}
 use Rattle.sc_typing.specs.Views.{entity_of}
-use Rattle.sc_lower.specs.Emitted.{checks_depth, clauses_code}
+use Rattle.sc_code.specs.Emitted.{checks_depth, clauses_code}
 use Rattle.sc_lower.specs.Settings.{setting_in}
 use Rattle.sc_lower.proofs.routine.precondition.lower_demands.Given as goal
 

@@ -8,10 +8,10 @@ use Rattle.sc_tree.proofs.ViewLemmas.{expr_of-call, expr_of-result, expr_of-unar
 use Rattle.sc_model.specs.Olds.{olds_in, olds_of_each}
 use Rattle.sc_typing.specs.Views.{entity_of}
 use Rattle.sc_lower.specs.Settings.{setting_in}
-use Rattle.sc_lower.specs.Places.{expr_type, names_given, exprs_types, slot_named}
-use Rattle.sc_lower.specs.Emitted.{expr_code, expr_depth, expr_slots, exprs_code, exprs_depth}
+use Rattle.sc_code.specs.Places.{expr_type, names_given, exprs_types, slot_named}
+use Rattle.sc_code.specs.Emitted.{expr_code, expr_depth, expr_slots, exprs_code, exprs_depth}
 use Rattle.sc_lower.proofs.Given.{forgotten_in}
-use Rattle.sc_lower.proofs.Lowering.{always, result_code, result_told, old_code, old_told, unary_code, unary_told, unary_names, test_code, test_names, test_told, close_code, close_told, close_names, place_within, Told, routine_code_left, routine_told, feature_code_left, feature_told, next_code, next_types, next_depth, next_olds}
+use Rattle.sc_lower.proofs.LoweredExpressions.{always, result_code, result_told, old_code, old_told, unary_code, unary_told, unary_names, test_code, test_names, test_told, close_code, close_told, close_names, place_within, Told, routine_code_left, routine_told, feature_code_left, feature_told, next_code, next_types, next_depth, next_olds}
 use Rattle.sc_typing.specs.declared.declarations.names.Entity.{Entity}
 use Rattle.sc_lower.specs.Named.{own_named, routine_given}
 use Rattle.sc_lower.specs.Parts.{call_in}
@@ -117,8 +117,8 @@ lower_condition-returns-in_ok-tested-in-ObjectTest t c =
     let l = c.in_ok-tested-in-ObjectTest.tested in
     let left = c.truncate-in-ObjectTest.new.self.items in
     let m = map entity_of left in
-    let em = forgotten_in h i a first first c.lower_condition-in-ObjectTest.new.names.items left c.len-count-in-ObjectTest.result refl lowered.names
-    (c.len-count-in-ObjectTest.ensures ∙ c.args.names.now.ok.0) c.truncate-in-ObjectTest.ensures.items in
+    let em = forgotten_in h i a first first c.lower_condition-in-ObjectTest.new.names.items left c.len-count.result refl lowered.names
+    (c.len-count.ensures ∙ c.args.names.now.ok.0) c.truncate-in-ObjectTest.ensures.items in
     let r = c.close_test.result in
     let told = test_told h n m i q d a x r p l ep em lowered.value (length left) lowered.depth lowered.olds (sym (length-map left entity_of)) c.close_test.ensures.told in
     record {
@@ -162,7 +162,7 @@ lower_condition-returns-in_ok-right-in-Binary t c =
       code = close_code h n m i q op a b p r left right ep one.names one.olds c.args.code.now c.lower_condition-in-Binary.new.code c.open_right.new.code
           c.lower_condition-in-Binary-2.new.code c.close_binary.new.code c.len-place.result one.code c.len-place.ensures c.in_ok-open_right-in-Binary.ensures other.code c.close_binary.ensures.code;
       names = always r (close_names h n m i q op a b p r left right ep one.names one.olds first given c.lower_condition-in-Binary-2.new.names.items c.close_binary.new.names.items
-          c.len-count-in-Binary.result refl refl other.names (c.len-count-in-Binary.ensures ∙ c.args.names.now.ok.0) c.close_binary.ensures.both c.close_binary.ensures.none);
+          c.len-count.result refl refl other.names (c.len-count.ensures ∙ c.args.names.now.ok.0) c.close_binary.ensures.both c.close_binary.ensures.none);
       value = told.value;
       depth = told.depth;
       olds = told.olds;

@@ -2,8 +2,8 @@ use Rattle.std.proofs.Common.{◌≡◌, ◌+◌, ◌++◌, drop, length, map, m
 use Rattle.sc_tree.specs.View.{exprs_of}
 use Rattle.sc_model.specs.Olds.{olds_of_each}
 use Rattle.sc_typing.specs.Views.{entity_of}
-use Rattle.sc_lower.specs.Emitted.{exprs_code, exprs_depth}
-use Rattle.sc_lower.specs.Places.{exprs_types}
+use Rattle.sc_code.specs.Emitted.{exprs_code, exprs_depth}
+use Rattle.sc_code.specs.Places.{exprs_types}
 use Rattle.sc_lower.specs.Settings.{setting_in}
 use Rattle.sc_lower.proofs.setting.Setting.+expressions.Given as goal
 

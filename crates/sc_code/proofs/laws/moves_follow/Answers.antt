@@ -1,0 +1,5 @@
+use Rattle.sc_code.proofs.Following.{moves_follow}
+use Rattle.sc_code.proofs.laws.moves_follow.Goals as goal
+
+pub returns : goal.returns
+returns c = moves_follow

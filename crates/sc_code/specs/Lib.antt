@@ -1,0 +1,13 @@
+pub mod Operations
+pub mod Places
+pub mod Emitted
+pub mod Room
+pub mod Machine
+pub mod Typed
+pub mod Stands
+pub mod Lowered
+pub mod View
+pub mod Attributes
+pub mod Programs
+pub mod CheckedImages
+pub mod Invariants

@@ -1,0 +1,46 @@
+//! What holds of the code of every routine and class, each the contract of a function that does nothing.
+ghost use Rattle.sc_code.specs.Invariants.{InvariantsAreKnown};
+ghost use Rattle.sc_code.specs.Lowered.{EntriesBegin, LoweredStands, MovesFollow, ObjectsMayChange, RoutinesAreTyped, RoutinesFollow, RoutinesStand};
+
+/// At its first place a routine's code stands for the routine, where each of its expressions has its type.
+pub fn lowered_stands()
+    ensures { LoweredStands }
+{}
+
+/// From a place that stands for a point, the code makes the silent steps of the model silently, meets the same visible
+/// step, and stands for the point after it.
+pub fn moves_follow()
+    ensures { MovesFollow }
+{}
+
+/// A routine begins where the model enters it.
+pub fn entries_begin()
+    ensures { EntriesBegin }
+{}
+
+/// A place stands for a point whatever the objects are.
+pub fn objects_may_change()
+    ensures { ObjectsMayChange }
+{}
+
+/// In a well-formed system each expression of each routine that may run has its static type, and so has each of the
+/// contract that the routine keeps.
+pub fn checked_routines_are_typed()
+    ensures { RoutinesAreTyped }
+{}
+
+/// In a well-formed system the first place of a routine's code stands for the routine.
+pub fn checked_routines_stand()
+    ensures { RoutinesStand }
+{}
+
+/// In a well-formed system the code of a routine that begins makes the silent steps of the model silently, meets the same
+/// visible step, and stands for the point after it.
+pub fn checked_routines_follow()
+    ensures { RoutinesFollow }
+{}
+
+/// In an accepted system the formulas that a class has in flat code are its joined invariant.
+pub fn invariants_are_known()
+    ensures { InvariantsAreKnown }
+{}

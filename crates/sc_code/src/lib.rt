@@ -1,0 +1,19 @@
+//! Flat code: what a checked system is run from.
+//!
+//! A [`Program`] has a list of [`Operation`]s for each routine, and tables that the operations name by number. Nothing
+//! of it refers to the trees. An operation pops its operands and pushes what it gives; a jump passes operations ahead, and
+//! only the end of a loop goes back.
+//!
+//! `specs/Emitted` says what code a routine has, `specs/Machine` what an operation does, `specs/Programs` what the tables
+//! of a system are, and [`laws`] that the code of each routine follows the model.
+#![tactic(auto)]
+
+pub mod laws;
+mod operation;
+mod program;
+mod site;
+
+pub use operation::{DefaultValue, Operation};
+pub use program::lookup::Program;
+pub use program::{AttributeCode, ClassCode, ConstantPool, Image, RoutineCode, Version};
+pub use site::{CallSite, CreationSite, Heads, ObjectTest, Residence, TestedType};

@@ -1,5 +1,0 @@
-use Rattle.sc_lower.proofs.TypingRoutines.{routines_follow}
-use Rattle.sc_lower.proofs.laws.checked_routines_follow.Goals as goal
-
-pub returns : goal.returns
-returns c = routines_follow

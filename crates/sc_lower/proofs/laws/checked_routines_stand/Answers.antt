@@ -1,5 +1,0 @@
-use Rattle.sc_lower.proofs.TypingRoutines.{routines_stand}
-use Rattle.sc_lower.proofs.laws.checked_routines_stand.Goals as goal
-
-pub returns : goal.returns
-returns c = routines_stand

@@ -1,0 +1,28 @@
+use Rattle.std.proofs.Common.{◌<◌, subst, sym, refl}
+use Rattle.sc_class.specs.SystemIn.{root_in, system_in}
+use Rattle.sc_class.specs.declared.class_tables.Tables.{Tables}
+use Rattle.sc_check.specs.CheckedTables.{tables_of}
+use Rattle.sc_code.specs.declared.program.Image.{Image}
+use Rattle.sc_code.specs.Programs.{IsProgramOf, code_length}
+use Rattle.sc_lower.proofs.program.lowering.lower_within.Goals as goal
+
+pub of-requires : goal.of-requires
+of-requires c =
+    let t = tables_of c.args.checked in
+    ∣ record {
+      system = system_in t;
+      root = root_in t;
+      faultless = t.faultless;
+      well_formed = c.args.checked.well_formed;
+      program = subst (λ (u : Tables). IsProgramOf (system_in u) (root_in u) c.in-Ok.image) c.tables.ensures.same c.in-Ok.ensures.image;
+    } ∣₁
+
+pub returns-in-Ok-clause-lowered : goal.returns-in-Ok-clause-lowered
+returns-in-Ok-clause-lowered c =
+    let t = tables_of c.args.checked in
+    subst (λ (i : Image). IsProgramOf (system_in t) (root_in t) i) (sym c.of.ensures)
+    (subst (λ (t : Tables). IsProgramOf (system_in t) (root_in t) c.in-Ok.image) c.tables.ensures.same c.in-Ok.ensures.image)
+
+pub returns-clause-refused : goal.returns-clause-refused
+returns-clause-refused c =
+    (refl, subst (λ (t : Tables). c.args.most < code_length (system_in t)) c.tables.ensures.same (c.in-Err-CodeTooLong.ensures.too_long c.in-Err-CodeTooLong.field-0-is))
