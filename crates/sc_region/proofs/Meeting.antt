@@ -5,7 +5,7 @@ use Rattle.std.specs.Prelude.{◌&&◌, unwrap_or, IsTrue, ◌↔◌}
 use Rattle.sc_formula.specs.declared.atom.Atom.{Atom}
 use Rattle.sc_formula.specs.Formula.{PlainFormula, truth_of}
 use Rattle.sc_formula.specs.Invariant.{Holds, Meets}
-use Rattle.sc_lower.specs.declared.program.Image.{Image}
+use Rattle.sc_code.specs.declared.program.Image.{Image}
 use Rattle.sc_region.specs.Values.{atoms_of}
 use Rattle.sc_region.specs.Objects.{PlainObject}
 use Rattle.sc_region.specs.Classes.{invariant_of, MeetsInvariant, MeetsAt, all_hold, meets_invariant, object_meets, object_breaks}

@@ -5,7 +5,7 @@ use Rattle.std.specs.Prelude.{◌==◌, nat_lt, if◌then◌else◌}
 use Rattle.sc_model.specs.declared.cause.Cause.TheVariants as cause
 use Rattle.sc_region.specs.declared.value.Value.{Value}
 use Rattle.sc_region.specs.declared.value.Reference.{Reference}
-use Rattle.sc_lower.specs.declared.program.RoutineCode.{RoutineCode}
+use Rattle.sc_code.specs.declared.program.RoutineCode.{RoutineCode}
 use Rattle.sc_region.specs.declared.frame.Origin.{Origin}
 use Rattle.sc_region.specs.Classes.{routine_at}
 use Rattle.sc_region.specs.Frames.{PlainActivation, frame_with}

@@ -7,10 +7,10 @@ use Rattle.sc_formula.specs.Formula.{PlainFormula, truth_of}
 use Rattle.sc_formula.specs.Invariant.{Meets}
 use Rattle.sc_formula.specs.Plain.{plain_formula}
 use Rattle.sc_region.specs.declared.value.Value.{Value}
-use Rattle.sc_lower.specs.declared.program.Image.{Image}
-use Rattle.sc_lower.specs.declared.program.RoutineCode.{RoutineCode}
-use Rattle.sc_lower.specs.declared.program.ClassCode.{ClassCode}
-use Rattle.sc_lower.specs.declared.program.AttributeCode.{AttributeCode}
+use Rattle.sc_code.specs.declared.program.Image.{Image}
+use Rattle.sc_code.specs.declared.program.RoutineCode.{RoutineCode}
+use Rattle.sc_code.specs.declared.program.ClassCode.{ClassCode}
+use Rattle.sc_code.specs.declared.program.AttributeCode.{AttributeCode}
 use Rattle.sc_region.specs.Values.{default_value, atoms_of}
 use Rattle.sc_region.specs.Objects.{PlainObject}
 

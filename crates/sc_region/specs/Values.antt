@@ -2,8 +2,8 @@
 use Rattle.std.specs.Prelude.{pos, true, false, List, map}
 use Rattle.sc_formula.specs.declared.atom.Atom.{Atom}
 use Rattle.sc_formula.specs.declared.atom.Atom.TheVariants as atom
-use Rattle.sc_lower.specs.declared.operation.DefaultValue.{DefaultValue}
-use Rattle.sc_lower.specs.declared.operation.DefaultValue.TheVariants as default
+use Rattle.sc_code.specs.declared.operation.DefaultValue.{DefaultValue}
+use Rattle.sc_code.specs.declared.operation.DefaultValue.TheVariants as default
 use Rattle.sc_region.specs.declared.value.Value.{Value}
 use Rattle.sc_region.specs.declared.value.Value.TheVariants.{Integer, Boolean, Void, Attached}
 

@@ -8,7 +8,7 @@ ghost use Rattle.sc_region.specs.Frames.{activation_of, frame_of, frame_with, is
 use crate::operands::{Olds, Operands};
 use crate::value::{Reference, Value};
 use arrayvec::ArrayVec;
-use sc_lower::RoutineCode;
+use sc_code::RoutineCode;
 use std::alloc::{AllocError, Global};
 use std::marker::Model;
 use std::mem;

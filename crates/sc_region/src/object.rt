@@ -3,7 +3,7 @@ ghost use Rattle.std.specs.Prelude.{◌≤◌, vec_len};
 
 use crate::program::{class_at, defaults};
 use crate::value::Value;
-use sc_lower::Program;
+use sc_code::Program;
 use std::alloc::{AllocError, Global};
 use std::marker::Model;
 

@@ -4,7 +4,7 @@ ghost use Rattle.std.specs.Option.{option_map};
 ghost use Rattle.sc_region.specs.Classes as at;
 
 use crate::value::Value;
-use sc_lower::{ClassCode, Program, RoutineCode};
+use sc_code::{ClassCode, Program, RoutineCode};
 use std::alloc::{AllocError, Global};
 
 /// The class of the number, which has at most 256 attributes.

@@ -1,5 +1,5 @@
 //! The store of a handler.
-ghost use Rattle.std.specs.Prelude.{◌≡◌, ◌↔◌, ◌&&◌, OnOk, OnErr, IsTrue, is_some};
+ghost use Rattle.std.specs.Prelude.{◌≡◌, ◌↔◌, ◌&&◌, OnOk, OnErr, IsTrue, is_some, length};
 ghost use Rattle.sc_region.specs.Objects.{PlainObject, object_numbered, attribute_of};
 ghost use Rattle.sc_region.specs.Classes.{MeetsAt};
 ghost use Rattle.sc_region.specs.Stores.{new_store, is_settled, failed, written, entered, left, born, born_for, made, made_for, printed};
@@ -9,7 +9,7 @@ use crate::frame::{Activation, Frames, Origin};
 use crate::object::Objects;
 use crate::state::{self, State};
 use crate::value::{Reference, Value};
-use sc_lower::Program;
+use sc_code::Program;
 use sc_model::Cause;
 use std::alloc::{AllocError, Global};
 use std::marker::Model;
@@ -87,6 +87,13 @@ impl<'p> Store<'p> {
         ensures { result ≡ option_map (λ (o : PlainObject). o.class) (object_numbered number self.now.objects) }
     {
         self.state.objects.class_of(number as usize)
+    }
+
+    /// How many objects there are. It takes constant time.
+    pub fn object_count(&self) -> usize
+        ensures { result ≡ length self.now.objects }
+    {
+        self.state.objects.len()
     }
 
     /// The attribute of the number `slot` of an object, or None where there is none. It takes constant time.

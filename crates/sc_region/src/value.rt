@@ -2,8 +2,8 @@
 ghost use Rattle.std.specs.Prelude.{◌≡◌};
 ghost use Rattle.sc_region.specs.Values.{default_value, atom_of};
 
+use sc_code::DefaultValue;
 use sc_formula::Atom;
-use sc_lower::DefaultValue;
 
 /// A reference to an object. It takes 8 bytes.
 #[derive(Clone, Copy, Debug, PartialEq, Eq)]
@@ -17,11 +17,12 @@ pub struct Reference {
 }
 
 /// The value of an entity or an expression. It takes 16 bytes.
-#[derive(Clone, Copy, Debug, PartialEq, Eq)]
+#[derive(Clone, Copy, Debug, Default, PartialEq, Eq)]
 pub enum Value {
     Integer(i64),
     Boolean(bool),
     /// A reference to no object.
+    #[default]
     Void,
     /// A reference to an object.
     Attached(Reference),
