@@ -1,14 +1,21 @@
 -- The tables of a core that opens.
-use Rattle.std.proofs.Common.{◌≡◌, ℕ, zero, suc, List, [], ◌∷◌, None, refl, ap, ◌∙◌, arith}
+use Rattle.std.proofs.Common.{◌≡◌, ℕ, zero, suc, Bool, true, false, List, [], ◌∷◌, Option, None, refl, sym, ap, subst, ◌∙◌, arith}
 use Rattle.std.proofs.Math.Path.{fun_ext}
-use Rattle.std.specs.Prelude.{◌-◌, replicate, slice_get, slice_index, nat_lt, false, if◌then◌else◌}
-use Rattle.sc_lockpass.specs.Rights.{unreserved}
-use Rattle.sc_lockpass.specs.Tables.{Table, rights_of}
+use Rattle.std.proofs.lemmas.Bool.{ltb-true}
+use Rattle.std.proofs.lemmas.List.Elements.{All-nil, All-cons}
+use Rattle.std.specs.Prelude.{◌-◌, replicate, slice_get, slice_index, nat_lt, is_some, if◌then◌else◌}
+use Rattle.sc_lockpass.specs.Rights.{Rights, unreserved}
+use Rattle.sc_lockpass.specs.Tables.{Table, rights_of, is_member}
+use Rattle.sc_region.specs.declared.job.Job.{Job}
 use Rattle.sc_region.specs.declared.job.Request.{Request}
 use Rattle.sc_request.specs.declared.handler.Handler as coded
 use Rattle.sc_request.specs.Handlers.{posted, new_handler}
 use Rattle.sc_request.specs.Tables.{fresh, asked, handler_in, handler_at, state_of, center, out_at, out_total}
+use Rattle.sc_request.specs.Picking.{job_with}
 use Rattle.sc_request.specs.Logs.{opening, opened}
+use Rattle.sc_request.specs.Candidates.{AreCandidates, HasGrantsBelow, HasOutsBelow, is_granted}
+use Rattle.sc_request.specs.Sound.{IsPlaced, IsServed, IsSound, IsSoundHandler, placed_poster}
+use Rattle.sc_request.proofs.Sounds.{all_more, if_is, new_is, none_passed}
 
 fresh_at : (n k : ℕ) → handler_in (slice_get (replicate n fresh) k) ≡ new_handler
 fresh_at zero k = refl
@@ -55,3 +62,51 @@ pub opens_center : (xs : List coded.Handler) (sessions : List ℕ) (t : Table) (
 opens_center xs sessions t n m most last r e f g h =
     ap (λ ys. center 1 ys sessions t (last - 1)) e
     ∙ (λ i. record { state = opens (asked r ∷ replicate n fresh) sessions t n m r refl f g i; out = fun_ext (nobody_out n r) i; last = h i - 1 })
+
+-- ---- who may have something to do
+
+pub opening_outs : (most n : ℕ) (r : Request) → HasOutsBelow most (asked r ∷ replicate n fresh)
+opening_outs most n r h j is = let never = sym (nobody_out n r h) ∙ is in cc
+
+pub opening_grants : (most n : ℕ) (r : Request) → HasGrantsBelow most (asked r ∷ replicate n fresh)
+opening_grants most n r h k is = let never = ap (λ (o : Option Job). is_granted o k) (sym (nobody_out n r h)) ∙ is in cc
+
+first_placed : (r : Request) → r.poster ≡ None → IsPlaced (posted r None)
+first_placed r e = record { poster = ap placed_poster e; passed = none_passed }
+
+first_is : (r : Request) → r.poster ≡ None → IsSoundHandler 0 0 1 (record new_handler { queue = posted r None ∷ [] })
+first_is r e = record {
+  stage = refl;
+  queue = All-cons IsPlaced (posted r None) [] (first_placed r e) (All-nil IsPlaced);
+  callback = All-nil IsPlaced;
+  services = All-nil IsServed;
+  entry = refl;
+  sessions = omega arith;
+  refused = omega arith;
+  serves = omega arith;
+}
+
+opening_is : (r : Request) → r.poster ≡ None → IsSound 0 0 (opening r)
+opening_is r e = record {
+  within = omega arith;
+  rights = record { queue = λ k far. refl; top = λ k far. refl };
+  handlers = λ k. if_is 0 0 1 (nat_lt k 1) (record new_handler { queue = posted r None ∷ [] }) new_handler (first_is r e) (new_is 0 0 1);
+}
+
+pub opening_sound : (c l : ℕ) (xs : List coded.Handler) (sessions : List ℕ) (t : Table) (n m : ℕ) (r : Request) → xs ≡ asked r ∷ replicate n fresh →
+    sessions ≡ replicate m 0 → rights_of t ≡ unreserved → r.poster ≡ None → IsSound c l (state_of 1 xs sessions t)
+opening_sound c l xs sessions t n m r e f g poster =
+    subst (IsSound c l) (sym (opens xs sessions t n m r e f g)) (all_more 0 c 0 l (opening r) (omega arith) (omega arith) (opening_is r poster))
+
+only_below : (out below : Bool) (o : Option Job) → is_some (if out then None else (if below then o else None)) ≡ true → below ≡ true
+only_below true below o e = cc
+only_below false true o e = refl
+only_below false false o e = cc
+
+-- the first handler is the only one
+pub opening_tried : (words : List ℕ) (xs : List coded.Handler) (sessions : List ℕ) (t : Table) (last : ℕ) → is_member words 0 ≡ true →
+    AreCandidates words (center 1 xs sessions t last)
+opening_tried words xs sessions t last first k is =
+    let below = ltb-true k 1 (only_below (is_some (out_at xs k)) (nat_lt k 1) (job_with k (handler_at xs sessions k).failure (handler_at xs sessions k) (state_of 1 xs sessions t)) is) in
+    let zeroth : k ≡ 0 = omega (arith, below) in
+    ap (is_member words) zeroth ∙ first

@@ -1,5 +1,25 @@
 mod Plays
 mod Rows
 mod Turns
-mod Opening
+pub mod Opening
 mod Filling
+mod Kept
+mod Sent
+mod Taken
+mod Answering
+mod Acting
+mod Exiting
+mod Requesting
+mod Stepping
+pub mod Halving
+mod Outs
+mod Rounds
+mod Bits
+mod Granting
+mod Placing
+pub mod Sounds
+mod Releasing
+mod Settles
+mod Created
+mod Ended
+mod Fallen

@@ -7,7 +7,7 @@ use Rattle.sc_request.specs.Asked.{Numbering}
 use Rattle.sc_request.specs.Halves.{posted_of, IsHandlerOf}
 use Rattle.sc_request.specs.Laws.{OpensAsHalf}
 
-new : (n : Numbering) → IsHandlerOf n machine.new_handler new_handler
+pub new : (n : Numbering) → IsHandlerOf n machine.new_handler new_handler
 new n = record { stage = refl; services = refl; queue = refl; callback = refl; answer = refl; failure = refl; sessions = refl; refused = refl }
 
 asked : (n : Numbering) (r : machine.Request) →

@@ -49,7 +49,7 @@ same_standing n x y e = λ i. record {
   sessions = e.sessions i;
 }
 
-same_standings : (n : Numbering) (w : machine.World) (s : State) → IsHalfOf n w s → standing_in s ≡ sessions.standing_in w
+pub same_standings : (n : Numbering) (w : machine.World) (s : State) → IsHalfOf n w s → standing_in s ≡ sessions.standing_in w
 same_standings n w s e = fun_ext (λ k. same_standing n (w.handlers k) (s.handlers k) (e.handlers k))
 
 -- ---- reserve steps
@@ -61,7 +61,7 @@ unheld_of r h (value.Boolean b ∷ vs) = unheld_of r h vs
 unheld_of r h (value.Void ∷ vs) = unheld_of r h vs
 unheld_of r h (value.Attached o ∷ vs) = rw (unheld_of r h vs) refl
 
-same_needs : (r : Rights) (h : ℕ) (vs : List value.Value) → needs h (handlers_of vs) r ≡ needed r h (map handler_of vs)
+pub same_needs : (r : Rights) (h : ℕ) (vs : List value.Value) → needs h (handlers_of vs) r ≡ needed r h (map handler_of vs)
 same_needs r h vs = ap each_once (unheld_of r h vs)
 
 reserving : (lost may : Bool) (ks : List ℕ) → is_some (job_reserving lost may ks) ≡ (lost || may)

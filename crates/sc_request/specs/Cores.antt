@@ -1,5 +1,6 @@
 -- What a core in memory stands for.
-use Rattle.std.specs.Prelude.{List}
+use Rattle.std.specs.Prelude.{ℕ, List, Option}
+use Rattle.sc_region.specs.declared.job.Job.{Job}
 use Rattle.sc_request.specs.declared.center.Core as coded
 use Rattle.sc_request.specs.declared.settlement.Settlement.{Settlement}
 use Rattle.sc_request.specs.Handlers.{State}
@@ -8,10 +9,10 @@ use Rattle.sc_request.specs.Tables as tables
 use Rattle.sc_request.specs.Tables.{center}
 
 abbrev pub state_of : coded.Core → State
-state_of c = tables.state_of c.count c.handlers.items c.sessions.items c.rights
+state_of c = tables.state_of c.state.count c.state.handlers.items c.state.sessions.items c.state.rights
 
 abbrev pub center_of : coded.Core → Center
-center_of c = center c.count c.handlers.items c.sessions.items c.rights c.last
+center_of c = center c.state.count c.state.handlers.items c.state.sessions.items c.state.rights c.last
 
 abbrev pub log_of : coded.Core → List Settlement
 log_of c = c.log.items

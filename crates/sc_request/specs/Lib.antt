@@ -7,4 +7,9 @@ pub mod Halves
 pub mod Logs
 pub mod Laws
 pub mod Tables
+pub mod Sound
+pub mod Places
 pub mod Cores
+pub mod Steps
+pub mod Candidates
+pub mod Rooms

@@ -1,8 +1,9 @@
 -- How a core opens, what its settlements come to, and who is out with a job.
-use Rattle.std.specs.Prelude.{◌≡◌, ℕ, zero, suc, ◌-◌, ◌||◌, List, [], ◌∷◌, ◌++◌, Option, Some, None, is_some, nat_lt, ◌==◌, if◌then◌else◌}
+use Rattle.std.specs.Prelude.{◌≡◌, ℕ, zero, suc, ◌-◌, ◌||◌, false, List, [], ◌∷◌, ◌++◌, Option, Some, None, is_some, nat_lt, ◌==◌, if◌then◌else◌}
 use Rattle.sc_lockpass.specs.Rights.{Rights, unreserved, reserve, release}
 use Rattle.sc_model.specs.declared.status.Status.{Status}
 use Rattle.sc_region.specs.declared.job.Request.{Request}
+use Rattle.sc_region.specs.declared.job.Errand.TheVariants.{Makes}
 use Rattle.sc_region.specs.declared.job.Job.{Job}
 use Rattle.sc_region.specs.declared.job.Job.TheVariants as job
 use Rattle.sc_region.specs.declared.job.Want.{Want}
@@ -12,6 +13,16 @@ use Rattle.sc_request.specs.Picking.{job_of, status_with}
 use Rattle.sc_request.specs.Settling.{settled}
 
 -- ---- settlements
+
+-- the creation of the root object, of this class by this procedure; it has no client
+abbrev pub root_of : ℕ → ℕ → Request
+root_of class procedure = record {
+  poster = None;
+  target = record { handler = 0; number = 1; class = class };
+  errand = Makes (Some procedure);
+  actuals = record { items = [] };
+  is_waited = false;
+}
 
 -- there is one handler, with one request
 abbrev pub opening : Request → State
@@ -66,6 +77,16 @@ with_out h j c = record c { out = λ k. if k == h then j else c.out k }
 -- The handler is out with the job.
 abbrev pub picked : ℕ → Job → Center → Center
 picked h j c = with_out h (Some j) (record c { state = record c.state { rights = granted h j c.state.rights }; last = h })
+
+-- The handler is out with the job, if it has one.
+abbrev pub picked_if : ℕ → Option Job → Center → Center
+picked_if h None c = c
+picked_if h (Some j) c = picked h j c
+
+-- The handler is out with the job, if there is one that has something to do.
+abbrev pub picks : Option (ℕ × Job) → Center → Center
+picks None c = c
+picks (Some p) c = picked p.0 p.1 c
 
 abbrev pub put_back_with : ℕ → Option Job → Center → Center
 put_back_with h None c = c

@@ -57,6 +57,24 @@ handler_of x = record {
   refused = x.refused;
 }
 
+-- the handler, so many sessions of which have ended
+abbrev pub handler_with : ℕ → coded.Handler → Handler
+handler_with n x = record (handler_of x) { sessions = n }
+
+-- the first one was taken over this stage
+abbrev pub over_first : coded_stage.Stage → List Posting → List Posting
+over_first over [] = []
+over_first over (p ∷ ps) = record p { over = over } ∷ ps
+
+-- the requests are served from now on, over the present stage
+abbrev pub served : List Posting → coded.Handler → coded.Handler
+served [] x = x
+served (p ∷ ps) x = record x { services = record p { over = x.stage } ∷ x.services; stage = stage.Runs }
+
+-- the handler with no frames, and nothing that it is asked for
+abbrev pub cleared : coded.Handler → coded.Handler
+cleared x = record x { stage = stage.Idle; entry = record { items = [] }; mark = []; services = []; queue = []; callback = []; answer = None }
+
 -- a handler that nobody has asked for anything
 abbrev pub fresh : coded.Handler
 fresh = record {

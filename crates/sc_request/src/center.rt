@@ -1,39 +1,49 @@
 //! The core.
-ghost use Rattle.std.specs.Prelude.{◌≡◌, ◌≤◌, ◌<◌, ◌∷◌, IfOk, Some, length, map, replicate, vec_len};
+ghost use Rattle.std.specs.Prelude.{◌≡◌, ◌≤◌, ◌*◌, ◌∷◌, IfOk, Some, length, map, replicate, true, vec_len};
 ghost use Rattle.sc_lockpass.specs.Versions.{most_handlers};
-ghost use Rattle.sc_request.specs.Tables.{out_total, asked, fresh};
+ghost use Rattle.sc_request.specs.Candidates.{AreCandidates, HasGrantsBelow, HasOutsBelow};
+ghost use Rattle.sc_request.specs.Logs.{root_of};
+ghost use Rattle.sc_request.specs.Places.{plain};
+ghost use Rattle.sc_request.specs.Sound.{IsSound};
+ghost use Rattle.sc_request.specs.Tables.{out_total, asked, center, fresh};
+ghost use Rattle.sc_lockpass.specs.Tables.{rights_of};
 
-use crate::handler::{Handler, Stage};
+use crate::handler::{Handler, Posting, Stage};
+use crate::handler_set::HandlerSet;
 use crate::settlement::Settlement;
+use crate::state::State;
 use arrayvec::ArrayVec;
 use sc_lockpass::{Rights, Version};
 use sc_model::Status;
-use sc_region::Request;
+use sc_region::{Errand, Job, Reference, Request};
 use sc_waitcond::Entry;
 use std::alloc::{AllocError, Global};
+use std::collections::LinkedList;
 
 /// The half of the world that moves requests and rights between handlers.
 ///
-/// A handler that was picked is out with its job until the job is put back or settled. No call looks at all handlers,
-/// or at a whole queue, but where a handler fails.
+/// A handler that was picked is out with its job until the job is put back or settled. A call that picks looks at no
+/// more handlers than those that were not tried since the last settlement, and no call looks at a whole queue but where
+/// a handler fails.
 #[derive(Drop)]
 pub struct Core {
-    /// How many handlers there are.
-    pub(crate) count: usize,
-    /// Those, and places for the others that there may be.
-    pub(crate) handlers: Vec<Handler>,
-    /// How many sessions of each have ended.
-    pub(crate) sessions: Vec<u64>,
-    pub(crate) rights: Rights,
+    /// The handlers, and who holds which.
+    pub(crate) state: State,
     /// How many handlers are out.
     pub(crate) outs: usize,
     /// The handler that was picked last.
     pub(crate) last: u16,
     pub(crate) log: Vec<Settlement>,
-    pub(crate) ghost some: { count ≤ vec_len handlers },
-    pub(crate) ghost places: { vec_len handlers ≡ most_handlers rights.version },
-    pub(crate) ghost counts: { vec_len sessions ≡ most_handlers rights.version },
-    pub(crate) ghost counted: { outs ≡ out_total handlers.items },
+    /// Places for what is posted, each in a node of a queue: one for each settlement that was made room for.
+    pub(crate) spare: LinkedList<Posting>,
+    /// Those that may have something to do: all that have, and some that were not tried since they might. After a
+    /// settlement these are all.
+    pub(crate) candidates: HandlerSet,
+    pub(crate) ghost counted: { outs ≡ out_total state.handlers.items },
+    pub(crate) ghost there: { HasOutsBelow (most_handlers state.rights.version) state.handlers.items },
+    pub(crate) ghost grants: { HasGrantsBelow (most_handlers state.rights.version) state.handlers.items },
+    pub(crate) ghost sound: { IsSound (2 * vec_len log) (vec_len log) (plain state) },
+    pub(crate) ghost tried: { AreCandidates candidates.words (center state.count state.handlers.items state.sessions.items state.rights last) },
 }
 
 impl Core {
@@ -41,31 +51,42 @@ impl Core {
     ghost use Rattle.sc_lockpass.specs.Rights as maps;
     ghost use Rattle.sc_request.specs.Logs.{opened};
     ghost use Rattle.sc_request.specs.Logs as logs;
-    ghost use Rattle.std.specs.Prelude.{is_some};
+    ghost use Rattle.std.specs.Prelude.{is_some, nat_lt, None, if◌then◌else◌};
     ghost use Rattle.std.specs.List.{list_all};
-    ghost use Rattle.sc_lockpass.specs.Tables.{rights_of};
     ghost use Rattle.sc_waitcond.specs.Reservations.{reserve_fails, may_be_reserved, is_lost};
     ghost use Rattle.sc_request.specs.Handlers.{standing_in};
     ghost use Rattle.sc_request.specs.Picking.{needs, job_for_entry};
     ghost use Rattle.sc_request.specs.Cores.{state_of, center_of, log_of};
 
-    /// One handler, with the request for the creation of the root object, and places for the others of the version.
+    /// One handler, with the request for the creation of the root object: of this class, by the creation procedure of
+    /// this number. There may be as many handlers as the version says.
     /// What grows later takes its memory from this allocator. Err where there is no memory.
-    pub fn opening(alloc: Global, root: Request, version: Version) -> Result<Core, AllocError>
-        ensures center { IfOk result (λ c. center_of c ≡ opened (most_handlers version) root) }
+    pub fn opening(
+        alloc: Global,
+        class: u8,
+        procedure: u32,
+        version: Version,
+    ) -> Result<Core, AllocError>
+        ensures center { IfOk result (λ c. center_of c ≡ opened (most_handlers version) (root_of class procedure)) }
         ensures out { IfOk result (λ c. c.outs ≡ 0) }
         ensures log { IfOk result (λ c. log_of c ≡ []) }
+        ensures version { IfOk result (λ c. c.state.rights.version ≡ version) }
     {
-        let most = version.most_handlers() as usize;
-        let handlers = places(alloc, root, most - 1)?;
+        let handlers = places(alloc, root_request(class, procedure), 511)?;
+        let mut candidates = HandlerSet::new();
+        candidates.insert(0);
         Ok(Core {
-            count: 1,
-            handlers,
-            sessions: vec![in alloc; 0; most]?,
-            rights: Rights::new(version),
+            state: State {
+                count: 1,
+                handlers,
+                sessions: vec![in alloc; 0; 512]?,
+                rights: Rights::new(version),
+            },
             outs: 0,
             last: version.most_handlers() - 1,
             log: Vec::new(alloc),
+            spare: LinkedList::new(alloc),
+            candidates,
         })
     }
 
@@ -73,17 +94,17 @@ impl Core {
     pub fn held(&self, holder: u16, handler: u16) -> bool
         ensures { result ≡ maps.held (state_of self.now).rights holder handler }
     {
-        self.rights.held(holder, handler)
+        self.state.rights.held(holder, handler)
     }
 
     /// Whether a handler has something to do and isn't out.
     pub fn has_job(&self, handler: u16) -> bool
         ensures { result ≡ is_some (logs.pick_for handler (center_of self.now)) }
     {
-        if (handler as usize) >= self.count {
+        if (handler as usize) >= self.state.count {
             return false;
         }
-        let place = &self.handlers[handler as usize];
+        let place = &self.state.handlers[handler as usize];
         if place.out.is_some() || place.failure.is_some() {
             return false;
         }
@@ -98,14 +119,51 @@ impl Core {
         }
     }
 
+    /// What a handler has to do, where it has something and isn't out.
+    pub fn pick_for(&self, handler: u16) -> Option<Job>
+        ensures { result ≡ logs.pick_for handler (center_of self.now) }
+    {
+        if (handler as usize) >= self.state.count {
+            return None;
+        }
+        let place = &self.state.handlers[handler as usize];
+        if place.out.is_some() || place.failure.is_some() {
+            return None;
+        }
+        match place.stage {
+            Stage::Idle => place.job_idle(),
+            Stage::Runs => Some(Job::Go),
+            Stage::HasMade(made) => Some(Job::Made(made)),
+            Stage::Reserves => self.job_for_entry(handler, place),
+            Stage::Awaits {
+                supplier,
+                is_creation,
+            } => place.job_awaiting(supplier, is_creation),
+        }
+    }
+
+    /// What the reserve step of a handler comes to, where it may be taken.
+    fn job_for_entry(&self, handler: u16, place: &Handler) -> Option<Job>
+        ensures { result ≡ job_for_entry (needs handler place.now.entry.items (rights_of self.now.state.rights)) place.now.mark (state_of self.now) }
+    {
+        let needed = self.needed(handler, place);
+        if self.is_any_lost(needed.as_slice()) {
+            return Some(Job::Failed);
+        }
+        if self.are_free(needed.as_slice()) && place.mark.allows(self.state.sessions.as_slice()) {
+            return Some(Job::Granted(needed));
+        }
+        None
+    }
+
     /// How a handler stands, or None where there is no such handler. One that is out is busy.
     pub fn status(&self, handler: u16) -> Option<Status>
         ensures { result ≡ logs.status_for handler (center_of self.now) }
     {
-        if (handler as usize) >= self.count {
+        if (handler as usize) >= self.state.count {
             return None;
         }
-        let place = &self.handlers[handler as usize];
+        let place = &self.state.handlers[handler as usize];
         if let Some(why) = place.failure {
             return Some(Status::Failed(why));
         }
@@ -120,61 +178,80 @@ impl Core {
 
     /// Whether the reserve step of a handler may be taken.
     fn is_enabled(&self, handler: u16, place: &Handler) -> bool
-        ensures { result ≡ is_some (job_for_entry (needs handler place.now.entry.items (rights_of self.now.rights)) place.now.mark (state_of self.now)) }
+        ensures { result ≡ is_some (job_for_entry (needs handler place.now.entry.items (rights_of self.now.state.rights)) place.now.mark (state_of self.now)) }
     {
         let needed = self.needed(handler, place);
         self.is_any_lost(needed.as_slice())
-            || (self.are_free(needed.as_slice()) && place.mark.allows(self.sessions.as_slice()))
+            || (self.are_free(needed.as_slice())
+                && place.mark.allows(self.state.sessions.as_slice()))
     }
 
     /// What a handler doesn't hold of the handlers of its entry.
     fn needed(&self, handler: u16, place: &Handler) -> ArrayVec<u16, 16>
-        ensures { result.items ≡ needs handler place.now.entry.items (rights_of self.now.rights) }
+        ensures { result.items ≡ needs handler place.now.entry.items (rights_of self.now.state.rights) }
     {
         let values = values_of(place.entry.as_slice());
-        Entry::new(handler).needed(values.as_slice(), &self.rights)
+        Entry::new(handler).needed(values.as_slice(), &self.state.rights)
     }
 
     /// Whether one of these can never be reserved again.
     fn is_any_lost(&self, handlers: &[u16]) -> bool
-        ensures { result ≡ reserve_fails (standing_in (state_of self.now)) (rights_of self.now.rights) handlers.now }
+        ensures { result ≡ reserve_fails (standing_in (state_of self.now)) (rights_of self.now.state.rights) handlers.now }
     {
         handlers.iter().any(|k| self.is_lost(*k))
     }
 
     /// Whether all of these may be reserved.
     fn are_free(&self, handlers: &[u16]) -> bool
-        ensures { result ≡ list_all (λ k. may_be_reserved (standing_in (state_of self.now) k) ((rights_of self.now.rights).queue k)) handlers.now }
+        ensures { result ≡ list_all (λ k. may_be_reserved (standing_in (state_of self.now) k) ((rights_of self.now.state.rights).queue k)) handlers.now }
     {
         handlers.iter().all(|k| self.is_free(*k))
     }
 
     /// Whether a handler has failed, and is nobody's.
     fn is_lost(&self, handler: u16) -> bool
-        ensures { result ≡ is_lost (standing_in (state_of self.now) handler) ((rights_of self.now.rights).queue handler) }
+        ensures { result ≡ is_lost (standing_in (state_of self.now) handler) ((rights_of self.now.state.rights).queue handler) }
     {
-        match self.handlers.get(handler as usize) {
-            Some(place) => place.failure.is_some() && self.rights.queue(handler).is_none(),
+        match self.state.handlers.get(handler as usize) {
+            Some(place) => place.failure.is_some() && self.state.rights.queue(handler).is_none(),
             None => false,
         }
     }
 
     /// Whether a handler is idle with an empty queue, and nobody's.
     fn is_free(&self, handler: u16) -> bool
-        ensures { result ≡ may_be_reserved (standing_in (state_of self.now) handler) ((rights_of self.now.rights).queue handler) }
+        ensures { result ≡ may_be_reserved (standing_in (state_of self.now) handler) ((rights_of self.now.state.rights).queue handler) }
     {
-        if self.rights.queue(handler).is_some() {
+        if self.state.rights.queue(handler).is_some() {
             return false;
         }
-        match self.handlers.get(handler as usize) {
+        match self.state.handlers.get(handler as usize) {
             Some(place) => place.is_idle(),
             None => true,
         }
     }
 
+    /// How many handlers there are.
+    pub fn handler_count(&self) -> usize
+        ensures count { result ≡ (state_of self.now).count }
+        ensures few { result ≤ 512 }
+    {
+        self.state.count
+    }
+
+    /// How many requests a handler refused for which nobody waited, or None where there is no such handler.
+    pub fn refused(&self, handler: u16) -> Option<u64>
+        ensures { result ≡ (if nat_lt handler (state_of self.now).count then Some ((state_of self.now).handlers handler).refused else None) }
+    {
+        if (handler as usize) >= self.state.count {
+            return None;
+        }
+        Some(self.state.handlers[handler as usize].refused)
+    }
+
     /// How many handlers are out.
     pub fn out_count(&self) -> usize
-        ensures { result ≡ out_total self.now.handlers.items }
+        ensures { result ≡ out_total self.now.state.handlers.items }
     {
         self.outs
     }
@@ -184,6 +261,23 @@ impl Core {
         ensures { result.now ≡ log_of self.now }
     {
         self.log.as_slice()
+    }
+}
+
+/// The creation of the root object, which nobody waits for.
+fn root_request(class: u8, procedure: u32) -> Request
+    ensures { result ≡ root_of class procedure }
+{
+    Request {
+        poster: None,
+        target: Reference {
+            handler: 0,
+            number: 1,
+            class,
+        },
+        errand: Errand::Makes(Some(procedure)),
+        actuals: ArrayVec::new(),
+        is_waited: false,
     }
 }
 

@@ -2,12 +2,14 @@
 ghost use Rattle.std.specs.Prelude.{◌≡◌, ◌&&◌, ◌||◌, not, IfOk, map, is_some};
 ghost use Rattle.sc_waitcond.specs.Reservations.{is_idle};
 ghost use Rattle.sc_request.specs.Handlers.{has_requests, standing_of};
-ghost use Rattle.sc_request.specs.Tables.{fresh, asked, handler_of, posting_of, first_posted, answers_of};
+ghost use Rattle.sc_request.specs.Picking.{job_idle, job_answered, job_awaiting};
+ghost use Rattle.sc_request.specs.Tables.{answer_of, fresh, asked, handler_of, posting_of, first_posted, answers_of};
 
+use crate::copy::copy_request;
 use arrayvec::ArrayVec;
 use sc_lockpass::Passed;
 use sc_model::Cause;
-use sc_region::{Job, Request, Value};
+use sc_region::{Errand, Job, Reference, Request, Value};
 use sc_waitcond::Mark;
 use std::alloc::{AllocError, Global};
 use std::collections::LinkedList;
@@ -46,6 +48,27 @@ pub(crate) struct Posting {
     pub(crate) passed: Option<Passed>,
     /// How the handler stood when it was taken.
     pub(crate) over: Stage,
+}
+
+impl Posting {
+    /// A place for a posting.
+    pub(crate) fn blank() -> Posting {
+        Posting {
+            request: Request {
+                poster: None,
+                target: Reference {
+                    handler: 0,
+                    number: 0,
+                    class: 0,
+                },
+                errand: Errand::Makes(None),
+                actuals: ArrayVec::new(),
+                is_waited: false,
+            },
+            passed: None,
+            over: Stage::Idle,
+        }
+    }
 }
 
 /// What the core keeps of a handler, but for the count of its sessions.
@@ -121,5 +144,45 @@ impl Handler {
         ensures { result ≡ (is_some (first_posted self.now.callback) || is_some (answers_of self.now.answer)) }
     {
         !self.callback.is_empty() || self.answer.is_some()
+    }
+
+    /// The next of its queue.
+    pub(crate) fn job_idle(&self) -> Option<Job>
+        ensures { result ≡ job_idle (map posting_of self.now.queue) }
+    {
+        match self.queue.front() {
+            Some(posting) => Some(Job::Take(copy_request(&posting.request))),
+            None => None,
+        }
+    }
+
+    /// Its callback, or the answer that has come from the supplier.
+    pub(crate) fn job_awaiting(&self, supplier: u16, is_creation: bool) -> Option<Job>
+        ensures { result ≡ job_awaiting supplier is_creation (first_posted self.now.callback) (answers_of self.now.answer) }
+    {
+        if let Some(posting) = self.callback.front() {
+            return Some(Job::Take(copy_request(&posting.request)));
+        }
+        match self.answer {
+            Some(answer) => Some(job_answered(supplier, is_creation, answer)),
+            None => None,
+        }
+    }
+}
+
+/// What a handler takes an answer by.
+fn job_answered(supplier: u16, is_creation: bool, answer: Answer) -> Job
+    ensures { result ≡ job_answered supplier is_creation (answer_of answer) }
+{
+    match answer {
+        Answer::Replied(value) => {
+            if is_creation {
+                Job::Made(supplier)
+            } else {
+                Job::Reply(value)
+            }
+        }
+        Answer::SupplierFailed => Job::Failed,
+        Answer::Refused => Job::Refused,
     }
 }

@@ -1,5 +1,6 @@
 //! Laws of the core, each the contract of a function that does nothing.
 ghost use Rattle.sc_request.specs.Laws.{OpensAsHalf, PicksWhereTurns};
+ghost use Rattle.sc_request.specs.Steps.{HalvesStep};
 
 /// The core opens as the half of the machine's opening.
 pub fn core_opens_as_half()
@@ -9,4 +10,10 @@ pub fn core_opens_as_half()
 /// A handler has something to do exactly where the machine gives it a turn.
 pub fn core_picks_where_the_machine_turns()
     ensures { PicksWhereTurns }
+{}
+
+/// What the core settles is its half of the machine's step: where a handler takes its job, makes one turn, and asks only what a turn may ask, the
+/// settlement leaves the half of the state that the machine steps to.
+pub fn core_settles_as_half()
+    ensures { HalvesStep }
 {}

@@ -5,10 +5,28 @@
 //! the half of.
 #![tactic(auto)]
 
+mod begun;
 mod center;
+mod changes;
+mod copy;
+mod ending;
+mod failing;
+mod fits;
+mod grants;
 mod handler;
+mod handler_set;
 pub mod laws;
+mod making;
+mod picking;
+mod places;
+mod postings;
+mod rooms;
+mod sending;
+mod sessions;
+mod settle;
 mod settlement;
+mod state;
+mod steps;
 
 pub use center::Core;
-pub use settlement::Settlement;
+pub use settlement::{SettleFault, Settlement};

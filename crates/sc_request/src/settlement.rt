@@ -1,8 +1,8 @@
 //! Settlements.
 
-use sc_region::{Job, Want};
+use sc_region::{Job, Outcome, Want};
 
-/// What a handler's turns under a job came to.
+/// What a handler's turns under a job came to. It takes 640 bytes, and no memory beside.
 #[derive(Drop)]
 pub struct Settlement {
     pub handler: u16,
@@ -12,4 +12,13 @@ pub struct Settlement {
     pub turns: u32,
     /// What the last of them asked.
     pub want: Want,
+}
+
+/// Why an outcome isn't settled. It has the outcome, which is as it was.
+#[derive(Drop)]
+pub enum SettleFault {
+    /// S1: its handler isn't out.
+    NotOut(Outcome),
+    /// S9: there is no memory for the settlement.
+    OutOfMemory(Outcome),
 }

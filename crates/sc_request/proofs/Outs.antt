@@ -1,0 +1,215 @@
+-- The tables of a core where a handler goes out with a job, or comes back from it.
+use Rattle.std.proofs.Common.{◌≡◌, ◌+◌, ◌<◌, ◌≤◌, ◌==◌, ◌&&◌, ℕ, zero, suc, Bool, true, false, List, [], ◌∷◌, Option, Some, None, refl, sym, ap, subst, ◌∙◌, ◌⊎◌, inl, inr, length, slice_set, arith}
+use Rattle.std.proofs.Math.Path.{fun_ext}
+use Rattle.std.proofs.lemmas.Bool.{cases_Bool, cases_eq, eq-eqb, ne_eqb, eqb-true, and_parts, or_left, or_right, ltb-true}
+use Rattle.std.proofs.lemmas.List.Elements.{All-nil, All-cons}
+use Rattle.std.specs.Prelude.{is_some, map, slice_get, slice_index, nat_lt, if◌then◌else◌}
+use Rattle.std.specs.List.{All, list_all, list_any}
+use Rattle.std.specs.Option.{option_and_then}
+use Rattle.sc_lockpass.specs.Rights.{Rights, held, is_among, reserve, release}
+use Rattle.sc_lockpass.specs.Tables.{Table, rights_of, is_member}
+use Rattle.sc_waitcond.specs.Laws.{is_on}
+use Rattle.sc_waitcond.specs.Reservations.{may_reserve}
+use Rattle.sc_waitcond.specs.declared.mark.Marked.{Marked}
+use Rattle.sc_waitcond.proofs.EntryLaws.{needs_unheld}
+use Rattle.sc_model.specs.declared.cause.Cause.{Cause}
+use Rattle.arrayvec.specs.ArrayVec.{ArrayVec}
+use Rattle.sc_region.specs.declared.job.Job.{Job}
+use Rattle.sc_region.specs.declared.job.Job.TheVariants as job
+use Rattle.sc_request.specs.declared.handler.Stage as coded_stage
+use Rattle.sc_request.specs.declared.handler.Stage.TheVariants as stage
+use Rattle.sc_request.specs.declared.handler.Handler as coded
+use Rattle.sc_request.specs.Handlers.{Posted, Answer, Replied, SupplierFailed, Refused, Handler, State, standing_in}
+use Rattle.sc_request.specs.Picking.{needs, job_reserving, job_idle, job_awaiting, job_at, job_with, job_of}
+use Rattle.sc_request.specs.Logs.{pick_for, granted, ungranted, picked, put_back_with, put_back}
+use Rattle.sc_request.specs.Tables.{handler_in, handler_at, state_of, stage_of, center, out_at, out_total}
+use Rattle.sc_request.specs.Candidates.{entry_below, granted_items}
+
+-- ---- one element of a list is changed
+
+some_is : {A : Type 0} (x y : A) → Some x ≡ Some y → x ≡ y
+some_is x y e = cc
+
+pub get_same : {A : Type 0} (xs : List A) (h : ℕ) (x y : A) → slice_get xs h ≡ Some x → slice_get (slice_set xs h y) h ≡ Some y
+get_same [] h x y e = cc
+get_same (z ∷ xs) zero x y e = refl
+get_same (z ∷ xs) (suc h) x y e = get_same xs h x y e
+
+pub get_other : {A : Type 0} (xs : List A) (h k : ℕ) (y : A) → (k ≡ h → ⊥) → slice_get (slice_set xs h y) k ≡ slice_get xs k
+get_other [] h k y apart = refl
+get_other (z ∷ xs) zero zero y apart = absurd (apart refl)
+get_other (z ∷ xs) zero (suc k) y apart = refl
+get_other (z ∷ xs) (suc h) zero y apart = refl
+get_other (z ∷ xs) (suc h) (suc k) y apart = get_other xs h k y (λ e. apart (ap suc e))
+
+-- what is the same of both elements stays
+pub kept_at : {A B : Type 0} (f : Option A → B) (xs : List A) (h k : ℕ) (x y : A) → slice_get xs h ≡ Some x → f (Some y) ≡ f (Some x) →
+    f (slice_get (slice_set xs h y) k) ≡ f (slice_get xs k)
+kept_at f xs h k x y e same = elim (cases_eq k h) [
+  | inl is ↦ rw is (ap f (get_same xs h x y e) ∙ same ∙ sym (ap f e))
+  | inr apart ↦ ap f (get_other xs h k y apart)
+]
+
+-- ---- the handler is out with a job, or with none
+
+abbrev pub with_job : Option Job → coded.Handler → coded.Handler
+with_job o x = record x { out = o }
+
+pub same_handler : (xs : List coded.Handler) (sessions : List ℕ) (h k : ℕ) (x : coded.Handler) (o : Option Job) → slice_get xs h ≡ Some x →
+    handler_at (slice_set xs h (with_job o x)) sessions k ≡ handler_at xs sessions k
+same_handler xs sessions h k x o e =
+    kept_at (λ (z : Option coded.Handler). record (handler_in z) { sessions = slice_index sessions k }) xs h k x (with_job o x) e refl
+
+pub out_of : Option coded.Handler → Option Job
+out_of o = option_and_then (λ (x : coded.Handler). x.out) o
+
+pub out_set : (xs : List coded.Handler) (h k : ℕ) (x : coded.Handler) (o : Option Job) → slice_get xs h ≡ Some x →
+    out_at (slice_set xs h (with_job o x)) k ≡ (if k == h then o else out_at xs k)
+unfolding out_of
+out_set xs h k x o e = elim (cases_eq k h) [
+  | inl is ↦ rw (is, eq-eqb h h refl) (ap out_of (get_same xs h x (with_job o x) e))
+  | inr apart ↦ rw (ne_eqb k h apart) (ap out_of (get_other xs h k (with_job o x) apart))
+]
+
+pub out_is : (xs : List coded.Handler) (h : ℕ) (x : coded.Handler) → slice_get xs h ≡ Some x → out_at xs h ≡ x.out
+unfolding out_of
+out_is xs h x e = ap out_of e
+
+-- ---- how many are out
+
+pub more_out : (xs : List coded.Handler) (h : ℕ) (x : coded.Handler) (j : Job) → slice_get xs h ≡ Some x → x.out ≡ None →
+    out_total (slice_set xs h (with_job (Some j) x)) ≡ out_total xs + 1
+more_out [] h x j e none = cc
+more_out (z ∷ xs) zero x j e none = rw (ap (λ (y : coded.Handler). y.out) (some_is z x e) ∙ none) refl
+more_out (z ∷ xs) (suc h) x j e none = elim (cases_Bool (is_some z.out)) [
+  | inl b ↦ rw (b, more_out xs h x j e none) refl
+  | inr b ↦ rw (b, more_out xs h x j e none) refl
+]
+
+pub fewer_out : (xs : List coded.Handler) (h : ℕ) (x : coded.Handler) (j : Job) → slice_get xs h ≡ Some x → x.out ≡ Some j →
+    out_total xs ≡ out_total (slice_set xs h (with_job None x)) + 1
+fewer_out [] h x j e some = cc
+fewer_out (z ∷ xs) zero x j e some = rw (ap (λ (y : coded.Handler). y.out) (some_is z x e) ∙ some) refl
+fewer_out (z ∷ xs) (suc h) x j e some = elim (cases_Bool (is_some z.out)) [
+  | inl b ↦ rw (b, fewer_out xs h x j e some) refl
+  | inr b ↦ rw (b, fewer_out xs h x j e some) refl
+]
+
+pub outs_within : (xs : List coded.Handler) → out_total xs ≤ length xs
+outs_within [] = omega arith
+outs_within (x ∷ xs) = let rest = outs_within xs in elim (cases_Bool (is_some x.out)) [
+  | inl b ↦ rw b (omega (arith, rest))
+  | inr b ↦ rw b (omega (arith, rest))
+]
+
+-- ---- the center
+
+pub picked_center : (count : ℕ) (xs : List coded.Handler) (sessions : List ℕ) (t t' : Table) (last h : ℕ) (x : coded.Handler) (j : Job) →
+    slice_get xs h ≡ Some x → rights_of t' ≡ granted h j (rights_of t) →
+    center count (slice_set xs h (with_job (Some j) x)) sessions t' h ≡ picked h j (center count xs sessions t last)
+picked_center count xs sessions t t' last h x j e f = λ i. record {
+  state = record { count = count; handlers = fun_ext (λ k. same_handler xs sessions h k x (Some j) e) i; rights = f i };
+  out = fun_ext (λ k. out_set xs h k x (Some j) e) i;
+  last = h;
+}
+
+pub back_with : (count : ℕ) (xs : List coded.Handler) (sessions : List ℕ) (t t' : Table) (last h : ℕ) (x : coded.Handler) (j : Job) → slice_get xs h ≡ Some x →
+    rights_of t' ≡ ungranted j (rights_of t) →
+    center count (slice_set xs h (with_job None x)) sessions t' last ≡ put_back_with h (Some j) (center count xs sessions t last)
+back_with count xs sessions t t' last h x j e f = λ i. record {
+  state = record { count = count; handlers = fun_ext (λ k. same_handler xs sessions h k x None e) i; rights = f i };
+  out = fun_ext (λ k. out_set xs h k x None e) i;
+  last = last;
+}
+
+pub back_center : (count : ℕ) (xs : List coded.Handler) (sessions : List ℕ) (t t' : Table) (last h : ℕ) (x : coded.Handler) (j : Job) →
+    slice_get xs h ≡ Some x → x.out ≡ Some j → rights_of t' ≡ ungranted j (rights_of t) →
+    center count (slice_set xs h (with_job None x)) sessions t' last ≡ put_back h (center count xs sessions t last)
+back_center count xs sessions t t' last h x j e some f =
+    back_with count xs sessions t t' last h x j e f
+    ∙ ap (λ (o : Option Job). put_back_with h o (center count xs sessions t last)) (sym (out_is xs h x e ∙ some))
+
+-- where the handler isn't out, or there is none of the number, nothing is undone
+pub stays : (count : ℕ) (xs : List coded.Handler) (sessions : List ℕ) (t : Table) (last h : ℕ) → out_at xs h ≡ None →
+    center count xs sessions t last ≡ put_back h (center count xs sessions t last)
+stays count xs sessions t last h none = ap (λ (o : Option Job). put_back_with h o (center count xs sessions t last)) (sym none)
+
+-- ---- what a pick reserves
+
+all_among : (P : ℕ → Type 0) (ks : List ℕ) → ((k : ℕ) → is_among k ks ≡ true → P k) → All P ks
+all_among P [] f = All-nil P
+all_among P (k ∷ ks) f =
+    All-cons P k ks (f k (or_left (k == k) (is_among k ks) (eq-eqb k k refl))) (all_among P ks (λ j e. f j (or_right (k == j) (is_among j ks) e)))
+
+listed_below : (count k : ℕ) (ks : List ℕ) → list_all (λ j. nat_lt j count) ks ≡ true → list_any (is_on k) (map Some ks) ≡ true → k < count
+listed_below count k [] all e = cc
+listed_below count k (j ∷ ks) all e =
+    let parts = and_parts (nat_lt j count) (list_all (λ j. nat_lt j count) ks) all in
+    elim (cases_Bool (j == k)) [
+      | inl is ↦ ltb-true k count (ap (λ n. nat_lt n count) (sym (eqb-true j k is)) ∙ parts.0)
+      | inr apart ↦ let rest = rw apart at e in listed_below count k ks parts.1 rest
+    ]
+
+-- What a reserve step is granted is there.
+pub record IsGrant (count : ℕ) (ks : List ℕ) : Type 0 where
+  pub below : (k : ℕ) → is_among k ks ≡ true → k < count
+
+grant_reserving : (lost may : Bool) (es : List ℕ) (ks : ArrayVec ℕ) → job_reserving lost may es ≡ Some (job.Granted ks) → (may ≡ true) × (ks.items ≡ es)
+grant_reserving true may es ks e = cc
+grant_reserving false true es ks e = (refl, ap granted_items (sym (some_is (job.Granted (record { items = es })) (job.Granted ks) e)))
+grant_reserving false false es ks e = cc
+
+no_grant_idle : (ps : List Posted) (ks : ArrayVec ℕ) → job_idle ps ≡ Some (job.Granted ks) → ⊥
+no_grant_idle [] ks e = cc
+no_grant_idle (p ∷ ps) ks e = cc
+
+no_grant_awaiting : (k : ℕ) (c : Bool) (p : Option Posted) (a : Option Answer) (ks : ArrayVec ℕ) → job_awaiting k c p a ≡ Some (job.Granted ks) → ⊥
+no_grant_awaiting k c (Some p) a ks e = cc
+no_grant_awaiting k true None (Some (Replied v)) ks e = cc
+no_grant_awaiting k false None (Some (Replied v)) ks e = cc
+no_grant_awaiting k c None (Some SupplierFailed) ks e = cc
+no_grant_awaiting k c None (Some Refused) ks e = cc
+no_grant_awaiting k c None None ks e = cc
+
+grant_at : (h : ℕ) (st : coded_stage.Stage) (es : List ℕ) (mark : List Marked) (y : Handler) (s : State) (ks : ArrayVec ℕ) →
+    job_at h (stage_of es mark st) y s ≡ Some (job.Granted ks) →
+    (may_reserve (standing_in s) s.rights (needs h es s.rights) mark ≡ true) × (ks.items ≡ needs h es s.rights)
+grant_at h stage.Idle es mark y s ks e = absurd (no_grant_idle y.queue ks e)
+grant_at h stage.Runs es mark y s ks e = cc
+grant_at h (stage.HasMade k) es mark y s ks e = cc
+grant_at h stage.Reserves es mark y s ks e = grant_reserving _ _ (needs h es s.rights) ks e
+grant_at h (stage.Awaits k c) es mark y s ks e = absurd (no_grant_awaiting k c y.callback y.answer ks e)
+
+some_if : (b : Bool) (o : Option Job) (j : Job) → (if b then o else None) ≡ Some j → o ≡ Some j
+some_if true o j e = e
+some_if false o j e = cc
+
+some_unless : (b : Bool) (o : Option Job) (j : Job) → (if b then None else o) ≡ Some j → o ≡ Some j
+some_unless true o j e = cc
+some_unless false o j e = e
+
+some_with : (h : ℕ) (why : Option Cause) (y : Handler) (s : State) (j : Job) → job_with h why y s ≡ Some j → job_at h y.stage y s ≡ Some j
+some_with h (Some why) y s j e = cc
+some_with h None y s j e = e
+
+pub grant_is : (count : ℕ) (xs : List coded.Handler) (sessions : List ℕ) (t : Table) (last h : ℕ) (x : coded.Handler) (ks : ArrayVec ℕ) →
+    slice_get xs h ≡ Some x → entry_below count x ≡ true → pick_for h (center count xs sessions t last) ≡ Some (job.Granted ks) →
+    IsGrant count ks.items
+grant_is count xs sessions t last h x ks e all is =
+    let s = state_of count xs sessions t in
+    let y = handler_at xs sessions h in
+    let own = some_if (nat_lt h count) (job_with h y.failure y s) (job.Granted ks) (some_unless (is_some (out_at xs h)) (job_of h s) (job.Granted ks) is) in
+    let there = some_with h y.failure y s (job.Granted ks) own in
+    let stands = ap (λ (o : Option coded.Handler). job_at h (handler_in o).stage y s) (sym e) ∙ there in
+    let parts = grant_at h x.stage x.entry.items x.mark y s ks stands in
+    record {
+      below = λ k among.
+          let listed = sym (needs_unheld (rights_of t) h k (map Some x.entry.items)) ∙ ap (is_among k) (sym parts.1) ∙ among in
+          listed_below count k x.entry.items all (and_parts _ _ listed).0;
+    }
+
+pub all_among_below : (most : ℕ) (ks : List ℕ) → ((k : ℕ) → is_among k ks ≡ true → k < most) → All (λ k. k < most) ks
+all_among_below most ks f = all_among (λ k. k < most) ks f
+
+pub below_most : (count most : ℕ) (ks : List ℕ) → count ≤ most → IsGrant count ks → All (λ k. k < most) ks
+below_most count most ks within g = all_among (λ k. k < most) ks (λ k is. let l = g.below k is in omega (arith, l))

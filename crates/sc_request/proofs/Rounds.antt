@@ -1,0 +1,125 @@
+-- The first of a round of numbers that has something to do.
+use Rattle.std.proofs.Common.{◌≡◌, ◌+◌, ◌-◌, ◌<◌, ◌≤◌, ◌++◌, ℕ, zero, suc, false, List, [], ◌∷◌, Option, Some, None, refl, sym, ap, subst, ◌∙◌, inl, inr, min, arith}
+use Rattle.std.proofs.lemmas.Bool.{both_ways, cases_eq, cases_lt, false_from_ne_true, le-ltb, lt-ltb, ne_eqb}
+use Rattle.std.specs.Prelude.{is_some, not, nat_lt, ◌==◌, ◌&&◌, if◌then◌else◌}
+use Rattle.sc_lockpass.specs.Tables.{is_member}
+use Rattle.sc_region.specs.declared.job.Job.{Job}
+use Rattle.sc_request.specs.Logs.{Center, pick_for, numbers_from, first_from, first_with_job, next}
+use Rattle.sc_request.specs.Candidates.{HasNoneIn, IsFirstIn, AreCandidates}
+
+none_is : (o : Option Job) → is_some o ≡ false → o ≡ None
+none_is None e = refl
+none_is (Some j) e = cc
+
+-- numbers that have nothing to do are passed over
+skip : (c : Center) (n a m t : ℕ) → t ≡ n + m → ((k : ℕ) → a ≤ k → k < a + n → is_some (pick_for k c) ≡ false) →
+    first_with_job (numbers_from a t) c ≡ first_with_job (numbers_from (a + n) m) c
+skip c zero a m t e none =
+    let same : t ≡ m = omega (arith, e) in
+    let from : a ≡ a + 0 = omega arith in
+    ap (λ x. first_with_job (numbers_from a x) c) same ∙ ap (λ x. first_with_job (numbers_from x m) c) from
+skip c (suc n) a m t e none =
+    let more : t ≡ suc (n + m) = omega (arith, e) in
+    let from : suc a + n ≡ a + suc n = omega arith in
+    let here : pick_for a c ≡ None = none_is (pick_for a c) (none a (omega arith) (omega arith)) in
+    ap (λ x. first_with_job (numbers_from a x) c) more
+    ∙ ap (λ (o : Option Job). first_from a o (first_with_job (numbers_from (suc a) (n + m)) c)) here
+    ∙ skip c n (suc a) m (n + m) refl (λ k l u. none k (omega (arith, l)) (omega (arith, u)))
+    ∙ ap (λ x. first_with_job (numbers_from x m) c) from
+
+-- none of the set is there, so nobody there has something to do
+idle_in : (words : List ℕ) (c : Center) (a b : ℕ) → AreCandidates words c → HasNoneIn words a b → (k : ℕ) → a ≤ k → k < b → is_some (pick_for k c) ≡ false
+idle_in words c a b all none k l u = false_from_ne_true (is_some (pick_for k c)) (λ is. both_ways (is_member words k) (none k l u) (all k is))
+
+pub none_left : (words : List ℕ) (c : Center) (a b : ℕ) → AreCandidates words c → HasNoneIn words a b → first_with_job (numbers_from a (b - a)) c ≡ None
+none_left words c a b all none =
+    let same : b - a ≡ (b - a) + 0 = omega arith in
+    skip c (b - a) a 0 (b - a) same (λ k l u. idle_in words c a b all none k l (omega (arith, l, u)))
+
+-- the least of the set comes first, if it has something to do
+pub first_there : (words : List ℕ) (c : Center) (a b h : ℕ) (j : Job) → AreCandidates words c → IsFirstIn words a b h → pick_for h c ≡ Some j →
+    first_with_job (numbers_from a (b - a)) c ≡ Some (h, j)
+first_there words c a b h j all is e =
+    let start = is.start in
+    let end = is.below in
+    let parts : b - a ≡ (h - a) + (b - h) = omega (arith, start, end) in
+    let rest : b - h ≡ suc (b - suc h) = omega (arith, end) in
+    let there : a + (h - a) ≡ h = omega (arith, start) in
+    skip c (h - a) a (b - h) (b - a) parts (λ k l u. idle_in words c a h all is.least k l (omega (arith, start, u)))
+    ∙ ap (λ x. first_with_job (numbers_from x (b - h)) c) there
+    ∙ ap (λ x. first_with_job (numbers_from h x) c) rest
+    ∙ ap (λ (o : Option Job). first_from h o (first_with_job (numbers_from (suc h) (b - suc h)) c)) e
+
+-- and is passed over, if it has not
+pub passed_over : (words : List ℕ) (c : Center) (a b h : ℕ) → AreCandidates words c → IsFirstIn words a b h → pick_for h c ≡ None →
+    first_with_job (numbers_from a (b - a)) c ≡ first_with_job (numbers_from (h + 1) (b - (h + 1))) c
+passed_over words c a b h all is e =
+    let start = is.start in
+    let end = is.below in
+    let parts : b - a ≡ (h - a) + (b - h) = omega (arith, start, end) in
+    let rest : b - h ≡ suc (b - (h + 1)) = omega (arith, end) in
+    let there : a + (h - a) ≡ h = omega (arith, start) in
+    let next : suc h ≡ h + 1 = omega arith in
+    skip c (h - a) a (b - h) (b - a) parts (λ k l u. idle_in words c a h all is.least k l (omega (arith, start, u)))
+    ∙ ap (λ x. first_with_job (numbers_from x (b - h)) c) there
+    ∙ ap (λ x. first_with_job (numbers_from h x) c) rest
+    ∙ ap (λ (o : Option Job). first_from h o (first_with_job (numbers_from (suc h) (b - (h + 1))) c)) e
+    ∙ ap (λ x. first_with_job (numbers_from x (b - (h + 1))) c) next
+
+-- ---- the round
+
+found_first : (x : ℕ) (o : Option Job) (r r' : Option (ℕ × Job)) (p : ℕ × Job) → (r ≡ Some p → r' ≡ Some p) → first_from x o r ≡ Some p → first_from x o r' ≡ Some p
+found_first x (Some j) r r' p f e = e
+found_first x None r r' p f e = f e
+
+pub found_append : (xs ys : List ℕ) (c : Center) (p : ℕ × Job) → first_with_job xs c ≡ Some p → first_with_job (xs ++ ys) c ≡ Some p
+found_append [] ys c p e = cc
+found_append (x ∷ xs) ys c p e = found_first x (pick_for x c) (first_with_job xs c) (first_with_job (xs ++ ys) c) p (found_append xs ys c p) e
+
+none_first : (x : ℕ) (o : Option Job) (r r' r'' : Option (ℕ × Job)) → (r ≡ None → r' ≡ r'') → first_from x o r ≡ None → first_from x o r' ≡ r''
+none_first x (Some j) r r' r'' f e = cc
+none_first x None r r' r'' f e = f e
+
+pub none_append : (xs ys : List ℕ) (c : Center) → first_with_job xs c ≡ None → first_with_job (xs ++ ys) c ≡ first_with_job ys c
+none_append [] ys c e = refl
+none_append (x ∷ xs) ys c e = none_first x (pick_for x c) (first_with_job xs c) (first_with_job (xs ++ ys) c) (first_with_job ys c) (none_append xs ys c) e
+
+-- one that has nothing to do is taken out
+pub tried_without : (words later : List ℕ) (c : Center) (h : ℕ) → AreCandidates words c → pick_for h c ≡ None →
+    ((k : ℕ) → is_member later k ≡ (not (k == h) && is_member words k)) → AreCandidates later c
+tried_without words later c h all none removed k is = elim (cases_eq k h) [
+  | inl same ↦ let own = rw same at is in absurd (both_ways (is_some (pick_for h c)) (ap (λ (o : Option Job). is_some o) none) own)
+  | inr apart ↦ removed k ∙ rw (ne_eqb k h apart) (all k is)
+]
+
+pub round_found : (c : Center) (p : ℕ × Job) → Some p ≡ first_with_job (numbers_from (c.last + 1) (c.state.count - (c.last + 1))) c → Some p ≡ next c
+round_found c p e =
+    let one : suc c.last ≡ c.last + 1 = omega arith in
+    sym (found_append _ _ c p (ap (λ x. first_with_job (numbers_from x (c.state.count - x)) c) one ∙ sym e))
+
+round_end : (last count : ℕ) → min count (last + 1) ≡ (if nat_lt last count then suc last else count)
+round_end last count = elim (cases_lt last count) [
+  | inl l ↦ rw (lt-ltb last count l) (omega (arith, l))
+  | inr l ↦ rw (le-ltb last count l) (omega (arith, l))
+]
+
+pub round_rest : (c : Center) (r : Option (ℕ × Job)) → None ≡ first_with_job (numbers_from (c.last + 1) (c.state.count - (c.last + 1))) c →
+    r ≡ first_with_job (numbers_from 0 (min c.state.count (c.last + 1) - 0)) c → r ≡ next c
+round_rest c r none e =
+    let one : suc c.last ≡ c.last + 1 = omega arith in
+    let all : min c.state.count (c.last + 1) - 0 ≡ min c.state.count (c.last + 1) = omega arith in
+    e ∙ ap (λ x. first_with_job (numbers_from 0 x) c) (all ∙ round_end c.last c.state.count)
+    ∙ sym (none_append _ _ c (ap (λ x. first_with_job (numbers_from x (c.state.count - x)) c) one ∙ sym none))
+
+some_pair : (p q : ℕ × Job) → Some p ≡ Some q → p ≡ q
+some_pair p q e = cc
+
+job_first : (x : ℕ) (o : Option Job) (c : Center) (r : Option (ℕ × Job)) (p : ℕ × Job) → pick_for x c ≡ o → (r ≡ Some p → pick_for p.0 c ≡ Some p.1) →
+    first_from x o r ≡ Some p → pick_for p.0 c ≡ Some p.1
+job_first x (Some i) c r p is rest e = subst (λ (q : ℕ × Job). pick_for q.0 c ≡ Some q.1) (some_pair (x, i) p e) is
+job_first x None c r p is rest e = rest e
+
+-- what comes first has its job
+pub has_job : (xs : List ℕ) (c : Center) (p : ℕ × Job) → first_with_job xs c ≡ Some p → pick_for p.0 c ≡ Some p.1
+has_job [] c p e = cc
+has_job (x ∷ xs) c p e = job_first x (pick_for x c) c (first_with_job xs c) p refl (has_job xs c p) e

@@ -1,0 +1,89 @@
+use Rattle.std.proofs.Common.{◌*◌, ◌∙◌, ap, sym, refl, subst, length, slice_set, Option, None, arith}
+use Rattle.std.proofs.lemmas.Option.{slice_get_read}
+use Rattle.std.specs.Prelude.{vec_len}
+use Rattle.sc_lockpass.specs.Tables.{rights_of}
+use Rattle.sc_lockpass.specs.Versions.{most_handlers}
+use Rattle.sc_region.specs.declared.job.Job.{Job}
+use Rattle.sc_request.specs.Candidates.{AreCandidates, HasGrantsBelow, HasOutsBelow}
+use Rattle.sc_request.specs.Sound.{IsSound}
+use Rattle.sc_request.specs.Tables.{center, out_total, state_of}
+use Rattle.sc_request.proofs.Outs.{back_center, fewer_out, with_job}
+use Rattle.sc_request.proofs.Granting.{back_none, candidates_back, grants_back, outs_back, sound_back}
+use Rattle.sc_request.proofs.center.Core.put_back.Goals as goal
+
+pub returns-in_default-clause-center : goal.returns-in_default-clause-center
+returns-in_default-clause-center c =
+    let s = c.args.self.now in
+    let xs = s.state.handlers.items in
+    let h = c.args.handler in
+    let x = c.index_mut.result.now in
+    let below = c.if-at-len.false in
+    let own = s.state.handlers.ok.0 in
+    let all = c.len.ensures in
+    let e = slice_get_read xs (length xs) h x refl (omega (arith, below, own, all)) c.index_mut.ensures.value in
+    ap (λ (o : Option Job). center s.state.count (slice_set xs h (with_job o x)) s.state.sessions.items s.state.rights s.last) c.take.ensures.after
+    ∙ back_none s.state.count xs s.state.sessions.items s.state.rights s.last h x e (sym c.take.ensures.value ∙ c.in_default.is)
+
+pub overflow_sub-self : goal.overflow_sub-self
+overflow_sub-self c =
+    let s = c.args.self.now in
+    let xs = s.state.handlers.items in
+    let h = c.args.handler in
+    let x = c.index_mut.result.now in
+    let below = c.if-at-len.false in
+    let own = s.state.handlers.ok.0 in
+    let all = c.len.ensures in
+    let e = slice_get_read xs (length xs) h x refl (omega (arith, below, own, all)) c.index_mut.ensures.value in
+    let j = c.in-Some.job in
+    let some = sym c.take.ensures.value ∙ c.in-Some.is in
+    let fewer = fewer_out xs h x j e some in
+    let counted = s.counted in
+    omega (arith, fewer, counted)
+
+pub invariant_of-self-3 : goal.invariant_of-self-3
+invariant_of-self-3 c =
+    let s = c.args.self.now in
+    let xs = s.state.handlers.items in
+    let h = c.args.handler in
+    let x = c.index_mut.result.now in
+    let below = c.if-at-len.false in
+    let own = s.state.handlers.ok.0 in
+    let all = c.len.ensures in
+    let e = slice_get_read xs (length xs) h x refl (omega (arith, below, own, all)) c.index_mut.ensures.value in
+    let j = c.in-Some.job in
+    let some = sym c.take.ensures.value ∙ c.in-Some.is in
+    let fewer = fewer_out xs h x j e some in
+    let counted = s.counted in
+    record {
+      counted = omega (arith, fewer, counted) ∙ ap (λ (o : Option Job). out_total (slice_set xs h (with_job o x))) (sym c.take.ensures.after);
+      there = rw c.release_granted.ensures.version
+          (subst (λ (o : Option Job). HasOutsBelow (most_handlers s.state.rights.version) (slice_set xs h (with_job o x))) (sym c.take.ensures.after)
+          (outs_back (most_handlers s.state.rights.version) xs h x e s.there));
+      grants = rw c.release_granted.ensures.version
+          (subst (λ (o : Option Job). HasGrantsBelow (most_handlers s.state.rights.version) (slice_set xs h (with_job o x))) (sym c.take.ensures.after)
+          (grants_back (most_handlers s.state.rights.version) xs h x e s.grants));
+      sound = subst (λ (o : Option Job). IsSound (2 * vec_len s.log) (vec_len s.log)
+          (state_of s.state.count (slice_set xs h (with_job o x)) s.state.sessions.items c.release_granted.new.rights)) (sym c.take.ensures.after)
+          (sound_back (2 * vec_len s.log) (vec_len s.log) s.state.count xs s.state.sessions.items s.state.rights c.release_granted.new.rights h x j e
+          c.release_granted.ensures.rights s.sound);
+      tried = subst (λ (o : Option Job). AreCandidates c.insert.new.self.words
+          (center s.state.count (slice_set xs h (with_job o x)) s.state.sessions.items c.release_granted.new.rights s.last)) (sym c.take.ensures.after)
+          (candidates_back s.state.count xs s.state.sessions.items s.state.rights c.release_granted.new.rights s.last h x j s.candidates.words
+          c.release_granted.new.candidates.words c.insert.new.self.words e c.release_granted.ensures.rights s.sound.within s.tried
+          c.release_granted.ensures.candidates c.insert.ensures);
+    }
+
+pub returns-clause-center : goal.returns-clause-center
+returns-clause-center c =
+    let s = c.args.self.now in
+    let xs = s.state.handlers.items in
+    let h = c.args.handler in
+    let x = c.index_mut.result.now in
+    let below = c.if-at-len.false in
+    let own = s.state.handlers.ok.0 in
+    let all = c.len.ensures in
+    let e = slice_get_read xs (length xs) h x refl (omega (arith, below, own, all)) c.index_mut.ensures.value in
+    let j = c.in-Some.job in
+    let some = sym c.take.ensures.value ∙ c.in-Some.is in
+    ap (λ (o : Option Job). center s.state.count (slice_set xs h (with_job o x)) s.state.sessions.items c.release_granted.new.rights s.last) c.take.ensures.after
+    ∙ back_center s.state.count xs s.state.sessions.items s.state.rights c.release_granted.new.rights s.last h x j e some c.release_granted.ensures.rights

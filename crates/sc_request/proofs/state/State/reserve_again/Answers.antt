@@ -1,0 +1,30 @@
+use Rattle.std.proofs.Common.{length, refl, arith, ◌∙◌, ap, sym}
+use Rattle.std.proofs.lemmas.Option.{slice_get_read}
+use Rattle.sc_request.specs.Handlers.{Handler, Stage, Reserves}
+use Rattle.sc_request.specs.declared.handler.Stage.TheVariants as stage
+use Rattle.sc_request.proofs.Placing.{changed, outs_kept, stands, reserves_next}
+use Rattle.sc_request.proofs.state.State.reserve_again.Goals as goal
+
+pub returns-clause-plain : goal.returns-clause-plain
+returns-clause-plain c =
+    let s = c.args.self.now in
+    let xs = s.handlers.items in
+    let h = c.args.handler in
+    let x = c.index_mut-place.result.now in
+    let below = c.requires in
+    let own = s.handlers.ok.0 in
+    let all = s.places in
+    let e = slice_get_read xs (length xs) h x refl (omega (arith, below, own, all)) c.index_mut-place.ensures.value in
+    changed s.count xs s.sessions.items s.rights h x (record x { stage = stage.Reserves; mark = c.args.mark }) (λ (z : Handler). record z { stage = Reserves z.entry c.args.mark }) e (λ n. refl)
+
+pub returns-clause-outs : goal.returns-clause-outs
+returns-clause-outs c =
+    let s = c.args.self.now in
+    let xs = s.handlers.items in
+    let h = c.args.handler in
+    let x = c.index_mut-place.result.now in
+    let below = c.requires in
+    let own = s.handlers.ok.0 in
+    let all = s.places in
+    let e = slice_get_read xs (length xs) h x refl (omega (arith, below, own, all)) c.index_mut-place.ensures.value in
+    outs_kept xs h x (record x { stage = stage.Reserves; mark = c.args.mark }) e refl

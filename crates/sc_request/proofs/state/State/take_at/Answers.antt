@@ -1,0 +1,30 @@
+use Rattle.std.proofs.Common.{length, refl, arith, ◌∙◌, ap, sym}
+use Rattle.std.proofs.lemmas.Option.{slice_get_read}
+use Rattle.sc_request.specs.Handlers.{Handler, Stage, Reserves}
+use Rattle.sc_request.specs.Settling.{takes}
+use Rattle.sc_request.proofs.Placing.{changed, outs_kept, stands, reserves_next}
+use Rattle.sc_request.proofs.state.State.take_at.Goals as goal
+
+pub returns-clause-plain : goal.returns-clause-plain
+returns-clause-plain c =
+    let s = c.args.self.now in
+    let xs = s.handlers.items in
+    let h = c.args.handler in
+    let x = c.index_mut.result.now in
+    let below = c.requires.there in
+    let own = s.handlers.ok.0 in
+    let all = s.places in
+    let e = slice_get_read xs (length xs) h x refl (omega (arith, below, own, all)) c.index_mut.ensures.value in
+    changed s.count xs s.sessions.items s.rights h x c.take.new.self (λ (z : Handler). takes z.stage z) e (c.take.ensures.handler)
+
+pub returns-clause-outs : goal.returns-clause-outs
+returns-clause-outs c =
+    let s = c.args.self.now in
+    let xs = s.handlers.items in
+    let h = c.args.handler in
+    let x = c.index_mut.result.now in
+    let below = c.requires.there in
+    let own = s.handlers.ok.0 in
+    let all = s.places in
+    let e = slice_get_read xs (length xs) h x refl (omega (arith, below, own, all)) c.index_mut.ensures.value in
+    outs_kept xs h x c.take.new.self e c.take.ensures.out

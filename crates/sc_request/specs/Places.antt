@@ -1,0 +1,48 @@
+-- What the tables that settlements change stand for.
+use Rattle.std.specs.Prelude.{ℕ, Bool, true, false, List, [], ◌∷◌, Option, Some, None}
+use Rattle.std.specs.List.{list_any}
+use Rattle.sc_lockpass.specs.Rights.{is_handler, release_all}
+use Rattle.sc_region.specs.declared.job.Job.{Job}
+use Rattle.sc_request.specs.declared.state.State as coded
+use Rattle.sc_request.specs.Handlers.{Posted, Stage, Idle, Runs, HasMade, Reserves, Awaits, Service, Handler, State}
+use Rattle.sc_request.specs.Sessions.{is_waited_by, session_ended, told}
+use Rattle.sc_request.specs.Settling.{counted_refusal}
+use Rattle.sc_request.specs.Tables.{state_of, out_at}
+
+abbrev pub plain : coded.State → State
+plain s = state_of s.count s.handlers.items s.sessions.items s.rights
+
+-- the job that each handler is out with
+abbrev pub outs_of : coded.State → ℕ → Option Job
+outs_of s = out_at s.handlers.items
+
+-- ---- parts of settlements
+
+-- the handler that one waits for
+abbrev pub awaited : Stage → Option ℕ
+awaited Idle = None
+awaited Runs = None
+awaited (HasMade k) = None
+awaited (Reserves ks mark) = None
+awaited (Awaits k is_creation) = Some k
+
+-- the handler releases every right that it holds
+abbrev pub lets_go : ℕ → State → State
+lets_go h s = record s { handlers = λ k. session_ended (is_handler h (s.rights.queue k)) (s.handlers k); rights = release_all h s.rights }
+
+-- those that wait for the answer to one of these hear that their supplier has failed
+abbrev pub tells : List Posted → State → State
+tells ps s = record s { handlers = λ k. told (list_any (is_waited_by k) ps) (s.handlers k) }
+
+abbrev pub first_of : List Service → Option Service
+first_of [] = None
+first_of (e ∷ es) = Some e
+
+abbrev pub counted_if : Bool → Bool → Handler → Handler
+counted_if false is_waited x = x
+counted_if true is_waited x = counted_refusal is_waited x
+
+-- the handler after the request that it served last
+abbrev pub without_first : Bool → List Service → Handler → Handler
+without_first refused [] x = x
+without_first refused (e ∷ es) x = counted_if refused e.posted.request.is_waited (record x { stage = e.over; services = es })

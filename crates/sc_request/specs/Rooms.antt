@@ -1,0 +1,34 @@
+-- Room for settlements: what one takes is kept for each handler that is out.
+use Rattle.std.specs.Prelude.{◌≤◌, ◌+◌, ℕ, Bool, true, false, Result, Ok, Err, length, vec_len, vec_capacity}
+use Rattle.sc_region.specs.declared.job.Job.{Job}
+use Rattle.sc_region.specs.declared.job.Outcome.{Outcome}
+use Rattle.sc_request.specs.declared.center.Core as coded
+use Rattle.sc_request.specs.declared.settlement.Settlement.{Settlement}
+use Rattle.sc_request.specs.declared.settlement.SettleFault.{SettleFault}
+use Rattle.sc_request.specs.declared.settlement.SettleFault.TheVariants.{NotOut, OutOfMemory}
+
+-- There is room to settle each handler that is out, and so many more: a place in the log, and one in some queue.
+pub record HasRoomFor (more : ℕ) (c : coded.Core) : Type 0 where
+  pub places : c.outs + more ≤ length c.spare
+  pub entries : vec_len c.log + (c.outs + more) ≤ vec_capacity c.log
+
+-- ---- what a settlement answers
+
+abbrev pub is_not_out : Result Unit SettleFault → Bool
+is_not_out (Ok u) = false
+is_not_out (Err (NotOut o)) = true
+is_not_out (Err (OutOfMemory o)) = false
+
+-- there was no memory for it
+abbrev pub is_short : Result Unit SettleFault → Bool
+is_short (Ok u) = false
+is_short (Err (NotOut o)) = false
+is_short (Err (OutOfMemory o)) = true
+
+abbrev pub outcome_of : SettleFault → Outcome
+outcome_of (NotOut o) = o
+outcome_of (OutOfMemory o) = o
+
+-- what the log has of the outcome of a handler that was out with the job
+abbrev pub settlement : Job → Outcome → Settlement
+settlement j o = record { handler = o.handler; job = j; turns = o.turns; want = o.want }

@@ -1,0 +1,67 @@
+//! The job of a handler begins.
+ghost use Rattle.std.specs.Prelude.{◌≡◌, ◌<◌, ◌-◌, ◌^◌};
+ghost use Rattle.std.specs.List.{All};
+ghost use Rattle.sc_lockpass.specs.Versions.{most_handlers};
+ghost use Rattle.sc_request.specs.Candidates.{granted_items};
+ghost use Rattle.sc_request.specs.Places.{awaited, outs_of, plain};
+ghost use Rattle.sc_request.specs.Settling.{begun, made_at};
+ghost use Rattle.sc_request.specs.Sound.{IsSound};
+
+use crate::handler::Stage;
+use crate::sessions::reserve_each;
+use crate::state::State;
+use sc_region::Job;
+
+impl State {
+    /// What a handler was asked for is taken, or what its reserve step was granted is its own.
+    pub(crate) fn begin(&mut self, handler: u16, job: &Job)
+        requires there { handler < 512 }
+        requires sound { IsSound (2 ^ 64 - 2) (2 ^ 63 - 2) (plain self.old) }
+        requires granted { All (λ k. k < most_handlers self.old.rights.version) (granted_items job.now) }
+        ensures plain { plain self.new ≡ begun handler job.now (plain self.old) }
+        ensures outs { outs_of self.new ≡ outs_of self.old }
+        ensures version { self.new.rights.version ≡ self.old.rights.version }
+    {
+        match job {
+            Job::Take(_) => self.take_at(handler as usize),
+            Job::Reply(_) => self.take_answer_at(handler as usize),
+            Job::Granted(handlers) => {
+                self.stand(handler as usize, Stage::Runs);
+                reserve_each(&mut self.rights, handler, handlers.as_slice());
+            }
+            Job::Made(_) => self.go_on_with_made(handler),
+            Job::Failed | Job::Refused | Job::Go => {}
+        }
+    }
+
+    /// A handler goes on with one that was made for it. It releases that where it waited for its creation.
+    fn go_on_with_made(&mut self, handler: u16)
+        requires there { handler < 512 }
+        requires sound { IsSound (2 ^ 64 - 2) (2 ^ 63 - 2) (plain self.old) }
+        ensures plain { plain self.new ≡ made_at handler ((plain self.old).handlers handler).stage (plain self.old) }
+        ensures outs { outs_of self.new ≡ outs_of self.old }
+        ensures version { self.new.rights.version ≡ self.old.rights.version }
+    {
+        match self.awaited(handler as usize) {
+            Some(supplier) => {
+                self.take_answer_at(handler as usize);
+                self.end_sessions(&[supplier]);
+            }
+            None => self.stand(handler as usize, Stage::Runs),
+        }
+    }
+
+    /// The handler for whose answer this one waits, if it waits.
+    fn awaited(&self, handler: usize) -> Option<u16>
+        requires { handler < 512 }
+        ensures { result ≡ awaited ((plain self.now).handlers handler).stage }
+    {
+        match self.handlers[handler].stage {
+            Stage::Awaits {
+                supplier,
+                is_creation: _,
+            } => Some(supplier),
+            Stage::Idle | Stage::Runs | Stage::HasMade(_) | Stage::Reserves => None,
+        }
+    }
+}

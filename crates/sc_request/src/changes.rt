@@ -1,0 +1,164 @@
+//! What settlements change of a handler.
+ghost use Rattle.std.specs.Prelude.{◌≡◌, ◌≤◌, ◌<◌, ◌+◌, ◌^◌, ◌∷◌, ℕ, [], IfSome, false, length, map, slice_get, take};
+ghost use Rattle.std.specs.Option.{option_map};
+ghost use Rattle.sc_request.specs.Candidates.{reserves_at};
+ghost use Rattle.sc_request.specs.Places.{first_of, without_first};
+ghost use Rattle.sc_request.specs.Handlers.{new_handler};
+ghost use Rattle.sc_request.specs.Sessions.{placed, answered, fallen};
+ghost use Rattle.sc_request.specs.Settling.{takes, takes_answer};
+ghost use Rattle.sc_request.specs.Tables.{answer_of, cleared, handler_with, posting_of, served, service_of};
+
+use crate::handler::{Answer, Handler, Posting, Stage};
+use crate::postings::{append, stand_over, take_all, take_first, write_first};
+use sc_model::Cause;
+use sc_waitcond::Mark;
+use std::collections::LinkedList;
+
+/// The requests of a handler that fails.
+#[derive(Drop)]
+pub(crate) struct Dropped {
+    pub(crate) queue: LinkedList<Posting>,
+    pub(crate) callback: LinkedList<Posting>,
+    pub(crate) services: LinkedList<Posting>,
+}
+
+impl Handler {
+    /// Takes the next of its queue or its callback, as it stands. It is served from now on.
+    pub(crate) fn take(&mut self)
+        requires { length self.old.services + 1 < 2 ^ 63 }
+        ensures handler { (n : ℕ) → handler_with n self.new ≡ takes (handler_with n self.old).stage (handler_with n self.old) }
+        ensures out { self.new.out ≡ self.old.out }
+    {
+        match self.stage {
+            Stage::Idle => {
+                let first = take_first(&mut self.queue);
+                self.serve(first);
+            }
+            Stage::Awaits {
+                supplier: _,
+                is_creation: _,
+            } => {
+                let first = take_first(&mut self.callback);
+                self.callback.clear();
+                self.serve(first);
+            }
+            Stage::Runs | Stage::HasMade(_) | Stage::Reserves => {}
+        }
+    }
+
+    /// Serves the only request of a list, if there is one.
+    fn serve(&mut self, mut first: LinkedList<Posting>)
+        requires alone { length first ≤ 1 }
+        requires room { length self.old.services + 1 < 2 ^ 63 }
+        ensures { self.new ≡ served first self.old }
+    {
+        if first.is_empty() {
+            return;
+        }
+        stand_over(&mut first, self.stage);
+        append(&mut first, &mut self.services);
+        self.services = first;
+        self.stage = Stage::Runs;
+    }
+
+    /// Takes an answer, and goes on.
+    pub(crate) fn take_answer(&mut self)
+        ensures handler { (n : ℕ) → handler_with n self.new ≡ takes_answer (handler_with n self.old) }
+        ensures out { self.new.out ≡ self.old.out }
+    {
+        self.stage = Stage::Runs;
+        self.answer = None;
+    }
+
+    /// Hears an answer. One that has failed takes none, and one that has an answer keeps it, but that its supplier has
+    /// failed it always hears.
+    pub(crate) fn hear(&mut self, answer: Answer)
+        ensures handler { (n : ℕ) → handler_with n self.new ≡ answered (answer_of answer) (handler_with n self.old) }
+        ensures out { self.new.out ≡ self.old.out }
+    {
+        let is_told = answer == Answer::SupplierFailed;
+        if self.failure.is_none() && (is_told || self.answer.is_none()) {
+            self.answer = Some(answer);
+        }
+    }
+
+    /// A request stands as its callback, or at its queue's end.
+    pub(crate) fn place(
+        &mut self,
+        is_callback: bool,
+        mut node: LinkedList<Posting>,
+        posting: Posting,
+    )
+        requires node { length node ≡ 1 }
+        requires room { is_callback ≡ false → length self.old.queue + 1 < 2 ^ 63 }
+        ensures handler { (n : ℕ) → handler_with n self.new ≡ placed is_callback (posting_of posting) (handler_with n self.old) }
+        ensures out { self.new.out ≡ self.old.out }
+    {
+        write_first(&mut node, posting);
+        if is_callback {
+            self.callback = node;
+        } else {
+            append(&mut self.queue, &mut node);
+        }
+    }
+
+    /// Fails: it has no frames, and nothing that it is asked for.
+    pub(crate) fn fall(&mut self, why: Cause) -> Dropped
+        ensures queue { result.queue ≡ self.old.queue }
+        ensures callback { result.callback ≡ take 1 self.old.callback }
+        ensures services { result.services ≡ self.old.services }
+        ensures handler { (n : ℕ) → handler_with n self.new ≡ fallen why (handler_with n self.old) }
+        ensures out { self.new.out ≡ self.old.out }
+    {
+        let queue = take_all(&mut self.queue);
+        let callback = take_first(&mut self.callback);
+        let services = take_all(&mut self.services);
+        self.clear();
+        self.failure = Some(why);
+        Dropped {
+            queue,
+            callback,
+            services,
+        }
+    }
+
+    /// Takes the request that it serves, and stands as it did when it took that. A refusal is counted where nobody
+    /// waits.
+    pub(crate) fn pop_service(&mut self, refused: bool) -> Option<Posting>
+        requires counted { self.old.refused + 1 < 2 ^ 64 }
+        requires over { IfSome (slice_get self.old.services 0) (λ p. reserves_at p.over ≡ false) }
+        ensures service { option_map service_of result ≡ first_of (map service_of self.old.services) }
+        ensures handler { (n : ℕ) → handler_with n self.new ≡ without_first refused (map service_of self.old.services) (handler_with n self.old) }
+        ensures out { self.new.out ≡ self.old.out }
+    {
+        let service = self.services.pop_front()?;
+        self.stage = service.over;
+        if refused && !service.request.is_waited {
+            self.refused += 1;
+        }
+        Some(service)
+    }
+
+    /// It is as one that nobody has asked for anything.
+    pub(crate) fn renew(&mut self)
+        ensures handler { (n : ℕ) → handler_with n self.new ≡ record new_handler { sessions = n } }
+        ensures out { self.new.out ≡ self.old.out }
+    {
+        self.clear();
+        self.failure = None;
+        self.refused = 0;
+    }
+
+    /// It has no frames, and nothing that it is asked for.
+    fn clear(&mut self)
+        ensures { self.new ≡ cleared self.old }
+    {
+        self.stage = Stage::Idle;
+        self.entry.clear();
+        self.mark = Mark::new();
+        self.services.clear();
+        self.queue.clear();
+        self.callback.clear();
+        self.answer = None;
+    }
+}

@@ -1,0 +1,96 @@
+//! Requests end.
+ghost use Rattle.std.specs.Prelude.{◌≡◌, ◌<◌, ◌-◌, ◌^◌, true, if◌then◌else◌};
+ghost use Rattle.std.specs.Option.{option_map};
+ghost use Rattle.sc_lockpass.specs.Tables.{passed_of};
+ghost use Rattle.sc_request.specs.Handlers.{Refused, Replied, put};
+ghost use Rattle.sc_request.specs.Places.{first_of, outs_of, plain, without_first};
+ghost use Rattle.sc_request.specs.Sessions.{finish, return_rights};
+ghost use Rattle.sc_request.specs.Settling.{ends, may_post_to_all};
+ghost use Rattle.sc_request.specs.Sound.{IsSound, placed_poster};
+ghost use Rattle.sc_request.specs.Tables.{answer_of, posting_of, service_of};
+
+use crate::handler::{Answer, Posting};
+use crate::state::State;
+use sc_lockpass::Passed;
+use sc_model::Cause;
+use sc_region::Value;
+
+impl State {
+    /// The request that a handler serves ends, with a value or none, or refused. What its entry newly reserved is
+    /// released.
+    pub(crate) fn end(
+        &mut self,
+        handler: u16,
+        reply: Option<Value>,
+        released: &[u16],
+        refused: bool,
+    )
+        requires there { handler < 512 }
+        requires sound { IsSound (2 ^ 64 - 2) (2 ^ 63) (plain self.old) }
+        requires held { may_post_to_all handler released.now (plain self.old) ≡ true }
+        ensures plain { plain self.new ≡ ends handler reply released.now refused ((plain self.old).handlers handler).services (plain self.old) }
+        ensures outs { outs_of self.new ≡ outs_of self.old }
+        ensures version { self.new.rights.version ≡ self.old.rights.version }
+    {
+        let Some(service) = self.pop_service(handler as usize, refused) else {
+            self.fail(handler, Cause::BadCode);
+            return;
+        };
+        self.end_sessions(released);
+        let answer = answer_by(reply, refused);
+        self.finish(service, answer);
+    }
+
+    /// Takes the request that a handler serves, which stands then as it did when it took that. A refusal is counted
+    /// where nobody waits.
+    fn pop_service(&mut self, handler: usize, refused: bool) -> Option<Posting>
+        requires there { handler < 512 }
+        requires sound { IsSound (2 ^ 64 - 2) (2 ^ 63) (plain self.old) }
+        ensures service { option_map service_of result ≡ first_of ((plain self.old).handlers handler).services }
+        ensures plain { let x = (plain self.old).handlers handler in plain self.new ≡ put handler (without_first refused x.services x) (plain self.old) }
+        ensures outs { outs_of self.new ≡ outs_of self.old }
+        ensures rights { self.new.rights ≡ self.old.rights }
+        ensures sessions { self.new.sessions ≡ self.old.sessions }
+    {
+        self.handlers[handler].pop_service(refused)
+    }
+
+    /// What was passed with a request returns, and its poster hears the answer, if it waits.
+    fn finish(&mut self, service: Posting, answer: Answer)
+        requires { placed_poster service.request.poster ≡ true }
+        ensures plain { plain self.new ≡ finish (posting_of service) (answer_of answer) (plain self.old) }
+        ensures outs { outs_of self.new ≡ outs_of self.old }
+        ensures version { self.new.rights.version ≡ self.old.rights.version }
+    {
+        let Posting {
+            request,
+            passed,
+            over: _,
+        } = service;
+        self.return_rights(passed);
+        self.answer_to(&request, answer);
+    }
+
+    /// What was passed with a request returns.
+    fn return_rights(&mut self, passed: Option<Passed>)
+        ensures plain { plain self.new ≡ return_rights (option_map passed_of passed) (plain self.old) }
+        ensures outs { outs_of self.new ≡ outs_of self.old }
+        ensures version { self.new.rights.version ≡ self.old.rights.version }
+    {
+        match passed {
+            Some(passed) => self.rights.give_back(passed),
+            None => {}
+        }
+    }
+}
+
+/// What a request is answered by.
+fn answer_by(reply: Option<Value>, refused: bool) -> Answer
+    ensures { answer_of result ≡ (if refused then Refused else Replied reply) }
+{
+    if refused {
+        Answer::Refused
+    } else {
+        Answer::Replied(reply)
+    }
+}

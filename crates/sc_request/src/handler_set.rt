@@ -1,0 +1,60 @@
+//! Sets of handlers.
+ghost use Rattle.std.specs.Prelude.{◌≡◌, ◌<◌, ◌≤◌, ◌==◌, ◌||◌, ◌&&◌, ℕ, None, IfSome, false, true, not};
+ghost use Rattle.sc_lockpass.specs.Tables.{is_member};
+ghost use Rattle.sc_request.specs.Candidates.{IsFirstIn, HasNoneIn};
+
+/// A set of handlers, with a bit for each of 512 numbers.
+#[derive(Clone, Copy)]
+pub(crate) struct HandlerSet {
+    pub(crate) words: [u64; 8],
+}
+
+impl HandlerSet {
+    pub(crate) fn new() -> Self
+        ensures { (k : ℕ) → is_member result.words k ≡ false }
+    {
+        HandlerSet { words: [0; 8] }
+    }
+
+    pub(crate) fn insert(&mut self, handler: usize)
+        requires { handler < 512 }
+        ensures { (k : ℕ) → is_member self.new.words k ≡ (k == handler || is_member self.old.words k) }
+    {
+        self.words[handler / 64] |= 1 << (handler % 64);
+    }
+
+    pub(crate) fn remove(&mut self, handler: usize)
+        requires { handler < 512 }
+        ensures { (k : ℕ) → is_member self.new.words k ≡ (not (k == handler) && is_member self.old.words k) }
+    {
+        self.words[handler / 64] &= !(1 << (handler % 64));
+    }
+
+    /// Adds all.
+    pub(crate) fn fill(&mut self)
+        ensures { (k : ℕ) → k < 512 → is_member self.new.words k ≡ true }
+    {
+        self.words = [u64::MAX; 8];
+    }
+
+    /// The least of the set that is at least `from` and below `to`. It looks at eight words at most.
+    pub(crate) fn next_in(&self, from: usize, to: usize) -> Option<usize>
+        requires { to ≤ 512 }
+        ensures first { IfSome result (λ k. IsFirstIn self.now.words from to k) }
+        ensures none { result ≡ None → HasNoneIn self.now.words from to }
+    {
+        let mut at = from;
+        for _word in 0..8_usize {
+            if at >= to {
+                return None;
+            }
+            let rest = self.words[at / 64] >> (at % 64);
+            if rest != 0 {
+                let found = at + rest.trailing_zeros() as usize;
+                return if found < to { Some(found) } else { None };
+            }
+            at = (at / 64 + 1) * 64;
+        }
+        None
+    }
+}

@@ -1,0 +1,116 @@
+//! Who goes on: handlers are picked with their jobs, and put back.
+ghost use Rattle.std.specs.Prelude.{◌≡◌, ◌≤◌, ◌+◌, ◌-◌, ◌<◌, ℕ, IfSome, Some};
+ghost use Rattle.sc_request.specs.Candidates.{AreCandidates};
+ghost use Rattle.sc_request.specs.Logs.{first_with_job, next, numbers_from, picked, picked_if, picks};
+ghost use Rattle.sc_request.specs.Logs as logs;
+
+use crate::center::Core;
+use crate::copy::copy_job;
+use crate::grants::{release_granted, reserve_granted};
+use crate::handler_set::HandlerSet;
+use sc_region::Job;
+
+impl Core {
+    ghost use Rattle.sc_request.specs.Cores.{center_of, log_of};
+    ghost use Rattle.sc_request.specs.Rooms.{HasRoomFor};
+
+    /// The next handler that has something to do, after the one that was picked last and round the numbers, with its
+    /// job. It is out from now on, and what its reserve step is granted is reserved.
+    pub fn pick(&mut self) -> Option<(u16, Job)>
+        ensures job { result ≡ next (center_of self.old) }
+        ensures below { IfSome result (λ p. p.0 < 512) }
+        ensures center { center_of self.new ≡ picks (next (center_of self.old)) (center_of self.old) }
+        ensures log { log_of self.new ≡ log_of self.old }
+        ensures room { (n : ℕ) → HasRoomFor (n + 1) self.old → HasRoomFor n self.new }
+        ensures version { self.new.state.rights.version ≡ self.old.state.rights.version }
+    {
+        let mut candidates = self.candidates;
+        let found = self.first_round(&mut candidates);
+        self.candidates = candidates;
+        let (handler, job) = found?;
+        self.send_out(handler, copy_job(&job));
+        Some((handler, job))
+    }
+
+    /// What this handler has to do, where it has something and isn't out. It is out from now on, and what its reserve
+    /// step is granted is reserved.
+    pub fn pick_at(&mut self, handler: u16) -> Option<Job>
+        ensures job { result ≡ logs.pick_for handler (center_of self.old) }
+        ensures below { IfSome result (λ job. handler < 512) }
+        ensures center { center_of self.new ≡ picked_if handler (logs.pick_for handler (center_of self.old)) (center_of self.old) }
+        ensures log { log_of self.new ≡ log_of self.old }
+        ensures room { (n : ℕ) → HasRoomFor (n + 1) self.old → HasRoomFor n self.new }
+        ensures version { self.new.state.rights.version ≡ self.old.state.rights.version }
+    {
+        let job = self.pick_for(handler)?;
+        self.send_out(handler, copy_job(&job));
+        Some(job)
+    }
+
+    /// Undoes the pick of a handler that is out. It is still the one that was picked last, where it was.
+    pub fn put_back(&mut self, handler: u16)
+        ensures center { center_of self.new ≡ logs.put_back handler (center_of self.old) }
+        ensures log { log_of self.new ≡ log_of self.old }
+        ensures room { (n : ℕ) → HasRoomFor n self.old → HasRoomFor n self.new }
+        ensures version { self.new.state.rights.version ≡ self.old.state.rights.version }
+    {
+        let at = handler as usize;
+        if at >= self.state.handlers.len() {
+            return;
+        }
+        let Some(job) = self.state.handlers[at].out.take() else {
+            return;
+        };
+        self.outs -= 1;
+        release_granted(&mut self.state.rights, &mut self.candidates, &job);
+        self.candidates.insert(at);
+    }
+
+    /// The handler is out with the job that it has.
+    fn send_out(&mut self, handler: u16, job: Job)
+        requires { logs.pick_for handler (center_of self.old) ≡ Some job }
+        ensures center { center_of self.new ≡ picked handler job (center_of self.old) }
+        ensures log { log_of self.new ≡ log_of self.old }
+        ensures room { (n : ℕ) → HasRoomFor (n + 1) self.old → HasRoomFor n self.new }
+        ensures version { self.new.state.rights.version ≡ self.old.state.rights.version }
+    {
+        let at = handler as usize;
+        reserve_granted(&mut self.state.rights, &mut self.candidates, handler, &job);
+        self.candidates.remove(at);
+        self.state.handlers[at].out = Some(job);
+        self.outs += 1;
+        self.last = handler;
+    }
+
+    /// The next handler that has something to do, with that. What has nothing to do leaves the candidates.
+    fn first_round(&self, candidates: &mut HandlerSet) -> Option<(u16, Job)>
+        requires { AreCandidates candidates.old.words (center_of self.now) }
+        ensures found { result ≡ next (center_of self.now) }
+        ensures kept { AreCandidates candidates.new.words (center_of self.now) }
+    {
+        let after = self.last as usize + 1;
+        match self.first_in(candidates, after, self.state.count) {
+            Some(found) => Some(found),
+            None => self.first_in(candidates, 0, self.state.count.min(after)),
+        }
+    }
+
+    /// The first from a number on, and below another one.
+    fn first_in(&self, candidates: &mut HandlerSet, from: usize, to: usize) -> Option<(u16, Job)>
+        requires within { to ≤ self.now.state.count }
+        requires candidates { AreCandidates candidates.old.words (center_of self.now) }
+        ensures found { result ≡ first_with_job (numbers_from from (to - from)) (center_of self.now) }
+        ensures kept { AreCandidates candidates.new.words (center_of self.now) }
+    {
+        let mut at = from;
+        for _turn in from..to {
+            let handler = candidates.next_in(at, to)?;
+            if let Some(job) = self.pick_for(handler as u16) {
+                return Some((handler as u16, job));
+            }
+            candidates.remove(handler);
+            at = handler + 1;
+        }
+        None
+    }
+}

@@ -1,0 +1,125 @@
+//! What settlements change of one handler, in its place.
+ghost use Rattle.std.specs.Prelude.{◌≡◌, ◌≤◌, ◌<◌, ◌+◌, ◌^◌, ◌∷◌, ℕ, [], length, map, false};
+ghost use Rattle.sc_request.specs.Candidates.{reserves_at};
+ghost use Rattle.sc_request.specs.Handlers.{Reserves, new_handler, put, with_stage};
+ghost use Rattle.sc_request.specs.Places.{outs_of, plain};
+ghost use Rattle.sc_request.specs.Sessions.{answered, fallen, placed, to_list};
+ghost use Rattle.sc_request.specs.Settling.{reserves, takes, takes_answer};
+ghost use Rattle.sc_request.specs.Tables.{answer_of, posting_of, stage_of};
+
+use crate::changes::Dropped;
+use crate::copy::copy_handlers;
+use crate::handler::{Answer, Posting, Stage};
+use crate::state::State;
+use arrayvec::ArrayVec;
+use sc_model::Cause;
+use sc_waitcond::Mark;
+use std::collections::LinkedList;
+
+impl State {
+    /// The handler takes the next of its queue or its callback, as it stands.
+    pub(crate) fn take_at(&mut self, handler: usize)
+        requires there { handler < 512 }
+        requires room { length ((plain self.old).handlers handler).services + 1 < 2 ^ 63 }
+        ensures plain { let x = (plain self.old).handlers handler in plain self.new ≡ put handler (takes x.stage x) (plain self.old) }
+        ensures outs { outs_of self.new ≡ outs_of self.old }
+        ensures rights { self.new.rights ≡ self.old.rights }
+        ensures sessions { self.new.sessions ≡ self.old.sessions }
+    {
+        self.handlers[handler].take();
+    }
+
+    /// The handler takes an answer.
+    pub(crate) fn take_answer_at(&mut self, handler: usize)
+        requires { handler < 512 }
+        ensures plain { plain self.new ≡ put handler (takes_answer ((plain self.old).handlers handler)) (plain self.old) }
+        ensures outs { outs_of self.new ≡ outs_of self.old }
+        ensures rights { self.new.rights ≡ self.old.rights }
+        ensures sessions { self.new.sessions ≡ self.old.sessions }
+    {
+        self.handlers[handler].take_answer();
+    }
+
+    /// The handler stands so from now on.
+    pub(crate) fn stand(&mut self, handler: usize, stage: Stage)
+        requires there { handler < 512 }
+        requires kind { reserves_at stage ≡ false }
+        ensures plain { plain self.new ≡ with_stage handler (stage_of [] [] stage) (plain self.old) }
+        ensures outs { outs_of self.new ≡ outs_of self.old }
+        ensures rights { self.new.rights ≡ self.old.rights }
+        ensures sessions { self.new.sessions ≡ self.old.sessions }
+    {
+        self.handlers[handler].stage = stage;
+    }
+
+    /// The next step of the handler is the reserve step for these.
+    pub(crate) fn reserve_next(&mut self, handler: u16, entry: &ArrayVec<u16, 16>)
+        requires { handler < 512 }
+        ensures plain { plain self.new ≡ reserves handler entry.now.items (plain self.old) }
+        ensures outs { outs_of self.new ≡ outs_of self.old }
+        ensures rights { self.new.rights ≡ self.old.rights }
+        ensures sessions { self.new.sessions ≡ self.old.sessions }
+    {
+        let place = &mut self.handlers[handler as usize];
+        place.stage = Stage::Reserves;
+        place.entry = copy_handlers(entry);
+        place.mark = Mark::new();
+    }
+
+    /// The reserve step of the handler comes again, after a wait with this mark.
+    pub(crate) fn reserve_again(&mut self, handler: usize, mark: Mark)
+        requires { handler < 512 }
+        ensures plain { plain self.new ≡ with_stage handler (Reserves ((plain self.old).handlers handler).entry mark) (plain self.old) }
+        ensures outs { outs_of self.new ≡ outs_of self.old }
+        ensures rights { self.new.rights ≡ self.old.rights }
+        ensures sessions { self.new.sessions ≡ self.old.sessions }
+    {
+        let place = &mut self.handlers[handler];
+        place.stage = Stage::Reserves;
+        place.mark = mark;
+    }
+
+    /// The handler hears an answer.
+    pub(crate) fn hear_at(&mut self, handler: usize, answer: Answer)
+        requires { handler < 512 }
+        ensures plain { plain self.new ≡ put handler (answered (answer_of answer) ((plain self.old).handlers handler)) (plain self.old) }
+        ensures outs { outs_of self.new ≡ outs_of self.old }
+        ensures rights { self.new.rights ≡ self.old.rights }
+        ensures sessions { self.new.sessions ≡ self.old.sessions }
+    {
+        self.handlers[handler].hear(answer);
+    }
+
+    /// A request stands as the handler's callback, or at its queue's end, in this node.
+    pub(crate) fn place_at(
+        &mut self,
+        handler: usize,
+        is_callback: bool,
+        node: LinkedList<Posting>,
+        posting: Posting,
+    )
+        requires there { handler < 512 }
+        requires node { length node ≡ 1 }
+        requires room { is_callback ≡ false → length ((plain self.old).handlers handler).queue + 1 < 2 ^ 63 }
+        ensures plain { plain self.new ≡ put handler (placed is_callback (posting_of posting) ((plain self.old).handlers handler)) (plain self.old) }
+        ensures outs { outs_of self.new ≡ outs_of self.old }
+        ensures rights { self.new.rights ≡ self.old.rights }
+        ensures sessions { self.new.sessions ≡ self.old.sessions }
+    {
+        self.handlers[handler].place(is_callback, node, posting);
+    }
+
+    /// The handler has no frames and nothing that it is asked for, as it fails.
+    pub(crate) fn fall_at(&mut self, handler: usize, why: Cause) -> Dropped
+        requires { handler < 512 }
+        ensures queue { map posting_of result.queue ≡ ((plain self.old).handlers handler).queue }
+        ensures callback { map posting_of result.callback ≡ to_list ((plain self.old).handlers handler).callback }
+        ensures services { map posting_of result.services ≡ map (λ v. v.posted) ((plain self.old).handlers handler).services }
+        ensures plain { plain self.new ≡ put handler (fallen why ((plain self.old).handlers handler)) (plain self.old) }
+        ensures outs { outs_of self.new ≡ outs_of self.old }
+        ensures rights { self.new.rights ≡ self.old.rights }
+        ensures sessions { self.new.sessions ≡ self.old.sessions }
+    {
+        self.handlers[handler].fall(why)
+    }
+}

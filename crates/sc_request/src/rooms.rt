@@ -1,0 +1,53 @@
+//! Room for settlements, so that one that was made room for takes no memory.
+ghost use Rattle.std.specs.Prelude.{◌≡◌, ◌≤◌, ◌<◌, ◌+◌, ℕ, OnErr, OnOk, length, vec_capacity, vec_len};
+ghost use Rattle.sc_request.specs.Rooms.{HasRoomFor};
+
+use crate::center::Core;
+use crate::handler::Posting;
+use std::alloc::AllocError;
+use std::collections::LinkedList;
+
+impl Core {
+    ghost use Rattle.sc_request.specs.Cores.{center_of, log_of};
+
+    /// Makes room to settle each handler that is out, and one more: after this and a pick, the settlement of the
+    /// handler that was picked finds room, whatever is settled before it. Err where there is no memory.
+    pub fn make_room(&mut self) -> Result<(), AllocError>
+        ensures room { OnOk result (HasRoomFor 1 self.new) }
+        ensures center { center_of self.new ≡ center_of self.old }
+        ensures log { log_of self.new ≡ log_of self.old }
+        ensures kept { (n : ℕ) → HasRoomFor n self.old → HasRoomFor n self.new }
+        ensures version { self.new.state.rights.version ≡ self.old.state.rights.version }
+    {
+        let wanted = self.outs + 1;
+        self.log.reserve(wanted)?;
+        add_places(&mut self.spare, wanted)
+    }
+
+    /// Makes room for one settlement, where there is none.
+    pub(crate) fn make_room_for_one(&mut self) -> Result<(), AllocError>
+        ensures places { OnOk result (1 ≤ length self.new.spare) }
+        ensures entries { OnOk result (vec_len self.new.log + 1 ≤ vec_capacity self.new.log) }
+        ensures room { OnErr result (1 ≤ length self.old.spare → vec_len self.old.log + 1 ≤ vec_capacity self.old.log → ⊥) }
+        ensures center { center_of self.new ≡ center_of self.old }
+        ensures log { log_of self.new ≡ log_of self.old }
+        ensures outs { self.new.outs ≡ self.old.outs }
+        ensures kept { (n : ℕ) → HasRoomFor n self.old → HasRoomFor n self.new }
+        ensures version { self.new.state.rights.version ≡ self.old.state.rights.version }
+    {
+        self.log.reserve(1)?;
+        add_places(&mut self.spare, 1)
+    }
+}
+
+/// Adds what is missing of so many places.
+fn add_places(spare: &mut LinkedList<Posting>, wanted: usize) -> Result<(), AllocError>
+    ensures ok { OnOk result (wanted ≤ length spare.new) }
+    ensures kept { length spare.old ≤ length spare.new }
+    ensures err { OnErr result (length spare.old < wanted) }
+{
+    for _place in spare.len()..wanted {
+        spare.push_back(Posting::blank())?;
+    }
+    Ok(())
+}

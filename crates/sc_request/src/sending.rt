@@ -1,0 +1,177 @@
+//! Requests are sent.
+ghost use Rattle.std.specs.Prelude.{◌≡◌, ◌≤◌, ◌<◌, ◌+◌, ◌-◌, ◌^◌, false, is_some, length, nat_lt};
+ghost use Rattle.std.specs.Option.{option_map};
+ghost use Rattle.sc_lockpass.specs.Tables.{passed_of};
+ghost use Rattle.sc_lockpass.specs.Versions.{most_handlers};
+ghost use Rattle.sc_model.specs.Limits.{max_queue};
+ghost use Rattle.sc_request.specs.Handlers.{posted};
+ghost use Rattle.sc_request.specs.Places.{outs_of, plain};
+ghost use Rattle.sc_request.specs.Sessions as sessions;
+ghost use Rattle.sc_request.specs.Sessions.{is_callback, passed_if, send};
+ghost use Rattle.sc_request.specs.Settling.{asks, awaits_if, sends};
+ghost use Rattle.sc_request.specs.Sound.{IsSound};
+
+use crate::copy::copy_request;
+use crate::failing::holds;
+use crate::handler::{Posting, Stage};
+use crate::postings::take_first;
+use crate::state::State;
+use sc_lockpass::Passed;
+use sc_model::Cause;
+use sc_region::Request;
+use std::collections::LinkedList;
+
+/// How many requests a queue may have.
+const MAX_QUEUE: usize = 4096;
+
+impl State {
+    /// A handler asks another one, unless that has failed or its queue is full.
+    pub(crate) fn ask(
+        &mut self,
+        handler: u16,
+        request: &Request,
+        passes: bool,
+        spare: &mut LinkedList<Posting>,
+    )
+        requires there { handler < most_handlers self.old.rights.version }
+        requires target { request.now.target.handler < 512 }
+        requires spare { 1 ≤ length spare.old }
+        requires sound { IsSound (2 ^ 64 - 2) (2 ^ 63) (plain self.old) }
+        ensures plain { plain self.new ≡ asks handler request.now passes (plain self.old) }
+        ensures places { length spare.old ≤ length spare.new + 1 }
+        ensures outs { outs_of self.new ≡ outs_of self.old }
+        ensures version { self.new.rights.version ≡ self.old.rights.version }
+    {
+        let target = request.target.handler as usize;
+        let is_callback = self.is_callback(handler, request.target.handler);
+        if self.has_failed(target) {
+            self.fail(handler, Cause::SupplierFailed);
+            return;
+        }
+        if !is_callback && !self.has_room(target) {
+            self.fail(handler, Cause::QueueFull);
+            return;
+        }
+        let is_waited = passes || request.is_waited || is_callback;
+        self.send_on(handler, request, passes, is_waited, spare);
+    }
+
+    /// A request goes to its target, with all rights where it passes them, and is waited for or not.
+    fn send_on(
+        &mut self,
+        handler: u16,
+        request: &Request,
+        passes: bool,
+        is_waited: bool,
+        spare: &mut LinkedList<Posting>,
+    )
+        requires there { handler < most_handlers self.old.rights.version }
+        requires target { request.now.target.handler < 512 }
+        requires spare { 1 ≤ length spare.old }
+        requires room { is_callback handler request.now.target.handler (plain self.old) ≡ false → length ((plain self.old).handlers request.now.target.handler).queue < max_queue }
+        ensures plain { plain self.new ≡ sends handler request.now.target.handler request.now passes is_waited (plain self.old) }
+        ensures places { length spare.old ≤ length spare.new + 1 }
+        ensures outs { outs_of self.new ≡ outs_of self.old }
+        ensures version { self.new.rights.version ≡ self.old.rights.version }
+    {
+        let target = request.target.handler;
+        let is_callback = self.is_callback(handler, target);
+        self.await_if(is_waited, handler, target);
+        let passed = self.pass_if(passes, handler, target);
+        let request = with_waited(request, is_waited);
+        self.send(is_callback, target, request, passed, spare);
+    }
+
+    /// Whether a handler may push on the waiting stack of another one.
+    fn is_callback(&self, handler: u16, target: u16) -> bool
+        ensures { result ≡ is_callback handler target (plain self.now) }
+    {
+        holds(handler, self.rights.top(target))
+    }
+
+    /// Whether the handler has failed.
+    fn has_failed(&self, handler: usize) -> bool
+        requires { handler < 512 }
+        ensures { result ≡ is_some ((plain self.now).handlers handler).failure }
+    {
+        self.handlers[handler].failure.is_some()
+    }
+
+    /// Whether the handler's queue has room.
+    fn has_room(&self, handler: usize) -> bool
+        requires { handler < 512 }
+        ensures { result ≡ nat_lt (length ((plain self.now).handlers handler).queue) max_queue }
+    {
+        self.handlers[handler].queue.len() < MAX_QUEUE
+    }
+
+    /// A handler waits for the answer of its supplier, where the request is waited for.
+    fn await_if(&mut self, is_waited: bool, handler: u16, supplier: u16)
+        requires { handler < 512 }
+        ensures plain { plain self.new ≡ awaits_if is_waited handler supplier (plain self.old) }
+        ensures outs { outs_of self.new ≡ outs_of self.old }
+        ensures rights { self.new.rights ≡ self.old.rights }
+        ensures sessions { self.new.sessions ≡ self.old.sessions }
+    {
+        if is_waited {
+            let stage = Stage::Awaits {
+                supplier,
+                is_creation: false,
+            };
+            self.stand(handler as usize, stage);
+        }
+    }
+
+    /// Passes all rights of a client to its supplier, where the request passes them.
+    pub(crate) fn pass_if(&mut self, passes: bool, client: u16, supplier: u16) -> Option<Passed>
+        requires { client < most_handlers self.old.rights.version }
+        ensures passed { option_map passed_of result ≡ passed_if passes client (plain self.old).rights }
+        ensures plain { plain self.new ≡ sessions.passes passes client supplier (plain self.old) }
+        ensures outs { outs_of self.new ≡ outs_of self.old }
+        ensures version { self.new.rights.version ≡ self.old.rights.version }
+        ensures handlers { self.new.handlers ≡ self.old.handlers }
+        ensures sessions { self.new.sessions ≡ self.old.sessions }
+    {
+        if passes {
+            Some(self.rights.pass(client, supplier))
+        } else {
+            None
+        }
+    }
+
+    /// A request stands as the callback of its target, or at the end of the queue.
+    pub(crate) fn send(
+        &mut self,
+        is_callback: bool,
+        target: u16,
+        request: Request,
+        passed: Option<Passed>,
+        spare: &mut LinkedList<Posting>,
+    )
+        requires there { target < 512 }
+        requires spare { 1 ≤ length spare.old }
+        requires room { is_callback ≡ false → length ((plain self.old).handlers target).queue < max_queue }
+        ensures plain { plain self.new ≡ send is_callback target (posted request (option_map passed_of passed)) (plain self.old) }
+        ensures places { length spare.old ≤ length spare.new + 1 }
+        ensures outs { outs_of self.new ≡ outs_of self.old }
+        ensures rights { self.new.rights ≡ self.old.rights }
+        ensures sessions { self.new.sessions ≡ self.old.sessions }
+    {
+        let posting = Posting {
+            request,
+            passed,
+            over: Stage::Idle,
+        };
+        let node = take_first(spare);
+        self.place_at(target as usize, is_callback, node, posting);
+    }
+}
+
+/// The same request once more, which is waited for or not.
+fn with_waited(request: &Request, is_waited: bool) -> Request
+    ensures { result ≡ record request.now { is_waited = is_waited } }
+{
+    let mut copy = copy_request(request);
+    copy.is_waited = is_waited;
+    copy
+}

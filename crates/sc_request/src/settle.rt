@@ -1,0 +1,136 @@
+//! What a handler's turns came to is settled.
+ghost use Rattle.std.specs.Prelude.{◌≡◌, ◌++◌, ◌∷◌, ◌+◌, ◌<◌, ◌≤◌, ◌-◌, ◌^◌, ℕ, [], Some, IfErr, OnErr, OnOk, false, is_some, length, not, vec_capacity, vec_len};
+ghost use Rattle.std.specs.List.{All};
+ghost use Rattle.sc_lockpass.specs.Versions.{most_handlers};
+ghost use Rattle.sc_request.specs.Candidates.{granted_items};
+ghost use Rattle.sc_request.specs.Logs.{settles};
+ghost use Rattle.sc_request.specs.Places.{outs_of, plain};
+ghost use Rattle.sc_request.specs.Rooms.{HasRoomFor, is_not_out, is_short, outcome_of, settlement};
+ghost use Rattle.sc_request.specs.Settling.{asked_in, settled};
+ghost use Rattle.sc_request.specs.Sound.{IsSound};
+
+use crate::center::Core;
+use crate::copy::copy_job;
+use crate::fits::fits_turns;
+use crate::handler::Posting;
+use crate::settlement::{SettleFault, Settlement};
+use crate::state::State;
+use sc_model::Cause;
+use sc_region::{Job, Outcome, Want};
+use std::collections::LinkedList;
+
+impl Core {
+    ghost use Rattle.sc_request.specs.Cores.{center_of, log_of};
+
+    /// Settles what the turns of a handler that is out came to. It isn't out from then on. An outcome that fits no case
+    /// for the job that was picked fails its handler: by F13 where it posts to a handler that isn't held, else by F16.
+    ///
+    /// S1 where the handler isn't out, and S9 where there is no memory. The fault has the outcome, and nothing has
+    /// changed. S9 doesn't come where there is room for a settlement.
+    pub fn settle(&mut self, outcome: Outcome) -> Result<(), SettleFault>
+        ensures center { OnOk result ((job : Job) → (center_of self.old).out outcome.handler ≡ Some job → center_of self.new ≡ settles (most_handlers self.old.state.rights.version) outcome.handler job outcome.turns outcome.want (center_of self.old)) }
+        ensures log { OnOk result ((job : Job) → (center_of self.old).out outcome.handler ≡ Some job → log_of self.new ≡ log_of self.old ++ settlement job outcome ∷ []) }
+        ensures not_out { is_not_out result ≡ not (is_some ((center_of self.old).out outcome.handler)) }
+        ensures short { HasRoomFor 0 self.old → is_short result ≡ false }
+        ensures handed_back { IfErr result (λ fault. outcome_of fault ≡ outcome) }
+        ensures unchanged { OnErr result ((center_of self.new ≡ center_of self.old) × (log_of self.new ≡ log_of self.old)) }
+        ensures room { (n : ℕ) → HasRoomFor n self.old → HasRoomFor n self.new }
+        ensures version { self.new.state.rights.version ≡ self.old.state.rights.version }
+    {
+        let Some(job) = self.job_out(outcome.handler) else {
+            return Err(SettleFault::NotOut(outcome));
+        };
+        if self.make_room_for_one().is_err() {
+            return Err(SettleFault::OutOfMemory(outcome));
+        }
+        self.settle_under(job, outcome);
+        Ok(())
+    }
+
+    /// The job that a handler is out with.
+    fn job_out(&self, handler: u16) -> Option<Job>
+        ensures { result ≡ (center_of self.now).out handler }
+    {
+        match &self.state.handlers.get(handler as usize)?.out {
+            Some(job) => Some(copy_job(job)),
+            None => None,
+        }
+    }
+
+    /// Settles the outcome of a handler that is out with this job, where there is room.
+    fn settle_under(&mut self, job: Job, outcome: Outcome)
+        requires out { (center_of self.old).out outcome.handler ≡ Some job }
+        requires places { 1 ≤ length self.old.spare }
+        requires entries { vec_len self.old.log + 1 ≤ vec_capacity self.old.log }
+        ensures center { center_of self.new ≡ settles (most_handlers self.old.state.rights.version) outcome.handler job outcome.turns outcome.want (center_of self.old) }
+        ensures log { log_of self.new ≡ log_of self.old ++ settlement job outcome ∷ [] }
+        ensures room { (n : ℕ) → HasRoomFor n self.old → HasRoomFor n self.new }
+        ensures version { self.new.state.rights.version ≡ self.old.state.rights.version }
+    {
+        let Outcome {
+            handler,
+            turns,
+            want,
+        } = outcome;
+        self.state
+            .settle(handler, &job, turns, &want, &mut self.spare);
+        self.state.handlers[handler as usize].out = None;
+        self.outs -= 1;
+        self.candidates.fill();
+        self.log.push_reserved(Settlement {
+            handler,
+            job,
+            turns,
+            want,
+        });
+    }
+}
+
+impl State {
+    /// So many turns of a handler under a job, the last of which asks this. A request that is sent takes one of these
+    /// places.
+    fn settle(
+        &mut self,
+        handler: u16,
+        job: &Job,
+        turns: u32,
+        want: &Want,
+        spare: &mut LinkedList<Posting>,
+    )
+        requires there { handler < most_handlers self.old.rights.version }
+        requires place { 1 ≤ length spare.old }
+        requires granted { All (λ k. k < most_handlers self.old.rights.version) (granted_items job.now) }
+        requires sound { IsSound (2 ^ 64 - 4) (2 ^ 63 - 2) (plain self.old) }
+        ensures plain { plain self.new ≡ settled (most_handlers self.old.rights.version) handler job.now turns want.now (plain self.old) }
+        ensures outs { outs_of self.new ≡ outs_of self.old }
+        ensures version { self.new.rights.version ≡ self.old.rights.version }
+        ensures places { length spare.old ≤ length spare.new + 1 }
+    {
+        let stage = self.handlers[handler as usize].stage;
+        let fits = fits_turns(turns, stage, job, want);
+        self.begin(handler, job);
+        self.ask_in(handler, fits, want, spare);
+    }
+
+    /// Does what the last turn of a handler asks, where it fits. Else the handler fails.
+    fn ask_in(&mut self, handler: u16, fits: bool, want: &Want, spare: &mut LinkedList<Posting>)
+        requires there { handler < most_handlers self.old.rights.version }
+        requires place { 1 ≤ length spare.old }
+        requires sound { IsSound (2 ^ 64 - 2) (2 ^ 63) (plain self.old) }
+        ensures plain { plain self.new ≡ asked_in fits (most_handlers self.old.rights.version) handler want.now (plain self.old) }
+        ensures outs { outs_of self.new ≡ outs_of self.old }
+        ensures version { self.new.rights.version ≡ self.old.rights.version }
+        ensures places { length spare.old ≤ length spare.new + 1 }
+    {
+        if self.posts_unheld(handler, want) {
+            self.fail(handler, Cause::NotHeld);
+            return;
+        }
+        let may = self.may_ask(handler, want);
+        if fits && may {
+            self.done(handler, want, spare);
+        } else {
+            self.fail(handler, Cause::BadCode);
+        }
+    }
+}
