@@ -15,8 +15,8 @@ use Rattle.sc_model.specs.Invariants.{meets_invariant}
 use Rattle.sc_model.specs.Limits.{max_objects}
 use Rattle.sc_model.specs.Routines.{version_of}
 use Rattle.sc_model.specs.Expressions.{decided_by}
-use Rattle.sc_lower.specs.Operations.{Operation, CallSite, CreationSite, ApplyUnary, ApplyBinary, Decide, Conclude, Test, PushInteger, PushBoolean, PushVoid, PushCurrent, PushResult, PushSlot, PushAttribute, PushOld, CallRoutine, CallFeature, StoreSlot, StoreAttribute, StoreResult, Initialize, KeepOld, Print, PrintText, SkipIfFalse, Jump, EndLoop, Expect, Demand, Start, Create, CreateHandler, Open, Leave, Exit}
-use Rattle.sc_lower.specs.Machine.{Code, State, Act, Hop, Goes, Does, Evaluated, Gives, Faults, stuck, fails, skips, goes_on, does, awaits, has_room, push, pushes, read, found, replaces, decides, concludes, binds_if, is_tested, stores, popped, calls_routine, reads_attribute, calls_kind, calls_version, requests, calls_object, calls_on, calls_feature, does_with, creates_object, creates_here, creates, creates_handler, prints, skips_if_false, ends_loop, expects, demands, opens, unary_value, binary_value, hop_on, hop_popped, hop_at, hop_of, hop}
+use Rattle.sc_code.specs.Operations.{Operation, CallSite, CreationSite, ApplyUnary, ApplyBinary, Decide, Conclude, Test, PushInteger, PushBoolean, PushVoid, PushCurrent, PushResult, PushSlot, PushAttribute, PushOld, CallRoutine, CallFeature, StoreSlot, StoreAttribute, StoreResult, Initialize, KeepOld, Print, PrintText, SkipIfFalse, Jump, EndLoop, Expect, Demand, Start, Create, CreateHandler, Open, Leave, Exit}
+use Rattle.sc_code.specs.Machine.{Code, State, Act, Hop, Goes, Does, Evaluated, Gives, Faults, stuck, fails, skips, goes_on, does, awaits, has_room, push, pushes, read, found, replaces, decides, concludes, binds_if, is_tested, stores, popped, calls_routine, reads_attribute, calls_kind, calls_version, requests, calls_object, calls_on, calls_feature, does_with, creates_object, creates_here, creates, creates_handler, prints, skips_if_false, ends_loop, expects, demands, opens, unary_value, binary_value, hop_on, hop_popped, hop_at, hop_of, hop}
 
 -- where the operation is silent, less of the code lies ahead after it
 Ahead : Code → State → Hop → Type 0

@@ -2,16 +2,16 @@
 use Rattle.std.proofs.Common.{◌≡◌, ℕ, List, [], ◌∷◌, Option, Some, None, drop, refl, sym, ap, ◌∙◌}
 use Rattle.std.specs.Prelude.{slice_get}
 use Rattle.std.specs.Option.{option_map}
-use Rattle.sc_lower.specs.declared.operation.Operation.TheVariants as coded
-use Rattle.sc_lower.specs.Machine.{hop_of, hop_popped, goes_on}
-use Rattle.sc_lower.specs.Operations as plain
-use Rattle.sc_lower.specs.Programs.{pool_of}
+use Rattle.sc_code.specs.declared.operation.Operation.TheVariants as coded
+use Rattle.sc_code.specs.Machine.{hop_of, hop_popped, goes_on}
+use Rattle.sc_code.specs.Operations as plain
+use Rattle.sc_code.specs.Programs.{pool_of}
 use Rattle.sc_region.specs.declared.frame.Activation.{Activation}
 use Rattle.sc_region.specs.declared.value.Reference as reference
 use Rattle.sc_region.specs.declared.value.Value as code
 use Rattle.sc_region.specs.Frames.{PlainActivation, PlainFrame, activation_of, top_current, top_activation}
 use Rattle.sc_region.specs.Lending.{with_top}
-use Rattle.sc_region.specs.Objects.{PlainObject, object_numbered, with_attribute}
+use Rattle.sc_region.specs.Objects.{object_numbered, with_attribute}
 use Rattle.sc_region.specs.Stores.{PlainStore, written_to}
 use Rattle.sc_interp.specs.declared.act.Hop as outcome
 use Rattle.sc_interp.specs.Objects.{objects_in}

@@ -8,4 +8,14 @@ pub mod Valued
 pub mod Playing
 pub mod Assigning
 pub mod Targeting
+pub mod Moving
+pub mod Beginning
+pub mod Creating
+pub mod Behind
+pub mod Ending
+pub mod Resuming
 pub mod Serving
+pub mod RegionOpening
+pub mod RegionSame
+pub mod RegionPlays
+mod RegionRows

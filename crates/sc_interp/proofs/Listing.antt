@@ -1,13 +1,13 @@
 -- What stands at a number of a constant pool.
-use Rattle.std.proofs.Common.{◌≡◌, ◌⊎◌, inl, inr, ℕ, zero, suc, ◌<◌, ◌≤◌, List, [], ◌∷◌, Option, Some, None, length, Bool, true, false, refl, sym, ap, ◌∙◌, arith}
+use Rattle.std.proofs.Common.{◌≡◌, ◌⊎◌, inl, inr, ℕ, zero, suc, ◌<◌, ◌≤◌, List, [], ◌∷◌, Some, None, length, Bool, true, false, refl, sym, ap, ◌∙◌, arith}
 use Rattle.std.proofs.lemmas.Bool.{cases_lt}
 use Rattle.std.proofs.lemmas.Option.{slice_get_past}
 use Rattle.std.specs.Prelude.{nat_lt, slice_get, if◌then◌else◌}
 use Rattle.std.specs.Option.{option_map}
-use Rattle.sc_lower.specs.declared.site.CallSite as call
-use Rattle.sc_lower.specs.declared.site.CreationSite as creation
-use Rattle.sc_lower.specs.Operations as plain
-use Rattle.sc_lower.specs.View.{Pool, named, call_of, creation_with, creation_of}
+use Rattle.sc_code.specs.declared.site.CallSite as call
+use Rattle.sc_code.specs.declared.site.CreationSite as creation
+use Rattle.sc_code.specs.Operations as plain
+use Rattle.sc_code.specs.View.{Pool, named, call_of, creation_with, creation_of}
 use Rattle.sc_interp.specs.Standing.{listed, call_in, creation_in}
 use Rattle.sc_interp.proofs.GoingOn.{less_is, more_is}
 

@@ -1,10 +1,7 @@
 -- Separate blocks that begin in memory.
-use Rattle.std.proofs.Common.{◌≡◌, ℕ, ◌+◌, ◌<◌, ◌≤◌, List, [], Some, length, true, false, refl, ap, ◌∙◌, arith}
-use Rattle.std.proofs.lemmas.List.{length-map}
-use Rattle.std.specs.Prelude.{nat_lt, if◌then◌else◌}
-use Rattle.sc_lower.specs.Machine.{State, Hop, Opens, does, stuck, written, opens, popped}
-use Rattle.sc_region.specs.declared.value.Value as code
-use Rattle.sc_interp.specs.Values.{value_of, values_of}
+use Rattle.std.proofs.Common.{◌≡◌, ℕ, ◌+◌, ◌<◌, ◌≤◌, [], length, ap, ◌∙◌}
+use Rattle.std.specs.Prelude.{if◌then◌else◌}
+use Rattle.sc_code.specs.Machine.{State, Hop, Opens, does, stuck, written, opens, popped}
 use Rattle.sc_interp.specs.Standing.{actuals, without}
 use Rattle.sc_interp.proofs.GoingOn.{less_is, more_is}
 use Rattle.sc_interp.proofs.Popping.{popped_is, popped_none}

@@ -11,7 +11,6 @@ use Rattle.sc_tree.specs.Plain as tree
 use Rattle.sc_tree.specs.Plain.{System, Class, DeclaredType, FeatureKind, RoutineDeclaration}
 use Rattle.sc_class.specs.declared.identity.ClassId.TheVariants as class
 use Rattle.sc_class.specs.ClassNames.{Root, class_names, number_of}
-use Rattle.sc_class.specs.Faults.ClassRules.{IsFaultless}
 use Rattle.sc_class.specs.Faults.Scopes.{feature_names}
 use Rattle.sc_class.specs.Tables.Ancestors.{ancestors_within, parent_number, parent_of}
 use Rattle.sc_class.specs.Tables.Conformance.{class_conforms, is_ancestor}
@@ -32,14 +31,14 @@ use Rattle.sc_model.specs.Environments.{Binding, bind}
 use Rattle.sc_model.specs.Invariants.{attribute_named}
 use Rattle.sc_model.specs.Objects.{fresh_attribute, fresh_attributes}
 use Rattle.sc_model.specs.Routines.{version_of}
-use Rattle.sc_lower.specs.Attributes.{attribute_number}
-use Rattle.sc_lower.specs.declared.program.ClassCode.{ClassCode}
-use Rattle.sc_lower.specs.declared.program.Image.{Image}
-use Rattle.sc_lower.specs.declared.program.Version.{Version}
-use Rattle.sc_lower.specs.declared.program.Version.TheVariants as version
-use Rattle.sc_lower.specs.Programs.{IsProgramOf, PlainClass, class_code_of, class_in, entry_of_feature, entry_of_kind, pool_of, version_entry}
+use Rattle.sc_code.specs.Attributes.{attribute_number}
+use Rattle.sc_code.specs.declared.program.ClassCode.{ClassCode}
+use Rattle.sc_code.specs.declared.program.Image.{Image}
+use Rattle.sc_code.specs.declared.program.Version.{Version}
+use Rattle.sc_code.specs.declared.program.Version.TheVariants as version
+use Rattle.sc_code.specs.Programs.{IsProgramOf, PlainClass, class_code_of, class_in, entry_of_feature, entry_of_kind, pool_of, version_entry}
 use Rattle.sc_interp.specs.Laws.{ProgramsServe}
-use Rattle.sc_interp.specs.Serving.{Serves, TellsConformance, attribute_in, conforms_in, is_routine, is_routine_in, version_in}
+use Rattle.sc_interp.specs.Serving.{TellsConformance, attribute_in, conforms_in, is_routine, is_routine_in, version_in}
 use Rattle.sc_interp.proofs.Playing.{none_some, some_same}
 
 -- ---- lists

@@ -1,20 +1,18 @@
 -- Object tests in memory.
-use Rattle.std.proofs.Common.{◌≡◌, ℕ, List, ◌∷◌, Bool, true, refl, sym, ap, ◌∙◌}
+use Rattle.std.proofs.Common.{◌≡◌, ℕ, ◌∷◌, Bool, sym, ap, ◌∙◌}
 use Rattle.std.specs.Option.{option_map}
 use Rattle.sc_tree.specs.Plain.{System}
-use Rattle.sc_model.specs.Objects.{Object}
-use Rattle.sc_lower.specs.declared.program.Image.{Image}
-use Rattle.sc_lower.specs.declared.site.ObjectTest as test
-use Rattle.sc_lower.specs.Machine.{Code, State, Hop, stores, binds_if, is_tested, hop_popped}
-use Rattle.sc_lower.specs.View.{test_of, tested_of}
+use Rattle.sc_code.specs.declared.program.Image.{Image}
+use Rattle.sc_code.specs.declared.site.ObjectTest as test
+use Rattle.sc_code.specs.Machine.{Code, State, Hop, binds_if, is_tested, hop_popped}
+use Rattle.sc_code.specs.View.{test_of, tested_of}
 use Rattle.sc_region.specs.declared.value.Value as code
-use Rattle.sc_region.specs.declared.value.Value.TheVariants.{Boolean}
 use Rattle.sc_region.specs.declared.value.Reference as reference
 use Rattle.sc_region.specs.Frames.{PlainActivation}
 use Rattle.sc_interp.specs.declared.act.Hop as outcome
 use Rattle.sc_interp.specs.Serving.{TellsConformance}
 use Rattle.sc_interp.specs.Values.{value_of, values_of, reference_of}
-use Rattle.sc_interp.specs.Standing.{state_of, hopped, Passes, Tested}
+use Rattle.sc_interp.specs.Standing.{state_of, Passes, Tested}
 
 -- one more operand first
 pub put_first : (count : ℕ) (v : code.Value) (does : Code → State → Hop) (r : outcome.Hop) (a b d : PlainActivation) → b ≡ record a { operands = record a.operands { values = v ∷ a.operands.values } }

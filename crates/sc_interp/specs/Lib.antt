@@ -4,4 +4,13 @@ pub mod Standing
 pub mod Objects
 pub mod Playing
 pub mod Features
+pub mod Hopping
+pub mod Turning
+pub mod Entering
+pub mod Creating
+pub mod Exiting
+pub mod Refusing
 pub mod Laws
+pub mod RegionTurns
+pub mod RegionHalves
+pub mod RegionSteps

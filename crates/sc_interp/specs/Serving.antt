@@ -8,12 +8,12 @@ use Rattle.sc_class.specs.Tables.Conformance.{class_conforms}
 use Rattle.sc_class.specs.Tables.Features.{DeclaredFeature, features}
 use Rattle.sc_model.specs.Objects.{fresh_attributes}
 use Rattle.sc_model.specs.Routines.{version_of}
-use Rattle.sc_lower.specs.Attributes.{attribute_number}
-use Rattle.sc_lower.specs.declared.program.Image.{Image}
-use Rattle.sc_lower.specs.declared.program.ClassCode.{ClassCode}
-use Rattle.sc_lower.specs.declared.program.Version.{Version}
-use Rattle.sc_lower.specs.declared.program.Version.TheVariants as version
-use Rattle.sc_lower.specs.Programs.{pool_of}
+use Rattle.sc_code.specs.Attributes.{attribute_number}
+use Rattle.sc_code.specs.declared.program.Image.{Image}
+use Rattle.sc_code.specs.declared.program.ClassCode.{ClassCode}
+use Rattle.sc_code.specs.declared.program.Version.{Version}
+use Rattle.sc_code.specs.declared.program.Version.TheVariants as version
+use Rattle.sc_code.specs.Programs.{pool_of}
 
 -- the first class is the second one, or its table names that
 abbrev pub conforms_in : Image → ℕ → ℕ → Bool

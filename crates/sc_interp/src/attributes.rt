@@ -1,8 +1,8 @@
 //! Operations that read and write attributes.
 ghost use Rattle.std.specs.Prelude.{◌≡◌, Some, None, slice_get, if◌then◌else◌};
 ghost use Rattle.std.specs.Option.{option_and_then};
-ghost use Rattle.sc_lower.specs.declared.operation.Operation.TheVariants as coded;
-ghost use Rattle.sc_lower.specs.Programs.{pool_of};
+ghost use Rattle.sc_code.specs.declared.operation.Operation.TheVariants as coded;
+ghost use Rattle.sc_code.specs.Programs.{pool_of};
 ghost use Rattle.sc_region.specs.Frames.{PlainActivation, top_activation};
 ghost use Rattle.sc_region.specs.Objects.{PlainObject, object_numbered};
 ghost use Rattle.sc_interp.specs.Playing.{IsAttribute, IsLast, Plays, Remains, written_if};
@@ -13,7 +13,7 @@ use crate::act::Hop;
 use crate::calling::has_name;
 use crate::evaluation::read;
 use crate::passing::{pass_last, push_found};
-use sc_lower::{Program, Version};
+use sc_code::{Program, Version};
 use sc_model::Cause;
 use sc_region::{Reference, Store, Value};
 

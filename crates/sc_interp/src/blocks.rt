@@ -2,13 +2,13 @@
 ghost use Rattle.std.specs.Prelude.{◌≡◌, ℕ, slice_get};
 ghost use Rattle.sc_region.specs.declared.value.Reference as code;
 ghost use Rattle.sc_region.specs.Frames.{activation_of};
-ghost use Rattle.sc_lower.specs.declared.operation.Operation.TheVariants as coded;
-ghost use Rattle.sc_lower.specs.Operations as plain;
-ghost use Rattle.sc_lower.specs.Programs.{pool_of};
+ghost use Rattle.sc_code.specs.declared.operation.Operation.TheVariants as coded;
+ghost use Rattle.sc_code.specs.Operations as plain;
+ghost use Rattle.sc_code.specs.Programs.{pool_of};
 ghost use Rattle.sc_interp.specs.Standing.{Follows, Hops};
 
 use crate::act::{Act, Hop};
-use sc_lower::{Heads, Program};
+use sc_code::{Heads, Program};
 use sc_model::Cause;
 use sc_region::Activation;
 

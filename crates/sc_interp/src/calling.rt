@@ -2,13 +2,13 @@
 ghost use Rattle.std.specs.Prelude.{◌≡◌, ℕ, Some, None, ◌||◌, not, drop, length, nat_lt, slice_get, if◌then◌else◌};
 ghost use Rattle.std.specs.Option.{option_map, option_and_then};
 ghost use Rattle.sc_region.specs.Frames.{activation_of};
-ghost use Rattle.sc_lower.specs.declared.operation.Operation.TheVariants as coded;
-ghost use Rattle.sc_lower.specs.Programs.{pool_of};
-ghost use Rattle.sc_lower.specs.View.{call_of, creation_of, named};
+ghost use Rattle.sc_code.specs.declared.operation.Operation.TheVariants as coded;
+ghost use Rattle.sc_code.specs.Programs.{pool_of};
+ghost use Rattle.sc_code.specs.View.{call_of, creation_of, named};
 ghost use Rattle.sc_interp.specs.Standing.{Follows, Stays, listed, call_in, creation_in};
 
 use crate::act::{Act, Calling, Hop};
-use sc_lower::{CallSite, ConstantPool, CreationSite, Program};
+use sc_code::{CallSite, ConstantPool, CreationSite, Program};
 use sc_model::Cause;
 use sc_region::{Activation, Reference};
 

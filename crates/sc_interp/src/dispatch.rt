@@ -13,7 +13,7 @@ use crate::silent::{
 };
 use crate::testing::test;
 use crate::visible::{demand, end_loop, print, print_text};
-use sc_lower::{Operation, Program};
+use sc_code::{Operation, Program};
 use sc_region::{Activation, Reference, Value};
 use std::alloc::AllocError;
 

@@ -3,7 +3,7 @@ ghost use Rattle.std.specs.Prelude.{◌≡◌};
 ghost use Rattle.std.specs.Option.{option_map};
 ghost use Rattle.sc_model.specs.Operators as operators;
 ghost use Rattle.sc_model.specs.Expressions.{decided_by, is_same_object};
-ghost use Rattle.sc_lower.specs.Machine as flat;
+ghost use Rattle.sc_code.specs.Machine as flat;
 ghost use Rattle.sc_interp.specs.Values.{value_of, reference_of, evaluated};
 
 use sc_formula::{ArithmeticFault, ArithmeticOperator, Comparison, Connective, arithmetic};

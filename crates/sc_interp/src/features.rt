@@ -2,9 +2,9 @@
 ghost use Rattle.std.specs.Prelude.{◌≡◌, ℕ, ◌<◌, ◌+◌, ◌||◌, Some, drop, is_some, length, nat_lt, not, slice_get};
 ghost use Rattle.std.specs.Option.{option_map, option_and_then};
 ghost use Rattle.sc_model.specs.Steps as steps;
-ghost use Rattle.sc_lower.specs.Machine as flat;
-ghost use Rattle.sc_lower.specs.declared.operation.Operation.TheVariants as coded;
-ghost use Rattle.sc_lower.specs.Programs.{pool_of};
+ghost use Rattle.sc_code.specs.Machine as flat;
+ghost use Rattle.sc_code.specs.declared.operation.Operation.TheVariants as coded;
+ghost use Rattle.sc_code.specs.Programs.{pool_of};
 ghost use Rattle.sc_region.specs.Frames.{PlainActivation, activation_of, top_activation};
 ghost use Rattle.sc_interp.specs.Features.{Calls, IsFeature, IsFeatureAt, IsSite, IsUnder, calls_found, calls_seen, reads};
 ghost use Rattle.sc_interp.specs.Playing.{Plays, Remains};
@@ -16,7 +16,7 @@ use crate::attributes::{attribute_value, is_name, value_under, version_in};
 use crate::calling::has_room;
 use crate::evaluation::read;
 use crate::passing::replace;
-use sc_lower::{CallSite, Version};
+use sc_code::{CallSite, Version};
 use sc_model::Cause;
 use sc_region::{Activation, Reference, Store, Value};
 

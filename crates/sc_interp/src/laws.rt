@@ -1,5 +1,5 @@
 //! What holds of silent operations and of the tables of programs, each the contract of a function that does nothing.
-ghost use Rattle.sc_interp.specs.Laws.{ProgramsServe, SilentOperationsFall};
+ghost use Rattle.sc_interp.specs.Laws.{ProgramsServe, SilentOperationsFall, VisibleOperationsPass};
 
 use sc_class::heir_laws::{features_differ, features_without_a_parent, found_features_stand};
 
@@ -16,3 +16,8 @@ pub fn programs_serve()
     features_differ();
     found_features_stand();
 }
+
+/// Behind a visible operation that takes operands a routine stands where flat code does, if a number can say that place.
+pub fn visible_operations_pass()
+    ensures { VisibleOperationsPass }
+{}

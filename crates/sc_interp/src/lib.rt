@@ -11,14 +11,17 @@ mod calling;
 mod dispatch;
 mod evaluation;
 mod features;
+mod hopping;
 pub mod laws;
 mod passing;
 mod reading;
 mod silent;
 mod testing;
+pub mod turning;
 mod visible;
 
 pub use act::{Act, Calling, Hop};
 pub use attributes::{push_attribute, store_attribute};
 pub use dispatch::hop_on;
 pub use features::{Feature, call_feature};
+pub use hopping::{hop, moves};

@@ -1,15 +1,15 @@
 //! Operations that read and write what the routine itself has.
 ghost use Rattle.std.specs.Prelude.{◌≡◌, IfOk, OnErr, slice_get};
 ghost use Rattle.sc_region.specs.Frames.{activation_of};
-ghost use Rattle.sc_lower.specs.Operations as flat;
-ghost use Rattle.sc_lower.specs.View.{default_value};
+ghost use Rattle.sc_code.specs.Operations as flat;
+ghost use Rattle.sc_code.specs.View.{default_value};
 ghost use Rattle.sc_interp.specs.Values.{value_of};
 ghost use Rattle.sc_interp.specs.Standing.{Hops, Stays};
 
 use crate::act::Hop;
 use crate::evaluation::{found, read};
 use crate::passing::{push_found, skip, store};
-use sc_lower::DefaultValue;
+use sc_code::DefaultValue;
 use sc_model::Cause;
 use sc_region::{Activation, Value};
 use std::alloc::AllocError;

@@ -1,8 +1,8 @@
 //! Silent operations that ask nothing of the tables or the objects.
 ghost use Rattle.std.specs.Prelude.{◌<◌, ◌∷◌, length};
 ghost use Rattle.sc_region.specs.Frames.{activation_of};
-ghost use Rattle.sc_lower.specs.Operations as flat;
-ghost use Rattle.sc_lower.specs.Machine as machine;
+ghost use Rattle.sc_code.specs.Operations as flat;
+ghost use Rattle.sc_code.specs.Machine as machine;
 ghost use Rattle.sc_interp.specs.Values.{value_of};
 ghost use Rattle.sc_interp.specs.Standing.{Hops, Passes, Stays};
 

@@ -1,14 +1,14 @@
 //! Visible operations: what they name is told, and the routine stays as it is.
 ghost use Rattle.std.specs.Prelude.{ℕ};
-ghost use Rattle.sc_lower.specs.declared.operation.Operation.TheVariants as coded;
+ghost use Rattle.sc_code.specs.declared.operation.Operation.TheVariants as coded;
 ghost use Rattle.sc_region.specs.declared.value.Reference as code;
 ghost use Rattle.sc_region.specs.Frames.{PlainActivation, activation_of};
-ghost use Rattle.sc_lower.specs.Operations as flat;
+ghost use Rattle.sc_code.specs.Operations as flat;
 ghost use Rattle.sc_interp.specs.Standing.{Demands, Follows, Hops, Stays};
 
 use crate::act::{Act, Hop};
 use crate::passing::skip;
-use sc_lower::Program;
+use sc_code::Program;
 use sc_model::Cause;
 use sc_region::{Activation, Value};
 

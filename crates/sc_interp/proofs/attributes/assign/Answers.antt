@@ -1,7 +1,7 @@
 use Rattle.std.proofs.Common.{◌≡◌, MutBor, Some, sym, ap, ◌∙◌, subst}
 use Rattle.std.specs.Prelude.{slice_get}
 use Rattle.std.specs.Option.{option_map, option_and_then}
-use Rattle.sc_lower.specs.declared.operation.Operation.TheVariants as coded
+use Rattle.sc_code.specs.declared.operation.Operation.TheVariants as coded
 use Rattle.sc_region.specs.declared.frame.Activation.{Activation}
 use Rattle.sc_region.specs.Frames.{PlainActivation, activation_of, top_activation}
 use Rattle.sc_region.specs.Lending.{with_top}

@@ -1,8 +1,8 @@
 use Rattle.std.proofs.Common.{Option, ap, sym, ◌∙◌}
 use Rattle.std.specs.Option.{option_map}
-use Rattle.sc_lower.specs.declared.site.Heads as heads
-use Rattle.sc_lower.specs.Operations as plain
-use Rattle.sc_lower.specs.Machine.{hop_of}
+use Rattle.sc_code.specs.declared.site.Heads as heads
+use Rattle.sc_code.specs.Operations as plain
+use Rattle.sc_code.specs.Machine.{hop_of}
 use Rattle.sc_region.specs.Frames.{activation_of}
 use Rattle.sc_interp.specs.Values.{reference_of}
 use Rattle.sc_interp.specs.Standing.{state_of}

@@ -2,9 +2,9 @@ use Rattle.std.proofs.Common.{◌<◌, ◌≤◌, true, false, length, sym, ap, 
 use Rattle.std.proofs.lemmas.List.{length-map}
 use Rattle.std.specs.Prelude.{Option}
 use Rattle.std.specs.Option.{option_map}
-use Rattle.sc_lower.specs.Operations.{CallSite, CallRoutine}
-use Rattle.sc_lower.specs.Programs.{pool_of}
-use Rattle.sc_lower.specs.Machine.{hop_of}
+use Rattle.sc_code.specs.Operations.{CallSite, CallRoutine}
+use Rattle.sc_code.specs.Programs.{pool_of}
+use Rattle.sc_code.specs.Machine.{hop_of}
 use Rattle.sc_region.specs.Frames.{activation_of}
 use Rattle.sc_interp.specs.declared.act.Calling.TheVariants as calling
 use Rattle.sc_interp.specs.Values.{value_of, values_of, reference_of}

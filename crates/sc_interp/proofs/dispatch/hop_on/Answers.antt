@@ -1,8 +1,8 @@
 use Rattle.std.proofs.Common.{ap, ◌∙◌}
-use Rattle.sc_lower.specs.declared.operation.Operation.{Operation}
-use Rattle.sc_lower.specs.Programs.{pool_of}
-use Rattle.sc_lower.specs.View.{operation_of}
-use Rattle.sc_lower.specs.Machine.{hop_of}
+use Rattle.sc_code.specs.declared.operation.Operation.{Operation}
+use Rattle.sc_code.specs.Programs.{pool_of}
+use Rattle.sc_code.specs.View.{operation_of}
+use Rattle.sc_code.specs.Machine.{hop_of}
 use Rattle.sc_region.specs.Frames.{activation_of}
 use Rattle.sc_interp.specs.Values.{reference_of}
 use Rattle.sc_interp.specs.Standing.{state_of}

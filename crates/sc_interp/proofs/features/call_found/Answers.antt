@@ -1,6 +1,6 @@
 use Rattle.std.proofs.Common.{◌+◌, ap, ◌∙◌}
 use Rattle.sc_model.specs.declared.cause.Cause.TheVariants as cause
-use Rattle.sc_lower.specs.Programs.{pool_of}
+use Rattle.sc_code.specs.Programs.{pool_of}
 use Rattle.sc_region.specs.Frames.{activation_of}
 use Rattle.sc_interp.specs.Features.{calls_found}
 use Rattle.sc_interp.specs.Standing.{actuals, call_in, state_of, without}

@@ -2,8 +2,8 @@ use Rattle.std.proofs.Common.{◌+◌, Bool, ap, ◌∙◌}
 use Rattle.std.proofs.lemmas.Bool.{ne_eqb}
 use Rattle.std.specs.Prelude.{if◌then◌else◌}
 use Rattle.sc_model.specs.declared.cause.Cause.TheVariants as cause
-use Rattle.sc_lower.specs.Machine.{requests}
-use Rattle.sc_lower.specs.Programs.{pool_of}
+use Rattle.sc_code.specs.Machine.{requests}
+use Rattle.sc_code.specs.Programs.{pool_of}
 use Rattle.sc_region.specs.Frames.{activation_of}
 use Rattle.sc_interp.specs.Features.{calls_found, calls_seen}
 use Rattle.sc_interp.specs.Standing.{actuals, call_in, state_of, without}

@@ -2,7 +2,7 @@ use Rattle.std.proofs.Common.{◌+◌, true, false, sym, ap, ◌∙◌}
 use Rattle.std.specs.Prelude.{is_some}
 use Rattle.sc_model.specs.declared.cause.Cause.TheVariants as cause
 use Rattle.sc_model.specs.Steps.{Qualified}
-use Rattle.sc_lower.specs.Machine.{Enters}
+use Rattle.sc_code.specs.Machine.{Enters}
 use Rattle.sc_region.specs.Frames.{activation_of}
 use Rattle.sc_interp.specs.declared.act.Calling.TheVariants as calling
 use Rattle.sc_interp.specs.Standing.{actuals, enters, name_at, state_of, without}

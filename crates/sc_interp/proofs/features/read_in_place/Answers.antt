@@ -1,6 +1,6 @@
 use Rattle.std.proofs.Common.{ap, sym, ◌∙◌}
 use Rattle.std.specs.Option.{option_map}
-use Rattle.sc_lower.specs.Machine.{read}
+use Rattle.sc_code.specs.Machine.{read}
 use Rattle.sc_region.specs.OperandList.{OperandList}
 use Rattle.sc_region.specs.Frames.{activation_of}
 use Rattle.sc_interp.specs.Values.{evaluated, value_of}

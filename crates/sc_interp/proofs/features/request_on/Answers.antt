@@ -1,7 +1,7 @@
 use Rattle.std.proofs.Common.{◌+◌, Bool, true, false, sym, ap, ◌∙◌}
 use Rattle.std.specs.Prelude.{is_some, if◌then◌else◌}
 use Rattle.sc_model.specs.declared.cause.Cause.TheVariants as cause
-use Rattle.sc_lower.specs.Machine.{Requests, awaits, does, fails}
+use Rattle.sc_code.specs.Machine.{Requests, awaits, does, fails}
 use Rattle.sc_region.specs.Frames.{activation_of}
 use Rattle.sc_interp.specs.Standing.{actuals, name_at, state_of, without}
 use Rattle.sc_interp.specs.Values.{reference_of}

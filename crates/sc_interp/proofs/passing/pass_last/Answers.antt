@@ -1,5 +1,5 @@
 use Rattle.std.proofs.Common.{ap}
-use Rattle.sc_lower.specs.Machine.{goes_on}
+use Rattle.sc_code.specs.Machine.{goes_on}
 use Rattle.sc_region.specs.OperandList.{OperandList}
 use Rattle.sc_region.specs.Frames.{activation_of}
 use Rattle.sc_interp.proofs.Popping.{dropped_first}

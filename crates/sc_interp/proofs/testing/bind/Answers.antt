@@ -1,5 +1,5 @@
 use Rattle.std.proofs.Common.{ap, true}
-use Rattle.sc_lower.specs.Machine.{stores}
+use Rattle.sc_code.specs.Machine.{stores}
 use Rattle.sc_region.specs.OperandList.{OperandList}
 use Rattle.sc_region.specs.Frames.{activation_of}
 use Rattle.sc_region.specs.declared.value.Value.TheVariants.{Boolean}

@@ -1,7 +1,7 @@
 use Rattle.std.proofs.Common.{ap, ◌∙◌}
 use Rattle.std.specs.Option.{option_map}
-use Rattle.sc_lower.specs.Machine.{is_tested}
-use Rattle.sc_lower.specs.View.{tested_of}
+use Rattle.sc_code.specs.Machine.{is_tested}
+use Rattle.sc_code.specs.View.{tested_of}
 use Rattle.sc_region.specs.Frames.{activation_of}
 use Rattle.sc_interp.specs.Values.{value_of, values_of}
 use Rattle.sc_interp.proofs.Tests.{test_popped}

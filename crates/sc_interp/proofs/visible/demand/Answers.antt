@@ -4,10 +4,10 @@ use Rattle.std.specs.Prelude.{vec_len}
 use Rattle.std.specs.Option.{option_map}
 use Rattle.std.specs.declared.vec.Vec.{Vec}
 use Rattle.std.specs.declared.alloc.Global.{Global}
-use Rattle.sc_lower.specs.declared.program.ConstantPool.{ConstantPool}
-use Rattle.sc_lower.specs.Machine.{hop_of}
-use Rattle.sc_lower.specs.Operations.{Demand}
-use Rattle.sc_lower.specs.Pools.{lists_of}
+use Rattle.sc_code.specs.declared.program.ConstantPool.{ConstantPool}
+use Rattle.sc_code.specs.Machine.{hop_of}
+use Rattle.sc_code.specs.Operations.{Demand}
+use Rattle.sc_code.specs.Programs.{lists_of}
 use Rattle.sc_region.specs.Frames.{activation_of}
 use Rattle.sc_interp.specs.Values.{reference_of}
 use Rattle.sc_interp.specs.Standing.{state_of}

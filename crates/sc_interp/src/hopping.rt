@@ -1,0 +1,133 @@
+//! The operations of the topmost routine of a store, one by one.
+ghost use Rattle.std.specs.Prelude.{◌≡◌, IfOk, OnErr, true, slice_get};
+ghost use Rattle.std.specs.Option.{option_map, option_and_then};
+ghost use Rattle.sc_region.specs.Classes as at;
+ghost use Rattle.sc_region.specs.Frames.{PlainActivation, top_activation};
+ghost use Rattle.sc_interp.specs.Hopping.{ComesTo, IsCount, IsNext, LeadsTo, NextIs};
+ghost use Rattle.sc_interp.specs.Playing.{Plays, Remains};
+ghost use Rattle.sc_interp.specs.Standing.{is_simple};
+
+use crate::act::Hop;
+use crate::attributes::{push_attribute, store_attribute};
+use crate::dispatch::hop_on;
+use crate::features::call_feature;
+use sc_code::{Operation, RoutineCode};
+use sc_model::Cause;
+use sc_region::{Reference, Store};
+use std::alloc::AllocError;
+
+/// An operation that asks nothing of the attributes of objects.
+fn hop_in_place(
+    store: &mut Store<'_>,
+    me: Reference,
+    count: usize,
+    operation: Operation,
+) -> Result<Hop, AllocError>
+    requires { is_simple operation ≡ true }
+    ensures plays { IfOk result (λ hop. Plays me count operation hop store.old store.new) }
+    ensures remains { Remains store.old store.new }
+    ensures err { OnErr result (store.new ≡ store.old) }
+{
+    let program = store.program();
+    match store.top_mut() {
+        Some(activation) => hop_on(program, activation, me, count, operation),
+        None => Ok(Hop::Failed(Cause::BadCode)),
+    }
+}
+
+/// The operation of the topmost routine, which runs on `me` and whose code has `count` operations.
+fn hop_by(
+    store: &mut Store<'_>,
+    me: Reference,
+    count: usize,
+    operation: Operation,
+) -> Result<Hop, AllocError>
+    ensures plays { IfOk result (λ hop. Plays me count operation hop store.old store.new) }
+    ensures remains { Remains store.old store.new }
+    ensures err { OnErr result (store.new ≡ store.old) }
+{
+    match operation {
+        Operation::PushAttribute { is_attached, name } => Ok(push_attribute(
+            store,
+            me,
+            count,
+            name,
+            is_attached,
+        )),
+        Operation::StoreAttribute(name) => Ok(store_attribute(store, me, count, name)),
+        Operation::CallFeature(number) => Ok(call_feature(store, me, count, number)),
+        _ => hop_in_place(store, me, count, operation),
+    }
+}
+
+/// The code of the topmost routine.
+fn top_code<'p>(store: &Store<'p>) -> Option<&'p RoutineCode>
+    ensures { option_map (λ code. code.now) result
+        ≡ option_and_then (λ (a : PlainActivation). at.routine_at store.now.program a.routine) (top_activation store.now.frames) }
+{
+    let activation = store.top()?;
+    store.program().routine(activation.routine)
+}
+
+/// How many operations the code of the topmost routine has.
+fn operation_count(store: &Store<'_>) -> usize
+    ensures { IsCount store.now result }
+{
+    match top_code(store) {
+        Some(code) => code.operations.len(),
+        None => 0,
+    }
+}
+
+/// The operation at the place of a code.
+fn operation_at(code: &RoutineCode, place: usize) -> Option<Operation>
+    ensures { result ≡ slice_get code.now.operations.items place }
+{
+    code.operations.get(place).copied()
+}
+
+/// How many operations the code of the topmost routine has, and the next of them, if there is one.
+fn next_of(store: &Store<'_>) -> Option<(usize, Operation)>
+    ensures { IsNext store.now result }
+{
+    let activation = store.top()?;
+    let code = store.program().routine(activation.routine)?;
+    match operation_at(code, activation.place) {
+        Some(operation) => Some((code.operations.len(), operation)),
+        None => None,
+    }
+}
+
+/// The next operation of the topmost routine: a silent one is done, a visible one told, and still to be done. F16 where
+/// there is none. Err where there is no memory; nothing has changed then.
+pub fn hop(store: &mut Store<'_>) -> Result<Hop, AllocError>
+    ensures next { IfOk result (λ hop. NextIs hop store.old store.new) }
+    ensures remains { Remains store.old store.new }
+    ensures err { OnErr result (store.new ≡ store.old) }
+{
+    match store.current() {
+        None => Ok(Hop::Failed(Cause::BadCode)),
+        Some(me) => match next_of(store) {
+            None => Ok(Hop::Failed(Cause::BadCode)),
+            Some((count, operation)) => hop_by(store, me, count, operation),
+        },
+    }
+}
+
+/// The silent operations of the topmost routine are done, up to one that isn't silent, which is told as `hop` tells it.
+/// Err where there is no memory; as many silent operations are done then as there was memory for.
+pub fn moves(store: &mut Store<'_>) -> Result<Hop, AllocError>
+    ensures comes { IfOk result (λ hop. ComesTo hop store.old store.new) }
+    ensures remains { Remains store.old store.new }
+    ensures err { OnErr result (LeadsTo store.old store.new) }
+{
+    let count = operation_count(store);
+    for passed in 0..count {
+        match hop(store)? {
+            Hop::Passed => (),
+            Hop::Failed(why) => return Ok(Hop::Failed(why)),
+            Hop::Comes(act) => return Ok(Hop::Comes(act)),
+        }
+    }
+    hop(store)
+}

@@ -1,0 +1,160 @@
+//! Creations of objects of this handler.
+ghost use Rattle.std.specs.Prelude.{◌≡◌, ◌<◌, IfOk, OnOk, OnErr, Some, false, true, length};
+ghost use Rattle.sc_region.specs.Frames.{PlainActivation, activation_of, top_activation};
+ghost use Rattle.sc_region.specs.Stores.{made_for};
+ghost use Rattle.sc_region.specs.declared.job.Want.TheVariants as want;
+ghost use Rattle.sc_interp.specs.Creating.{created, created_by, given, has_room_in, with_reference, without_last};
+ghost use Rattle.sc_interp.specs.Entering.{Calls, asks_beginning, in_call};
+ghost use Rattle.sc_interp.specs.Turning.{on_top, unless_failed};
+
+use crate::turning::beginning::want_beginning;
+use crate::turning::entering::{Caller, caller_of, resume, routine_of, suspend};
+use crate::turning::steps::{pass, unless_failed};
+use sc_model::Cause;
+use sc_region::{Activation, Reference, Store, Value, Want};
+use std::alloc::AllocError;
+
+/// Whether the topmost routine, if there is one, has room for one more operand where so many are gone.
+fn has_room(store: &Store<'_>, count: usize) -> bool
+    ensures { result ≡ has_room_in count (top_activation store.now.frames) }
+{
+    match store.top() {
+        None => true,
+        Some(activation) => activation.operands.has_room_under(count),
+    }
+}
+
+/// One more operand, the reference.
+fn add_on(activation: &mut Activation, reference: Reference)
+    requires { length (activation_of activation.old).operands.values < (activation_of activation.old).operands.depth }
+    ensures { activation_of activation.new ≡ with_reference reference (activation_of activation.old) }
+{
+    activation.operands.push(Value::Attached(reference));
+}
+
+/// The same of the topmost routine.
+fn add(store: &mut Store<'_>, reference: Reference)
+    requires { (a : PlainActivation) → top_activation store.old.frames ≡ Some a → length a.operands.values < a.operands.depth }
+    ensures { store.new ≡ on_top (with_reference reference) store.old }
+{
+    match store.top_mut() {
+        Some(activation) => add_on(activation, reference),
+        None => (),
+    }
+}
+
+fn drop_on(activation: &mut Activation)
+    ensures { activation_of activation.new ≡ without_last (activation_of activation.old) }
+{
+    activation.operands.drop_last(1);
+}
+
+/// The last operand of the topmost routine goes.
+fn drop_last(store: &mut Store<'_>)
+    ensures { store.new ≡ on_top without_last store.old }
+{
+    match store.top_mut() {
+        Some(activation) => drop_on(activation),
+        None => (),
+    }
+}
+
+// ---- without a procedure
+
+/// So many operands go, and the reference comes in their place.
+fn give(store: &mut Store<'_>, count: usize, reference: Reference)
+    ensures { store.new ≡ given count reference store.old }
+{
+    if has_room(store, count) {
+        pass(store, count);
+        add(store, reference);
+    } else {
+        store.fail(Cause::BadCode);
+    }
+}
+
+/// An object of the class of the reference is created, which is to name it: F10 where there are as many objects as there
+/// may be, F1 where it breaks its invariant. Err where there is no memory; nothing has changed then.
+pub fn create(store: &mut Store<'_>, reference: Reference, count: usize) -> Result<Want, AllocError>
+    ensures ok { OnOk result (store.new ≡ created reference count store.old) }
+    ensures want { IfOk result (λ asked. asked ≡ unless_failed store.new.failure want.Continue) }
+    ensures err { OnErr result (store.new ≡ store.old) }
+{
+    store.make_object(reference.class)?;
+    give(store, count, reference);
+    Ok(unless_failed(store, Want::Continue))
+}
+
+// ---- by a procedure
+
+/// The object is created by the routine of the number. Err where there is no memory; nothing has changed then.
+fn create_from(
+    store: &mut Store<'_>,
+    caller: &Caller,
+    reference: Reference,
+    routine: usize,
+    count: usize,
+) -> Result<(), AllocError>
+    requires stands { Calls count caller.now.values.items caller.now.place caller.now.stage (top_activation store.old.frames) }
+    requires room { has_room_in count (top_activation store.old.frames) ≡ true }
+    ensures ok { OnOk result (store.new ≡ made_for reference.handler reference.class routine caller.now.values.items
+        (on_top (with_reference reference) (on_top (in_call count false) store.old))) }
+    ensures err { OnErr result (store.new ≡ store.old) }
+{
+    suspend(store, count, false);
+    add(store, reference);
+    let actuals = caller.values.as_slice();
+    match store.make_object_with(reference.handler, reference.class, routine, actuals) {
+        Ok(()) => Ok(()),
+        Err(error) => {
+            drop_last(store);
+            resume(store, caller);
+            Err(error)
+        }
+    }
+}
+
+/// The object is created by the procedure of the name.
+fn make(
+    store: &mut Store<'_>,
+    reference: Reference,
+    name: usize,
+    count: usize,
+) -> Result<(), AllocError>
+    ensures ok { OnOk result (store.new ≡ created_by reference name count store.old) }
+    ensures err { OnErr result (store.new ≡ store.old) }
+{
+    let found = routine_of(store.program(), reference.class, name);
+    let has_room = has_room(store, count);
+    let Some(caller) = caller_of(store, count) else {
+        store.fail(Cause::BadCode);
+        return Ok(());
+    };
+    let Some(routine) = found else {
+        store.fail(Cause::BadCode);
+        return Ok(());
+    };
+    if !has_room {
+        store.fail(Cause::BadCode);
+        return Ok(());
+    }
+    create_from(store, &caller, reference, routine, count)
+}
+
+/// An object of the class of the reference is created, which is to name it, and its procedure of this name called, with
+/// the last operands, so many, as actuals: F10 where there are as many objects as there may be; F16 and F11 as in `enter`.
+/// Err where there is no memory; nothing has changed then.
+pub fn create_by(
+    store: &mut Store<'_>,
+    reference: Reference,
+    name: usize,
+    count: usize,
+) -> Result<Want, AllocError>
+    ensures ok { OnOk result (store.new ≡ created_by reference name count store.old) }
+    ensures want { IfOk result (λ asked. asked ≡ unless_failed store.new.failure (asks_beginning store.new.program (top_activation store.new.frames))) }
+    ensures err { OnErr result (store.new ≡ store.old) }
+{
+    make(store, reference, name, count)?;
+    let asked = want_beginning(store);
+    Ok(unless_failed(store, asked))
+}

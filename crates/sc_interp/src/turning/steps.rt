@@ -1,0 +1,78 @@
+//! How the topmost routine goes on behind a visible operation.
+ghost use Rattle.std.specs.Prelude.{◌≡◌};
+ghost use Rattle.sc_region.specs.Frames.{activation_of};
+ghost use Rattle.sc_region.specs.Stores.{failed};
+ghost use Rattle.sc_region.specs.declared.job.Want.TheVariants as want;
+ghost use Rattle.sc_interp.specs.Turning.{on_top, past, back, round_ended, unless_failed};
+
+use sc_model::Cause;
+use sc_region::{Activation, Store, Want};
+
+/// So many operands go, and the next operation comes.
+pub fn go_past(activation: &mut Activation, count: usize)
+    ensures { activation_of activation.new ≡ past count (activation_of activation.old) }
+{
+    activation.operands.drop_last(count);
+    activation.place = activation.place.saturating_add(1);
+}
+
+/// The same of the topmost routine.
+pub fn pass(store: &mut Store<'_>, count: usize)
+    ensures { store.new ≡ on_top (past count) store.old }
+{
+    match store.top_mut() {
+        Some(activation) => go_past(activation, count),
+        None => (),
+    }
+}
+
+/// The last operand goes, and the operation comes that is so many back.
+fn go_back(activation: &mut Activation, count: usize)
+    ensures { activation_of activation.new ≡ back count (activation_of activation.old) }
+{
+    activation.operands.drop_last(1);
+    activation.place = activation.place.saturating_sub(count);
+}
+
+/// Each clause of the precondition holds, so the body begins.
+pub fn start(store: &mut Store<'_>) -> Want
+    ensures store { store.new ≡ on_top (past 0) store.old }
+    ensures want { result ≡ want.Continue }
+{
+    pass(store, 0);
+    Want::Continue
+}
+
+/// An `until` was evaluated: the loop ends, or its body comes again, so many operations back.
+pub fn end_round(store: &mut Store<'_>, back: Option<usize>) -> Want
+    ensures store { store.new ≡ on_top (round_ended back) store.old }
+    ensures want { result ≡ want.Continue }
+{
+    match store.top_mut() {
+        Some(activation) => match back {
+            None => go_past(activation, 1),
+            Some(count) => go_back(activation, count),
+        },
+        None => (),
+    }
+    Want::Continue
+}
+
+/// The store ends in this failure.
+pub fn fail(store: &mut Store<'_>, why: Cause) -> Want
+    ensures store { store.new ≡ failed why store.old }
+    ensures want { result ≡ want.Fail why }
+{
+    store.fail(why);
+    Want::Fail(why)
+}
+
+/// What is asked, where the store hasn't ended in a failure.
+pub fn unless_failed(store: &Store<'_>, asked: Want) -> Want
+    ensures { result ≡ unless_failed store.now.failure asked }
+{
+    match store.failure() {
+        Some(why) => Want::Fail(why),
+        None => asked,
+    }
+}
