@@ -1,0 +1,16 @@
+pub mod Unique
+pub mod Standing
+pub mod Coming
+pub mod Showing
+pub mod Passing
+pub mod Quiet
+pub mod Meeting
+pub mod Exiting
+pub mod Refusing
+pub mod Staging
+pub mod Entering
+pub mod Calling
+pub mod Creating
+pub mod CreatingBy
+pub mod Joining
+pub mod Asking

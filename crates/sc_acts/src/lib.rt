@@ -1,0 +1,5 @@
+//! What visible operations make of the store of a handler is what the definition of a turn makes of the half that the
+//! store stands for.
+#![tactic(auto)]
+
+pub mod laws;

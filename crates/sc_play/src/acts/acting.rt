@@ -1,0 +1,72 @@
+//! What a visible operation is.
+ghost use Rattle.std.specs.Prelude.{◌≡◌, IfOk, OnOk, OnErr};
+ghost use Rattle.sc_play.specs.Acting.{acted, asks_acting};
+ghost use Rattle.sc_interp.specs.Turning.{unless_failed};
+
+use crate::acts::blocks::{leave, open};
+use crate::acts::creating::create_object;
+use crate::acts::creating_handlers::create_handler;
+use crate::acts::requesting::request;
+use crate::steps::unless_failed;
+use sc_interp::Act;
+use sc_interp::turning::{
+    end_round, enter, exit, print_boolean, print_integer, print_text, refuse, start,
+};
+use sc_region::{Store, Want};
+use std::alloc::AllocError;
+
+/// The operation is done; what it asks is told, unless the handler fails.
+#[tactic(auto, using(crate::proofs::Failed::asked_twice))]
+fn dispatch(store: &mut Store<'_>, handler: u16, act: Act) -> Result<Want, AllocError>
+    ensures ok { OnOk result (store.new ≡ acted handler act store.old) }
+    ensures want { IfOk result (λ asked. asks_acting handler act store.old store.new ≡ unless_failed store.new.failure asked) }
+    ensures err { OnErr result (store.new ≡ store.old) }
+{
+    match act {
+        Act::PrintInteger(value) => print_integer(store, value),
+        Act::PrintBoolean(value) => print_boolean(store, value),
+        Act::PrintText(text) => print_text(store, text),
+        Act::Test(back) => Ok(end_round(store, back)),
+        Act::Enter {
+            calling,
+            object,
+            name,
+            count,
+            gives,
+        } => enter(store, calling, object, name, count, gives),
+        Act::Request {
+            object,
+            name,
+            count,
+            gives,
+            passes,
+        } => Ok(request(store, handler, object, name, count, gives, passes)),
+        Act::Create {
+            class,
+            procedure,
+            count,
+        } => create_object(store, handler, class, procedure, count),
+        Act::CreateHandler {
+            class,
+            procedure,
+            count,
+            passes,
+        } => Ok(create_handler(store, handler, class, procedure, count, passes)),
+        Act::Start => Ok(start(store)),
+        Act::Refuse(formals) => Ok(refuse(store, formals)),
+        Act::Open { first, count } => Ok(open(store, first, count)),
+        Act::Leave => Ok(leave(store)),
+        Act::Exit => Ok(exit(store)),
+    }
+}
+
+/// A visible operation that the topmost routine has come to is done, by the handler of this number, and what the turn asks
+/// is told. Err where there is no memory; nothing has changed then.
+pub fn act_on(store: &mut Store<'_>, handler: u16, act: Act) -> Result<Want, AllocError>
+    ensures ok { OnOk result (store.new ≡ acted handler act store.old) }
+    ensures want { IfOk result (λ asked. asked ≡ asks_acting handler act store.old store.new) }
+    ensures err { OnErr result (store.new ≡ store.old) }
+{
+    let asked = dispatch(store, handler, act)?;
+    Ok(unless_failed(store, asked))
+}

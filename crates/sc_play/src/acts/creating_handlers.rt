@@ -1,0 +1,113 @@
+//! Creations of handlers.
+ghost use Rattle.std.specs.Prelude.{◌≡◌, Some, true};
+ghost use Rattle.sc_region.specs.Frames.{PlainActivation, activation_of, top_activation};
+ghost use Rattle.sc_interp.specs.Creating.{has_room};
+ghost use Rattle.sc_interp.specs.Turning.{on_top};
+ghost use Rattle.sc_play.specs.CreatingHandlers.{asks_creating, creating, creation_in, creation_of, creation_with, handler_created, may_create};
+
+use crate::acts::numbers::{class_number, procedure_number};
+use crate::acts::operands::{has_actuals, last_values};
+use crate::acts::stages::{await_if, misfit};
+use crate::steps::go_past;
+use sc_region::{Activation, Reference, Store, Value, Want};
+
+/// The creation of a handler, with its first object. The actuals are the last operands.
+#[derive(Clone, Copy)]
+struct RemoteCreation {
+    class: usize,
+    /// The number of the creation procedure's name, if it has one.
+    procedure: Option<usize>,
+    /// How many actuals there are.
+    count: usize,
+    passes: bool,
+}
+
+/// Whether the routine has the operands of the creation, and room for the reference in their place.
+fn may_create(activation: &Activation, count: usize) -> bool
+    ensures { result ≡ may_create count (activation_of activation.now) }
+{
+    has_actuals(activation, count) && activation.operands.has_room_under(count)
+}
+
+/// What the creation of an object of the class asks, where its procedure has a number and its operands are there.
+fn creation_of(activation: &Activation, class: u8, creation: RemoteCreation) -> Option<Want>
+    ensures { result ≡ creation_of creation class (activation_of activation.now) }
+{
+    let procedure = procedure_number(creation.procedure)?;
+    if !may_create(activation, creation.count) {
+        return None;
+    }
+    Some(Want::Create {
+        class,
+        procedure,
+        actuals: last_values(activation, creation.count),
+        passes: creation.passes,
+    })
+}
+
+/// The same of the topmost routine.
+fn creation_in(store: &Store<'_>, class: u8, creation: RemoteCreation) -> Option<Want>
+    ensures { result ≡ creation_in creation class (top_activation store.now.frames) }
+{
+    match store.top() {
+        Some(activation) => creation_of(activation, class, creation),
+        None => None,
+    }
+}
+
+/// The operands of the creation go, the reference comes in their place, and with lock passing the routine waits.
+fn begin_on(activation: &mut Activation, first: Reference, creation: RemoteCreation)
+    requires { has_room creation.count (activation_of activation.old) ≡ true }
+    ensures { activation_of activation.new ≡ creating first creation (activation_of activation.old) }
+{
+    go_past(activation, creation.count);
+    activation.operands.push(Value::Attached(first));
+    await_if(activation, creation.passes, first.handler, false, true);
+}
+
+/// The same of the topmost routine.
+fn begin(store: &mut Store<'_>, first: Reference, creation: RemoteCreation)
+    requires { (a : PlainActivation) → top_activation store.old.frames ≡ Some a → has_room creation.count a ≡ true }
+    ensures { store.new ≡ on_top (creating first creation) store.old }
+{
+    match store.top_mut() {
+        Some(activation) => begin_on(activation, first, creation),
+        None => (),
+    }
+}
+
+/// A handler is created by this one, with an object of the class, by the procedure of the name or without one: F16 where
+/// there are fewer operands than the creation takes, or more than a request has room for, or where the class or the name
+/// has no number there. The creator goes on with a reference to the object, which has the creator's number until that of
+/// the new handler is told; with lock passing it waits for the answer.
+pub fn create_handler(
+    store: &mut Store<'_>,
+    handler: u16,
+    class: usize,
+    procedure: Option<usize>,
+    count: usize,
+    passes: bool,
+) -> Want
+    ensures store { store.new ≡ handler_created handler (creation_with class procedure count passes) store.old }
+    ensures want { result ≡ asks_creating (creation_with class procedure count passes) (top_activation store.old.frames) }
+{
+    let creation = RemoteCreation {
+        class,
+        procedure,
+        count,
+        passes,
+    };
+    let Some(class) = class_number(class) else {
+        return misfit(store);
+    };
+    let Some(asked) = creation_in(store, class, creation) else {
+        return misfit(store);
+    };
+    let first = Reference {
+        handler,
+        number: 1,
+        class,
+    };
+    begin(store, first, creation);
+    asked
+}

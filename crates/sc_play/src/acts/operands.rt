@@ -1,0 +1,38 @@
+//! The operands that an operation takes.
+ghost use Rattle.std.specs.Prelude.{◌≡◌, ◌≤◌, ◌<◌, length};
+ghost use Rattle.sc_region.specs.Frames.{activation_of};
+ghost use Rattle.sc_interp.specs.Entering.{last_values};
+ghost use Rattle.sc_play.specs.Operands.{has_actuals, has_call};
+
+use arrayvec::ArrayVec;
+use sc_region::{Activation, Value};
+
+/// Whether the routine has so many operands, and a request has room for as many actuals.
+pub fn has_actuals(activation: &Activation, count: usize) -> bool
+    ensures { result ≡ has_actuals count (activation_of activation.now) }
+{
+    count < 17 && count <= activation.operands.len()
+}
+
+/// The same, with a target under them.
+pub fn has_call(activation: &Activation, count: usize) -> bool
+    ensures { result ≡ has_call count (activation_of activation.now) }
+{
+    count < 17 && count < activation.operands.len()
+}
+
+/// The last so many operands, in the order of the text.
+pub fn last_values(activation: &Activation, count: usize) -> ArrayVec<Value, 16>
+    requires few { count < 17 }
+    requires enough { count ≤ length (activation_of activation.now).operands.values }
+    ensures { result.items ≡ last_values count (activation_of activation.now).operands.values }
+{
+    let mut values = ArrayVec::new();
+    for passed in 0..count {
+        match activation.operands.under(passed) {
+            Some(value) => values.insert(0, value),
+            None => unreachable!(),
+        }
+    }
+    values
+}

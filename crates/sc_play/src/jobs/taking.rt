@@ -1,0 +1,171 @@
+//! Requests that a handler takes.
+ghost use Rattle.std.specs.Prelude.{◌≡◌, IfOk, OnOk, OnErr};
+ghost use Rattle.sc_region.specs.Objects.{attribute_of};
+ghost use Rattle.sc_play.specs.Turns.{Becomes};
+ghost use Rattle.sc_play.specs.Taking.{answered, asks_answering, asks_call, asks_creation, asks_taking, asks_version, attribute_at, born_by, taken, taken_call, taken_creation, taken_version};
+
+use crate::beginning::want_beginning;
+use crate::steps::unless_failed;
+use crate::versions::{attribute_at, routine_of, version_in};
+use arrayvec::ArrayVec;
+use sc_code::{AttributeCode, Version};
+use sc_model::Cause;
+use sc_region::{Errand, Origin, Reference, Request, Store, Value, Want};
+use std::alloc::AllocError;
+
+// ---- a query of an attribute
+
+/// The request ends with this value, or with none.
+fn done(value: Option<Value>) -> Want
+    ensures { result ≡ asks_answering value }
+{
+    Want::Done {
+        reply: value,
+        released: ArrayVec::new(),
+        refused: false,
+    }
+}
+
+/// An attribute with this value is answered: F7 where its type is attached and it is still Void.
+fn answer(store: &mut Store<'_>, attribute: Option<AttributeCode>, value: Option<Value>)
+    ensures { store.new ≡ answered attribute value store.old }
+{
+    match (attribute, value) {
+        (Some(attribute), Some(value)) => {
+            if attribute.is_attached && value == Value::Void {
+                store.fail(Cause::UnsetEntity);
+            }
+        }
+        _ => store.fail(Cause::BadCode),
+    }
+}
+
+// ---- a call
+
+/// The attribute of the number of the target is answered.
+fn answer_at(store: &mut Store<'_>, target: Reference, number: usize) -> Want
+    ensures store { store.new ≡ answered (attribute_at store.old.program target.class number) (attribute_of target.number number store.old.objects) store.old }
+    ensures want { result ≡ asks_answering (attribute_of target.number number store.old.objects) }
+{
+    let attribute = attribute_at(store.program(), target.class, number);
+    let value = store.read(target.number, number);
+    answer(store, attribute, value);
+    done(value)
+}
+
+/// The version of the feature that is called. Err where there is no memory; nothing has changed then.
+fn call_version(
+    store: &mut Store<'_>,
+    request: &Request,
+    version: Option<Version>,
+) -> Result<Want, AllocError>
+    ensures ok { OnOk result (store.new ≡ taken_version request.now version store.old) }
+    ensures want { IfOk result (λ asked. asked ≡ asks_version request.now version store.old store.new) }
+    ensures err { OnErr result (store.new ≡ store.old) }
+{
+    match version {
+        Some(Version::Routine(routine)) => {
+            let actuals = request.actuals.as_slice();
+            store.push(request.target, routine, Origin::Requested, actuals)?;
+            Ok(want_beginning(store))
+        }
+        Some(Version::Attribute(number)) => Ok(answer_at(store, request.target, number)),
+        None => {
+            store.fail(Cause::BadCode);
+            Ok(Want::Continue)
+        }
+    }
+}
+
+/// The feature of the number is called on the target: F14 where it is no object of this handler, F16 where there is no
+/// such object or feature. Err where there is no memory; nothing has changed then.
+fn call(
+    store: &mut Store<'_>,
+    handler: u16,
+    request: &Request,
+    name: usize,
+) -> Result<Want, AllocError>
+    ensures ok { OnOk result (store.new ≡ taken_call handler request.now name store.old) }
+    ensures want { IfOk result (λ asked. asked ≡ asks_call handler request.now name store.old store.new) }
+    ensures err { OnErr result (store.new ≡ store.old) }
+{
+    let target = request.target;
+    if target.handler != handler {
+        store.fail(Cause::ForeignObject);
+        return Ok(Want::Continue);
+    }
+    if store.class_of(target.number).is_none() {
+        store.fail(Cause::BadCode);
+        return Ok(Want::Continue);
+    }
+    let version = version_in(store.program(), target.class, name);
+    call_version(store, request, version)
+}
+
+// ---- a creation
+
+/// An object is made, and the routine of the number entered on it, if one is given. Err where there is no memory;
+/// nothing has changed then.
+fn bear(store: &mut Store<'_>, request: &Request, routine: Option<usize>) -> Result<(), AllocError>
+    ensures ok { OnOk result (store.new ≡ born_by routine request.now store.old) }
+    ensures err { OnErr result (store.new ≡ store.old) }
+{
+    match routine {
+        Some(routine) => { store.birth_with(request.target, routine, request.actuals.as_slice()) }
+        None => {
+            store.birth(request.target.class)?;
+            store.fail(Cause::BadCode);
+            Ok(())
+        }
+    }
+}
+
+/// An object is made by the procedure of the number, or without one. Err where there is no memory; nothing has changed
+/// then.
+fn make(
+    store: &mut Store<'_>,
+    request: &Request,
+    procedure: Option<u32>,
+) -> Result<Want, AllocError>
+    ensures ok { OnOk result (store.new ≡ taken_creation procedure request.now store.old) }
+    ensures want { IfOk result (λ asked. asked ≡ asks_creation procedure store.new) }
+    ensures err { OnErr result (store.new ≡ store.old) }
+{
+    match procedure {
+        None => {
+            store.birth(request.target.class)?;
+            Ok(done(None))
+        }
+        Some(name) => {
+            let routine = routine_of(store.program(), request.target.class, name as usize);
+            bear(store, request, routine)?;
+            Ok(want_beginning(store))
+        }
+    }
+}
+
+// ---- requests
+
+/// The handler takes the request. Err where there is no memory; nothing has changed then.
+fn take_errand(store: &mut Store<'_>, handler: u16, request: &Request) -> Result<Want, AllocError>
+    ensures ok { OnOk result (store.new ≡ taken handler request.now store.old) }
+    ensures want { IfOk result (λ asked. asked ≡ asks_taking handler request.now store.old store.new) }
+    ensures err { OnErr result (store.new ≡ store.old) }
+{
+    match request.errand {
+        Errand::Calls(name) => call(store, handler, request, name as usize),
+        Errand::Makes(procedure) => make(store, request, procedure),
+    }
+}
+
+/// The handler takes the request. A call: F14 where the target is an object of another handler, F16 where there is no
+/// such object or feature; an attribute is answered at once, F7 where it is unset; a routine is entered, F16 and F11 as
+/// in [`Store::push`]. A creation: F1 where the object breaks its invariant; F16 and F11 as in [`Store::birth_with`].
+/// Err where there is no memory; nothing has changed then.
+pub fn take(store: &mut Store<'_>, handler: u16, request: &Request) -> Result<Want, AllocError>
+    ensures ok { IfOk result (λ asked. Becomes (taken handler request.now store.old) (asks_taking handler request.now store.old store.new) store.new asked) }
+    ensures err { OnErr result (store.new ≡ store.old) }
+{
+    let asked = take_errand(store, handler, request)?;
+    Ok(unless_failed(store, asked))
+}

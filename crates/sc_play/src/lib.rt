@@ -1,0 +1,14 @@
+//! Turns of one handler.
+//!
+//! A [`Region`] is the store of a handler, with its number. It plays the turns of a [`Job`](sc_region::Job).
+#![tactic(auto)]
+
+mod acts;
+mod beginning;
+mod jobs;
+mod region;
+mod steps;
+mod turn;
+mod versions;
+
+pub use region::Region;

@@ -1,0 +1,133 @@
+//! Regions.
+ghost use Rattle.std.specs.Prelude.{◌≡◌, ◌<◌, ◌≤◌, IfOk, OnErr, IsTrue};
+ghost use Rattle.sc_region.specs.declared.job.Want.TheVariants as want;
+ghost use Rattle.sc_play.specs.Regions.{PlaysOn};
+
+use crate::turn::{first_turn, turn};
+use sc_code::Program;
+use sc_region::{Job, Outcome, Store, Want};
+use std::alloc::{AllocError, Global};
+use std::marker::Model;
+
+/// The store of a handler, with the handler's number.
+#[derive(Drop)]
+pub struct Region<'p> {
+    store: Store<'p>,
+    handler: u16,
+    /// A job whose turn was refused memory has told the creator of a handler its number.
+    is_told: bool,
+}
+
+impl<'p> Model for Region<'p> {
+    ghost use Rattle.std.specs.Coded.{codes};
+    ghost use Rattle.sc_formula.specs.contracts.formula.Formula as formula;
+    ghost use Rattle.sc_formula.specs.contracts.term.Term as term;
+    ghost use Rattle.sc_play.specs.Regions as m;
+
+    ghost Value = { m.PlainRegion };
+
+    ghost coded = { Prim.hlevel (codes, term.the_row.coded, formula.the_row.coded) };
+
+    ghost view = { λ r. record { handler = r.handler; store = r.store; is_told = r.is_told } };
+}
+
+/// Whether nothing is asked.
+fn is_continue(asked: &Want) -> bool
+    ensures { IsTrue result → asked.now ≡ want.Continue }
+{
+    matches!(asked, Want::Continue)
+}
+
+/// Further turns, as long as nothing is asked and fewer than `limit` are made: how many turns are made then, with the one
+/// that asked `first`, and what the last of them asks. Where memory is refused, they end before that turn.
+fn play_on(store: &mut Store<'_>, handler: u16, limit: u32, first: Want) -> (u32, Want)
+    requires { 1 ≤ limit }
+    ensures { PlaysOn limit handler store.old first store.new result.0 result.1 }
+{
+    let mut asked = first;
+    for turns in 1..limit {
+        if !is_continue(&asked) {
+            return (turns, asked);
+        }
+        match turn(store, handler) {
+            Ok(next) => asked = next,
+            Err(_) => return (turns, Want::Continue),
+        }
+    }
+    (limit, asked)
+}
+
+impl<'p> Region<'p> {
+    ghost use Rattle.std.specs.Prelude.{◌↔◌, ◌&&◌, is_some, length};
+    ghost use Rattle.sc_region.specs.Classes.{MeetsAt};
+    ghost use Rattle.sc_region.specs.Objects.{object_numbered};
+    ghost use Rattle.sc_region.specs.Stores.{is_settled};
+    ghost use Rattle.sc_play.specs.Regions.{IsRefused, Plays, new_region};
+
+    /// The region of the handler of a number, which was asked for nothing yet. What grows later takes its memory from this
+    /// allocator.
+    pub fn new(alloc: Global, program: &'p Program, handler: u16) -> Region<'p>
+        ensures { result ≡ new_region program.now.image handler }
+    {
+        Region {
+            store: Store::new(alloc, program),
+            handler,
+            is_told: false,
+        }
+    }
+
+    /// The first turn is that of the job; further ones follow as long as nothing is asked and fewer than `limit` are made.
+    /// Where memory is refused to one of these, they end before it. Err where memory is refused to the first: the job can be
+    /// played again then, and goes on where it stopped.
+    pub fn play(&mut self, job: &Job, limit: u32) -> Result<Outcome, AllocError>
+        requires { 1 ≤ limit }
+        ensures ok { IfOk result (λ outcome. Plays limit job.now self.old self.new outcome) }
+        ensures err { OnErr result (IsRefused job.now self.old self.new) }
+    {
+        match first_turn(&mut self.store, self.handler, job, self.is_told) {
+            Ok(asked) => {
+                self.is_told = false;
+                let (turns, want) = play_on(&mut self.store, self.handler, limit, asked);
+                Ok(Outcome {
+                    handler: self.handler,
+                    turns,
+                    want,
+                })
+            }
+            Err(error) => {
+                self.is_told = self.is_told || matches!(job, Job::Made(_));
+                Err(error)
+            }
+        }
+    }
+
+    /// Whether there is an object of the number, and it is settled: the handler hasn't failed, and no routine that it is in
+    /// the middle of runs on the object. It meets its class invariant then.
+    pub fn settled(&self, number: u32) -> bool
+        ensures settled { result ≡ (is_settled number self.now.store && is_some (object_numbered number self.now.store.objects)) }
+        ensures meets { IsTrue result → MeetsAt self.now.store.program (object_numbered number self.now.store.objects) }
+    {
+        self.store.settled(number)
+    }
+
+    /// Whether there is an object of the number, and it meets its class invariant.
+    pub fn test_invariant(&self, number: u32) -> bool
+        ensures { IsTrue result ↔ MeetsAt self.now.store.program (object_numbered number self.now.store.objects) }
+    {
+        self.store.test_invariant(number)
+    }
+
+    /// What was printed.
+    pub fn output(&self) -> &[u8]
+        ensures { result.now ≡ self.now.store.output }
+    {
+        self.store.output()
+    }
+
+    /// How many objects there are.
+    pub fn object_count(&self) -> usize
+        ensures { result ≡ length self.now.store.objects }
+    {
+        self.store.object_count()
+    }
+}
