@@ -1,0 +1,4 @@
+mod Fine
+mod Granting
+mod Linking
+mod Reaching
