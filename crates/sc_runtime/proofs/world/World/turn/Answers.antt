@@ -1,0 +1,58 @@
+use Rattle.std.proofs.Common.{◌≡◌, ◌<◌, Option, Some, None, inl, length, ap, sym, subst, ◌∙◌, arith}
+use Rattle.sc_lockpass.specs.Versions.{most_handlers}
+use Rattle.sc_request.specs.Cores.{center_of}
+use Rattle.sc_request.specs.Logs.{pick_for, picked}
+use Rattle.std.proofs.lemmas.Option.{slice_get_read}
+use Rattle.sc_runtime.proofs.Outs.{picked-out, turn-none, turn-some, refused-some, none-picked, some-picked, world-is, moved-by, nothing-by, makes, held-up, on-err}
+use Rattle.sc_runtime.proofs.world.World.turn.Goals as goal
+
+pub play-requires-clause-out : goal.play-requires-clause-out
+play-requires-clause-out c =
+    let job = sym c.in-Some.is ∙ c.pick_at.ensures.job in
+    picked-out c.args.handler c.in-Some.job (center_of c.make_room.new.self) (center_of c.pick_at.new.self)
+    (some-picked c.args.handler c.in-Some.job (center_of c.make_room.new.self) (center_of c.pick_at.new.self) job c.pick_at.ensures.center)
+
+pub play-requires-clause-room : goal.play-requires-clause-room
+play-requires-clause-room c = c.pick_at.ensures.room 0 c.in_ok-make_room.ensures.room
+
+pub returns-in_err-play-in-Some-clause-err : goal.returns-in_err-play-in-Some-clause-err
+returns-in_err-play-in-Some-clause-err c =
+    let room = c.in_ok-make_room.ensures.center in
+    let job = sym c.in-Some.is ∙ c.pick_at.ensures.job in
+    let out = some-picked c.args.handler c.in-Some.job (center_of c.make_room.new.self) (center_of c.pick_at.new.self) job c.pick_at.ensures.center in
+    let count : 512 ≡ length c.args.self.now.regions.items = omega (arith, c.args.self.now.places, c.args.self.now.regions.ok.0) in
+    let stands = slice_get_read c.args.self.now.regions.items 512 c.args.handler c.index_mut-region.result.now count c.in-Some.ensures.below c.index_mut-region.ensures.value in
+    let version = c.pick_at.ensures.version ∙ c.in_ok-make_room.ensures.version in
+    on-err c.from_residual-in_err-play-in-Some.result _
+    (refused-some c.args.handler c.in-Some.job _ _ (job ∙ ap (pick_for c.args.handler) room)
+    (held-up c.args.handler c.in-Some.job _ _ _ _ _ _ _ _ stands (ap most_handlers (c.in_err-play-in-Some.ensures.version ∙ version))
+    (out ∙ ap (picked c.args.handler c.in-Some.job) room) c.in_err-play-in-Some.ensures.err))
+
+pub returns-in_ok-play-in-Some-clause-ok : goal.returns-in_ok-play-in-Some-clause-ok
+returns-in_ok-play-in-Some-clause-ok c =
+    let room = c.in_ok-make_room.ensures.center in
+    let job = sym c.in-Some.is ∙ c.pick_at.ensures.job in
+    let out = some-picked c.args.handler c.in-Some.job (center_of c.make_room.new.self) (center_of c.pick_at.new.self) job c.pick_at.ensures.center in
+    let count : 512 ≡ length c.args.self.now.regions.items = omega (arith, c.args.self.now.places, c.args.self.now.regions.ok.0) in
+    let stands = slice_get_read c.args.self.now.regions.items 512 c.args.handler c.index_mut-region.result.now count c.in-Some.ensures.below c.index_mut-region.ensures.value in
+    let version = c.pick_at.ensures.version ∙ c.in_ok-make_room.ensures.version in
+    turn-some c.args.handler c.in-Some.job _ _ (job ∙ ap (pick_for c.args.handler) room)
+    (makes c.args.handler c.in-Some.job _ _ _ _ _ _ _ _ _ _ stands (ap most_handlers version)
+    (ap most_handlers (c.in_ok-play-in-Some.ensures.version ∙ version)) (out ∙ ap (picked c.args.handler c.in-Some.job) room)
+    c.in_ok-play-in-Some.ensures.ok)
+
+pub returns-in_ok-play-in-Some-clause-turned : goal.returns-in_ok-play-in-Some-clause-turned
+returns-in_ok-play-in-Some-clause-turned c =
+    moved-by _ c.in-Some.job (sym c.in-Some.is ∙ c.pick_at.ensures.job ∙ ap (pick_for c.args.handler) c.in_ok-make_room.ensures.center)
+
+pub returns-in-None-clause-ok : goal.returns-in-None-clause-ok
+returns-in-None-clause-ok c =
+    let room = c.in_ok-make_room.ensures.center in
+    let none = sym c.in-None.is ∙ c.pick_at.ensures.job in
+    let kept = none-picked c.args.handler (center_of c.make_room.new.self) (center_of c.pick_at.new.self) none c.pick_at.ensures.center in
+    turn-none c.args.handler _ _ (none ∙ ap (pick_for c.args.handler) room)
+    (world-is _ _ _ _ _ (ap most_handlers (c.pick_at.ensures.version ∙ c.in_ok-make_room.ensures.version)) (kept ∙ room))
+
+pub returns-in-None-clause-turned : goal.returns-in-None-clause-turned
+returns-in-None-clause-turned c =
+    nothing-by _ (sym c.in-None.is ∙ c.pick_at.ensures.job ∙ ap (pick_for c.args.handler) c.in_ok-make_room.ensures.center)

@@ -1,0 +1,62 @@
+-- Turns of a world.
+use Rattle.std.specs.Prelude.{◌≡◌, ◌⊎◌, ℕ, Option, Some, None, slice_get, slice_set}
+use Rattle.sc_region.specs.declared.job.Job.{Job}
+use Rattle.sc_region.specs.declared.job.Outcome.{Outcome}
+use Rattle.sc_request.specs.Logs.{Center, pick_for, picked, put_back, settles}
+use Rattle.sc_play.specs.Regions.{PlainRegion, Plays, IsRefused}
+use Rattle.sc_runtime.specs.declared.world.Turned.{Turned}
+use Rattle.sc_runtime.specs.declared.world.Turned.TheVariants.{Moved, Nothing}
+use Rattle.sc_runtime.specs.Worlds.{PlainWorld}
+
+-- The handler, which is out with the job, plays so many turns under it, at most the limit, and what they come to is settled.
+pub record Settles (limit h : ℕ) (j : Job) (turns most : ℕ) (c d : Center) (x y : PlainRegion) : Type 0 where
+  pub outcome : Outcome
+  pub count : outcome.turns ≡ turns
+  pub plays : Plays limit j x y outcome
+  pub center : d ≡ settles most h j turns outcome.want c
+
+-- Memory was refused to its first turn. It is put back, and at most silent operations of its region are done.
+pub record PutsBack (h : ℕ) (j : Job) (c d : Center) (x y : PlainRegion) : Type 0 where
+  pub refused : IsRefused j x y
+  pub center : d ≡ put_back h c
+
+-- The handler is picked with the job, plays so many turns under it, and is settled. All other regions stay as they are.
+pub record Makes (limit h : ℕ) (j : Job) (turns : ℕ) (x y : PlainWorld) : Type 0 where
+  pub before : PlainRegion
+  pub after : PlainRegion
+  pub stands : slice_get x.regions h ≡ Some before
+  pub settles : Settles limit h j turns x.most (picked h j x.center) y.center before after
+  pub regions : y.regions ≡ slice_set x.regions h after
+  pub most : y.most ≡ x.most
+
+-- The handler is picked with the job, memory is refused to its turn, and it is put back.
+pub record IsHeldUp (h : ℕ) (j : Job) (x y : PlainWorld) : Type 0 where
+  pub before : PlainRegion
+  pub after : PlainRegion
+  pub stands : slice_get x.regions h ≡ Some before
+  pub put_back : PutsBack h j (picked h j x.center) y.center before after
+  pub regions : y.regions ≡ slice_set x.regions h after
+  pub most : y.most ≡ x.most
+
+-- ---- the turn of a handler
+
+-- With something to do it makes a turn; without, nothing changes.
+abbrev pub TurnsUnder : ℕ → Option Job → PlainWorld → PlainWorld → Type 0
+TurnsUnder h None x y = y ≡ x
+TurnsUnder h (Some j) x y = Makes 1 h j 1 x y
+
+-- the turn of the handler of the number, if it has one
+abbrev pub IsTurn : ℕ → PlainWorld → PlainWorld → Type 0
+IsTurn h x y = TurnsUnder h (pick_for h x.center) x y
+
+abbrev pub turned_by : Option Job → Turned
+turned_by None = Nothing
+turned_by (Some j) = Moved
+
+abbrev pub HeldUpUnder : ℕ → Option Job → PlainWorld → PlainWorld → Type 0
+HeldUpUnder h None x y = y ≡ x
+HeldUpUnder h (Some j) x y = IsHeldUp h j x y
+
+-- Memory was refused to the turn of the handler: nothing has changed, or only what its own silent operations change.
+abbrev pub IsRefusedTurn : ℕ → PlainWorld → PlainWorld → Type 0
+IsRefusedTurn h x y = (y ≡ x) ⊎ HeldUpUnder h (pick_for h x.center) x y

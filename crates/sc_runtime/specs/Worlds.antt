@@ -1,0 +1,32 @@
+-- What a world is to its callers, and how it opens.
+use Rattle.std.specs.Prelude.{ℕ, zero, suc, min, List, [], ◌∷◌}
+use Rattle.sc_lockpass.specs.declared.version.Version.{Version}
+use Rattle.sc_lockpass.specs.Versions.{most_handlers}
+use Rattle.sc_code.specs.declared.program.Image.{Image}
+use Rattle.sc_request.specs.Logs as core
+use Rattle.sc_request.specs.Logs.{Center, root_of}
+use Rattle.sc_play.specs.Regions.{PlainRegion, new_region}
+
+-- the center of the core, where there may be so many handlers, and the region of each handler, with regions for others
+pub record PlainWorld : Type 0 where
+  pub most : ℕ
+  pub center : Center
+  pub regions : List PlainRegion
+
+-- ---- how it opens
+
+-- new regions of so many handlers, from this number on
+abbrev pub new_regions : Image → ℕ → ℕ → List PlainRegion
+new_regions p h zero = []
+new_regions p h (suc n) = new_region p h ∷ new_regions p (suc h) n
+
+abbrev pub max_handlers : ℕ
+max_handlers = 512
+
+-- A program has at most 256 classes, and fewer names than 2^32.
+abbrev pub opened : Image → Version → PlainWorld
+opened p v = record {
+  most = most_handlers v;
+  center = core.opened (most_handlers v) (root_of (min p.root_class 255) (min p.root_procedure 4294967295));
+  regions = new_regions p 0 max_handlers;
+}

@@ -1,0 +1,11 @@
+//! The world of many handlers: their turns, one after the other, and what they leave.
+//!
+//! [`World`] has the core and a region for each handler. A turn is picked from the core, played by the handler's region and
+//! settled in the core.
+#![tactic(auto)]
+
+mod report;
+mod world;
+
+pub use report::code_of;
+pub use world::{Turned, World};

@@ -1,0 +1,260 @@
+//! The world, and its turns.
+ghost use Rattle.std.specs.Prelude.{◌≡◌, ◌≤◌, IfOk, OnErr, OnOk, Some, vec_len};
+ghost use Rattle.sc_lockpass.specs.Versions.{most_handlers};
+ghost use Rattle.sc_request.specs.Cores.{center_of};
+ghost use Rattle.sc_request.specs.Rooms.{HasRoomFor};
+ghost use Rattle.sc_request.specs.Logs as core;
+ghost use Rattle.sc_runtime.specs.Turning.{IsRefusedTurn, IsTurn, PutsBack, Settles, turned_by};
+ghost use Rattle.sc_runtime.specs.Worlds.{opened};
+
+use crate::report::{push_end, push_handler};
+use sc_code::Program;
+use sc_lockpass::Version;
+use sc_model::Status;
+use sc_play::Region;
+use sc_region::{Job, Outcome};
+use sc_request::Core;
+use std::alloc::{AllocError, Global};
+
+/// What a step of the world did.
+#[derive(Clone, Copy, Debug, PartialEq, Eq)]
+pub enum Turned {
+    /// The handler made a turn.
+    Moved,
+    /// There is no such handler, or it has nothing to do.
+    Nothing,
+}
+
+/// How many handlers there may be in any version.
+const MAX_HANDLERS: u16 = 512;
+
+/// A world of handlers, of which number 0 begins with the creation of the root object.
+#[derive(Drop)]
+pub struct World<'p> {
+    alloc: Global,
+    core: Core,
+    /// The region of each handler by number, and places for those that there may be.
+    regions: Vec<Region<'p>>,
+    ghost places: { vec_len regions ≡ 512 },
+}
+
+impl<'p> World<'p> {
+    ghost use Rattle.sc_request.specs.Logs.{pick_for};
+    ghost use Rattle.sc_runtime.specs.Views.{world_of};
+
+    /// The world of a program at its opening, where there may be as many handlers as the version has. What grows later
+    /// takes its memory from this allocator.
+    ///
+    /// # Errors
+    /// Where there is no memory.
+    pub fn open(
+        alloc: Global,
+        program: &'p Program,
+        version: Version,
+    ) -> Result<World<'p>, AllocError> {
+        Ok(World {
+            alloc,
+            core: open_core(alloc, program, version)?,
+            regions: regions(alloc, program)?,
+        })
+    }
+
+    /// The turn of one handler: its silent steps, up to and with the next visible one.
+    ///
+    /// # Errors
+    /// Where there is no memory. Then nothing has changed.
+    pub fn turn(&mut self, handler: u16) -> Result<Turned, AllocError>
+        ensures ok { OnOk result (IsTurn handler (world_of self.old) (world_of self.new)) }
+        ensures turned { IfOk result (λ turned. turned ≡ turned_by (pick_for handler (world_of self.old).center)) }
+        ensures err { OnErr result (IsRefusedTurn handler (world_of self.old) (world_of self.new)) }
+    {
+        self.core.make_room()?;
+        match self.core.pick_at(handler) {
+            Some(job) => {
+                let region = &mut self.regions[handler as usize];
+                play(&mut self.core, region, handler, &job, 1)?;
+                Ok(Turned::Moved)
+            }
+            None => Ok(Turned::Nothing),
+        }
+    }
+
+    /// The turns of the handlers, one after the other.
+    ///
+    /// # Errors
+    /// Where there is no memory. Then the world stands after the turns before.
+    pub fn turns(&mut self, handlers: &[u16]) -> Result<(), AllocError> {
+        let (_, result) = self.turns_until(handlers);
+        result
+    }
+
+    /// The turns of the handlers, one after the other, as far as there is memory: how many of the handlers had theirs,
+    /// all of them where that is Ok.
+    pub fn turns_until(&mut self, handlers: &[u16]) -> (usize, Result<(), AllocError>) {
+        for (count, handler) in handlers.iter().enumerate() {
+            if self.turn(*handler).is_err() {
+                return (count, Err(AllocError));
+            }
+        }
+        (handlers.len(), Ok(()))
+    }
+
+    /// So many turns of one handler. Once it has nothing to do, the others would change nothing, and are left out.
+    ///
+    /// # Errors
+    /// Where there is no memory. Then the world stands after the turns before.
+    pub fn turns_of(&mut self, handler: u16, count: u32) -> Result<(), AllocError> {
+        for _ in 0..count {
+            if self.turn(handler)? == Turned::Nothing {
+                break;
+            }
+        }
+        Ok(())
+    }
+
+    /// A turn of each handler, in order of number and round and round, until none has anything to do or so many turns are
+    /// made. It begins behind the handler that made the last turn.
+    ///
+    /// # Errors
+    /// Where there is no memory. Then the world stands after the turns before.
+    pub fn rounds(&mut self, limit: u32) -> Result<(), AllocError> {
+        let mut left = limit;
+        for _ in 0..limit {
+            if left == 0 {
+                break;
+            }
+            let turns = self.next_turns(left)?;
+            if turns == 0 {
+                break;
+            }
+            left = left.saturating_sub(turns);
+        }
+        Ok(())
+    }
+
+    /// The next handler that has something to do makes a turn; or as many as this, where it is the only handler. Answers
+    /// how many.
+    fn next_turns(&mut self, limit: u32) -> Result<u32, AllocError>
+        requires { 1 ≤ limit }
+    {
+        self.core.make_room()?;
+        let most = if self.core.handler_count() == 1 {
+            limit
+        } else {
+            1
+        };
+        match self.core.pick() {
+            Some((handler, job)) => {
+                let region = &mut self.regions[handler as usize];
+                play(&mut self.core, region, handler, &job, most)
+            }
+            None => Ok(0),
+        }
+    }
+
+    /// How many handlers there are.
+    pub fn handler_count(&self) -> usize
+        ensures { result ≡ (world_of self.now).center.state.count }
+    {
+        self.core.handler_count()
+    }
+
+    /// How a handler stands, or None where there is no such handler.
+    pub fn status(&self, handler: u16) -> Option<Status>
+        ensures { result ≡ core.status_for handler (world_of self.now).center }
+    {
+        self.core.status(handler)
+    }
+
+    /// How each handler stands, in order of number.
+    ///
+    /// # Errors
+    /// Where there is no memory.
+    pub fn statuses(&self) -> Result<Vec<Status>, AllocError> {
+        let mut statuses = Vec::new(self.alloc);
+        for handler in 0..self.core.handler_count() {
+            if let Some(status) = self.core.status(handler as u16) {
+                statuses.push(status)?;
+            }
+        }
+        Ok(statuses)
+    }
+
+    /// Each handler's line and output, and how the run has ended.
+    ///
+    /// # Errors
+    /// Where there is no memory.
+    pub fn report(&self) -> Result<Vec<u8>, AllocError> {
+        let mut report = Vec::new(self.alloc);
+        let mut is_busy = false;
+        for handler in 0..self.core.handler_count() {
+            let Some(status) = self.core.status(handler as u16) else {
+                break;
+            };
+            let refused = self.core.refused(handler as u16).unwrap_or(0);
+            let output = self.regions[handler].output();
+            push_handler(self.alloc, &mut report, handler, status, refused, output)?;
+            is_busy = is_busy || status == Status::Busy;
+        }
+        push_end(&mut report, is_busy)?;
+        Ok(report)
+    }
+}
+
+/// The core of a program, which has at most 256 classes.
+fn open_core(alloc: Global, program: &Program, version: Version) -> Result<Core, AllocError>
+    ensures center { IfOk result (λ c. center_of c ≡ (opened program.now.image version).center) }
+    ensures version { IfOk result (λ c. c.state.rights.version ≡ version) }
+{
+    let class = program.root_class().min(u8::MAX as usize);
+    let procedure = program.root_procedure().min(u32::MAX as usize);
+    Core::opening(alloc, class as u8, procedure as u32, version)
+}
+
+/// A region for each handler that there may be.
+fn regions<'p>(alloc: Global, program: &'p Program) -> Result<Vec<Region<'p>>, AllocError>
+    ensures { IfOk result (λ regions. vec_len regions ≡ 512) }
+{
+    let mut regions = Vec::with_capacity(alloc, MAX_HANDLERS as usize)?;
+    for handler in 0..MAX_HANDLERS {
+        regions.push(Region::new(alloc, program, handler))?;
+    }
+    Ok(regions)
+}
+
+/// The handler, which is out with this job, plays at most so many turns under it, and is settled: how many it played. Err
+/// where there is no memory: it is put back.
+fn play(
+    core: &mut Core,
+    region: &mut Region<'_>,
+    handler: u16,
+    job: &Job,
+    limit: u32,
+) -> Result<u32, AllocError>
+    requires some { 1 ≤ limit }
+    requires out { (center_of core.old).out handler ≡ Some job.now }
+    requires room { HasRoomFor 0 core.old }
+    ensures ok { IfOk result (λ turns.
+        Settles limit handler job.now turns (most_handlers core.old.state.rights.version) (center_of core.old) (center_of core.new) region.old region.new) }
+    ensures err { OnErr result (PutsBack handler job.now (center_of core.old) (center_of core.new) region.old region.new) }
+    ensures version { core.new.state.rights.version ≡ core.old.state.rights.version }
+{
+    let Ok(outcome) = region.play(job, limit) else {
+        core.put_back(handler);
+        return Err(AllocError);
+    };
+    let Outcome {
+        handler: _,
+        turns,
+        want,
+    } = outcome;
+    let settled = core.settle(Outcome {
+        handler,
+        turns,
+        want,
+    });
+    if settled.is_err() {
+        unreachable!();
+    }
+    Ok(turns)
+}
