@@ -99,7 +99,7 @@ fn other_feature(class: &Class, name: &str, span: Span) -> Option<Span> {
 }
 
 /// The last feature that begins no later than the span.
-fn feature_around(class: &Class, span: Span) -> Option<&Feature> {
+pub fn feature_around(class: &Class, span: Span) -> Option<&Feature> {
     let mut around = None;
     for feature in class.features.iter() {
         if feature.name.span.start <= span.start {

@@ -2,10 +2,13 @@
 
 use crate::declared::other_declaration;
 use crate::expected::expected;
-use crate::nearest::nearest;
+use crate::nearest::nearest_class;
 use crate::open::open_construct;
 use crate::reading::system_of;
+use crate::scope::{part_of, push_quoted};
 use crate::sentences::sentence_of;
+use crate::told::Refused;
+use sc_class::Root;
 use sc_text::Span;
 use std::alloc::{AllocError, Global};
 
@@ -23,8 +26,8 @@ pub struct Diagnosis {
     pub related: Option<Related>,
 }
 
-/// What is said of the refusal of this code, of this part of a text: a sentence, and a line that begins with `help: `
-/// where something helps. Of a code that isn't known nothing is said.
+/// What is said of the refusal of this code, of this part of a text that is run from this root: a sentence, and a line that
+/// begins with `help: ` where something helps. Of a code that isn't known nothing is said.
 ///
 /// # Errors
 ///
@@ -32,6 +35,7 @@ pub struct Diagnosis {
 pub fn diagnose(
     alloc: Global,
     text: &str,
+    root: &Root,
     code: &str,
     span: Option<Span>,
 ) -> Result<Diagnosis, AllocError> {
@@ -42,8 +46,24 @@ pub fn diagnose(
     let Some(sentence) = sentence_of(code) else {
         return Ok(diagnosis);
     };
+    if let Some(span) = span {
+        let refused = Refused {
+            text,
+            root,
+            code,
+            span,
+        };
+        if code.starts_with('V') && is_told(alloc, &mut diagnosis.lines, refused)? {
+            return Ok(diagnosis);
+        }
+    }
     let part = span.map_or("", |span| part_of(text, span));
-    push_sentence(&mut diagnosis.lines, sentence.text, part)?;
+    let said = if code == "V7" && part.eq_ignore_ascii_case("result") {
+        "# stands in a function alone"
+    } else {
+        sentence.text
+    };
+    push_sentence(&mut diagnosis.lines, said, part)?;
     if !sentence.help.is_empty() {
         push_help(&mut diagnosis.lines, sentence.help, part)?;
     }
@@ -51,6 +71,14 @@ pub fn diagnose(
         add_more(alloc, &mut diagnosis, text, code, span)?;
     }
     Ok(diagnosis)
+}
+
+/// Adds what the classes tell of the refusal by a rule, and whether there is something.
+fn is_told(alloc: Global, lines: &mut String, refused: Refused<'_>) -> Result<bool, AllocError> {
+    match system_of(alloc, refused.text)? {
+        None => Ok(false),
+        Some(system) => refused.push_told(alloc, lines, &system),
+    }
 }
 
 /// What can be said of some codes alone.
@@ -74,22 +102,12 @@ fn add_more(
         }
         "V1" => {
             if let Some(system) = system_of(alloc, text)? {
-                nearest(&mut diagnosis.lines, &system, part_of(text, span))?;
+                nearest_class(&mut diagnosis.lines, text, &system, part_of(text, span))?;
             }
         }
         _ => {}
     }
     Ok(())
-}
-
-/// The text of a part, where it is a short one on one line; else nothing.
-fn part_of(text: &str, span: Span) -> &str {
-    let part = text.get(span.start..span.end).unwrap_or("");
-    if part.len() > 60 || part.contains('\n') {
-        ""
-    } else {
-        part
-    }
 }
 
 /// Adds a sentence with the part of the text in quotes at its `#`.
@@ -98,20 +116,11 @@ fn push_sentence(lines: &mut String, text: &str, part: &str) -> Result<(), Alloc
         None => lines.push_str(text)?,
         Some((before, after)) => {
             lines.push_str(before)?;
-            push_part(lines, part)?;
+            push_quoted(lines, part)?;
             lines.push_str(after)?;
         }
     }
     lines.push('\n')
-}
-
-fn push_part(lines: &mut String, part: &str) -> Result<(), AllocError> {
-    if part.is_empty() {
-        return lines.push_str("this");
-    }
-    lines.push('`')?;
-    lines.push_str(part)?;
-    lines.push('`')
 }
 
 /// Adds what helps, with the part of the text at its `#`.

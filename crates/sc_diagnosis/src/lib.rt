@@ -10,6 +10,13 @@ mod expected;
 mod nearest;
 mod open;
 mod reading;
+mod remark;
+mod remark_text;
+mod scope;
 mod sentences;
+mod site;
+mod told;
+mod types;
+mod walk;
 
 pub use diagnosis::{Diagnosis, Related, diagnose};

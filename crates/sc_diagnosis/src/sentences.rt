@@ -92,7 +92,7 @@ const SENTENCES: &[Sentence] = &[
     },
     Sentence {
         code: "V1",
-        text: "nothing that is known here has the name #",
+        text: "nothing that may stand here has the name #",
         help: "",
     },
     Sentence {

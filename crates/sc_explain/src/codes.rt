@@ -6,13 +6,14 @@ ghost use Rattle.sc_explain.specs.Page.{IsPageOf};
 use crate::classes::CLASSES;
 use crate::failures::FAILURES;
 use crate::grammar::GRAMMAR;
+use crate::records::RECORDS;
 use crate::rules::RULES;
 use crate::text::TEXT;
 use std::alloc::{AllocError, Global};
 
 /// The pages in groups, in the order in which what they tell of is looked for.
-fn groups() -> [&'static [&'static str]; 5] {
-    [TEXT, GRAMMAR, CLASSES, RULES, FAILURES]
+fn groups() -> [&'static [&'static str]; 6] {
+    [TEXT, GRAMMAR, CLASSES, RULES, RECORDS, FAILURES]
 }
 
 /// The page of this code or this name, in any letter case.

@@ -152,16 +152,16 @@ from handler to handler to all that wait.
 "#,
     r#"F9 TooManyHandlers
 
-A run would have more than 64 handlers.
+A run would have more than 512 handlers; where a record of version 1 is
+replayed, more than 64.
 
 This fails by F9:
 
     class APPLICATION create make
     feature
-        a: separate APPLICATION
         n: INTEGER
         w: separate WORKER
-        make do from until n = 64 loop create w n := n + 1 end end
+        make do from until n = 512 loop create w n := n + 1 end end
     end
     class WORKER end
 
@@ -169,10 +169,9 @@ This doesn't:
 
     class APPLICATION create make
     feature
-        a: separate APPLICATION
         n: INTEGER
         w: separate WORKER
-        make do from until n = 63 loop create w n := n + 1 end end
+        make do from until n = 511 loop create w n := n + 1 end end
     end
     class WORKER end
 

@@ -9,6 +9,7 @@ mod classes;
 mod codes;
 mod failures;
 mod grammar;
+mod records;
 mod rules;
 mod text;
 

@@ -1,0 +1,208 @@
+// A sentence on one fault, with the types and names that are found in the checked tables.
+
+use crate::declared::feature_around;
+use crate::nearest::{nearest_entity, nearest_feature};
+use crate::remark::{Fault, Remark};
+use crate::scope::{Scope, part_of};
+use crate::site::{Aim, Kind, Site};
+use crate::walk::{in_clauses, in_routine};
+use sc_class::{ClassFault, ClassId, Root, Tables, tables};
+use sc_rules::Context;
+use sc_text::Span;
+use sc_tree::{Class, FeatureKind, Name, System};
+use sc_typing::{CheckFault, Entity, Purity, RoutineContext, result_type};
+use std::alloc::{AllocError, Global};
+
+/// A text that spells a system, and what is told of its refusal by a rule.
+#[derive(Clone, Copy)]
+pub struct Refused<'c> {
+    pub text: &'c str,
+    pub root: &'c Root,
+    pub code: &'c str,
+    pub span: Span,
+}
+
+impl<'c> Refused<'c> {
+    /// What is looked for, where more can be said of the rule.
+    fn aim(self) -> Option<Aim> {
+        let kind = match self.code {
+            "V1" | "V2" | "V7" => Kind::Name,
+            "V3" => Kind::Actual,
+            "V4" => Kind::Assigned,
+            "V8" => Kind::Condition,
+            "V9" => Kind::Operation,
+            _ => return None,
+        };
+        let span = self.span;
+        Some(Aim { kind, span })
+    }
+
+    /// Adds a sentence on this very fault and what helps, and whether there is one.
+    pub fn push_told(
+        self,
+        alloc: Global,
+        lines: &mut String,
+        system: &System,
+    ) -> Result<bool, AllocError> {
+        let Some(aim) = self.aim() else {
+            return Ok(false);
+        };
+        // Every class has `print`: where it isn't known it stands in a place that no class gives it.
+        if self.code == "V1" && part_of(self.text, self.span).eq_ignore_ascii_case("print") {
+            return Ok(false);
+        }
+        let tables = match tables(alloc, system, self.root) {
+            Ok(tables) => tables,
+            Err(ClassFault::OutOfMemory) => return Err(AllocError),
+            Err(_) => return Ok(false),
+        };
+        match self.push_found(alloc, lines, &tables, aim) {
+            Ok(is_told) => Ok(is_told),
+            Err(CheckFault::OutOfMemory) => Err(AllocError),
+            Err(_) => Ok(false),
+        }
+    }
+
+    /// Adds what is told of the part that is aimed at, where it is found.
+    fn push_found(
+        self,
+        alloc: Global,
+        lines: &mut String,
+        tables: &Tables<'_>,
+        aim: Aim,
+    ) -> Result<bool, CheckFault> {
+        let Some((number, class)) = class_around(tables, self.span) else {
+            return Ok(false);
+        };
+        let purity = Purity::NotAsked;
+        let mut names = Vec::new(alloc);
+        if let Some(feature) = feature_around(class, self.span) {
+            if let FeatureKind::Routine(text) = &feature.kind {
+                let routine = RoutineContext {
+                    alloc,
+                    tables,
+                    class: number,
+                    formals: &text.formals,
+                    result: result_type(tables, &text.result_type),
+                    purity: &purity,
+                };
+                if let Some(site) = in_routine(&routine, aim, &mut names, text)? {
+                    return self.push_at(lines, &routine, &mut names, site);
+                }
+                names.truncate(0);
+            }
+        }
+        let routine = RoutineContext {
+            alloc,
+            tables,
+            class: number,
+            formals: &[],
+            result: None,
+            purity: &purity,
+        };
+        match in_clauses(aim, Context::Invariant, &class.invariant) {
+            None => self.push_creator(lines, &routine, class),
+            Some(site) => self.push_at(lines, &routine, &mut names, site),
+        }
+    }
+
+    /// Adds what is told of a name that the class lists under `create`.
+    fn push_creator(
+        self,
+        lines: &mut String,
+        routine: &RoutineContext<'_, '_>,
+        class: &Class,
+    ) -> Result<bool, CheckFault> {
+        if !is_among(self.span, &class.creators) {
+            return Ok(false);
+        }
+        let remark = match self.code {
+            "V1" => Remark::Lacking(ClassId::Declared(routine.class)),
+            _ => Remark::Creator,
+        };
+        let scope = Scope {
+            text: self.text,
+            routine,
+            names: &[],
+        };
+        self.push_lines(lines, scope, remark)?;
+        Ok(true)
+    }
+
+    /// Adds what is told of what stands there.
+    fn push_at<'s>(
+        self,
+        lines: &mut String,
+        routine: &RoutineContext<'_, 's>,
+        names: &mut Vec<Entity<'s>>,
+        site: Site<'s>,
+    ) -> Result<bool, CheckFault> {
+        let code = self.code;
+        let fault = Fault { routine, code };
+        let Some(remark) = fault.remark(names, site)? else {
+            return Ok(false);
+        };
+        let scope = Scope {
+            text: self.text,
+            routine,
+            names,
+        };
+        self.push_lines(lines, scope, remark)?;
+        Ok(true)
+    }
+
+    /// Adds a remark, and what helps.
+    fn push_lines(
+        self,
+        lines: &mut String,
+        scope: Scope<'_, '_, '_>,
+        remark: Remark<'_>,
+    ) -> Result<(), AllocError> {
+        scope.push_remark(lines, self.span, remark)?;
+        lines.push('\n')?;
+        self.push_nearest(lines, scope, remark)
+    }
+
+    /// Adds a name that is near to one that isn't known.
+    fn push_nearest(
+        self,
+        lines: &mut String,
+        scope: Scope<'_, '_, '_>,
+        remark: Remark<'_>,
+    ) -> Result<(), AllocError> {
+        let name = self.text.get(self.span.start..self.span.end).unwrap_or("");
+        let tables = scope.routine.tables;
+        let alloc = scope.routine.alloc;
+        match remark {
+            Remark::Unknown => {
+                if nearest_entity(lines, scope.names, name)? {
+                    return Ok(());
+                }
+                let own = ClassId::Declared(scope.routine.class);
+                nearest_feature(lines, &tables.features(alloc, own)?, name)
+            }
+            Remark::Lacking(class) => nearest_feature(lines, &tables.features(alloc, class)?, name),
+            _ => Ok(()),
+        }
+    }
+}
+
+/// Whether one of the names stands there.
+fn is_among(span: Span, names: &[Name]) -> bool {
+    for name in names {
+        if name.span == span {
+            return true;
+        }
+    }
+    false
+}
+
+/// The class in which a part of the text stands, with its number.
+fn class_around<'s>(tables: &Tables<'s>, span: Span) -> Option<(usize, &'s Class)> {
+    for (number, class) in tables.classes().iter().enumerate() {
+        if class.span.start <= span.start && span.start < class.span.end {
+            return Some((number, class));
+        }
+    }
+    None
+}
