@@ -10,7 +10,7 @@ use Rattle.sc_tree.specs.declared.expression.Call.{Call}
 use Rattle.sc_tree.specs.Plain.{Name}
 use Rattle.sc_tree.specs.View.{expr_of, target_of, exprs_of}
 use Rattle.sc_tree.proofs.ViewLemmas.{expr_of-call}
-use Rattle.sc_serve.specs.NotYet.{is_name, printed, is_runnable_expr}
+use Rattle.sc_serve.specs.Simple.{is_name, printed, is_simple_expr}
 
 some_left : (n : ℕ) → (suc n == 0) ≡ false
 some_left n = grind arith
@@ -42,6 +42,6 @@ module _ (t : Option (Box Expr Global)) (n : Name) (xs es : List Expr) (q : xs �
   several_printed l = several_printed_of t n es (subst (λ (es : List Expr). 1 < length es) q l)
 
 module _ (e : Expr) (k : Call) (q : e ≡ expr.Call k) where
-  pub is_runnable_expr-call : is_runnable_expr (expr_of e) ≡ is_name (target_of k.target) (exprs_of k.actuals.items)
-  unfolding is_runnable_expr
-  is_runnable_expr-call = ap (λ (e : Expr). is_runnable_expr (expr_of e)) q ∙ ap is_runnable_expr (expr_of-call k)
+  pub is_simple_expr-call : is_simple_expr (expr_of e) ≡ is_name (target_of k.target) (exprs_of k.actuals.items)
+  unfolding is_simple_expr
+  is_simple_expr-call = ap (λ (e : Expr). is_simple_expr (expr_of e)) q ∙ ap is_simple_expr (expr_of-call k)

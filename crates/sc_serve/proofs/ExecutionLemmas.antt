@@ -1,5 +1,5 @@
 -- From a text to its system.
-use Rattle.std.proofs.Common.{◌≡◌, ℕ, ◌<◌, ◌≤◌, List, [], ◌∷◌, ◌⊎◌, inl, inr, Result, Ok, Err, IfErr, IsErrAnd, MatchResult, length, refl, ap, sym, ◌∙◌, subst, arith}
+use Rattle.std.proofs.Common.{◌≡◌, ℕ, ◌<◌, ◌≤◌, ◌^◌, List, [], ◌∷◌, ◌⊎◌, inl, inr, Result, Ok, Err, IfErr, IsErrAnd, MatchResult, length, refl, ap, sym, ◌∙◌, subst, arith}
 use Rattle.sc_text.specs.Kind.{Kind, kinds_of}
 use Rattle.sc_text.specs.declared.token.Token.{Token}
 use Rattle.sc_text.specs.Spelling.{Spells, lexemes_of, lexeme_of, max_source_bytes}
@@ -20,11 +20,18 @@ use Rattle.sc_rules.specs.SystemRules.{SystemFails}
 use Rattle.sc_typing.specs.declared.fault.CheckFault.{CheckFault}
 use Rattle.sc_typing.specs.declared.fault.CheckFault.TheVariants as checking
 use Rattle.sc_check.specs.CheckFaults.{IsTrueOf}
+use Rattle.sc_class.specs.SystemIn.{system_in}
+use Rattle.sc_check.specs.declared.checked.Checked.{Checked}
+use Rattle.sc_check.specs.CheckedTables.{tables_of}
+use Rattle.sc_code.specs.Programs.{code_length}
+use Rattle.sc_lower.specs.declared.program.lowering.Lowering.{Lowering}
+use Rattle.sc_lower.specs.declared.program.lowering.Lowering.TheVariants as lowering
+use Rattle.sc_lower.specs.Lowerings.{HandsBack}
 use Rattle.sc_serve.specs.declared.refusal.Rejection.{Rejection}
 use Rattle.sc_serve.specs.declared.refusal.Rejection.TheVariants as rejection
-use Rattle.sc_serve.specs.Refusal.{of_tokens, of_classes, of_system}
+use Rattle.sc_serve.specs.Refusal.{of_code, of_tokens, of_classes, of_system}
 use Rattle.sc_parse.specs.Places.{IsPlaced}
-use Rattle.sc_serve.specs.Execution.{kinds, IsSpelled, IsRead, IsSound, IsAtFault, IsRefusedFor, IsNotRunFor, IsUnreadable}
+use Rattle.sc_serve.specs.Execution.{kinds, IsSpelled, IsRead, IsSound, IsAtFault, IsRefusedFor, IsRunnable, IsNotRunFor, IsUnreadable}
 
 -- the kinds of tokens, with their places or without
 pub kinds-lexemes_of : (ts : List Token) → kinds (lexemes_of ts) ≡ kinds_of ts
@@ -65,7 +72,7 @@ unreadable-refused text root (rejection.Text fault) is = is
 unreadable-refused text root (rejection.Grammar fault) is = is
 unreadable-refused text root (rejection.Classes fault) is = absurd is
 unreadable-refused text root (rejection.Rules fault) is = absurd is
-unreadable-refused text root (rejection.NotYet unrun) is = absurd is
+unreadable-refused text root rejection.CodeTooLong is = absurd is
 unreadable-refused text root rejection.OutOfMemory is = is
 
 -- what is at fault in the system that it spells is a refusal of the text
@@ -75,7 +82,7 @@ fault-refused text root s is (rejection.Text fault) at = absurd at
 fault-refused text root s is (rejection.Grammar fault) at = absurd at
 fault-refused text root s is (rejection.Classes fault) at = record { system = s; read = is; fault = at }
 fault-refused text root s is (rejection.Rules fault) at = record { system = s; read = is; fault = at }
-fault-refused text root s is (rejection.NotYet unrun) at = absurd at
+fault-refused text root s is rejection.CodeTooLong at = absurd at
 fault-refused text root s is rejection.OutOfMemory at = tt
 
 -- what is refused isn't run
@@ -84,7 +91,7 @@ refused-not_run text root (rejection.Text fault) is = is
 refused-not_run text root (rejection.Grammar fault) is = is
 refused-not_run text root (rejection.Classes fault) is = is
 refused-not_run text root (rejection.Rules fault) is = is
-refused-not_run text root (rejection.NotYet unrun) is = absurd is
+refused-not_run text root rejection.CodeTooLong is = absurd is
 refused-not_run text root rejection.OutOfMemory is = is
 
 -- in a sound system nothing is at fault
@@ -93,7 +100,7 @@ sound-in_memory s root sound (rejection.Text fault) at = absurd at
 sound-in_memory s root sound (rejection.Grammar fault) at = absurd at
 sound-in_memory s root sound (rejection.Classes fault) at = absurd (sound.faultless fault at)
 sound-in_memory s root sound (rejection.Rules fault) at = absurd (sound.well_formed fault.rule fault.span at.fails)
-sound-in_memory s root sound (rejection.NotYet unrun) at = absurd at
+sound-in_memory s root sound rejection.CodeTooLong at = absurd at
 sound-in_memory s root sound rejection.OutOfMemory at = refl
 
 -- a rule that fails in a system of tables, which is this one, as a rejection
@@ -136,3 +143,20 @@ only-err-is P (Err e) x y is same = is ∙ same
 pub canonical-bare : (s : System) → canonical_text (bare_system s) ≡ canonical_text s
 unfolding canonical_text
 canonical-bare s = ap text_of_lines (classes-bare s.classes)
+
+-- ---- code
+
+-- what keeps a sound system from being lowered
+pub lowering-not_run : (text : List ℕ) (root : Root) (s : System) → IsRead text s → IsSound s root → (c : Checked) → system_in (tables_of c) ≡ s →
+    (l : Lowering) → HandsBack c (2 ^ 24) l → IsNotRunFor text root (of_code l)
+lowering-not_run text root s is sound c same (lowering.OutOfMemory back) h = tt
+lowering-not_run text root s is sound c same (lowering.CodeTooLong back) h =
+    record { system = s; read = is; sound = sound; long = subst (λ (s : System). 2 ^ 24 < code_length s) same h.1 }
+
+-- what must be run is lowered
+pub short-in_memory : (s : System) (root : Root) → IsRunnable s root → (c : Checked) → system_in (tables_of c) ≡ s →
+    (l : Lowering) → HandsBack c (2 ^ 24) l → of_code l ≡ rejection.OutOfMemory
+short-in_memory s root is c same (lowering.OutOfMemory back) h = refl
+short-in_memory s root is c same (lowering.CodeTooLong back) h =
+    let long : 2 ^ 24 < code_length s = subst (λ (s : System). 2 ^ 24 < code_length s) same h.1 in
+    absurd (omega (arith, long, is.short))

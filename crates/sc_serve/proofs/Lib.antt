@@ -1,7 +1,8 @@
 pub mod Calls
 pub mod ExecutionLemmas
 pub mod Found
-pub mod Runnable
+pub mod SimpleParts
 pub mod PlayLemmas
 pub mod RootClass
 pub mod RootLemmas
+pub mod AnswerLemmas

@@ -3,7 +3,8 @@ use Rattle.std.proofs.Common.{◌≡◌, ℕ, ◌+◌, ◌≤◌, ◌⊎◌, Lis
 use Rattle.std.specs.Option.{option_map}
 use Rattle.std.proofs.lemmas.List.{replicate-append-replicate}
 use Rattle.sc_tree.specs.Plain.{System}
-use Rattle.sc_world.specs.declared.status.Status.{Status}
+use Rattle.sc_model.specs.declared.status.Status.{Status}
+use Rattle.sc_world.specs.declared.status.Status as one
 use Rattle.sc_world.specs.Lookup.{Root}
 use Rattle.sc_world.specs.Handler.{Handler, Request, Frame, has_turn_with}
 use Rattle.sc_world.specs.Turn.{turn_with, take}
@@ -11,7 +12,7 @@ use Rattle.sc_world.specs.World.{World, opening, run, has_turn_at}
 use Rattle.sc_world.specs.Report.{report, status_of}
 use Rattle.sc_world.specs.declared.world.Turned.TheVariants.{Nothing}
 use Rattle.sc_world.specs.WorldState.{WorldState, opened, after_run, turned_of}
-use Rattle.sc_serve.specs.Execution.{IsRun}
+use Rattle.sc_serve.specs.Execution.{IsRun, standings}
 use Rattle.sc_world.proofs.Worlds.{after_run-append}
 
 -- without a turn the handler stays as it is
@@ -39,15 +40,15 @@ nothing-due true e = cc
 nothing-due false e = refl
 
 -- what is told of the world after so many turns
-pub run-told : (s : System) (root : Root) (limit n : ℕ) (w : WorldState) (text : List ℕ) (status : Option Status) →
+pub run-told : (s : System) (root : Root) (limit n : ℕ) (w : WorldState) (text : List ℕ) (status : Option one.Status) (statuses : List Status) →
     w ≡ after_run (opened s root) (replicate n 0) → n ≤ limit → (n ≡ limit) ⊎ (has_turn_at 0 w.state ≡ false) →
-    text ≡ report w.state → status ≡ option_map status_of (slice_get w.state 0) → IsRun s root limit text status
-run-told s root limit n w text status stands within ended told how =
+    text ≡ report w.state → status ≡ option_map status_of (slice_get w.state 0) → statuses ≡ standings status → IsRun s root limit text statuses
+run-told s root limit n w text status statuses stands within ended told how all =
     let state : w.state ≡ run s (replicate n 0) (opening root) = ap (λ (k : WorldState). k.state) stands in
     record {
       turns = n;
       within = within;
       ended = rw state at ended;
       report_is = rw state at told;
-      status_is = rw state at how;
+      statuses_are = all ∙ ap standings (rw state at how);
     }

@@ -1,33 +1,54 @@
 -- What the program answers for a source text.
-use Rattle.std.specs.Prelude.{ℕ, ◌≡◌, ◌⊎◌, List, [], Option, Some, None, IfSome, IsSome, codes}
+use Rattle.std.specs.Prelude.{ℕ, ◌≡◌, ◌≢◌, ◌<◌, ◌⊎◌, Bool, true, false, if◌then◌else◌, List, [], ◌∷◌, ◌++◌, Option, Some, codes, get_or, length}
+use Rattle.std.specs.List.{list_any}
+use Rattle.std.specs.Option.{option_map}
 use Rattle.sc_text.specs.declared.fault.LexFault.TheVariants as lexing
-use Rattle.sc_world.specs.declared.status.Status.{Status}
-use Rattle.sc_world.specs.declared.status.Status.TheVariants as status
+use Rattle.sc_model.specs.declared.status.Status.{Status}
+use Rattle.sc_model.specs.declared.status.Status.TheVariants as status
 use Rattle.sc_serve.specs.declared.serve.Exit.{Exit}
 use Rattle.sc_serve.specs.declared.serve.Exit.TheVariants.{Done, Failed, Refused, Unfinished}
+use Rattle.sc_serve.specs.declared.serve.Fault.{Fault}
+use Rattle.sc_serve.specs.declared.serve.Fault.TheVariants as fault
 use Rattle.sc_serve.specs.declared.arguments.Command.{Command}
 use Rattle.sc_serve.specs.declared.arguments.Command.TheVariants as command
+use Rattle.sc_serve.specs.declared.arguments.UsageFault.{UsageFault}
+use Rattle.sc_serve.specs.declared.arguments.UsageFault.TheVariants as usage
+use Rattle.clap.specs.declared.error.Error.{Error}
+use Rattle.clap.specs.declared.error.kind.ErrorKind.TheVariants as kind
+use Rattle.clap.specs.Values.{kind_of}
 use Rattle.sc_serve.specs.Execution.{IsAccepted, IsNotRunFor, IsPrinted, IsRefusedFor, IsRunOf, IsUnreadable}
+use Rattle.sc_class.specs.ClassNames.{Root}
 use Rattle.sc_class.specs.View.{root_of}
 use Rattle.sc_serve.specs.declared.refusal.Rejection.{Rejection}
 use Rattle.sc_serve.specs.declared.refusal.Rejection.TheVariants as rejection
-use Rattle.sc_serve.specs.Refusal.{refusal_line, told}
-use Rattle.sc_source.specs.Source.{File, joined, names_of, place_at}
+use Rattle.sc_serve.specs.Refusal.{refusal_line, told, too_long_line}
+use Rattle.sc_source.specs.Source.{File, joined, line_feed, names_of, place_at}
+use Rattle.sc_source.specs.Joining.{no_memory}
+use Rattle.sc_source.specs.declared.source.JoinFault.{JoinFault}
 
--- what the program ends with where handler 0 stands so
-abbrev pub exit_of : Option Status → Exit
-exit_of (Some (status.Failed why)) = Failed
-exit_of (Some status.Busy) = Unfinished
-exit_of (Some status.Waiting) = Unfinished
-exit_of (Some status.Free) = Done
-exit_of None = Done
+abbrev pub has_failed : Status → Bool
+has_failed (status.Failed why) = true
+has_failed status.Busy = false
+has_failed status.Waiting = false
+has_failed status.Free = false
+
+-- the handler is waiting or busy
+abbrev pub is_unfinished : Status → Bool
+is_unfinished (status.Failed why) = false
+is_unfinished status.Busy = true
+is_unfinished status.Waiting = true
+is_unfinished status.Free = false
+
+-- what the program ends with where the handlers stand so
+abbrev pub exit_of : List Status → Exit
+exit_of hows = if list_any has_failed hows then Failed else if list_any is_unfinished hows then Unfinished else Done
 
 -- Where the text isn't refused: `ok`, the report of its run, or its canonical text.
 abbrev pub IsAnswerTo : Command → List ℕ → List ℕ → Exit → Type 0
 IsAnswerTo (command.Check options) text output exit =
     IsAccepted text (root_of options.root) × (output ≡ codes "ok\n") × (exit ≡ Done)
 IsAnswerTo (command.Run options) text output exit =
-    (how : Option Status) × IsRunOf text (root_of options.root) options.turns output how × (exit ≡ exit_of how)
+    (hows : List Status) × IsRunOf text (root_of options.root) options.turns output hows × (exit ≡ exit_of hows)
 IsAnswerTo command.Print text output exit = IsPrinted text output × (exit ≡ Done)
 
 -- What keeps a source text from an answer is true of it.
@@ -36,10 +57,14 @@ IsRejectedFor (command.Check options) text why = IsRefusedFor text (root_of opti
 IsRejectedFor (command.Run options) text why = IsNotRunFor text (root_of options.root) why
 IsRejectedFor command.Print text why = IsUnreadable text why
 
--- Where the text is refused: the line that tells the rejection, with its place in the files.
+-- the line that tells the rejection, with its place in the files, if it is a refusal
+abbrev pub line_of : List File → Rejection → Option (List ℕ)
+line_of source rejection.CodeTooLong = Some too_long_line
+line_of source why = option_map (λ t. refusal_line t.code t.name (place_at source t.span)) (told why)
+
+-- Where the text is refused: the line that tells the rejection.
 pub record IsRefusalOf (source : List File) (why : Rejection) (output : List ℕ) (exit : Exit) : Type 0 where
-  pub refused : IsSome (told why)
-  pub line : IfSome (told why) (λ t. output ≡ refusal_line t.code t.name (place_at source t.span))
+  pub line : line_of source why ≡ Some output
   pub status : exit ≡ Refused
 
 -- What is answered on the source text of these files: what was asked for, or the refusal of what is at fault in it.
@@ -56,3 +81,63 @@ abbrev pub IsAnswerOn : Command → List (List ℕ) → List ℕ → Exit → Ty
 IsAnswerOn command names output exit =
     ((source : List File) × (names_of source ≡ names) × IsAnswerOf command source output exit)
     ⊎ IsRefusalOf [] too_long output exit
+
+-- ---- no answer
+
+abbrev pub out_of_memory : Fault
+out_of_memory = fault.OutOfMemory
+
+abbrev pub usage_out_of_memory : UsageFault
+usage_out_of_memory = usage.OutOfMemory
+
+-- What the reader of arguments says is told as it is, want of memory as that.
+abbrev pub TellsError : Error → UsageFault → Type 0
+TellsError e usage.OutOfMemory = kind_of e ≡ kind.OutOfMemory
+TellsError e (usage.Arguments said) = (said ≡ e) × (kind_of e ≢ kind.OutOfMemory)
+TellsError e usage.NoCommand = ⊥
+TellsError e usage.BadRoot = ⊥
+
+-- The file of this number among those of these names can't be read, or memory ran out.
+abbrev pub IsUnread : List (List ℕ) → JoinFault → Fault → Type 0
+IsUnread names why (fault.CannotRead name reading) = (why.fault ≡ no_memory → ⊥) × (name.now ≡ get_or names why.file [])
+IsUnread names why fault.OutOfMemory = Unit {0}
+IsUnread names why (fault.Usage usage) = ⊥
+IsUnread names why (fault.NoCode word) = ⊥
+IsUnread names why fault.CannotWrite = ⊥
+IsUnread names why fault.NotText = ⊥
+
+-- Why nothing is answered on files of these names: one of them can't be read, or memory ran out.
+abbrev pub IsUnansweredOn : List (List ℕ) → Fault → Type 0
+IsUnansweredOn names (fault.CannotRead name reading) =
+    (file : ℕ) × (file < length names) × (name.now ≡ get_or names file [])
+IsUnansweredOn names fault.OutOfMemory = Unit {0}
+IsUnansweredOn names (fault.Usage usage) = ⊥
+IsUnansweredOn names (fault.NoCode word) = ⊥
+IsUnansweredOn names fault.CannotWrite = ⊥
+IsUnansweredOn names fault.NotText = ⊥
+
+-- ---- replay
+
+abbrev pub bad_record : List ℕ
+bad_record = codes "refused A1 BadRecord" ++ (line_feed ∷ [])
+
+-- What is answered where a record is played with the system of this text: that it is no record, or a report, and the status that goes
+-- with how the handlers stand.
+abbrev pub IsReplayTo : List ℕ → Exit → Type 0
+IsReplayTo output exit = ((output ≡ bad_record) × (exit ≡ Refused)) ⊎ ((hows : List Status) × (exit ≡ exit_of hows))
+
+-- What is answered on the source text of these files, which is run from this root: something is at fault in it, or a record is played.
+abbrev pub IsReplayOf : Root → List File → List ℕ → Exit → Type 0
+IsReplayOf root source output exit =
+    (IsAccepted (joined source) root × IsReplayTo output exit)
+    ⊎ ((why : Rejection) × IsNotRunFor (joined source) root why × IsRefusalOf source why output exit)
+
+-- What is answered on files of these names.
+abbrev pub IsReplayOn : Root → List (List ℕ) → List ℕ → Exit → Type 0
+IsReplayOn root names output exit =
+    ((source : List File) × (names_of source ≡ names) × IsReplayOf root source output exit)
+    ⊎ IsRefusalOf [] too_long output exit
+
+-- Why no record of this name is played: it can't be read, or nothing is answered on the files.
+abbrev pub IsUnplayed : List ℕ → List (List ℕ) → Fault → Type 0
+IsUnplayed record_name names f = IsUnansweredOn names f ⊎ IsUnansweredOn (record_name ∷ []) f

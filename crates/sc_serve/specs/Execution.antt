@@ -1,5 +1,5 @@
 -- What the check, the run and the printing of a source text come to.
-use Rattle.std.specs.Prelude.{ℕ, ◌≡◌, ◌≤◌, ◌⊎◌, true, false, List, map, length, Option, slice_get, replicate}
+use Rattle.std.specs.Prelude.{ℕ, ◌≡◌, ◌≤◌, ◌<◌, ◌^◌, ◌⊎◌, true, false, List, [], ◌∷◌, map, length, Option, Some, None, slice_get, replicate}
 use Rattle.std.specs.Option.{option_map}
 use Rattle.sc_text.specs.Kind.{Kind}
 use Rattle.sc_text.specs.Spelling.{Lexeme, Spells, IsRefused, max_source_bytes}
@@ -14,13 +14,22 @@ use Rattle.sc_text.specs.declared.token.Span.{Span}
 use Rattle.sc_class.specs.ClassNames.{Root}
 use Rattle.sc_class.specs.Faults.ClassRules as class_rules
 use Rattle.sc_class.specs.Faults.ClassRules.{IsFaultless}
-use Rattle.sc_world.specs.declared.status.Status.{Status}
+use Rattle.sc_world.specs.declared.cause.Cause as one_cause
+use Rattle.sc_world.specs.declared.cause.Cause.TheVariants as why_one
+use Rattle.sc_world.specs.declared.status.Status as one_status
+use Rattle.sc_world.specs.declared.status.Status.TheVariants as one
+use Rattle.sc_model.specs.declared.cause.Cause.{Cause}
+use Rattle.sc_model.specs.declared.cause.Cause.TheVariants as cause
+use Rattle.sc_model.specs.declared.status.Status.{Status}
+use Rattle.sc_model.specs.declared.status.Status.TheVariants as status
 use Rattle.sc_world.specs.Lookup as lookup
 use Rattle.sc_world.specs.World.{World, opening, run, has_turn_at}
 use Rattle.sc_world.specs.Report.{report, status_of}
 use Rattle.sc_rules.specs.declared.rule.Rule.{Rule}
 use Rattle.sc_rules.specs.SystemRules.{SystemFails, WellFormed}
-use Rattle.sc_serve.specs.NotYet.{is_not_yet}
+use Rattle.sc_code.specs.declared.program.Image.{Image}
+use Rattle.sc_code.specs.Programs.{IsProgramOf, code_length}
+use Rattle.sc_serve.specs.Simple.{is_simple}
 use Rattle.sc_serve.specs.declared.refusal.Rejection.{Rejection}
 use Rattle.sc_serve.specs.declared.refusal.Rejection.TheVariants as rejection
 
@@ -53,10 +62,10 @@ pub record IsSound (system : System) (root : Root) : Type 0 where
   pub faultless : IsFaultless system root
   pub well_formed : WellFormed system
 
--- The system is sound, and uses only what is run.
+-- The system is sound, and its code has no more instructions than a program may have.
 pub record IsRunnable (system : System) (root : Root) : Type 0 where
   pub sound : IsSound system root
-  pub supported : is_not_yet system ≡ false
+  pub short : code_length system ≤ 2 ^ 24
 
 -- The text spells a system that is sound.
 pub record IsAccepted (text : List ℕ) (root : Root) : Type 0 where
@@ -70,7 +79,7 @@ pub record MustBeAccepted (text : List ℕ) (root : Root) : Type 0 where
   pub spelled : IsSpelled text tree
   pub sound : (system : System) → IsRead text system → IsSound system root
 
--- The same, and it uses only what is run.
+-- The same, and its code is no longer than that of a program may be.
 pub record MustBeRun (text : List ℕ) (root : Root) : Type 0 where
   pub tree : System
   pub spelled : IsSpelled text tree
@@ -90,7 +99,7 @@ IsUnreadable text (rejection.Text fault) = IsRefused text fault
 IsUnreadable text (rejection.Grammar fault) = IsNoSystem text fault
 IsUnreadable text (rejection.Classes fault) = ⊥
 IsUnreadable text (rejection.Rules fault) = ⊥
-IsUnreadable text (rejection.NotYet unrun) = ⊥
+IsUnreadable text rejection.CodeTooLong = ⊥
 IsUnreadable text rejection.OutOfMemory = Unit {0}
 
 -- The system has no class fault, and the rule fails in it at the place.
@@ -103,7 +112,7 @@ abbrev pub IsAtFault : System → Root → Rejection → Type 0
 IsAtFault system root (rejection.Classes fault) = class_rules.Fails system root fault
 IsAtFault system root (rejection.Rules fault) = HasFailing system root fault.rule fault.span
 IsAtFault system root rejection.OutOfMemory = Unit {0}
-IsAtFault system root (rejection.NotYet unrun) = ⊥
+IsAtFault system root rejection.CodeTooLong = ⊥
 IsAtFault system root (rejection.Text fault) = ⊥
 IsAtFault system root (rejection.Grammar fault) = ⊥
 
@@ -120,14 +129,14 @@ IsRefusedFor text root (rejection.Grammar fault) = IsNoSystem text fault
 IsRefusedFor text root (rejection.Classes fault) = HasFault text root (rejection.Classes fault)
 IsRefusedFor text root (rejection.Rules fault) = HasFault text root (rejection.Rules fault)
 IsRefusedFor text root rejection.OutOfMemory = Unit {0}
-IsRefusedFor text root (rejection.NotYet unrun) = ⊥
+IsRefusedFor text root rejection.CodeTooLong = ⊥
 
--- The text spells a system that is sound, and uses what isn't run yet.
-pub record IsNotYet (text : List ℕ) (root : Root) : Type 0 where
+-- The text spells a system that is sound, and its code has more instructions than a program may have.
+pub record IsTooLong (text : List ℕ) (root : Root) : Type 0 where
   pub system : System
   pub read : IsRead text system
   pub sound : IsSound system root
-  pub not_yet : is_not_yet system ≡ true
+  pub long : 2 ^ 24 < code_length system
 
 -- What keeps the system of the text from being run is true of it.
 abbrev pub IsNotRunFor : List ℕ → Root → Rejection → Type 0
@@ -135,10 +144,31 @@ IsNotRunFor text root (rejection.Text fault) = IsRefused text fault
 IsNotRunFor text root (rejection.Grammar fault) = IsNoSystem text fault
 IsNotRunFor text root (rejection.Classes fault) = HasFault text root (rejection.Classes fault)
 IsNotRunFor text root (rejection.Rules fault) = HasFault text root (rejection.Rules fault)
-IsNotRunFor text root (rejection.NotYet unrun) = IsNotYet text root
+IsNotRunFor text root rejection.CodeTooLong = IsTooLong text root
 IsNotRunFor text root rejection.OutOfMemory = Unit {0}
 
--- ---- runs
+-- ---- how handlers stand
+
+-- a cause of the machine of simple systems, among all
+abbrev pub cause_of : one_cause.Cause → Cause
+cause_of why_one.Invariant = cause.Invariant
+cause_of why_one.Overflow = cause.Overflow
+cause_of why_one.DivideByZero = cause.DivideByZero
+cause_of why_one.StackFull = cause.StackFull
+cause_of why_one.BadCode = cause.BadCode
+
+abbrev pub standing_of : one_status.Status → Status
+standing_of (one.Failed why) = status.Failed (cause_of why)
+standing_of one.Busy = status.Busy
+standing_of one.Waiting = status.Waiting
+standing_of one.Free = status.Free
+
+-- how the one handler stands, if there is one
+abbrev pub standings : Option one_status.Status → List Status
+standings None = []
+standings (Some how) = standing_of how ∷ []
+
+-- ---- runs of simple systems
 
 -- a root, as the machine has it
 abbrev pub run_root : Root → lookup.Root
@@ -148,21 +178,28 @@ run_root r = record { class = r.class; procedure = r.procedure }
 abbrev pub world_after : System → lookup.Root → ℕ → World
 world_after system root turns = run system (replicate turns 0) (opening root)
 
--- The report and the status are those of the world after some turns of handler 0, of which there are at most so many, and
--- fewer only where handler 0 has nothing to do any more.
-pub record IsRun (system : System) (root : lookup.Root) (limit : ℕ) (text : List ℕ) (status : Option Status) : Type 0 where
+-- The report and how the handlers stand are those of the world after some turns of handler 0, of which there are at most so
+-- many, and fewer only where handler 0 has nothing to do any more.
+pub record IsRun (system : System) (root : lookup.Root) (limit : ℕ) (text : List ℕ) (statuses : List Status) : Type 0 where
   pub turns : ℕ
   pub within : turns ≤ limit
   pub ended : (turns ≡ limit) ⊎ (has_turn_at 0 (world_after system root turns) ≡ false)
   pub report_is : text ≡ report (world_after system root turns)
-  pub status_is : status ≡ option_map status_of (slice_get (world_after system root turns) 0)
+  pub statuses_are : statuses ≡ standings (option_map status_of (slice_get (world_after system root turns) 0))
 
--- The text spells a system that is sound and uses only what is run, and the report and the status are those of its run.
-pub record IsRunOf (text : List ℕ) (root : Root) (limit : ℕ) (output : List ℕ) (status : Option Status) : Type 0 where
+-- The text spells a system that is sound. Where it is simple, the report and how the handlers stand are those of its run.
+pub record IsRunOf (text : List ℕ) (root : Root) (limit : ℕ) (output : List ℕ) (statuses : List Status) : Type 0 where
   pub system : System
   pub read : IsRead text system
-  pub runnable : IsRunnable system root
-  pub is_run : IsRun system (run_root root) limit output status
+  pub sound : IsSound system root
+  pub is_run : is_simple system ≡ true → IsRun system (run_root root) limit output statuses
+
+-- The text spells a system that is sound, and this is its program.
+pub record IsLoaded (text : List ℕ) (root : Root) (program : Image) : Type 0 where
+  pub system : System
+  pub read : IsRead text system
+  pub sound : IsSound system root
+  pub is_program : IsProgramOf system root program
 
 -- ---- canonical text
 

@@ -11,6 +11,8 @@ use Rattle.sc_rules.specs.declared.fault.Fault.{Fault}
 use Rattle.sc_rules.specs.RuleText.{code_of, name_of}
 use Rattle.sc_typing.specs.declared.fault.CheckFault.{CheckFault}
 use Rattle.sc_typing.specs.declared.fault.CheckFault.TheVariants as checking
+use Rattle.sc_lower.specs.declared.program.lowering.Lowering.{Lowering}
+use Rattle.sc_lower.specs.declared.program.lowering.Lowering.TheVariants as lowering
 use Rattle.sc_serve.specs.declared.refusal.Refusal.{Refusal}
 use Rattle.sc_serve.specs.declared.refusal.Rejection.{Rejection}
 use Rattle.sc_serve.specs.declared.refusal.Rejection.TheVariants as rejection
@@ -73,14 +75,18 @@ told_of_classes classes.OutOfMemory = None
 abbrev pub told_of_system : Fault → Told
 told_of_system fault = record { code = code_of fault.rule; name = name_of fault.rule; span = Some fault.span }
 
--- That memory ran out is no refusal, nor is what isn't run yet.
+-- That a program would be too long has no code, and that memory ran out is no refusal.
 abbrev pub told : Rejection → Option Told
 told (rejection.Text fault) = told_of_text fault
 told (rejection.Grammar fault) = told_of_tokens fault
 told (rejection.Classes fault) = told_of_classes fault
 told (rejection.Rules fault) = Some (told_of_system fault)
-told (rejection.NotYet unrun) = None
+told rejection.CodeTooLong = None
 told rejection.OutOfMemory = None
+
+-- the line that tells that a program would be too long
+abbrev pub too_long_line : List ℕ
+too_long_line = codes "refused CodeTooLong" ++ (line_feed ∷ [])
 
 -- ---- what is made of faults
 
@@ -90,6 +96,10 @@ out_of_memory = rejection.OutOfMemory
 abbrev pub of_system : CheckFault → Rejection
 of_system (checking.Refused fault) = rejection.Rules fault
 of_system checking.OutOfMemory = rejection.OutOfMemory
+
+abbrev pub of_code : Lowering → Rejection
+of_code (lowering.CodeTooLong checked) = rejection.CodeTooLong
+of_code (lowering.OutOfMemory checked) = rejection.OutOfMemory
 
 abbrev pub of_text : LexFault → Rejection
 of_text lexing.OutOfMemory = rejection.OutOfMemory

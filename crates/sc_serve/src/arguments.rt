@@ -2,6 +2,9 @@
 
 mod root_option;
 
+ghost use Rattle.std.specs.Prelude.{◌≡◌};
+ghost use Rattle.sc_serve.specs.Answer as spec;
+
 use clap::error::ErrorKind;
 use clap::{Arg, ArgAction, ArgMatches, value_parser};
 use sc_class::Root;
@@ -13,6 +16,8 @@ use std::convert::AsStr;
 pub enum Invocation<'a> {
     /// To do something with the system of these files.
     OnFiles(Command, Vec<&'a str>),
+    /// To play a record with the system of these files.
+    Replay(ReplayOptions<'a>, Vec<&'a str>),
     /// To explain this code or name, or to list all codes.
     Explain(Option<&'a str>),
 }
@@ -44,6 +49,13 @@ pub struct RunOptions {
     pub is_explained: bool,
 }
 
+#[derive(Drop)]
+pub struct ReplayOptions<'a> {
+    pub root: Root,
+    /// The name of the file that the record stands in.
+    pub record: &'a str,
+}
+
 /// Why the arguments ask for nothing that can be done.
 #[derive(Drop)]
 pub enum UsageFault {
@@ -57,6 +69,8 @@ pub enum UsageFault {
 }
 
 impl From<clap::Error> for UsageFault {
+    ghost from_gives = { λ error fault. spec.TellsError error fault };
+
     fn from(error: clap::Error) -> UsageFault {
         if error.kind() == ErrorKind::OutOfMemory {
             UsageFault::OutOfMemory
@@ -67,6 +81,8 @@ impl From<clap::Error> for UsageFault {
 }
 
 impl From<AllocError> for UsageFault {
+    ghost from_gives = { λ _ fault. fault ≡ spec.usage_out_of_memory };
+
     fn from(_error: AllocError) -> UsageFault {
         UsageFault::OutOfMemory
     }
@@ -86,8 +102,7 @@ const STATUS_HELP: &str = "\
 Exit status:
   0  done, and every handler is free
   1  the system is refused
-  2  an argument, a file or the output is at fault, or the system uses what isn't
-     run yet
+  2  an argument, a file or the output is at fault
   3  a handler has failed
   4  a handler is waiting or busy
   5  memory ran out";
@@ -105,13 +120,26 @@ Exit status:
 
 const RUN_AFTER_HELP: &str = "\
 Limits:
-  those of `scoop check`; 1024 routines running at once
+  those of `scoop check`, and 16777216 instructions of its code; 512 handlers; 65536
+  objects of a handler, 1024 routines running at once and 4096 requests in its queue
 
 Exit status:
   0  done, and every handler is free
   1  the system is refused
-  2  an argument, a file or the output is at fault, or the system uses what isn't
-     run yet: the second line says what, and where it stands
+  2  an argument, a file or the output is at fault
+  3  a handler has failed
+  4  a handler is waiting or busy
+  5  memory ran out";
+
+const REPLAY_AFTER_HELP: &str = "\
+Limits:
+  those of `scoop run`, and 64 handlers for a record of version 1; 1000000 lines of a
+  record, and 10000000 turns
+
+Exit status:
+  0  done, and every handler is free
+  1  the system is refused, or the record
+  2  an argument, a file or the output is at fault
   3  a handler has failed
   4  a handler is waiting or busy
   5  memory ran out";
@@ -156,6 +184,21 @@ and then, on lines of its own, what the handler printed. The status is `free`,
 number of requests that were refused. The report ends with `stopped idle`, or
 with `stopped limit` where the turns were used up.";
 
+const REPLAY_ABOUT: &str = "Plays the turns of a record, and reports what became of each handler";
+
+const REPLAY_LONG_ABOUT: &str = "\
+Plays the turns of a record, and reports what became of each handler.
+
+The system is checked first, as by `scoop check`. The record is a text of the lines
+
+  scoop record 2
+  HANDLER TURNS
+  end LINES
+
+with any number of lines in the middle: each names a handler and how many turns it
+takes, one after the other. A turn of a handler that isn't there, or that has nothing to
+do, changes nothing. The report is as of `scoop run`.";
+
 const PRINT_ABOUT: &str = "Writes the text of a system in its one canonical layout";
 
 const PRINT_LONG_ABOUT: &str = "\
@@ -175,7 +218,12 @@ one that isn't. Without a code all codes are listed with their names.";
 
 const EXPLAIN_HELP: &str = "Shows where a refusal stands, on standard error";
 
+const RUN_EXPLAIN_HELP: &str =
+    "Shows where a refusal stands, or says what a failure is, on standard error";
+
 const CODE_HELP: &str = "The code, as V6, or its name, in any letter case";
+
+const RECORD_HELP: &str = "The file of the record; `-` is standard input";
 
 const FILE_HELP: &str = "The files of the system's classes, in order; `-` is standard input";
 
@@ -193,6 +241,7 @@ pub fn read_arguments<'a, S: AsStr>(
         return Err(UsageFault::NoCommand);
     };
     let command = match name {
+        "replay" => return read_replay(alloc, options),
         "explain" => return Ok(Invocation::Explain(options.get_str("CODE"))),
         "print" => Command::Print,
         "run" => Command::Run(RunOptions {
@@ -206,6 +255,14 @@ pub fn read_arguments<'a, S: AsStr>(
         }),
     };
     Ok(Invocation::OnFiles(command, read_files(alloc, options)?))
+}
+
+fn read_replay<'a>(alloc: Global, options: &ArgMatches<'a>) -> Result<Invocation<'a>, UsageFault> {
+    let replay = ReplayOptions {
+        root: read_root(alloc, options)?,
+        record: options.get_str("RECORD").unwrap_or(""),
+    };
+    Ok(Invocation::Replay(replay, read_files(alloc, options)?))
 }
 
 fn read_root(alloc: Global, options: &ArgMatches<'_>) -> Result<Root, UsageFault> {
@@ -228,6 +285,7 @@ fn scoop_command<'a>(alloc: Global) -> Result<clap::Command<'a>, AllocError> {
         .arg_required_else_help(true)
         .subcommand(check_command(alloc)?)?
         .subcommand(run_command(alloc)?)?
+        .subcommand(replay_command(alloc)?)?
         .subcommand(print_command(alloc)?)?
         .subcommand(explain_command(alloc)?)
 }
@@ -237,7 +295,7 @@ fn check_command<'a>(alloc: Global) -> Result<clap::Command<'a>, AllocError> {
         .about(CHECK_ABOUT)
         .long_about(CHECK_LONG_ABOUT)
         .after_help(CHECK_AFTER_HELP)
-        .arg(explain_argument(alloc))?
+        .arg(explain_argument(alloc, EXPLAIN_HELP))?
         .arg(root_argument(alloc))?
         .arg(file_argument(alloc))
 }
@@ -254,8 +312,19 @@ fn run_command<'a>(alloc: Global) -> Result<clap::Command<'a>, AllocError> {
         .long_about(RUN_LONG_ABOUT)
         .after_help(RUN_AFTER_HELP)
         .arg(turns)?
-        .arg(explain_argument(alloc))?
+        .arg(explain_argument(alloc, RUN_EXPLAIN_HELP))?
         .arg(root_argument(alloc))?
+        .arg(file_argument(alloc))
+}
+
+fn replay_command<'a>(alloc: Global) -> Result<clap::Command<'a>, AllocError> {
+    let record = Arg::new(alloc, "RECORD").required(true).help(RECORD_HELP);
+    clap::Command::new(alloc, "replay")
+        .about(REPLAY_ABOUT)
+        .long_about(REPLAY_LONG_ABOUT)
+        .after_help(REPLAY_AFTER_HELP)
+        .arg(root_argument(alloc))?
+        .arg(record)?
         .arg(file_argument(alloc))
 }
 
@@ -284,11 +353,11 @@ fn root_argument<'a>(alloc: Global) -> Arg<'a> {
         .help(ROOT_HELP)
 }
 
-fn explain_argument<'a>(alloc: Global) -> Arg<'a> {
+fn explain_argument<'a>(alloc: Global, help: &'a str) -> Arg<'a> {
     Arg::new(alloc, "explain")
         .long("explain")
         .action(ArgAction::SetTrue)
-        .help(EXPLAIN_HELP)
+        .help(help)
 }
 
 fn file_argument<'a>(alloc: Global) -> Arg<'a> {

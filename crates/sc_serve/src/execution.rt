@@ -7,27 +7,34 @@ ghost use Rattle.sc_tree.specs.View.{system_of};
 ghost use Rattle.sc_tree.specs.Canonical.{canonical_text};
 ghost use Rattle.sc_class.specs.Faults.ClassRules.{IsFaultless};
 ghost use Rattle.sc_class.specs.View.{root_of};
-ghost use Rattle.sc_class.specs.SystemIn.{system_in};
+ghost use Rattle.sc_class.specs.SystemIn.{root_in, system_in};
 ghost use Rattle.sc_check.specs.CheckedTables.{tables_of};
-ghost use Rattle.sc_serve.specs.Execution.{IsAccepted, IsAtFault, IsNotRunFor, IsPrinted, IsRead, IsRefusedFor, IsRun, IsRunOf, IsSound, IsSpelled, IsUnreadable, MustBeAccepted, MustBeRun, run_root};
+ghost use Rattle.sc_lower.specs.Lowerings.{image_of};
+ghost use Rattle.sc_serve.specs.Execution as spec;
+ghost use Rattle.sc_serve.specs.Execution.{IsAccepted, IsAtFault, IsLoaded, IsNotRunFor, IsPrinted, IsRead, IsRefusedFor, IsRun, IsRunOf, IsSound, IsSpelled, IsUnreadable, MustBeAccepted, MustBeRun, run_root};
 
-use crate::not_yet::not_yet;
 use crate::refusal::Rejection;
 use crate::root::start_of;
-use crate::unrun::first_unrun;
+use crate::simple::is_simple;
+use sc_audit::Record;
 use sc_check::{Checked, check};
 use sc_class::{Root, tables};
+use sc_code::Program;
+use sc_lockpass::Version;
+use sc_lower::lower;
+use sc_model::{Cause, Status};
 use sc_parse::parse;
+use sc_runtime::World;
 use sc_text::lex;
 use sc_tree::{System, print_system};
-use sc_world::{Status, Turned, World};
+use sc_world::Turned;
 use std::alloc::{AllocError, Global};
 
-/// What a run leaves: its report, and how handler 0 stands.
+/// What a run leaves: its report, and how each handler stands, in order of number.
 #[derive(Drop)]
 pub struct Outcome {
     pub report: Vec<u8>,
-    pub status: Option<Status>,
+    pub statuses: Vec<Status>,
 }
 
 /// Checks the system of a source text.
@@ -41,19 +48,40 @@ pub fn check_text(alloc: Global, text: &str, root: &Root) -> Result<(), Rejectio
     Ok(())
 }
 
-/// Checks the system of a source text and runs it, for so many turns at most.
+/// Checks the system of a source text and runs it, for so many turns at most, where there may be 512 handlers.
 pub fn run_text(alloc: Global, text: &str, root: &Root, turns: u32) -> Result<Outcome, Rejection>
     ensures ok { IfOk result (λ outcome.
-        IsRunOf text.now (root_of root.now) turns outcome.report.items outcome.status) }
+        IsRunOf text.now (root_of root.now) turns outcome.report.items outcome.statuses.items) }
     ensures refused { IfErr result (IsNotRunFor text.now (root_of root.now)) }
     ensures complete { MustBeRun text.now (root_of root.now) → IfErr result (λ e. e ≡ Rejection.OutOfMemory) }
 {
     let system = read(alloc, text)?;
     let checked = judge(alloc, &system, root)?;
-    if not_yet(checked.tables()) {
-        return Err(Rejection::NotYet(first_unrun(checked.tables())));
+    if is_simple(checked.tables()) {
+        return Ok(play_simple(alloc, &system, root, turns)?);
     }
-    Ok(play(alloc, &system, root, turns)?)
+    let program = lower(alloc, checked)?;
+    Ok(play(alloc, &program, turns)?)
+}
+
+/// Checks the system of a source text: its program.
+pub fn load_text(alloc: Global, text: &str, root: &Root) -> Result<Program, Rejection>
+    ensures loaded { IfOk result (λ program. IsLoaded text.now (root_of root.now) (image_of program)) }
+    ensures refused { IfErr result (IsNotRunFor text.now (root_of root.now)) }
+    ensures complete { MustBeRun text.now (root_of root.now) → IfErr result (λ e. e ≡ Rejection.OutOfMemory) }
+{
+    let system = read(alloc, text)?;
+    let checked = judge(alloc, &system, root)?;
+    Ok(lower(alloc, checked)?)
+}
+
+/// Plays the lines of a record in a world of its version.
+pub fn replay(alloc: Global, program: &Program, record: &Record) -> Result<Outcome, AllocError> {
+    let mut world = World::open(alloc, program, record.version)?;
+    for line in &record.lines {
+        world.turns_of(line.handler, line.turns)?;
+    }
+    outcome_of(&world)
 }
 
 /// The canonical text of the system of a source text, which isn't checked.
@@ -82,27 +110,81 @@ fn read(alloc: Global, text: &str) -> Result<System, Rejection>
 fn judge<'s>(alloc: Global, system: &'s System, root: &Root) -> Result<Checked<'s>, Rejection>
     ensures sound { OnOk result (IsSound (system_of system.now) (root_of root.now)) }
     ensures of_it { IfOk result (λ checked. system_in (tables_of checked) ≡ system_of system.now) }
+    ensures rooted { IfOk result (λ checked. root_in (tables_of checked) ≡ root_of root.now) }
     ensures fault { IfErr result (IsAtFault (system_of system.now) (root_of root.now)) }
 {
     let classes = tables(alloc, system, root)?;
     Ok(check(alloc, classes)?)
 }
 
-/// Plays handler 0 until it has nothing to do or so many turns are played.
-fn play(alloc: Global, system: &System, root: &Root, turns: u32) -> Result<Outcome, AllocError>
+/// Plays the handlers, each in turn, until none has anything to do or so many turns are played.
+fn play(alloc: Global, program: &Program, turns: u32) -> Result<Outcome, AllocError> {
+    let mut world = World::open(alloc, program, Version::Two)?;
+    world.rounds(turns)?;
+    outcome_of(&world)
+}
+
+fn outcome_of(world: &World<'_>) -> Result<Outcome, AllocError> {
+    Ok(Outcome {
+        report: world.report()?,
+        statuses: world.statuses()?,
+    })
+}
+
+/// Plays the one handler of a simple system until it has nothing to do or so many turns are played.
+fn play_simple(
+    alloc: Global,
+    system: &System,
+    root: &Root,
+    turns: u32,
+) -> Result<Outcome, AllocError>
     requires { IsFaultless (system_of system.now) (root_of root.now) }
     ensures { IfOk result (λ outcome.
-        IsRun (system_of system.now) (run_root (root_of root.now)) turns outcome.report.items outcome.status) }
+        IsRun (system_of system.now) (run_root (root_of root.now)) turns outcome.report.items outcome.statuses.items) }
 {
     let (class, procedure) = start_of(system, root);
-    let mut world = World::open(alloc, system, class, procedure)?;
+    let mut world = sc_world::World::open(alloc, system, class, procedure)?;
     for _ in 0..turns {
         if world.turn(0)? == Turned::Nothing {
             break;
         }
     }
-    Ok(Outcome {
-        report: world.report()?,
-        status: world.status(0),
-    })
+    let report = world.report()?;
+    let statuses = standings(alloc, world.status(0))?;
+    Ok(Outcome { report, statuses })
+}
+
+/// How the one handler stands, if there is one.
+fn standings(alloc: Global, status: Option<sc_world::Status>) -> Result<Vec<Status>, AllocError>
+    ensures { IfOk result (λ statuses. statuses.items ≡ spec.standings status) }
+{
+    let mut statuses = Vec::new(alloc);
+    if let Some(status) = status {
+        statuses.push(standing_of(status))?;
+    }
+    Ok(statuses)
+}
+
+/// How the handler of a simple system stands, as any handler does.
+fn standing_of(status: sc_world::Status) -> Status
+    ensures { result ≡ spec.standing_of status }
+{
+    match status {
+        sc_world::Status::Failed(why) => Status::Failed(cause_of(why)),
+        sc_world::Status::Busy => Status::Busy,
+        sc_world::Status::Waiting => Status::Waiting,
+        sc_world::Status::Free => Status::Free,
+    }
+}
+
+fn cause_of(why: sc_world::Cause) -> Cause
+    ensures { result ≡ spec.cause_of why }
+{
+    match why {
+        sc_world::Cause::Invariant => Cause::Invariant,
+        sc_world::Cause::Overflow => Cause::Overflow,
+        sc_world::Cause::DivideByZero => Cause::DivideByZero,
+        sc_world::Cause::StackFull => Cause::StackFull,
+        sc_world::Cause::BadCode => Cause::BadCode,
+    }
 }

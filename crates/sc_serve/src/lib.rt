@@ -1,5 +1,5 @@
 //! What the program `scoop` does: it reads the arguments of a command line, has the files of a system read, and answers the check,
-//! the run or the canonical text that they ask for.
+//! the run, the replay or the canonical text that they ask for.
 //!
 //! [`serve::serve`] is one call of the program, over files and writers of its caller's. What it answers for a source text
 //! is that of [`execution::check_text`], [`execution::run_text`] and [`execution::print_text`], whose contracts go from
@@ -10,10 +10,10 @@
 mod arguments;
 mod excerpt;
 pub mod execution;
-mod not_yet;
+mod failure;
 pub mod refusal;
 mod root;
 pub mod serve;
-pub mod unrun;
+mod simple;
 
 pub use arguments::UsageFault;

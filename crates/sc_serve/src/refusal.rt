@@ -5,9 +5,9 @@ ghost use Rattle.std.specs.Option.{option_map};
 ghost use Rattle.sc_source.specs.Source.{place_at};
 ghost use Rattle.sc_serve.specs.Refusal as spec;
 
-use crate::unrun::Unrun;
 use sc_check::CheckFault;
 use sc_class::ClassFault;
+use sc_lower::Lowering;
 use sc_parse::ParseFault;
 use sc_rules::Fault;
 use sc_source::source::{Place, Source};
@@ -25,8 +25,8 @@ pub enum Rejection {
     Classes(ClassFault),
     /// A rule fails in its system.
     Rules(Fault),
-    /// Its system is sound, and uses what isn't run yet: this first, where it is found.
-    NotYet(Option<Unrun>),
+    /// Its system is sound, and its code has more instructions than a program may have.
+    CodeTooLong,
     OutOfMemory,
 }
 
@@ -57,7 +57,7 @@ impl Refusal {
 }
 
 impl Rejection {
-    /// How it is told. That memory ran out is no refusal, nor is what isn't run yet.
+    /// How it is told, where it has a code. That a program would be too long has none; that memory ran out is no refusal.
     pub fn refusal(&self) -> Option<Refusal>
         ensures { option_map spec.seen result ≡ spec.told self.now }
     {
@@ -66,7 +66,7 @@ impl Rejection {
             Rejection::Grammar(fault) => grammar_refusal(*fault),
             Rejection::Classes(fault) => class_refusal(*fault),
             Rejection::Rules(fault) => rules_refusal(*fault),
-            Rejection::NotYet(_) | Rejection::OutOfMemory => None,
+            Rejection::CodeTooLong | Rejection::OutOfMemory => None,
         }
     }
 }
@@ -175,6 +175,17 @@ impl From<ClassFault> for Rejection {
         match fault {
             ClassFault::OutOfMemory => Rejection::OutOfMemory,
             _ => Rejection::Classes(fault),
+        }
+    }
+}
+
+impl<'s> From<Lowering<'s>> for Rejection {
+    ghost from_gives = { λ fault rejection. rejection ≡ spec.of_code fault };
+
+    fn from(fault: Lowering<'s>) -> Rejection {
+        match fault {
+            Lowering::CodeTooLong(_) => Rejection::CodeTooLong,
+            Lowering::OutOfMemory(_) => Rejection::OutOfMemory,
         }
     }
 }

@@ -1,20 +1,26 @@
 // One call of the program, from its arguments to its status.
 
-ghost use Rattle.std.specs.Prelude.{◌≡◌, [], IfErr, IfOk, map};
+ghost use Rattle.std.specs.Prelude.{◌≡◌, [], ◌∷◌, IfErr, IfOk, map};
 ghost use Rattle.sc_serve.specs.Answer as spec;
+ghost use Rattle.std.specs.List.{list_any};
+ghost use Rattle.sc_class.specs.View.{root_of};
 ghost use Rattle.sc_serve.specs.Answer.{IsAnswerOn, IsAnswerTo, IsRefusalOf, IsRejectedFor, too_long};
+ghost use Rattle.sc_serve.specs.Answer.{IsReplayOn, IsReplayTo, IsUnansweredOn, IsUnplayed, IsUnread};
 
-use crate::arguments::{Command, Invocation, UsageFault, read_arguments};
+use crate::arguments::{Command, Invocation, ReplayOptions, UsageFault, read_arguments};
 use crate::excerpt::excerpt;
-use crate::execution::{check_text, print_text, run_text};
+use crate::execution::{check_text, load_text, print_text, replay, run_text};
+use crate::failure::failure_note;
 use crate::refusal::Rejection;
+use sc_audit::{ReadFault, read_record};
+use sc_class::Root;
 use sc_diagnosis::{Related, diagnose};
 use sc_explain::{find, list};
-use sc_source::files::{Files, read_source};
+use sc_model::Status;
+use sc_source::files::{Files, NamedFile, read_source};
 use sc_source::reading::FileFault;
 use sc_source::source::{JoinFault, Place, Source, name_at};
 use sc_text::LexFault;
-use sc_world::Status;
 use std::alloc::{AllocError, Global};
 use std::convert::AsStr;
 use std::io::{self, ErrorKind, Write};
@@ -70,12 +76,12 @@ pub enum Fault<'a> {
     CannotWrite,
     /// An argument that isn't UTF-8.
     NotText,
-    /// A system that uses what isn't run yet, and the line that says what it is and where it stands.
-    NotYet(String),
     OutOfMemory,
 }
 
 impl<'a> From<AllocError> for Fault<'a> {
+    ghost from_gives = { λ _ fault. fault ≡ spec.out_of_memory };
+
     fn from(_error: AllocError) -> Fault<'a> {
         Fault::OutOfMemory
     }
@@ -136,7 +142,6 @@ fn say<E: Write>(fault: &Fault<'_>, err: &mut E) -> io::Result<()> {
         }
         Fault::CannotWrite => writeln!(err, "cannot write standard output"),
         Fault::NotText => writeln!(err, "an argument isn't UTF-8"),
-        Fault::NotYet(line) => write!(err, "not yet\n{line}"),
         Fault::Usage(UsageFault::OutOfMemory) | Fault::OutOfMemory => writeln!(
             err,
             "out of memory"
@@ -177,6 +182,9 @@ fn respond<'a, S: AsStr, F: Files>(
         Invocation::OnFiles(command, names) => {
             answer_on_files(alloc, &command, files, names.as_slice())
         }
+        Invocation::Replay(options, names) => {
+            answer_replay(alloc, &options, files, names.as_slice())
+        }
         Invocation::Explain(None) => {
             Ok(Answer::new(alloc, list(alloc)?.into_bytes(), Exit::Done))
         }
@@ -191,14 +199,16 @@ fn respond<'a, S: AsStr, F: Files>(
 }
 
 /// Does with the system of the named files what is asked for.
+#[tactic(auto, using(crate::proofs::AnswerLemmas::unanswered, crate::proofs::AnswerLemmas::unread))]
 fn answer_on_files<'a, F: Files>(
     alloc: Global,
     command: &Command,
     files: &F,
     names: &[&'a str],
 ) -> Result<Answer, Fault<'a>>
-    ensures { let named = map (λ name. name.now) names.now in
+    ensures answer { let named = map (λ name. name.now) names.now in
         IfOk result (λ answer. IsAnswerOn command.now named answer.text.items answer.exit) }
+    ensures unanswered { IfErr result (IsUnansweredOn (map (λ name. name.now) names.now)) }
 {
     let source = match read_source(alloc, files, names) {
         Ok(source) => source,
@@ -209,18 +219,18 @@ fn answer_on_files<'a, F: Files>(
         Err(rejection) => rejection,
     };
     let mut answer = answer_rejected(alloc, &source, &rejection)?;
-    if is_explained(command) {
-        answer.note = explanation(alloc, &source, &rejection)?;
+    if let Some(root) = explained_root(command) {
+        answer.note = explanation(alloc, &source, root, &rejection)?;
     }
     Ok(answer)
 }
 
-/// Whether a refusal is to be shown in its line of the text too.
-fn is_explained(command: &Command) -> bool {
+/// What the system is run from, where a refusal is to be shown in its line of the text too.
+fn explained_root(command: &Command) -> Option<&Root> {
     match command {
-        Command::Check(options) => options.is_explained,
-        Command::Run(options) => options.is_explained,
-        Command::Print => false,
+        Command::Check(options) if options.is_explained => Some(&options.root),
+        Command::Run(options) if options.is_explained => Some(&options.root),
+        _ => None,
     }
 }
 
@@ -229,6 +239,7 @@ fn is_explained(command: &Command) -> bool {
 fn explanation(
     alloc: Global,
     source: &Source,
+    root: &Root,
     rejection: &Rejection,
 ) -> Result<Vec<u8>, AllocError> {
     let Some(refusal) = rejection.refusal() else {
@@ -239,7 +250,7 @@ fn explanation(
         None => Vec::new(alloc),
     };
     let code = refusal.code;
-    let diagnosis = diagnose(alloc, source.text(), code, refusal.span)?;
+    let diagnosis = diagnose(alloc, source.text(), root, code, refusal.span)?;
     lines.extend_from_slice(diagnosis.lines.as_bytes())?;
     if let Some(related) = diagnosis.related {
         push_related(alloc, &mut lines, source, related)?;
@@ -272,7 +283,8 @@ fn answer_unread<'a>(
     names: &[&'a str],
     unread: JoinFault,
 ) -> Result<Answer, Fault<'a>>
-    ensures { IfOk result (λ answer. IsRefusalOf [] too_long answer.text.items answer.exit) }
+    ensures refused { IfOk result (λ answer. IsRefusalOf [] too_long answer.text.items answer.exit) }
+    ensures unread { IfErr result (IsUnread (map (λ name. name.now) names.now) unread) }
 {
     let JoinFault { file, fault } = unread;
     match fault {
@@ -294,7 +306,8 @@ fn answer_rejected<'a>(
     source: &Source,
     rejection: &Rejection,
 ) -> Result<Answer, Fault<'a>>
-    ensures { IfOk result (λ answer. IsRefusalOf source.now rejection.now answer.text.items answer.exit) }
+    ensures refused { IfOk result (λ answer. IsRefusalOf source.now rejection.now answer.text.items answer.exit) }
+    ensures untold { IfErr result (λ fault. fault ≡ spec.out_of_memory) }
 {
     match rejection.refusal() {
         Some(refusal) => {
@@ -302,8 +315,7 @@ fn answer_rejected<'a>(
             Ok(Answer::new(alloc, line, Exit::Refused))
         }
         None => match rejection {
-            Rejection::NotYet(Some(unrun)) => Err(Fault::NotYet(unrun.line(alloc, source)?)),
-            Rejection::NotYet(None) => Err(Fault::NotYet(String::new(alloc))),
+            Rejection::CodeTooLong => answer_refused(alloc, b"refused CodeTooLong\n"),
             _ => Err(Fault::OutOfMemory),
         },
     }
@@ -322,8 +334,17 @@ fn examine(alloc: Global, command: &Command, text: &str) -> Result<Answer, Rejec
         }
         Command::Run(options) => {
             let outcome = run_text(alloc, text, &options.root, options.turns)?;
-            let exit = exit_of(outcome.status);
-            Ok(Answer::new(alloc, outcome.report, exit))
+            let exit = exit_of(outcome.statuses.as_slice());
+            let note = if options.is_explained {
+                failure_note(alloc, outcome.statuses.as_slice())?
+            } else {
+                Vec::new(alloc)
+            };
+            Ok(Answer {
+                text: outcome.report,
+                exit,
+                note,
+            })
         }
         Command::Print => {
             let text = print_text(alloc, text)?;
@@ -332,13 +353,92 @@ fn examine(alloc: Global, command: &Command, text: &str) -> Result<Answer, Rejec
     }
 }
 
-/// What the program ends with where the handlers are left like that.
-fn exit_of(status: Option<Status>) -> Exit
-    ensures { result ≡ spec.exit_of status }
+/// Plays a record with the system of the named files.
+fn answer_replay<'a, F: Files>(
+    alloc: Global,
+    options: &ReplayOptions<'a>,
+    files: &F,
+    names: &[&'a str],
+) -> Result<Answer, Fault<'a>>
+    ensures answer { let named = map (λ name. name.now) names.now in
+        IfOk result (λ answer. IsReplayOn (root_of options.now.root) named answer.text.items answer.exit) }
+    ensures unplayed { IfErr result (IsUnplayed options.now.record.now (map (λ name. name.now) names.now)) }
 {
-    match status {
-        Some(Status::Failed(_)) => Exit::Failed,
-        Some(Status::Busy | Status::Waiting) => Exit::Unfinished,
-        Some(Status::Free) | None => Exit::Done,
+    let source = match read_source(alloc, files, names) {
+        Ok(source) => source,
+        Err(fault) => return answer_unread(alloc, names, fault),
+    };
+    let program = match load_text(alloc, source.text(), &options.root) {
+        Ok(program) => program,
+        Err(rejection) => return answer_rejected(alloc, &source, &rejection),
+    };
+    let record = match read_record(alloc, &mut NamedFile::new(files, options.record)) {
+        Ok(record) => record,
+        Err(fault) => return answer_no_record(alloc, options.record, fault),
+    };
+    let outcome = replay(alloc, &program, &record)?;
+    let exit = exit_of(outcome.statuses.as_slice());
+    Ok(Answer::new(alloc, outcome.report, exit))
+}
+
+/// What is answered where a file holds no record.
+fn answer_no_record<'a>(alloc: Global, name: &'a str, fault: ReadFault) -> Result<Answer, Fault<'a>>
+    ensures refused { IfOk result (λ answer. IsReplayTo answer.text.items answer.exit) }
+    ensures unread { IfErr result (IsUnansweredOn (name.now ∷ [])) }
+{
+    match fault {
+        ReadFault::BadRecord { line: _ } => answer_refused(alloc, b"refused A1 BadRecord\n"),
+        ReadFault::Unreadable(error) => Err(Fault::CannotRead(name, FileFault::Unreadable(error))),
+        ReadFault::OutOfMemory => Err(Fault::OutOfMemory),
     }
+}
+
+/// The answer of a line that tells a refusal.
+fn answer_refused<'a>(alloc: Global, line: &[u8]) -> Result<Answer, Fault<'a>>
+    ensures text { IfOk result (λ answer. answer.text.items ≡ line.now) }
+    ensures exit { IfOk result (λ answer. answer.exit ≡ Exit.Refused) }
+    ensures err { IfErr result (λ fault. fault ≡ spec.out_of_memory) }
+{
+    let text = Vec::from_slice(alloc, line)?;
+    Ok(Answer::new(alloc, text, Exit::Refused))
+}
+
+/// What the program ends with where the handlers are left like that.
+fn exit_of(statuses: &[Status]) -> Exit
+    ensures { result ≡ spec.exit_of statuses.now }
+{
+    if have_failed(statuses) {
+        Exit::Failed
+    } else if are_unfinished(statuses) {
+        Exit::Unfinished
+    } else {
+        Exit::Done
+    }
+}
+
+/// Whether one of the handlers has failed.
+fn have_failed(statuses: &[Status]) -> bool
+    ensures { result ≡ list_any spec.has_failed statuses.now }
+{
+    statuses.iter().any(|status| has_failed(*status))
+}
+
+/// Whether one of the handlers is waiting or busy.
+fn are_unfinished(statuses: &[Status]) -> bool
+    ensures { result ≡ list_any spec.is_unfinished statuses.now }
+{
+    statuses.iter().any(|status| is_unfinished(*status))
+}
+
+fn has_failed(status: Status) -> bool
+    ensures { result ≡ spec.has_failed status }
+{
+    matches!(status, Status::Failed(_))
+}
+
+/// Whether the handler is waiting or busy.
+fn is_unfinished(status: Status) -> bool
+    ensures { result ≡ spec.is_unfinished status }
+{
+    matches!(status, Status::Busy | Status::Waiting)
 }

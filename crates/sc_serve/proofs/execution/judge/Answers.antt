@@ -2,7 +2,7 @@ use Rattle.std.proofs.Common.{ap, subst, ◌∙◌}
 use Rattle.sc_tree.specs.View.{system_of}
 use Rattle.sc_class.specs.View.{root_of}
 use Rattle.sc_rules.specs.SystemRules.{WellFormed}
-use Rattle.sc_class.specs.SystemIn.{system_in}
+use Rattle.sc_class.specs.SystemIn.{root_in, system_in}
 use Rattle.sc_serve.specs.Execution.{IsAtFault}
 use Rattle.sc_serve.proofs.ExecutionLemmas.{err-is, class-fault, check-fault}
 use Rattle.sc_serve.proofs.execution.judge.Goals as goal
@@ -29,3 +29,6 @@ returns-clause-sound c =
 
 pub returns-clause-of_it : goal.returns-clause-of_it
 returns-clause-of_it c = ap system_in c.in_ok-check.ensures.of_it ∙ c.in_ok-classes.ensures.of_it
+
+pub returns-clause-rooted : goal.returns-clause-rooted
+returns-clause-rooted c = ap root_in c.in_ok-check.ensures.of_it ∙ c.in_ok-classes.ensures.rooted

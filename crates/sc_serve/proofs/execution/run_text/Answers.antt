@@ -2,7 +2,7 @@ use Rattle.std.proofs.Common.{◌≡◌, ◌∙◌, ap, sym}
 use Rattle.sc_tree.specs.View.{system_of}
 use Rattle.sc_class.specs.View.{root_of}
 use Rattle.sc_class.specs.SystemIn.{system_in}
-use Rattle.sc_serve.specs.NotYet.{is_not_yet}
+use Rattle.sc_serve.specs.Simple.{is_simple}
 use Rattle.sc_serve.specs.Execution.{IsNotRunFor}
 use Rattle.sc_serve.specs.Refusal.{out_of_memory}
 use Rattle.sc_serve.proofs.ExecutionLemmas.{err-is, unreadable-refused, fault-refused, refused-not_run, sound-in_memory}
@@ -32,34 +32,26 @@ returns-in_err-checked-clause-complete c = λ must.
     (sound-in_memory (system_of c.in_ok-system.system) (root_of c.args.root.now)
     (must.runnable _ c.in_ok-system.ensures.read).sound _ c.in_err-checked.ensures.fault)
 
--- what isn't run yet
-pub returns-then-not_yet-clause-refused : goal.returns-then-not_yet-clause-refused
-returns-then-not_yet-clause-refused c =
+-- what a simple system is played to
+pub play_simple-requires : goal.play_simple-requires
+play_simple-requires c = c.in_ok-checked.ensures.sound.faultless
+
+pub returns-then-is_simple-clause-ok : goal.returns-then-is_simple-clause-ok
+returns-then-is_simple-clause-ok c =
     record {
       system = system_of c.in_ok-system.system;
       read = c.in_ok-system.ensures.read;
       sound = c.in_ok-checked.ensures.sound;
-      not_yet = ap is_not_yet (sym (ap system_in c.tables.ensures.same ∙ c.in_ok-checked.ensures.of_it)) ∙ sym c.not_yet.ensures ∙ c.if-not_yet.true;
+      is_run = λ simple. c.in_ok-play_simple.ensures;
     }
 
-pub returns-then-not_yet-clause-complete : goal.returns-then-not_yet-clause-complete
-returns-then-not_yet-clause-complete c = λ must.
-    let supported = (must.runnable _ c.in_ok-system.ensures.read).supported in
-    let unsupported = ap is_not_yet (sym (ap system_in c.tables.ensures.same ∙ c.in_ok-checked.ensures.of_it)) ∙ sym c.not_yet.ensures ∙ c.if-not_yet.true in
-    cc
-
-pub play-requires : goal.play-requires
-play-requires c = c.in_ok-checked.ensures.sound.faultless
-
+-- another system isn't simple
 pub returns-clause-ok : goal.returns-clause-ok
 returns-clause-ok c =
     record {
       system = system_of c.in_ok-system.system;
       read = c.in_ok-system.ensures.read;
-      runnable =
-          record {
-            sound = c.in_ok-checked.ensures.sound;
-            supported = ap is_not_yet (sym (ap system_in c.tables.ensures.same ∙ c.in_ok-checked.ensures.of_it)) ∙ sym c.not_yet.ensures ∙ c.if-not_yet.false;
-          };
-      is_run = c.in_ok-play.ensures;
+      sound = c.in_ok-checked.ensures.sound;
+      is_run = λ simple.
+          let other = ap is_simple (sym (ap system_in c.tables.ensures.same ∙ c.in_ok-checked.ensures.of_it)) ∙ sym c.is_simple.ensures ∙ c.if-is_simple.false in cc;
     }

@@ -3,7 +3,7 @@ use Rattle.sc_tree.specs.View.{system_of}
 use Rattle.sc_class.specs.View.{root_of}
 use Rattle.sc_serve.specs.Execution.{run_root}
 use Rattle.sc_world.specs.WorldState.{opened, after_run}
-use Rattle.sc_serve.proofs.execution.play.Given as goal
+use Rattle.sc_serve.proofs.execution.play_simple.Given as goal
 
 -- the world stands after as many turns of handler 0
 abbrev pub invariant-loop : goal.invariant-loop

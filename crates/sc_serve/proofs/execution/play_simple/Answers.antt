@@ -5,8 +5,8 @@ use Rattle.sc_tree.specs.View.{class_of, system_of}
 use Rattle.sc_world.specs.Lookup.{class_named}
 use Rattle.sc_world.specs.WorldState.{after_run}
 use Rattle.sc_serve.proofs.PlayLemmas.{kept-stands, one-more, nothing-due, run-told}
-use Rattle.sc_serve.proofs.execution.play.Goals as goal
-use Rattle.sc_serve.proofs.execution.play.Goals.{else-loop-test, then-loop-test+in_ok-turn+then-eq}
+use Rattle.sc_serve.proofs.execution.play_simple.Goals as goal
+use Rattle.sc_serve.proofs.execution.play_simple.Goals.{else-loop-test, then-loop-test+in_ok-turn+then-eq}
 
 pub open-requires-clause-named : goal.open-requires-clause-named
 unfolding class_of
@@ -23,12 +23,12 @@ pub returns : goal.returns
 returns c =
     elim c.loop-test.branch [
       | else-loop-test w ↦
-          run-told _ _ _ c.loop.counter c.loop-test.world _ _ (w.world-is ∙ c.loop.invariant) c.loop.auto.counter-end
-          (inl (omega arith)) c.in_ok-report.ensures c.status.ensures
+          run-told _ _ _ c.loop.counter c.loop-test.world _ _ _ (w.world-is ∙ c.loop.invariant) c.loop.auto.counter-end
+          (inl (omega arith)) c.in_ok-report.ensures c.status.ensures c.in_ok-statuses.ensures
       | then-loop-test+in_ok-turn+then-eq w ↦
           let nothing : Nothing ≡ w.in_ok-turn.field-0 = search rules in
           let none : has_turn_at 0 c.loop.world.state ≡ false = nothing-due _ (nothing ∙ w.in_ok-turn.ensures.turned) in
           let same : c.loop-test.world ≡ c.loop.world = w.world-is ∙ w.in_ok-turn.ensures.ok ∙ kept-stands c.loop.world none in
-          run-told _ _ _ c.loop.counter c.loop-test.world _ _ (same ∙ c.loop.invariant) c.loop.auto.counter-end
-          (inr (rw same none)) c.in_ok-report.ensures c.status.ensures
+          run-told _ _ _ c.loop.counter c.loop-test.world _ _ _ (same ∙ c.loop.invariant) c.loop.auto.counter-end
+          (inr (rw same none)) c.in_ok-report.ensures c.status.ensures c.in_ok-statuses.ensures
     ]

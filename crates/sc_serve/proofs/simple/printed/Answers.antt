@@ -1,8 +1,8 @@
 use Rattle.std.proofs.Common.{rules, arith}
 use Rattle.sc_tree.specs.View.{name_of}
 use Rattle.sc_serve.proofs.Calls.{none_printed, several_printed}
-use Rattle.sc_serve.proofs.not_yet.printed.Goals.{in_default-via-then-as_slice-lt1, in_default-via-else-as_slice-lt1+else-this-lt2}
-use Rattle.sc_serve.proofs.not_yet.printed.Goals as goal
+use Rattle.sc_serve.proofs.simple.printed.Goals.{in_default-via-then-as_slice-lt1, in_default-via-else-as_slice-lt1+else-this-lt2}
+use Rattle.sc_serve.proofs.simple.printed.Goals as goal
 
 pub returns-in_default : goal.returns-in_default
 returns-in_default c =
