@@ -12,7 +12,13 @@ mod formulas;
 #[cfg(test)]
 mod grammar;
 #[cfg(test)]
+mod programs;
+#[cfg(test)]
 mod reading;
+#[cfg(test)]
+mod records;
+#[cfg(test)]
+mod stores;
 #[cfg(test)]
 mod tokens;
 #[cfg(test)]

@@ -60,6 +60,10 @@ const FAULTS: [(&str, &str); 16] = [
     ("a 9_223372036854775808", "IntegerTooLarge 2..22"),
 ];
 
+/// What makes no mark behind a percent sign: of the characters of ASCII that are written all but five.
+const NO_MARKS: &str =
+    " !#$&()*+,-./0123456789:;<=>?@ABCDEFGHIJKLMOPQRSUVWXYZ[\\]^_`abcdefghijklmnopqrstuvwxyz{|}~";
+
 /// The reserved words. Each is the terminal of this very name.
 const RESERVED: [&str; 57] = [
     "And",
@@ -194,6 +198,15 @@ fn tells_reserved_words(rt: HostRuntime) -> Result<(), Fail> {
         expect_told(&rt, word, &wanted)?;
         expect_told(&rt, &word.to_ascii_lowercase(alloc)?, &wanted)?;
         expect_told(&rt, &word.to_ascii_uppercase(alloc)?, &wanted)?;
+    }
+    Ok(())
+}
+
+#[test]
+fn knows_five_marks(rt: HostRuntime) -> Result<(), Fail> {
+    for character in NO_MARKS.chars() {
+        let text = format!(in rt.alloc(); "\"%{character}\"")?;
+        expect_told(&rt, &text, "BadEscape 1..2")?;
     }
     Ok(())
 }

@@ -56,7 +56,7 @@ fn takes_options_in_any_place(rt: HostRuntime) -> Result<(), Fail> {
 }
 
 /// Arguments that the command line doesn't have.
-const OTHER_ARGUMENTS: [&[&str]; 16] = [
+const OTHER_ARGUMENTS: [&[&str]; 20] = [
     &["scoop"],
     &["scoop", "a.e"],
     &["scoop", "run"],
@@ -72,6 +72,10 @@ const OTHER_ARGUMENTS: [&[&str]; 16] = [
     &["scoop", "run", "--turns", "1", "--turns", "1", "a.e"],
     &["scoop", "run", "a.e", "--turns"],
     &["scoop", "run", "--fast", "a.e"],
+    &["scoop", "replay"],
+    &["scoop", "replay", "a.e"],
+    &["scoop", "replay", "--turns", "1", "r", "a.e"],
+    &["scoop", "run", "--record", "r", "a.e"],
     // Other faults of the arguments come before a bad root.
     &["scoop", "run", "--root", "A", "--turns", "0", "a.e"],
 ];
@@ -106,12 +110,13 @@ fn tells_a_bad_root(rt: HostRuntime) -> Result<(), Fail> {
 }
 
 /// Arguments that ask for help, and what it has.
-const HELPS: [(&[&str], &str); 6] = [
+const HELPS: [(&[&str], &str); 7] = [
     (&["scoop", "--help"], "Usage: scoop <COMMAND>"),
     (&["scoop", "run", "--help"], "--turns <N>"),
     (&["scoop", "check", "--help"], "[default: APPLICATION.make]"),
     (&["scoop", "help", "run"], "stopped limit"),
     (&["scoop", "print", "--help"], "canonical"),
+    (&["scoop", "replay", "--help"], "<RECORD> <FILE>..."),
     (&["scoop", "--version"], "scoop 0.1.0\n"),
 ];
 

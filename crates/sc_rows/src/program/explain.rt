@@ -4,7 +4,7 @@ use super::{Wanted, call, done, expect, expect_of, usage};
 use std::test::Fail;
 
 /// Beginnings of pages, each of the first and the last code of its kind.
-const HEADINGS: [&str; 10] = [
+const HEADINGS: [&str; 11] = [
     "L1 BadCharacter",
     "L5 SourceTooLong",
     "P1 NotInGrammar",
@@ -13,6 +13,7 @@ const HEADINGS: [&str; 10] = [
     "C8 LeftOut",
     "V1 UnknownName",
     "V20 VoidUse",
+    "A1 BadRecord",
     "F1 Invariant",
     "F16 BadCode",
 ];
@@ -24,7 +25,7 @@ fn explains_each_code_by_code_and_name(rt: HostRuntime) -> Result<(), Fail> {
     for heading in HEADINGS {
         assert!(rt; list.out.as_str().contains(heading));
     }
-    assert_eq!(rt; list.out.as_str().lines().count(), 51);
+    assert_eq!(rt; list.out.as_str().lines().count(), 52);
     for heading in list.out.as_str().lines() {
         let (code, name) = heading.split_once(' ').unwrap_or(("", ""));
         let page = call(&rt, &["scoop", "explain", code], &[])?;
@@ -92,12 +93,12 @@ const SHOWN: [(&str, &str, &str); 8] = [
     (
         "class APPLICATION create make feature n: INTEGER make do\n\tn := True\tand then \n\t\tFalse end end",
         "refused V4 AssignType app.e:2:7\n",
-        "\tn := True\tand then \n\t     ^^^^\t^^^^^^^^\nthis isn't of a type that the left side takes\n`scoop explain V4` says more\n",
+        "\tn := True\tand then \n\t     ^^^^\t^^^^^^^^\nthis is of type `BOOLEAN`, and `n` takes `INTEGER`\n`scoop explain V4` says more\n",
     ),
     (
         "class APPLICATION create make feature make do\n\tprint (1 + -- \u{e9}\n\tTrue) end end",
         "refused V9 OperatorType app.e:2:9\n",
-        "\tprint (1 + -- \u{e9}\n\t       ^^^^^^^^\nthis has operands that its operator doesn't take\n`scoop explain V9` says more\n",
+        "\tprint (1 + -- \u{e9}\n\t       ^^^^^^^^\n`+` takes two INTEGERs, and its operands are of type `INTEGER` and of type `BOOLEAN`\n`scoop explain V9` says more\n",
     ),
     (
         "",
@@ -131,7 +132,7 @@ const HELPED: [(&str, &str, &str); 14] = [
     (
         "class APPLICATION create make feature c: CELLS make do end end class CELL end",
         "refused V1 UnknownName app.e:1:42\n",
-        "class APPLICATION create make feature c: CELLS make do end end class CELL end\n                                         ^^^^^\nnothing that is known here has the name `CELLS`\nhelp: did you mean `cell`?\n`scoop explain V1` says more\n",
+        "class APPLICATION create make feature c: CELLS make do end end class CELL end\n                                         ^^^^^\nnothing that may stand here has the name `CELLS`\nhelp: did you mean `CELL`?\n`scoop explain V1` says more\n",
     ),
     (
         "class APPLICATION create make feature make do end end\nclass Application end",

@@ -64,7 +64,7 @@ end
 ";
 
 /// A clause over a buffer that is reserved already, and one that no one waits for.
-const DRAIN: &str = "class APPLICATION create make
+pub const DRAIN: &str = "class APPLICATION create make
 feature
 \tb: separate BUFFER
 \tmake do create b hold (b) use (b) end
@@ -82,7 +82,7 @@ end
 ";
 
 /// A call back to an object whose invariant doesn't hold.
-const BROKEN_CALLBACK: &str = "class APPLICATION create make
+pub const BROKEN_CALLBACK: &str = "class APPLICATION create make
 feature
 \tn: INTEGER
 \tw: separate WORKER
@@ -98,7 +98,7 @@ end
 ";
 
 /// Locks that are passed twice.
-const RELAY: &str = "class APPLICATION create make
+pub const RELAY: &str = "class APPLICATION create make
 feature
 \tb, c, d: separate NODE
 \te: separate LATE
@@ -132,7 +132,7 @@ end
 ";
 
 /// More handlers than a run may have.
-const MANY_HANDLERS: &str = "class APPLICATION create make
+pub const MANY_HANDLERS: &str = "class APPLICATION create make
 feature
 \ti: INTEGER
 \ts: separate CELL
@@ -142,7 +142,7 @@ class CELL end
 ";
 
 /// Two that wait for each other.
-const MUTUAL_WAIT: &str = "class APPLICATION create make
+pub const MUTUAL_WAIT: &str = "class APPLICATION create make
 feature
 \tme: separate APPLICATION
 \tw: separate WORKER

@@ -1,0 +1,259 @@
+// Texts of records, what they are read as, and readers and writers that fail.
+
+use sc_audit::{ReadFault, RecordLine, read_record, write_record};
+use sc_lockpass::Version;
+use std::alloc::Global;
+use std::io::{self, ErrorKind, Read, Write};
+use std::process::Abort;
+use std::test::Fail;
+
+/// What a text is read as: its version and how many lines it has, or the line at fault, or that the reader failed.
+#[derive(Clone, Copy, Debug, PartialEq, Eq)]
+enum Outcome {
+    Record(Version, usize),
+    Bad(usize),
+    Unreadable,
+    OutOfMemory,
+}
+
+/// Texts of records and of others.
+const TEXTS: [(&str, Outcome); 32] = [
+    (
+        "scoop record 1\n0 5\nend 1\n",
+        Outcome::Record(Version::One, 1),
+    ),
+    ("scoop record 2\nend 0\n", Outcome::Record(Version::Two, 0)),
+    (
+        "scoop record 1\n63 1\n0 1\nend 2\n",
+        Outcome::Record(Version::One, 2),
+    ),
+    (
+        "scoop record 2\n64 1\nend 1\n",
+        Outcome::Record(Version::Two, 1),
+    ),
+    (
+        "scoop record 2\n511 1\nend 1\n",
+        Outcome::Record(Version::Two, 1),
+    ),
+    (
+        "scoop record 2\n1 10000000\nend 1\n",
+        Outcome::Record(Version::Two, 1),
+    ),
+    (
+        "scoop record 2\n1 9999999\n2 1\nend 2\n",
+        Outcome::Record(Version::Two, 2),
+    ),
+    // The first line.
+    ("", Outcome::Bad(1)),
+    ("scoop record 1", Outcome::Bad(1)),
+    ("scoop record 3\nend 0\n", Outcome::Bad(1)),
+    ("scoop record 12\nend 0\n", Outcome::Bad(1)),
+    ("scoop  record 1\nend 0\n", Outcome::Bad(1)),
+    ("scoop record 1\r\nend 0\n", Outcome::Bad(1)),
+    // A line's numbers.
+    ("scoop record 1\n0 0\nend 1\n", Outcome::Bad(2)),
+    ("scoop record 1\n0 05\nend 1\n", Outcome::Bad(2)),
+    ("scoop record 1\n00 5\nend 1\n", Outcome::Bad(2)),
+    ("scoop record 1\n0 5 \nend 1\n", Outcome::Bad(2)),
+    ("scoop record 1\n0  5\nend 1\n", Outcome::Bad(2)),
+    ("scoop record 1\n 0 5\nend 1\n", Outcome::Bad(2)),
+    ("scoop record 1\n-1 5\nend 1\n", Outcome::Bad(2)),
+    ("scoop record 1\n64 1\nend 1\n", Outcome::Bad(2)),
+    ("scoop record 2\n512 1\nend 1\n", Outcome::Bad(2)),
+    ("scoop record 2\n1 10000001\nend 1\n", Outcome::Bad(2)),
+    ("scoop record 2\n1 9999999\n2 2\nend 2\n", Outcome::Bad(3)),
+    ("scoop record 2\n1 10000000\n2 1\nend 2\n", Outcome::Bad(3)),
+    // The last line, and what is missing or follows.
+    ("scoop record 1\n0 5\nend 2\n", Outcome::Bad(3)),
+    ("scoop record 1\n0 5\nend 01\n", Outcome::Bad(3)),
+    ("scoop record 1\n0 5\nend 1", Outcome::Bad(3)),
+    ("scoop record 1\n0 5\n", Outcome::Bad(3)),
+    ("scoop record 1\n", Outcome::Bad(2)),
+    ("scoop record 1\n0 5\nend 1\n\n", Outcome::Bad(4)),
+    ("scoop record 1\n0 5\nend 1\nend 1\n", Outcome::Bad(4)),
+];
+
+fn outcome_of<R: Read>(alloc: Global, reader: &mut R) -> Outcome {
+    match read_record(alloc, reader) {
+        Ok(record) => Outcome::Record(record.version, record.lines.len()),
+        Err(ReadFault::BadRecord { line }) => Outcome::Bad(line),
+        Err(ReadFault::Unreadable(_)) => Outcome::Unreadable,
+        Err(ReadFault::OutOfMemory) => Outcome::OutOfMemory,
+    }
+}
+
+#[test]
+fn texts_are_read_or_have_a_line_at_fault(rt: HostRuntime) -> Result<(), Fail> {
+    for &(text, wanted) in &TEXTS {
+        let mut reader = text.as_bytes();
+        assert_eq!(rt; outcome_of(rt.alloc(), &mut reader), wanted, "{text:?}");
+    }
+    Ok(())
+}
+
+/// A small record, of which each byte is altered in each way.
+const SMALL: &[u8; 25] = b"scoop record 1\n0 5\nend 1\n";
+
+#[test]
+fn altered_texts_are_told_apart(rt: HostRuntime) -> Result<(), Fail> {
+    let mut records = 0usize;
+    let mut others = 0usize;
+    for (place, byte) in SMALL.iter().enumerate() {
+        for other in 0..=u8::MAX {
+            let mut text = *SMALL;
+            text[place] = other;
+            let mut reader = text.as_slice();
+            match outcome_of(rt.alloc(), &mut reader) {
+                _ if other == *byte => {}
+                Outcome::Record(..) => records = records.saturating_add(1),
+                Outcome::Bad(_) => others = others.saturating_add(1),
+                Outcome::OutOfMemory => return Err(Fail::new("out of memory")),
+                Outcome::Unreadable => assert!(rt; false, "unreadable at {place}"),
+            }
+        }
+    }
+    // The version, nine other handlers and eight other numbers of turns.
+    assert_eq!(rt; (records, others), (18, 6357));
+    Ok(())
+}
+
+/// A reader that gives one byte a call, and fails from some call on.
+#[derive(Drop)]
+struct Failing<'a> {
+    bytes: &'a [u8],
+    calls_left: usize,
+}
+
+impl<'a> Read for Failing<'a> {
+    fn read(&mut self, buf: &mut [u8]) -> io::Result<usize> {
+        if self.calls_left == 0 {
+            return Err(io::Error::from(ErrorKind::Other));
+        }
+        self.calls_left -= 1;
+        let most = buf.len().min(1);
+        self.bytes.read(&mut buf[..most])
+    }
+}
+
+/// Texts, after how many bytes it is clear what they are, and what they are.
+const CLEAR: [(&[u8], usize, Outcome); 4] = [
+    (SMALL, 26, Outcome::Record(Version::One, 1)),
+    (b"scoop record 1\n0 05\nend 1\n", 18, Outcome::Bad(2)),
+    (b"scoop record 4\n0 5\nend 1\n", 14, Outcome::Bad(1)),
+    (b"scoop record 1\n0 5\nend 1\n\n", 26, Outcome::Bad(4)),
+];
+
+#[test]
+fn readers_that_fail_behind_the_line_at_fault_are_not_told(rt: HostRuntime) -> Result<(), Fail> {
+    for &(bytes, clear, wanted) in &CLEAR {
+        for calls_left in 0..40 {
+            let mut reader = Failing { bytes, calls_left };
+            let wanted = if calls_left < clear {
+                Outcome::Unreadable
+            } else {
+                wanted
+            };
+            assert_eq!(rt;
+                outcome_of(rt.alloc(), &mut reader),
+                wanted,
+                "after {calls_left}"
+            );
+        }
+    }
+    Ok(())
+}
+
+/// A reader without an end.
+#[derive(Drop)]
+struct Endless;
+
+impl Read for Endless {
+    fn read(&mut self, buf: &mut [u8]) -> io::Result<usize> {
+        buf.fill(b's');
+        Ok(buf.len())
+    }
+}
+
+#[test]
+fn a_reader_without_an_end_is_left(rt: HostRuntime) -> Result<(), Fail> {
+    assert_eq!(rt; outcome_of(rt.alloc(), &mut Endless), Outcome::Bad(1));
+    Ok(())
+}
+
+/// A writer that takes three bytes a call at most, and some calls on fails, or takes none.
+#[derive(Drop)]
+struct Narrow {
+    bytes: Vec<u8>,
+    calls_left: usize,
+    is_full: bool,
+}
+
+impl Write for Narrow {
+    fn write(&mut self, buf: &[u8]) -> io::Result<usize> {
+        if self.calls_left == 0 {
+            if self.is_full {
+                return Ok(0);
+            }
+            return Err(io::Error::from(ErrorKind::BrokenPipe));
+        }
+        self.calls_left -= 1;
+        let most = buf.len().min(3);
+        self.bytes.extend_from_slice(&buf[..most])?;
+        Ok(most)
+    }
+
+    fn flush(&mut self) -> io::Result<()> {
+        Ok(())
+    }
+}
+
+const LINES: [RecordLine; 2] = [
+    RecordLine {
+        handler: 0,
+        turns: 5,
+    },
+    RecordLine {
+        handler: 511,
+        turns: 1_000_000,
+    },
+];
+
+const WRITTEN: &[u8] = b"scoop record 2\n0 5\n511 1000000\nend 2\n";
+
+#[test]
+fn what_was_written_is_a_beginning(rt: HostRuntime) -> Result<(), Fail> {
+    for is_full in [false, true] {
+        for calls_left in 0..20 {
+            let bytes = Vec::with_capacity(rt.alloc(), WRITTEN.len())?;
+            let mut writer = Narrow {
+                bytes,
+                calls_left,
+                is_full,
+            };
+            let result = write_record(&mut writer, &LINES);
+            let wanted = WRITTEN.len().min(3 * calls_left);
+            assert_eq!(rt; result.is_ok(), wanted == WRITTEN.len());
+            assert_eq!(rt; writer.bytes.as_slice(), &WRITTEN[..wanted]);
+        }
+    }
+    Ok(())
+}
+
+/// Room for the text of 4000 lines.
+const MOST_WRITTEN: usize = 4000 * 16;
+
+#[test]
+fn what_was_written_is_read_again(rt: HostRuntime) -> Result<(), Fail> {
+    let mut lines = Vec::new(rt.alloc());
+    for turns in 1..4000u32 {
+        let handler = u16::try_from(turns % 512).ok().unwrap_or(0);
+        lines.push(RecordLine { handler, turns })?;
+    }
+    let mut bytes = Vec::with_capacity(rt.alloc(), MOST_WRITTEN)?;
+    write_record(&mut bytes, lines.as_slice())?;
+    let mut reader = bytes.as_slice();
+    let record = read_record(rt.alloc(), &mut reader)?;
+    assert_eq!(rt; record.version, Version::Two);
+    assert!(rt; record.lines.as_slice() == lines.as_slice());
+    Ok(())
+}

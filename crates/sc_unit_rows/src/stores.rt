@@ -1,0 +1,368 @@
+// Stores of a handler: what calls leave of one, step by step, and how much it has room for.
+
+use crate::programs::program_of;
+use sc_code::Program;
+use sc_model::Cause;
+use sc_region::{Activation, Origin, Reference, Store, Value};
+use std::alloc::{AllocError, Global};
+use std::process::Abort;
+use std::test::Fail;
+
+/// Three classes, and a routine without formals and a function of one in the first.
+const SOURCE: &str = "class LOW create run
+feature
+    n: INTEGER
+    run do end
+    ask (x: separate LOW): BOOLEAN local i: INTEGER do ensure n = old n end
+invariant n < 8 end
+
+class SET feature n: INTEGER invariant n /= 0 end
+
+class FREE feature i: INTEGER b: BOOLEAN a: detachable FREE end";
+
+const LOW: u8 = 0;
+
+const RUN: usize = 1;
+
+/// Calls of a store without objects, and what they leave: the failure that it has ended in, if any, and the number of
+/// Current, if there is a frame; of each object whether it is settled, whether it meets its invariant, and its
+/// attributes; and the output.
+///
+/// An object that a request makes comes first, without a procedure and by one, then one that a routine makes. At the end
+/// of a routine its object is settled where no other routine runs on it. Where no routine runs, nothing is written and
+/// nothing ends. An attribute is no routine, and a function of one formal takes one actual.
+const STORES: &str = "|runs
+born LOW|runs; settled meets 0
+born FREE|runs; settled meets 0 False Void
+born SET|Invariant; open breaks 0
+born LOW, born SET|Invariant; open meets 0; open breaks 0
+born LOW run|runs on 1; open meets 0
+born LOW run, pop|runs; settled meets 0
+born SET run|runs on 1; open breaks 0
+born SET run, set 5, pop|runs; settled meets 5
+born SET run, pop|Invariant; open breaks 0
+born LOW run, make LOW|runs on 1; open meets 0; settled meets 0
+born LOW run, make SET|Invariant; open meets 0; open breaks 0
+born LOW run, make SET run|runs on 2; open meets 0; open breaks 0
+born LOW run, make SET run, set 5, pop|runs on 1; open meets 0; settled meets 5
+born LOW run, make SET run, pop|Invariant; open meets 0; open breaks 0
+born LOW, push 1 run, set 9|runs on 1; open breaks 9
+born LOW, push 1 run, set 9, pop|Invariant; open breaks 9
+born LOW, push 1 run, push 1 run, set 9, pop|runs on 1; open breaks 9
+born LOW, push 1 run, push 1 run, set 9, pop, set 7, pop|runs; settled meets 7
+born LOW, born LOW, push 1 run, push 2 run, push 1 run, set 9, pop|runs on 2; open breaks 9; open meets 0
+born LOW, born LOW, push 1 run, push 2 run, push 1 run, set 9, pop, pop|runs on 1; open breaks 9; settled meets 0
+born LOW, born LOW, push 1 run, push 2 run, push 1 run, set 9, pop, pop, pop|Invariant; open breaks 9; open meets 0
+born LOW, set 9, pop|runs; settled meets 0
+born LOW, push 1 n|BadCode; open meets 0
+born LOW run, make LOW ask|BadCode; open meets 0; open meets 0
+born LOW, push 1 run 3|BadCode; open meets 0
+born LOW, push 1 ask 3|runs on 1; open meets 0
+born LOW run, set 7, fail|Check; open meets 7
+print a, print bc|runs; printed abc
+born LOW run, print a, print bc, fail|Check; open meets 0; printed abc";
+
+/// Calls of a store without objects, and how the topmost routine stands then: its number, what began it, what it does,
+/// its slots, its Result, and whether there is room for an `old` and for an operand.
+const FRAMES: &str = "|none
+born LOW run|1 RequestedCreation Runs at 0 [] None false false
+born LOW run, make LOW run|1 Creation Runs at 0 [] None false false
+born LOW, push 1 ask 3|2 Qualified Reserves at 0 [Integer(3), Void] Some(Boolean(false)) true true
+born LOW run, push 1 ask 3, pop|1 RequestedCreation Runs at 0 [] None false false";
+
+// ---- calls
+
+/// A call of the store of handler 0.
+#[derive(Clone, Copy)]
+enum Step<'t> {
+    /// An object of the class is made by a request, and the routine entered on it, if there is one.
+    Born(u8, Option<usize>),
+    /// The same by a routine.
+    Make(u8, Option<usize>),
+    /// The routine is entered on the object of the number, with this actual, if there is one.
+    Push(u32, usize, Option<i64>),
+    Pop,
+    /// The first attribute of Current gets the value.
+    Set(i64),
+    Print(&'t str),
+    Fail,
+}
+
+/// The number of a class.
+fn class_named(name: &str) -> Result<u8, Fail> {
+    match name {
+        "LOW" => Ok(LOW),
+        "SET" => Ok(1),
+        "FREE" => Ok(2),
+        _ => Err(Fail::new("an unknown class")),
+    }
+}
+
+/// The number of a feature of the first class.
+fn feature_named(name: &str) -> Result<usize, Fail> {
+    match name {
+        "n" => Ok(0),
+        "run" => Ok(RUN),
+        "ask" => Ok(2),
+        _ => Err(Fail::new("an unknown feature")),
+    }
+}
+
+/// The number of the feature, if one is named.
+fn feature_if_any(name: Option<&str>) -> Result<Option<usize>, Fail> {
+    match name {
+        None => Ok(None),
+        Some(name) => Ok(Some(feature_named(name)?)),
+    }
+}
+
+/// The call that these words name.
+fn step_of(text: &str) -> Result<Step<'_>, Fail> {
+    let mut words = text.split(' ');
+    let verb = words.next().unwrap_or("");
+    let noun = words.next().unwrap_or("");
+    let routine = words.next();
+    match verb {
+        "born" => Ok(Step::Born(class_named(noun)?, feature_if_any(routine)?)),
+        "make" => Ok(Step::Make(class_named(noun)?, feature_if_any(routine)?)),
+        "push" => {
+            let routine = feature_named(routine.unwrap_or(""))?;
+            let actual = match words.next() {
+                None => None,
+                Some(word) => Some(word.parse()?),
+            };
+            Ok(Step::Push(noun.parse()?, routine, actual))
+        }
+        "pop" => Ok(Step::Pop),
+        "set" => Ok(Step::Set(noun.parse()?)),
+        "print" => Ok(Step::Print(noun)),
+        "fail" => Ok(Step::Fail),
+        _ => Err(Fail::new("an unknown call")),
+    }
+}
+
+/// The number that the next object has; no row makes more than nine.
+fn next_number(store: &Store<'_>) -> u32 {
+    for number in 1..10 {
+        if store.class_of(number).is_none() {
+            return number;
+        }
+    }
+    10
+}
+
+fn object(number: u32, class: u8) -> Reference {
+    Reference {
+        handler: 0,
+        number,
+        class,
+    }
+}
+
+fn call(store: &mut Store<'_>, step: Step<'_>) -> Result<(), AllocError> {
+    match step {
+        Step::Born(class, None) => store.birth(class),
+        Step::Born(class, Some(routine)) => {
+            let target = object(next_number(store), class);
+            store.birth_with(target, routine, &[])
+        }
+        Step::Make(class, None) => store.make_object(class),
+        Step::Make(class, Some(routine)) => store.make_object_with(0, class, routine, &[]),
+        Step::Push(number, routine, actual) => {
+            let current = object(number, store.class_of(number).unwrap_or(LOW));
+            match actual {
+                None => store.push(current, routine, Origin::Qualified, &[]),
+                Some(actual) => store.push(
+                    current,
+                    routine,
+                    Origin::Qualified,
+                    &[Value::Integer(actual)],
+                ),
+            }
+        }
+        Step::Pop => {
+            store.pop();
+            Ok(())
+        }
+        Step::Set(value) => {
+            store.write_current(0, Value::Integer(value));
+            Ok(())
+        }
+        Step::Print(text) => store.print(text.as_bytes()),
+        Step::Fail => {
+            store.fail(Cause::Check);
+            Ok(())
+        }
+    }
+}
+
+// ---- what they leave
+
+fn tell_value(text: &mut String, value: Value) -> Result<(), AllocError> {
+    match value {
+        Value::Integer(number) => write!(text, " {number}"),
+        Value::Boolean(true) => write!(text, " True"),
+        Value::Boolean(false) => write!(text, " False"),
+        Value::Void => write!(text, " Void"),
+        Value::Attached(reference) => write!(text, " {reference:?}"),
+    }
+}
+
+fn tell_object(text: &mut String, store: &Store<'_>, number: u32) -> Result<(), AllocError> {
+    let settled = if store.settled(number) {
+        "settled"
+    } else {
+        "open"
+    };
+    let meets = if store.test_invariant(number) {
+        "meets"
+    } else {
+        "breaks"
+    };
+    write!(text, "; {settled} {meets}")?;
+    for slot in 0..4 {
+        if let Some(value) = store.read(number, slot) {
+            tell_value(text, value)?;
+        }
+    }
+    Ok(())
+}
+
+fn told(alloc: Global, store: &Store<'_>) -> Result<String, Fail> {
+    let mut text = match store.failure() {
+        Some(why) => format!(in alloc; "{why:?}")?,
+        None => String::from_str(alloc, "runs")?,
+    };
+    if let Some(current) = store.current() {
+        let number = current.number;
+        write!(text, " on {number}")?;
+    }
+    for number in 1..10 {
+        if store.class_of(number).is_some() {
+            tell_object(&mut text, store, number)?;
+        }
+    }
+    if !store.output().is_empty() {
+        let output = String::from_utf8_lossy(alloc, store.output())?;
+        write!(text, "; printed {output}")?;
+    }
+    Ok(text)
+}
+
+fn told_frame(alloc: Global, store: &Store<'_>) -> Result<String, AllocError> {
+    let Some(top) = store.top() else {
+        return String::from_str(alloc, "none");
+    };
+    let Activation {
+        routine,
+        origin,
+        stage,
+        place,
+        slots,
+        result,
+        olds,
+        operands,
+        ..
+    } = top;
+    let may_keep = !olds.is_full();
+    let may_push = !operands.is_full();
+    format!(in alloc;
+        "{routine} {origin:?} {stage:?} at {place} {slots:?} {result:?} {may_keep} {may_push}"
+    )
+}
+
+/// The store after these calls. One that is refused memory has changed nothing, so it is made once more.
+fn play<'p>(
+    rt: &(impl Abort + AllocGlobal),
+    program: &'p Program,
+    steps: &str,
+) -> Result<Store<'p>, Fail> {
+    let alloc = rt.alloc();
+    let mut store = Store::new(alloc, program);
+    for words in steps.split(", ") {
+        if words.is_empty() {
+            break;
+        }
+        let step = step_of(words)?;
+        let before = told(alloc, &store)?;
+        if call(&mut store, step).is_err() {
+            let after = told(alloc, &store)?;
+            assert_eq!(rt;
+                after.as_str(),
+                before.as_str(),
+                "of {words}, refused memory"
+            );
+            call(&mut store, step)?;
+        }
+    }
+    Ok(store)
+}
+
+#[test]
+fn calls_leave_stores(rt: HostRuntime) -> Result<(), Fail> {
+    let program = program_of(rt.alloc(), SOURCE, "low", "run")?;
+    for row in STORES.lines() {
+        let (steps, wanted) = row.split_once('|').ok_or("a row without a bar")?;
+        let store = play(&rt, &program, steps)?;
+        let told = told(rt.alloc(), &store)?;
+        assert_eq!(rt; told.as_str(), wanted, "of {steps}");
+    }
+    Ok(())
+}
+
+#[test]
+fn routines_begin(rt: HostRuntime) -> Result<(), Fail> {
+    let program = program_of(rt.alloc(), SOURCE, "low", "run")?;
+    for row in FRAMES.lines() {
+        let (steps, wanted) = row.split_once('|').ok_or("a row without a bar")?;
+        let store = play(&rt, &program, steps)?;
+        let told = told_frame(rt.alloc(), &store)?;
+        assert_eq!(rt; told.as_str(), wanted, "of {steps}");
+    }
+    Ok(())
+}
+
+// ---- limits
+
+fn make_objects(store: &mut Store<'_>, count: u32) -> Result<(), AllocError> {
+    for _ in 0..count {
+        store.make_object(LOW)?;
+    }
+    Ok(())
+}
+
+#[test]
+fn there_are_at_most_65536_objects(rt: HostRuntime) -> Result<(), Fail> {
+    let program = program_of(rt.alloc(), SOURCE, "low", "run")?;
+    let mut store = Store::new(rt.alloc(), &program);
+    make_objects(&mut store, 65_536)?;
+    assert_eq!(rt; store.failure(), None);
+    assert!(rt; store.settled(65_536));
+    make_objects(&mut store, 1)?;
+    assert_eq!(rt; store.failure(), Some(Cause::TooManyObjects));
+    assert_eq!(rt; store.read(65_536, 0), Some(Value::Integer(0)));
+    assert_eq!(rt; store.class_of(65_537), None);
+    Ok(())
+}
+
+fn push_frames(store: &mut Store<'_>, count: u32) -> Result<(), AllocError> {
+    for _ in 0..count {
+        store.push(object(1, LOW), RUN, Origin::Unqualified, &[])?;
+    }
+    Ok(())
+}
+
+#[test]
+fn there_are_at_most_1024_frames(rt: HostRuntime) -> Result<(), Fail> {
+    let program = program_of(rt.alloc(), SOURCE, "low", "run")?;
+    let mut store = Store::new(rt.alloc(), &program);
+    store.birth(LOW)?;
+    push_frames(&mut store, 1_024)?;
+    assert_eq!(rt; store.failure(), None);
+    assert_eq!(rt; store.current(), Some(object(1, LOW)));
+    push_frames(&mut store, 1)?;
+    assert_eq!(rt; store.failure(), Some(Cause::StackFull));
+    assert_eq!(rt; store.current(), None);
+    assert_eq!(rt; store.read(1, 0), Some(Value::Integer(0)));
+    Ok(())
+}
