@@ -3,7 +3,7 @@ _scoop() {
     local word=${COMP_WORDS[COMP_CWORD]} before=${COMP_WORDS[COMP_CWORD - 1]} command=${COMP_WORDS[1]}
     COMPREPLY=()
     if [ "$COMP_CWORD" = 1 ]; then
-        mapfile -t COMPREPLY < <(compgen -W 'check run print explain help --help --version' -- "$word")
+        mapfile -t COMPREPLY < <(compgen -W 'check run replay print explain help --help --version' -- "$word")
         return
     fi
     case $before in
@@ -12,10 +12,12 @@ _scoop() {
     case $command:$word in
     check:-*) mapfile -t COMPREPLY < <(compgen -W '--root --explain --help' -- "$word") ;;
     run:-*) mapfile -t COMPREPLY < <(compgen -W '--turns --root --explain --help' -- "$word") ;;
+    replay:-*) mapfile -t COMPREPLY < <(compgen -W '--root --help' -- "$word") ;;
     print:-* | explain:-*) mapfile -t COMPREPLY < <(compgen -W '--help' -- "$word") ;;
     explain:*) mapfile -t COMPREPLY < <(compgen -W "$("${COMP_WORDS[0]}" explain 2>/dev/null)" -- "$word") ;;
-    help:*) mapfile -t COMPREPLY < <(compgen -W 'check run print explain' -- "$word") ;;
-    *) mapfile -t COMPREPLY < <(compgen -f -X '!*.e' -- "$word" && compgen -d -- "$word") ;;
+    help:*) mapfile -t COMPREPLY < <(compgen -W 'check run replay print explain' -- "$word") ;;
+    replay:*) mapfile -t COMPREPLY < <(compgen -f -- "$word") ;;
+    *) mapfile -t COMPREPLY < <(compgen -f -X '!*.e' -- "$word"; compgen -d -- "$word") ;;
     esac
 }
 complete -o filenames -F _scoop scoop

@@ -3,7 +3,7 @@
 -- `require` says what a caller has to see to, `ensure` what a routine has done, and `old` is a value from before it. The
 -- invariant holds for each account that is left alone: it is tested where a call with a target, or a creation, ends.
 --
---     ./scoop check examples/account.e
+--     ./scoop run examples/account.e
 
 class APPLICATION
 

@@ -3,7 +3,7 @@
 -- Each worker announces itself at the barrier and then waits until all have come. The wait is a precondition that
 -- names the reserved barrier; in between the barrier is free for the others.
 --
---     ./scoop check examples/barrier.e
+--     ./scoop run examples/barrier.e
 
 class APPLICATION
 
@@ -78,7 +78,7 @@ feature
 			print ("before ")
 			arrive_at (barrier)
 			pass (barrier)
-			print ("behind ")
+			print ("behind%N")
 		end
 
 	arrive_at (b: separate BARRIER)

@@ -4,7 +4,7 @@
 -- its handler is reserved for the whole routine; a precondition that names it is waited for, and asks nobody to
 -- notify anybody. The buffer is a ring of objects of its own handler.
 --
---     ./scoop check examples/bounded_buffer.e
+--     ./scoop run examples/bounded_buffer.e
 
 class APPLICATION
 

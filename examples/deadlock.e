@@ -2,11 +2,14 @@
 --
 -- Each of two friends reserves a fork and, while holding it, a second one: the first friend the left and then the right
 -- one, the other the right and then the left one. Where both hold their first fork, each waits for good. Nothing is
--- wrong with the text, so `check` says `ok`; a run that comes there stops, and reports `waiting` of both.
+-- wrong with the text, so `check` says `ok`; a run that comes there stops, reports `waiting` of both, and ends with
+-- status 4.
 --
--- `philosophers.e` does better: it reserves both forks at once.
+-- In the order of `deadlock.record` the one friend has eaten before the other begins, and nobody waits. `philosophers.e`
+-- does better: it reserves both forks at once.
 --
---     ./scoop check examples/deadlock.e
+--     ./scoop run examples/deadlock.e
+--     ./scoop replay examples/deadlock.record examples/deadlock.e
 
 class APPLICATION
 

@@ -3,7 +3,7 @@
 -- `x.take (n)` on a reserved stage is a command: it is put into the stage's queue and not waited for, so all stages work
 -- at once. A stage knows the next one by an attribute, and reserves it for each number by a separate block.
 --
---     ./scoop check examples/pipeline.e
+--     ./scoop run examples/pipeline.e
 
 class APPLICATION
 

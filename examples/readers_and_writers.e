@@ -3,7 +3,7 @@
 -- A gate counts who is in. Readers and writers reserve the gate to come in and to go out, and wait by a precondition
 -- until they may; while they read or write the gate is free. The document is reserved for each single look at it alone.
 --
---     ./scoop check examples/readers_and_writers.e
+--     ./scoop run examples/readers_and_writers.e
 
 class APPLICATION
 

@@ -4,7 +4,7 @@
 -- contract that it inherits, so `largest` may rely on the postcondition of `area` for shapes that it has never heard of.
 -- There are no deferred classes: the parent's version is a whole routine.
 --
---     ./scoop check examples/shapes.e
+--     ./scoop run examples/shapes.e
 
 class APPLICATION
 

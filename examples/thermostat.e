@@ -28,8 +28,7 @@ feature -- What it does
 		end
 
 	regulate
-			-- Heat or cool one degree at a time. There is no loop in this part of the language: the
-			-- routine calls itself.
+			-- Heat or cool one degree at a time: the routine calls itself for as long as it takes.
 		do
 			report
 			if heating then

@@ -3,7 +3,7 @@
 -- `transfer` reserves both accounts at once, so nobody sees the sum on neither or on both. Its precondition is waited
 -- for: a transfer that isn't covered begins once it is.
 --
---     ./scoop check examples/transfer.e
+--     ./scoop run examples/transfer.e
 
 class APPLICATION
 
