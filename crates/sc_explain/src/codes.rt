@@ -6,14 +6,15 @@ ghost use Rattle.sc_explain.specs.Page.{IsPageOf};
 use crate::classes::CLASSES;
 use crate::failures::FAILURES;
 use crate::grammar::GRAMMAR;
+use crate::lowering::LOWERING;
 use crate::records::RECORDS;
 use crate::rules::RULES;
 use crate::text::TEXT;
 use std::alloc::{AllocError, Global};
 
 /// The pages in groups, in the order in which what they tell of is looked for.
-fn groups() -> [&'static [&'static str]; 6] {
-    [TEXT, GRAMMAR, CLASSES, RULES, RECORDS, FAILURES]
+fn groups() -> [&'static [&'static str]; 7] {
+    [TEXT, GRAMMAR, CLASSES, RULES, LOWERING, RECORDS, FAILURES]
 }
 
 /// The page of this code or this name, in any letter case.
@@ -40,7 +41,8 @@ fn find_among(pages: &'static [&'static str], word: &str) -> Option<&'static str
     None
 }
 
-/// Whether the page begins with a line of a code and a name, and the word is one of these, in any letter case.
+/// Whether the page begins with a line of a code and a name, or of a name alone, and the word is one of these, in any
+/// letter case.
 fn is_page_of(page: &str, word: &str) -> bool
     ensures { IsTrue result → IsPageOf page.now word.now }
 {
@@ -48,7 +50,7 @@ fn is_page_of(page: &str, word: &str) -> bool
         return false;
     };
     let Some((code, name)) = heading.split_once(' ') else {
-        return false;
+        return heading.eq_ignore_ascii_case(word);
     };
     code.eq_ignore_ascii_case(word) || name.eq_ignore_ascii_case(word)
 }

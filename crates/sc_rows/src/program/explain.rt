@@ -4,7 +4,7 @@ use super::{Wanted, call, done, expect, expect_of, usage};
 use std::test::Fail;
 
 /// Beginnings of pages, each of the first and the last code of its kind.
-const HEADINGS: [&str; 11] = [
+const HEADINGS: [&str; 12] = [
     "L1 BadCharacter",
     "L5 SourceTooLong",
     "P1 NotInGrammar",
@@ -13,6 +13,7 @@ const HEADINGS: [&str; 11] = [
     "C8 LeftOut",
     "V1 UnknownName",
     "V20 VoidUse",
+    "CodeTooLong",
     "A1 BadRecord",
     "F1 Invariant",
     "F16 BadCode",
@@ -25,9 +26,9 @@ fn explains_each_code_by_code_and_name(rt: HostRuntime) -> Result<(), Fail> {
     for heading in HEADINGS {
         assert!(rt; list.out.as_str().contains(heading));
     }
-    assert_eq!(rt; list.out.as_str().lines().count(), 52);
+    assert_eq!(rt; list.out.as_str().lines().count(), 53);
     for heading in list.out.as_str().lines() {
-        let (code, name) = heading.split_once(' ').unwrap_or(("", ""));
+        let (code, name) = heading.split_once(' ').unwrap_or((heading, heading));
         let page = call(&rt, &["scoop", "explain", code], &[])?;
         assert!(rt; page.out.as_str().starts_with(heading), "for {heading}");
         assert!(rt; page.out.as_str().contains("\n\nWhy: "), "for {heading}");
