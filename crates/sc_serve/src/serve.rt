@@ -243,7 +243,12 @@ fn explanation(
     rejection: &Rejection,
 ) -> Result<Vec<u8>, AllocError> {
     let Some(refusal) = rejection.refusal() else {
-        return Ok(Vec::new(alloc));
+        return match rejection {
+            Rejection::CodeTooLong => {
+                Vec::from_slice(alloc, b"`scoop explain CodeTooLong` says more\n")
+            }
+            _ => Ok(Vec::new(alloc)),
+        };
     };
     let mut lines = match refusal.span {
         Some(span) => excerpt(alloc, source.text().as_bytes(), span)?,
