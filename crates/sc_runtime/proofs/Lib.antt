@@ -1,1 +1,5 @@
+pub mod Opening
 pub mod Outs
+pub mod Rounding
+pub mod Running
+pub mod Telling

@@ -55,12 +55,17 @@ one-turn h j turns most c d x y s =
       center = subst (λ (n : ℕ). d ≡ settles most h j n s.outcome.want c) one s.center;
     }
 
+pub makes-many : (limit given h : ℕ) (j : Job) (turns m m' n : ℕ) (c b d : Center) (rs : List PlainRegion) (x y : PlainRegion) → given ≡ limit →
+    slice_get rs h ≡ Some x → m' ≡ m → n ≡ m → b ≡ picked h j c → Settles given h j turns m' b d x y →
+    Makes limit h j turns (record { most = m; center = c; regions = rs }) (record { most = n; center = d; regions = slice_set rs h y })
+makes-many limit given h j turns m m' n c b d rs x y so-many stands same kept out settles =
+    record { before = x; after = y; stands = stands; settles = rw (so-many, same, out) at settles; regions = refl; most = kept }
+
 pub makes : (h : ℕ) (j : Job) (turns m m' n : ℕ) (c b d : Center) (rs : List PlainRegion) (x y : PlainRegion) → slice_get rs h ≡ Some x → m' ≡ m → n ≡ m →
     b ≡ picked h j c → Settles 1 h j turns m' b d x y →
     Makes 1 h j 1 (record { most = m; center = c; regions = rs }) (record { most = n; center = d; regions = slice_set rs h y })
 makes h j turns m m' n c b d rs x y stands same kept out settles =
-    let one = one-turn h j turns m' b d x y settles in
-    record { before = x; after = y; stands = stands; settles = rw (same, out) at one; regions = refl; most = kept }
+    makes-many 1 1 h j 1 m m' n c b d rs x y refl stands same kept out (one-turn h j turns m' b d x y settles)
 
 pub held-up : (h : ℕ) (j : Job) (m n : ℕ) (c b d : Center) (rs : List PlainRegion) (x y : PlainRegion) → slice_get rs h ≡ Some x → n ≡ m →
     b ≡ picked h j c → PutsBack h j b d x y →

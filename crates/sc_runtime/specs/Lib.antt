@@ -1,3 +1,5 @@
+pub mod Reports
+pub mod Rounds
 pub mod Turning
 pub mod Views
 pub mod Worlds

@@ -1,5 +1,5 @@
 -- Turns of a world.
-use Rattle.std.specs.Prelude.{◌≡◌, ◌⊎◌, ℕ, Option, Some, None, slice_get, slice_set}
+use Rattle.std.specs.Prelude.{◌≡◌, ◌⊎◌, ℕ, List, [], ◌∷◌, Option, Some, None, slice_get, slice_set, take}
 use Rattle.sc_region.specs.declared.job.Job.{Job}
 use Rattle.sc_region.specs.declared.job.Outcome.{Outcome}
 use Rattle.sc_request.specs.Logs.{Center, pick_for, picked, put_back, settles}
@@ -60,3 +60,18 @@ HeldUpUnder h (Some j) x y = IsHeldUp h j x y
 -- Memory was refused to the turn of the handler: nothing has changed, or only what its own silent operations change.
 abbrev pub IsRefusedTurn : ℕ → PlainWorld → PlainWorld → Type 0
 IsRefusedTurn h x y = (y ≡ x) ⊎ HeldUpUnder h (pick_for h x.center) x y
+
+-- ---- turns one after the other
+
+-- The turns of these handlers, one after the other, lead from the first world to the second.
+abbrev pub Runs : List ℕ → PlainWorld → PlainWorld → Type 0
+Runs [] x y = y ≡ x
+Runs (h ∷ hs) x y = (z : PlainWorld) × IsTurn h x z × Runs hs z y
+
+-- So many of the handlers had their turns, one after the other, and memory was refused to that of the next.
+pub record StopsBehind (n : ℕ) (hs : List ℕ) (x y : PlainWorld) : Type 0 where
+  pub before : PlainWorld
+  pub next : ℕ
+  pub runs : Runs (take n hs) x before
+  pub stands : slice_get hs n ≡ Some next
+  pub refused : IsRefusedTurn next before y

@@ -16,7 +16,7 @@ pub record PlainWorld : Type 0 where
 -- ---- how it opens
 
 -- new regions of so many handlers, from this number on
-abbrev pub new_regions : Image → ℕ → ℕ → List PlainRegion
+unfoldable pub new_regions : Image → ℕ → ℕ → List PlainRegion
 new_regions p h zero = []
 new_regions p h (suc n) = new_region p h ∷ new_regions p (suc h) n
 

@@ -2,6 +2,8 @@
 
 ghost use Rattle.std.specs.Prelude.{◌≡◌, ◌++◌, OnOk};
 ghost use Rattle.sc_model.specs.Reports.{cause_code, end_text, line_feed, status_text};
+ghost use Rattle.sc_runtime.specs.Reports.{handler_report};
+ghost use Rattle.sc_runtime.specs.Reports as told;
 
 use sc_model::{Cause, Status};
 use std::alloc::{AllocError, Global};
@@ -14,7 +16,9 @@ pub fn push_handler(
     status: Status,
     refused: u64,
     output: &[u8],
-) -> Result<(), AllocError> {
+) -> Result<(), AllocError>
+    ensures { OnOk result (report.new.items ≡ report.old.items ++ handler_report number status refused output.now) }
+{
     let beginning = format!(in alloc; "handler {number} ")?;
     report.extend_from_slice(beginning.as_bytes())?;
     push_status(report, status)?;
@@ -24,6 +28,13 @@ pub fn push_handler(
     report.extend_from_slice(output)?;
     report.extend_from_slice(b"\n")?;
     Ok(())
+}
+
+/// Whether a handler has something to do.
+pub fn is_busy(status: Status) -> bool
+    ensures { result ≡ told.is_busy status }
+{
+    matches!(status, Status::Busy)
 }
 
 /// Adds how the run has ended: with something left to do or not.

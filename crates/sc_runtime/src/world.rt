@@ -1,13 +1,15 @@
 //! The world, and its turns.
-ghost use Rattle.std.specs.Prelude.{◌≡◌, ◌≤◌, IfOk, OnErr, OnOk, Some, vec_len};
+ghost use Rattle.std.specs.Prelude.{◌≡◌, ◌≤◌, ℕ, IfOk, OnErr, OnOk, Some, length, replicate, vec_len};
 ghost use Rattle.sc_lockpass.specs.Versions.{most_handlers};
 ghost use Rattle.sc_request.specs.Cores.{center_of};
 ghost use Rattle.sc_request.specs.Rooms.{HasRoomFor};
 ghost use Rattle.sc_request.specs.Logs as core;
-ghost use Rattle.sc_runtime.specs.Turning.{IsRefusedTurn, IsTurn, PutsBack, Settles, turned_by};
-ghost use Rattle.sc_runtime.specs.Worlds.{opened};
+ghost use Rattle.sc_runtime.specs.Reports as told;
+ghost use Rattle.sc_runtime.specs.Rounds.{EndsRounds, IsRefusedNext, StopsRounds, TurnsOfNext, turns_at_once};
+ghost use Rattle.sc_runtime.specs.Turning.{IsRefusedTurn, IsTurn, PutsBack, Runs, Settles, StopsBehind, turned_by};
+ghost use Rattle.sc_runtime.specs.Worlds.{max_handlers, new_regions, opened};
 
-use crate::report::{push_end, push_handler};
+use crate::report::{self, push_end, push_handler};
 use sc_code::Program;
 use sc_lockpass::Version;
 use sc_model::Status;
@@ -39,7 +41,7 @@ pub struct World<'p> {
 }
 
 impl<'p> World<'p> {
-    ghost use Rattle.sc_request.specs.Logs.{pick_for};
+    ghost use Rattle.sc_request.specs.Logs.{next, pick_for};
     ghost use Rattle.sc_runtime.specs.Views.{world_of};
 
     /// The world of a program at its opening, where there may be as many handlers as the version has. What grows later
@@ -51,7 +53,9 @@ impl<'p> World<'p> {
         alloc: Global,
         program: &'p Program,
         version: Version,
-    ) -> Result<World<'p>, AllocError> {
+    ) -> Result<World<'p>, AllocError>
+        ensures { IfOk result (λ world. world_of world ≡ opened program.now.image version) }
+    {
         Ok(World {
             alloc,
             core: open_core(alloc, program, version)?,
@@ -83,14 +87,21 @@ impl<'p> World<'p> {
     ///
     /// # Errors
     /// Where there is no memory. Then the world stands after the turns before.
-    pub fn turns(&mut self, handlers: &[u16]) -> Result<(), AllocError> {
+    pub fn turns(&mut self, handlers: &[u16]) -> Result<(), AllocError>
+        ensures ok { OnOk result (Runs handlers.now (world_of self.old) (world_of self.new)) }
+        ensures err { OnErr result ((n : ℕ) × StopsBehind n handlers.now (world_of self.old) (world_of self.new)) }
+    {
         let (_, result) = self.turns_until(handlers);
         result
     }
 
     /// The turns of the handlers, one after the other, as far as there is memory: how many of the handlers had theirs,
     /// all of them where that is Ok.
-    pub fn turns_until(&mut self, handlers: &[u16]) -> (usize, Result<(), AllocError>) {
+    pub fn turns_until(&mut self, handlers: &[u16]) -> (usize, Result<(), AllocError>)
+        ensures count { OnOk result.1 (result.0 ≡ length handlers.now) }
+        ensures ok { OnOk result.1 (Runs handlers.now (world_of self.old) (world_of self.new)) }
+        ensures err { OnErr result.1 (StopsBehind result.0 handlers.now (world_of self.old) (world_of self.new)) }
+    {
         for (count, handler) in handlers.iter().enumerate() {
             if self.turn(*handler).is_err() {
                 return (count, Err(AllocError));
@@ -103,7 +114,11 @@ impl<'p> World<'p> {
     ///
     /// # Errors
     /// Where there is no memory. Then the world stands after the turns before.
-    pub fn turns_of(&mut self, handler: u16, count: u32) -> Result<(), AllocError> {
+    pub fn turns_of(&mut self, handler: u16, count: u32) -> Result<(), AllocError>
+        ensures ok { OnOk result (Runs (replicate count handler) (world_of self.old) (world_of self.new)) }
+        ensures err { OnErr result ((n : ℕ) ×
+            StopsBehind n (replicate count handler) (world_of self.old) (world_of self.new)) }
+    {
         for _ in 0..count {
             if self.turn(handler)? == Turned::Nothing {
                 break;
@@ -117,7 +132,10 @@ impl<'p> World<'p> {
     ///
     /// # Errors
     /// Where there is no memory. Then the world stands after the turns before.
-    pub fn rounds(&mut self, limit: u32) -> Result<(), AllocError> {
+    pub fn rounds(&mut self, limit: u32) -> Result<(), AllocError>
+        ensures ok { OnOk result (EndsRounds limit (world_of self.old) (world_of self.new)) }
+        ensures err { OnErr result (StopsRounds limit (world_of self.old) (world_of self.new)) }
+    {
         let mut left = limit;
         for _ in 0..limit {
             if left == 0 {
@@ -132,23 +150,33 @@ impl<'p> World<'p> {
         Ok(())
     }
 
-    /// The next handler that has something to do makes a turn; or as many as this, where it is the only handler. Answers
-    /// how many.
-    fn next_turns(&mut self, limit: u32) -> Result<u32, AllocError>
-        requires { 1 ≤ limit }
+    /// The next handler that has something to do makes a turn; or as many as are left, where it is the only handler.
+    /// Answers how many.
+    fn next_turns(&mut self, left: u32) -> Result<u32, AllocError>
+        requires { 1 ≤ left }
+        ensures ok { IfOk result (λ turns.
+            TurnsOfNext (next (world_of self.old).center) left turns (world_of self.old) (world_of self.new)) }
+        ensures err { OnErr result (IsRefusedNext (world_of self.old) (world_of self.new)) }
     {
         self.core.make_room()?;
-        let most = if self.core.handler_count() == 1 {
-            limit
-        } else {
-            1
-        };
+        let most = self.turns_at_once(left);
         match self.core.pick() {
             Some((handler, job)) => {
                 let region = &mut self.regions[handler as usize];
                 play(&mut self.core, region, handler, &job, most)
             }
             None => Ok(0),
+        }
+    }
+
+    /// How many turns the next handler may make at once, of so many that are left: all where it is the only one.
+    fn turns_at_once(&self, left: u32) -> u32
+        ensures { result ≡ turns_at_once left (world_of self.now) }
+    {
+        if self.core.handler_count() == 1 {
+            left
+        } else {
+            1
         }
     }
 
@@ -170,7 +198,9 @@ impl<'p> World<'p> {
     ///
     /// # Errors
     /// Where there is no memory.
-    pub fn statuses(&self) -> Result<Vec<Status>, AllocError> {
+    pub fn statuses(&self) -> Result<Vec<Status>, AllocError>
+        ensures { IfOk result (λ statuses. statuses.items ≡ told.statuses (world_of self.now)) }
+    {
         let mut statuses = Vec::new(self.alloc);
         for handler in 0..self.core.handler_count() {
             if let Some(status) = self.core.status(handler as u16) {
@@ -184,7 +214,9 @@ impl<'p> World<'p> {
     ///
     /// # Errors
     /// Where there is no memory.
-    pub fn report(&self) -> Result<Vec<u8>, AllocError> {
+    pub fn report(&self) -> Result<Vec<u8>, AllocError>
+        ensures { IfOk result (λ report. report.items ≡ told.report (world_of self.now)) }
+    {
         let mut report = Vec::new(self.alloc);
         let mut is_busy = false;
         for handler in 0..self.core.handler_count() {
@@ -194,7 +226,7 @@ impl<'p> World<'p> {
             let refused = self.core.refused(handler as u16).unwrap_or(0);
             let output = self.regions[handler].output();
             push_handler(self.alloc, &mut report, handler, status, refused, output)?;
-            is_busy = is_busy || status == Status::Busy;
+            is_busy = is_busy || report::is_busy(status);
         }
         push_end(&mut report, is_busy)?;
         Ok(report)
@@ -213,7 +245,8 @@ fn open_core(alloc: Global, program: &Program, version: Version) -> Result<Core,
 
 /// A region for each handler that there may be.
 fn regions<'p>(alloc: Global, program: &'p Program) -> Result<Vec<Region<'p>>, AllocError>
-    ensures { IfOk result (λ regions. vec_len regions ≡ 512) }
+    ensures regions { IfOk result (λ regions. regions.items ≡ new_regions program.now.image 0 max_handlers) }
+    ensures count { IfOk result (λ regions. vec_len regions ≡ 512) }
 {
     let mut regions = Vec::with_capacity(alloc, MAX_HANDLERS as usize)?;
     for handler in 0..MAX_HANDLERS {
