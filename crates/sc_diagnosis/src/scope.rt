@@ -115,7 +115,7 @@ pub fn push_quoted(lines: &mut String, part: &str) -> Result<(), AllocError> {
     if part.is_empty() {
         return lines.push_str("this");
     }
-    lines.push('`')?;
+    lines.push_str("`")?;
     lines.push_str(part)?;
-    lines.push('`')
+    lines.push_str("`")
 }
