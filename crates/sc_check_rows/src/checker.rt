@@ -7,7 +7,7 @@ use crate::answer::{expect_answer, expect_answers};
 use std::test::Fail;
 
 /// Sources in which several rules fail, each behind the refusal of the one that the walk comes to first, at the mark.
-const FIRST_FAULTS: [&str; 91] = [
+const FIRST_FAULTS: [&str; 95] = [
     "V9 OperatorType|class A feature f do print (`1 + True) end end class B create g end",
     "V1 UnknownName|class A create `g feature f do print (1 + True) end invariant 1 end",
     "V7 ResultType|class A create f, `n, g feature f do m := 1 end n: Q end",
@@ -30,6 +30,10 @@ const FIRST_FAULTS: [&str; 91] = [
     "V5 TargetDetachable|class A feature s: detachable separate A f do `s.g (k) end end",
     "V6 TargetUncontrolled|class A feature s: separate A f do `s.g (k) end end",
     "V5 TargetDetachable|class A feature d: detachable A f do `d.s.g end s: separate A end",
+    "V3 ArgumentType|class A feature f (i: INTEGER; x: A) do f (`True) end end",
+    "V2 WrongArity|class A feature f (i: INTEGER; x: A) do `f (1) end end",
+    "V3 ArgumentType|class A feature f (x: separate A) require x.g (`True) do end g (i: INTEGER; y: A): BOOLEAN do end end",
+    "V2 WrongArity|class A feature f (x: separate A) require x.`g (1) do end g (i: INTEGER; y: A): BOOLEAN do end end",
     "V3 ArgumentType|class A feature f (i: INTEGER; x: A) do f (`True, m, 3) end end",
     "V1 UnknownName|class A feature f (i: INTEGER; x: A) do f (`m, True, 3) end end",
     "V3 ArgumentType|class A feature f (x: separate A) require x.g (`1, Void, 2) do end g (y: detachable A; z: A) do end end",
