@@ -194,7 +194,7 @@ const FAILING: [&str; 22] = [
 ];
 
 /// Routines of a class with the attributes `n`, `m` (INTEGER) and `b` (BOOLEAN), and what is printed.
-const INSTRUCTIONS: [&str; 21] = [
+const INSTRUCTIONS: [&str; 26] = [
     "make do if True then print (1) end print (2) end|12",
     "make do if False then print (1) end print (2) end|2",
     "make do if True then print (1) else print (2) end end|1",
@@ -211,6 +211,11 @@ const INSTRUCTIONS: [&str; 21] = [
     "make do b := n = 0 print (b) end|True",
     "make do p print (n) p print (n) end p do n := n + 2 end|24",
     "make do if n < 5 then n := n + 1 make print (n) end end|55555",
+    "make local i: INTEGER t: BOOLEAN do print (i) print (t) end|0False",
+    "make do print (f) print (g) end f: INTEGER do end g: BOOLEAN do end|0False",
+    "d: detachable ANY make do print (d = Void) end|True",
+    "make do print (f = Void) end f: detachable ANY do end|True",
+    "make local l: detachable ANY do print (l = Void) end|True",
     "make do print (\"\") end|",
     "make do print (\"a%Nb%Tc%%d%\"e%'f\") end|a\nb\tc%d\"e'f",
     "make do print (\"é\") end|é",
