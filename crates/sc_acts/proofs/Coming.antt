@@ -126,7 +126,7 @@ module _ (g : Run) (me : model.Reference) (a : Act) (q : Point) where
 -- ---- stores
 
 -- the topmost frame of the store runs in the code of its routine
-runs_in : (s : System) (os : List Object) (f : Frame) (g : PlainFrame) (gs : List PlainFrame) (y : PlainStore) → ProgramsServe → IsProgramFor s y.program →
+pub runs_in : (s : System) (os : List Object) (f : Frame) (g : PlainFrame) (gs : List PlainFrame) (y : PlainStore) → ProgramsServe → IsProgramFor s y.program →
     y.frames ≡ g ∷ gs → IsFrame s os f g → RunsIn y s (run_of s f.routine).code g.current g.activation
 runs_in s os f g gs y serve is e r = record {
   serves = serve s is.root y.program is.faultless (all_declared s is.well_formed) is.program;

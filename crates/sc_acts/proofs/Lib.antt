@@ -6,7 +6,9 @@ pub mod Passing
 pub mod Quiet
 pub mod Meeting
 pub mod Exiting
+pub mod Slots
 pub mod Refusing
+pub mod Waiting
 pub mod Staging
 pub mod Entering
 pub mod Calling

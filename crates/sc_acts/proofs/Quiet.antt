@@ -37,11 +37,15 @@ use Rattle.sc_model.specs.Expressions.{gives_outcome, gives_truth, apply_unary, 
 use Rattle.sc_model.specs.Instructions.{assigns, prints, chooses_other, chooses, ends_loop, tests, required, opens, begins_routine, begins}
 use Rattle.sc_model.specs.Moves.{performs_on, performs, step_at, step}
 
+-- The entities of a point, and its Result, are those of another one.
+abbrev pub IsLike : Point → Point → Type 0
+IsLike o p = (p.environment ≡ o.environment) × (p.result ≡ o.result)
+
 -- No routine ends, and a clause that is found false leaves the entities of the first point.
 Quiet : Point → Step → Type 0
 Quiet o (Goes p) = Unit {0}
 Quiet o (Does Exits p) = ⊥
-Quiet o (Does (Refuses k) p) = p.environment ≡ o.environment
+Quiet o (Does (Refuses k) p) = IsLike o p
 Quiet o (Does a p) = Unit {0}
 
 act_is : (a : Act) (p q : Point) → Does a p ≡ Does Exits q → a ≡ Exits
@@ -369,7 +373,7 @@ module _ (point : Point) where
   tests_quiet n why Void p h = tt
   tests_quiet n why (Attached r) p h = tt
 
-  required_quiet : (n : ℕ) (k : Clause) (v : Value) (p : Point) → p.environment ≡ point.environment → Quiet point (required k v p)
+  required_quiet : (n : ℕ) (k : Clause) (v : Value) (p : Point) → IsLike point p → Quiet point (required k v p)
   unfolding Quiet
   required_quiet n k (Boolean true) p h = tt
   required_quiet n k (Boolean false) p h = h
@@ -403,7 +407,7 @@ module _ (point : Point) where
 
   -- ---- tasks
 
-  on_quiet : (s : System) (me : Reference) (t : Task) (u : Operand) (p : Point) → p.environment ≡ point.environment → Quiet point (performs_on s me t u p)
+  on_quiet : (s : System) (me : Reference) (t : Task) (u : Operand) (p : Point) → IsLike point p → Quiet point (performs_on s me t u p)
   unfolding Quiet
   on_quiet s me (ApplyUnary op) u p h = unary_quiet 0 op u.value p (tt)
   on_quiet s me (EvalRight op i e) u p h = right_quiet (decided_by op u.value) (is_short op) op i e u p
@@ -432,7 +436,7 @@ module _ (point : Point) where
   on_quiet s me (Leave d) u p h = tt
 
   -- one task, where p.tasks is what is left behind it
-  performs_quiet : (s : System) (me : Reference) (t : Task) (vs : List Operand) (p : Point) → p.environment ≡ point.environment → Quiet point (performs s me t vs p)
+  performs_quiet : (s : System) (me : Reference) (t : Task) (vs : List Operand) (p : Point) → IsLike point p → Quiet point (performs s me t vs p)
   unfolding Quiet
   performs_quiet s me (Do no_instrs) vs p h = tt
   performs_quiet s me (Do (instr_then i is)) vs p h = begins_quiet i (record p { tasks = Do is ∷ p.tasks })
@@ -479,7 +483,7 @@ module _ (point : Point) where
 
 -- a task is done
 task_quiet : (s : System) (me : Reference) (t : Task) (ts : List Task) (p : Point) → Quiet p (step_at s me (t ∷ ts) p)
-task_quiet s me t ts p = performs_quiet p s me t p.values (record p { tasks = ts }) refl
+task_quiet s me t ts p = performs_quiet p s me t p.values (record p { tasks = ts }) (refl, refl)
 
 no_exit : (o q : Point) (st : Step) → Quiet o st → st ≡ Does Exits q → ⊥
 unfolding Quiet
@@ -496,10 +500,10 @@ exits_here s me p q e = by p.tasks e
     by [] e = point_is Exits Exits q p (sym e)
     by (t ∷ ts) e = absurd (no_exit p q (step_at s me (t ∷ ts) p) (task_quiet s me t ts p) e)
 
-pub refuses_here : (s : System) (me : Reference) (p q : Point) (k : Clause) → step s me p ≡ Does (Refuses k) q → q.environment ≡ p.environment
+pub refuses_here : (s : System) (me : Reference) (p q : Point) (k : Clause) → step s me p ≡ Does (Refuses k) q → IsLike p q
 unfolding Quiet
 refuses_here s me p q k e = by p.tasks e
   where
-    by : (ts : List Task) → step_at s me ts p ≡ Does (Refuses k) q → q.environment ≡ p.environment
+    by : (ts : List Task) → step_at s me ts p ≡ Does (Refuses k) q → IsLike p q
     by [] e = no_refusal k p q e
     by (t ∷ ts) e = subst (Quiet p) e (task_quiet s me t ts p)

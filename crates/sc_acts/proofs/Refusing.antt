@@ -1,5 +1,5 @@
 -- Clauses of preconditions that are false.
-use Rattle.std.proofs.Common.{◌≡◌, ℕ, suc, Bool, true, false, cond, not, List, [], ◌∷◌, ◌++◌, Option, Some, None, refl, sym, ap, ◌∙◌, subst}
+use Rattle.std.proofs.Common.{◌≡◌, ℕ, suc, ◌+◌, Bool, true, false, cond, not, List, [], ◌∷◌, ◌++◌, Option, Some, None, refl, sym, ap, ◌∙◌, subst}
 use Rattle.std.specs.Prelude.{◌&&◌, ◌||◌, bytes_eq, find, filter_map, slice_get, if◌then◌else◌}
 use Rattle.std.specs.List.{cons_option, list_any}
 use Rattle.std.specs.Option.{option_map, option_and_then}
@@ -21,7 +21,7 @@ use Rattle.sc_code.specs.Emitted.{formal_slot, formals_in}
 use Rattle.sc_code.specs.Lowered.{run_of}
 use Rattle.sc_code.specs.Machine as flat
 use Rattle.sc_code.specs.Machine.{State}
-use Rattle.sc_code.specs.Stands.{Leads, Seen, values_in}
+use Rattle.sc_code.specs.Stands.{Leads, Seen, state_at, values_in}
 use Rattle.sc_region.specs.declared.value.Value.{Value}
 use Rattle.sc_region.specs.declared.value.Value.TheVariants.{Integer, Boolean, Void, Attached}
 use Rattle.sc_region.specs.Classes as at
@@ -39,7 +39,8 @@ use Rattle.sc_interp.specs.RegionHalves.{IsRegionOf, origin_of, requested}
 use Rattle.sc_interp.specs.RegionSteps.{IsProgramFor}
 use Rattle.sc_interp.specs.RegionTurns as half
 use Rattle.sc_interp.specs.RegionTurns.{Half, acts, correctness_fails, false_clause, leaves, turn}
-use Rattle.sc_interp.specs.Standing.{formals_at}
+use Rattle.sc_interp.specs.Hopping.{state_in}
+use Rattle.sc_interp.specs.Standing.{formals_at, without}
 use Rattle.sc_interp.specs.Turning.{on_top}
 use Rattle.sc_interp.specs.Values.{value_of, values_of}
 use Rattle.sc_interp.proofs.Playing.{none_some, some_same}
@@ -47,7 +48,7 @@ use Rattle.sc_acts.specs.Acting.{AreWhole, CallsAreRefused, Comes, IsNotWaitedFo
 use Rattle.sc_acts.proofs.Coming.{meets}
 use Rattle.sc_acts.proofs.Exiting.{meets_same, origin_same, region_failed, region_left}
 use Rattle.sc_acts.proofs.Passing.{act_same, state_same, stays, turn_is}
-use Rattle.sc_acts.proofs.Quiet.{refuses_here}
+use Rattle.sc_acts.proofs.Quiet.{IsLike, refuses_here}
 
 -- ---- the step
 
@@ -166,28 +167,57 @@ module _ (s : System) (x : Half) (o : Hop) (y z : PlainStore) (is : IsProgramFor
           tested (at.object_meets z.program (objects.object_numbered m.current.number z.objects))
           (preconditions.object_meets s (model_objects.object_numbered m.frame.current.number m.point.objects)) (meets_same s x o y z is region comes whole m same)
 
+-- ---- what is refused
+
+-- The clause that the operation refuses, and whether it is waited for.
+pub record Refusal (s : System) (x : Half) (k : ℕ) (y z : PlainStore) (m : Meets s x (hop.Comes (act.Refuse k)) y z) : Type 0 where
+  pub clause : Clause
+  pub act : m.step ≡ model.Refuses clause
+  pub place : ℕ
+  pub tail : List values.Value
+  pub state : record (without 1 (state_in s z m.activation)) { place = m.activation.place + 1 } ≡ state_at place tail m.point
+  pub like : IsLike m.last m.point
+  pub waited : is_waited_for m.activation (formals_at z.program k)
+      ≡ list_any (conditions.lies_on_any m.frame.reserved) (formals_among m.point.environment (names_in clause.condition))
+
+pub refusal : (s : System) (x : Half) (k : ℕ) (y z : PlainStore) → IsProgramFor s y.program → IsRegionOf s x y → Comes (hop.Comes (act.Refuse k)) y z →
+    (m : Meets s x (hop.Comes (act.Refuse k)) y z) → Refusal s x k y z m
+refusal s x k y z is region comes m =
+    let slots = formals_at y.program k in
+    let shown = act_same (flat.Refuses slots) m.shown _ m.state m.does in
+    let seen = refuses_is m.last.environment m.point.environment m.step slots (subst (λ a. Seen m.last.environment m.point.environment m.step a) (sym shown) m.seen) in
+    let clause = seen.clause in
+    let like = refuses_here s m.frame.current m.last m.point clause (subst (λ a. step s m.frame.current m.last ≡ model.Does a m.point) seen.act m.ends) in
+    let leads = subst (λ a. Leads (run_of s m.frame.routine) a m.point m.state) seen.act m.leads in
+    let state = state_same (flat.Refuses slots) m.shown _ m.state m.does ∙ leads.2 in
+    let in_slots : values_of m.activation.slots ≡ values_in m.point.environment ++ leads.1 = ap (λ (st : State). st.slots) state in
+    let stood = stays s x (hop.Comes (act.Refuse k)) y z is region comes m in
+    record {
+      clause = clause;
+      act = seen.act;
+      place = leads.0;
+      tail = leads.1;
+      state = state;
+      like = like;
+      waited = ap (is_waited_for m.activation) (ap (λ p. formals_at p k) comes.remains.program ∙ seen.slots_are ∙ ap (λ bs. formals_in (scope_of bs) clause) (sym like.0))
+          ∙ any_same m.activation m.point.environment leads.1 in_slots (names_in clause.condition)
+          ∙ ap (λ ks. list_any (conditions.lies_on_any ks) (formals_among m.point.environment (names_in clause.condition))) (stood.reserved ∙ m.stood.reserved);
+    }
+
+-- the verdict on it
+pub verdict_is : (s : System) (x : Half) (k : ℕ) (y z : PlainStore) (m : Meets s x (hop.Comes (act.Refuse k)) y z) (r : Refusal s x k y z m) (b : Bool) →
+    is_waited_for m.activation (formals_at z.program k) ≡ b → verdict_on (frame_at m.frame m.point) r.clause ≡ conditions.verdict_of_false (conditions.kind_where b)
+verdict_is s x k y z m r b e = ap (λ c. conditions.verdict_of_false (conditions.kind_where c)) (sym r.waited ∙ e)
+
 module _ (serve : ProgramsServe) where
   pub calls_are_refused : CallsAreRefused
   calls_are_refused k y z comes whole unwaited s h x is region =
       let o = hop.Comes (act.Refuse k) in
       let m = meets serve s x o y z is region comes in
+      let r = refusal s x k y z is region comes m in
       let f = frame_at m.frame m.point in
-      let slots = formals_at y.program k in
-      let shown = act_same (flat.Refuses slots) m.shown _ m.state m.does in
-      let refusal = refuses_is m.last.environment m.point.environment m.step slots (subst (λ a. Seen m.last.environment m.point.environment m.step a) (sym shown) m.seen) in
-      let clause = refusal.clause in
-      let ends = subst (λ a. step s m.frame.current m.last ≡ model.Does a m.point) refusal.act m.ends in
-      let known = refuses_here s m.frame.current m.last m.point clause ends in
-      let leads = subst (λ a. Leads (run_of s m.frame.routine) a m.point m.state) refusal.act m.leads in
-      let state = state_same (flat.Refuses slots) m.shown _ m.state m.does ∙ leads.2 in
-      let same : objects_in s z.objects ≡ m.point.objects = ap (λ (st : State). st.objects) state in
-      let values : values_of m.activation.slots ≡ values_in m.point.environment ++ leads.1 = ap (λ (st : State). st.slots) state in
-      let stood = stays s x o y z is region comes m in
-      let waited = ap (is_waited_for m.activation) (ap (λ p. formals_at p k) comes.remains.program ∙ refusal.slots_are ∙ ap (λ bs. formals_in (scope_of bs) clause) (sym known))
-      ∙ any_same m.activation m.point.environment leads.1 values (names_in clause.condition)
-      ∙ ap (λ ks. list_any (conditions.lies_on_any ks) (formals_among m.point.environment (names_in clause.condition))) (stood.reserved ∙ m.stood.reserved) in
+      let same : objects_in s z.objects ≡ m.point.objects = ap (λ (st : State). st.objects) r.state in
       let not_waited : is_waited_for m.activation (formals_at z.program k) ≡ false = subst (λ fs. IsNotWaitedFor (formals_at z.program k) (top_activation fs)) m.frames unwaited in
-      let refuses : verdict_on f clause ≡ verdict.Refuse = ap (λ b. conditions.verdict_of_false (conditions.kind_where b)) (sym waited ∙ not_waited) in
       let after : Half = record x { objects = m.point.objects; stack = f ∷ m.below } in
       let here : PlainStore = record z { frames = frame_with m.current m.activation ∷ m.rest } in
       let done : IsRegionOf s (correctness_fails s m.frame.origin f m.below after) (refused_as m.activation.origin m.current here) =
@@ -196,5 +226,5 @@ module _ (serve : ProgramsServe) where
       subst (λ w. IsRegionOf s (turn s h x) (refused k w)) (ap (λ fs. record z { frames = fs }) (sym m.frames))
       (subst (λ b. IsRegionOf s (turn s h x) (if b then on_top waiting here else refused_as m.activation.origin m.current here)) (sym not_waited)
       (subst (λ half. IsRegionOf s half (refused_as m.activation.origin m.current here))
-      (sym (turn_is s x o y z is region comes m h (model.Refuses clause) refusal.act ∙ ap (λ v. false_clause v s f m.below after) refuses))
+      (sym (turn_is s x o y z is region comes m h (model.Refuses r.clause) r.act ∙ ap (λ v. false_clause v s f m.below after) (verdict_is s x k y z m r false not_waited)))
       done))

@@ -1,4 +1,5 @@
 //! What turns make of stores, each the contract of a function that does nothing.
+ghost use Rattle.sc_acts.specs.Waiting.{RoutinesWait};
 ghost use Rattle.sc_acts.specs.Acting.{BlocksBegin, BlocksEnd, BodiesStart, BooleansArePrinted, CallsAreMade, CallsAreRefused, FailuresAreTold, HandlersAreCreated, IntegersArePrinted, NoBlockEnds, ObjectsAreCreated, ObjectsAreCreatedBy, RequestsAreMade, RoundsEnd, RoutinesAreEntered, RoutinesEnd, RoutinesFail, SilentOperationsFollow, SilentOperationsJoin, SimpleStepsAskNothing, TextsArePrinted};
 
 use sc_interp::laws::programs_serve;
@@ -64,6 +65,14 @@ pub fn routines_end()
 /// store stands for what the turn makes of the half, if each object has as many attributes as its class.
 pub fn calls_are_refused()
     ensures { CallsAreRefused }
+{
+    programs_serve();
+}
+
+/// Where a clause of the precondition is false that is waited for, the routine begins anew with its reserve step, and the
+/// store stands for what the turn makes of the half, if the routine is the version of a name and stands in its contract.
+pub fn routines_wait()
+    ensures { RoutinesWait }
 {
     programs_serve();
 }
