@@ -30,14 +30,14 @@ same_unless None w = refl
 same_unless (Some why) w = refl
 
 -- what is asked is what the step asks
-asked_is : (s : System) (x : Half) (o : Hop) (y z : PlainStore) (m : Meets s x o y z) (n : Numbering) (h : ℕ) (a : model.Act) → m.step ≡ a →
+pub asked_is : (s : System) (x : Half) (o : Hop) (y z : PlainStore) (m : Meets s x o y z) (n : Numbering) (h : ℕ) (a : model.Act) → m.step ≡ a →
     asks_on n s h x.stack x.objects ≡ asks_acting n s h a (frame_at m.frame m.point) (length (m.frame ∷ m.below)) m.point.objects
 asked_is s x o y z m n h a e =
     ap (λ fs. asks_on n s h fs x.objects) m.stack
     ∙ ap (λ st. asks_going n s h st m.frame (length (m.frame ∷ m.below)) x.objects) m.stage
     ∙ ap (λ t. asks_moving n s h t m.frame (length (m.frame ∷ m.below))) (m.moves ∙ ap (λ a. Does a m.point) e)
 
-told_by : (n : Numbering) (s : System) (h : ℕ) (x : Half) (w : PlainStore) (asked : Want) → IsRegionOf s (turn s h x) w → asks_on n s h x.stack x.objects ≡ asked →
+pub told_by : (n : Numbering) (s : System) (h : ℕ) (x : Half) (w : PlainStore) (asked : Want) → IsRegionOf s (turn s h x) w → asks_on n s h x.stack x.objects ≡ asked →
     next_want n s h x ≡ unless_failed w.failure asked
 told_by n s h x w asked r e =
     ap (λ o. region_steps.unless_failed o (asks_on n s h x.stack x.objects)) (sym r.failure)

@@ -251,38 +251,57 @@ module _ (s : System) (x : Half) (o : Hop) (y z : PlainStore) (is : IsProgramFor
       by (Called Creation) = called
       by (Requested r) = by_request (is_creation r.errand)
 
+-- ---- what ends
+
+-- What is known where a routine ends.
+pub record Ending (s : System) (x : Half) (y z : PlainStore) (m : Meets s x (hop.Comes act.Exit) y z) : Type 0 where
+  pub step_is : m.step ≡ steps.Exits
+  pub same : objects_in s z.objects ≡ m.point.objects
+  pub result : option_map value_of m.activation.result ≡ option_map (λ (u : Operand). u.value) m.point.result
+  pub unset : is_unset z.program m.activation ≡ model.is_unset m.point.result
+  pub origin : m.activation.origin ≡ origin_of m.frame.origin
+  pub tested : (is_untested m.activation.origin || at.object_meets z.program (objects.object_numbered m.current.number z.objects))
+      ≡ (model.is_untested m.frame.origin || preconditions.object_meets s (model_objects.object_numbered m.frame.current.number m.point.objects))
+
+pub ending : (s : System) (x : Half) (y z : PlainStore) → IsProgramFor s y.program → IsRegionOf s x y → Comes (hop.Comes act.Exit) y z → AreWhole z →
+    (m : Meets s x (hop.Comes act.Exit) y z) → Ending s x y z m
+ending s x y z is region comes whole m =
+    let o = hop.Comes act.Exit in
+    let shown = act_same flat.Exits m.shown _ m.state m.does in
+    let step_is = exits_is m.last.environment m.point.environment m.step (subst (λ a. Seen m.last.environment m.point.environment m.step a) (sym shown) m.seen) in
+    let last = exits_here s m.frame.current m.last m.point (subst (λ a. step s m.frame.current m.last ≡ steps.Does a m.point) step_is m.ends) in
+    let leads = subst (λ a. Leads (run_of s m.frame.routine) a m.point m.state) step_is m.leads in
+    let state : state_in s z m.activation ≡ state_at leads.0 leads.1 m.point = state_same flat.Exits m.shown _ m.state m.does ∙ leads.2 in
+    let same = ap (λ (st : State). st.objects) state in
+    let result : option_map value_of m.activation.result ≡ option_map (λ (u : Operand). u.value) m.point.result = ap (λ (st : State). st.result) state in
+    let types = ap (λ (p : Point). option_map (λ (u : Operand). u.type) p.result) last ∙ m.stands.has_result in
+    let origin = origin_same s x o y z is region comes whole m same in
+    record {
+      step_is = step_is;
+      same = same;
+      result = result;
+      unset = ap (λ b. is_void m.activation.result && b) (gives_same s m.frame.routine z.program m.activation.routine (code_there s x o y z is region comes whole m same))
+          ∙ unset_same m.activation.result m.point.result (known_type m.frame.routine.text.result) result types;
+      origin = origin;
+      tested = ap (λ q. is_untested q || at.object_meets z.program (objects.object_numbered m.current.number z.objects)) origin
+          ∙ ap (λ b. b || at.object_meets z.program (objects.object_numbered m.current.number z.objects)) (untested_same m.frame.origin)
+          ∙ ap (λ b. model.is_untested m.frame.origin || b) (meets_same s x o y z is region comes whole m same);
+    }
+
 module _ (serve : ProgramsServe) where
   pub routines_end : RoutinesEnd
   routines_end y z comes whole takes s h x is region =
       let o = hop.Comes act.Exit in
       let m = meets serve s x o y z is region comes in
+      let e = ending s x y z is region comes whole m in
       let f = frame_at m.frame m.point in
-      let shown = act_same flat.Exits m.shown _ m.state m.does in
-      let step_is = exits_is m.last.environment m.point.environment m.step (subst (λ a. Seen m.last.environment m.point.environment m.step a) (sym shown) m.seen) in
-      let ends = subst (λ a. step s m.frame.current m.last ≡ steps.Does a m.point) step_is m.ends in
-      let last = exits_here s m.frame.current m.last m.point ends in
-      let leads = subst (λ a. Leads (run_of s m.frame.routine) a m.point m.state) step_is m.leads in
-      let state : state_in s z m.activation ≡ state_at leads.0 leads.1 m.point = state_same flat.Exits m.shown _ m.state m.does ∙ leads.2 in
-      let same = ap (λ (st : State). st.objects) state in
-      let result : option_map value_of m.activation.result ≡ option_map (λ (u : Operand). u.value) m.point.result = ap (λ (st : State). st.result) state in
-      let types = ap (λ (p : Point). option_map (λ (u : Operand). u.type) p.result) last ∙ m.stands.has_result in
-      let code = code_there s x o y z is region comes whole m same in
-      let unset : is_unset z.program m.activation ≡ model.is_unset m.point.result =
-      ap (λ b. is_void m.activation.result && b) (gives_same s m.frame.routine z.program m.activation.routine code)
-      ∙ unset_same m.activation.result m.point.result (known_type m.frame.routine.text.result) result types in
-      let origin = origin_same s x o y z is region comes whole m same in
-      let tested = ap (λ q. is_untested q || at.object_meets z.program (objects.object_numbered m.current.number z.objects)) origin
-      ∙ ap (λ b. b || at.object_meets z.program (objects.object_numbered m.current.number z.objects)) (untested_same m.frame.origin)
-      ∙ ap (λ b. model.is_untested m.frame.origin || b) (meets_same s x o y z is region comes whole m same) in
       let after : Half = record x { objects = m.point.objects; stack = f ∷ m.below } in
-      let back : IsRegionOf s (hands m.frame.origin (option_map (λ (u : Operand). u.value) m.point.result) (leaves s f m.below after))
-      (returned m.activation.origin m.activation.result (record z { frames = frame_with m.current m.activation ∷ m.rest })) =
-      subst (λ q. IsRegionOf s (hands m.frame.origin (option_map (λ (u : Operand). u.value) m.point.result) (leaves s f m.below after))
-      (returned q m.activation.result (record z { frames = frame_with m.current m.activation ∷ m.rest }))) (sym origin)
-      (subst (λ v. IsRegionOf s (hands m.frame.origin v (leaves s f m.below after))
-      (returned (origin_of m.frame.origin) m.activation.result (record z { frames = frame_with m.current m.activation ∷ m.rest }))) result
-      (region_returned s x o y z is region comes whole m same m.activation.result (subst TakesResult m.frames takes) m.frame.origin)) in
+      let here : PlainStore = record z { frames = frame_with m.current m.activation ∷ m.rest } in
+      let back : IsRegionOf s (hands m.frame.origin (option_map (λ (u : Operand). u.value) m.point.result) (leaves s f m.below after)) (returned m.activation.origin m.activation.result here) =
+      subst (λ q. IsRegionOf s (hands m.frame.origin (option_map (λ (u : Operand). u.value) m.point.result) (leaves s f m.below after)) (returned q m.activation.result here)) (sym e.origin)
+      (subst (λ v. IsRegionOf s (hands m.frame.origin v (leaves s f m.below after)) (returned (origin_of m.frame.origin) m.activation.result here)) e.result
+      (region_returned s x o y z is region comes whole m e.same m.activation.result (subst TakesResult m.frames takes) m.frame.origin)) in
       subst (λ w. IsRegionOf s (turn s h x) (exited w)) (ap (λ fs. record z { frames = fs }) (sym m.frames))
-      (subst (λ half. IsRegionOf s half (exited (record z { frames = frame_with m.current m.activation ∷ m.rest }))) (sym (turn_is s x o y z is region comes m h steps.Exits step_is))
-      (if_region s _ _ _ _ _ _ unset (region_failed s x o y z is region comes whole m same cause.UnsetEntity)
-      (if_region s _ _ _ _ _ _ tested back (region_failed s x o y z is region comes whole m same cause.Invariant))))
+      (subst (λ half. IsRegionOf s half (exited here)) (sym (turn_is s x o y z is region comes m h steps.Exits e.step_is))
+      (if_region s _ _ _ _ _ _ e.unset (region_failed s x o y z is region comes whole m e.same cause.UnsetEntity)
+      (if_region s _ _ _ _ _ _ e.tested back (region_failed s x o y z is region comes whole m e.same cause.Invariant))))

@@ -16,3 +16,4 @@ pub mod Creating
 pub mod CreatingBy
 pub mod Joining
 pub mod Asking
+pub mod Wanting

@@ -51,25 +51,36 @@ use Rattle.sc_acts.proofs.Standing.{frames_still}
 -- ---- what is seen
 
 -- a handler is created with this class
-record IsCreation (a : model.Act) (class : ℕ) (passes : Bool) : Type 0 where
+pub record IsCreation (a : model.Act) (class : ℕ) (x : Option (List ℕ)) (us : List values.Value) (passes : Bool) : Type 0 where
   pub procedure : Option (List ℕ)
   pub actuals : List Operand
   pub type : EntityType
   pub act : a ≡ model.CreatesHandler class procedure actuals type passes
+  pub procedure_is : procedure ≡ x
+  pub actuals_are : values.values_of actuals ≡ us
 
 same_class : (j k : ℕ) (x y : Option (List ℕ)) (us vs : List values.Value) (p q : Bool) → flat.CreatesHandler k x us p ≡ flat.CreatesHandler j y vs q → j ≡ k
 same_class j k x y us vs p q e = cc
 
+same_procedure : (j k : ℕ) (x y : Option (List ℕ)) (us vs : List values.Value) (p q : Bool) → flat.CreatesHandler k x us p ≡ flat.CreatesHandler j y vs q → y ≡ x
+same_procedure j k x y us vs p q e = cc
+
+same_given : (j k : ℕ) (x y : Option (List ℕ)) (us vs : List values.Value) (p q : Bool) → flat.CreatesHandler k x us p ≡ flat.CreatesHandler j y vs q → vs ≡ us
+same_given j k x y us vs p q e = cc
+
 same_passing : (j k : ℕ) (x y : Option (List ℕ)) (us vs : List values.Value) (p q : Bool) → flat.CreatesHandler k x us p ≡ flat.CreatesHandler j y vs q → q ≡ p
 same_passing j k x y us vs p q e = cc
 
-creates_handler_is : (bs cs : List Binding) (a : model.Act) (k : ℕ) (x : Option (List ℕ)) (us : List values.Value) (p : Bool) → Seen bs cs a (flat.CreatesHandler k x us p) → IsCreation a k p
+pub creates_handler_is : (bs cs : List Binding) (a : model.Act) (k : ℕ) (x : Option (List ℕ)) (us : List values.Value) (p : Bool) → Seen bs cs a (flat.CreatesHandler k x us p) →
+    IsCreation a k x us p
 creates_handler_is bs cs (model.CreatesHandler j y vs t q) k x us p e = record {
   procedure = y;
   actuals = vs;
   type = t;
   act = ap (λ i. model.CreatesHandler i y vs t q) (same_class j k x y us (values.values_of vs) p q e)
       ∙ ap (λ b. model.CreatesHandler k y vs t b) (same_passing j k x y us (values.values_of vs) p q e);
+  procedure_is = same_procedure j k x y us (values.values_of vs) p q e;
+  actuals_are = same_given j k x y us (values.values_of vs) p q e;
 }
 creates_handler_is bs cs (model.Prints t) k x us p e = cc
 creates_handler_is bs cs model.Tests k x us p e = cc
@@ -84,15 +95,23 @@ creates_handler_is bs cs model.Exits k x us p e = cc
 creates_handler_is bs cs (model.Fails w) k x us p e = cc
 
 -- a request is made to this object
-record IsRequest (a : model.Act) (r : values.Reference) (gives passes : Bool) : Type 0 where
+pub record IsRequest (a : model.Act) (r : values.Reference) (x : List ℕ) (us : List values.Value) (gives passes : Bool) : Type 0 where
   pub name : List ℕ
   pub actuals : List Operand
   pub type : Option EntityType
   pub act : a ≡ model.Requests r name actuals type passes
+  pub name_is : name ≡ x
+  pub actuals_are : values.values_of actuals ≡ us
   pub gives_is : is_some type ≡ gives
 
 same_object : (j k : values.Reference) (x y : List ℕ) (us vs : List values.Value) (g h p q : Bool) → flat.Requests k x us g p ≡ flat.Requests j y vs h q → j ≡ k
 same_object j k x y us vs g h p q e = cc
+
+same_name : (j k : values.Reference) (x y : List ℕ) (us vs : List values.Value) (g h p q : Bool) → flat.Requests k x us g p ≡ flat.Requests j y vs h q → y ≡ x
+same_name j k x y us vs g h p q e = cc
+
+same_actuals : (j k : values.Reference) (x y : List ℕ) (us vs : List values.Value) (g h p q : Bool) → flat.Requests k x us g p ≡ flat.Requests j y vs h q → vs ≡ us
+same_actuals j k x y us vs g h p q e = cc
 
 same_gives : (j k : values.Reference) (x y : List ℕ) (us vs : List values.Value) (g h p q : Bool) → flat.Requests k x us g p ≡ flat.Requests j y vs h q → h ≡ g
 same_gives j k x y us vs g h p q e = cc
@@ -100,13 +119,16 @@ same_gives j k x y us vs g h p q e = cc
 same_passes : (j k : values.Reference) (x y : List ℕ) (us vs : List values.Value) (g h p q : Bool) → flat.Requests k x us g p ≡ flat.Requests j y vs h q → q ≡ p
 same_passes j k x y us vs g h p q e = cc
 
-requests_is : (bs cs : List Binding) (a : model.Act) (r : values.Reference) (x : List ℕ) (us : List values.Value) (g p : Bool) → Seen bs cs a (flat.Requests r x us g p) → IsRequest a r g p
+pub requests_is : (bs cs : List Binding) (a : model.Act) (r : values.Reference) (x : List ℕ) (us : List values.Value) (g p : Bool) → Seen bs cs a (flat.Requests r x us g p) →
+    IsRequest a r x us g p
 requests_is bs cs (model.Requests j y vs t q) r x us g p e = record {
   name = y;
   actuals = vs;
   type = t;
   act = ap (λ i. model.Requests i y vs t q) (same_object j r x y us (values.values_of vs) g (is_some t) p q e)
       ∙ ap (λ b. model.Requests r y vs t b) (same_passes j r x y us (values.values_of vs) g (is_some t) p q e);
+  name_is = same_name j r x y us (values.values_of vs) g (is_some t) p q e;
+  actuals_are = same_actuals j r x y us (values.values_of vs) g (is_some t) p q e;
   gives_is = same_gives j r x y us (values.values_of vs) g (is_some t) p q e;
 }
 requests_is bs cs (model.Prints t) r x us g p e = cc

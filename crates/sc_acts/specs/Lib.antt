@@ -1,2 +1,3 @@
 pub mod Acting
 pub mod Waiting
+pub mod Wanting

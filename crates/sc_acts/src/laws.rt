@@ -1,4 +1,5 @@
 //! What turns make of stores, each the contract of a function that does nothing.
+ghost use Rattle.sc_acts.specs.Wanting.{BlockEndsAsk, RoutineEndsAsk};
 ghost use Rattle.sc_acts.specs.Waiting.{RoutinesWait};
 ghost use Rattle.sc_acts.specs.Acting.{BlocksBegin, BlocksEnd, BodiesStart, BooleansArePrinted, CallsAreMade, CallsAreRefused, FailuresAreTold, HandlersAreCreated, IntegersArePrinted, NoBlockEnds, ObjectsAreCreated, ObjectsAreCreatedBy, RequestsAreMade, RoundsEnd, RoutinesAreEntered, RoutinesEnd, RoutinesFail, SilentOperationsFollow, SilentOperationsJoin, SimpleStepsAskNothing, TextsArePrinted};
 
@@ -157,3 +158,17 @@ pub fn simple_steps_ask_nothing()
 pub fn failures_are_told()
     ensures { FailuresAreTold }
 {}
+
+/// Where a routine ends the turn asks what the end of the routine asks, unless the store has failed.
+pub fn routine_ends_ask()
+    ensures { RoutineEndsAsk }
+{
+    programs_serve();
+}
+
+/// Where a separate block ends the turn asks that what the block newly reserved is released, unless the store has failed.
+pub fn block_ends_ask()
+    ensures { BlockEndsAsk }
+{
+    programs_serve();
+}
