@@ -17,3 +17,4 @@ pub mod CreatingBy
 pub mod Joining
 pub mod Asking
 pub mod Wanting
+pub mod Jobs

@@ -1,3 +1,4 @@
 pub mod Acting
 pub mod Waiting
 pub mod Wanting
+pub mod Jobs

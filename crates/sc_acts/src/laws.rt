@@ -1,5 +1,6 @@
 //! What turns make of stores, each the contract of a function that does nothing.
-ghost use Rattle.sc_acts.specs.Wanting.{BlockEndsAsk, RoutineEndsAsk};
+ghost use Rattle.sc_acts.specs.Jobs.{AnswersAreTaken, BadAnswersAreTaken, GrantsAreTaken};
+ghost use Rattle.sc_acts.specs.Wanting.{BlockEndsAsk, CreationsAsk, DistinctNamesHaveNumbers, RefusalsAsk, RequestsAsk, RoutineEndsAsk};
 ghost use Rattle.sc_acts.specs.Waiting.{RoutinesWait};
 ghost use Rattle.sc_acts.specs.Acting.{BlocksBegin, BlocksEnd, BodiesStart, BooleansArePrinted, CallsAreMade, CallsAreRefused, FailuresAreTold, HandlersAreCreated, IntegersArePrinted, NoBlockEnds, ObjectsAreCreated, ObjectsAreCreatedBy, RequestsAreMade, RoundsEnd, RoutinesAreEntered, RoutinesEnd, RoutinesFail, SilentOperationsFollow, SilentOperationsJoin, SimpleStepsAskNothing, TextsArePrinted};
 
@@ -172,3 +173,46 @@ pub fn block_ends_ask()
 {
     programs_serve();
 }
+
+/// Where a clause of the precondition is false the turn asks that the routine waits or that its request is refused, unless the
+/// store has failed.
+pub fn refusals_ask()
+    ensures { RefusalsAsk }
+{
+    programs_serve();
+}
+
+/// Among distinct names each has the number at which it stands.
+pub fn distinct_names_have_numbers()
+    ensures { DistinctNamesHaveNumbers }
+{}
+
+/// Where a request goes to another handler the turn asks for it, unless the store has failed.
+pub fn requests_ask()
+    ensures { RequestsAsk }
+{
+    programs_serve();
+}
+
+/// Where a handler is created the turn asks for it, unless the store has failed.
+pub fn creations_ask()
+    ensures { CreationsAsk }
+{
+    programs_serve();
+}
+
+/// Where the supplier has failed, or has refused what was waited for, the handler fails.
+pub fn bad_answers_are_taken()
+    ensures { BadAnswersAreTaken }
+{}
+
+/// Where a reserve step has reserved handlers the store stands for what the job makes of the half.
+pub fn grants_are_taken()
+    ensures { GrantsAreTaken }
+{}
+
+/// Where an answer is taken the store stands for what the job makes of the half, if a routine that waits for a value is given
+/// one and has room for it.
+pub fn answers_are_taken()
+    ensures { AnswersAreTaken }
+{}
