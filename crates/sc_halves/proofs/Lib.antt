@@ -1,4 +1,6 @@
+mod Calming
 mod Fine
 mod Granting
+mod Keeping
 mod Linking
 mod Reaching
