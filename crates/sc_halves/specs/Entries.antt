@@ -1,4 +1,4 @@
--- What becomes of the entry that a handler reserved for last, and when a clause of a precondition can still be found false.
+-- What becomes of the entry that a handler reserved for last, and when a clause of a precondition may be found false.
 use Rattle.std.specs.Prelude.{◌≡◌, ◌⊎◌, ℕ, Bool, true, false, List, [], ◌∷◌, Contains}
 use Rattle.sc_tree.specs.Plain.{System}
 use Rattle.sc_waitcond.specs.declared.mark.Marked.{Marked}

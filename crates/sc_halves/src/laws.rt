@@ -14,8 +14,8 @@ pub fn core_runs_as_half()
     ensures { RunsAsHalf }
 {}
 
-/// In each settlement the entry that a handler reserved for last stays, until the handler reserves again or has no frames; and what a handler is
-/// about to reserve is that entry.
+/// In each settlement the entry that a handler reserved for last stays, until the handler reserves again or has no
+/// frames; and what a handler is about to reserve is that entry.
 pub fn entries_stay()
     ensures { EntriesStay }
 {}
