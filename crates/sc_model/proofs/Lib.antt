@@ -3,6 +3,7 @@ pub mod Playing
 pub mod Rows
 pub mod Joins
 pub mod Idle
+pub mod Defaults
 pub mod Fewer
 pub mod Silent
 pub mod Follows

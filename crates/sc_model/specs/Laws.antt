@@ -1,15 +1,21 @@
 -- What holds of every system and every run.
-use Rattle.std.specs.Prelude.{ℕ, ◌≡◌, ◌<◌, ◌≤◌, Bool, false, List, ◌++◌, Some}
+use Rattle.std.specs.Prelude.{ℕ, ℤ, ◌≡◌, ◌<◌, ◌≤◌, Bool, true, false, List, ◌++◌, Some, Ok}
 use Rattle.sc_tree.specs.Plain.{System}
 use Rattle.sc_class.specs.ClassNames.{Root}
+use Rattle.sc_class.specs.declared.identity.ClassId.{ClassId}
+use Rattle.sc_class.specs.declared.identity.ClassId.TheVariants as class
 use Rattle.sc_class.specs.Faults.ClassRules.{IsFaultless}
 use Rattle.sc_rules.specs.Names.{RoutineName}
 use Rattle.sc_rules.specs.Purity.{IsPurity}
 use Rattle.sc_rules.specs.SystemRules.{WellFormed}
+use Rattle.sc_formula.specs.Arithmetic.{is_integer, sum_of}
+use Rattle.sc_formula.specs.Connective.{truth_table}
+use Rattle.sc_formula.specs.declared.connective.Connective.TheVariants as connective
 use Rattle.sc_formula.specs.Formula.{PlainFormula}
 use Rattle.sc_model.specs.Invariants.{formulas_of}
 use Rattle.sc_model.specs.declared.cause.Cause.{Cause}
-use Rattle.sc_model.specs.Values.{Reference}
+use Rattle.sc_model.specs.Values.{Reference, Integer, Boolean, default_of}
+use Rattle.sc_model.specs.ObjectTests.{is_attached}
 use Rattle.sc_model.specs.Steps.{Point, Step, Goes, Does}
 use Rattle.sc_model.specs.Sizes.{size}
 use Rattle.sc_model.specs.Moves.{step, moves}
@@ -62,3 +68,10 @@ abbrev pub InvariantsHaveFormulas : Type 0
 InvariantsHaveFormulas =
     (s : System) (root : Root) (pure : RoutineName → Bool) → IsFaultless s root → WellFormed s → IsPurity s pure → (j : ℕ)
     → (formulas : List PlainFormula) × (formulas_of s j ≡ Some formulas)
+
+-- What an entity holds at first says nothing yet: a sum with an INTEGER's default is the other integer, `or` with a BOOLEAN's is the other side, and
+-- no object is attached to any other (ECMA-367, 8.19.14).
+pub record DefaultsAreNeutral : Type 0 where
+  pub integer : (n : ℤ) × (default_of class.Integer ≡ Integer n) × ((z : ℤ) → is_integer z ≡ true → sum_of n z ≡ Ok z)
+  pub boolean : (b : Bool) × (default_of class.Boolean ≡ Boolean b) × ((c : Bool) → truth_table connective.Or b c ≡ c)
+  pub reference : (k : ClassId) → (k ≡ class.Integer → ⊥) → (k ≡ class.Boolean → ⊥) → is_attached (default_of k) ≡ false

@@ -1,5 +1,5 @@
 //! Laws of the machine, each the contract of a function that does nothing.
-ghost use Rattle.sc_model.specs.Laws.{FailedHandlersStay, FewerAreEnough, IdleTurnsChangeNothing, InvariantsHaveFormulas, OutputGrows, RunsJoin, SilentStepsFall, TurnsAreVisible};
+ghost use Rattle.sc_model.specs.Laws.{DefaultsAreNeutral, FailedHandlersStay, FewerAreEnough, IdleTurnsChangeNothing, InvariantsHaveFormulas, OutputGrows, RunsJoin, SilentStepsFall, TurnsAreVisible};
 
 /// A silent step makes what is left to do smaller.
 pub fn silent_steps_fall()
@@ -39,4 +39,9 @@ pub fn failed_handlers_stay()
 /// In an accepted system the joined invariant of each class is a list of formulas over its attributes.
 pub fn invariants_have_formulas()
     ensures { InvariantsHaveFormulas }
+{}
+
+/// What an entity holds at first says nothing yet.
+pub fn defaults_are_neutral()
+    ensures { DefaultsAreNeutral }
 {}
