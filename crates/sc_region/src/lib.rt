@@ -5,6 +5,7 @@
 //! [`Request`], [`Job`], [`Want`] and [`Outcome`].
 #![tactic(auto)]
 
+mod breakdown;
 mod frame;
 mod job;
 mod object;
@@ -14,6 +15,7 @@ mod state;
 mod store;
 mod value;
 
+pub use breakdown::{Breakdown, BrokenInvariant, Point};
 pub use frame::{Activation, Origin, Stage};
 pub use job::{Errand, Job, Outcome, Request, Want};
 pub use operands::{Olds, Operands};

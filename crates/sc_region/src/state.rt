@@ -8,6 +8,7 @@ ghost use Rattle.sc_region.specs.Stores.{failed, is_settled, settled, written, b
 ghost use Rattle.sc_region.specs.States.{state_of, stack_below, opened};
 ghost use Rattle.sc_region.specs.Values.{atoms_of};
 
+use crate::breakdown::{Breakdown, BrokenInvariant, Point};
 use crate::frame::{Activation, Frame, Frames, Origin};
 use crate::object::{Object, Objects};
 use crate::program::{class_at, routine_at};
@@ -38,14 +39,49 @@ pub struct State<'p> {
     pub spare: Vec<Activation>,
     pub output: Vec<u8>,
     pub failure: Option<Cause>,
+    /// Where it failed, to be told. Nothing else depends on it.
+    pub breakdown: Breakdown,
 }
 
 // ---- failure, and settled objects
+
+/// Where the routine stands.
+fn point_of(activation: &Activation) -> Point {
+    Point {
+        routine: activation.routine,
+        place: activation.place,
+    }
+}
+
+/// Where it is, or was as it failed.
+pub fn breakdown(state: &State<'_>) -> Breakdown {
+    match &state.top {
+        Some(activation) => Breakdown {
+            point: Some(point_of(activation)),
+            invariant: state.breakdown.invariant,
+        },
+        None => state.breakdown,
+    }
+}
+
+/// Keeps where it is, for a failure to be told.
+fn keep_breakdown(state: &mut State<'_>, why: Cause)
+    ensures { state_of state.new ≡ state_of state.old }
+{
+    if state.top.is_none() {
+        return;
+    }
+    state.breakdown = breakdown(state);
+    if matches!(why, Cause::Invariant) && state.breakdown.invariant.is_none() {
+        state.breakdown.invariant = broken_invariant(state, state.current.number as usize);
+    }
+}
 
 /// A failure: the frames are dropped.
 pub fn fail(state: &mut State<'_>, why: Cause)
     ensures { state_of state.new ≡ failed why (state_of state.old) }
 {
+    keep_breakdown(state, why);
     state.top = None;
     state.below.clear();
     state.failure = Some(why);
@@ -116,12 +152,28 @@ fn fill(atoms: &mut [Atom], attributes: &[Value])
     }
 }
 
+/// The class invariant that the object of the number breaks, if it breaks one.
+fn broken_invariant(state: &State<'_>, number: usize) -> Option<BrokenInvariant> {
+    let object = state.objects.get(number)?;
+    let class = class_at(state.program, object.class)?;
+    for clause in 0..class.invariant.len() {
+        if !meets_clauses(&class.invariant[clause..=clause], &object.attributes) {
+            return Some(BrokenInvariant {
+                class: object.class,
+                clause,
+            });
+        }
+    }
+    None
+}
+
 /// Where the object of the number is settled now and breaks its invariant, the store fails.
 pub fn settle(state: &mut State<'_>, number: usize)
     ensures { state_of state.new ≡ settled number (state_of state.old) }
 {
     // The cheapest first: a routine that exits mostly leaves its object to its caller, or in order.
     if !is_on_top(state, number) && object_breaks(state, number) && is_settled(state, number) {
+        state.breakdown.invariant = broken_invariant(state, number);
         fail(state, Cause::Invariant);
     }
 }
@@ -267,6 +319,10 @@ pub fn leave(state: &mut State<'_>)
     let number = state.current.number as usize;
     drop_top(state);
     settle(state, number);
+    if state.failure.is_some() {
+        // the routine that has exited is the last whose memory is spare
+        state.breakdown.point = state.spare.last().map(point_of);
+    }
 }
 
 // ---- new objects

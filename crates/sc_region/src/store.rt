@@ -5,6 +5,7 @@ ghost use Rattle.sc_region.specs.Classes.{MeetsAt};
 ghost use Rattle.sc_region.specs.Stores.{new_store, is_settled, failed, written, entered, left, born, born_for, made, made_for, printed};
 ghost use Rattle.sc_region.specs.declared.frame.Origin.TheVariants as origin;
 
+use crate::breakdown::Breakdown;
 use crate::frame::{Activation, Frames, Origin};
 use crate::object::Objects;
 use crate::state::{self, State};
@@ -71,6 +72,7 @@ impl<'p> Store<'p> {
                 spare: Vec::new(alloc),
                 output: Vec::new(alloc),
                 failure: None,
+                breakdown: Breakdown::none(),
             },
         }
     }
@@ -259,5 +261,11 @@ impl<'p> Store<'p> {
         ensures { result ≡ self.now.failure }
     {
         self.state.failure
+    }
+
+    /// Where the store was as it ended in a failure, or else is now, to be told to people. Nothing is promised of it: no turn
+    /// depends on it.
+    pub fn breakdown(&self) -> Breakdown {
+        state::breakdown(&self.state)
     }
 }
