@@ -9,6 +9,7 @@ pub mod Playing
 pub mod Assigning
 pub mod Targeting
 pub mod Moving
+pub mod Told
 pub mod Beginning
 pub mod Creating
 pub mod Behind

@@ -7,6 +7,7 @@ pub mod Features
 pub mod Hopping
 pub mod Turning
 pub mod Entering
+pub mod Told
 pub mod Creating
 pub mod Exiting
 pub mod Refusing

@@ -8,6 +8,7 @@ ghost use Rattle.sc_region.specs.Objects.{PlainObject, object_numbered};
 ghost use Rattle.sc_interp.specs.Playing.{IsAttribute, IsLast, Plays, Remains, written_if};
 ghost use Rattle.sc_interp.specs.Serving.{attribute_in, version_in};
 ghost use Rattle.sc_interp.specs.Standing.{listed};
+ghost use Rattle.sc_interp.specs.Told.{IsDone};
 
 use crate::act::Hop;
 use crate::calling::has_name;
@@ -63,6 +64,7 @@ pub fn push_attribute(
 ) -> Hop
     ensures plays { Plays me count (coded.PushAttribute is_attached name) result store.old store.new }
     ensures remains { Remains store.old store.new }
+    ensures done { IsDone result }
 {
     if !is_name(store, name) {
         return Hop::Failed(Cause::BadCode);
@@ -97,6 +99,7 @@ fn assign(store: &mut Store<'_>, me: Reference, count: usize, name: usize, value
     requires named { slice_get (pool_of store.old.program.pool).names name ≡ Some (listed (pool_of store.old.program.pool).names name) }
     ensures plays { Plays me count (coded.StoreAttribute name) result store.old store.new }
     ensures remains { Remains store.old store.new }
+    ensures done { IsDone result }
 {
     let number = attribute_number(store, me.number, name);
     match store.top_mut() {
@@ -113,6 +116,7 @@ fn assign(store: &mut Store<'_>, me: Reference, count: usize, name: usize, value
 pub fn store_attribute(store: &mut Store<'_>, me: Reference, count: usize, name: usize) -> Hop
     ensures plays { Plays me count (coded.StoreAttribute name) result store.old store.new }
     ensures remains { Remains store.old store.new }
+    ensures done { IsDone result }
 {
     if !is_name(store, name) {
         return Hop::Failed(Cause::BadCode);

@@ -3,9 +3,11 @@ ghost use Rattle.std.specs.Prelude.{◌≡◌, ℕ, slice_get};
 ghost use Rattle.sc_region.specs.declared.value.Reference as code;
 ghost use Rattle.sc_region.specs.Frames.{activation_of};
 ghost use Rattle.sc_code.specs.declared.operation.Operation.TheVariants as coded;
+ghost use Rattle.sc_code.specs.declared.program.Image.{Image};
 ghost use Rattle.sc_code.specs.Operations as plain;
 ghost use Rattle.sc_code.specs.Programs.{pool_of};
 ghost use Rattle.sc_interp.specs.Standing.{Follows, Hops};
+ghost use Rattle.sc_interp.specs.Told.{HasBlock, Tells};
 
 use crate::act::{Act, Hop};
 use sc_code::{Heads, Program};
@@ -21,7 +23,8 @@ fn block_at(program: &Program, number: usize) -> Option<Heads>
 
 /// A separate block begins, whose heads go into these slots: F16 where there are no such slots, or fewer operands.
 fn open_block(activation: &Activation, block: Heads) -> Hop
-    ensures { (count : ℕ) → Hops count (plain.Open block.first block.count) result (activation_of activation.now) (activation_of activation.now) }
+    ensures hops { (count : ℕ) → Hops count (plain.Open block.first block.count) result (activation_of activation.now) (activation_of activation.now) }
+    ensures told { (p : Image) → HasBlock p block.first block.count → Tells p result (activation_of activation.now) }
 {
     let (first, count) = (block.first, block.count);
     if count > activation.operands.len() {
@@ -39,7 +42,8 @@ fn open_block(activation: &Activation, block: Heads) -> Hop
 
 /// A separate block begins, by its number.
 pub fn open(program: &Program, activation: &Activation, number: usize) -> Hop
-    ensures { (me : code.Reference) (count : ℕ) → Follows program.now.image me count (coded.Open number) result (activation_of activation.now) (activation_of activation.now) }
+    ensures follows { (me : code.Reference) (count : ℕ) → Follows program.now.image me count (coded.Open number) result (activation_of activation.now) (activation_of activation.now) }
+    ensures told { Tells program.now.image result (activation_of activation.now) }
 {
     match block_at(program, number) {
         Some(block) => open_block(activation, block),

@@ -1,11 +1,12 @@
 //! Calls, creations and separate blocks: what they name is told, and the routine stays as it is.
-ghost use Rattle.std.specs.Prelude.{◌≡◌, ℕ, Some, None, ◌||◌, not, drop, length, nat_lt, slice_get, if◌then◌else◌};
+ghost use Rattle.std.specs.Prelude.{◌≡◌, ℕ, IfSome, Some, None, ◌||◌, not, drop, length, nat_lt, slice_get, if◌then◌else◌};
 ghost use Rattle.std.specs.Option.{option_map, option_and_then};
 ghost use Rattle.sc_region.specs.Frames.{activation_of};
 ghost use Rattle.sc_code.specs.declared.operation.Operation.TheVariants as coded;
 ghost use Rattle.sc_code.specs.Programs.{pool_of};
 ghost use Rattle.sc_code.specs.View.{call_of, creation_of, named};
 ghost use Rattle.sc_interp.specs.Standing.{Follows, Stays, listed, call_in, creation_in};
+ghost use Rattle.sc_interp.specs.Told.{IsCallIn, IsCreationIn, Tells};
 
 use crate::act::{Act, Calling, Hop};
 use sc_code::{CallSite, ConstantPool, CreationSite, Program};
@@ -31,8 +32,9 @@ fn has_procedure(pool: &ConstantPool, procedure: Option<usize>) -> bool
 
 /// The call's site of the number, where it and its name are there.
 fn call_at(program: &Program, number: usize) -> Option<CallSite>
-    ensures { let pool = pool_of program.now.image.pool in
+    ensures site { let pool = pool_of program.now.image.pool in
         option_map (call_in pool) result ≡ option_and_then (call_of pool) (slice_get pool.calls number) }
+    ensures there { IfSome result (λ site. IsCallIn program.now.image site) }
 {
     let pool = program.pool();
     let site = *pool.calls.get(number)?;
@@ -45,8 +47,9 @@ fn call_at(program: &Program, number: usize) -> Option<CallSite>
 
 /// The creation's site of the number, where it and the name of its procedure are there.
 fn creation_at(program: &Program, number: usize) -> Option<CreationSite>
-    ensures { let pool = pool_of program.now.image.pool in
+    ensures site { let pool = pool_of program.now.image.pool in
         option_map (creation_in pool) result ≡ option_and_then (creation_of pool) (slice_get pool.creations number) }
+    ensures there { IfSome result (λ site. IsCreationIn program.now.image site) }
 {
     let pool = program.pool();
     let site = *pool.creations.get(number)?;
@@ -86,6 +89,7 @@ pub fn call_routine(
     ensures follows { (count : ℕ) → Follows program.now.image me count (coded.CallRoutine number)
         result (activation_of activation.old) (activation_of activation.new) }
     ensures stays { Stays (activation_of activation.old) (activation_of activation.new) }
+    ensures told { Tells program.now.image result (activation_of activation.new) }
 {
     let Some(site) = call_at(program, number) else {
         return Hop::Failed(Cause::BadCode);
@@ -111,6 +115,7 @@ pub fn create(program: &Program, activation: &mut Activation, me: Reference, num
     ensures follows { (count : ℕ) → Follows program.now.image me count (coded.Create number)
         result (activation_of activation.old) (activation_of activation.new) }
     ensures stays { Stays (activation_of activation.old) (activation_of activation.new) }
+    ensures told { Tells program.now.image result (activation_of activation.new) }
 {
     let Some(site) = creation_at(program, number) else {
         return Hop::Failed(Cause::BadCode);
@@ -136,6 +141,7 @@ pub fn create_handler(
     ensures follows { (count : ℕ) → Follows program.now.image me count (coded.CreateHandler number) result
         (activation_of activation.old) (activation_of activation.new) }
     ensures stays { Stays (activation_of activation.old) (activation_of activation.new) }
+    ensures told { Tells program.now.image result (activation_of activation.new) }
 {
     let Some(site) = creation_at(program, number) else {
         return Hop::Failed(Cause::BadCode);

@@ -2,6 +2,7 @@
 ghost use Rattle.std.specs.Prelude.{◌≡◌, IfOk, OnErr, true};
 ghost use Rattle.sc_region.specs.Frames.{activation_of};
 ghost use Rattle.sc_interp.specs.Standing.{Follows, Stays, is_simple};
+ghost use Rattle.sc_interp.specs.Told.{Tells};
 
 use crate::act::{Act, Hop};
 use crate::blocks::open;
@@ -30,6 +31,7 @@ pub fn hop_on(
     ensures follows { IfOk result (λ hop. Follows program.now.image me count operation hop (activation_of activation.old) (activation_of activation.new)) }
     ensures stays { Stays (activation_of activation.old) (activation_of activation.new) }
     ensures err { OnErr result (activation_of activation.new ≡ activation_of activation.old) }
+    ensures told { IfOk result (λ hop. Tells program.now.image hop (activation_of activation.new)) }
 {
     match operation {
         Operation::PushInteger(value) => Ok(push(activation, count, Value::Integer(value))),

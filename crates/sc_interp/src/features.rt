@@ -1,15 +1,17 @@
 //! Calls with a target.
-ghost use Rattle.std.specs.Prelude.{◌≡◌, ℕ, ◌<◌, ◌+◌, ◌||◌, Some, drop, is_some, length, nat_lt, not, slice_get};
+ghost use Rattle.std.specs.Prelude.{◌≡◌, ℕ, ◌<◌, ◌+◌, ◌||◌, IfSome, Some, drop, is_some, length, nat_lt, not, slice_get};
 ghost use Rattle.std.specs.Option.{option_map, option_and_then};
 ghost use Rattle.sc_model.specs.Steps as steps;
 ghost use Rattle.sc_code.specs.Machine as flat;
 ghost use Rattle.sc_code.specs.declared.operation.Operation.TheVariants as coded;
+ghost use Rattle.sc_code.specs.declared.program.Image.{Image};
 ghost use Rattle.sc_code.specs.Programs.{pool_of};
 ghost use Rattle.sc_region.specs.Frames.{PlainActivation, activation_of, top_activation};
 ghost use Rattle.sc_interp.specs.Features.{Calls, IsFeature, IsFeatureAt, IsSite, IsUnder, calls_found, calls_seen, reads};
 ghost use Rattle.sc_interp.specs.Playing.{Plays, Remains};
 ghost use Rattle.sc_interp.specs.Standing.{Stays, listed};
 ghost use Rattle.sc_interp.specs.Values.{reference_of, value_of};
+ghost use Rattle.sc_interp.specs.Told.{IsCallIn, IsDone, IsTold, Tells};
 
 use crate::act::{Act, Calling, Hop};
 use crate::attributes::{attribute_value, is_name, value_under, version_in};
@@ -91,6 +93,7 @@ fn read_in_place(
     requires { site.count < length (activation_of activation.old).operands.values }
     ensures calls { Calls count site (λ c k us f. flat.replaces c (flat.read is_attached (option_map value_of value)) f) result (activation_of activation.old) (activation_of activation.new) }
     ensures stays { Stays (activation_of activation.old) (activation_of activation.new) }
+    ensures done { IsDone result }
 {
     activation.operands.drop_last(site.count);
     match activation.operands.pop() {
@@ -104,6 +107,7 @@ fn read_on(activation: &mut Activation, count: usize, site: CallSite, value: Opt
     requires { site.count < length (activation_of activation.old).operands.values }
     ensures calls { Calls count site (λ c k us f. reads c k.gives (option_map value_of value) f) result (activation_of activation.old) (activation_of activation.new) }
     ensures stays { Stays (activation_of activation.old) (activation_of activation.new) }
+    ensures done { IsDone result }
 {
     match site.gives {
         None => refuse(activation, site, Cause::BadCode),
@@ -117,6 +121,7 @@ fn enter_on(activation: &mut Activation, object: Reference, site: CallSite) -> H
     ensures calls { (count : ℕ) → Calls count site (λ c k us f. flat.awaits c (is_some k.gives) (flat.Enters steps.Qualified (reference_of object) k.name us (is_some k.gives)) f)
         result (activation_of activation.old) (activation_of activation.new) }
     ensures stays { Stays (activation_of activation.old) (activation_of activation.new) }
+    ensures told { (p : Image) → IsCallIn p site → Tells p result (activation_of activation.new) }
 {
     let gives = site.gives.is_some();
     if !has_room_past(activation, site, gives) {
@@ -136,6 +141,7 @@ fn request_on(activation: &mut Activation, object: Reference, site: CallSite) ->
     requires { site.count < length (activation_of activation.old).operands.values }
     ensures calls { (count : ℕ) → Calls count site (λ c k us f. flat.requests c (reference_of object) k us f) result (activation_of activation.old) (activation_of activation.new) }
     ensures stays { Stays (activation_of activation.old) (activation_of activation.new) }
+    ensures told { (p : Image) → IsCallIn p site → Tells p result (activation_of activation.new) }
 {
     if site.is_own {
         return refuse(activation, site, Cause::ForeignObject);
@@ -164,6 +170,7 @@ fn call_found(
     requires { site.count < length (activation_of activation.old).operands.values }
     ensures calls { Calls count site (λ c k us f. calls_found c (reference_of object) k us found f) result (activation_of activation.old) (activation_of activation.new) }
     ensures stays { Stays (activation_of activation.old) (activation_of activation.new) }
+    ensures told { (p : Image) → IsCallIn p site → Tells p result (activation_of activation.new) }
 {
     match found {
         None => refuse(activation, site, Cause::BadCode),
@@ -184,6 +191,7 @@ fn call_on(
     requires { site.count < length (activation_of activation.old).operands.values }
     ensures calls { Calls count site (λ c k us f. calls_seen c (reference_of me) k (value_of target) us found f) result (activation_of activation.old) (activation_of activation.new) }
     ensures stays { Stays (activation_of activation.old) (activation_of activation.new) }
+    ensures told { (p : Image) → IsCallIn p site → Tells p result (activation_of activation.new) }
 {
     match target {
         Value::Attached(object) => {
@@ -211,7 +219,8 @@ fn feature_at(store: &Store<'_>, target: Value, name: usize) -> Option<Feature>
 
 /// The call's site of the number, where it and its name are there.
 fn site_at(store: &Store<'_>, number: usize) -> Option<CallSite>
-    ensures { IsSite store.now number result }
+    ensures site { IsSite store.now number result }
+    ensures there { IfSome result (λ site. IsCallIn store.now.program site) }
 {
     let site = *store.program().pool().calls.get(number)?;
     if is_name(store, site.name) {
@@ -231,9 +240,11 @@ fn call_target(
     target: Value,
 ) -> Hop
     requires site { IsSite store.old number (Some site) }
+    requires there { IsCallIn store.old.program site }
     requires target { IsUnder store.old site.count target }
     ensures plays { Plays me count (coded.CallFeature number) result store.old store.new }
     ensures remains { Remains store.old store.new }
+    ensures told { IsTold result store.new }
 {
     let found = feature_at(store, target, site.name);
     match store.top_mut() {
@@ -246,6 +257,7 @@ fn call_target(
 pub fn call_feature(store: &mut Store<'_>, me: Reference, count: usize, number: usize) -> Hop
     ensures plays { Plays me count (coded.CallFeature number) result store.old store.new }
     ensures remains { Remains store.old store.new }
+    ensures told { IsTold result store.new }
 {
     match site_at(store, number) {
         None => Hop::Failed(Cause::BadCode),

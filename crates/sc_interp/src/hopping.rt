@@ -6,6 +6,7 @@ ghost use Rattle.sc_region.specs.Frames.{PlainActivation, top_activation};
 ghost use Rattle.sc_interp.specs.Hopping.{ComesTo, IsCount, IsNext, LeadsTo, NextIs};
 ghost use Rattle.sc_interp.specs.Playing.{Plays, Remains};
 ghost use Rattle.sc_interp.specs.Standing.{is_simple};
+ghost use Rattle.sc_interp.specs.Told.{IsTold};
 
 use crate::act::Hop;
 use crate::attributes::{push_attribute, store_attribute};
@@ -27,6 +28,7 @@ fn hop_in_place(
     ensures plays { IfOk result (λ hop. Plays me count operation hop store.old store.new) }
     ensures remains { Remains store.old store.new }
     ensures err { OnErr result (store.new ≡ store.old) }
+    ensures told { IfOk result (λ hop. IsTold hop store.new) }
 {
     let program = store.program();
     match store.top_mut() {
@@ -45,6 +47,7 @@ fn hop_by(
     ensures plays { IfOk result (λ hop. Plays me count operation hop store.old store.new) }
     ensures remains { Remains store.old store.new }
     ensures err { OnErr result (store.new ≡ store.old) }
+    ensures told { IfOk result (λ hop. IsTold hop store.new) }
 {
     match operation {
         Operation::PushAttribute { is_attached, name } => Ok(push_attribute(
@@ -104,6 +107,7 @@ pub fn hop(store: &mut Store<'_>) -> Result<Hop, AllocError>
     ensures next { IfOk result (λ hop. NextIs hop store.old store.new) }
     ensures remains { Remains store.old store.new }
     ensures err { OnErr result (store.new ≡ store.old) }
+    ensures told { IfOk result (λ hop. IsTold hop store.new) }
 {
     match store.current() {
         None => Ok(Hop::Failed(Cause::BadCode)),
@@ -120,6 +124,7 @@ pub fn moves(store: &mut Store<'_>) -> Result<Hop, AllocError>
     ensures comes { IfOk result (λ hop. ComesTo hop store.old store.new) }
     ensures remains { Remains store.old store.new }
     ensures err { OnErr result (LeadsTo store.old store.new) }
+    ensures told { IfOk result (λ hop. IsTold hop store.new) }
 {
     let count = operation_count(store);
     for passed in 0..count {

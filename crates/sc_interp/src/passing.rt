@@ -4,6 +4,7 @@ ghost use Rattle.sc_code.specs.Machine as flat;
 ghost use Rattle.sc_region.specs.Frames.{activation_of};
 ghost use Rattle.sc_interp.specs.Values.{value_of, evaluated};
 ghost use Rattle.sc_interp.specs.Standing.{Passes, Stays};
+ghost use Rattle.sc_interp.specs.Told.{IsDone};
 
 use crate::act::Hop;
 use sc_model::Cause;
@@ -13,6 +14,7 @@ use sc_region::{Activation, Value};
 pub fn skip(activation: &mut Activation, count: usize, passed: usize) -> Hop
     ensures passes { Passes count (λ c f. flat.skips c passed f) result (activation_of activation.old) (activation_of activation.new) }
     ensures stays { Stays (activation_of activation.old) (activation_of activation.new) }
+    ensures done { IsDone result }
 {
     let behind = count.saturating_sub(activation.place).saturating_sub(1);
     if passed < behind {
@@ -27,6 +29,7 @@ pub fn skip(activation: &mut Activation, count: usize, passed: usize) -> Hop
 pub fn push(activation: &mut Activation, count: usize, value: Value) -> Hop
     ensures passes { Passes count (λ c f. flat.push c (value_of value) f) result (activation_of activation.old) (activation_of activation.new) }
     ensures stays { Stays (activation_of activation.old) (activation_of activation.new) }
+    ensures done { IsDone result }
 {
     if activation.operands.is_full() {
         return Hop::Failed(Cause::BadCode);
@@ -39,6 +42,7 @@ pub fn push(activation: &mut Activation, count: usize, value: Value) -> Hop
 pub fn push_found(activation: &mut Activation, count: usize, found: Result<Value, Cause>) -> Hop
     ensures passes { Passes count (λ c f. flat.pushes c (evaluated found) f) result (activation_of activation.old) (activation_of activation.new) }
     ensures stays { Stays (activation_of activation.old) (activation_of activation.new) }
+    ensures done { IsDone result }
 {
     match found {
         Ok(value) => push(activation, count, value),
@@ -52,6 +56,7 @@ pub fn put_past(activation: &mut Activation, count: usize, value: Value, passed:
     ensures passes { Passes count (λ c f. flat.skips c passed (record f { values = value_of value ∷ f.values }))
         result (activation_of activation.old) (activation_of activation.new) }
     ensures stays { Stays (activation_of activation.old) (activation_of activation.new) }
+    ensures done { IsDone result }
 {
     activation.operands.push(value);
     skip(activation, count, passed)
@@ -62,6 +67,7 @@ pub fn replace(activation: &mut Activation, count: usize, found: Result<Value, C
     requires { length (activation_of activation.old).operands.values < (activation_of activation.old).operands.depth }
     ensures passes { Passes count (λ c f. flat.replaces c (evaluated found) f) result (activation_of activation.old) (activation_of activation.new) }
     ensures stays { Stays (activation_of activation.old) (activation_of activation.new) }
+    ensures done { IsDone result }
 {
     match found {
         Ok(value) => put_past(activation, count, value, 0),
@@ -73,6 +79,7 @@ pub fn replace(activation: &mut Activation, count: usize, found: Result<Value, C
 pub fn pass_last(activation: &mut Activation, count: usize) -> Hop
     ensures passes { Passes count (λ c f. flat.goes_on c (record f { values = drop 1 f.values })) result (activation_of activation.old) (activation_of activation.new) }
     ensures stays { Stays (activation_of activation.old) (activation_of activation.new) }
+    ensures done { IsDone result }
 {
     activation.operands.drop_last(1);
     skip(activation, count, 0)
@@ -83,6 +90,7 @@ pub fn store(activation: &mut Activation, count: usize, slot: usize, value: Valu
     ensures passes { Passes count (λ c f. flat.stores c slot (value_of value) f)
         result (activation_of activation.old) (activation_of activation.new) }
     ensures stays { Stays (activation_of activation.old) (activation_of activation.new) }
+    ensures done { IsDone result }
 {
     if slot >= activation.slots.len() {
         return Hop::Failed(Cause::BadCode);

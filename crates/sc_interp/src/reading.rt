@@ -5,6 +5,7 @@ ghost use Rattle.sc_code.specs.Operations as flat;
 ghost use Rattle.sc_code.specs.View.{default_value};
 ghost use Rattle.sc_interp.specs.Values.{value_of};
 ghost use Rattle.sc_interp.specs.Standing.{Hops, Stays};
+ghost use Rattle.sc_interp.specs.Told.{IsDone};
 
 use crate::act::Hop;
 use crate::evaluation::{found, read};
@@ -18,6 +19,7 @@ use std::alloc::AllocError;
 pub fn push_result(activation: &mut Activation, count: usize, is_attached: bool) -> Hop
     ensures hops { Hops count (flat.PushResult is_attached) result (activation_of activation.old) (activation_of activation.new) }
     ensures stays { Stays (activation_of activation.old) (activation_of activation.new) }
+    ensures done { IsDone result }
 {
     let value = read(is_attached, activation.result);
     push_found(activation, count, value)
@@ -35,6 +37,7 @@ fn value_at(slots: &[Value], slot: usize) -> Option<Value>
 pub fn push_slot(activation: &mut Activation, count: usize, slot: usize, is_attached: bool) -> Hop
     ensures hops { Hops count (flat.PushSlot slot is_attached) result (activation_of activation.old) (activation_of activation.new) }
     ensures stays { Stays (activation_of activation.old) (activation_of activation.new) }
+    ensures done { IsDone result }
 {
     let value = read(is_attached, value_at(&activation.slots, slot));
     push_found(activation, count, value)
@@ -45,6 +48,7 @@ pub fn push_slot(activation: &mut Activation, count: usize, slot: usize, is_atta
 pub fn push_old(activation: &mut Activation, count: usize, number: usize) -> Hop
     ensures hops { Hops count (flat.PushOld number) result (activation_of activation.old) (activation_of activation.new) }
     ensures stays { Stays (activation_of activation.old) (activation_of activation.new) }
+    ensures done { IsDone result }
 {
     let value = found(activation.olds.get(number));
     push_found(activation, count, value)
@@ -70,6 +74,7 @@ pub fn initialize(
 ) -> Hop
     ensures hops { Hops count (flat.Initialize slot (default_value value)) result (activation_of activation.old) (activation_of activation.new) }
     ensures stays { Stays (activation_of activation.old) (activation_of activation.new) }
+    ensures done { IsDone result }
 {
     store(activation, count, slot, default_of(value))
 }
@@ -80,6 +85,7 @@ pub fn keep_old(activation: &mut Activation, count: usize) -> Result<Hop, AllocE
     ensures hops { IfOk result (λ hop. Hops count flat.KeepOld hop (activation_of activation.old) (activation_of activation.new)) }
     ensures stays { Stays (activation_of activation.old) (activation_of activation.new) }
     ensures err { OnErr result (activation_of activation.new ≡ activation_of activation.old) }
+    ensures done { IfOk result (λ hop. IsDone hop) }
 {
     match activation.operands.pop() {
         Some(value) => match activation.olds.keep(value) {

@@ -5,6 +5,7 @@ ghost use Rattle.sc_code.specs.Operations as flat;
 ghost use Rattle.sc_code.specs.Machine as machine;
 ghost use Rattle.sc_interp.specs.Values.{value_of};
 ghost use Rattle.sc_interp.specs.Standing.{Hops, Passes, Stays};
+ghost use Rattle.sc_interp.specs.Told.{IsDone};
 
 use crate::act::Hop;
 use crate::evaluation::{binary_value, decided_by, unary_value};
@@ -17,6 +18,7 @@ use sc_tree::{BinaryOperator, UnaryOperator};
 pub fn apply_unary(activation: &mut Activation, count: usize, operator: UnaryOperator) -> Hop
     ensures hops { Hops count (flat.ApplyUnary operator) result (activation_of activation.old) (activation_of activation.new) }
     ensures stays { Stays (activation_of activation.old) (activation_of activation.new) }
+    ensures done { IsDone result }
 {
     match activation.operands.pop() {
         Some(value) => replace(activation, count, unary_value(operator, value)),
@@ -28,6 +30,7 @@ pub fn apply_unary(activation: &mut Activation, count: usize, operator: UnaryOpe
 pub fn apply_binary(activation: &mut Activation, count: usize, operator: BinaryOperator) -> Hop
     ensures hops { Hops count (flat.ApplyBinary operator) result (activation_of activation.old) (activation_of activation.new) }
     ensures stays { Stays (activation_of activation.old) (activation_of activation.new) }
+    ensures done { IsDone result }
 {
     match activation.operands.pop() {
         Some(right) => apply_to(activation, count, operator, right),
@@ -46,6 +49,7 @@ fn apply_to(
     ensures passes { Passes count (λ c f. machine.applies c operator (value_of right) f.values (record f { values = value_of right ∷ f.values }))
         result (activation_of activation.old) (activation_of activation.new) }
     ensures stays { Stays (activation_of activation.old) (activation_of activation.new) }
+    ensures done { IsDone result }
 {
     match activation.operands.pop() {
         Some(left) => replace(activation, count, binary_value(operator, left, right)),
@@ -65,6 +69,7 @@ pub fn decide(
 ) -> Hop
     ensures hops { Hops count (flat.Decide operator passed) result (activation_of activation.old) (activation_of activation.new) }
     ensures stays { Stays (activation_of activation.old) (activation_of activation.new) }
+    ensures done { IsDone result }
 {
     match activation.operands.pop() {
         Some(left) => match decided_by(operator, left) {
@@ -79,6 +84,7 @@ pub fn decide(
 pub fn conclude(activation: &mut Activation, count: usize) -> Hop
     ensures hops { Hops count flat.Conclude result (activation_of activation.old) (activation_of activation.new) }
     ensures stays { Stays (activation_of activation.old) (activation_of activation.new) }
+    ensures done { IsDone result }
 {
     match activation.operands.pop() {
         Some(Value::Boolean(value)) => put_past(activation, count, Value::Boolean(value), 0),
@@ -90,6 +96,7 @@ pub fn conclude(activation: &mut Activation, count: usize) -> Hop
 pub fn store_slot(activation: &mut Activation, count: usize, slot: usize) -> Hop
     ensures hops { Hops count (flat.StoreSlot slot) result (activation_of activation.old) (activation_of activation.new) }
     ensures stays { Stays (activation_of activation.old) (activation_of activation.new) }
+    ensures done { IsDone result }
 {
     match activation.operands.pop() {
         Some(value) => store(activation, count, slot, value),
@@ -101,6 +108,7 @@ pub fn store_slot(activation: &mut Activation, count: usize, slot: usize) -> Hop
 pub fn store_result(activation: &mut Activation, count: usize) -> Hop
     ensures hops { Hops count flat.StoreResult result (activation_of activation.old) (activation_of activation.new) }
     ensures stays { Stays (activation_of activation.old) (activation_of activation.new) }
+    ensures done { IsDone result }
 {
     match activation.operands.pop() {
         Some(value) => {
@@ -115,6 +123,7 @@ pub fn store_result(activation: &mut Activation, count: usize) -> Hop
 pub fn skip_if_false(activation: &mut Activation, count: usize, passed: usize) -> Hop
     ensures hops { Hops count (flat.SkipIfFalse passed) result (activation_of activation.old) (activation_of activation.new) }
     ensures stays { Stays (activation_of activation.old) (activation_of activation.new) }
+    ensures done { IsDone result }
 {
     match activation.operands.pop() {
         Some(Value::Boolean(true)) => skip(activation, count, 0),
@@ -127,6 +136,7 @@ pub fn skip_if_false(activation: &mut Activation, count: usize, passed: usize) -
 pub fn expect(activation: &mut Activation, count: usize, why: Cause) -> Hop
     ensures hops { Hops count (flat.Expect why) result (activation_of activation.old) (activation_of activation.new) }
     ensures stays { Stays (activation_of activation.old) (activation_of activation.new) }
+    ensures done { IsDone result }
 {
     match activation.operands.pop() {
         Some(Value::Boolean(true)) => skip(activation, count, 0),

@@ -14,6 +14,7 @@ ghost use Rattle.sc_region.specs.Frames.{activation_of};
 ghost use Rattle.sc_interp.specs.Serving.{TellsConformance, conforms_in};
 ghost use Rattle.sc_interp.specs.Standing.{Follows, Passes, Stays, Tested};
 ghost use Rattle.sc_interp.specs.Values.{value_of, values_of};
+ghost use Rattle.sc_interp.specs.Told.{IsDone};
 
 use crate::act::Hop;
 use crate::passing::{put_past, store};
@@ -108,6 +109,7 @@ fn bind(activation: &mut Activation, count: usize, slot: usize, value: Value) ->
     requires { length (activation_of activation.old).operands.values < (activation_of activation.old).operands.depth }
     ensures passes { Passes count (λ c f. flat.binds_if true c slot (value_of value) f) result (activation_of activation.old) (activation_of activation.new) }
     ensures stays { Stays (activation_of activation.old) (activation_of activation.new) }
+    ensures done { IsDone result }
 {
     activation.operands.push(Value::Boolean(true));
     store(activation, count, slot, value)
@@ -124,6 +126,7 @@ fn bind_if(
     requires { length (activation_of activation.old).operands.values < (activation_of activation.old).operands.depth }
     ensures passes { Passes count (λ c f. flat.binds_if is_tested c slot (value_of value) f) result (activation_of activation.old) (activation_of activation.new) }
     ensures stays { Stays (activation_of activation.old) (activation_of activation.new) }
+    ensures done { IsDone result }
 {
     if is_tested {
         bind(activation, count, slot, value)
@@ -149,6 +152,7 @@ fn test_by(
 ) -> Hop
     ensures tests { Tested program.now.image me count test result (activation_of activation.old) (activation_of activation.new) }
     ensures stays { Stays (activation_of activation.old) (activation_of activation.new) }
+    ensures done { IsDone result }
 {
     match activation.operands.pop() {
         Some(value) => {
@@ -169,6 +173,7 @@ pub fn test(
 ) -> Hop
     ensures follows { Follows program.now.image me count (coded.Test number) result (activation_of activation.old) (activation_of activation.new) }
     ensures stays { Stays (activation_of activation.old) (activation_of activation.new) }
+    ensures done { IsDone result }
 {
     match test_at(program, number) {
         Some(test) => test_by(program, activation, me, count, test),

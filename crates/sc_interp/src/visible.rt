@@ -1,10 +1,12 @@
 //! Visible operations: what they name is told, and the routine stays as it is.
 ghost use Rattle.std.specs.Prelude.{ℕ};
 ghost use Rattle.sc_code.specs.declared.operation.Operation.TheVariants as coded;
+ghost use Rattle.sc_code.specs.declared.program.Image.{Image};
 ghost use Rattle.sc_region.specs.declared.value.Reference as code;
 ghost use Rattle.sc_region.specs.Frames.{PlainActivation, activation_of};
 ghost use Rattle.sc_code.specs.Operations as flat;
 ghost use Rattle.sc_interp.specs.Standing.{Demands, Follows, Hops, Stays};
+ghost use Rattle.sc_interp.specs.Told.{HasDemand, Tells};
 
 use crate::act::{Act, Hop};
 use crate::passing::skip;
@@ -16,6 +18,7 @@ use sc_region::{Activation, Value};
 pub fn print(activation: &mut Activation) -> Hop
     ensures hops { (count : ℕ) → Hops count flat.Print result (activation_of activation.old) (activation_of activation.new) }
     ensures stays { Stays (activation_of activation.old) (activation_of activation.new) }
+    ensures told { (p : Image) → Tells p result (activation_of activation.new) }
 {
     match activation.operands.pop() {
         Some(Value::Integer(value)) => {
@@ -33,6 +36,7 @@ pub fn print(activation: &mut Activation) -> Hop
 /// The text of the number is printed, where there is one.
 pub fn print_text(program: &Program, text: usize) -> Hop
     ensures follows { (me : code.Reference) (count : ℕ) (a : PlainActivation) → Follows program.now.image me count (coded.PrintText text) result a a }
+    ensures told { (a : PlainActivation) → Tells program.now.image result a }
 {
     if text < program.pool().texts.len() {
         Hop::Comes(Act::PrintText(text))
@@ -45,6 +49,7 @@ pub fn print_text(program: &Program, text: usize) -> Hop
 pub fn end_loop(activation: &mut Activation, back: usize) -> Hop
     ensures hops { (count : ℕ) → Hops count (flat.EndLoop back) result (activation_of activation.old) (activation_of activation.new) }
     ensures stays { Stays (activation_of activation.old) (activation_of activation.new) }
+    ensures told { (p : Image) → Tells p result (activation_of activation.new) }
 {
     match activation.operands.pop() {
         Some(Value::Boolean(ends)) => {
@@ -59,6 +64,7 @@ pub fn end_loop(activation: &mut Activation, back: usize) -> Hop
 fn demand_on(activation: &mut Activation, count: usize, number: usize) -> Hop
     ensures demands { Demands count number result (activation_of activation.old) (activation_of activation.new) }
     ensures stays { Stays (activation_of activation.old) (activation_of activation.new) }
+    ensures told { (p : Image) → HasDemand p number → Tells p result (activation_of activation.new) }
 {
     match activation.operands.pop() {
         Some(Value::Boolean(true)) => skip(activation, count, 0),
@@ -74,6 +80,7 @@ fn demand_on(activation: &mut Activation, count: usize, number: usize) -> Hop
 pub fn demand(program: &Program, activation: &mut Activation, count: usize, number: usize) -> Hop
     ensures follows { (me : code.Reference) → Follows program.now.image me count (coded.Demand number) result (activation_of activation.old) (activation_of activation.new) }
     ensures stays { Stays (activation_of activation.old) (activation_of activation.new) }
+    ensures told { Tells program.now.image result (activation_of activation.new) }
 {
     if number < program.pool().demands.len() {
         demand_on(activation, count, number)

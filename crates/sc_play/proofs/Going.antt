@@ -5,13 +5,14 @@ use Rattle.sc_region.specs.Stores.{PlainStore}
 use Rattle.sc_interp.specs.declared.act.Hop.{Hop}
 use Rattle.sc_interp.specs.Hopping.{ComesTo}
 use Rattle.sc_interp.specs.Playing.{Remains}
+use Rattle.sc_interp.specs.Told.{IsTold}
 use Rattle.sc_play.specs.Turns.{GoesOn, IsAhead, asks_done, done}
 use Rattle.sc_play.proofs.Ahead.{ahead_comes, ahead_same}
 
-pub goes_on : {E : Type 0} (h : ℕ) (r : Result Want E) (o : Hop) (x b y : PlainStore) → ComesTo o x b → Remains x b → OnOk r (y ≡ done h o b) →
+pub goes_on : {E : Type 0} (h : ℕ) (r : Result Want E) (o : Hop) (x b y : PlainStore) → ComesTo o x b → Remains x b → IsTold o b → OnOk r (y ≡ done h o b) →
     IfOk r (λ w. w ≡ asks_done h o b y) → IfOk r (λ w. GoesOn h x y w)
-goes_on h (Ok w) o x b y comes remains does want = record { operation = o; before = b; comes = comes; remains = remains; does = does; want = want }
-goes_on h (Err e) o x b y comes remains does want = tt
+goes_on h (Ok w) o x b y comes remains told does want = record { operation = o; before = b; comes = comes; remains = remains; told = told; does = does; want = want }
+goes_on h (Err e) o x b y comes remains told does want = tt
 
 pub stops_at : {E : Type 0} (r : Result Want E) (o : Hop) (x b y : PlainStore) → ComesTo o x b → Remains x b → OnErr r (y ≡ b) → OnErr r (IsAhead x y)
 stops_at (Ok w) o x b y comes remains same = tt

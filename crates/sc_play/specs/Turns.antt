@@ -12,6 +12,7 @@ use Rattle.sc_interp.specs.declared.act.Hop.{Hop}
 use Rattle.sc_interp.specs.declared.act.Hop.TheVariants as hop
 use Rattle.sc_interp.specs.Hopping.{ComesTo, LeadsTo}
 use Rattle.sc_interp.specs.Playing.{Remains}
+use Rattle.sc_interp.specs.Told.{IsTold}
 use Rattle.sc_interp.specs.Turning.{on_top, unless_failed}
 use Rattle.sc_play.specs.Acting.{acted, asks_acting}
 use Rattle.sc_play.specs.Answering.{granted, replied, runs, told, top_stage}
@@ -42,6 +43,7 @@ pub record GoesOn (h : ℕ) (x y : PlainStore) (w : Want) : Type 0 where
   pub before : PlainStore
   pub comes : ComesTo operation x before
   pub remains : Remains x before
+  pub told : IsTold operation before
   pub does : y ≡ done h operation before
   pub want : w ≡ asks_done h operation before y
 

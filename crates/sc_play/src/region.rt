@@ -5,7 +5,7 @@ ghost use Rattle.sc_play.specs.Regions.{PlaysOn};
 
 use crate::turn::{first_turn, turn};
 use sc_code::Program;
-use sc_region::{Job, Outcome, Store, Want};
+use sc_region::{Breakdown, Job, Outcome, Store, Want};
 use std::alloc::{AllocError, Global};
 use std::marker::Model;
 
@@ -122,6 +122,12 @@ impl<'p> Region<'p> {
         ensures { result.now ≡ self.now.store.output }
     {
         self.store.output()
+    }
+
+    /// Where the handler was as it failed, or else is now, to be told to people. Nothing is promised of it: no turn depends on
+    /// it.
+    pub fn breakdown(&self) -> Breakdown {
+        self.store.breakdown()
     }
 
     /// How many objects there are.

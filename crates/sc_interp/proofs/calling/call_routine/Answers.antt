@@ -10,6 +10,8 @@ use Rattle.sc_interp.specs.declared.act.Calling.TheVariants as calling
 use Rattle.sc_interp.specs.Values.{value_of, values_of, reference_of}
 use Rattle.sc_interp.specs.Standing.{call_in, state_of, name_at, enters}
 use Rattle.sc_interp.proofs.Popping.{routine_short, routine_by, room_test, misfits}
+use Rattle.sc_model.specs.declared.cause.Cause.TheVariants as cause
+use Rattle.sc_interp.proofs.Told.{enter_ready, tells_failed}
 use Rattle.sc_interp.proofs.calling.call_routine.Goals as goal
 
 pub returns-then-count-len-clause-follows : goal.returns-then-count-len-clause-follows
@@ -20,7 +22,7 @@ returns-then-count-len-clause-follows c = λ count s code objects serves fits.
     let f = state_of objects a in
     let site = c.in-Some.site in
     let short : length (values_of a.operands.values) < site.count = omega (arith, length-map a.operands.values value_of, c.if-count-len.true, c.len.ensures) in
-    ap (λ (o : Option CallSite). hop_of s code me (option_map CallRoutine o) f) (sym c.call_at.ensures ∙ ap (option_map (call_in (pool_of p.pool))) c.in-Some.is)
+    ap (λ (o : Option CallSite). hop_of s code me (option_map CallRoutine o) f) (sym c.call_at.ensures.site ∙ ap (option_map (call_in (pool_of p.pool))) c.in-Some.is)
     ∙ routine_short p site me code f short
 
 pub returns-then-not-has_room-clause-follows : goal.returns-then-not-has_room-clause-follows
@@ -31,7 +33,7 @@ returns-then-not-has_room-clause-follows c = λ count s code objects serves fits
     let f = state_of objects a in
     let site = c.in-Some.site in
     let enough : site.count ≤ length (values_of a.operands.values) = omega (arith, length-map a.operands.values value_of, c.if-count-len.false, c.len.ensures) in
-    ap (λ (o : Option CallSite). hop_of s code me (option_map CallRoutine o) f) (sym c.call_at.ensures ∙ ap (option_map (call_in (pool_of p.pool))) c.in-Some.is)
+    ap (λ (o : Option CallSite). hop_of s code me (option_map CallRoutine o) f) (sym c.call_at.ensures.site ∙ ap (option_map (call_in (pool_of p.pool))) c.in-Some.is)
     ∙ routine_by p site me code f false enough
     (room_test _ _ _ site.count a.operands.values a.operands.depth code.depth c.has_room.ensures c.is_some-gives.ensures fits.depth ∙ c.if-not-has_room.true)
     ∙ misfits p s code me objects site.count c.misfit.result a (activation_of c.misfit.new.activation) c.misfit.ensures.gone c.misfit.ensures.failed
@@ -44,7 +46,15 @@ returns-clause-follows c = λ count s code objects serves fits.
     let f = state_of objects a in
     let site = c.in-Some.site in
     let enough : site.count ≤ length (values_of a.operands.values) = omega (arith, length-map a.operands.values value_of, c.if-count-len.false, c.len.ensures) in
-    ap (λ (o : Option CallSite). hop_of s code me (option_map CallRoutine o) f) (sym c.call_at.ensures ∙ ap (option_map (call_in (pool_of p.pool))) c.in-Some.is)
+    ap (λ (o : Option CallSite). hop_of s code me (option_map CallRoutine o) f) (sym c.call_at.ensures.site ∙ ap (option_map (call_in (pool_of p.pool))) c.in-Some.is)
     ∙ routine_by p site me code f true enough
     (room_test _ _ _ site.count a.operands.values a.operands.depth code.depth c.has_room.ensures c.is_some-gives.ensures fits.depth ∙ c.if-not-has_room.false)
     ∙ ap (λ g. enters calling.Unqualified me (name_at p site.name) site.count g f) (sym c.is_some-gives.ensures)
+
+pub returns-then-not-has_room-clause-told : goal.returns-then-not-has_room-clause-told
+returns-then-not-has_room-clause-told c = tells_failed c.args.program.now.image c.misfit.result (activation_of c.misfit.new.activation) cause.BadCode c.misfit.ensures.failed
+
+pub returns-clause-told : goal.returns-clause-told
+returns-clause-told c =
+    enter_ready c.args.program.now.image calling.Unqualified c.args.me c.in-Some.site c.is_some-gives.result c.has_room.result (activation_of c.args.activation.now) c.in-Some.ensures.there
+    (omega (arith, c.if-count-len.false, c.len.ensures)) c.is_some-gives.ensures c.has_room.ensures c.if-not-has_room.false

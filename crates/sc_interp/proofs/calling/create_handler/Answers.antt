@@ -9,6 +9,8 @@ use Rattle.sc_region.specs.Frames.{activation_of}
 use Rattle.sc_interp.specs.Values.{value_of, values_of, reference_of}
 use Rattle.sc_interp.specs.Standing.{creation_in, state_of}
 use Rattle.sc_interp.proofs.Popping.{handler_short, handler_by, room_test, misfits}
+use Rattle.sc_model.specs.declared.cause.Cause.TheVariants as cause
+use Rattle.sc_interp.proofs.Told.{handler_ready, tells_failed}
 use Rattle.sc_interp.proofs.calling.create_handler.Goals as goal
 
 pub returns-then-count-len-clause-follows : goal.returns-then-count-len-clause-follows
@@ -18,7 +20,7 @@ returns-then-count-len-clause-follows c = λ count s code objects serves fits.
     let me = reference_of c.args.me in
     let f = state_of objects a in
     let short : length (values_of a.operands.values) < c.in-Some.site.count = omega (arith, length-map a.operands.values value_of, c.if-count-len.true, c.len.ensures) in
-    ap (λ (o : Option CreationSite). hop_of s code me (option_map CreateHandler o) f) (sym c.creation_at.ensures ∙ ap (option_map (creation_in (pool_of p.pool))) c.in-Some.is)
+    ap (λ (o : Option CreationSite). hop_of s code me (option_map CreateHandler o) f) (sym c.creation_at.ensures.site ∙ ap (option_map (creation_in (pool_of p.pool))) c.in-Some.is)
     ∙ handler_short p c.in-Some.site code f short
 
 pub returns-then-not-has_room-clause-follows : goal.returns-then-not-has_room-clause-follows
@@ -29,7 +31,7 @@ returns-then-not-has_room-clause-follows c = λ count s code objects serves fits
     let f = state_of objects a in
     let site = c.in-Some.site in
     let enough : site.count ≤ length (values_of a.operands.values) = omega (arith, length-map a.operands.values value_of, c.if-count-len.false, c.len.ensures) in
-    ap (λ (o : Option CreationSite). hop_of s code me (option_map CreateHandler o) f) (sym c.creation_at.ensures ∙ ap (option_map (creation_in (pool_of p.pool))) c.in-Some.is)
+    ap (λ (o : Option CreationSite). hop_of s code me (option_map CreateHandler o) f) (sym c.creation_at.ensures.site ∙ ap (option_map (creation_in (pool_of p.pool))) c.in-Some.is)
     ∙ handler_by p s site me code f false enough
     (room_test true true _ site.count a.operands.values a.operands.depth code.depth c.has_room.ensures refl fits.depth ∙ c.if-not-has_room.true)
     ∙ misfits p s code me objects site.count c.misfit.result a (activation_of c.misfit.new.activation) c.misfit.ensures.gone c.misfit.ensures.failed
@@ -42,6 +44,14 @@ returns-clause-follows c = λ count s code objects serves fits.
     let f = state_of objects a in
     let site = c.in-Some.site in
     let enough : site.count ≤ length (values_of a.operands.values) = omega (arith, length-map a.operands.values value_of, c.if-count-len.false, c.len.ensures) in
-    ap (λ (o : Option CreationSite). hop_of s code me (option_map CreateHandler o) f) (sym c.creation_at.ensures ∙ ap (option_map (creation_in (pool_of p.pool))) c.in-Some.is)
+    ap (λ (o : Option CreationSite). hop_of s code me (option_map CreateHandler o) f) (sym c.creation_at.ensures.site ∙ ap (option_map (creation_in (pool_of p.pool))) c.in-Some.is)
     ∙ handler_by p s site me code f true enough
     (room_test true true _ site.count a.operands.values a.operands.depth code.depth c.has_room.ensures refl fits.depth ∙ c.if-not-has_room.false)
+
+pub returns-then-not-has_room-clause-told : goal.returns-then-not-has_room-clause-told
+returns-then-not-has_room-clause-told c = tells_failed c.args.program.now.image c.misfit.result (activation_of c.misfit.new.activation) cause.BadCode c.misfit.ensures.failed
+
+pub returns-clause-told : goal.returns-clause-told
+returns-clause-told c =
+    handler_ready c.args.program.now.image c.in-Some.site c.has_room.result (activation_of c.args.activation.now) c.in-Some.ensures.there
+    (omega (arith, c.if-count-len.false, c.len.ensures)) c.has_room.ensures c.if-not-has_room.false

@@ -41,4 +41,4 @@ returns-in-Test-clause-follows c = λ s code objects serves fits.
 pub returns-in-Open-clause-follows : goal.returns-in-Open-clause-follows
 returns-in-Open-clause-follows c = λ s code objects serves fits.
     ap (λ (o : Operation). hop_of s code (reference_of c.args.me) (operation_of (pool_of c.args.program.now.image.pool) o) (state_of objects (activation_of c.args.activation.now))) c.in-Open.is
-    ∙ c.open.ensures c.args.me c.args.count s code objects serves fits
+    ∙ c.open.ensures.follows c.args.me c.args.count s code objects serves fits

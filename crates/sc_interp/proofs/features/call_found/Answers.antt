@@ -6,6 +6,7 @@ use Rattle.sc_interp.specs.Features.{calls_found}
 use Rattle.sc_interp.specs.Standing.{actuals, call_in, state_of, without}
 use Rattle.sc_interp.specs.Values.{reference_of}
 use Rattle.sc_interp.proofs.Targeting.{refused}
+use Rattle.sc_interp.proofs.Told.{tells_done, tells_failed}
 use Rattle.sc_interp.proofs.features.call_found.Goals as goal
 
 pub returns-in-None-clause-calls : goal.returns-in-None-clause-calls
@@ -15,3 +16,9 @@ returns-in-None-clause-calls c = λ p s me code objects fits.
     let n = site.count + 1 in
     ap (λ o. calls_found code (reference_of c.args.object) (call_in (pool_of p.pool) site) (actuals site.count (state_of objects a).values) o (without n (state_of objects a))) c.in-None.is
     ∙ refused p s code me objects n cause.BadCode c.refuse.result a (activation_of c.refuse.new.activation) c.refuse.ensures.gone c.refuse.ensures.failed
+
+pub returns-in-None-clause-told : goal.returns-in-None-clause-told
+returns-in-None-clause-told c = λ p is. tells_failed p c.refuse.result (activation_of c.refuse.new.activation) cause.BadCode c.refuse.ensures.failed
+
+pub returns-in-Some-Attribute-clause-told : goal.returns-in-Some-Attribute-clause-told
+returns-in-Some-Attribute-clause-told c = λ p is. tells_done p c.read_on.result (activation_of c.read_on.new.activation) c.read_on.ensures.done

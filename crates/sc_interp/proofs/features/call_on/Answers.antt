@@ -9,6 +9,7 @@ use Rattle.sc_interp.specs.Features.{calls_found, calls_seen}
 use Rattle.sc_interp.specs.Standing.{actuals, call_in, state_of, without}
 use Rattle.sc_interp.specs.Values.{reference_of, value_of}
 use Rattle.sc_interp.proofs.Targeting.{refused}
+use Rattle.sc_interp.proofs.Told.{tells_failed}
 use Rattle.sc_interp.proofs.features.call_on.Goals as goal
 
 pub returns-else-object-me-clause-calls : goal.returns-else-object-me-clause-calls
@@ -49,3 +50,12 @@ returns-in-Boolean-clause-calls c = λ p s me code objects fits.
     ap (λ v. calls_seen code (reference_of c.args.me) (call_in (pool_of p.pool) site) (value_of v) (actuals site.count (state_of objects a).values) c.args.found (without n (state_of objects a)))
     c.in-Boolean.is
     ∙ refused p s code me objects n cause.BadCode c.refuse-in-Boolean.result a (activation_of c.refuse-in-Boolean.new.activation) c.refuse-in-Boolean.ensures.gone c.refuse-in-Boolean.ensures.failed
+
+pub returns-in-Void-clause-told : goal.returns-in-Void-clause-told
+returns-in-Void-clause-told c = λ p is. tells_failed p c.refuse.result (activation_of c.refuse.new.activation) cause.VoidTarget c.refuse.ensures.failed
+
+pub returns-in-Integer-clause-told : goal.returns-in-Integer-clause-told
+returns-in-Integer-clause-told c = λ p is. tells_failed p c.refuse-in-Integer.result (activation_of c.refuse-in-Integer.new.activation) cause.BadCode c.refuse-in-Integer.ensures.failed
+
+pub returns-in-Boolean-clause-told : goal.returns-in-Boolean-clause-told
+returns-in-Boolean-clause-told c = λ p is. tells_failed p c.refuse-in-Boolean.result (activation_of c.refuse-in-Boolean.new.activation) cause.BadCode c.refuse-in-Boolean.ensures.failed

@@ -5,6 +5,7 @@ use Rattle.sc_region.specs.declared.frame.Activation.{Activation}
 use Rattle.sc_region.specs.Frames.{PlainActivation, activation_of, top_activation}
 use Rattle.sc_interp.proofs.Playing.{remains_top}
 use Rattle.sc_interp.proofs.Targeting.{calls_play}
+use Rattle.sc_interp.proofs.Told.{told_top}
 use Rattle.sc_interp.proofs.features.call_target.Goals as goal
 
 pub returns-in-Some-clause-plays : goal.returns-in-Some-clause-plays
@@ -19,3 +20,10 @@ pub returns-in-Some-clause-remains : goal.returns-in-Some-clause-remains
 returns-in-Some-clause-remains c =
     remains_top c.args.store.now _ c.call_on.new.activation (activation_of c.in-Some.activation.now)
     (sym c.top_mut.ensures.value ∙ ap (option_map (λ (m : MutBor Activation). activation_of m.now)) c.in-Some.is) refl c.call_on.ensures.stays
+
+pub returns-in-Some-clause-told : goal.returns-in-Some-clause-told
+returns-in-Some-clause-told c =
+    let x = c.args.store.now in
+    let a = activation_of c.in-Some.activation.now in
+    let top : top_activation x.frames ≡ Some a = sym c.top_mut.ensures.value ∙ ap (option_map (λ (m : MutBor Activation). activation_of m.now)) c.in-Some.is in
+    told_top x.program x c.call_on.new.activation a c.call_on.result refl top (c.call_on.ensures.told x.program c.requires.there)

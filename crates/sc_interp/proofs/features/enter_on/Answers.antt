@@ -1,4 +1,4 @@
-use Rattle.std.proofs.Common.{◌+◌, true, false, sym, ap, ◌∙◌}
+use Rattle.std.proofs.Common.{◌+◌, true, false, sym, ap, ◌∙◌, arith}
 use Rattle.std.specs.Prelude.{is_some}
 use Rattle.sc_model.specs.declared.cause.Cause.TheVariants as cause
 use Rattle.sc_model.specs.Steps.{Qualified}
@@ -9,6 +9,7 @@ use Rattle.sc_interp.specs.Standing.{actuals, enters, name_at, state_of, without
 use Rattle.sc_interp.specs.Values.{reference_of}
 use Rattle.sc_interp.proofs.Popping.{awaits_by, room_test}
 use Rattle.sc_interp.proofs.Targeting.{refused}
+use Rattle.sc_interp.proofs.Told.{enter_ready, tells_failed}
 use Rattle.sc_interp.proofs.features.enter_on.Goals as goal
 
 pub returns-then-not-has_room_past-clause-calls : goal.returns-then-not-has_room_past-clause-calls
@@ -28,3 +29,11 @@ returns-clause-calls c = λ count p s me code objects fits.
     awaits_by code (is_some c.args.site.gives) (Enters Qualified (reference_of c.args.object) (name_at p c.args.site.name) us (is_some c.args.site.gives)) (without n (state_of objects a)) true
     (room_test _ _ _ n a.operands.values a.operands.depth code.depth c.has_room_past.ensures c.is_some-gives.ensures fits.depth ∙ c.if-not-has_room_past.false)
     ∙ ap (λ g. enters calling.Qualified (reference_of c.args.object) (name_at p c.args.site.name) c.args.site.count g (state_of objects a)) (sym c.is_some-gives.ensures)
+
+pub returns-then-not-has_room_past-clause-told : goal.returns-then-not-has_room_past-clause-told
+returns-then-not-has_room_past-clause-told c = λ p is. tells_failed p c.refuse.result (activation_of c.refuse.new.activation) cause.BadCode c.refuse.ensures.failed
+
+pub returns-clause-told : goal.returns-clause-told
+returns-clause-told c = λ p is.
+    enter_ready p calling.Qualified c.args.object c.args.site c.is_some-gives.result c.has_room_past.result (activation_of c.args.activation.now) is (omega (arith, c.requires)) c.is_some-gives.ensures
+    c.has_room_past.ensures c.if-not-has_room_past.false

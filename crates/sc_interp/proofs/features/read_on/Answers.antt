@@ -4,6 +4,7 @@ use Rattle.sc_model.specs.declared.cause.Cause.TheVariants as cause
 use Rattle.sc_region.specs.Frames.{activation_of}
 use Rattle.sc_interp.specs.Values.{value_of}
 use Rattle.sc_interp.proofs.Targeting.{reads_none, reads_some, refused}
+use Rattle.sc_interp.proofs.Told.{done_failed}
 use Rattle.sc_interp.proofs.features.read_on.Goals as goal
 
 pub returns-in-None-clause-calls : goal.returns-in-None-clause-calls
@@ -17,3 +18,6 @@ pub returns-in-Some-clause-calls : goal.returns-in-Some-clause-calls
 returns-in-Some-clause-calls c =
     reads_some c.args.count c.args.site c.in-Some.is_attached (option_map value_of c.args.value) c.read_in_place.result (activation_of c.args.activation.now)
     (activation_of c.read_in_place.new.activation) c.in-Some.is c.read_in_place.ensures.calls
+
+pub returns-in-None-clause-done : goal.returns-in-None-clause-done
+returns-in-None-clause-done c = done_failed c.refuse.result cause.BadCode c.refuse.ensures.failed

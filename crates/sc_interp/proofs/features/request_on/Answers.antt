@@ -7,6 +7,7 @@ use Rattle.sc_interp.specs.Standing.{actuals, name_at, state_of, without}
 use Rattle.sc_interp.specs.Values.{reference_of}
 use Rattle.sc_interp.proofs.Popping.{awaits_by, room_test}
 use Rattle.sc_interp.proofs.Targeting.{refused}
+use Rattle.sc_interp.proofs.Told.{request_ready, tells_failed}
 use Rattle.sc_interp.proofs.features.request_on.Goals as goal
 
 pub returns-then-site-clause-calls : goal.returns-then-site-clause-calls
@@ -45,3 +46,15 @@ returns-clause-calls c = λ count p s me code objects fits.
     ∙ awaits_by code (is_some site.gives) (Requests (reference_of c.args.object) (name_at p site.name) us (is_some site.gives) site.passes) f true
     (room_test _ _ _ n a.operands.values a.operands.depth code.depth c.has_room_past.ensures c.is_some-gives.ensures fits.depth ∙ c.if-not-has_room_past.false)
     ∙ ap (λ g. does (Requests (reference_of c.args.object) (name_at p site.name) us g site.passes) f) (sym c.is_some-gives.ensures)
+
+pub returns-then-site-clause-told : goal.returns-then-site-clause-told
+returns-then-site-clause-told c = λ p is. tells_failed p c.refuse.result (activation_of c.refuse.new.activation) cause.ForeignObject c.refuse.ensures.failed
+
+pub returns-then-not-has_room_past-clause-told : goal.returns-then-not-has_room_past-clause-told
+returns-then-not-has_room_past-clause-told c = λ p is.
+    tells_failed p c.refuse-then-not-has_room_past.result (activation_of c.refuse-then-not-has_room_past.new.activation) cause.BadCode c.refuse-then-not-has_room_past.ensures.failed
+
+pub returns-clause-told : goal.returns-clause-told
+returns-clause-told c = λ p is.
+    request_ready p c.args.object c.args.site c.is_some-gives.result c.has_room_past.result (activation_of c.args.activation.now) is c.requires c.is_some-gives.ensures c.has_room_past.ensures
+    c.if-not-has_room_past.false

@@ -8,6 +8,8 @@ use Rattle.sc_interp.specs.Playing.{Plays}
 use Rattle.sc_interp.specs.Standing.{Follows}
 use Rattle.sc_interp.proofs.Playing.{remains_top}
 use Rattle.sc_interp.proofs.Moving.{in_place_plays, in_place_same}
+use Rattle.sc_interp.specs.Told.{IsTold, Tells}
+use Rattle.sc_interp.proofs.Told.{told_top}
 use Rattle.sc_interp.proofs.hopping.hop_in_place.Goals as goal
 
 pub returns-in-Some-clause-plays : goal.returns-in-Some-clause-plays
@@ -32,3 +34,12 @@ returns-in-Some-clause-err c =
     let w = c.hop_on.new.activation in
     let top : top_activation x.frames ≡ Some a = sym c.top_mut.ensures.value ∙ ap (option_map (λ (m : MutBor Activation). activation_of m.now)) c.in-Some.is in
     IfErr-weaker c.hop_on.result (λ e. activation_of w ≡ a) (λ e. with_top x w ≡ x) (λ e same. in_place_same x w a top same) c.hop_on.ensures.err
+
+pub returns-in-Some-clause-told : goal.returns-in-Some-clause-told
+returns-in-Some-clause-told c =
+    let x = c.args.store.now in
+    let p = c.program-program.result.now.image in
+    let a = activation_of c.in-Some.activation.now in
+    let w = c.hop_on.new.activation in
+    let top : top_activation x.frames ≡ Some a = sym c.top_mut.ensures.value ∙ ap (option_map (λ (m : MutBor Activation). activation_of m.now)) c.in-Some.is in
+    IfOk-weaker c.hop_on.result (λ h. Tells p h (activation_of w)) (λ h. IsTold h (with_top x w)) (λ h told. told_top p x w a h c.program-program.ensures top told) c.hop_on.ensures.told

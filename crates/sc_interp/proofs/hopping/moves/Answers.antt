@@ -3,6 +3,7 @@ use Rattle.std.proofs.lemmas.Result.{IfOk-weaker, IfErr-weaker}
 use Rattle.sc_interp.specs.declared.act.Hop.TheVariants as told
 use Rattle.sc_interp.specs.Hopping.{ComesTo, IsCount, LeadsTo, NextIs}
 use Rattle.sc_interp.proofs.Moving.{comes_after, comes_last, leads_after, passes_more, remains_after}
+use Rattle.sc_interp.specs.Told.{IsTold}
 use Rattle.sc_interp.proofs.hopping.moves.Goals as goal
 
 pub returns-in-Failed-clause-comes : goal.returns-in-Failed-clause-comes
@@ -55,3 +56,6 @@ returns-clause-err c =
     let y = c.loop-passed.store in
     let z = c.hop-2.new.store in
     IfErr-weaker c.hop-2.result (λ e. z ≡ y) (λ e. LeadsTo x z) (λ e same. leads_after c.loop-passed.passed x y z c.loop-passed.invariant.passes same) c.hop-2.ensures.err
+
+pub returns-in-Comes-clause-told : goal.returns-in-Comes-clause-told
+returns-in-Comes-clause-told c = subst (λ h. IsTold h c.hop.new.store) c.in-Comes.is c.in_ok-hop.ensures.told
