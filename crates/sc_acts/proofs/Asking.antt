@@ -25,7 +25,7 @@ use Rattle.sc_acts.proofs.Coming.{meets}
 use Rattle.sc_acts.proofs.Passing.{act_same}
 use Rattle.sc_acts.proofs.Showing.{prints_is, starts_is, tests_is}
 
-same_unless : (o : Option Cause) (w : Want) → region_steps.unless_failed o w ≡ unless_failed o w
+pub same_unless : (o : Option Cause) (w : Want) → region_steps.unless_failed o w ≡ unless_failed o w
 same_unless None w = refl
 same_unless (Some why) w = refl
 

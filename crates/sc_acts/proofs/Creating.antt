@@ -78,14 +78,14 @@ numbered_last os o =
     ap (λ b. if b then None else slice_get (os ++ o ∷ []) (length os + 1 - 1)) some ∙ ap (slice_get (os ++ o ∷ [])) before ∙ get_last os o
 
 -- a new object is settled at once, and so is tested
-born_is : (s : System) (z : PlainStore) → IsProgramFor s z.program → (h class : ℕ) → IsCreator h z →
+pub born_is : (s : System) (z : PlainStore) → IsProgramFor s z.program → (class : ℕ) → z.failure ≡ None → frames.is_current (length z.objects + 1) z.frames ≡ false →
     born class z ≡ (if not (model_invariants.meets_invariant s (model_objects.fresh_object s class)) then store.failed cause.Invariant (with_new class z) else with_new class z)
-born_is s z is h class creator =
+born_is s z is class lives unborn =
     let w = with_new class z in
     let o = at.fresh_object z.program class in
     ap (λ f. if (is_none f && not (frames.is_current (length z.objects + 1) z.frames)) && at.object_breaks z.program (object_numbered (length z.objects + 1) w.objects)
-    then store.failed cause.Invariant w else w) creator.lives
-    ∙ ap (λ b. if not b && at.object_breaks z.program (object_numbered (length z.objects + 1) w.objects) then store.failed cause.Invariant w else w) creator.unborn
+    then store.failed cause.Invariant w else w) lives
+    ∙ ap (λ b. if not b && at.object_breaks z.program (object_numbered (length z.objects + 1) w.objects) then store.failed cause.Invariant w else w) unborn
     ∙ ap (λ q. if at.object_breaks z.program q then store.failed cause.Invariant w else w) (numbered_last z.objects o)
     ∙ ap (λ b. if not b then store.failed cause.Invariant w else w)
     (meets_same s z.program is o refl ∙ ap (λ q. model_invariants.meets_invariant s q) (fresh_same s z is class))
@@ -203,7 +203,7 @@ module _ (number class n : ℕ) (y z : PlainStore) (comes : Comes (hop.Comes (ac
   by_count : (b : Bool) → (if b then flat.creates_object s code (reference_of r) None us behind else flat.fails cause.TooManyObjects before) ≡ flat.Does m.shown m.state →
       IsRegionOf s (turn s h x) (given n r (if b then born class z else store.failed cause.TooManyObjects z))
   by_count true e =
-      subst (λ w. IsRegionOf s (turn s h x) (given n r w)) (sym (born_is s z program_for number class creator)) (by_meets (model_invariants.meets_invariant s fresh) e)
+      subst (λ w. IsRegionOf s (turn s h x) (given n r w)) (sym (born_is s z program_for class creator.lives creator.unborn)) (by_meets (model_invariants.meets_invariant s fresh) e)
   by_count false e = failed_so s x (hop.Comes (act.Create class None n)) y z is region comes m h cause.TooManyObjects before z e refl refl
 
   created_whole : IsRegionOf s (turn s h x) (created r n z)

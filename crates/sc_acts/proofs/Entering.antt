@@ -71,18 +71,18 @@ formals_length s all i [] = refl
 formals_length s all i (d ∷ ds) = ap suc (formals_length s all (i + 1) ds)
 
 -- what binds formals
-record Bound (s : System) (all : List Declaration) (i : ℕ) (ds : List Declaration) (vs : List values.Value) (bs : List Binding) : Type 0 where
+pub record Bound (s : System) (all : List Declaration) (i : ℕ) (ds : List Declaration) (vs : List values.Value) (bs : List Binding) : Type 0 where
   pub many : length vs ≡ length ds
   pub values : values_in bs ≡ vs
 
-abbrev AreFormals : List Binding → Type 0
+abbrev pub AreFormals : List Binding → Type 0
 AreFormals [] = Unit {0}
 AreFormals (b ∷ bs) = (is_formal b.role ≡ true) × AreFormals bs
 
 bound_same : (bs cs : List Binding) → Some bs ≡ Some cs → bs ≡ cs
 bound_same bs cs e = cc
 
-bound : (s : System) (all : List Declaration) (i : ℕ) (ds : List Declaration) (vs : List values.Value) (bs : List Binding) → formals_bound s all i ds vs ≡ Some bs →
+pub bound : (s : System) (all : List Declaration) (i : ℕ) (ds : List Declaration) (vs : List values.Value) (bs : List Binding) → formals_bound s all i ds vs ≡ Some bs →
     Bound s all i ds vs bs
 bound s all i [] [] bs e = record { many = refl; values = ap values_in (sym (bound_same [] bs e)) }
 bound s all i [] (v ∷ vs) bs e = cc
@@ -100,7 +100,7 @@ bound s all i (d ∷ ds) (v ∷ vs) bs e = by (declared_type s all d.declared_ty
           values = ap values_in (sym (bound_same (bind d.name.text (reserved i t) role.Formal v ∷ cs) bs e)) ∙ ap (λ us. v ∷ us) rest.values;
         }
 
-formals_are : (s : System) (all : List Declaration) (i : ℕ) (ds : List Declaration) (vs : List values.Value) (bs : List Binding) → formals_bound s all i ds vs ≡ Some bs → AreFormals bs
+pub formals_are : (s : System) (all : List Declaration) (i : ℕ) (ds : List Declaration) (vs : List values.Value) (bs : List Binding) → formals_bound s all i ds vs ≡ Some bs → AreFormals bs
 formals_are s all i [] [] bs e = subst AreFormals (bound_same [] bs e) tt
 formals_are s all i [] (v ∷ vs) bs e = cc
 formals_are s all i (d ∷ ds) [] bs e = cc
@@ -172,7 +172,7 @@ stands_as (v ∷ vs) g place tail p st = st
 -- ---- what is found
 
 -- a routine has the formals of its own declaration
-formals_of_routine : (s : System) (f : DeclaredFeature) (own : RoutineDeclaration) (r : Routine) → f.feature.kind ≡ tree.Routine own → routine_of s f ≡ Some r → r.text.formals ≡ own.formals
+pub formals_of_routine : (s : System) (f : DeclaredFeature) (own : RoutineDeclaration) (r : Routine) → f.feature.kind ≡ tree.Routine own → routine_of s f ≡ Some r → r.text.formals ≡ own.formals
 formals_of_routine s f own r kind e = by_origin (origin_of s f) e
   where
     by_kind : (x : List ℕ) (k j : ℕ) (original : FeatureKind) → routine_with s x k (tree.Routine own) j original ≡ Some r → r.text.formals ≡ own.formals
@@ -184,7 +184,7 @@ formals_of_routine s f own r kind e = by_origin (origin_of s f) e
     by_origin (Some o) e =
         by_kind f.feature.name.text f.class o.class o.feature.kind (ap (λ m. routine_with s f.feature.name.text f.class m o.class o.feature.kind) (sym kind) ∙ e)
 
-no_routine : (s : System) (f : DeclaredFeature) (d : DeclaredType) → f.feature.kind ≡ tree.Attribute d → routine_of s f ≡ None
+pub no_routine : (s : System) (f : DeclaredFeature) (d : DeclaredType) → f.feature.kind ≡ tree.Attribute d → routine_of s f ≡ None
 no_routine s f d kind = by (origin_of s f)
   where
     by : (o : Option DeclaredFeature) → routine_from s f o ≡ None

@@ -70,7 +70,7 @@ attached_same None (Some u) e = cc
 attached_same (Some d) None e = cc
 attached_same (Some d) (Some u) e = ap (λ (o : Option (values.Value × Bool)). option_map_or (λ (q : values.Value × Bool). q.1) o false) e
 
-value_unset : (v : Value) (t : EntityType) → (is_void (Some v) && t.attached) ≡ is_unset_value (value_of v) t
+pub value_unset : (v : Value) (t : EntityType) → (is_void (Some v) && t.attached) ≡ is_unset_value (value_of v) t
 value_unset Void t = refl
 value_unset (Integer z) t = refl
 value_unset (Boolean b) t = refl

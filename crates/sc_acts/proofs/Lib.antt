@@ -18,3 +18,14 @@ pub mod Joining
 pub mod Asking
 pub mod Wanting
 pub mod Jobs
+pub mod Reserving
+pub mod CallsAsking
+pub mod BlocksAsking
+pub mod Attributes
+pub mod Taking
+pub mod Making
+pub mod Turns
+pub mod Versions
+pub mod Playing
+pub mod Telling
+pub mod Rooming

@@ -107,6 +107,17 @@ firsts_same : (bs : List Binding) → map (λ (q : values.Value × Bool). q.0) (
 firsts_same [] = refl
 firsts_same (b ∷ bs) = ap (λ vs. b.value ∷ vs) (firsts_same bs)
 
+abbrev pub items_of : Option ClassCode → List AttributeCode
+items_of None = []
+items_of (Some c) = c.attributes.items
+
+abbrev attributes_of : Option PlainClass → List (values.Value × Bool)
+attributes_of o = option_map_or (λ (c : PlainClass). c.attributes) o []
+
+attributes_seen : (o : Option ClassCode) → map attribute_in (items_of o) ≡ attributes_of (option_map class_in o)
+attributes_seen None = refl
+attributes_seen (Some c) = refl
+
 abbrev firsts_of : Option PlainClass → List values.Value
 firsts_of o = map (λ (q : values.Value × Bool). q.0) (option_map_or (λ (c : PlainClass). c.attributes) o [])
 
@@ -162,6 +173,18 @@ module _ (s : System) (root : Root) (p : Image) (is : IsProgramOf s root p) wher
           let past = ltb-false k (length s.classes) e in
           ap (λ o. firsts_of (option_map (class_code_of s names) o)) (range_past 0 (length s.classes) k past)
           ∙ sym (ap (λ fs. map (λ (b : Binding). b.value) (fresh_attributes s fs)) (features_past s (length s.classes) k past))
+
+  -- what the table of the class at the number says of its attributes
+  pub attributes_told : (k : ℕ) → map attribute_in (items_of (class_at p k)) ≡ map (λ (b : Binding). (b.value, b.type.attached)) (fresh_attributes s (features s k))
+  attributes_told k = attributes_seen (class_at p k) ∙ ap attributes_of (class_told k) ∙ by (nat_lt k (length s.classes)) refl
+    where
+      by : (b : Bool) → nat_lt k (length s.classes) ≡ b →
+          attributes_of (option_map (class_code_of s names) (slice_get (range_with_len 0 (length s.classes)) k)) ≡ map (λ (b : Binding). (b.value, b.type.attached)) (fresh_attributes s (features s k))
+      by true e = ap (λ o. attributes_of (option_map (class_code_of s names) o)) (range_at (length s.classes) k (ltb-true k (length s.classes) e))
+      by false e =
+          let past = ltb-false k (length s.classes) e in
+          ap (λ o. attributes_of (option_map (class_code_of s names) o)) (range_past 0 (length s.classes) k past)
+          ∙ sym (ap (λ fs. map (λ (b : Binding). (b.value, b.type.attached)) (fresh_attributes s fs)) (features_past s (length s.classes) k past))
 
   pub fresh_many : (k : ℕ) → length (defaults_of (class_at p k)) ≡ length (fresh_attributes s (features s k))
   fresh_many k =

@@ -1,5 +1,5 @@
 -- A routine ends only where nothing is left to do, and a clause that is false changes no entity.
-use Rattle.std.proofs.Common.{◌≡◌, ℕ, ℤ, ◌+◌, List, [], ◌∷◌, ◌++◌, Option, Some, None, Ok, Err, Bool, true, false, refl, sym, subst}
+use Rattle.std.proofs.Common.{◌≡◌, ℕ, ℤ, ◌+◌, List, [], ◌∷◌, ◌++◌, Option, Some, None, Ok, Err, Bool, true, false, refl, sym, ap, subst}
 use Rattle.std.specs.Prelude.{map, if◌then◌else◌, slice_get, ◌==◌, length, nat_lt}
 use Rattle.sc_formula.specs.declared.arithmetic.ArithmeticFault.TheVariants as fault
 use Rattle.sc_formula.specs.declared.arithmetic.ArithmeticOperator.{ArithmeticOperator}
@@ -29,7 +29,7 @@ use Rattle.sc_model.specs.Operators.{arithmetic_of, comparison_of, connective_of
 use Rattle.sc_model.specs.Routines.{place_in, version_of}
 use Rattle.sc_model.specs.Limits.{max_objects}
 use Rattle.sc_model.specs.Tasks.{Task, Do, In, Declare, Forget, Eval, ApplyUnary, EvalRight, ApplyBinary, Conclude, Bind, CallUnqualified, CallQualified, AssignTo, Print, Choose, Repeat, EndLoop, Checked, Require, Required, KeepOld, Ensured, CreateBy, Open, Leave, evals, head_evals, checks}
-use Rattle.sc_model.specs.Steps.{Point, Act, Exits, Refuses, Step, Goes, Does, fails, comes, gives, reads_as, reads_attribute, popped}
+use Rattle.sc_model.specs.Steps.{Point, Act, Exits, Opens, Refuses, Step, Goes, Does, fails, comes, gives, reads_as, reads_attribute, popped}
 use Rattle.sc_model.specs.Calls.{given_by, passes_rights, enters_unqualified, calls_own, calls_unqualified, calls_kind, calls_version, requests, calls_object, calls_on, calls_qualified}
 use Rattle.sc_model.specs.Creations.{creates_object, creates_here, creates_at, creates_as, creates, assigned_at}
 use Rattle.sc_model.specs.ObjectTests.{is_tested, binds_if, binds}
@@ -41,11 +41,18 @@ use Rattle.sc_model.specs.Moves.{performs_on, performs, step_at, step}
 abbrev pub IsLike : Point → Point → Type 0
 IsLike o p = (p.environment ≡ o.environment) × (p.result ≡ o.result)
 
--- No routine ends, and a clause that is found false leaves the entities of the first point.
+-- A separate block begins: its body comes next, and at its end the entities of the first point are left.
+pub record IsOpened (o p : Point) : Type 0 where
+  pub body : Instrs
+  pub rest : List Task
+  pub tasks : p.tasks ≡ Do body ∷ Leave (length o.environment) ∷ rest
+
+-- No routine ends, a clause that is found false leaves the entities of the first point, and a separate block that begins comes next.
 Quiet : Point → Step → Type 0
 Quiet o (Goes p) = Unit {0}
 Quiet o (Does Exits p) = ⊥
 Quiet o (Does (Refuses k) p) = IsLike o p
+Quiet o (Does Opens p) = IsOpened o p
 Quiet o (Does a p) = Unit {0}
 
 act_is : (a : Act) (p q : Point) → Does a p ≡ Does Exits q → a ≡ Exits
@@ -381,10 +388,10 @@ module _ (point : Point) where
   required_quiet n k Void p h = tt
   required_quiet n k (Attached r) p h = tt
 
-  opens_quiet : (n : ℕ) (xs : List Name) (body : Instrs) (us : Option (List Operand × List Operand)) (p : Point) → Quiet point (opens xs body us p)
+  opens_quiet : (n : ℕ) (xs : List Name) (body : Instrs) (us : Option (List Operand × List Operand)) (p : Point) → IsLike point p → Quiet point (opens xs body us p)
   unfolding Quiet
-  opens_quiet n xs body None p = tt
-  opens_quiet n xs body (Some (us, vs)) p = tt
+  opens_quiet n xs body None p h = tt
+  opens_quiet n xs body (Some (us, vs)) p h = record { body = body; rest = p.tasks; tasks = ap (λ bs. Do body ∷ Leave (length bs) ∷ p.tasks) h.0 }
 
   routine_quiet : (b : Bool) (x : List ℕ) (es : Exprs) (p : Point) → Quiet point (begins_routine b x es p)
   unfolding Quiet
@@ -450,7 +457,7 @@ module _ (point : Point) where
   performs_quiet s me (Require []) vs p h = tt
   performs_quiet s me (Require (k ∷ ks)) vs p h = tt
   performs_quiet s me (CreateBy x k n) vs p h = creates_quiet 0 s me x k (popped n [] vs) p
-  performs_quiet s me (Open xs body) vs p h = opens_quiet 0 xs body (popped (length xs) [] vs) p
+  performs_quiet s me (Open xs body) vs p h = opens_quiet 0 xs body (popped (length xs) [] vs) p h
   performs_quiet s me (Leave depth) vs p h = tt
   performs_quiet s me (ApplyUnary op) [] p h = tt
   performs_quiet s me (EvalRight op i e) [] p h = tt
@@ -506,4 +513,15 @@ refuses_here s me p q k e = by p.tasks e
   where
     by : (ts : List Task) → step_at s me ts p ≡ Does (Refuses k) q → IsLike p q
     by [] e = no_refusal k p q e
+    by (t ∷ ts) e = subst (Quiet p) e (task_quiet s me t ts p)
+
+no_block : {A : Type 0} (p q : Point) → Does Exits p ≡ Does Opens q → A
+no_block p q e = cc
+
+pub opens_here : (s : System) (me : Reference) (p q : Point) → step s me p ≡ Does Opens q → IsOpened p q
+unfolding Quiet
+opens_here s me p q e = by p.tasks e
+  where
+    by : (ts : List Task) → step_at s me ts p ≡ Does Opens q → IsOpened p q
+    by [] e = no_block p q e
     by (t ∷ ts) e = subst (Quiet p) e (task_quiet s me t ts p)

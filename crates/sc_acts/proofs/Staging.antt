@@ -143,7 +143,7 @@ requests_is bs cs model.Leaves r x us g p e = cc
 requests_is bs cs model.Exits r x us g p e = cc
 requests_is bs cs (model.Fails w) r x us g p e = cc
 
-opens_is : (bs cs : List Binding) (a : model.Act) (first n : ℕ) → Seen bs cs a (flat.Opens first n) → a ≡ model.Opens
+pub opens_is : (bs cs : List Binding) (a : model.Act) (first n : ℕ) → Seen bs cs a (flat.Opens first n) → a ≡ model.Opens
 opens_is bs cs (model.Prints t) first n e = cc
 opens_is bs cs model.Tests first n e = cc
 opens_is bs cs model.Creates first n e = cc

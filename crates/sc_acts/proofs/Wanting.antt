@@ -67,7 +67,7 @@ use Rattle.sc_acts.proofs.Staging.{creates_handler_is, requests_is, same_blocks,
 
 -- ---- values
 
-value_back : (v : Value) → asked.value_of (value_of v) ≡ v
+pub value_back : (v : Value) → asked.value_of (value_of v) ≡ v
 value_back (Integer z) = refl
 value_back (Boolean b) = refl
 value_back Void = refl
@@ -123,7 +123,7 @@ returning_same (Requested r) f v ks e d =
 
 -- ---- blocks
 
-last_is : (x : List ℕ) (xs : List (List ℕ)) → (k : List ℕ) × (rest : List (List ℕ)) × (reverse (x ∷ xs) ≡ k ∷ rest) × (slice_get (x ∷ xs) (length xs) ≡ Some k)
+pub last_is : (x : List ℕ) (xs : List (List ℕ)) → (k : List ℕ) × (rest : List (List ℕ)) × (reverse (x ∷ xs) ≡ k ∷ rest) × (slice_get (x ∷ xs) (length xs) ≡ Some k)
 last_is x [] = (x, [], refl, refl)
 last_is x (y ∷ ys) =
     let r = last_is y ys in

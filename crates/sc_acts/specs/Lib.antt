@@ -2,3 +2,11 @@ pub mod Acting
 pub mod Waiting
 pub mod Wanting
 pub mod Jobs
+pub mod Reserving
+pub mod Taking
+pub mod Making
+pub mod Turns
+pub mod Versions
+pub mod Playing
+pub mod Told
+pub mod Rooms

@@ -2,4 +2,8 @@
 //! store stands for.
 #![tactic(auto)]
 
+pub mod asks;
 pub mod laws;
+pub mod rooms;
+pub mod told;
+pub mod turning;
