@@ -46,7 +46,7 @@ well_now h f w sound is runs = record {
   formals = is.formals;
 }
 
-moves_so : (s : System) (h : ℕ) (f : machine.Frame) (w : machine.World) → IsSound w → h < w.count → IsFrameSound (λ j. j < w.count) h f → f.stage ≡ machine.Runs →
+pub moves_so : (s : System) (h : ℕ) (f : machine.Frame) (w : machine.World) → IsSound w → h < w.count → IsFrameSound (λ j. j < w.count) h f → f.stage ≡ machine.Runs →
     StepsWell (λ j. j < w.count) (formals_of f) h (length f.blocks) (moves s f.current (point_of f (w.handlers h).objects))
 moves_so s h f w sound here is runs =
     subst (λ i. StepsWell (λ j. j < w.count) (formals_of f) i (length f.blocks) (moves s f.current (point_of f (w.handlers h).objects))) is.current

@@ -1,6 +1,12 @@
 mod Calming
+mod Clausal
+mod Clauses
 mod Fine
 mod Granting
 mod Keeping
 mod Linking
+mod Quiet
 mod Reaching
+mod Recalling
+mod Remembering
+mod Unstarted

@@ -1,5 +1,5 @@
 -- The law of settlements in each state that is reached.
-use Rattle.std.proofs.Common.{ℕ, ◌≡◌, ◌<◌, Bool, false, refl, ap, ◌∙◌, inl, inr, List, [], ◌∷◌}
+use Rattle.std.proofs.Common.{ℕ, ◌≡◌, ◌<◌, Bool, false, ap, ◌∙◌, inl, inr}
 use Rattle.std.proofs.lemmas.Bool.{cases_Bool, ltb-true}
 use Rattle.std.specs.Prelude.{nat_lt}
 use Rattle.sc_tree.specs.Plain.{System}
@@ -14,16 +14,11 @@ use Rattle.sc_request.specs.Asked.{Numbering}
 use Rattle.sc_request.specs.Halves.{IsHalfOf}
 use Rattle.sc_request.specs.Steps.{StandsOnCall, stepped}
 use Rattle.sc_request.proofs.Halving.{halves}
-use Rattle.sc_request.proofs.Opening.{opens}
 use Rattle.sc_laws.proofs.Machine.{machine_reserved_are_held}
 use Rattle.sc_laws.proofs.links.Reached.{reached_linked}
-use Rattle.sc_halves.specs.Reached.{HalvesWhereReached, opened, run_beside, RemembersAlong, RunsAsHalf}
+use Rattle.sc_halves.specs.Reached.{HalvesWhereReached}
 use Rattle.sc_halves.proofs.Granting.{granted}
-use Rattle.sc_halves.proofs.Linking.{one_further, reached_fits, stands_on_call}
-use Rattle.sc_class.specs.ClassNames.{Root}
-use Rattle.sc_class.specs.Faults.ClassRules.{IsFaultless}
-use Rattle.sc_rules.specs.SystemRules.{WellFormed}
-use Rattle.sc_model.specs.Runs.{IsReached, opening, run}
+use Rattle.sc_halves.proofs.Linking.{reached_fits, stands_on_call}
 
 -- where there is no such handler nothing happens
 nobody_steps : (most : ℕ) (n : Numbering) (s : System) (h : ℕ) (w : machine.World) (c : State) → IsHalfOf n w c → nat_lt h w.count ≡ false →
@@ -44,17 +39,3 @@ reached_halves s root faultless well most n h w c reached e remembers = elim (ca
     stands : h < w.count → (pure : RoutineName → Bool) × IsPurity s pure → StandsOnCall (w.handlers h).stack
     stands one (pure, tells) =
         stands_on_call s h (w.handlers h).stack (reached_fits s root pure faultless well tells most w reached h one).frames_are_linked
-
--- ---- runs
-
-module _ (s : System) (root : Root) (faultless : IsFaultless s root) (well : WellFormed s) (most : ℕ) (n : Numbering) where
-  halves_along : (hs : List ℕ) (w : machine.World) (c : State) → IsReached most s root w → IsHalfOf n w c → RemembersAlong most n s hs w c →
-      IsHalfOf n (run most s hs w) (run_beside most n s hs w c)
-  halves_along [] w c reached e remembers = e
-  halves_along (h ∷ hs) w c reached e remembers =
-      halves_along hs (turn most s h w) (stepped most n s h w (job_of h c) c) (one_further most s root h w reached)
-      (reached_halves s root faultless well most n h w c reached e remembers.0) remembers.1
-
-pub runs_as_half : RunsAsHalf
-runs_as_half s root faultless well most n hs remembers =
-    halves_along s root faultless well most n hs (opening s root) (opened n s root) (record { numbers = []; run_is = refl }) (opens n s root) remembers

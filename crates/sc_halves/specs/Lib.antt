@@ -1,2 +1,5 @@
+pub mod Clauses
 pub mod Entries
+pub mod Pure
 pub mod Reached
+pub mod Started

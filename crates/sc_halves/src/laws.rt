@@ -1,6 +1,8 @@
 //! Laws of the core beside the machine, each the contract of a function that does nothing.
+ghost use Rattle.sc_halves.specs.Clauses.{ClausesCallPure, ClausesComeFirst, EachStandsInClauses};
 ghost use Rattle.sc_halves.specs.Entries.{EntriesStay, StartedStay};
-ghost use Rattle.sc_halves.specs.Reached.{HalvesWhereReached, RunsAsHalf};
+ghost use Rattle.sc_halves.specs.Pure.{PureReserveNothing};
+ghost use Rattle.sc_halves.specs.Reached.{EntriesAreRemembered, HalvesWhereReached, RunsAsHalf};
 
 /// In each state that an accepted system reaches, the settlement of a turn leaves the half of the state that the machine steps to, where an entry
 /// that waits is the one that its handler reserved for last.
@@ -8,8 +10,14 @@ pub fn core_settles_as_half_where_reached()
     ensures { HalvesWhereReached }
 {}
 
-/// After the turns of any list of handlers, from the opening of an accepted system on, the core is the half of the machine, where each entry that
-/// waits on the way is the one that its handler reserved for last.
+/// At the turns of any list of handlers, from the opening of an accepted system on, each entry that waits is the one that its handler reserved for
+/// last, where whoever reserves stands on routines that have started.
+pub fn entries_are_remembered()
+    ensures { EntriesAreRemembered }
+{}
+
+/// After the turns of any list of handlers, from the opening of an accepted system on, the core is the half of the machine, where whoever reserves
+/// stands on routines that have started.
 pub fn core_runs_as_half()
     ensures { RunsAsHalf }
 {}
@@ -23,4 +31,25 @@ pub fn entries_stay()
 /// Where no clause of a routine's precondition is left, none is left after its next turn, in which none is found false.
 pub fn started_routines_stay_started()
     ensures { StartedStay }
+{}
+
+/// A function that contracts may call reserves nothing as it is entered.
+pub fn pure_functions_reserve_nothing()
+    ensures { PureReserveNothing }
+{}
+
+/// Where a routine stands in its own precondition, its next turn calls what contracts may call, or asks another handler and lends nothing, or the
+/// routine starts, is refused or fails.
+pub fn clauses_call_pure()
+    ensures { ClausesCallPure }
+{}
+
+/// A routine with a precondition begins in it.
+pub fn clauses_come_first()
+    ensures { ClausesComeFirst }
+{}
+
+/// In each state that an accepted system reaches, a routine that has not started stands in its own precondition.
+pub fn unstarted_routines_stand_in_clauses()
+    ensures { EachStandsInClauses }
 {}
