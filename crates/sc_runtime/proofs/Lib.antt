@@ -1,3 +1,4 @@
+pub mod Freeing
 pub mod Opening
 pub mod Outs
 pub mod Rounding

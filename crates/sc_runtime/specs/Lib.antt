@@ -1,3 +1,4 @@
+pub mod Free
 pub mod Reports
 pub mod Rounds
 pub mod Turning

@@ -1,9 +1,11 @@
 //! The world of many handlers: their turns, one after the other, and what they leave.
 //!
 //! [`World`] has the core and a region for each handler. A turn is picked from the core, played by the handler's region and
-//! settled in the core.
+//! settled in the core. In each world that turns lead to, the objects of a handler that is free meet their class
+//! invariants.
 #![tactic(auto)]
 
+pub mod laws;
 mod report;
 mod world;
 

@@ -1,9 +1,12 @@
 //! The world, and its turns.
 ghost use Rattle.std.specs.Prelude.{◌≡◌, ◌≤◌, ℕ, IfOk, OnErr, OnOk, Some, length, replicate, vec_len};
+ghost use Rattle.sc_free.proofs.Props.{linked_prop};
+ghost use Rattle.sc_free.specs.Free.{AreLinked};
 ghost use Rattle.sc_lockpass.specs.Versions.{most_handlers};
-ghost use Rattle.sc_request.specs.Cores.{center_of};
+ghost use Rattle.sc_request.specs.Cores.{center_of, log_of};
 ghost use Rattle.sc_request.specs.Rooms.{HasRoomFor};
 ghost use Rattle.sc_request.specs.Logs as core;
+ghost use Rattle.sc_runtime.specs.Free.{FreeObjectMeets};
 ghost use Rattle.sc_runtime.specs.Reports as told;
 ghost use Rattle.sc_runtime.specs.Rounds.{EndsRounds, IsRefusedNext, StopsRounds, TurnsOfNext, turns_at_once};
 ghost use Rattle.sc_runtime.specs.Turning.{IsRefusedTurn, IsTurn, PutsBack, Runs, Settles, StopsBehind, turned_by};
@@ -14,8 +17,8 @@ use sc_code::Program;
 use sc_lockpass::Version;
 use sc_model::Status;
 use sc_play::Region;
-use sc_region::{Job, Outcome};
-use sc_request::Core;
+use sc_region::{Breakdown, Job, Outcome};
+use sc_request::{Core, Settlement};
 use std::alloc::{AllocError, Global};
 
 /// What a step of the world did.
@@ -31,6 +34,9 @@ pub enum Turned {
 const MAX_HANDLERS: u16 = 512;
 
 /// A world of handlers, of which number 0 begins with the creation of the root object.
+///
+/// Each handler serves in the core what its region serves. So the region of a handler that is free has no frames, and each
+/// of its objects meets its class invariant.
 #[derive(Drop)]
 pub struct World<'p> {
     alloc: Global,
@@ -38,6 +44,7 @@ pub struct World<'p> {
     /// The region of each handler by number, and places for those that there may be.
     regions: Vec<Region<'p>>,
     ghost places: { vec_len regions ≡ 512 },
+    ghost linked: { AreLinked (center_of core) regions.items } by { linked_prop (center_of core) regions.items },
 }
 
 impl<'p> World<'p> {
@@ -194,6 +201,16 @@ impl<'p> World<'p> {
         self.core.status(handler)
     }
 
+    /// If there is an object of this number on a handler, and the handler is free, so it hasn't failed, the object meets its
+    /// class invariant.
+    pub fn free_object_meets(&self, handler: u16, number: u32)
+        ensures { FreeObjectMeets handler number (world_of self.now) }
+    {
+        if let Some(region) = self.regions.get(handler as usize) {
+            let _ = region.settled(number);
+        }
+    }
+
     /// How each handler stands, in order of number.
     ///
     /// # Errors
@@ -208,6 +225,19 @@ impl<'p> World<'p> {
             }
         }
         Ok(statuses)
+    }
+
+    /// What the turns of handlers came to so far, the first one first.
+    pub fn log(&self) -> &[Settlement]
+        ensures { result.now ≡ log_of self.now.core }
+    {
+        self.core.log()
+    }
+
+    /// Where a handler was as it failed, or else is now, to be told to people; None where there is no such handler. Nothing
+    /// is promised of it: no turn depends on it.
+    pub fn breakdown(&self, handler: u16) -> Option<Breakdown> {
+        Some(self.regions.get(handler as usize)?.breakdown())
     }
 
     /// Each handler's line and output, and how the run has ended.

@@ -1,10 +1,11 @@
-use Rattle.std.proofs.Common.{◌≡◌, ◌==◌, Some, length, ap, sym, ◌∙◌, arith}
+use Rattle.std.proofs.Common.{◌≡◌, ◌==◌, length, ap, sym, ◌∙◌, arith}
 use Rattle.std.specs.Prelude.{if◌then◌else◌}
 use Rattle.std.proofs.lemmas.Option.{slice_get_read}
 use Rattle.std.proofs.lemmas.Result.{IfOk-weaker, on_err_weaker}
 use Rattle.sc_lockpass.specs.Versions.{most_handlers}
 use Rattle.sc_request.specs.Cores.{center_of}
 use Rattle.sc_request.specs.Logs.{Center, next, picked, picks}
+use Rattle.sc_runtime.proofs.Freeing.{linked_still, next_picks, played_linked}
 use Rattle.sc_runtime.proofs.Outs.{held-up, makes-many, picked-out, world-is}
 use Rattle.sc_runtime.proofs.Rounding.{next-none, next-some, refused-next, some-at-once}
 use Rattle.sc_runtime.proofs.world.World.next_turns.Goals as goal
@@ -61,3 +62,24 @@ returns-in-None-clause-ok c =
     let kept = c.pick.ensures.center ∙ ap (λ o. picks o (center_of c.make_room.new.self)) (sym none) in
     next-none c.args.left _ _ (none ∙ ap next room)
     (world-is _ _ _ _ _ (ap most_handlers (c.pick.ensures.version ∙ c.in_ok-make_room.ensures.version)) (kept ∙ room))
+
+pub invariant_of-self-clause-linked : goal.invariant_of-self-clause-linked
+invariant_of-self-clause-linked c = linked_still _ _ _ c.make_room.ensures.center c.args.self.now.linked
+
+pub invariant_of-self-in-None-clause-linked : goal.invariant_of-self-in-None-clause-linked
+invariant_of-self-in-None-clause-linked c =
+    let none = sym c.in-None.is ∙ c.pick.ensures.job in
+    let kept = c.pick.ensures.center ∙ ap (λ o. picks o (center_of c.make_room.new.self)) (sym none) in
+    linked_still _ _ _ (kept ∙ c.in_ok-make_room.ensures.center) c.args.self.now.linked
+
+pub invariant_of-self-in-Some-clause-linked : goal.invariant_of-self-in-Some-clause-linked
+invariant_of-self-in-Some-clause-linked c =
+    let h = c.in-Some.handler in
+    let j = c.in-Some.job in
+    let room = c.in_ok-make_room.ensures.center in
+    let job = sym c.in-Some.is ∙ c.pick.ensures.job in
+    let out = c.pick.ensures.center ∙ ap (λ o. picks o (center_of c.make_room.new.self)) (sym job) ∙ ap (picked h j) room in
+    let count : 512 ≡ length c.args.self.now.regions.items = omega (arith, c.args.self.now.places, c.args.self.now.regions.ok.0) in
+    let stands = slice_get_read c.args.self.now.regions.items 512 h c.index_mut-region.result.now count c.in-Some.ensures.below c.index_mut-region.ensures.value in
+    played_linked _ h j _ (center_of c.args.self.now.core) _ _ c.args.self.now.regions.items _ _ c.play.result c.args.self.now.linked
+    (next_picks h j (center_of c.args.self.now.core) (sym (job ∙ ap next room))) stands out c.play.ensures.ok c.play.ensures.err

@@ -1,8 +1,9 @@
-use Rattle.std.proofs.Common.{◌≡◌, ◌<◌, Option, Some, None, inl, length, ap, sym, subst, ◌∙◌, arith}
+use Rattle.std.proofs.Common.{◌≡◌, length, ap, sym, ◌∙◌, arith}
 use Rattle.sc_lockpass.specs.Versions.{most_handlers}
 use Rattle.sc_request.specs.Cores.{center_of}
 use Rattle.sc_request.specs.Logs.{pick_for, picked}
 use Rattle.std.proofs.lemmas.Option.{slice_get_read}
+use Rattle.sc_runtime.proofs.Freeing.{linked_still, played_linked}
 use Rattle.sc_runtime.proofs.Outs.{picked-out, turn-none, turn-some, refused-some, none-picked, some-picked, world-is, moved-by, nothing-by, makes, held-up, on-err}
 use Rattle.sc_runtime.proofs.world.World.turn.Goals as goal
 
@@ -56,3 +57,24 @@ returns-in-None-clause-ok c =
 pub returns-in-None-clause-turned : goal.returns-in-None-clause-turned
 returns-in-None-clause-turned c =
     nothing-by _ (sym c.in-None.is ∙ c.pick_at.ensures.job ∙ ap (pick_for c.args.handler) c.in_ok-make_room.ensures.center)
+
+pub invariant_of-self : goal.invariant_of-self
+invariant_of-self c = record { places = c.args.self.now.places; linked = linked_still _ _ _ c.make_room.ensures.center c.args.self.now.linked }
+
+pub invariant_of-self-in-None-clause-linked : goal.invariant_of-self-in-None-clause-linked
+invariant_of-self-in-None-clause-linked c =
+    let none = sym c.in-None.is ∙ c.pick_at.ensures.job in
+    let kept = none-picked c.args.handler (center_of c.make_room.new.self) (center_of c.pick_at.new.self) none c.pick_at.ensures.center in
+    linked_still _ _ _ (kept ∙ c.in_ok-make_room.ensures.center) c.args.self.now.linked
+
+pub invariant_of-self-in-Some-clause-linked : goal.invariant_of-self-in-Some-clause-linked
+invariant_of-self-in-Some-clause-linked c =
+    let h = c.args.handler in
+    let j = c.in-Some.job in
+    let room = c.in_ok-make_room.ensures.center in
+    let job = sym c.in-Some.is ∙ c.pick_at.ensures.job in
+    let out = some-picked h j (center_of c.make_room.new.self) (center_of c.pick_at.new.self) job c.pick_at.ensures.center ∙ ap (picked h j) room in
+    let count : 512 ≡ length c.args.self.now.regions.items = omega (arith, c.args.self.now.places, c.args.self.now.regions.ok.0) in
+    let stands = slice_get_read c.args.self.now.regions.items 512 h c.index_mut-region.result.now count c.in-Some.ensures.below c.index_mut-region.ensures.value in
+    played_linked 1 h j _ (center_of c.args.self.now.core) _ _ c.args.self.now.regions.items _ _ c.play.result c.args.self.now.linked
+    (sym (job ∙ ap (pick_for h) room)) stands out c.play.ensures.ok c.play.ensures.err

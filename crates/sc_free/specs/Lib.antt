@@ -1,0 +1,4 @@
+pub mod Serving
+pub mod Turns
+pub mod Settlements
+pub mod Free

@@ -1,0 +1,27 @@
+//! What holds in each world that turns lead to, each the contract of a function that does nothing.
+ghost use Rattle.sc_runtime.specs.Free.{OpeningsAreLinked, RoundsStayLinked, RunsStayLinked, StoppedRoundsStayLinked, StoppedRunsStayLinked};
+
+/// At the opening each handler serves in the core what its region serves.
+pub fn openings_are_linked()
+    ensures { OpeningsAreLinked }
+{}
+
+/// So it is after the turns of any handlers, one after the other.
+pub fn runs_stay_linked()
+    ensures { RunsStayLinked }
+{}
+
+/// So it is where memory was refused to one of them.
+pub fn stopped_runs_stay_linked()
+    ensures { StoppedRunsStayLinked }
+{}
+
+/// So it is after turns round and round.
+pub fn rounds_stay_linked()
+    ensures { RoundsStayLinked }
+{}
+
+/// So it is where memory was refused to one of those.
+pub fn stopped_rounds_stay_linked()
+    ensures { StoppedRoundsStayLinked }
+{}
