@@ -1,5 +1,6 @@
 -- What the check, the run and the printing of a source text come to.
-use Rattle.std.specs.Prelude.{ℕ, ◌≡◌, ◌≤◌, ◌<◌, ◌^◌, ◌⊎◌, true, false, List, [], ◌∷◌, map, length, Option, Some, None, slice_get, replicate}
+use Rattle.std.specs.Prelude.{ℕ, ◌≡◌, ◌≤◌, ◌<◌, ◌+◌, ◌^◌, ◌⊎◌, ◌↔◌, true, false, List, [], ◌∷◌, ◌++◌, map, length, Option, Some, None, slice_get, replicate}
+use Rattle.std.specs.List.{flat_map}
 use Rattle.std.specs.Option.{option_map}
 use Rattle.sc_text.specs.Kind.{Kind}
 use Rattle.sc_text.specs.Spelling.{Lexeme, Spells, IsRefused, max_source_bytes}
@@ -29,6 +30,13 @@ use Rattle.sc_rules.specs.declared.rule.Rule.{Rule}
 use Rattle.sc_rules.specs.SystemRules.{SystemFails, WellFormed}
 use Rattle.sc_code.specs.declared.program.Image.{Image}
 use Rattle.sc_code.specs.Programs.{IsProgramOf, code_length}
+use Rattle.sc_lockpass.specs.declared.version.Version.{Version}
+use Rattle.sc_lockpass.specs.declared.version.Version.TheVariants.{Two}
+use Rattle.sc_audit.specs.declared.line.RecordLine.{RecordLine}
+use Rattle.sc_runtime.specs.Worlds.{PlainWorld, opened}
+use Rattle.sc_runtime.specs.Turning.{Runs}
+use Rattle.sc_runtime.specs.Rounds.{EndsRounds}
+use Rattle.sc_runtime.specs.Reports as told
 use Rattle.sc_serve.specs.Simple.{is_simple}
 use Rattle.sc_serve.specs.declared.refusal.Rejection.{Rejection}
 use Rattle.sc_serve.specs.declared.refusal.Rejection.TheVariants as rejection
@@ -187,12 +195,34 @@ pub record IsRun (system : System) (root : lookup.Root) (limit : ℕ) (text : Li
   pub report_is : text ≡ report (world_after system root turns)
   pub statuses_are : statuses ≡ standings (option_map status_of (slice_get (world_after system root turns) 0))
 
--- The text spells a system that is sound. Where it is simple, the report and how the handlers stand are those of its run.
+-- ---- runs of programs
+
+-- The report and how the handlers stand are those of the world.
+pub record Leaves (world : PlainWorld) (text : List ℕ) (statuses : List Status) : Type 0 where
+  pub report_is : text ≡ told.report world
+  pub statuses_are : statuses ≡ told.statuses world
+
+-- From the opening of the program, with 512 handlers at most, rounds of so many turns lead to a world that leaves the report
+-- and the handlers standing so. Fewer turns are made only where no handler has anything to do any more.
+pub record IsWorldRun (program : Image) (limit : ℕ) (text : List ℕ) (statuses : List Status) : Type 0 where
+  pub world : PlainWorld
+  pub ends : EndsRounds limit (opened program Two) world
+  pub leaves : Leaves world text statuses
+
+-- The program of the system is run so.
+pub record IsProgramRun (system : System) (root : Root) (limit : ℕ) (text : List ℕ) (statuses : List Status) : Type 0 where
+  pub program : Image
+  pub is_program : IsProgramOf system root program
+  pub is_run : IsWorldRun program limit text statuses
+
+-- The text spells a system that is sound. The report and how the handlers stand are those of its run: that of the machine on
+-- trees where it is simple, and that of its program where it isn't.
 pub record IsRunOf (text : List ℕ) (root : Root) (limit : ℕ) (output : List ℕ) (statuses : List Status) : Type 0 where
   pub system : System
   pub read : IsRead text system
   pub sound : IsSound system root
   pub is_run : is_simple system ≡ true → IsRun system (run_root root) limit output statuses
+  pub is_program_run : is_simple system ≡ false → IsProgramRun system root limit output statuses
 
 -- The text spells a system that is sound, and this is its program.
 pub record IsLoaded (text : List ℕ) (root : Root) (program : Image) : Type 0 where
@@ -200,6 +230,30 @@ pub record IsLoaded (text : List ℕ) (root : Root) (program : Image) : Type 0 w
   pub read : IsRead text system
   pub sound : IsSound system root
   pub is_program : IsProgramOf system root program
+
+-- ---- replays
+
+-- the turns of a line: the number of its handler, once for each
+abbrev pub line_turns : RecordLine → List ℕ
+line_turns line = replicate line.turns line.handler
+
+-- From the opening of the program, with as many handlers as the version has, the turns of these lines, one after the other,
+-- lead to a world that leaves the report and the handlers standing so.
+pub record IsReplay (program : Image) (version : Version) (lines : List RecordLine) (text : List ℕ) (statuses : List Status) : Type 0 where
+  pub world : PlainWorld
+  pub runs : Runs (flat_map line_turns lines) (opened program version) world
+  pub leaves : Leaves world text statuses
+
+-- A replay of no lines leaves what the opening of its program does.
+abbrev pub EmptyReplayLeavesOpening : Type 0
+EmptyReplayLeavesOpening = (program : Image) (version : Version) (text : List ℕ) (statuses : List Status) →
+    IsReplay program version [] text statuses → Leaves (opened program version) text statuses
+
+-- A line may be split: one handler's turns, some and then others.
+abbrev pub LinesMayBeSplit : Type 0
+LinesMayBeSplit = (program : Image) (version : Version) (before after : List RecordLine) (h m n : ℕ) (text : List ℕ) (statuses : List Status) →
+    IsReplay program version (before ++ record { handler = h; turns = m + n } ∷ after) text statuses
+    ↔ IsReplay program version (before ++ record { handler = h; turns = m } ∷ record { handler = h; turns = n } ∷ after) text statuses
 
 -- ---- canonical text
 

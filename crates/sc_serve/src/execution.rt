@@ -10,8 +10,9 @@ ghost use Rattle.sc_class.specs.View.{root_of};
 ghost use Rattle.sc_class.specs.SystemIn.{root_in, system_in};
 ghost use Rattle.sc_check.specs.CheckedTables.{tables_of};
 ghost use Rattle.sc_lower.specs.Lowerings.{image_of};
+ghost use Rattle.sc_runtime.specs.Views.{world_of};
 ghost use Rattle.sc_serve.specs.Execution as spec;
-ghost use Rattle.sc_serve.specs.Execution.{IsAccepted, IsAtFault, IsLoaded, IsNotRunFor, IsPrinted, IsRead, IsRefusedFor, IsRun, IsRunOf, IsSound, IsSpelled, IsUnreadable, MustBeAccepted, MustBeRun, run_root};
+ghost use Rattle.sc_serve.specs.Execution.{EmptyReplayLeavesOpening, IsAccepted, IsAtFault, IsLoaded, IsNotRunFor, IsPrinted, IsRead, IsRefusedFor, IsReplay, IsRun, IsRunOf, IsSound, IsSpelled, IsUnreadable, IsWorldRun, Leaves, LinesMayBeSplit, MustBeAccepted, MustBeRun, run_root};
 
 use crate::refusal::Rejection;
 use crate::root::start_of;
@@ -76,9 +77,12 @@ pub fn load_text(alloc: Global, text: &str, root: &Root) -> Result<Program, Reje
 }
 
 /// Plays the lines of a record in a world of its version.
-pub fn replay(alloc: Global, program: &Program, record: &Record) -> Result<Outcome, AllocError> {
-    let mut world = World::open(alloc, program, record.version)?;
-    for line in &record.lines {
+pub fn replay(alloc: Global, program: &Program, recorded: &Record) -> Result<Outcome, AllocError>
+    ensures { let turns = recorded.now.lines.items in IfOk result (λ outcome.
+        IsReplay (image_of program.now) recorded.now.version turns outcome.report.items outcome.statuses.items) }
+{
+    let mut world = World::open(alloc, program, recorded.version)?;
+    for line in &recorded.lines {
         world.turns_of(line.handler, line.turns)?;
     }
     outcome_of(&world)
@@ -118,13 +122,19 @@ fn judge<'s>(alloc: Global, system: &'s System, root: &Root) -> Result<Checked<'
 }
 
 /// Plays the handlers, each in turn, until none has anything to do or so many turns are played.
-fn play(alloc: Global, program: &Program, turns: u32) -> Result<Outcome, AllocError> {
+fn play(alloc: Global, program: &Program, turns: u32) -> Result<Outcome, AllocError>
+    ensures { IfOk result (λ outcome.
+        IsWorldRun (image_of program.now) turns outcome.report.items outcome.statuses.items) }
+{
     let mut world = World::open(alloc, program, Version::Two)?;
     world.rounds(turns)?;
     outcome_of(&world)
 }
 
-fn outcome_of(world: &World<'_>) -> Result<Outcome, AllocError> {
+/// What the world leaves.
+fn outcome_of(world: &World<'_>) -> Result<Outcome, AllocError>
+    ensures { IfOk result (λ outcome. Leaves (world_of world.now) outcome.report.items outcome.statuses.items) }
+{
     Ok(Outcome {
         report: world.report()?,
         statuses: world.statuses()?,
@@ -188,3 +198,15 @@ fn cause_of(why: sc_world::Cause) -> Cause
         sc_world::Cause::BadCode => Cause::BadCode,
     }
 }
+
+// ---- laws of replays
+
+/// A replay of no lines leaves what the opening of its program does.
+pub fn empty_replay_leaves_opening()
+    ensures { EmptyReplayLeavesOpening }
+{}
+
+/// A line may be split: one handler's turns, some and then others.
+pub fn lines_may_be_split()
+    ensures { LinesMayBeSplit }
+{}

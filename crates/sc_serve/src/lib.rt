@@ -8,12 +8,15 @@
 #![tactic(auto)]
 
 mod arguments;
+mod breakdown;
 mod excerpt;
 pub mod execution;
 mod failure;
+mod history;
 pub mod refusal;
 mod root;
 pub mod serve;
 mod simple;
+mod words;
 
 pub use arguments::UsageFault;

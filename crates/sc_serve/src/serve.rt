@@ -10,7 +10,7 @@ ghost use Rattle.sc_serve.specs.Answer.{IsReplayOn, IsReplayTo, IsUnansweredOn, 
 use crate::arguments::{Command, Invocation, ReplayOptions, UsageFault, read_arguments};
 use crate::excerpt::excerpt;
 use crate::execution::{check_text, load_text, print_text, replay, run_text};
-use crate::failure::failure_note;
+use crate::failure::{Played, failure_note};
 use crate::refusal::Rejection;
 use sc_audit::{ReadFault, read_record};
 use sc_class::Root;
@@ -214,7 +214,7 @@ fn answer_on_files<'a, F: Files>(
         Ok(source) => source,
         Err(fault) => return answer_unread(alloc, names, fault),
     };
-    let rejection = match examine(alloc, command, source.text()) {
+    let rejection = match examine(alloc, command, &source, source.text()) {
         Ok(answer) => return Ok(answer),
         Err(rejection) => rejection,
     };
@@ -326,8 +326,13 @@ fn answer_rejected<'a>(
     }
 }
 
-/// Does with the system of a source text what is asked for.
-fn examine(alloc: Global, command: &Command, text: &str) -> Result<Answer, Rejection>
+/// Does with the system of a source text what is asked for. The text is that of these files.
+fn examine(
+    alloc: Global,
+    command: &Command,
+    source: &Source,
+    text: &str,
+) -> Result<Answer, Rejection>
     ensures answer { IfOk result (λ answer. IsAnswerTo command.now text.now answer.text.items answer.exit) }
     ensures rejected { IfErr result (IsRejectedFor command.now text.now) }
 {
@@ -341,7 +346,12 @@ fn examine(alloc: Global, command: &Command, text: &str) -> Result<Answer, Rejec
             let outcome = run_text(alloc, text, &options.root, options.turns)?;
             let exit = exit_of(outcome.statuses.as_slice());
             let note = if options.is_explained {
-                failure_note(alloc, outcome.statuses.as_slice())?
+                let played = Played {
+                    source,
+                    root: &options.root,
+                    turns: options.turns,
+                };
+                failure_note(alloc, played, outcome.statuses.as_slice())?
             } else {
                 Vec::new(alloc)
             };

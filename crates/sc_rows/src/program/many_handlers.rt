@@ -224,9 +224,18 @@ fn says_of_each_handler_what_its_failure_is(rt: HostRuntime) -> Result<(), Fail>
         err: "handler 0 has failed by F8 SupplierFailed:
 A handler that is waited for fails, or a call is made on a handler that has
 failed.
+app.e:5:35: in `use` of APPLICATION, the call of `item`
+\tuse (x: separate CELL) do print (x.item) end
+\t                                 ^^^^^^
+it needed handler 1, which has failed
+it was creating the root object
 `scoop explain F8` says more
 handler 1 has failed by F6 DivideByZero:
 A divisor is zero.
+app.e:9:29: in `item` of CELL, the operator `//`
+\titem: INTEGER do Result := 1 // Result end
+\t                           ^^^^^^^^^^^
+it served handler 0, which asked for `item`
 `scoop explain F6` says more
 ",
     };

@@ -1,6 +1,6 @@
 // What `--explain` says of a fault with types, numbers and names, and of a failure.
 
-use super::{FakeFile, Wanted, call, expect};
+use super::{FakeFile, call};
 use std::process::Abort;
 use std::test::Fail;
 
@@ -261,14 +261,97 @@ fn tells_types_numbers_and_names(rt: HostRuntime) -> Result<(), Fail> {
     Ok(())
 }
 
-#[test]
-fn says_what_a_failure_is(rt: HostRuntime) -> Result<(), Fail> {
-    let text = "class APPLICATION create make feature n: INTEGER make do n := 1 // n end end";
+/// Texts whose run fails, the code of the last failure, and what is said behind the first one's sentence.
+const FAILED: [(&str, &str, &str); 12] = [
+    // An inherited precondition.
+    (
+        "class APPLICATION create make feature s: S make do create s s.take (5) end end class A feature n: INTEGER take (sum: INTEGER) require enough: sum <= n do end end class S inherit A redefine take end feature take (sum: INTEGER) do n := n - sum end end",
+        "F4",
+        "app.e:1:135: in `take` of S, the clause `enough` of the precondition from A is false\nclass APPLICATION create make feature s: S make do create s s.take (5) end end class A feature n: INTEGER take (sum: INTEGER) require enough: sum <= n do end end class S inherit A redefine take end feature take (sum: INTEGER) do n := n - sum end end\n                                                                                                                                      ^^^^^^^^^^^^^^^^\nit was creating the root object\n",
+    ),
+    // A precondition of another handler's.
+    (
+        "class APPLICATION create make feature s: separate C make do create s separate s as c do c.put (0) print (c.twice (-1)) end end end class C feature put (k: INTEGER) require k > 0 do end twice (k: INTEGER): INTEGER require k > 0 do Result := k end end",
+        "F4",
+        "app.e:1:106: in `make` of APPLICATION, the call of `twice`\nclass APPLICATION create make feature s: separate C make do create s separate s as c do c.put (0) print (c.twice (-1)) end end end class C feature put (k: INTEGER) require k > 0 do end twice (k: INTEGER): INTEGER require k > 0 do Result := k end end\n                                                                                                         ^^^^^^^^^^^^\nit needed handler 1, which refused\nit was creating the root object\n",
+    ),
+    (
+        "class APPLICATION create make feature n: INTEGER make do n := f (3) end f (k: INTEGER): INTEGER do Result := k + 1 n := 1 ensure Result > old n n = old n + k end end",
+        "F2",
+        "app.e:1:145: in `f` of APPLICATION, a clause of the postcondition is false\nclass APPLICATION create make feature n: INTEGER make do n := f (3) end f (k: INTEGER): INTEGER do Result := k + 1 n := 1 ensure Result > old n n = old n + k end end\n                                                                                                                                                ^^^^^^^^^^^^^\nit was creating the root object\n",
+    ),
+    (
+        "class APPLICATION create make feature make local i: INTEGER do from until i = 5 loop if i < 2 then print (i) elseif i > 2 then check i > 0 odd: i /= 4 or else False end else print (True) end i := i + 1 end end end",
+        "F3",
+        "app.e:1:140: in `make` of APPLICATION, the clause `odd` of the `check` is false\nclass APPLICATION create make feature make local i: INTEGER do from until i = 5 loop if i < 2 then print (i) elseif i > 2 then check i > 0 odd: i /= 4 or else False end else print (True) end i := i + 1 end end end\n                                                                                                                                           ^^^^^^^^^^^^^^^^^^^^^^^^^\nit was creating the root object\n",
+    ),
+    // The invariant of an ancestor.
+    (
+        "class APPLICATION create make feature c: C make do create c c.put (9) end end class B feature n: INTEGER invariant n >= 0 small: n < 9 end class C inherit B feature put (k: INTEGER) do n := k end invariant n /= 9 end",
+        "F1",
+        "app.e:1:166: in `put` of C, at the end\nclass APPLICATION create make feature c: C make do create c c.put (9) end end class B feature n: INTEGER invariant n >= 0 small: n < 9 end class C inherit B feature put (k: INTEGER) do n := k end invariant n /= 9 end\n                                                                                                                                                                     ^^^\napp.e:1:123: the clause `small` of the invariant of C from B is false\nclass APPLICATION create make feature c: C make do create c c.put (9) end end class B feature n: INTEGER invariant n >= 0 small: n < 9 end class C inherit B feature put (k: INTEGER) do n := k end invariant n /= 9 end\n                                                                                                                          ^^^^^^^^^^^^\nit was creating the root object\n",
+    ),
+    (
+        "class APPLICATION create make feature s: separate C make do create s end end class C feature n: INTEGER invariant n > 0 end",
+        "F1",
+        "app.e:1:115: a clause of the invariant of C is false\nclass APPLICATION create make feature s: separate C make do create s end end class C feature n: INTEGER invariant n > 0 end\n                                                                                                                  ^^^^^\nit served handler 0, which asked for its creation\n",
+    ),
+    // Operators.
+    (
+        "class APPLICATION create make feature n: INTEGER make do n := 9223372036854775807 if n > 0 and then 1 + (n - 1) > 0 then f (1, n + 1) end end f (a, b: INTEGER) do end end",
+        "F5",
+        "app.e:1:128: in `make` of APPLICATION, the operator `+`\nclass APPLICATION create make feature n: INTEGER make do n := 9223372036854775807 if n > 0 and then 1 + (n - 1) > 0 then f (1, n + 1) end end f (a, b: INTEGER) do end end\n                                                                                                                               ^^^^^\nit was creating the root object\n",
+    ),
+    (
+        "class APPLICATION create make feature n: INTEGER make do n := 1 // n end end",
+        "F6",
+        "app.e:1:63: in `make` of APPLICATION, the operator `//`\nclass APPLICATION create make feature n: INTEGER make do n := 1 // n end end\n                                                              ^^^^^^\nit was creating the root object\n",
+    ),
+    (
+        "class APPLICATION create make feature a: APPLICATION make do if True or else a = a then Current.f (a) end end f (x: APPLICATION) do end end",
+        "F7",
+        "app.e:1:100: in `make` of APPLICATION, `a` is read\nclass APPLICATION create make feature a: APPLICATION make do if True or else a = a then Current.f (a) end end f (x: APPLICATION) do end end\n                                                                                                   ^\nit was creating the root object\n",
+    ),
+    // Who asked whom.
+    (
+        "class APPLICATION create make feature s: separate C make do create s separate s as c do print (c.v = c) end end end class C feature v: C end",
+        "F7",
+        "app.e:1:96: in `make` of APPLICATION, the call of `v`\nclass APPLICATION create make feature s: separate C make do create s separate s as c do print (c.v = c) end end end class C feature v: C end\n                                                                                               ^^^\nit needed handler 1, which has failed\nit was creating the root object\n`scoop explain F8` says more\nhandler 1 has failed by F7 UnsetEntity:\nAn attribute, a local or a Result of an attached type is read, or a function\nends with it, before it is set.\napp.e:1:133: `v` of C is read\nclass APPLICATION create make feature s: separate C make do create s separate s as c do print (c.v = c) end end end class C feature v: C end\n                                                                                                                                    ^\nit served handler 0, which asked for `v`\n",
+    ),
+    (
+        "class APPLICATION create make feature b: separate B make do create b f (b) g (b) end f (x: separate B) do x.ask (0) end g (x: separate B) do end end class B feature n: INTEGER ask (k: INTEGER) do n := 10 // k end end",
+        "F6",
+        "app.e:1:121: in `g` of APPLICATION, which reserves the handlers of its formals\nclass APPLICATION create make feature b: separate B make do create b f (b) g (b) end f (x: separate B) do x.ask (0) end g (x: separate B) do end end class B feature n: INTEGER ask (k: INTEGER) do n := 10 // k end end\n                                                                                                                        ^\nit needed handler 1, which has failed\nit was creating the root object\n`scoop explain F8` says more\nhandler 1 has failed by F6 DivideByZero:\nA divisor is zero.\napp.e:1:202: in `ask` of B, the operator `//`\nclass APPLICATION create make feature b: separate B make do create b f (b) g (b) end f (x: separate B) do x.ask (0) end g (x: separate B) do end end class B feature n: INTEGER ask (k: INTEGER) do n := 10 // k end end\n                                                                                                                                                                                                         ^^^^^^^\nit served handler 0, which asked for `ask`\n",
+    ),
+    // A stack that is full.
+    (
+        "class APPLICATION create make feature make do f (0) end f (k: INTEGER) do if k >= 0 then f (k + 1) end end end",
+        "F11",
+        "app.e:1:90: in `f` of APPLICATION, the call of `f`\nclass APPLICATION create make feature make do f (0) end f (k: INTEGER) do if k >= 0 then f (k + 1) end end end\n                                                                                         ^^^^^^^^^\nit was creating the root object\n",
+    ),
+];
+
+/// Compares what is said of the failures of a run behind the first one's sentence.
+fn expect_failed<R: Abort + AllocGlobal>(
+    rt: &R,
+    text: &str,
+    code: &str,
+    said: &str,
+) -> Result<(), Fail> {
     let arguments = ["scoop", "run", "--explain", "app.e"];
-    let wanted = Wanted {
-        status: 3,
-        out: "handler 0 failed F6 refused 0 output 0\n\nstopped idle\n",
-        err: "handler 0 has failed by F6 DivideByZero:\nA divisor is zero.\n`scoop explain F6` says more\n",
-    };
-    expect(&rt, &arguments, text, wanted)
+    let outcome = call(rt, &arguments, &[FakeFile::new("app.e", text)])?;
+    let wanted = format!(in rt.alloc(); ".\n{said}`scoop explain {code}` says more\n")?;
+    assert!(rt;
+        outcome.err.as_str().ends_with(wanted.as_str()),
+        "for {text}"
+    );
+    Ok(())
+}
+
+#[test]
+fn says_where_a_failure_was(rt: HostRuntime) -> Result<(), Fail> {
+    for &(text, code, said) in &FAILED {
+        expect_failed(&rt, text, code, said)?;
+    }
+    Ok(())
 }

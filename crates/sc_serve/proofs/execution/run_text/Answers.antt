@@ -2,6 +2,7 @@ use Rattle.std.proofs.Common.{◌≡◌, ◌∙◌, ap, sym}
 use Rattle.sc_tree.specs.View.{system_of}
 use Rattle.sc_class.specs.View.{root_of}
 use Rattle.sc_class.specs.SystemIn.{system_in}
+use Rattle.sc_lower.specs.Lowerings.{image_of}
 use Rattle.sc_serve.specs.Simple.{is_simple}
 use Rattle.sc_serve.specs.Execution.{IsNotRunFor}
 use Rattle.sc_serve.specs.Refusal.{out_of_memory}
@@ -43,9 +44,11 @@ returns-then-is_simple-clause-ok c =
       read = c.in_ok-system.ensures.read;
       sound = c.in_ok-checked.ensures.sound;
       is_run = λ simple. c.in_ok-play_simple.ensures;
+      is_program_run = λ other.
+          let simple = ap is_simple (sym (ap system_in c.tables.ensures.same ∙ c.in_ok-checked.ensures.of_it)) ∙ sym c.is_simple.ensures ∙ c.if-is_simple.true in cc;
     }
 
--- another system isn't simple
+-- another system isn't simple, and its program is played
 pub returns-clause-ok : goal.returns-clause-ok
 returns-clause-ok c =
     record {
@@ -54,4 +57,9 @@ returns-clause-ok c =
       sound = c.in_ok-checked.ensures.sound;
       is_run = λ simple.
           let other = ap is_simple (sym (ap system_in c.tables.ensures.same ∙ c.in_ok-checked.ensures.of_it)) ∙ sym c.is_simple.ensures ∙ c.if-is_simple.false in cc;
+      is_program_run = λ other. record {
+        program = image_of c.in_ok-program.program;
+        is_program = rw (c.in_ok-checked.ensures.of_it, c.in_ok-checked.ensures.rooted) at c.in_ok-program.ensures.lowered;
+        is_run = c.in_ok-play.ensures;
+      };
     }
