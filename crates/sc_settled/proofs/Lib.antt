@@ -1,0 +1,12 @@
+pub mod Meeting
+pub mod Modes
+pub mod Moving
+pub mod Numbered
+pub mod Purely
+pub mod Reaching
+pub mod Running
+pub mod Stacks
+pub mod Tasks
+pub mod Texts
+pub mod Turning
+pub mod Walking
