@@ -37,6 +37,7 @@ Started k ts = OfTasks (λ k. Any) (λ k. Any) (Unit {0}) ⊥ (Unit {0}) (λ ts.
 abbrev pub RunsPure : System → (RoutineName → Bool) → ℕ → List Task → Type 0
 RunsPure s pure k ts = OfTasks (CallsPure s pure) (AssignsNone s) ⊥ (Unit {0}) (Unit {0}) (λ ts. ⊥) k ts
 
+-- whatever the text
 abbrev pub AfterStart : List Task → Type 0
 AfterStart ts = (k : ℕ) → Started k ts
 
@@ -44,6 +45,7 @@ AfterStart ts = (k : ℕ) → Started k ts
 abbrev pub Unstarted : System → (RoutineName → Bool) → ℕ → List Task → Type 0
 Unstarted s pure k ts = OfTasks (CallsPure s pure) (AssignsNone s) ⊥ (Unit {0}) ⊥ AfterStart k ts
 
+-- the routine, as the rules name it
 abbrev pub name_of : Routine → RoutineName
 name_of r = record { class = r.text.class; name = r.name }
 
@@ -51,6 +53,7 @@ name_of r = record { class = r.text.class; name = r.name }
 abbrev pub IsWildAs : (RoutineName → Bool) → Routine → ℕ → List Task → Type 0
 IsWildAs pure r k ts = (pure (name_of r) ≡ false) × Started k ts
 
+-- It runs a pure function, or has started, or stands in its precondition.
 abbrev pub StandsAs : System → (RoutineName → Bool) → Routine → ℕ → List Task → Type 0
 StandsAs s pure r k ts = ((pure (name_of r) ≡ true) × RunsPure s pure k ts) ⊎ ((pure (name_of r) ≡ false) × (Started k ts ⊎ Unstarted s pure k ts))
 

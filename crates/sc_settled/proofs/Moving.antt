@@ -53,6 +53,7 @@ module _ (s : System) (pure : RoutineName → Bool) (f : Frame) (objects : List 
   abbrev pub CallsSo : List ℕ → Point → Type 0
   CallsSo x p = (CallsPure s pure p.text.class x × ((g : DeclaredFeature) × (feature_named s (class.Declared p.text.class) x ≡ Some g))) ⊎ IsWildAs pure f.routine p.text.class p.tasks
 
+  -- What is true of the frame and of the objects after the visible step.
   abbrev pub ActMoves : Act → Point → Type 0
   ActMoves (Enters Unqualified o x us g) p = Moved s pure f objects p.objects p × ((o ≡ f.current) × CallsSo x p)
   ActMoves (Enters Qualified o x us g) p = Moved s pure f objects p.objects p

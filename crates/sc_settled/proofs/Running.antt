@@ -1,4 +1,4 @@
--- So it is of each turn of an accepted system.
+-- Each turn of an accepted system keeps what is kept of the handlers that have not failed.
 use Rattle.std.proofs.Common.{ℕ, ◌≡◌, ◌⊎◌, inl, inr, ◌<◌, ◌==◌, ◌+◌, Bool, true, false, List, [], ◌∷◌, ◌++◌, Option, Some, None, length, refl, sym, ap, subst, ◌∙◌}
 use Rattle.std.proofs.lemmas.Bool.{eq-eqb, ltb-true}
 use Rattle.std.specs.Prelude.{if◌then◌else◌, nat_lt}

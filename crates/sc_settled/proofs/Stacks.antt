@@ -24,6 +24,7 @@ is_tested_always (Called Qualified) = true
 is_tested_always (Called Creation) = true
 is_tested_always (Requested r) = is_creation r.errand
 
+-- none of the requests makes an object
 abbrev pub AllCalls : List Request → Type 0
 AllCalls rs = Each (λ (r : Request). is_creation r.errand ≡ false) rs
 
@@ -41,9 +42,11 @@ abbrev pub MakesFirst : List Object → List Frame → List Request → Type 0
 MakesFirst objects stack queue = AllCalls queue ⊎ ((objects ≡ []) × ((stack ≡ []) × FirstMakes queue))
 
 module _ (s : System) (pure : RoutineName → Bool) where
+  -- the frame's routine stands so in its run
   abbrev pub Stands : Frame → Type 0
   Stands f = StandsAs s pure f.routine f.text.class f.tasks
 
+  -- it is no pure function, and has started
   abbrev pub IsWild : Frame → Type 0
   IsWild f = IsWildAs pure f.routine f.text.class f.tasks
 
@@ -51,6 +54,7 @@ module _ (s : System) (pure : RoutineName → Bool) where
   abbrev pub CoversNumber : ℕ → Frame → Type 0
   CoversNumber n f = (f.current.number ≡ n) × ((is_tested_always f.origin ≡ true) ⊎ IsWild f)
 
+  -- it is so of one of the frames
   abbrev pub Covered : ℕ → List Frame → Type 0
   Covered n [] = ⊥
   Covered n (f ∷ below) = CoversNumber n f ⊎ Covered n below
@@ -64,6 +68,8 @@ module _ (s : System) (pure : RoutineName → Bool) where
   Links [] = Unit {0}
   Links (f ∷ below) = LinkedAs f.origin f.current.number (name_of f.routine) below × Links below
 
+  -- What is kept of these objects, frames and requests of a handler: how each routine stands in its run, which calls stand on which, that each object
+  -- meets its invariant or is covered by a frame, and which requests may make an object.
   pub record GoodAt (objects : List Object) (stack : List Frame) (queue : List Request) (callback : Option Request) : Type 0 where
     pub stand : Each Stands stack
     pub links : Links stack
@@ -71,6 +77,7 @@ module _ (s : System) (pure : RoutineName → Bool) where
     pub first : MakesFirst objects stack queue
     pub calls : CallsIfAny callback
 
+  -- So it is of the handler, unless it has failed.
   abbrev pub Good : Handler → Type 0
   Good x = x.failure ≡ None → GoodAt x.objects x.stack x.queue x.callback
 

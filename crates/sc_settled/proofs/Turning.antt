@@ -75,9 +75,11 @@ module _ (s : System) (pure : RoutineName → Bool) where
   either P false x y t u = u refl
 
   module _ (h : ℕ) where
+    -- it is so of each handler
     abbrev pub AllGood : World → Type 0
     AllGood v = (k : ℕ) → Good s pure (v.handlers k)
 
+    -- it is so of each other one
     abbrev pub Others : World → Type 0
     Others v = (k : ℕ) → (k == h) ≡ false → Good s pure (v.handlers k)
 
@@ -257,6 +259,7 @@ module _ (s : System) (pure : RoutineName → Bool) (h : ℕ) (w : World) (here 
     abbrev mine : Handler
     mine = record (w.handlers h) { objects = p.objects; stack = frame_at f p ∷ below }
 
+    -- the world after the silent steps and the visible one, before its effect
     abbrev pub next : World
     next = put h (record (w.handlers h) { objects = p.objects; stack = frame_at f p ∷ below }) w
 
