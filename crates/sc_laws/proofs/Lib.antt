@@ -36,3 +36,4 @@ pub mod Queues
 pub mod Named
 pub mod Pairing
 pub mod Meeting
+pub mod Lending

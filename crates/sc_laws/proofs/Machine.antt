@@ -7,7 +7,6 @@ use Rattle.std.proofs.lemmas.List.Elements.{Contains-append_left, Contains-appen
 use Rattle.sc_proctype.specs.declared.entity_type.EntityType.{EntityType}
 use Rattle.sc_lockpass.specs.Rights.{Rights}
 use Rattle.sc_waitcond.specs.Reservations.{Standing, may_be_reserved}
-use Rattle.sc_model.specs.Environments.{Binding}
 use Rattle.sc_model.specs.Handlers as machine
 use Rattle.sc_model.specs.Handlers.{Runs, Reserves, ReservesBlock, InCall, Awaits, Reply, Failed, Refused}
 use Rattle.sc_model.specs.Sessions.{has_frames, has_requests, standing_in}
@@ -20,7 +19,7 @@ use Rattle.sc_laws.specs.Chains as chains
 use Rattle.sc_laws.specs.Chains.{WaitsOn}
 use Rattle.sc_laws.specs.Lawful.{IsLawful}
 use Rattle.sc_laws.specs.Laws.{RunsIn, EachGranted}
-use Rattle.sc_laws.specs.Stands.{NeedsOf, NamesOf, IsPoster, IsRequest, AreRequests, IsCallback, answer_of, handlers_of, IsOrigin, IsRoutine, AreBlocks, Awaited, IsCreation, IsStaged, IsStack, Stands}
+use Rattle.sc_laws.specs.Stands.{NeedsOf, NamesOf, IsPoster, IsRequest, AreRequests, IsCallback, answer_of, handlers_of, IsOrigin, IsRoutine, AreBlocks, Place, place_of, Awaited, IsCreation, IsStaged, IsStack, Stands}
 use Rattle.sc_laws.specs.Headline.{TargetsAreKept, ChainsHold, is_awaiting, ReservedAreHeld, has_reply, topmost, lower, WaitersAreTold, OnlyWaitersAreTold, CallbacksComeFirst, RepliesMeetNone}
 use Rattle.sc_laws.proofs.Waits.{true_false, some_wait, popped_stack}
 use Rattle.sc_laws.proofs.LawProofs.{kept_for_request, chain_holds, reserved_while_it_runs, told, one_answer, callback_first}
@@ -87,22 +86,22 @@ creation_parted C k kss f N B (g ∷ gs) is =
       less = λ v s. ⊎_elim (λ e. inl e) (λ i. ⊎_elim (λ e. none_waits v gs is.2 e) (λ r. inr r) (p.less v i)) s;
     }
 
-staged_parted : (C : ℕ → List ℕ → Type 0) (stage : machine.Stage) (bs : List Binding) (f : machine.Frame) (N : List ℕ → Type 0) (B : List Frame → Type 0)
+staged_parted : (C : ℕ → List ℕ → Type 0) (stage : machine.Stage) (at : Place) (f : machine.Frame) (N : List ℕ → Type 0) (B : List Frame → Type 0)
     (gs : List Frame)
-    → IsStaged stage bs (AreBlocks C f.blocks (IsRoutine f N B)) gs → Parted B gs
-staged_parted C Runs bs f N B gs is = blocks_parted C f.blocks f N B gs is.1
-staged_parted C Reserves bs f N B gs is = blocks_parted C f.blocks f N B gs is.1
-staged_parted C ReservesBlock bs f N B gs is = blocks_parted C f.blocks f N B gs is.1
-staged_parted C (InCall gives) bs f N B gs is = blocks_parted C f.blocks f N B gs is.1
-staged_parted C (Awaits k gives true) bs f N B gs is = creation_parted C k f.blocks f N B gs is.1
-staged_parted C (Awaits k gives false) bs f N B gs is = blocks_parted C f.blocks f N B gs is.1
+    → IsStaged stage at (AreBlocks C f.blocks (IsRoutine f N B)) gs → Parted B gs
+staged_parted C Runs at f N B gs is = blocks_parted C f.blocks f N B gs is.1
+staged_parted C Reserves at f N B gs is = blocks_parted C f.blocks f N B gs is.1
+staged_parted C ReservesBlock at f N B gs is = blocks_parted C f.blocks f N B gs is.1
+staged_parted C (InCall gives) at f N B gs is = blocks_parted C f.blocks f N B gs is.1
+staged_parted C (Awaits k gives true) at f N B gs is = creation_parted C k f.blocks f N B gs is.1
+staged_parted C (Awaits k gives false) at f N B gs is = blocks_parted C f.blocks f N B gs is.1
 
 -- who the topmost waits for is whose answer the frame awaits
-staged_awaits : (k : ℕ) (gives : Option EntityType) (c : Bool) (stage : machine.Stage) (bs : List Binding) (B : List Frame → Type 0)
-    (gs : List Frame) → stage ≡ Awaits k gives c → IsStaged stage bs B gs → Awaited k gives bs gs
-staged_awaits k gives c stage bs B gs e is = by c (subst (λ t. IsStaged t bs B gs) e is)
+staged_awaits : (k : ℕ) (gives : Option EntityType) (c : Bool) (stage : machine.Stage) (at : Place) (B : List Frame → Type 0)
+    (gs : List Frame) → stage ≡ Awaits k gives c → IsStaged stage at B gs → Awaited k gives at gs
+staged_awaits k gives c stage at B gs e is = by c (subst (λ t. IsStaged t at B gs) e is)
   where
-    by : (c : Bool) → IsStaged (Awaits k gives c) bs B gs → Awaited k gives bs gs
+    by : (c : Bool) → IsStaged (Awaits k gives c) at B gs → Awaited k gives at gs
     by true i = i.0
     by false i = i.0
 
@@ -112,21 +111,21 @@ record AwaitsOf (k : ℕ) (f : machine.Frame) : Type 0 where
   is_creation : Bool
   stage : f.stage ≡ Awaits k gives is_creation
 
-staged_of : (f : machine.Frame) (B : List Frame → Type 0) (gs : List Frame) (v : Wait) → IsStaged f.stage f.environment B gs
+staged_of : (f : machine.Frame) (at : Place) (B : List Frame → Type 0) (gs : List Frame) (v : Wait) → IsStaged f.stage at B gs
     → waits_for gs ≡ Some v → AwaitsOf v.target f
-staged_of f B gs v is at = by f.stage refl is
+staged_of f at B gs v is top = by f.stage refl is
   where
-    same : (k : ℕ) (gives : Option EntityType) (c : Bool) → f.stage ≡ Awaits k gives c → Awaited k gives f.environment gs
+    same : (k : ℕ) (gives : Option EntityType) (c : Bool) → f.stage ≡ Awaits k gives c → Awaited k gives at gs
         → AwaitsOf v.target f
     same k gives c e a =
-        let to : k ≡ v.target = sym a.target ∙ ap (λ (x : Wait). x.target) (some_wait a.wait v (sym a.waits ∙ at)) in
+        let to : k ≡ v.target = sym a.target ∙ ap (λ (x : Wait). x.target) (some_wait a.wait v (sym a.waits ∙ top)) in
         subst (λ j. AwaitsOf j f) to (record { gives = gives; is_creation = c; stage = e })
 
-    by : (t : machine.Stage) → f.stage ≡ t → IsStaged t f.environment B gs → AwaitsOf v.target f
-    by Runs e i = none_waits v gs i.0 at
-    by Reserves e i = none_waits v gs i.0 at
-    by ReservesBlock e i = none_waits v gs i.0 at
-    by (InCall gives) e i = none_waits v gs i.0 at
+    by : (t : machine.Stage) → f.stage ≡ t → IsStaged t at B gs → AwaitsOf v.target f
+    by Runs e i = none_waits v gs i.0 top
+    by Reserves e i = none_waits v gs i.0 top
+    by ReservesBlock e i = none_waits v gs i.0 top
+    by (InCall gives) e i = none_waits v gs i.0 top
     by (Awaits k gives true) e i = same k gives true e i.0
     by (Awaits k gives false) e i = same k gives false e i.0
 
@@ -136,10 +135,10 @@ waits_there : (k : ℕ) (st : List machine.Frame) (gs : List Frame) (f : machine
     → AwaitsOf k f → (v : Wait) × StackWaits v gs × (v.target ≡ k)
 waits_there k [] gs f is i a = contains_none f i
 waits_there k (g ∷ st) gs f is i a =
-    let p = staged_parted (NamesOf g.stage g) g.stage g.environment g (NeedsOf g.stage g) (IsStack st) gs is in
+    let p = staged_parted (NamesOf g.stage g) g.stage (place_of g st) g (NeedsOf g.stage g) (IsStack st) gs is in
     ⊎_elim
     (λ here.
-    let w = staged_awaits k a.gives a.is_creation g.stage g.environment (AreBlocks (NamesOf g.stage g) g.blocks (IsRoutine g (NeedsOf g.stage g) (IsStack st))) gs
+    let w = staged_awaits k a.gives a.is_creation g.stage (place_of g st) (AreBlocks (NamesOf g.stage g) g.blocks (IsRoutine g (NeedsOf g.stage g) (IsStack st))) gs
     (ap (λ (x : machine.Frame). x.stage) here ∙ a.stage) is in
     (w.wait, first gs w.wait w.waits, w.target))
     (λ there. let r = waits_there k st p.rest f p.below there a in (r.0, popped_stack r.0 gs (p.more r.0 r.1), r.2))
@@ -160,12 +159,12 @@ waits_here : (st : List machine.Frame) (gs : List Frame) (v : Wait) → IsStack 
 waits_here [] [] v is s = absurd s
 waits_here [] (g ∷ gs) v is s = absurd is
 waits_here (f ∷ st) gs v is s =
-    let p = staged_parted (NamesOf f.stage f) f.stage f.environment f (NeedsOf f.stage f) (IsStack st) gs is in
+    let p = staged_parted (NamesOf f.stage f) f.stage (place_of f st) f (NeedsOf f.stage f) (IsStack st) gs is in
     ⊎_elim
     (λ at. record {
       frame = f;
       stands = contains_first f st;
-      awaits = staged_of f
+      awaits = staged_of f (place_of f st)
           (AreBlocks (NamesOf f.stage f) f.blocks (IsRoutine f (NeedsOf f.stage f) (IsStack st))) gs v is at;
     })
     (λ low. let r = waits_here st p.rest v p.below low in record
@@ -280,13 +279,13 @@ module _ (t : World) (m : machine.World) (law : IsLawful t) (stands : Stands t m
 
 -- ---- held while it runs
 
-staged_quiet : (stage : machine.Stage) (bs : List Binding) (B : List Frame → Type 0) (gs : List Frame) → is_awaiting stage ≡ false
-    → IsStaged stage bs B gs → (waits_for gs ≡ None) × B gs
-staged_quiet Runs bs B gs e is = is
-staged_quiet Reserves bs B gs e is = is
-staged_quiet ReservesBlock bs B gs e is = is
-staged_quiet (InCall gives) bs B gs e is = is
-staged_quiet (Awaits k gives c) bs B gs e is = true_false e
+staged_quiet : (stage : machine.Stage) (at : Place) (B : List Frame → Type 0) (gs : List Frame) → is_awaiting stage ≡ false
+    → IsStaged stage at B gs → (waits_for gs ≡ None) × B gs
+staged_quiet Runs at B gs e is = is
+staged_quiet Reserves at B gs e is = is
+staged_quiet ReservesBlock at B gs e is = is
+staged_quiet (InCall gives) at B gs e is = is
+staged_quiet (Awaits k gives c) at B gs e is = true_false e
 
 -- a frame that has reserved these
 record Runs_with (ks : List ℕ) (gs : List Frame) : Type 0 where
@@ -354,7 +353,7 @@ module _ (t : World) (m : machine.World) (law : IsLawful t) (stands : Stands t m
       → (m.handlers h).stack ≡ f ∷ below → is_awaiting f.stage ≡ false
       → IsActive (t.handlers h) × AreBlocks (NamesOf f.stage f) f.blocks (IsRoutine f (NeedsOf f.stage f) (IsStack below)) (t.handlers h).stack
   runs_on h f below lives at quiet =
-      let q = staged_quiet f.stage f.environment (AreBlocks (NamesOf f.stage f) f.blocks (IsRoutine f (NeedsOf f.stage f) (IsStack below))) (t.handlers h).stack
+      let q = staged_quiet f.stage (place_of f below) (AreBlocks (NamesOf f.stage f) f.blocks (IsRoutine f (NeedsOf f.stage f) (IsStack below))) (t.handlers h).stack
       quiet
       (subst (λ st. IsStack st (t.handlers h).stack) at (stands.handlers h).stack) in
       ((lives_there t m law stands h lives, q.0), q.1)
@@ -384,7 +383,7 @@ module _ (t : World) (m : machine.World) (law : IsLawful t) (stands : Stands t m
 
   pub machine_waiters_are_told : WaitersAreTold m
   machine_waiters_are_told p k (topmost {f} {below} {gives} {is_creation} at stage none) dead =
-      let a = staged_awaits k gives is_creation f.stage f.environment (AreBlocks (NamesOf f.stage f) f.blocks (IsRoutine f (NeedsOf f.stage f) (IsStack below)))
+      let a = staged_awaits k gives is_creation f.stage (place_of f below) (AreBlocks (NamesOf f.stage f) f.blocks (IsRoutine f (NeedsOf f.stage f) (IsStack below)))
       (t.handlers p).stack stage (subst (λ st. IsStack st (t.handlers p).stack) at (stands.handlers p).stack) in
       is_told p k a.wait (first (t.handlers p).stack a.wait a.waits, inl (no_reply p none)) a.target dead
     where
@@ -392,7 +391,7 @@ module _ (t : World) (m : machine.World) (law : IsLawful t) (stands : Stands t m
       first [] v e = absurd (none_waits v [] refl e)
       first (g ∷ gs) v e = inl e
   machine_waiters_are_told p k (lower {f} {g} {below} {gives} {is_creation} at i stage) dead =
-      let q = staged_parted (NamesOf g.stage g) g.stage g.environment g (NeedsOf g.stage g) (IsStack below) (t.handlers p).stack
+      let q = staged_parted (NamesOf g.stage g) g.stage (place_of g below) g (NeedsOf g.stage g) (IsStack below) (t.handlers p).stack
       (subst (λ st. IsStack st (t.handlers p).stack) at (stands.handlers p).stack) in
       let r = waits_there k below q.rest f q.below i
       (record { gives = gives; is_creation = is_creation; stage = stage }) in

@@ -9,7 +9,7 @@ use Rattle.sc_laws.specs.World.{Asked, Wait, Request, Frame, World, and_this, an
 use Rattle.sc_laws.specs.Steps.{waits_for}
 use Rattle.sc_laws.specs.Consistent.{Asks, HasWait, HasPassed, IsBegun, IsOrdered, IsOne}
 use Rattle.sc_laws.specs.Lawful.{IsLawful}
-use Rattle.sc_laws.specs.Stands.{AsksFor, TakesAs, NeedsOf, NamesOf, IsPoster, IsRequest, AreRequests, IsCallback, answer_of, IsOrigin, IsRoutine, AreBlocks, Awaited, IsStaged, IsStack, Stands}
+use Rattle.sc_laws.specs.Stands.{AsksFor, TakesAs, NeedsOf, NamesOf, IsPoster, IsRequest, AreRequests, IsCallback, answer_of, IsOrigin, IsRoutine, AreBlocks, place_of, Awaited, IsStaged, IsStack, Stands}
 use Rattle.sc_laws.proofs.Rights.{not_some}
 use Rattle.sc_laws.proofs.Waits.{true_false, some_wait, no_wait, waits_stack}
 use Rattle.sc_laws.proofs.Named.{all_ask}
@@ -82,7 +82,7 @@ module _ (t : World) (m : machine.World) (law : IsLawful t) (stands : Stands t m
   pub begun_ends : (f : machine.Frame) (below : List machine.Frame) → (m.handlers h).stack ≡ f ∷ below → f.stage ≡ Runs
       → f.origin ≡ machine.Requested q → Ends t h q
   begun_ends f below at runs begun =
-      let st = subst (λ x. IsStaged x f.environment (AreBlocks (NamesOf f.stage f) f.blocks (IsRoutine f (NeedsOf f.stage f) (IsStack below)))
+      let st = subst (λ x. IsStaged x (place_of f below) (AreBlocks (NamesOf f.stage f) f.blocks (IsRoutine f (NeedsOf f.stage f) (IsStack below)))
       (t.handlers h).stack) runs (subst (λ s. IsStack s (t.handlers h).stack) at (stands.handlers h).stack) in
       let b = blocks_begin (NamesOf f.stage f) f.blocks f (NeedsOf f.stage f) (IsStack below) q (t.handlers h).stack (t.handlers h).requests
       begun st.0 (law.consistent.ordered h) st.1 in
@@ -156,11 +156,11 @@ record Waiting (m : machine.World) (p : ℕ) (o : Option Asked) : Type 0 where
   takes_as : TakesAs o frame.environment takes
 
 staged_waits : (m : machine.World) (p : ℕ) (f : machine.Frame) (below : List machine.Frame) (B : List Frame → Type 0) (gs : List Frame) (v : Wait)
-    → (m.handlers p).stack ≡ f ∷ below → waits_for gs ≡ Some v → (x : machine.Stage) → f.stage ≡ x → IsStaged x f.environment B gs
+    → (m.handlers p).stack ≡ f ∷ below → waits_for gs ≡ Some v → (x : machine.Stage) → f.stage ≡ x → IsStaged x (place_of f below) B gs
     → Waiting m p v.asked
 staged_waits m p f below B gs v at waits x e is = by x e is
   where
-    same : (k : ℕ) (gives : Option EntityType) (c : Bool) → f.stage ≡ Awaits k gives c → Awaited k gives f.environment gs → Waiting m p v.asked
+    same : (k : ℕ) (gives : Option EntityType) (c : Bool) → f.stage ≡ Awaits k gives c → Awaited k gives (place_of f below) gs → Waiting m p v.asked
     same k gives c e a = record {
       frame = f;
       below = below;
@@ -172,7 +172,7 @@ staged_waits m p f below B gs v at waits x e is = by x e is
       takes_as = subst (λ (y : Wait). TakesAs y.asked f.environment gives) (some_wait a.wait v (sym a.waits ∙ waits)) a.takes;
     }
 
-    by : (x : machine.Stage) → f.stage ≡ x → IsStaged x f.environment B gs → Waiting m p v.asked
+    by : (x : machine.Stage) → f.stage ≡ x → IsStaged x (place_of f below) B gs → Waiting m p v.asked
     by Runs e is = not_some v (sym is.0 ∙ waits)
     by Reserves e is = not_some v (sym is.0 ∙ waits)
     by ReservesBlock e is = not_some v (sym is.0 ∙ waits)

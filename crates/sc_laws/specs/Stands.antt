@@ -1,5 +1,5 @@
 -- A world of rights stands for a state of the machine: it has the same rights, requests, waits and failures.
-use Rattle.std.specs.Prelude.{◌⊎◌, ℕ, zero, suc, ◌≡◌, ◌≤◌, true, false, List, [], ◌∷◌, take, drop, Option, Some, None, is_some}
+use Rattle.std.specs.Prelude.{◌⊎◌, ℕ, zero, suc, ◌≡◌, ◌≤◌, Bool, true, false, List, [], ◌∷◌, map, take, drop, Option, Some, None, is_some}
 use Rattle.std.specs.Option.{option_map}
 use Rattle.sc_proctype.specs.declared.entity_type.EntityType.{EntityType}
 use Rattle.sc_laws.specs.World.{Asked, Wait, Request, Reservation, Frame, Answer, Handler, World, rights_of}
@@ -101,34 +101,52 @@ AreBlocks Names (ks ∷ kss) Below (g ∷ gs) =
     (g.origin ≡ None) × (handlers_of g.reserved ≡ ks) × (waits_for gs ≡ None)
     × AreBlocks (λ i. Names (suc i)) kss Below gs × Names 0 g.needs
 
+-- what names stand for in a frame of the machine's, and what is left to do of it and of each one under it
+pub record Place : Type 0 where
+  pub environment : List Binding
+  pub left : List (List Task)
+
+abbrev pub left_in : List machine.Frame → List (List Task)
+left_in fs = map (λ (f : machine.Frame). f.tasks) fs
+
+-- the frame's, on these
+abbrev pub place_of : machine.Frame → List machine.Frame → Place
+place_of f below = record { environment = f.environment; left = f.tasks ∷ left_in below }
+
 -- what a frame that waits takes, where names stand for these
 abbrev pub TakesAs : Option Asked → List Binding → Option EntityType → Type 0
 TakesAs None bs gives = ⊥
 TakesAs (Some a) bs gives = (a.environment ≡ bs) × (a.takes ≡ gives)
 
+-- it lent all that it had reserved, or not, and this was left to do
+abbrev pub LendsAs : Option Asked → Bool → List (List Task) → Type 0
+LendsAs None lends left = ⊥
+LendsAs (Some a) lends left = (a.lends ≡ lends) × (a.left ≡ left)
+
 -- the topmost one waits for k, and takes this
-pub record Awaited (k : ℕ) (gives : Option EntityType) (bs : List Binding) (gs : List Frame) : Type 0 where
+pub record Awaited (k : ℕ) (gives : Option EntityType) (at : Place) (gs : List Frame) : Type 0 where
   pub wait : Wait
   pub waits : waits_for gs ≡ Some wait
   pub target : wait.target ≡ k
-  pub takes : TakesAs wait.asked bs gives
+  pub takes : TakesAs wait.asked at.environment gives
+  pub lends : LendsAs wait.asked wait.passing at.left
 
 abbrev pub IsCreation : ℕ → (List Frame → Type 0) → List Frame → Type 0
 IsCreation k Below [] = ⊥
 IsCreation k Below (g ∷ gs) = (g.origin ≡ None) × (handlers_of g.reserved ≡ k ∷ []) × (waits_for gs ≡ None) × Below gs
 
-abbrev pub IsStaged : machine.Stage → List Binding → (List Frame → Type 0) → List Frame → Type 0
-IsStaged (machine.Awaits k gives true) bs Below gs = Awaited k gives bs gs × IsCreation k Below gs
-IsStaged (machine.Awaits k gives false) bs Below gs = Awaited k gives bs gs × Below gs
-IsStaged machine.Runs bs Below gs = (waits_for gs ≡ None) × Below gs
-IsStaged machine.Reserves bs Below gs = (waits_for gs ≡ None) × Below gs
-IsStaged machine.ReservesBlock bs Below gs = (waits_for gs ≡ None) × Below gs
-IsStaged (machine.InCall gives) bs Below gs = (waits_for gs ≡ None) × Below gs
+abbrev pub IsStaged : machine.Stage → Place → (List Frame → Type 0) → List Frame → Type 0
+IsStaged (machine.Awaits k gives true) at Below gs = Awaited k gives at gs × IsCreation k Below gs
+IsStaged (machine.Awaits k gives false) at Below gs = Awaited k gives at gs × Below gs
+IsStaged machine.Runs at Below gs = (waits_for gs ≡ None) × Below gs
+IsStaged machine.Reserves at Below gs = (waits_for gs ≡ None) × Below gs
+IsStaged machine.ReservesBlock at Below gs = (waits_for gs ≡ None) × Below gs
+IsStaged (machine.InCall gives) at Below gs = (waits_for gs ≡ None) × Below gs
 
 abbrev pub IsStack : List machine.Frame → List Frame → Type 0
 IsStack [] [] = Unit {0}
 IsStack [] (g ∷ gs) = ⊥
-IsStack (f ∷ fs) gs = IsStaged f.stage f.environment (AreBlocks (NamesOf f.stage f) f.blocks (IsRoutine f (NeedsOf f.stage f) (IsStack fs))) gs
+IsStack (f ∷ fs) gs = IsStaged f.stage (place_of f fs) (AreBlocks (NamesOf f.stage f) f.blocks (IsRoutine f (NeedsOf f.stage f) (IsStack fs))) gs
 
 -- ---- handlers and worlds
 

@@ -7,6 +7,7 @@ use Rattle.sc_lockpass.specs.Passing.{Passed, passed_by}
 use Rattle.sc_model.specs.Values.{Reference}
 use Rattle.sc_model.specs.Environments.{Binding}
 use Rattle.sc_model.specs.Handlers.{Errand}
+use Rattle.sc_model.specs.Tasks.{Task}
 
 -- A handler that was granted a right: by the waited request of this number, with which the right was passed to it, or
 -- by a reservation of this
@@ -15,13 +16,16 @@ pub record Grant : Type 0 where
   pub holder : ℕ
   pub number : ℕ
 
--- what the request of a handler asks for, and what its poster takes, where names stand for these
+-- What the request of a handler asks for, and what its poster takes, where names stand for these; whether its poster lends all
+-- that it has reserved, and what is left to do of each routine on its stack, the topmost first.
 pub record Asked : Type 0 where
   pub poster : ℕ
   pub target : Reference
   pub errand : Errand
   pub environment : List Binding
   pub takes : Option EntityType
+  pub lends : Bool
+  pub left : List (List Task)
 
 -- the wait of a frame for the answer to the request of this number
 pub record Wait : Type 0 where

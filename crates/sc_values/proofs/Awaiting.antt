@@ -107,7 +107,7 @@ module _ (s : System) (pure : RoutineName → Bool) (w : World) (fits : WorldFit
 module _ (s : System) (root : Root) (pure : RoutineName → Bool) (faultless : IsFaultless s root) (well : WellFormed s) (tells : IsPurity s pure) where
   module _ (w : World) (fits : WorldFits s pure w) (h : ℕ) (l : h < w.count) where
     act_matched : (f : Frame) (below : List Frame) → (w.handlers h).stack ≡ f ∷ below → f.stage ≡ Runs → (x : Step) →
-        moves s f.current (point_of f (w.handlers h).objects) ≡ x → IsMatched s (asked_in h w.count x)
+        moves s f.current (point_of f (w.handlers h).objects) ≡ x → IsMatched s (asked_in h w.count below x)
     act_matched f below is e (Goes p) i = tt
     act_matched f below is e (Does (act.Prints text) p) i = tt
     act_matched f below is e (Does act.Tests p) i = tt
@@ -122,7 +122,7 @@ module _ (s : System) (root : Root) (pure : RoutineName → Bool) (faultless : I
     act_matched f below is e (Does (act.Requests o x us t b) p) i = (requests_are_matched s root pure faultless well tells w fits h l f below is e p).0 o x us t b i
     act_matched f below is e (Does (act.CreatesHandler c x us t b) p) i = (requests_are_matched s root pure faultless well tells w fits h l f below is e p).1 c x us t b i w.count
 
-    stage_matched : (f : Frame) (below : List Frame) → (w.handlers h).stack ≡ f ∷ below → (x : Stage) → f.stage ≡ x → IsMatched s (asked_at s h w f x)
+    stage_matched : (f : Frame) (below : List Frame) → (w.handlers h).stack ≡ f ∷ below → (x : Stage) → f.stage ≡ x → IsMatched s (asked_at s h w f below x)
     stage_matched f below is Runs e = act_matched f below is e (moves s f.current (point_of f (w.handlers h).objects)) refl
     stage_matched f below is Reserves e = tt
     stage_matched f below is ReservesBlock e = tt

@@ -22,7 +22,7 @@ use Rattle.sc_laws.specs.World as rights
 use Rattle.sc_laws.specs.World.{Wait}
 use Rattle.sc_laws.specs.Consistent.{HasPassed, IsBegun, IsOrdered}
 use Rattle.sc_laws.specs.Lawful.{IsLawful}
-use Rattle.sc_laws.specs.Stands.{AreBlocks, IsOrigin, IsRoutine, IsStack, IsStaged, NamesOf, NeedsOf, Stands}
+use Rattle.sc_laws.specs.Stands.{AreBlocks, IsOrigin, IsRoutine, IsStack, IsStaged, NamesOf, NeedsOf, Stands, place_of}
 use Rattle.sc_laws.proofs.links.Leaving.{some_request}
 use Rattle.sc_model.specs.Answers.{finish}
 use Rattle.sc_model.specs.Entries.{enters, enters_bound, entry}
@@ -68,7 +68,7 @@ waits_below (f ∷ below) gs is p = by f.stage refl is
     none_waits : (v : Wait) → None ≡ Some v → ⊥
     none_waits v e = cc
 
-    by : (x : Stage) → f.stage ≡ x → IsStaged x f.environment (AreBlocks (NamesOf f.stage f) f.blocks (IsRoutine f (NeedsOf f.stage f) (IsStack below))) gs →
+    by : (x : Stage) → f.stage ≡ x → IsStaged x (place_of f below) (AreBlocks (NamesOf f.stage f) f.blocks (IsRoutine f (NeedsOf f.stage f) (IsStack below))) gs →
         is_in_call f.stage ≡ false
     by Runs e i = ap is_in_call e
     by Reserves e i = ap is_in_call e
@@ -92,7 +92,7 @@ under_request C (ks ∷ kss) f N below q (g ∷ gs) begun ordered is = under_req
 pub requested_below : (t : rights.World) (m : World) → IsLawful t → Stands t m → (h : ℕ) (f : Frame) (below : List Frame) (q : Request) → (m.handlers h).stack ≡ f ∷ below →
     f.stage ≡ Runs → f.origin ≡ Requested q → top_calls below ≡ false
 requested_below t m law stands h f below q at runs begun =
-    let st = subst (λ x. IsStaged x f.environment (AreBlocks (NamesOf f.stage f) f.blocks (IsRoutine f (NeedsOf f.stage f) (IsStack below))) (t.handlers h).stack) runs
+    let st = subst (λ x. IsStaged x (place_of f below) (AreBlocks (NamesOf f.stage f) f.blocks (IsRoutine f (NeedsOf f.stage f) (IsStack below))) (t.handlers h).stack) runs
     (subst (λ s. IsStack s (t.handlers h).stack) at (stands.handlers h).stack) in
     under_request (NamesOf f.stage f) f.blocks f (NeedsOf f.stage f) below q (t.handlers h).stack begun (law.consistent.ordered h) st.1
 

@@ -8,7 +8,7 @@ use Rattle.sc_lockpass.specs.Rights.{Rights}
 use Rattle.sc_waitcond.specs.declared.session.Release.TheVariants as release_at
 use Rattle.sc_laws.specs.World.{Request, Frame, Handler, World, holder, rights_of, is_waited_by, and_this, and_begun, requests_of, resumed, take_answer}
 use Rattle.sc_laws.specs.Steps.{waits_for, IsActive, AnswersNobody, Step, Answers, answered}
-use Rattle.sc_laws.specs.Stands.{NeedsOf, NamesOf, answer_of, handlers_of, IsRoutine, AreBlocks, Awaited, IsCreation, IsStaged, IsStack, IsHandler, IsNew, Stands}
+use Rattle.sc_laws.specs.Stands.{NeedsOf, NamesOf, answer_of, handlers_of, IsRoutine, AreBlocks, place_of, Awaited, IsCreation, IsStaged, IsStack, IsHandler, IsNew, Stands}
 use Rattle.sc_laws.proofs.links.Maps.{put-own, same_rights}
 use Rattle.sc_laws.proofs.links.Lists.{one, put-off}
 use Rattle.sc_laws.proofs.links.Standing.{Looks, looks_by, m_put-own, m_put-off, at_each}
@@ -55,11 +55,11 @@ pub record Answered (w : World) (m : machine.World) (h k : ℕ) (gives : Option 
   pub stands : Stands w m
   pub here : h < m.count
   pub lives : (m.handlers h).failure ≡ None
-  pub parts : IsStaged (Awaits k gives b) f.environment (AreBlocks (NamesOf machine.Runs f) f.blocks (IsRoutine f (NeedsOf machine.Runs f) (IsStack below)))
+  pub parts : IsStaged (Awaits k gives b) (place_of f below) (AreBlocks (NamesOf machine.Runs f) f.blocks (IsRoutine f (NeedsOf machine.Runs f) (IsStack below)))
       (w.handlers h).stack
 
 awaited : (w : World) (m : machine.World) (h k : ℕ) (gives : Option EntityType) (b : Bool) (f : machine.Frame) (below : List machine.Frame)
-    → Answered w m h k gives b f below → Awaited k gives f.environment (w.handlers h).stack
+    → Answered w m h k gives b f below → Awaited k gives (place_of f below) (w.handlers h).stack
 awaited w m h k gives true f below a = a.parts.0
 awaited w m h k gives false f below a = a.parts.0
 

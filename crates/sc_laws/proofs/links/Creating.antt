@@ -8,7 +8,7 @@ use Rattle.sc_waitcond.specs.declared.session.Release.TheVariants as release_at
 use Rattle.sc_laws.specs.World as world
 use Rattle.sc_laws.specs.World.{Grant, Wait, Request, Reservation, Frame, Handler, World, holder, rights_of, has, land, post, ask_passing, enter}
 use Rattle.sc_laws.specs.Steps.{waits_for, IsActive, Holds, IsIdle, AnswersNobody, Posts, AsksPassing, Enters, Steps, Then}
-use Rattle.sc_laws.specs.Stands.{AsksFor, TakesAs, NeedsOf, NamesOf, AreRequests, IsCallback, handlers_of, IsRoutine, AreBlocks, IsStaged, IsStack, IsHandler, IsNew, Stands}
+use Rattle.sc_laws.specs.Stands.{AsksFor, TakesAs, NeedsOf, NamesOf, AreRequests, IsCallback, handlers_of, IsRoutine, AreBlocks, left_in, place_of, LendsAs, IsStaged, IsStack, IsHandler, IsNew, Stands}
 use Rattle.sc_laws.proofs.Waits.{true_false}
 use Rattle.sc_laws.proofs.Named.{asks_kept}
 use Rattle.sc_laws.proofs.links.Maps.{same_rights}
@@ -127,7 +127,7 @@ makes w m h f below g runs =
             let mine : IsHandler (record (w.handlers h) { stack = d ∷ (w.handlers h).stack })
             (record (m.handlers h) { stack = record f { blocks = (m.count ∷ []) ∷ f.blocks; tasks = [] } ∷ below }) = record {
               failed = old.failed;
-              stack = subst (λ t. IsStaged t f.environment (AreBlocks (NamesOf t (record f { blocks = (m.count ∷ []) ∷ f.blocks; tasks = [] }))
+              stack = subst (λ t. IsStaged t (place_of (record f { blocks = (m.count ∷ []) ∷ f.blocks; tasks = [] }) below) (AreBlocks (NamesOf t (record f { blocks = (m.count ∷ []) ∷ f.blocks; tasks = [] }))
                   ((m.count ∷ []) ∷ f.blocks)
                   (IsRoutine f (NeedsOf t (record f { blocks = (m.count ∷ []) ∷ f.blocks; tasks = [] })) (IsStack below)))
                   (d ∷ (w.handlers h).stack)) (sym runs)
@@ -201,10 +201,12 @@ pub created_leads : (w : World) (m : machine.World) (h class : ℕ) (procedure :
       errand = Makes procedure;
       environment = f.environment;
       takes = None;
+      lends = passing;
+      left = left_in (f ∷ below);
     })
     → Going w m h machine.Runs f below → f.stage ≡ Runs
     → Leads w (created h (record { handler = m.count; number = 1; class = class }) procedure us t passing f below m)
-created_leads w m h class procedure us t passing f below named g runs = by passing
+created_leads w m h class procedure us t passing f below named g runs = by passing refl
   where
     other : m.count ≢ h
     other same = let i = g.here in omega (arith, i, same)
@@ -242,7 +244,7 @@ created_leads w m h class procedure us t passing f below named g runs = by passi
         (let i = g.here in omega (arith, i)) on
         (ap (λ (x : Handler). x.stack) same ∙ held.stack) held.reserved
         (sent_put false h k q (f1 ∷ below) m1 (with_stack h (f1 ∷ below) m0) other (restacked_put h a (f1 ∷ below) m0)) refl
-        (subst (λ l. IsStaged l f.environment (AreBlocks (NamesOf l (record f { values = operand (Attached r') t ∷ f.values })) f.blocks
+        (subst (λ l. IsStaged l (place_of f below) (AreBlocks (NamesOf l (record f { values = operand (Attached r') t ∷ f.values })) f.blocks
         (IsRoutine f (NeedsOf l (record f { values = operand (Attached r') t ∷ f.values }))
         (IsStack below))) (w.handlers h).stack) (sym runs) (g.quiet, g.parts)) in
         let l : Leads u (sessions.release release_at.Creation (k ∷ []) n0) = ended_leads u h held.frame (w.handlers h).stack
@@ -253,13 +255,13 @@ created_leads w m h class procedure us t passing f below named g runs = by passi
           stands = l.stands;
         }
 
-    asked : Leads w (asking.passes true h m.count (send false m.count
+    asked : passing ≡ true → Leads w (asking.passes true h m.count (send false m.count
         (request_by h (record { handler = m.count; number = 1; class = class }) (Makes procedure) us true true (with_handler m.count h m))
         (with_stack h (record f {
           values = operand (Attached (record { handler = m.count; number = 1; class = class })) t ∷ f.values;
           stage = Awaits m.count None true;
         } ∷ below) (with_handler m.count h m))))
-    asked =
+    asked lent =
         let k = m.count in
         let m0 = with_handler k h m in
         let r' : Reference = record { handler = m.count; number = 1; class = class } in
@@ -288,14 +290,15 @@ created_leads w m h class procedure us t passing f below named g runs = by passi
                   waits = refl;
                   target = refl;
                   takes = subst (λ o. TakesAs o f.environment None) (sym same_asked) (refl, refl);
+                  lends = subst (λ o. LendsAs o true (left_in (f ∷ below))) (sym same_asked) (lent, refl);
                 },
                 (held.origin, held.reserved, g.quiet, g.parts),
               );
         }
 
-    by : (b : Bool) → Leads w (created h (record { handler = m.count; number = 1; class = class }) procedure us t b f below m)
-    by true = asked
-    by false = posted
+    by : (b : Bool) → passing ≡ b → Leads w (created h (record { handler = m.count; number = 1; class = class }) procedure us t b f below m)
+    by true lent = asked lent
+    by false lent = posted
 
 pub creates_leads : (G : World → Type 0) (K : Keeps G) (most : ℕ) (w : World) (m : machine.World) (h class : ℕ) (procedure : Option (List ℕ))
     (us : List Operand) (t : EntityType) (passing : Bool) (f : machine.Frame) (below : List machine.Frame)
@@ -305,6 +308,8 @@ pub creates_leads : (G : World → Type 0) (K : Keeps G) (most : ℕ) (w : World
       errand = Makes procedure;
       environment = f.environment;
       takes = None;
+      lends = passing;
+      left = left_in (f ∷ below);
     })
     → G w → Going w m h machine.Runs f below → f.stage ≡ Runs → Leads w (creates_handler most h class procedure us t passing f below m)
 creates_leads G K most w m h class procedure us t passing f below named good g runs =

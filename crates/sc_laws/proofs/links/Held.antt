@@ -8,7 +8,7 @@ use Rattle.sc_lockpass.specs.Rights.{Rights, held, is_handler, is_among}
 use Rattle.sc_laws.specs.World.{Frame, World, holder, rights_of}
 use Rattle.sc_laws.specs.Steps.{waits_for, IsActive, Holds, EachHeld}
 use Rattle.sc_laws.specs.Laws.{RunsIn}
-use Rattle.sc_laws.specs.Stands.{IsCovered, AreCovered, names_in, NeedsOf, NamesOf, IsRoutine, AreBlocks, IsStaged, IsStack}
+use Rattle.sc_laws.specs.Stands.{IsCovered, AreCovered, names_in, NeedsOf, NamesOf, IsRoutine, AreBlocks, Place, place_of, IsStaged, IsStack}
 use Rattle.sc_laws.specs.Formals.{goes_on, before_reserve, FormalsAreHeld, NamesAreHeld}
 use Rattle.sc_laws.proofs.LawProofs.{held_while_it_runs}
 use Rattle.sc_laws.proofs.Machine.{contains_none, contains_first, contains_later, contains_cases}
@@ -57,13 +57,13 @@ record GoingOn (t : machine.Stage) (f : machine.Frame) (B : List Frame → Type 
 not_true : {A : Type 0} → false ≡ true → A
 not_true e = cc
 
-going_on : (t : machine.Stage) (f : machine.Frame) (B : List Frame → Type 0) (gs : List Frame) → goes_on t ≡ true
-    → IsStaged t f.environment (AreBlocks (NamesOf t f) f.blocks (IsRoutine f (NeedsOf t f) B)) gs → GoingOn t f B gs
-going_on Runs f B gs e is = record { quiet = is.0; parts = is.1 }
-going_on Reserves f B gs e is = not_true e
-going_on ReservesBlock f B gs e is = record { quiet = is.0; parts = is.1 }
-going_on (InCall gives) f B gs e is = record { quiet = is.0; parts = is.1 }
-going_on (Awaits k gives c) f B gs e is = not_true e
+going_on : (t : machine.Stage) (at : Place) (f : machine.Frame) (B : List Frame → Type 0) (gs : List Frame) → goes_on t ≡ true
+    → IsStaged t at (AreBlocks (NamesOf t f) f.blocks (IsRoutine f (NeedsOf t f) B)) gs → GoingOn t f B gs
+going_on Runs at f B gs e is = record { quiet = is.0; parts = is.1 }
+going_on Reserves at f B gs e is = not_true e
+going_on ReservesBlock at f B gs e is = record { quiet = is.0; parts = is.1 }
+going_on (InCall gives) at f B gs e is = record { quiet = is.0; parts = is.1 }
+going_on (Awaits k gives c) at f B gs e is = not_true e
 
 covered_one : (h : ℕ) (ks : List ℕ) (vs : List Value) (v : Value) → AreCovered h ks vs → Contains vs v → IsCovered h ks v
 covered_one h ks [] v is i = contains_none v i
@@ -156,7 +156,7 @@ topmost : (m : machine.World) (l : Linked m) (h : ℕ) (f : machine.Frame) (belo
 topmost m l h f below lives at on =
     let x = l.stands.handlers h in
     let gs = (l.world.handlers h).stack in
-    let g = going_on f.stage f (IsStack below) gs on (subst (λ st. IsStack st gs) at x.stack) in
+    let g = going_on f.stage (place_of f below) f (IsStack below) gs on (subst (λ st. IsStack st gs) at x.stack) in
     record {
       active = (x.failed ∙ ap is_some lives, g.quiet);
       going = g;

@@ -12,7 +12,7 @@ use Rattle.sc_waitcond.specs.declared.condition.Verdict.TheVariants as verdict
 use Rattle.sc_proctype.specs.declared.entity_type.EntityType.{EntityType}
 use Rattle.sc_laws.specs.World.{Answer, Request, Frame, World, rights_of, enter}
 use Rattle.sc_laws.specs.Steps.{waits_for, AnswersNobody, Enters}
-use Rattle.sc_laws.specs.Stands.{names_in, NeedsOf, NamesOf, AreCovered, IsRequest, IsOrigin, handlers_of, IsRoutine, AreBlocks, IsStaged, IsStack}
+use Rattle.sc_laws.specs.Stands.{names_in, NeedsOf, NamesOf, AreCovered, IsRequest, IsOrigin, handlers_of, IsRoutine, AreBlocks, Place, place_of, IsStaged, IsStack}
 use Rattle.sc_laws.proofs.links.Lists.{one, Released, releases, entering}
 use Rattle.sc_laws.proofs.links.Standing.{Looks, looks_same, looks_ended, put_handler, put_stack, put_moved, put_more, stands_put, stands_same, released_rights, released_beyond}
 use Rattle.sc_laws.proofs.links.Failing.{Leads}
@@ -48,9 +48,9 @@ fresh_needs me r o bs = by (separate_formals bs) refl
     by [] e = subst (AreCovered me.handler []) (sym e) tt
     by (v ∷ vs) e = tt
 
-pub entered_stage : (vs : List Value) (bs : List Binding) (B : List Frame → Type 0) (gs : List Frame) → waits_for gs ≡ None → B gs → IsStaged (stage_with vs) bs B gs
-entered_stage [] bs B gs quiet is = (quiet, is)
-entered_stage (v ∷ vs) bs B gs quiet is = (quiet, is)
+pub entered_stage : (vs : List Value) (at : Place) (B : List Frame → Type 0) (gs : List Frame) → waits_for gs ≡ None → B gs → IsStaged (stage_with vs) at B gs
+entered_stage [] at B gs quiet is = (quiet, is)
+entered_stage (v ∷ vs) at B gs quiet is = (quiet, is)
 
 abbrev fresh : Frame
 fresh = record { origin = None; reserved = []; needs = []; waits = None }
@@ -67,7 +67,7 @@ call_leads w m h f below me r c bs gives g =
       stands = stands_put h (entry me r (machine.Called c) bs ∷ record f { stage = InCall gives } ∷ below)
           (record { origin = None; reserved = []; needs = []; waits = None } ∷ gs) w (enter h w) m (with_stack h st m) g.stands g.here (entering h w)
           (put_stack h st m)
-          (entered_stage (separate_formals bs) (entry me r (machine.Called c) bs).environment (IsRoutine (entry me r (machine.Called c) bs)
+          (entered_stage (separate_formals bs) (place_of (entry me r (machine.Called c) bs) (record f { stage = InCall gives } ∷ below)) (IsRoutine (entry me r (machine.Called c) bs)
           (NeedsOf (stage_with (separate_formals bs)) (entry me r (machine.Called c) bs)) (IsStack (record f { stage = InCall gives } ∷ below)))
           (record { origin = None; reserved = []; needs = []; waits = None } ∷ gs) refl
           (tt, refl, (g.quiet, g.parts), fresh_needs me r (machine.Called c) bs))
@@ -88,14 +88,14 @@ enters_leads G K s w m h f below me (Some r) c vs gives good g = by (formals_bou
 -- ---- exits
 
 handed_staged : (v : Option Value) (f : machine.Frame) (st : List machine.Frame) (gs : List Frame) (stage : Stage) → f.stage ≡ stage
-    → IsStaged stage f.environment (AreBlocks (NamesOf stage f) f.blocks (IsRoutine f (NeedsOf stage f) (IsStack st))) gs → IsStack (handed_at stage v f ∷ st) gs
-handed_staged v f st gs Runs e is = subst (λ t. IsStaged t f.environment (AreBlocks (NamesOf t f) f.blocks (IsRoutine f (NeedsOf t f) (IsStack st))) gs) (sym e) is
+    → IsStaged stage (place_of f st) (AreBlocks (NamesOf stage f) f.blocks (IsRoutine f (NeedsOf stage f) (IsStack st))) gs → IsStack (handed_at stage v f ∷ st) gs
+handed_staged v f st gs Runs e is = subst (λ t. IsStaged t (place_of f st) (AreBlocks (NamesOf t f) f.blocks (IsRoutine f (NeedsOf t f) (IsStack st))) gs) (sym e) is
 handed_staged v f st gs Reserves e is =
-    subst (λ t. IsStaged t f.environment (AreBlocks (NamesOf t f) f.blocks (IsRoutine f (NeedsOf t f) (IsStack st))) gs) (sym e) is
+    subst (λ t. IsStaged t (place_of f st) (AreBlocks (NamesOf t f) f.blocks (IsRoutine f (NeedsOf t f) (IsStack st))) gs) (sym e) is
 handed_staged v f st gs ReservesBlock e is =
-    subst (λ t. IsStaged t f.environment (AreBlocks (NamesOf t f) f.blocks (IsRoutine f (NeedsOf t f) (IsStack st))) gs) (sym e) is
+    subst (λ t. IsStaged t (place_of f st) (AreBlocks (NamesOf t f) f.blocks (IsRoutine f (NeedsOf t f) (IsStack st))) gs) (sym e) is
 handed_staged v f st gs (Awaits k gives b) e is =
-    subst (λ t. IsStaged t f.environment (AreBlocks (NamesOf t f) f.blocks (IsRoutine f (NeedsOf t f) (IsStack st))) gs) (sym e) is
+    subst (λ t. IsStaged t (place_of f st) (AreBlocks (NamesOf t f) f.blocks (IsRoutine f (NeedsOf t f) (IsStack st))) gs) (sym e) is
 handed_staged v f st gs (InCall gives) e is = by gives v
   where
     by : (t : Option EntityType) (u : Option Value) → IsStack (handed_as t u f ∷ st) gs
@@ -185,7 +185,7 @@ leaves_block_leads w m h f below p g runs some formals names = by f.blocks refl 
         (ends_part w m (with_stack h st n) h st release_at.Leave at.frame at.below ks g.stands g.here
         (going_active w m h machine.Runs f below g) at.is at.reserved
         (put_moved h p.objects (frame_at f p ∷ below) st m) refl
-        (subst (λ t. IsStaged t f1.environment (AreBlocks (NamesOf t f1) kss (IsRoutine f1 (NeedsOf t f1) (IsStack below))) at.below) (sym runs) (
+        (subst (λ t. IsStaged t (place_of f1 below) (AreBlocks (NamesOf t f1) kss (IsRoutine f1 (NeedsOf t f1) (IsStack below))) at.below) (sym runs) (
           at.quiet,
           blocks_map (λ i. NamesOf machine.Runs f (suc i)) (NamesOf machine.Runs f1) kss f (NeedsOf machine.Runs f) (NeedsOf machine.Runs f1)
               (IsStack below) at.below (λ i js c. subst (AreCovered f.current.handler js) (sym (names i)) c)

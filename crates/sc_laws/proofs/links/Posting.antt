@@ -8,7 +8,7 @@ use Rattle.sc_lockpass.specs.Passing.{pass, passed_by}
 use Rattle.sc_laws.specs.World as world
 use Rattle.sc_laws.specs.World.{Grant, Wait, Request, Frame, Handler, World, holder, rights_of, has, pass_all, arrive, land, begin_wait, wait, waiting, post, ask, ask_passing, enter, pop}
 use Rattle.sc_laws.specs.Steps.{Holds, MayAsk, Posts, Asks, AsksPassing}
-use Rattle.sc_laws.specs.Stands.{AsksFor, TakesAs, NeedsOf, NamesOf, IsPoster, IsRequest, AreRequests, IsRoutine, AreBlocks, IsStaged, IsStack, IsHandler, IsNew, Stands}
+use Rattle.sc_laws.specs.Stands.{AsksFor, TakesAs, NeedsOf, NamesOf, IsPoster, IsRequest, AreRequests, IsRoutine, AreBlocks, left_in, place_of, LendsAs, IsStaged, IsStack, IsHandler, IsNew, Stands}
 use Rattle.sc_laws.proofs.links.Maps.{put-own, passing_rights}
 use Rattle.sc_laws.proofs.links.Lists.{one, put-off}
 use Rattle.sc_laws.proofs.links.Standing.{Put, put_stack, stands_put, stands_same}
@@ -192,10 +192,10 @@ held_exists h k w m s holds = by (nat_lt k m.count) refl
 
 pub asks_leads : (w : World) (m : machine.World) (h : ℕ) (f : machine.Frame) (below : List machine.Frame) (r : Reference) (x : List ℕ)
     (us : List Operand) (gives : Option EntityType) (passing : Bool)
-    → w.asks ≡ Some (record { poster = h; target = r; errand = Calls x; environment = f.environment; takes = gives })
+    → w.asks ≡ Some (record { poster = h; target = r; errand = Calls x; environment = f.environment; takes = gives; lends = passing; left = left_in (f ∷ below) })
     → Going w m h machine.Runs f below → f.stage ≡ Runs → r.handler ≢ h → Holds w h r.handler → (w.handlers r.handler).failed ≡ false
     → Leads w (asks h r x us gives passing (passing || is_some gives || is_callback h r.handler m) f below m)
-asks_leads w m h f below r x us gives passing named g runs ne holds lives = by passing (is_some gives) (is_callback h r.handler m) refl
+asks_leads w m h f below r x us gives passing named g runs ne holds lives = by passing (is_some gives) (is_callback h r.handler m) refl refl
   where
     there : r.handler < m.count
     there = held_exists h r.handler w m g.stands holds
@@ -219,23 +219,24 @@ asks_leads w m h f below r x us gives passing named g runs ne holds lives = by p
     asks_for : (c : Bool) → AsksFor w.asks (request_by h r (Calls x) us true c m)
     asks_for c = subst (λ o. AsksFor o (request_by h r (Calls x) us true c m)) (sym named) (refl, refl, refl)
 
-    waiting : (v : Wait) → v.target ≡ r.handler → v.asked ≡ w.asks → (p : HasParts (w.handlers h).stack)
+    waiting : (v : Wait) → v.target ≡ r.handler → v.asked ≡ w.asks → passing ≡ v.passing → (p : HasParts (w.handlers h).stack)
         → IsStack (record f { stage = Awaits r.handler gives false } ∷ below) (record p.frame { waits = Some v } ∷ p.below)
-    waiting v to same_asked p = (
+    waiting v to same_asked lent p = (
       record {
         wait = v;
         waits = refl;
         target = to;
         takes = subst (λ o. TakesAs o f.environment gives) (sym (same_asked ∙ named)) (refl, refl);
+        lends = subst (λ o. LendsAs o v.passing (left_in (f ∷ below))) (sym (same_asked ∙ named)) (lent, refl);
       },
       waiting_parts (NamesOf machine.Runs f) f.blocks f (NeedsOf machine.Runs f) (IsStack below) p.frame p.below v
           (subst (AreBlocks (NamesOf machine.Runs f) f.blocks (IsRoutine f (NeedsOf machine.Runs f) (IsStack below))) p.is g.parts),
     )
 
-    asks_plain : (c : Bool) → is_callback h r.handler m ≡ c
+    asks_plain : (c : Bool) → passing ≡ false → is_callback h r.handler m ≡ c
         → Leads w (asking.passes false h r.handler (send c r.handler (request_by h r (Calls x) us true false m)
         (with_stack h (awaits_if true r.handler gives false f ∷ below) m)))
-    asks_plain c is =
+    asks_plain c lent is =
         let p = has_parts (NamesOf machine.Runs f) f.blocks f (NeedsOf machine.Runs f) (IsStack below) (w.handlers h).stack g.parts in
         let st : List machine.Frame = record f { stage = Awaits r.handler gives false } ∷ below in
         record {
@@ -244,13 +245,13 @@ asks_leads w m h f below r x us gives passing named g runs ne holds lives = by p
           stands = asked_stands w m (with_stack h st m) h r.handler c (record f { stage = Awaits r.handler gives false } ∷ below)
               (request_by h r (Calls x) us true false m) p.frame p.below g.stands g.here there p.is
               (put_stack h st m) refl (back ∙ is) refl refl refl (asks_for false)
-              (waiting (record { number = w.next; target = r.handler; passing = false; asked = w.asks }) refl refl p);
+              (waiting (record { number = w.next; target = r.handler; passing = false; asked = w.asks }) refl refl lent p);
         }
 
-    asks_pass : (c : Bool) → is_callback h r.handler m ≡ c
+    asks_pass : (c : Bool) → passing ≡ true → is_callback h r.handler m ≡ c
         → Leads w (asking.passes true h r.handler (send c r.handler (request_by h r (Calls x) us true true m)
         (with_stack h (awaits_if true r.handler gives false f ∷ below) m)))
-    asks_pass c is =
+    asks_pass c lent is =
         let p = has_parts (NamesOf machine.Runs f) f.blocks f (NeedsOf machine.Runs f) (IsStack below) (w.handlers h).stack g.parts in
         let st : List machine.Frame = record f { stage = Awaits r.handler gives false } ∷ below in
         record {
@@ -259,7 +260,7 @@ asks_leads w m h f below r x us gives passing named g runs ne holds lives = by p
           stands = asked_passing_stands w m (with_stack h st m) h r.handler c (record f { stage = Awaits r.handler gives false } ∷ below)
               (request_by h r (Calls x) us true true m) p.frame p.below g.stands g.here there p.is
               (put_stack h st m) refl (back ∙ is) refl refl refl (asks_for true)
-              (waiting (record { number = w.next; target = r.handler; passing = true; asked = w.asks }) refl refl p);
+              (waiting (record { number = w.next; target = r.handler; passing = true; asked = w.asks }) refl refl lent p);
         }
 
     posts : Leads w (asking.passes false h r.handler (send false r.handler (request_by h r (Calls x) us false false m)
@@ -273,22 +274,22 @@ asks_leads w m h f below r x us gives passing named g runs ne holds lives = by p
               (arrives_stands false r.handler (record { number = w.next; poster = h; waited = false; passed = None; asked = w.asks })
               (request_by h r (Calls x) us false false m) w (with_stack h st m)
               (stands_same h (f ∷ below) w m (with_stack h st m) g.stands g.here (put_stack h st m)
-              (subst (λ t. IsStaged t f.environment (AreBlocks (NamesOf t f) f.blocks (IsRoutine f (NeedsOf t f) (IsStack below))) (w.handlers h).stack) (sym runs)
+              (subst (λ t. IsStaged t (place_of f below) (AreBlocks (NamesOf t f) f.blocks (IsRoutine f (NeedsOf t f) (IsStack below))) (w.handlers h).stack) (sym runs)
               (g.quiet, g.parts)) refl)
               there (record { poster = refl; waited = refl; passed = refl; plain = λ e. refl; asked = λ e. not_true (sym e) }));
         }
 
-    by : (p b c : Bool) → is_callback h r.handler m ≡ c
+    by : (p b c : Bool) → passing ≡ p → is_callback h r.handler m ≡ c
         → Leads w (asking.passes p h r.handler (send c r.handler (request_by h r (Calls x) us (p || b || c) p m)
         (with_stack h (awaits_if (p || b || c) r.handler gives false f ∷ below) m)))
-    by true b c is = asks_pass c is
-    by false true c is = asks_plain c is
-    by false false true is = asks_plain true is
-    by false false false is = posts
+    by true b c lent is = asks_pass c lent is
+    by false true c lent is = asks_plain c lent is
+    by false false true lent is = asks_plain true lent is
+    by false false false lent is = posts
 
 pub request_leads : (G : World → Type 0) (K : Keeps G) (w : World) (m : machine.World) (h : ℕ) (f : machine.Frame) (below : List machine.Frame)
     (r : Reference) (x : List ℕ) (us : List Operand) (gives : Option EntityType) (passing : Bool)
-    → w.asks ≡ Some (record { poster = h; target = r; errand = Calls x; environment = f.environment; takes = gives })
+    → w.asks ≡ Some (record { poster = h; target = r; errand = Calls x; environment = f.environment; takes = gives; lends = passing; left = left_in (f ∷ below) })
     → G w → Going w m h machine.Runs f below → f.stage ≡ Runs → r.handler ≢ h → Leads w (request h r x us gives passing f below m)
 request_leads G K w m h f below r x us gives passing named good g runs ne =
     let fails = λ (why : Cause). going_fails w m h machine.Runs f below why (K.consistent w good) g in

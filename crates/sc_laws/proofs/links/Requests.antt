@@ -6,8 +6,7 @@ use Rattle.std.proofs.lemmas.Bool.{eqb-true}
 use Rattle.sc_lockpass.specs.Rights.{is_handler}
 use Rattle.sc_laws.specs.World.{Request, Frame, Handler, World, is_waited_by, and_this, and_begun, requests_of}
 use Rattle.sc_laws.specs.Consistent.{StackWaits, IsOne, HasClient, IsConsistent}
-use Rattle.sc_laws.specs.Stands.{NeedsOf, NamesOf, IsPoster, IsRequest, AreRequests, IsCallback, IsOrigin, IsRoutine, AreBlocks, IsCreation, IsStaged, IsStack, IsNew}
-use Rattle.sc_model.specs.Environments.{Binding}
+use Rattle.sc_laws.specs.Stands.{NeedsOf, NamesOf, IsPoster, IsRequest, AreRequests, IsCallback, IsOrigin, IsRoutine, AreBlocks, IsCreation, Place, place_of, IsStaged, IsStack, IsNew}
 use Rattle.sc_model.specs.Handlers as machine
 use Rattle.sc_model.specs.Failures as failures
 use Rattle.sc_model.specs.Failures.{requests_at, to_list, request_of}
@@ -76,14 +75,14 @@ creation_any : (k j : ℕ) (B : List Frame → Type 0) (gs : List Frame) (rs : L
 creation_any k j B [] rs c below is = absurd is
 creation_any k j B (g ∷ gs) rs c below is = ap (λ o. any k (and_this o (and_begun gs rs))) is.0 ∙ below gs is.3
 
-staged_any : (k : ℕ) (stage : machine.Stage) (bs : List Binding) (B : List Frame → Type 0) (gs : List Frame) (rs : List Request) (c : Bool)
-    → ((hs : List Frame) → B hs → any k (and_begun hs rs) ≡ c) → IsStaged stage bs B gs → any k (and_begun gs rs) ≡ c
-staged_any k (machine.Awaits j gives true) bs B gs rs c below is = creation_any k j B gs rs c below is.1
-staged_any k (machine.Awaits j gives false) bs B gs rs c below is = below gs is.1
-staged_any k machine.Runs bs B gs rs c below is = below gs is.1
-staged_any k machine.Reserves bs B gs rs c below is = below gs is.1
-staged_any k machine.ReservesBlock bs B gs rs c below is = below gs is.1
-staged_any k (machine.InCall gives) bs B gs rs c below is = below gs is.1
+staged_any : (k : ℕ) (stage : machine.Stage) (at : Place) (B : List Frame → Type 0) (gs : List Frame) (rs : List Request) (c : Bool)
+    → ((hs : List Frame) → B hs → any k (and_begun hs rs) ≡ c) → IsStaged stage at B gs → any k (and_begun gs rs) ≡ c
+staged_any k (machine.Awaits j gives true) at B gs rs c below is = creation_any k j B gs rs c below is.1
+staged_any k (machine.Awaits j gives false) at B gs rs c below is = below gs is.1
+staged_any k machine.Runs at B gs rs c below is = below gs is.1
+staged_any k machine.Reserves at B gs rs c below is = below gs is.1
+staged_any k machine.ReservesBlock at B gs rs c below is = below gs is.1
+staged_any k (machine.InCall gives) at B gs rs c below is = below gs is.1
 
 pub stack_any : (k : ℕ) (st : List machine.Frame) (gs : List Frame) (rs : List Request) → IsStack st gs
     → list_any (is_waited_by k) (and_begun gs rs) ≡ (list_any (failures.is_waited_by k)
@@ -92,7 +91,7 @@ stack_any k [] [] rs is = refl
 stack_any k [] (g ∷ gs) rs is = absurd is
 stack_any k (f ∷ st) gs rs is =
     let rest : List machine.Request = flat_map (λ (f : machine.Frame). request_of f.origin) st in
-    staged_any k f.stage f.environment (AreBlocks (NamesOf f.stage f) f.blocks (IsRoutine f (NeedsOf f.stage f) (IsStack st))) gs rs
+    staged_any k f.stage (place_of f st) (AreBlocks (NamesOf f.stage f) f.blocks (IsRoutine f (NeedsOf f.stage f) (IsStack st))) gs rs
     ((any_of k (request_of f.origin) || any_of k rest) || any k rs)
     (λ hs i. blocks_any (NamesOf f.stage f) k f.blocks (IsRoutine f (NeedsOf f.stage f) (IsStack st)) hs rs
     ((any_of k (request_of f.origin) || any_of k rest) || any k rs)

@@ -11,7 +11,7 @@ use Rattle.sc_lockpass.specs.Rights.{Rights}
 use Rattle.sc_laws.specs.World.{Answer, Request, Frame, Handler, World, holder, rights_of, is_waited_by, and_this, and_begun, requests_of, begun, rest_of, take_request, take_callback, pop}
 use Rattle.sc_laws.specs.Steps.{waits_for, IsActive, Step, Takes, CallsBack, Still, Then}
 use Rattle.sc_laws.specs.Consistent.{IsConsistent}
-use Rattle.sc_laws.specs.Stands.{NeedsOf, IsRequest, AreRequests, IsCallback, IsRoutine, IsStack, IsHandler, IsNew, Stands}
+use Rattle.sc_laws.specs.Stands.{NeedsOf, IsRequest, AreRequests, IsCallback, IsRoutine, place_of, IsStack, IsHandler, IsNew, Stands}
 use Rattle.sc_laws.proofs.links.Maps.{put-own, same_rights}
 use Rattle.sc_laws.proofs.links.Lists.{one, put-off, Restacked, restacked_same, popping}
 use Rattle.sc_laws.proofs.links.Standing.{m_put-own, m_put-off, put_handler, put_stack, stands_put, stands_same, at_each}
@@ -121,7 +121,7 @@ took_enters v n h q below me r bs t at =
     (record { origin = Some t.request; reserved = []; needs = []; waits = None } ∷ t.below) (pop h v) v n (with_stack h st n) t.popped t.here
     (record { own = mine; others = λ k ne. sym (away.others k ne); top = λ k. refl })
     (put_stack h st n)
-    (entered_stage (separate_formals bs) (entry me r (machine.Requested q) bs).environment (IsRoutine (entry me r (machine.Requested q) bs)
+    (entered_stage (separate_formals bs) (place_of (entry me r (machine.Requested q) bs) below) (IsRoutine (entry me r (machine.Requested q) bs)
     (NeedsOf (stage_with (separate_formals bs)) (entry me r (machine.Requested q) bs)) (IsStack below))
     (record { origin = Some t.request; reserved = []; needs = []; waits = None } ∷ t.below) refl
     (t.is, refl, under, fresh_needs me r (machine.Requested q) bs))

@@ -6,7 +6,7 @@ use Rattle.sc_tree.specs.Plain.{System}
 use Rattle.sc_lockpass.specs.Rights.{is_among}
 use Rattle.sc_waitcond.proofs.EntryLaws.{needs_once}
 use Rattle.sc_laws.specs.World.{Asked, World}
-use Rattle.sc_laws.specs.Stands.{names_in, NeedsOf, NamesOf, IsRoutine, AreBlocks, IsStaged, IsStack, Stands}
+use Rattle.sc_laws.specs.Stands.{names_in, NeedsOf, NamesOf, IsRoutine, AreBlocks, Place, left_in, place_of, IsStaged, IsStack, Stands}
 use Rattle.sc_laws.proofs.links.Lists.{distinct_apart}
 use Rattle.sc_laws.proofs.links.Standing.{m_put-own, put_handler, stands_same}
 use Rattle.sc_laws.proofs.links.Failing.{Leads}
@@ -70,30 +70,33 @@ StackFits s h m (f ∷ below) = FrameFits s h m f f.stage
 
 -- ---- what is asked for
 
--- what the request asks for that comes with such an act, where names stand for these, and `count` handlers are there
-abbrev pub asked_by : ℕ → ℕ → Act → List Binding → Option Asked
-asked_by h count (Requests r x us gives passes) bs =
-    Some (record { poster = h; target = r; errand = Calls x; environment = bs; takes = gives })
-asked_by h count (CreatesHandler class procedure us t passes) bs = Some (record {
+-- what the request asks for that comes with such an act of a frame that stands so, where `count` handlers are there
+abbrev pub asked_by : ℕ → ℕ → Act → Place → Option Asked
+asked_by h count (Requests r x us gives passes) at =
+    Some (record { poster = h; target = r; errand = Calls x; environment = at.environment; takes = gives; lends = passes; left = at.left })
+asked_by h count (CreatesHandler class procedure us t passes) at = Some (record {
   poster = h;
   target = record { handler = count; number = 1; class = class };
   errand = Makes procedure;
-  environment = bs;
+  environment = at.environment;
   takes = None;
+  lends = passes;
+  left = at.left;
 })
-asked_by h count other bs = None
+asked_by h count other at = None
 
-abbrev pub asked_in : ℕ → ℕ → Step → Option Asked
-asked_in h count (Goes p) = None
-asked_in h count (Does a p) = asked_by h count a p.environment
+-- the same of a step of a frame on these
+abbrev pub asked_in : ℕ → ℕ → List machine.Frame → Step → Option Asked
+asked_in h count below (Goes p) = None
+asked_in h count below (Does a p) = asked_by h count a (record { environment = p.environment; left = p.tasks ∷ left_in below })
 
-abbrev pub asked_at : System → ℕ → machine.World → machine.Frame → Stage → Option Asked
-asked_at s h m f Runs = asked_in h m.count (moves s f.current (point_of f (m.handlers h).objects))
-asked_at s h m f other = None
+abbrev pub asked_at : System → ℕ → machine.World → machine.Frame → List machine.Frame → Stage → Option Asked
+asked_at s h m f below Runs = asked_in h m.count below (moves s f.current (point_of f (m.handlers h).objects))
+asked_at s h m f below other = None
 
 abbrev pub asked_on : System → ℕ → machine.World → List machine.Frame → Option Asked
 asked_on s h m [] = None
-asked_on s h m (f ∷ below) = asked_at s h m f f.stage
+asked_on s h m (f ∷ below) = asked_at s h m f below f.stage
 
 -- what h asks for in its next turn, if anything
 abbrev pub asked_of : System → ℕ → machine.World → Option Asked
@@ -109,7 +112,7 @@ IsOfNoBlock act = Unit {0}
 
 effect_leads : (G : World → Type 0) (K : Keeps G) (most : ℕ) (s : System) (h : ℕ) (a : Act) (f : machine.Frame) (below : List machine.Frame)
     (w : World) (m : machine.World)
-    → w.asks ≡ asked_by h m.count a f.environment
+    → w.asks ≡ asked_by h m.count a (place_of f below)
     → G w → Going w m h machine.Runs f below → f.stage ≡ Runs → ActFits h f a → IsOfNoBlock a → Leads w (effect most s h a f below m)
 effect_leads G K most s h (Prints text) f below w m named good g runs fits plain =
     stays w _ (stands_same h (m.handlers h).stack w m (put h (record (m.handlers h) { output = (m.handlers h).output ++ text }) m) g.stands g.here
@@ -137,7 +140,7 @@ effect_leads G K most s h (Fails why) f below w m named good g runs fits plain =
 -- the silent steps change the frame and the objects alone
 moves_leads : (G : World → Type 0) (K : Keeps G) (most : ℕ) (s : System) (h : ℕ) (a : Act) (p : Point) (f : machine.Frame)
     (below : List machine.Frame) (w : World) (m : machine.World)
-    → w.asks ≡ asked_by h m.count a p.environment
+    → w.asks ≡ asked_by h m.count a (place_of (frame_at f p) below)
     → G w → Going w m h machine.Runs f below → f.stage ≡ Runs → ActFits h (frame_at f p) a → IsOfNoBlock a → FormalsStay f p
     → ((i : ℕ) → (names_in p.tasks p.environment i ≡ names_in f.tasks f.environment i) ⊎ (names_in p.tasks p.environment i ≡ []))
     → Leads w (settles most s h (Does a p) f below m)
@@ -148,7 +151,7 @@ moves_leads G K most s h a p f below w m named good g runs fits plain formals na
       stands = stands_same h (frame_at f p ∷ below) w m (put h x m) g.stands g.here
           (put_handler h (frame_at f p ∷ below) (record (m.handlers h) { objects = p.objects; stack = frame_at f p ∷ below }) m
           (record { failure = refl; stack = refl; queue = refl; callback = refl; answer = refl }))
-          (subst (λ t. IsStaged t p.environment (AreBlocks (NamesOf t (frame_at f p)) f.blocks (IsRoutine f (NeedsOf t (frame_at f p)) (IsStack below)))
+          (subst (λ t. IsStaged t (place_of (frame_at f p) below) (AreBlocks (NamesOf t (frame_at f p)) f.blocks (IsRoutine f (NeedsOf t (frame_at f p)) (IsStack below)))
           (w.handlers h).stack) (sym runs) (g.quiet, parts)) refl;
       here = g.here;
       lives = ap (λ (y : machine.Handler). y.failure) own ∙ g.lives;
@@ -166,16 +169,16 @@ moves_leads G K most s h a p f below w m named good g runs fits plain formals na
 
 settles_leads : (G : World → Type 0) (K : Keeps G) (most : ℕ) (s : System) (h : ℕ) (st : Step) (f : machine.Frame) (below : List machine.Frame)
     (w : World) (m : machine.World)
-    → w.asks ≡ asked_in h m.count st
+    → w.asks ≡ asked_in h m.count below st
     → G w → Going w m h machine.Runs f below → f.stage ≡ Runs → StepFits h f st → Leads w (settles most s h st f below m)
 settles_leads G K most s h (Goes p) f below w m named good g runs fits = stays w m g.stands
 settles_leads G K most s h (Does a p) f below w m named good g runs fits = by a named fits
   where
-    same : (a : Act) → w.asks ≡ asked_by h m.count a p.environment → ActFits h (frame_at f p) a → IsOfNoBlock a → FormalsStay f p
+    same : (a : Act) → w.asks ≡ asked_by h m.count a (place_of (frame_at f p) below) → ActFits h (frame_at f p) a → IsOfNoBlock a → FormalsStay f p
         → ((i : ℕ) → names_in p.tasks p.environment i ≡ names_in f.tasks f.environment i) → Leads w (settles most s h (Does a p) f below m)
     same a same_asked i plain formals names = moves_leads G K most s h a p f below w m same_asked good g runs i plain formals (λ j. inl (names j))
 
-    by : (a : Act) → w.asks ≡ asked_by h m.count a p.environment → StepFits h f (Does a p) → Leads w (settles most s h (Does a p) f below m)
+    by : (a : Act) → w.asks ≡ asked_by h m.count a (place_of (frame_at f p) below) → StepFits h f (Does a p) → Leads w (settles most s h (Does a p) f below m)
     by (Prints text) same_asked i = same (Prints text) same_asked tt tt i.1 i.2
     by Tests same_asked i = same Tests same_asked tt tt i.1 i.2
     by Creates same_asked i = same Creates same_asked tt tt i.1 i.2
@@ -194,8 +197,8 @@ settles_leads G K most s h (Does a p) f below w m named good g runs fits = by a 
 goes_on_leads : (G : World → Type 0) (K : Keeps G) (most : ℕ) (s : System) (h : ℕ) (stage : Stage) (f : machine.Frame) (below : List machine.Frame)
     (w : World) (m : machine.World)
     → G w → Stands w m → h < m.count → (m.handlers h).failure ≡ None → (m.handlers h).stack ≡ f ∷ below → f.stage ≡ stage
-    → IsStaged stage f.environment (AreBlocks (NamesOf stage f) f.blocks (IsRoutine f (NeedsOf stage f) (IsStack below))) (w.handlers h).stack
-    → w.asks ≡ asked_at s h m f stage
+    → IsStaged stage (place_of f below) (AreBlocks (NamesOf stage f) f.blocks (IsRoutine f (NeedsOf stage f) (IsStack below))) (w.handlers h).stack
+    → w.asks ≡ asked_at s h m f below stage
     → FrameFits s h m f stage
     → Leads w (goes_on most s h stage f below m)
 goes_on_leads G K most s h Runs f below w m good stands here lives at runs is named fits =
