@@ -3,6 +3,7 @@ mod Clausal
 mod Clauses
 mod Fine
 mod Granting
+mod Guarding
 mod Keeping
 mod Linking
 mod Quiet

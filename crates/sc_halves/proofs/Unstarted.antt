@@ -43,7 +43,7 @@ use Rattle.sc_model.specs.Takes.{replies, takes_kind, takes_version, takes_creat
 use Rattle.sc_model.specs.Turns.{effect, settles, waits, goes_on, turn_with, turn}
 use Rattle.sc_model.specs.Runs.{IsReached, opening, root_request, run}
 use Rattle.sc_laws.specs.World as rights
-use Rattle.sc_laws.specs.Stands.{NeedsOf, NamesOf, IsRoutine, AreBlocks, IsStaged, IsStack}
+use Rattle.sc_laws.specs.Stands.{NeedsOf, NamesOf, IsRoutine, AreBlocks, place_of, IsStaged, IsStack}
 use Rattle.sc_laws.proofs.links.Reached.{reached_linked}
 use Rattle.sc_values.specs.Fitting.{AnswerFits, FrameFits, Gives, HandlerFits, Linked, ReplyFits, WorldFits, coming_to}
 use Rattle.sc_values.specs.Fitting as fitting
@@ -419,7 +419,7 @@ no_frames : (st : List Frame) → IsStack st [] → st ≡ []
 no_frames [] is = refl
 no_frames (f ∷ below) is = absurd (by f.stage is)
   where
-    by : (x : Stage) → IsStaged x f.environment (AreBlocks (NamesOf f.stage f) f.blocks (IsRoutine f (NeedsOf f.stage f) (IsStack below))) [] → ⊥
+    by : (x : Stage) → IsStaged x (place_of f below) (AreBlocks (NamesOf f.stage f) f.blocks (IsRoutine f (NeedsOf f.stage f) (IsStack below))) [] → ⊥
     by Runs i = no_parts (NamesOf f.stage f) f.blocks f (NeedsOf f.stage f) (IsStack below) i.1
     by Reserves i = no_parts (NamesOf f.stage f) f.blocks f (NeedsOf f.stage f) (IsStack below) i.1
     by ReservesBlock i = no_parts (NamesOf f.stage f) f.blocks f (NeedsOf f.stage f) (IsStack below) i.1
@@ -454,7 +454,7 @@ module _ (s : System) (root : Root) (pure : RoutineName → Bool) (faultless : I
       store_fits s pure w h f frame (fits h here).objects_fit,
     )
 
-    steps_so : f.stage ≡ Runs → RefusesNone (moves s f.current (point_of f (w.handlers h).objects)) ⊎
+    pub steps_so : f.stage ≡ Runs → RefusesNone (moves s f.current (point_of f (w.handlers h).objects)) ⊎
         ClauseStep s pure f.routine.contract (formals_known s f.routine.text.formals) (moves s f.current (point_of f (w.handlers h).objects))
     steps_so r = by was
       where
