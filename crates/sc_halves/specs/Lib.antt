@@ -1,3 +1,4 @@
+pub mod Calm
 pub mod Clauses
 pub mod Entries
 pub mod Pure
