@@ -288,7 +288,7 @@ module _ (s : System) (pure : RoutineName → Bool) (r : Routine) (me : Referenc
 
   module _ (t : Text) where
     -- parts of what is evaluated are evaluated
-    part_calm : {c d : Context} {q k : Position} {n : Entities} {e f : Expr} → Part (context_in s pure t) (expression c q n e) (expression d k n f) →
+    pub part_calm : {c d : Context} {q k : Position} {n : Entities} {e f : Expr} → Part (context_in s pure t) (expression c q n e) (expression d k n f) →
         (wants_pure c ≡ true → wants_pure d ≡ true) → is_condition k ≡ false → IsCalm s pure r t c q n e → IsCalm s pure r t d k n f
     part_calm part wants plain (in_body own w) = in_body own (further w (site.inside part site.itself))
     part_calm part wants plain (in_contract own i j b st) = in_contract own (wants i) plain b (part_stands st part)
@@ -325,7 +325,7 @@ module _ (s : System) (pure : RoutineName → Bool) (r : Routine) (me : Referenc
       names_are : scope_of p.environment ≡ n
       types_are : types_of p.values ≡ vs
 
-    has_type : (c : Context) (q : Position) (e : Expr) (y : Typing) → HasType (context_in s pure t) c q n e y → (a : EntityType) × (y.type ≡ Some a)
+    pub has_type : (c : Context) (q : Position) (e : Expr) (y : Typing) → HasType (context_in s pure t) c q n e y → (a : EntityType) × (y.type ≡ Some a)
     has_type c q e y d = some_there y.type (every_typed z.run.declared (in_text s pure r me z.run t own).has_result typed_n d)
 
     heir : class_conforms s (class.Declared me.class) (class.Declared t.class) ≡ true

@@ -70,7 +70,7 @@ no e = cc
 -- ---- turns
 
 -- what is there if it is of the handler
-own_values : (h : ℕ) (objects : List Object) (me : Reference) → IsAmong objects me → HoldsOfOwn (IsThereIfOwn h objects) me
+pub own_values : (h : ℕ) (objects : List Object) (me : Reference) → IsAmong objects me → HoldsOfOwn (IsThereIfOwn h objects) me
 own_values h objects me z = record {
   of_integer = λ z o e. cc;
   of_boolean = λ b o e. cc;
@@ -92,7 +92,7 @@ module _ (s : System) (pure : RoutineName → Bool) (tells : IsPurity s pure) (r
       (a : EntityType) × (y.type ≡ Some a)
   typed_there w c q e y d = some_there y.type (every_typed run.declared run.kept.has_result w d)
 
-  pure_versions : (k : ℕ) (c : ClassId) (x : List ℕ) (f g : DeclaredFeature) → class_conforms s (class.Declared k) c ≡ true → feature_named s c x ≡ Some f →
+  pub pure_versions : (k : ℕ) (c : ClassId) (x : List ℕ) (f g : DeclaredFeature) → class_conforms s (class.Declared k) c ≡ true → feature_named s c x ≡ Some f →
       version_of s k x ≡ Some g → pure (rules.routine_of f) ≡ true → pure (rules.routine_of g) ≡ true
   pure_versions k (class.Declared j) x f g conf there e is = versions_stay_pure s pure (pure_is_closed s pure tells) k j x f g conf there e is
   pure_versions k class.Any x f g conf there e is = cc
@@ -100,7 +100,7 @@ module _ (s : System) (pure : RoutineName → Bool) (tells : IsPurity s pure) (r
   pure_versions k class.Integer x f g conf there e is = cc
   pure_versions k class.Boolean x f g conf there e is = cc
 
-  same_kind : (k : ℕ) (c : ClassId) (x : List ℕ) (f g : DeclaredFeature) → class_conforms s (class.Declared k) c ≡ true → feature_named s c x ≡ Some f →
+  pub same_kind : (k : ℕ) (c : ClassId) (x : List ℕ) (f g : DeclaredFeature) → class_conforms s (class.Declared k) c ≡ true → feature_named s c x ≡ Some f →
       version_of s k x ≡ Some g → is_routine g.feature.kind ≡ true → is_routine f.feature.kind ≡ true
   same_kind k c x f g conf there e is = by (has_version s pure r me run k c x f conf there)
     where
@@ -108,7 +108,7 @@ module _ (s : System) (pure : RoutineName → Bool) (tells : IsPurity s pure) (r
       by v = same_kinds s v.feature.feature.kind f.feature.kind v.fits
           (ap (λ (d : DeclaredFeature). is_routine d.feature.kind) (same_some (sym v.is_there ∙ e)) ∙ is)
 
-  have_classes : (p : Point) → Each (OperandFits s me.handler p.environment) p.values → Each (HasClass s) p.values
+  pub have_classes : (p : Point) → Each (OperandFits s me.handler p.environment) p.values → Each (HasClass s) p.values
   have_classes p fit = each_more (OperandFits s me.handler p.environment) (HasClass s)
       (λ u f q e. (subst (λ (v : Value). Fits s me.handler (handler_named p.environment) v u.type) e f).0) p.values fit
 
@@ -117,7 +117,7 @@ module _ (s : System) (pure : RoutineName → Bool) (tells : IsPurity s pure) (r
       pure_versions same_kind run.kept.heir p z (have_classes p f.0.values_fit)
 
   module _ (objects : List Object) (there : IsAmong objects me) where
-    still_there : (p : Point) → Stays (IsThereIfOwn me.handler objects) objects p → OperandsDo (IsThereIfOwn me.handler p.objects) p.values
+    pub still_there : (p : Point) → Stays (IsThereIfOwn me.handler objects) objects p → OperandsDo (IsThereIfOwn me.handler p.objects) p.values
     still_there p h = each_more (λ (u : Operand). IsThereIfOwn me.handler objects u.value) (λ (u : Operand). IsThereIfOwn me.handler p.objects u.value)
         (λ u f o e i. h.there o (f o e i)) p.values h.values.values_do
 
