@@ -84,9 +84,8 @@ use Rattle.sc_values.proofs.Running.{gives_type, is_run}
 use Rattle.sc_values.proofs.Standing.{IsRun}
 use Rattle.sc_values.proofs.Steps.{step_fits}
 use Rattle.sc_laws.proofs.Machine.{contains_first, contains_later}
-use Rattle.sc_halves.specs.Calm.{InBody, IsCalm, in_body, in_contract, InPure, PureStep, StandsPure}
+use Rattle.sc_halves.specs.Calm.{InBody, IsCalm, in_body, in_contract, InPure, PureBeginPure, PureCallPure, PureStep, StandsPure, name_of}
 use Rattle.sc_halves.specs.Calm as calm
-use Rattle.sc_halves.specs.Started.{name_of}
 use Rattle.sc_halves.proofs.Bodies.{PureRun, has_type, part_calm, pure_step}
 use Rattle.sc_halves.proofs.Clausal.{have_classes, own_values, pure_versions, same_kind}
 use Rattle.sc_halves.proofs.Clauses.{HasClass}
@@ -507,3 +506,9 @@ module _ (s : System) (root : Root) (pure : RoutineName → Bool) (faultless : I
       by : (o : Option DeclaredFeature) → version_of s me.class r.name ≡ o → option_and_then (routine_of s) o ≡ Some r → Begins s pure r me
       by None e j = cc
       by (Some f) e j = of_feature me r.name f r e j p (is_run s root pure faultless well tells r me i)
+
+pub pure_begin_pure : PureBeginPure
+pure_begin_pure s root pure faultless well tells r me i p = (pure_begins s root pure faultless well tells r me i p).1
+
+pub pure_call_pure : PureCallPure
+pure_call_pure s root pure faultless well tells r me i is p f h z = pure_moves s pure r me (pure_begins s root pure faultless well tells r me i is).0 p f h z

@@ -1,4 +1,4 @@
--- Where functions that contracts may call do nothing else, whoever reserves stands on routines that have started.
+-- In each state that is reached, whoever reserves stands on routines that have started.
 use Rattle.std.proofs.Common.{ℕ, ◌≡◌, ◌⊎◌, ◌<◌, ◌≤◌, ◌==◌, ◌&&◌, ◌||◌, not, Bool, true, false, List, [], ◌∷◌, ◌++◌, Option, Some, None, refl, sym, ap, subst, ◌∙◌, inl, inr}
 use Rattle.std.proofs.lemmas.Bool.{eq-eqb, eqb-true, ltb-true, ltb-false, lt-ltb}
 use Rattle.std.specs.Prelude.{if◌then◌else◌, is_some, length, nat_lt}
@@ -17,6 +17,7 @@ use Rattle.sc_rules.specs.Purity.{IsPurity}
 use Rattle.sc_rules.specs.Purity as purity
 use Rattle.sc_rules.specs.SystemRules.{WellFormed}
 use Rattle.sc_rules.specs.Types.{declared_type}
+use Rattle.sc_rules.proofs.PurityStands.{purity_stands}
 use Rattle.sc_lockpass.specs.Rights.{held}
 use Rattle.sc_waitcond.specs.Conditions.{clause_kind, kind_where, lies_on_any, verdict_of_false}
 use Rattle.sc_waitcond.specs.Reservations.{mark_of, reserve_fails}
@@ -54,8 +55,10 @@ use Rattle.sc_laws.proofs.links.Turning.{asked_at, asked_in, asked_on}
 use Rattle.sc_values.specs.Points.{Each}
 use Rattle.sc_halves.specs.Clauses.{ClauseAct, ClauseStep, HasStartedOrStands, RunsPure}
 use Rattle.sc_halves.specs.Entries.{HasStarted, RefusesNone}
-use Rattle.sc_halves.specs.Started.{AllStarted, CalmAct, CalmStep, CalmKeepsOnStarted, EachOnStarted, EachPureIsCalm, ReservesOnStarted, name_of, reserves_next}
+use Rattle.sc_halves.specs.Calm.{CalmStep, name_of}
+use Rattle.sc_halves.specs.Started.{AllStarted, EachOnStarted, ReserversOnStarted, reserves_next}
 use Rattle.sc_halves.proofs.Linking.{one_further, reached_fits}
+use Rattle.sc_halves.proofs.Purely.{each_pure_is_calm}
 use Rattle.sc_halves.proofs.Quiet.{pure_reserve_nothing}
 use Rattle.sc_halves.proofs.Recalling.{IsLeft, Others, AreAlike, put_alike, release_alike, finish_alike, passes_alike, send_alike, dropped_if, fallen_stack, others_alike, others_put, others_new, others_stay, then_left, counted_stack}
 use Rattle.sc_halves.proofs.Unstarted.{each_stands, steps_so}
@@ -429,8 +432,7 @@ started_left : (st : List Frame) → AllStarted st → AllLeft (left_in st)
 started_left [] is = tt
 started_left (f ∷ below) is = (is.0, started_left below is.1)
 
-module _ (s : System) (root : Root) (pure : RoutineName → Bool) (faultless : IsFaultless s root) (well : WellFormed s) (tells : IsPurity s pure) (most : ℕ)
-    (calm : EachPureIsCalm most s root pure) where
+module _ (s : System) (root : Root) (pure : RoutineName → Bool) (faultless : IsFaultless s root) (well : WellFormed s) (tells : IsPurity s pure) (most : ℕ) where
   module _ (h : ℕ) (w : World) (reached : IsReached most s root w) (here : h < w.count) (guarded : Guarded pure (w.handlers h).stack) (paired : Paired LendsStarted w)
       (f : Frame) (below : List Frame) (at : (w.handlers h).stack ≡ f ∷ below) where
     stack_guarded : Guarded pure (f ∷ below)
@@ -480,7 +482,7 @@ module _ (s : System) (root : Root) (pure : RoutineName → Bool) (faultless : I
 
     next : f.stage ≡ Runs → AllStarted below ⊎ IsPure pure f → NextStep s pure h w Ahead f below
     next r (inl all) = on_started all Ahead (steps r)
-    next r (inr z) = as_pure z.1 Ahead (calm w reached h here f below at r z.0)
+    next r (inr z) = as_pure z.1 Ahead (each_pure_is_calm s root pure faultless well tells most w reached h here f below at r z.0)
 
     -- ---- what it lends
 
@@ -510,7 +512,7 @@ module _ (s : System) (root : Root) (pure : RoutineName → Bool) (faultless : I
     lends_nothing (Does Starts p) z = tt
     lends_nothing (Does (CreatesHandler class procedure us t passing) p) z = absurd z
     lends_nothing (Does (Enters c o x us gives) p) z = tt
-    lends_nothing (Does (Requests o x us gives passing) p) z = λ e. no (sym e ∙ z)
+    lends_nothing (Does (Requests o x us gives passing) p) z = absurd z
     lends_nothing (Does (Refuses k) p) z = tt
     lends_nothing (Does Opens p) z = tt
     lends_nothing (Does Leaves p) z = tt
@@ -519,7 +521,7 @@ module _ (s : System) (root : Root) (pure : RoutineName → Bool) (faultless : I
 
     runs_lend : f.stage ≡ Runs → AllStarted below ⊎ IsPure pure f → LendsStarted (asked_in h w.count below Ahead)
     runs_lend r (inl all) = lends_started all Ahead (steps r)
-    runs_lend r (inr z) = lends_nothing Ahead (calm w reached h here f below at r z.0)
+    runs_lend r (inr z) = lends_nothing Ahead (each_pure_is_calm s root pure faultless well tells most w reached h here f below at r z.0)
 
     stage_lends : (x : Stage) → f.stage ≡ x → LendsStarted (asked_at s h w f below x)
     stage_lends Runs e = runs_lend e stack_guarded.0
@@ -622,5 +624,8 @@ module _ (s : System) (root : Root) (pure : RoutineName → Bool) (faultless : I
       by (inl all) = all
       by (inr z) = no (sym reserves ∙ z.2)
 
-pub calm_keeps_on_started : CalmKeepsOnStarted
-calm_keeps_on_started s root pure faultless well tells most calm = on_started_only s root pure faultless well tells most calm
+pub reservers_on_started : ReserversOnStarted
+reservers_on_started s root faultless well most = at (purity_stands s)
+  where
+    at : (pure : RoutineName → Bool) × IsPurity s pure → EachOnStarted most s root
+    at (pure, tells) = on_started_only s root pure faultless well tells most

@@ -1,3 +1,5 @@
+mod Bodies
+mod Callers
 mod Calming
 mod Clausal
 mod Clauses
@@ -6,6 +8,7 @@ mod Granting
 mod Guarding
 mod Keeping
 mod Linking
+mod Purely
 mod Quiet
 mod Reaching
 mod Recalling

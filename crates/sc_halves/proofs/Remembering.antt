@@ -35,6 +35,7 @@ use Rattle.sc_halves.specs.Started.{reserves_next, AllStarted, EachOnStarted}
 use Rattle.sc_halves.specs.Reached.{RemembersEntry, opened, run_beside, RemembersAlong, EntriesAreRemembered, RunsAsHalf}
 use Rattle.sc_halves.proofs.Calming.{moves_calm}
 use Rattle.sc_halves.proofs.Keeping.{entries_stay}
+use Rattle.sc_halves.proofs.Guarding.{reservers_on_started}
 use Rattle.sc_halves.proofs.Linking.{one_further}
 use Rattle.sc_halves.proofs.Reaching.{reached_halves}
 use Rattle.sc_halves.proofs.Recalling.{Recalls, AllRecall, IsLeft, Turned, turn_turned}
@@ -206,15 +207,15 @@ remember_opening n s root k = by (nat_lt k 1)
     by true = (fresh_keeps _ refl refl, tt)
     by false = (fresh_keeps _ refl refl, tt)
 
-run_remembers : (s : System) (root : Root) → IsFaultless s root → WellFormed s → (most : ℕ) (n : Numbering) (hs : List ℕ) → EachOnStarted most s root →
+run_remembers : (s : System) (root : Root) → IsFaultless s root → WellFormed s → (most : ℕ) (n : Numbering) (hs : List ℕ) →
     RemembersAlong most n s hs (runs.opening s root) (opened n s root)
     × IsHalfOf n (run most s hs (runs.opening s root)) (run_beside most n s hs (runs.opening s root) (opened n s root))
-run_remembers s root faultless well most n hs each =
-    along s root faultless well most n each hs (runs.opening s root) (opened n s root) (record { numbers = []; run_is = refl }) (opens n s root)
+run_remembers s root faultless well most n hs =
+    along s root faultless well most n (reservers_on_started s root faultless well most) hs (runs.opening s root) (opened n s root) (record { numbers = []; run_is = refl }) (opens n s root)
     (remember_opening n s root)
 
 pub entries_are_remembered : EntriesAreRemembered
-entries_are_remembered s root faultless well most n hs each = (run_remembers s root faultless well most n hs each).0
+entries_are_remembered s root faultless well most n hs = (run_remembers s root faultless well most n hs).0
 
 pub runs_as_half : RunsAsHalf
-runs_as_half s root faultless well most n hs each = (run_remembers s root faultless well most n hs each).1
+runs_as_half s root faultless well most n hs = (run_remembers s root faultless well most n hs).1

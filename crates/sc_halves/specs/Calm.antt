@@ -1,9 +1,11 @@
 -- Where a function that contracts may call stands, and what it does there.
-use Rattle.std.specs.Prelude.{◌≡◌, ◌⊎◌, ℕ, Bool, true, false, List, [], ◌∷◌, ◌++◌, Option, Some, length, map, Contains}
+use Rattle.std.specs.Prelude.{◌≡◌, ◌⊎◌, ◌<◌, ℕ, Bool, true, false, List, [], ◌∷◌, ◌++◌, Option, Some, length, Contains}
 use Rattle.sc_tree.specs.declared.expression.UnaryOperator.{UnaryOperator}
 use Rattle.sc_tree.specs.declared.expression.BinaryOperator.{BinaryOperator}
-use Rattle.sc_tree.specs.Plain.{System, Clause, Declaration, DeclaredType, Expr, Instrs, Branches, Variable, Instr, Loop}
+use Rattle.sc_tree.specs.Plain.{System, Clause, Declaration, DeclaredType, Expr, Instrs, Branches, Variable, Loop}
 use Rattle.sc_text.specs.declared.token.Span.{Span}
+use Rattle.sc_class.specs.ClassNames.{Root}
+use Rattle.sc_class.specs.Faults.ClassRules.{IsFaultless}
 use Rattle.sc_class.specs.declared.identity.ClassId.TheVariants as class
 use Rattle.sc_class.specs.Tables.Features.{DeclaredFeature, feature_named}
 use Rattle.sc_proctype.specs.declared.entity_type.EntityType.{EntityType}
@@ -14,18 +16,24 @@ use Rattle.sc_rules.specs.declared.position.Position.{Position}
 use Rattle.sc_rules.specs.declared.position.Position.TheVariants.{Plain, Condition}
 use Rattle.sc_rules.specs.declared.position.Role.TheVariants as role
 use Rattle.sc_rules.specs.Positions.{is_and_then, is_condition, wants_pure}
-use Rattle.sc_rules.specs.Names.{RoutineName, Entities, assignee, blocks, current, entity, formals_known, locals_known, signature_of, routine_of, test_type, to_attribute}
+use Rattle.sc_rules.specs.Names.{RoutineName, Entities, blocks, current, entity, formals_known, locals_known, signature_of, routine_of, test_type}
 use Rattle.sc_rules.specs.Laws.{are_declared}
 use Rattle.sc_rules.specs.Sites.{Site, Within, branches, expression, instruction, instructions}
+use Rattle.sc_rules.specs.Purity.{IsPurity}
 use Rattle.sc_rules.specs.SystemLaws.{Stands}
+use Rattle.sc_rules.specs.SystemRules.{WellFormed}
 use Rattle.sc_rules.specs.Types.{binary_type, is_foreign, unary_type}
 use Rattle.sc_rules.specs.Typing.{Gives, HasType, typing}
 use Rattle.sc_model.specs.Environments.{scope_of}
-use Rattle.sc_model.specs.Routines.{Routine, Text, place_in}
-use Rattle.sc_model.specs.Steps.{Act, Enters, Requests, Starts, Tests, Refuses, Exits, Fails, Step, Goes, Does, Point}
-use Rattle.sc_model.specs.Tasks.{Task, ApplyBinary, ApplyUnary, AssignTo, Bind, CallQualified, CallUnqualified, Checked, Choose, Conclude, Declare, Do, EndLoop, Ensured, Eval, EvalRight, Forget, In, KeepOld, Repeat, Require, Required}
-use Rattle.sc_model.specs.Values.{Boolean, Operand}
+use Rattle.sc_model.specs.Handlers.{Frame, Runs, World, point_of}
+use Rattle.sc_model.specs.Moves.{moves}
+use Rattle.sc_model.specs.Routines.{Routine, Text, place_in, routine_named}
+use Rattle.sc_model.specs.Runs.{IsReached}
+use Rattle.sc_model.specs.Steps.{Act, Enters, Starts, Tests, Refuses, Exits, Fails, Step, Goes, Does, Point}
+use Rattle.sc_model.specs.Tasks.{Task, ApplyBinary, ApplyUnary, AssignTo, Bind, CallQualified, CallUnqualified, Checked, Choose, Conclude, Declare, Do, EndLoop, Ensured, Eval, EvalRight, Forget, In, KeepOld, Repeat, Require, Required, tasks_of}
+use Rattle.sc_model.specs.Values.{Boolean, Operand, Reference}
 use Rattle.sc_values.specs.Points.{types_of}
+use Rattle.sc_values.specs.Steps.{IsThereIfOwn, StandsSo, ValuesDo}
 use Rattle.sc_values.specs.Typed.{Extends, context_in, stacked}
 use Rattle.sc_halves.specs.Clauses.{IsPureIfRoutine, RunsPure}
 
@@ -148,10 +156,9 @@ StandsPure s pure r coming p = StandsAt s pure r coming p ⊎ ((coming ≡ []) �
 
 -- ---- what it does
 
--- It calls what contracts may call, lends nothing with a request, and else tests, starts, ends or fails.
+-- It calls what contracts may call, and else tests, starts, is refused, ends or fails.
 abbrev pub PureAct : System → (RoutineName → Bool) → Routine → Act → Point → Type 0
 PureAct s pure r (Enters c o x us gives) p = RunsPure s pure o x × ((a : EntityType) × (gives ≡ Some a) × StandsPure s pure r (a ∷ []) p)
-PureAct s pure r (Requests o x us gives passes) p = (passes ≡ false) × ((a : EntityType) × (gives ≡ Some a) × StandsPure s pure r (a ∷ []) p)
 PureAct s pure r Starts p = StandsPure s pure r [] p
 PureAct s pure r Tests p = StandsPure s pure r [] p
 PureAct s pure r (Refuses k) p = Unit {0}
@@ -162,3 +169,40 @@ PureAct s pure r act p = ⊥
 abbrev pub PureStep : System → (RoutineName → Bool) → Routine → Step → Type 0
 PureStep s pure r (Goes p) = StandsPure s pure r [] p
 PureStep s pure r (Does a p) = PureAct s pure r a p
+
+-- the same, whatever is left to do then
+abbrev pub CalmAct : System → (RoutineName → Bool) → Act → Type 0
+CalmAct s pure (Enters c o x us gives) = RunsPure s pure o x
+CalmAct s pure Starts = Unit {0}
+CalmAct s pure Tests = Unit {0}
+CalmAct s pure (Refuses k) = Unit {0}
+CalmAct s pure Exits = Unit {0}
+CalmAct s pure (Fails why) = Unit {0}
+CalmAct s pure act = ⊥
+
+abbrev pub CalmStep : System → (RoutineName → Bool) → Step → Type 0
+CalmStep s pure (Goes p) = Unit {0}
+CalmStep s pure (Does a p) = CalmAct s pure a
+
+-- ---- laws
+
+-- the routine as the rules name it
+abbrev pub name_of : Routine → RoutineName
+name_of r = record { class = r.text.class; name = r.name }
+
+-- A function that contracts may call begins so, in the text of the contract that it keeps, where its formals alone are known.
+abbrev pub PureBeginPure : Type 0
+PureBeginPure = (s : System) (root : Root) (pure : RoutineName → Bool) → IsFaultless s root → WellFormed s → IsPurity s pure → (r : Routine) (me : Reference) →
+    routine_named s me.class r.name ≡ Some r → pure (name_of r) ≡ true → InPure s pure r (tasks_of r) (at r.contract (formals_known s r.text.formals) [])
+
+-- Where it stands so, and its values fit, its next turn calls what contracts may call, and it stands so again.
+abbrev pub PureCallPure : Type 0
+PureCallPure = (s : System) (root : Root) (pure : RoutineName → Bool) → IsFaultless s root → WellFormed s → IsPurity s pure → (r : Routine) (me : Reference) →
+    routine_named s me.class r.name ≡ Some r → pure (name_of r) ≡ true → (p : Point) → StandsSo s pure r me [] p → ValuesDo (IsThereIfOwn me.handler p.objects) p →
+    StandsPure s pure r [] p → PureStep s pure r (moves s me p)
+
+-- In each state that is reached, the next turn of such a function calls what contracts may call, and does nothing else that others see.
+abbrev pub EachPureIsCalm : Type 0
+EachPureIsCalm = (s : System) (root : Root) (pure : RoutineName → Bool) → IsFaultless s root → WellFormed s → IsPurity s pure → (most : ℕ) (w : World) → IsReached most s root w →
+    (h : ℕ) → h < w.count → (f : Frame) (below : List Frame) → (w.handlers h).stack ≡ f ∷ below → f.stage ≡ Runs → pure (name_of f.routine) ≡ true →
+    CalmStep s pure (moves s f.current (point_of f (w.handlers h).objects))

@@ -19,7 +19,6 @@ use Rattle.sc_request.specs.Halves.{IsHalfOf}
 use Rattle.sc_request.specs.Logs.{opening}
 use Rattle.sc_request.specs.Steps.{stepped}
 use Rattle.sc_values.specs.Values.{WhereAccepted}
-use Rattle.sc_halves.specs.Started.{EachOnStarted}
 
 -- Where the handler's entry finds a clause false and waits, it is the entry that the handler reserved for last.
 abbrev pub RemembersEntry : System → ℕ → machine.World → State → Type 0
@@ -49,12 +48,12 @@ RemembersAlong most n s [] w c = Unit {0}
 RemembersAlong most n s (h ∷ hs) w c =
     RemembersEntry s h w c × RemembersAlong most n s hs (turn most s h w) (stepped most n s h w (job_of h c) c)
 
--- Where whoever reserves stands on routines that have started, each entry that waits is the one that its handler reserved for last.
+-- Each entry that waits is the one that its handler reserved for last.
 abbrev pub EntriesAreRemembered : Type 0
-EntriesAreRemembered = WhereAccepted λ s root. (most : ℕ) (n : Numbering) (hs : List ℕ) → EachOnStarted most s root →
+EntriesAreRemembered = WhereAccepted λ s root. (most : ℕ) (n : Numbering) (hs : List ℕ) →
     RemembersAlong most n s hs (runs.opening s root) (opened n s root)
 
 -- After the turns of any list of handlers the core is the half of the machine.
 abbrev pub RunsAsHalf : Type 0
-RunsAsHalf = WhereAccepted λ s root. (most : ℕ) (n : Numbering) (hs : List ℕ) → EachOnStarted most s root →
+RunsAsHalf = WhereAccepted λ s root. (most : ℕ) (n : Numbering) (hs : List ℕ) →
     IsHalfOf n (run most s hs (runs.opening s root)) (run_beside most n s hs (runs.opening s root) (opened n s root))

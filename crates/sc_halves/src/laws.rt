@@ -1,8 +1,10 @@
 //! Laws of the core beside the machine, each the contract of a function that does nothing.
+ghost use Rattle.sc_halves.specs.Calm.{EachPureIsCalm, PureBeginPure, PureCallPure};
 ghost use Rattle.sc_halves.specs.Clauses.{ClausesCallPure, ClausesComeFirst, EachStandsInClauses};
 ghost use Rattle.sc_halves.specs.Entries.{EntriesStay, StartedStay};
 ghost use Rattle.sc_halves.specs.Pure.{PureReserveNothing};
 ghost use Rattle.sc_halves.specs.Reached.{EntriesAreRemembered, HalvesWhereReached, RunsAsHalf};
+ghost use Rattle.sc_halves.specs.Started.{ReserversOnStarted};
 
 /// In each state that an accepted system reaches, the settlement of a turn leaves the half of the state that the machine steps to, where an entry
 /// that waits is the one that its handler reserved for last.
@@ -11,13 +13,12 @@ pub fn core_settles_as_half_where_reached()
 {}
 
 /// At the turns of any list of handlers, from the opening of an accepted system on, each entry that waits is the one that its handler reserved for
-/// last, where whoever reserves stands on routines that have started.
+/// last.
 pub fn entries_are_remembered()
     ensures { EntriesAreRemembered }
 {}
 
-/// After the turns of any list of handlers, from the opening of an accepted system on, the core is the half of the machine, where whoever reserves
-/// stands on routines that have started.
+/// After the turns of any list of handlers, from the opening of an accepted system on, the core is the half of the machine.
 pub fn core_runs_as_half()
     ensures { RunsAsHalf }
 {}
@@ -52,4 +53,26 @@ pub fn clauses_come_first()
 /// In each state that an accepted system reaches, a routine that has not started stands in its own precondition.
 pub fn unstarted_routines_stand_in_clauses()
     ensures { EachStandsInClauses }
+{}
+
+/// A function that contracts may call begins in its contract, and all that is left to do of it calls what contracts may call.
+pub fn pure_functions_begin_pure()
+    ensures { PureBeginPure }
+{}
+
+/// Its next turn calls what contracts may call, or tests, starts, is refused, ends or fails, and it goes on so.
+pub fn pure_functions_call_pure()
+    ensures { PureCallPure }
+{}
+
+/// In each state that an accepted system reaches, the next turn of a function that contracts may call calls such a function, or tests, starts, is
+/// refused, ends or fails.
+pub fn pure_functions_stay_calm()
+    ensures { EachPureIsCalm }
+{}
+
+/// In each state that an accepted system reaches, whoever reserves stands on routines that have started: it wasn't called for a clause of a
+/// precondition.
+pub fn reservers_stand_on_started()
+    ensures { ReserversOnStarted }
 {}
