@@ -1,5 +1,5 @@
 -- What is left to do of a function that contracts may call: each step keeps it, and calls what contracts may call.
-use Rattle.std.proofs.Common.{ℕ, ℤ, zero, suc, ◌≡◌, ◌⊎◌, ◌==◌, ◌&&◌, ◌||◌, ◌+◌, not, Bool, true, false, List, [], ◌∷◌, ◌++◌, Option, Some, None, Ok, Err, refl, sym, ap, subst, ◌∙◌, inl, inr, append_assoc, append-nil}
+use Rattle.std.proofs.Common.{ℕ, ℤ, suc, ◌≡◌, ◌⊎◌, ◌==◌, ◌&&◌, ◌||◌, ◌+◌, not, Bool, true, false, List, [], ◌∷◌, ◌++◌, Option, Some, None, Ok, Err, refl, sym, ap, subst, ◌∙◌, inl, inr, append_assoc, append-nil}
 use Rattle.std.specs.Prelude.{if◌then◌else◌, is_some, length, slice_get, take, Contains}
 use Rattle.std.specs.Option.{option_and_then, option_map}
 use Rattle.sc_formula.specs.declared.arithmetic.ArithmeticFault.TheVariants as fault
@@ -18,7 +18,7 @@ use Rattle.sc_tree.specs.Plain.{System, Branches, Clause, Creation, Declaration,
 use Rattle.sc_tree.specs.Properties.{is_print}
 use Rattle.sc_class.specs.declared.identity.ClassId.{ClassId}
 use Rattle.sc_class.specs.declared.identity.ClassId.TheVariants as class
-use Rattle.sc_class.specs.Tables.Conformance.{is_expanded, class_conforms}
+use Rattle.sc_class.specs.Tables.Conformance.{class_conforms}
 use Rattle.sc_class.specs.Tables.Features.{DeclaredFeature, feature_named}
 use Rattle.sc_proctype.specs.declared.tag.Tag.{Tag}
 use Rattle.sc_proctype.specs.declared.tag.Tag.TheVariants as tag
@@ -32,7 +32,7 @@ use Rattle.sc_rules.specs.declared.position.Role.TheVariants as role
 use Rattle.sc_rules.specs.declared.position.Use.TheVariants.{Instruction}
 use Rattle.sc_rules.specs.CallRules.{count}
 use Rattle.sc_rules.specs.Laws.{are_declared, are_typed}
-use Rattle.sc_rules.specs.Positions.{is_and_then, is_condition, may_give, operand_context, operand_position, shares_names, wants_pure}
+use Rattle.sc_rules.specs.Positions.{is_and_then, is_condition, may_give, operand_position, shares_names, wants_pure}
 use Rattle.sc_rules.specs.Names.{RoutineName, Assignee, Entities, FormalType, Signature, assignee, blocks, current, entity, entity_or, formals_known, given_type, locals_known, meaning_of, meaning_of_feature, named, print_signature, routine_of, signature_of, signature_of_kind, test_type, to_attribute, to_local, unassignable, unknown_assignee, unqualified_meaning}
 use Rattle.sc_rules.specs.Names as rules
 use Rattle.sc_rules.specs.Purity as purity
@@ -41,32 +41,31 @@ use Rattle.sc_rules.specs.Sites as site
 use Rattle.sc_rules.specs.Sites.{IsActual, Part, Site, Within, branches, expression, first_actual, instruction, instructions, later_actual}
 use Rattle.sc_rules.specs.SystemLaws as laws
 use Rattle.sc_rules.specs.SystemLaws.{MayBeCalled, Stands}
-use Rattle.sc_rules.specs.Types.{binary_result, binary_type, declared_type, gives_if, is_boolean, is_comparable, is_controlled, is_foreign, is_integer, unary_result, unary_type}
+use Rattle.sc_rules.specs.Types.{binary_result, binary_type, declared_type, is_boolean, is_comparable, is_controlled, is_foreign, is_integer, unary_result, unary_type}
 use Rattle.sc_rules.specs.Typing as typing
 use Rattle.sc_rules.specs.Typing.{Gives, HasReceiver, HasType, HasTypes, Typing, is_foreign_type, is_testable, may_call, may_target, typing, types}
 use Rattle.sc_rules.proofs.CallLaws.{calls_stand_lem}
 use Rattle.sc_rules.proofs.EachTyped.{each_is_typed_lem}
-use Rattle.sc_rules.proofs.TypeLaws.{one_type}
 use Rattle.sc_rules.proofs.Typings.{every_typed, gives_typed}
 use Rattle.sc_rules.proofs.WellFormed.{further}
 use Rattle.sc_model.specs.declared.cause.Cause.{Cause}
 use Rattle.sc_model.specs.declared.cause.Cause.TheVariants as cause
 use Rattle.sc_model.specs.Values.{Reference, Value, Integer, Boolean, Void, Attached, Operand, operand}
-use Rattle.sc_model.specs.Environments.{Binding, assigned_to, bind, binding_named, handler_named, known_of, locals_bound, scope_of}
+use Rattle.sc_model.specs.Environments.{Binding, bind, binding_named, handler_named, known_of, scope_of}
 use Rattle.sc_model.specs.Objects.{Object, object_numbered, attributes_of}
 use Rattle.sc_model.specs.ObjectTests.{binds, binds_if, is_tested}
 use Rattle.sc_model.specs.Operators.{arithmetic_of, comparison_of, connective_of, identity_of, is_short}
 use Rattle.sc_model.specs.Olds.{olds_in}
 use Rattle.sc_model.specs.Routines.{Routine, Text, place_in, version_of}
-use Rattle.sc_model.specs.Tasks.{Task, ApplyBinary, ApplyUnary, AssignTo, Bind, CallQualified, CallUnqualified, Checked, Choose, Conclude, Declare, Do, EndLoop, Ensured, Eval, EvalRight, Forget, In, KeepOld, Repeat, Require, Required, checks, evals}
-use Rattle.sc_model.specs.Steps.{Point, Step, Goes, Does, fails, comes, forgets, gives, gives_integer, gives_boolean, reads_as, reads_attribute, popped}
+use Rattle.sc_model.specs.Tasks.{Task, ApplyUnary, AssignTo, Bind, CallQualified, CallUnqualified, Choose, Conclude, Do, EndLoop, Eval, EvalRight, Repeat, Require, Required, checks, evals}
+use Rattle.sc_model.specs.Steps.{Point, Step, fails, comes, forgets, gives, reads_as, reads_attribute, popped}
 use Rattle.sc_model.specs.Calls.{passes_rights, given_by, enters_unqualified, calls_own, calls_unqualified, calls_kind, calls_version, requests, calls_object, calls_on, calls_qualified}
 use Rattle.sc_model.specs.Expressions.{gives_outcome, gives_truth, apply_unary, apply_to_integers, apply_to_booleans, is_same_object, apply_binary, decided_by, evals_right, concludes, gives_found, reads_result, reads_own, begins_kind, begins_feature, begins_name, evaluate}
 use Rattle.sc_model.specs.Instructions.{assigns, begins, chooses, chooses_other, ends_loop, required, tests}
 use Rattle.sc_model.specs.Creations.{assigned_at}
-use Rattle.sc_model.specs.Moves.{performs, performs_on, step_at, step}
+use Rattle.sc_model.specs.Moves.{performs, step_at, step}
 use Rattle.sc_values.specs.Places.{is_routine}
-use Rattle.sc_values.specs.Points.{Each, PointFits, types_of}
+use Rattle.sc_values.specs.Points.{Each, types_of}
 use Rattle.sc_values.specs.Steps.{StandsSo}
 use Rattle.sc_values.specs.Typed.{Extends, context_in, stacked}
 use Rattle.sc_values.proofs.Applying.{gives_is}
@@ -76,6 +75,7 @@ use Rattle.sc_values.proofs.Choices.{given_there, part_stands}
 use Rattle.sc_values.proofs.Conditions.{and_then_is, forgotten}
 use Rattle.sc_values.proofs.Environments.{extends_further, extends_itself}
 use Rattle.sc_values.proofs.Free.{gives_extend, gives_one}
+use Rattle.sc_values.proofs.Lists.{same_some}
 use Rattle.sc_values.proofs.Locals.{locals_fit}
 use Rattle.sc_values.proofs.Names.{FeatureMeant, all_typed, feature_meant, same_meaning, named_alike, some_there, unary_there, binary_there}
 use Rattle.sc_values.proofs.Standing.{BaseOf, IsRun, in_text}
@@ -83,14 +83,11 @@ use Rattle.sc_values.proofs.Tests.{scope_append}
 use Rattle.sc_laws.proofs.Machine.{contains_first, contains_later}
 use Rattle.sc_halves.specs.Calm.{InBody, IsCalm, in_body, in_contract, Ahead, at, after, InPure, StandsAt, Came, StandsAfter, StandsPure, PureAct, PureStep}
 use Rattle.sc_halves.specs.Calm as calm
-use Rattle.sc_halves.specs.Clauses.{IsPureIfRoutine, RunsPure}
-use Rattle.sc_halves.proofs.Clauses.{HasClass}
+use Rattle.sc_halves.specs.Clauses.{IsPureIfRoutine}
+use Rattle.sc_halves.proofs.Clauses.{HasClass, plain_operand, popped_more}
 
 no : {A : Type 0} → false ≡ true → A
 no e = cc
-
-same_some : {A : Type 0} {x y : A} → Some x ≡ Some y → x ≡ y
-same_some e = cc
 
 -- ---- what operators give
 
@@ -206,30 +203,13 @@ unary_is unary.Not a b e = (λ i. (gives_is (is_boolean a.class) boolean b e).1,
 unary_is unary.Plus a b e = (λ i. cc, λ f g. (gives_is (is_integer a.class) integer b e).1)
 unary_is unary.Minus a b e = (λ i. cc, λ f g. (gives_is (is_integer a.class) integer b e).1)
 
--- INTEGER and BOOLEAN have no features
+-- outside of conditions no names are shared
 not_joined : (q : Position) (op : BinaryOperator) → (is_condition q ≡ true → is_and_then op ≡ false) → shares_names q op ≡ true → ⊥
 not_joined Plain op e f = no f
 not_joined Source op e f = no f
 not_joined Condition op e f = no (sym (e refl) ∙ f)
 
-plain_operand : (op : BinaryOperator) → is_condition (operand_position op) ≡ false
-plain_operand binary.Equal = refl
-plain_operand binary.NotEqual = refl
-plain_operand op = refl
-
 -- ---- values that lie there
-
-same_pair : {A B : Type 0} (a c : A) (b d : B) → ◌≡◌ {A = Option (A × B)} (Some (a, b)) (Some (c, d)) → (a ≡ c) × (b ≡ d)
-same_pair {A} {B} a c b d e = let q : ◌≡◌ {A = A × B} (a, b) (c, d) = cc in (ap (λ p. p.0) q, ap (λ p. p.1) q)
-
-popped_more : (n : ℕ) (acc vs ws : List Operand) (u : Operand) (rest : List Operand) → popped n acc vs ≡ Some (ws, u ∷ rest) → popped (suc n) acc vs ≡ Some (u ∷ ws, rest)
-popped_more zero acc [] ws u rest e = let q : [] ≡ u ∷ rest = (same_pair acc ws [] (u ∷ rest) e).1 in cc
-popped_more zero acc (v ∷ vs) ws u rest e =
-    let p = same_pair acc ws (v ∷ vs) (u ∷ rest) e in
-    let q : acc ≡ ws = p.0 in let z : v ∷ vs ≡ u ∷ rest = p.1 in let r : v ≡ u = cc in let t : vs ≡ rest = cc in
-    ap (λ (v : Operand). Some (v ∷ acc, vs)) r ∙ ap (λ (ws : List Operand). Some (u ∷ ws, vs)) q ∙ ap (λ (vs : List Operand). Some (u ∷ ws, vs)) t
-popped_more (suc n) acc [] ws u rest e = cc
-popped_more (suc n) acc (v ∷ vs) ws u rest e = popped_more n (v ∷ acc) vs ws u rest e
 
 -- the actuals in the order of the text, and what lies under them
 record Pops (P : Operand → Type 0) (ts us : List EntityType) (vs : List Operand) : Type 0 where
@@ -256,10 +236,6 @@ pops P (a ∷ ts) us vs are each = by (pops P ts (a ∷ us) vs are each)
 
     by : Pops P ts (a ∷ us) vs → Pops P (a ∷ ts) us vs
     by z = of_below z.actuals z.below z.popped_is z.below_are z.each
-
-abbrev somes : List EntityType → List (Option EntityType)
-somes [] = []
-somes (t ∷ ts) = Some t ∷ somes ts
 
 -- ---- what is known of the routine
 
@@ -859,9 +835,23 @@ module _ (s : System) (pure : RoutineName → Bool) (r : Routine) (me : Referenc
       types_are = b.types_are;
     })
     assigns_fine (tree.Named x) (to_attribute u) v p b k = inl (record {
-      text = t; names = n; types = []; text_is = b.text_is; names_are = b.names_are; left = k; types_are = b.types_are })
+      text = t;
+      names = n;
+      types = [];
+      text_is = b.text_is;
+      names_are = b.names_are;
+      left = k;
+      types_are = b.types_are;
+    })
     assigns_fine (tree.ResultVariable q) (to_local (Some u)) v p b k = inl (record {
-      text = t; names = n; types = []; text_is = b.text_is; names_are = b.names_are; left = k; types_are = b.types_are })
+      text = t;
+      names = n;
+      types = [];
+      text_is = b.text_is;
+      names_are = b.names_are;
+      left = k;
+      types_are = b.types_are;
+    })
     assigns_fine (tree.Named x) unknown_assignee v p b k = tt
     assigns_fine (tree.Named x) unassignable v p b k = tt
     assigns_fine (tree.ResultVariable q) unknown_assignee v p b k = tt
@@ -877,35 +867,41 @@ module _ (s : System) (pure : RoutineName → Bool) (r : Routine) (me : Referenc
         (by (is_tested s me.handler (handler_named p.environment) u.value d b'))
       where
         by : (c : Bool) → Fine (binds_if c x u.value b' p)
-        by true = inr (refl, record {
-          text = t;
-          low = n;
-          high = n ++ entity x (Some b') role.Test ∷ [];
-          types = vs;
-          value = operand (Boolean true) boolean;
-          others = p.values;
-          text_is = b.text_is;
-          values_are = refl;
-          came = record {
-            held = λ e. scope_append p.environment (bind x b' role.Test u.value) ∙ ap (λ (ns : Entities). ns ++ entity x (Some b') role.Test ∷ []) b.names_are;
-            denied = λ f. absurd (f refl);
-          };
-          left = k;
-          types_are = b.types_are;
-        })
-        by false = inr (refl, record {
-          text = t;
-          low = n;
-          high = n ++ entity x (Some b') role.Test ∷ [];
-          types = vs;
-          value = operand (Boolean false) boolean;
-          others = p.values;
-          text_is = b.text_is;
-          values_are = refl;
-          came = record { held = λ e. cc; denied = λ f. subst (Extends n) (sym b.names_are) (extends_itself n) };
-          left = k;
-          types_are = b.types_are;
-        })
+        by true = inr (
+          refl,
+          record {
+            text = t;
+            low = n;
+            high = n ++ entity x (Some b') role.Test ∷ [];
+            types = vs;
+            value = operand (Boolean true) boolean;
+            others = p.values;
+            text_is = b.text_is;
+            values_are = refl;
+            came = record {
+              held = λ e. scope_append p.environment (bind x b' role.Test u.value) ∙ ap (λ (ns : Entities). ns ++ entity x (Some b') role.Test ∷ []) b.names_are;
+              denied = λ f. absurd (f refl);
+            };
+            left = k;
+            types_are = b.types_are;
+          },
+        )
+        by false = inr (
+          refl,
+          record {
+            text = t;
+            low = n;
+            high = n ++ entity x (Some b') role.Test ∷ [];
+            types = vs;
+            value = operand (Boolean false) boolean;
+            others = p.values;
+            text_is = b.text_is;
+            values_are = refl;
+            came = record { held = λ e. cc; denied = λ f. subst (Extends n) (sym b.names_are) (extends_itself n) };
+            left = k;
+            types_are = b.types_are;
+          },
+        )
 
   -- ---- a step
 
@@ -967,38 +963,44 @@ module _ (s : System) (pure : RoutineName → Bool) (r : Routine) (me : Referenc
         left = calm.condition c there d g (calm.conclude_condition x k);
         types_are = values;
       })
-      by false j = inr (refl, record {
-        text = t;
-        low = n;
-        high = o;
-        types = vs;
-        value = operand (Boolean false) boolean;
-        others = p.values;
-        text_is = text_is;
-        values_are = refl;
-        came = record { held = λ f. absurd (false_true f); denied = λ f. came.denied (λ f. false_true (sym j ∙ f)) };
-        left = k;
-        types_are = values;
-      })
+      by false j = inr (
+        refl,
+        record {
+          text = t;
+          low = n;
+          high = o;
+          types = vs;
+          value = operand (Boolean false) boolean;
+          others = p.values;
+          text_is = text_is;
+          values_are = refl;
+          came = record { held = λ f. absurd (false_true f); denied = λ f. came.denied (λ f. false_true (sym j ∙ f)) };
+          left = k;
+          types_are = values;
+        },
+      )
 
   concludes_condition : (t : Text) (n m o : Entities) (vs : List EntityType) (u : Operand) (p : Point) → p.text ≡ t → types_of p.values ≡ vs → Came m o u p → Extends n m →
       InPure s pure r p.tasks (after t n o vs) → Fine (concludes u.value p)
   concludes_condition t n m o vs u p text_is values came x k = by u.value refl
     where
       by : (y : Value) → u.value ≡ y → Fine (concludes y p)
-      by (Boolean b) e = inr (refl, record {
-        text = t;
-        low = n;
-        high = o;
-        types = vs;
-        value = operand (Boolean b) boolean;
-        others = p.values;
-        text_is = text_is;
-        values_are = refl;
-        came = record { held = λ f. came.held (e ∙ f); denied = λ f. extends_further n m (scope_of p.environment) x (came.denied (λ i. f (sym e ∙ i))) };
-        left = k;
-        types_are = values;
-      })
+      by (Boolean b) e = inr (
+        refl,
+        record {
+          text = t;
+          low = n;
+          high = o;
+          types = vs;
+          value = operand (Boolean b) boolean;
+          others = p.values;
+          text_is = text_is;
+          values_are = refl;
+          came = record { held = λ f. came.held (e ∙ f); denied = λ f. extends_further n m (scope_of p.environment) x (came.denied (λ i. f (sym e ∙ i))) };
+          left = k;
+          types_are = values;
+        },
+      )
       by (Integer y) e = tt
       by Void e = tt
       by (Attached y) e = tt
@@ -1015,10 +1017,11 @@ module _ (s : System) (pure : RoutineName → Bool) (r : Routine) (me : Referenc
       chooses_fine t in_own d is bs other low high u (record p { tasks = k; values = us }) base text_is values
       (record { held = came.held; denied = came.denied }) e x w v o f
 
-  -- elsewhere
+  -- the first type and the others
   first_is : (a u : EntityType) (as' us : List EntityType) → u ∷ us ≡ a ∷ as' → (u ≡ a) × (us ≡ as')
   first_is a u as' us e = (cc, cc)
 
+  -- where nothing is to be decided by a condition
   at_fine : (t : Text) (own : (t ≡ r.text) ⊎ (t ≡ r.contract)) (n : Entities) (typed_n : are_typed n ≡ true) (as' : List EntityType) (ts : List Task) (vs : List Operand) (p : Point) →
       BaseOf s r me p → p.text ≡ t → scope_of p.environment ≡ n → types_of vs ≡ as' → Each (HasClass s) vs → Truths ts vs → Olds ts p → InPure s pure r ts (at t n as') →
       Fine (step_at s me ts (record p { tasks = ts; values = vs }))

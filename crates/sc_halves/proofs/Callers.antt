@@ -1,24 +1,21 @@
 -- A function that contracts may call begins with what contracts may call, and its turns keep to it.
 use Rattle.std.proofs.lemmas.Bool.{ltb-true}
-use Rattle.std.proofs.Common.{ℕ, zero, suc, ◌≡◌, ◌⊎◌, ◌==◌, ◌&&◌, ◌||◌, ◌+◌, not, Bool, true, false, List, [], ◌∷◌, ◌++◌, Option, Some, None, refl, sym, ap, subst, ◌∙◌, inl, inr, append_assoc, arith}
-use Rattle.std.specs.Prelude.{if◌then◌else◌, is_some, length, nat_lt, slice_get, Contains}
+use Rattle.std.proofs.Common.{ℕ, zero, suc, ◌≡◌, ◌&&◌, ◌||◌, ◌+◌, not, Bool, true, false, List, [], ◌∷◌, ◌++◌, Option, Some, None, refl, sym, ap, subst, ◌∙◌, inr, append_assoc, arith}
+use Rattle.std.specs.Prelude.{is_some, length, nat_lt, slice_get, Contains}
 use Rattle.std.specs.List.{list_all}
-use Rattle.std.specs.Option.{option_and_then, option_map}
+use Rattle.std.specs.Option.{option_and_then}
 use Rattle.sc_text.proofs.Classes.{and_true}
 use Rattle.sc_text.specs.declared.token.Span.{Span}
-use Rattle.sc_tree.specs.declared.expression.UnaryOperator.{UnaryOperator}
 use Rattle.sc_tree.specs.declared.expression.UnaryOperator.TheVariants as unary
 use Rattle.sc_tree.specs.declared.expression.BinaryOperator.{BinaryOperator}
-use Rattle.sc_tree.specs.declared.expression.BinaryOperator.TheVariants as binary
 use Rattle.sc_tree.specs.Plain as tree
 use Rattle.sc_tree.specs.Plain.{System, Clause, Declaration, DeclaredType, Expr, Exprs, FeatureKind, HandlerTag, HandlerOf, Own, RoutineDeclaration, Separate}
 use Rattle.sc_class.specs.ClassNames.{Root}
 use Rattle.sc_class.specs.Faults.ClassRules.{IsFaultless}
 use Rattle.sc_class.specs.Faults.Redefinition.{is_same_formal, is_same_formals}
-use Rattle.sc_class.specs.declared.identity.ClassId.{ClassId}
 use Rattle.sc_class.specs.declared.identity.ClassId.TheVariants as class
-use Rattle.sc_class.specs.Tables.Conformance.{class_conforms, is_same_mark, is_same_tag, is_same_type}
-use Rattle.sc_class.specs.Tables.Features.{DeclaredFeature, declared_features, feature_named, named_among}
+use Rattle.sc_class.specs.Tables.Conformance.{is_same_mark, is_same_tag, is_same_type}
+use Rattle.sc_class.specs.Tables.Features.{DeclaredFeature, declared_features, named_among}
 use Rattle.sc_class.specs.Tables.Heirs.{HasOrigin, StandsInText}
 use Rattle.sc_class.proofs.Standing.{found_stands}
 use Rattle.sc_proctype.specs.declared.entity_type.EntityType.{EntityType}
@@ -32,7 +29,7 @@ use Rattle.sc_rules.specs.declared.position.Position.TheVariants.{Condition, Pla
 use Rattle.sc_rules.specs.Laws.{AllDeclared, are_declared, are_typed, is_declared, is_result_declared}
 use Rattle.sc_rules.specs.Names.{Entities, RoutineName, blocks, context_of, formal_entities, formals_known, known_in_body, locals_known}
 use Rattle.sc_rules.specs.Names as rules
-use Rattle.sc_rules.specs.Positions.{is_and_then, is_condition, is_ensure, is_old, operand_context, operand_position, shares_names, wants_pure}
+use Rattle.sc_rules.specs.Positions.{is_and_then, is_condition, is_ensure, shares_names, wants_pure}
 use Rattle.sc_rules.specs.Purity.{IsClosed, IsPurity, is_pure_candidate, is_pure_candidate_if_any, no_candidate, reserves}
 use Rattle.sc_rules.specs.Purity as purity
 use Rattle.sc_rules.specs.PurityLaws.{StandsInBody}
@@ -43,7 +40,7 @@ use Rattle.sc_rules.specs.Sites.{IsActual, Part, Site, Within, expression, first
 use Rattle.sc_rules.specs.SystemLaws as laws
 use Rattle.sc_rules.specs.SystemLaws.{Stands, stands_in}
 use Rattle.sc_rules.specs.SystemRules.{WellFormed}
-use Rattle.sc_rules.specs.Types.{binary_type, gives_if, is_boolean, is_controlled, is_controlled_tag, is_foreign, is_nameable, is_own, is_separate}
+use Rattle.sc_rules.specs.Types.{binary_type, is_boolean, is_controlled, is_controlled_tag, is_foreign, is_nameable, is_own, is_separate}
 use Rattle.sc_rules.specs.Typing as typing
 use Rattle.sc_rules.specs.Typing.{HasType, HasTypes, Typing, typing}
 use Rattle.sc_rules.specs.Versions.{Keeps, TextStands, keeps, texts}
@@ -53,7 +50,7 @@ use Rattle.sc_rules.proofs.PurityLaws.{pure_is_closed}
 use Rattle.sc_rules.proofs.ScopedSites.{tags_name_known}
 use Rattle.sc_rules.proofs.TextsStand.{texts_stand}
 use Rattle.sc_rules.proofs.TypeLaws.{declared, names_typed, one_type}
-use Rattle.sc_rules.proofs.Typings.{every_typed, named_declared}
+use Rattle.sc_rules.proofs.Typings.{named_declared}
 use Rattle.sc_rules.proofs.Versions.{contracts_are_kept}
 use Rattle.sc_rules.proofs.WellFormed.{further}
 use Rattle.sc_model.specs.Environments.{handler_named, is_formal, scope_of}
@@ -65,22 +62,20 @@ use Rattle.sc_model.specs.Routines.{Routine, Text, origin_of, place_in, routine_
 use Rattle.sc_model.specs.Sizes.{size}
 use Rattle.sc_model.specs.Steps.{Does, Goes, Point, Step}
 use Rattle.sc_model.specs.Tasks.{Task, Declare, Do, Eval, EvalRight, Forget, In, ensures, keeps_olds, requires, tasks_of}
-use Rattle.sc_model.specs.Values.{Boolean, Operand, Reference, Value, operand}
+use Rattle.sc_model.specs.Values.{Boolean, Operand, Reference, operand}
 use Rattle.sc_values.specs.Points.{Agrees, Each, IsAmong, PointFits, types_of}
 use Rattle.sc_values.specs.Points as point
-use Rattle.sc_values.specs.Steps.{IsThereIfOwn, OperandsDo, StandsSo, StepFits, ValuesDo}
+use Rattle.sc_values.specs.Steps.{IsThereIfOwn, StandsSo, StepFits, ValuesDo}
 use Rattle.sc_values.specs.Typed.{Extends, IsTyped, Known, context_in}
 use Rattle.sc_values.specs.Typed as typed
 use Rattle.sc_values.proofs.Applying.{gives_is, plain_operand}
-use Rattle.sc_values.proofs.Choices.{part_stands}
 use Rattle.sc_values.proofs.Conditions.{and_then_is}
 use Rattle.sc_values.proofs.Free.{freely}
 use Rattle.sc_values.proofs.Lists.{both, each_append, each_more, same_some}
-use Rattle.sc_values.proofs.Names.{some_there}
 use Rattle.sc_values.proofs.Operators.{boolean_value}
 use Rattle.sc_values.proofs.Origins.{origin_is}
-use Rattle.sc_values.proofs.References.{HoldsOfOwn, Stays, StepStays, step_stays}
-use Rattle.sc_values.proofs.Running.{gives_type, is_run}
+use Rattle.sc_values.proofs.References.{Stays, StepStays, step_stays}
+use Rattle.sc_values.proofs.Running.{is_run}
 use Rattle.sc_values.proofs.Standing.{IsRun}
 use Rattle.sc_values.proofs.Steps.{step_fits}
 use Rattle.sc_laws.proofs.Machine.{contains_first, contains_later}
@@ -88,7 +83,6 @@ use Rattle.sc_halves.specs.Calm.{InBody, IsCalm, in_body, in_contract, InPure, P
 use Rattle.sc_halves.specs.Calm as calm
 use Rattle.sc_halves.proofs.Bodies.{PureRun, has_type, part_calm, pure_step}
 use Rattle.sc_halves.proofs.Clausal.{have_classes, own_values, pure_versions, same_kind}
-use Rattle.sc_halves.proofs.Clauses.{HasClass}
 
 no : {A : Type 0} → false ≡ true → A
 no e = cc

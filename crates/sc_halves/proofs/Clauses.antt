@@ -106,17 +106,17 @@ not_joined Plain op e f = no f
 not_joined Source op e f = no f
 not_joined Condition op e f = no (sym e)
 
-plain_operand : (op : BinaryOperator) → is_condition (operand_position op) ≡ false
+pub plain_operand : (op : BinaryOperator) → is_condition (operand_position op) ≡ false
 plain_operand binary.Equal = refl
 plain_operand binary.NotEqual = refl
 plain_operand op = refl
 
 -- ---- values that lie there
 
-same_pair : {A B : Type 0} (a c : A) (b d : B) → ◌≡◌ {A = Option (A × B)} (Some (a, b)) (Some (c, d)) → (a ≡ c) × (b ≡ d)
+pub same_pair : {A B : Type 0} (a c : A) (b d : B) → ◌≡◌ {A = Option (A × B)} (Some (a, b)) (Some (c, d)) → (a ≡ c) × (b ≡ d)
 same_pair {A} {B} a c b d e = let q : ◌≡◌ {A = A × B} (a, b) (c, d) = cc in (ap (λ p. p.0) q, ap (λ p. p.1) q)
 
-popped_more : (n : ℕ) (acc vs ws : List Operand) (u : Operand) (rest : List Operand) → popped n acc vs ≡ Some (ws, u ∷ rest) → popped (suc n) acc vs ≡ Some (u ∷ ws, rest)
+pub popped_more : (n : ℕ) (acc vs ws : List Operand) (u : Operand) (rest : List Operand) → popped n acc vs ≡ Some (ws, u ∷ rest) → popped (suc n) acc vs ≡ Some (u ∷ ws, rest)
 popped_more zero acc [] ws u rest e = let q : [] ≡ u ∷ rest = (same_pair acc ws [] (u ∷ rest) e).1 in cc
 popped_more zero acc (v ∷ vs) ws u rest e =
     let p = same_pair acc ws (v ∷ vs) (u ∷ rest) e in

@@ -1,6 +1,6 @@
 -- In each state that is reached, whoever reserves stands on routines that have started.
-use Rattle.std.proofs.Common.{ℕ, ◌≡◌, ◌⊎◌, ◌<◌, ◌≤◌, ◌==◌, ◌&&◌, ◌||◌, not, Bool, true, false, List, [], ◌∷◌, ◌++◌, Option, Some, None, refl, sym, ap, subst, ◌∙◌, inl, inr}
-use Rattle.std.proofs.lemmas.Bool.{eq-eqb, eqb-true, ltb-true, ltb-false, lt-ltb}
+use Rattle.std.proofs.Common.{ℕ, ◌≡◌, ◌⊎◌, ◌<◌, ◌==◌, ◌&&◌, ◌||◌, not, Bool, true, false, List, [], ◌∷◌, Option, Some, None, refl, sym, ap, subst, ◌∙◌, inl, inr}
+use Rattle.std.proofs.lemmas.Bool.{eq-eqb, eqb-true, ltb-true, lt-ltb}
 use Rattle.std.specs.Prelude.{if◌then◌else◌, is_some, length, nat_lt}
 use Rattle.std.specs.List.{list_any}
 use Rattle.std.specs.Option.{option_and_then, option_map, option_map_or}
@@ -34,7 +34,7 @@ use Rattle.sc_model.specs.Objects.{Object, object_numbered, fresh_object}
 use Rattle.sc_model.specs.Invariants.{meets_invariant}
 use Rattle.sc_model.specs.Routines.{Routine, version_of, routine_named, routine_of, routine_from, routine_with, origin_of}
 use Rattle.sc_model.specs.Tasks.{Task, tasks_of}
-use Rattle.sc_model.specs.Steps.{Calling, Act, Prints, Tests, Creates, CreatesHandler, Enters, Requests, Starts, Refuses, Opens, Leaves, Exits, Fails, Step, Goes, Does, Point}
+use Rattle.sc_model.specs.Steps.{Act, Prints, Tests, Creates, CreatesHandler, Enters, Requests, Starts, Refuses, Opens, Leaves, Exits, Fails, Step, Goes, Does}
 use Rattle.sc_model.specs.Moves.{moves}
 use Rattle.sc_model.specs.Handlers.{Errand, Calls, Makes, Request, Answer, Reply, Failed, Refused, Origin, Called, Requested, Stage, Runs, Reserves, ReservesBlock, InCall, Awaits, Frame, Handler, World, new_handler, point_of, frame_at, put, with_stack}
 use Rattle.sc_model.specs.Sessions.{standing_in, release}
@@ -52,8 +52,7 @@ use Rattle.sc_laws.specs.Stands.{left_in}
 use Rattle.sc_laws.proofs.Lending.{Lent, callback_lent}
 use Rattle.sc_laws.proofs.links.Reached.{Paired, opening_paired, turn_paired}
 use Rattle.sc_laws.proofs.links.Turning.{asked_at, asked_in, asked_on}
-use Rattle.sc_values.specs.Points.{Each}
-use Rattle.sc_halves.specs.Clauses.{ClauseAct, ClauseStep, HasStartedOrStands, RunsPure}
+use Rattle.sc_halves.specs.Clauses.{ClauseStep, RunsPure}
 use Rattle.sc_halves.specs.Entries.{HasStarted, RefusesNone}
 use Rattle.sc_halves.specs.Calm.{CalmStep, name_of}
 use Rattle.sc_halves.specs.Started.{AllStarted, EachOnStarted, ReserversOnStarted, reserves_next}

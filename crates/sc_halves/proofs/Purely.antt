@@ -1,7 +1,7 @@
 -- In each state that is reached, a function that contracts may call keeps to what contracts may call.
 use Rattle.std.proofs.Common.{ℕ, ◌+◌, ◌≡◌, ◌⊎◌, ◌<◌, ◌≤◌, ◌==◌, ◌&&◌, ◌||◌, not, Bool, true, false, List, [], ◌∷◌, ◌++◌, Option, Some, None, refl, sym, ap, subst, ◌∙◌, inl, inr}
 use Rattle.std.proofs.lemmas.Bool.{eq-eqb, eqb-true, ltb-true, ltb-false, lt-ltb}
-use Rattle.std.specs.Prelude.{if◌then◌else◌, is_some, length, nat_lt, Contains}
+use Rattle.std.specs.Prelude.{if◌then◌else◌, is_some, length, nat_lt}
 use Rattle.std.specs.Option.{option_map, option_map_or}
 use Rattle.sc_tree.specs.Plain as tree
 use Rattle.sc_tree.specs.Plain.{System, Clause, Declaration, FeatureKind}
@@ -28,8 +28,7 @@ use Rattle.sc_model.specs.Environments.{Binding, bind, binding_named, formals_bo
 use Rattle.sc_model.specs.Objects.{Object, object_numbered, fresh_object}
 use Rattle.sc_model.specs.Invariants.{meets_invariant}
 use Rattle.sc_model.specs.Routines.{Routine, version_of, routine_named, routine_of}
-use Rattle.sc_model.specs.Tasks.{Task, Require, requires, keeps_olds, tasks_of}
-use Rattle.sc_model.specs.Olds.{olds_of_clauses}
+use Rattle.sc_model.specs.Tasks.{tasks_of}
 use Rattle.sc_model.specs.Steps.{Calling, Act, Prints, Tests, Creates, CreatesHandler, Enters, Requests, Starts, Refuses, Opens, Leaves, Exits, Fails, Step, Goes, Does, Point}
 use Rattle.sc_model.specs.Moves.{moves}
 use Rattle.sc_model.specs.Handlers.{Errand, Calls, Makes, Request, Answer, Reply, Failed, Refused, Origin, Called, Requested, Stage, Runs, Reserves, ReservesBlock, InCall, Awaits, Frame, Handler, World, new_handler, point_of, frame_at, put, with_stack}
@@ -51,8 +50,6 @@ use Rattle.sc_values.specs.Fitting as fitting
 use Rattle.sc_values.specs.Points.{Agrees, Each, PointFits, ResultFits, listed, types_of}
 use Rattle.sc_values.specs.Points as point
 use Rattle.sc_values.specs.Steps.{IsThereIfOwn, StandsSo, StepFits, ValuesDo}
-use Rattle.sc_values.specs.Typed.{IsTyped, Known}
-use Rattle.sc_values.specs.Typed as typed
 use Rattle.sc_values.proofs.Frames.{running_frames_move, store_fits, values_there}
 use Rattle.sc_halves.specs.Calm.{CalmStep, EachPureIsCalm, InPure, PureAct, PureStep, StandsPure, name_of}
 use Rattle.sc_halves.specs.Calm as calm
@@ -92,19 +89,22 @@ at_objects : (s : System) (pure : RoutineName → Bool) (r : Routine) (coming : 
     StandsPure s pure r coming (record p { objects = os })
 at_objects s pure r coming p os (inl z) =
     inl (record { text = z.text; names = z.names; types = z.types; text_is = z.text_is; names_are = z.names_are; left = z.left; types_are = z.types_are })
-at_objects s pure r coming p os (inr (e, z)) = inr (e, record {
-  text = z.text;
-  low = z.low;
-  high = z.high;
-  types = z.types;
-  value = z.value;
-  others = z.others;
-  text_is = z.text_is;
-  values_are = z.values_are;
-  came = record { held = z.came.held; denied = z.came.denied };
-  left = z.left;
-  types_are = z.types_are;
-})
+at_objects s pure r coming p os (inr (e, z)) = inr (
+  e,
+  record {
+    text = z.text;
+    low = z.low;
+    high = z.high;
+    types = z.types;
+    value = z.value;
+    others = z.others;
+    text_is = z.text_is;
+    values_are = z.values_are;
+    came = record { held = z.came.held; denied = z.came.denied };
+    left = z.left;
+    types_are = z.types_are;
+  },
+)
 
 -- the formals are bound as they are known
 formals_scope : (s : System) (all : List Declaration) (i : ℕ) (ds : List Declaration) (vs : List Value) (bs : List Binding) → formals_bound s all i ds vs ≡ Some bs →
