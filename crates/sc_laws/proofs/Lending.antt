@@ -1,11 +1,11 @@
 -- A callback stands on a frame that lent all that its handler had reserved.
-use Rattle.std.proofs.Common.{◌≡◌, Bool, true, false, List, [], ◌∷◌, Option, Some, None, ℕ, refl, sym, ap, ◌∙◌, subst}
+use Rattle.std.proofs.Common.{◌≡◌, Bool, true, false, List, [], ◌∷◌, Option, Some, None, ℕ, refl, sym, ◌∙◌, subst}
 use Rattle.sc_proctype.specs.declared.entity_type.EntityType.{EntityType}
 use Rattle.sc_model.specs.Handlers as machine
 use Rattle.sc_model.specs.Handlers.{Runs, Reserves, ReservesBlock, InCall, Awaits}
-use Rattle.sc_laws.specs.World.{Asked, Wait, Request, Frame, World}
+use Rattle.sc_laws.specs.World.{Asked, Wait, Request, Frame}
 use Rattle.sc_laws.specs.Steps.{waits_for}
-use Rattle.sc_laws.specs.Stands.{NeedsOf, NamesOf, IsRequest, IsCallback, IsRoutine, AreBlocks, place_of, left_in, LendsAs, Awaited, IsStaged, IsStack}
+use Rattle.sc_laws.specs.Stands.{NeedsOf, NamesOf, IsCallback, IsRoutine, AreBlocks, place_of, left_in, LendsAs, Awaited, IsStaged, IsStack}
 use Rattle.sc_laws.proofs.Rights.{not_some}
 use Rattle.sc_laws.proofs.Waits.{some_wait, waits_stack}
 use Rattle.sc_laws.proofs.Named.{all_ask}

@@ -21,7 +21,7 @@ use Rattle.sc_laws.proofs.links.Answering.{answer_leads}
 use Rattle.sc_model.specs.declared.cause.Cause.{Cause}
 use Rattle.sc_model.specs.declared.cause.Cause.TheVariants as cause
 use Rattle.sc_model.specs.Values.{values_of, handler_of}
-use Rattle.sc_model.specs.Environments.{Binding, separate_formals}
+use Rattle.sc_model.specs.Environments.{separate_formals}
 use Rattle.sc_model.specs.Routines.{routine_named}
 use Rattle.sc_model.specs.Steps.{Act, Prints, Tests, Creates, CreatesHandler, Enters, Requests, Starts, Refuses, Opens, Leaves, Exits, Fails, Step, Goes, Does, Point}
 use Rattle.sc_model.specs.Moves.{moves}
