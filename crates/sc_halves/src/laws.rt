@@ -12,13 +12,14 @@ pub fn core_settles_as_half_where_reached()
     ensures { HalvesWhereReached }
 {}
 
-/// At the turns of any list of handlers, from the opening of an accepted system on, each entry that waits is the one that its handler reserved for
-/// last.
+/// At the turns of any list of handlers, from the opening of an accepted system on, each entry that waits is the one
+/// that its handler reserved for last.
 pub fn entries_are_remembered()
     ensures { EntriesAreRemembered }
 {}
 
-/// After the turns of any list of handlers, from the opening of an accepted system on, the core is the half of the machine.
+/// After the turns of any list of handlers, from the opening of an accepted system on, the core is the half of the
+/// machine.
 pub fn core_runs_as_half()
     ensures { RunsAsHalf }
 {}
@@ -55,7 +56,8 @@ pub fn unstarted_routines_stand_in_clauses()
     ensures { EachStandsInClauses }
 {}
 
-/// A function that contracts may call begins in its contract, and all that is left to do of it calls what contracts may call.
+/// A function that contracts may call begins in its contract, and all that is left to do of it calls what contracts may
+/// call.
 pub fn pure_functions_begin_pure()
     ensures { PureBeginPure }
 {}
@@ -65,14 +67,14 @@ pub fn pure_functions_call_pure()
     ensures { PureCallPure }
 {}
 
-/// In each state that an accepted system reaches, the next turn of a function that contracts may call calls such a function, or tests, starts, is
-/// refused, ends or fails.
+/// In each state that an accepted system reaches, the next turn of a function that contracts may call calls such a
+/// function, or tests, starts, is refused, ends or fails.
 pub fn pure_functions_stay_calm()
     ensures { EachPureIsCalm }
 {}
 
-/// In each state that an accepted system reaches, whoever reserves stands on routines that have started: it wasn't called for a clause of a
-/// precondition.
+/// In each state that an accepted system reaches, whoever reserves stands on routines that have started: it wasn't
+/// called for a clause of a precondition.
 pub fn reservers_stand_on_started()
     ensures { ReserversOnStarted }
 {}
