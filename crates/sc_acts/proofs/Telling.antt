@@ -5,6 +5,7 @@ use Rattle.std.specs.Prelude.{◌||◌, ◌&&◌, nat_lt, slice_get, slice_set, 
 use Rattle.std.specs.Option.{option_map, option_and_then}
 use Rattle.sc_code.specs.declared.program.Image.{Image}
 use Rattle.sc_code.specs.Programs.{pool_of}
+use Rattle.sc_code.specs.RequestRoom.{FitsRequests}
 use Rattle.sc_region.specs.declared.frame.Stage.TheVariants as stage
 use Rattle.sc_region.specs.declared.value.Reference.{Reference}
 use Rattle.sc_region.specs.declared.value.Value.{Value}
@@ -38,7 +39,7 @@ use Rattle.sc_play.specs.Requesting as requesting
 use Rattle.sc_play.specs.Requesting.{call_of, request_by, request_in, request_of, sent}
 use Rattle.sc_acts.specs.Acting as acting
 use Rattle.sc_acts.specs.Acting.{Comes}
-use Rattle.sc_acts.specs.Told.{ComesTold, FitsRequests, ToldBlocksBegin, ToldCallsAreMade, ToldHandlersAreCreated, ToldObjectsAreCreated, ToldObjectsAreCreatedBy, ToldRequestsAreMade, Turns}
+use Rattle.sc_acts.specs.Told.{ComesTold, ToldBlocksBegin, ToldCallsAreMade, ToldHandlersAreCreated, ToldObjectsAreCreated, ToldObjectsAreCreatedBy, ToldRequestsAreMade, Turns}
 use Rattle.sc_acts.specs.Wanting.{IsNumbered, IsProcedure, MayCreate, MayRequest}
 use Rattle.sc_acts.proofs.Calling.{calls_are_made}
 use Rattle.sc_acts.proofs.Creating.{objects_are_created}

@@ -21,6 +21,7 @@ use Rattle.sc_code.specs.Machine as flat
 use Rattle.sc_code.specs.Machine.{State}
 use Rattle.sc_code.specs.Programs.{pool_of}
 use Rattle.sc_code.specs.Stands.{Seen}
+use Rattle.sc_code.specs.RequestRoom.{AreDistinct}
 use Rattle.sc_region.specs.declared.job.Errand.TheVariants as errand
 use Rattle.sc_region.specs.declared.job.Request.{Request}
 use Rattle.sc_region.specs.declared.job.Want.{Want}
@@ -56,7 +57,7 @@ use Rattle.sc_play.specs.CreatingHandlers as creating
 use Rattle.sc_play.specs.Operands.{class_number, has_call, name_number, procedure_number}
 use Rattle.sc_play.specs.Requesting.{asks_requesting, asks_sending, call_of, request_by, request_of}
 use Rattle.sc_acts.specs.Acting.{AreWhole, Comes, Meets}
-use Rattle.sc_acts.specs.Wanting.{AreDistinct, BlockEndsAsk, CreationsAsk, DistinctNamesHaveNumbers, IsNumbered, IsProcedure, MayCreate, MayRequest, RefusalsAsk, RequestsAsk, RoutineEndsAsk}
+use Rattle.sc_acts.specs.Wanting.{BlockEndsAsk, CreationsAsk, DistinctNamesHaveNumbers, IsNumbered, IsProcedure, MayCreate, MayRequest, RefusalsAsk, RequestsAsk, RoutineEndsAsk}
 use Rattle.sc_acts.proofs.Asking.{asked_is, told_by}
 use Rattle.sc_acts.proofs.Coming.{meets}
 use Rattle.sc_acts.proofs.Exiting.{Ending, ending, meets_same, origin_same}

@@ -1,11 +1,7 @@
 -- What a turn makes of a store, and what it asks, where the operation that it came to was told.
-use Rattle.std.specs.Prelude.{◌≡◌, ◌≤◌, ◌<◌, ℕ, Bool, true, Option, Some, None, length, slice_get}
+use Rattle.std.specs.Prelude.{◌≡◌, ℕ, Bool, true, Option, Some, None}
 use Rattle.sc_tree.specs.Plain.{System}
-use Rattle.sc_code.specs.declared.program.Image.{Image}
-use Rattle.sc_code.specs.declared.site.CallSite.{CallSite}
-use Rattle.sc_code.specs.declared.site.CreationSite.{CreationSite}
-use Rattle.sc_code.specs.declared.site.Heads.{Heads}
-use Rattle.sc_code.specs.Programs.{pool_of}
+use Rattle.sc_code.specs.RequestRoom.{FitsRequests}
 use Rattle.sc_region.specs.declared.value.Reference.{Reference}
 use Rattle.sc_region.specs.Frames.{top_activation}
 use Rattle.sc_region.specs.Stores.{PlainStore}
@@ -22,16 +18,6 @@ use Rattle.sc_interp.specs.Serving.{version_in}
 use Rattle.sc_interp.specs.Told.{IsTold}
 use Rattle.sc_play.specs.Acting.{acted, asks_acting}
 use Rattle.sc_acts.specs.Acting.{Comes, IsCreator}
-use Rattle.sc_acts.specs.Wanting.{AreDistinct}
-
--- Requests have room for what the program names: no name stands at two numbers, names and classes have numbers that fit, and no call, creation or separate
--- block has more than 16 actuals or heads.
-pub record FitsRequests (p : Image) : Type 0 where
-  pub distinct : AreDistinct (pool_of p.pool).names
-  pub names : length (pool_of p.pool).names ≤ 4294967296
-  pub calls : (number : ℕ) (site : CallSite) → slice_get (pool_of p.pool).calls number ≡ Some site → site.count < 17
-  pub creations : (number : ℕ) (site : CreationSite) → slice_get (pool_of p.pool).creations number ≡ Some site → (site.count < 17) × (site.class < 256)
-  pub blocks : (number : ℕ) (heads : Heads) → slice_get (pool_of p.pool).blocks number ≡ Some heads → heads.count < 17
 
 -- Silent operations lead from the first store to the second one, where it comes to this operation, and the topmost routine is ready for it.
 pub record ComesTold (a : Act) (y z : PlainStore) : Type 0 where

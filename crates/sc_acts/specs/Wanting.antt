@@ -2,6 +2,7 @@
 use Rattle.std.specs.Prelude.{◌≡◌, ℕ, Bool, true, List, Option, Some, None, slice_get}
 use Rattle.sc_tree.specs.Plain.{System}
 use Rattle.sc_code.specs.declared.program.Image.{Image}
+use Rattle.sc_code.specs.RequestRoom.{AreDistinct}
 use Rattle.sc_region.specs.declared.job.Want.{Want}
 use Rattle.sc_region.specs.declared.value.Reference.{Reference}
 use Rattle.sc_region.specs.Frames.{PlainActivation, top_activation}
@@ -28,10 +29,6 @@ TurnAsks h y w v = (s : System) (x : Half) → IsProgramFor s y.program → IsRe
     next_want (numbering_by (names_of y)) s h x ≡ unless_failed w.failure v
 
 -- ---- names
-
--- No name stands at two numbers.
-abbrev pub AreDistinct : List (List ℕ) → Type 0
-AreDistinct names = (j k : ℕ) (name : List ℕ) → slice_get names j ≡ Some name → slice_get names k ≡ Some name → j ≡ k
 
 -- Among distinct names each has the number at which it stands.
 abbrev pub DistinctNamesHaveNumbers : Type 0

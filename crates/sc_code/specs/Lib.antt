@@ -9,5 +9,6 @@ pub mod Lowered
 pub mod View
 pub mod Attributes
 pub mod Programs
+pub mod RequestRoom
 pub mod CheckedImages
 pub mod Invariants
