@@ -25,3 +25,7 @@ pub mod Coding
 pub mod InOrder
 pub mod Rooted
 pub mod SeparateSlots
+pub mod FittingExpressions
+pub mod FittingInstructions
+pub mod FittingRoutines
+pub mod FittingTables

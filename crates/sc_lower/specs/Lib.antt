@@ -8,3 +8,4 @@ pub mod Jumps
 pub mod Sources
 pub mod Lowerings
 pub mod AttributeBindings
+pub mod Fitting

@@ -5,12 +5,15 @@ ghost use Rattle.sc_class.specs.declared.identity.ClassId.TheVariants as class_i
 ghost use Rattle.sc_class.specs.ClassNames.{number_of};
 ghost use Rattle.sc_class.specs.SystemIn.{root_in, system_in};
 ghost use Rattle.sc_lower.specs.declared.refusal.Refusal.TheVariants.{CodeTooLong};
+ghost use Rattle.sc_rules.specs.SystemRules.{WellFormed};
 ghost use Rattle.sc_code.specs.Programs.{IsProgramOf, code_length};
+ghost use Rattle.sc_code.specs.RequestRoom.{FitsRequests};
 
-use crate::link_tables::{Linker, number_in};
+use crate::link_tables::Linker;
 use crate::program::class_code::class_codes;
 use crate::program::routines::{features_in_order, lower_routines};
 use crate::refusal::Refusal;
+use crate::sums::within_32_bits;
 use sc_class::{ClassId, Tables};
 use sc_code::Image;
 use sc_typing::Numbering;
@@ -37,16 +40,19 @@ fn root_class(tables: &Tables) -> usize
 }
 
 /// The system in flat code, of at most so many instructions.
-pub fn image(alloc: Global, tables: &Tables, most: u32) -> Result<Image, Refusal>
+pub fn image<'s>(alloc: Global, tables: &'s Tables<'s>, most: u32) -> Result<Image, Refusal>
+    requires { WellFormed (system_in tables.now) }
     ensures image { IfOk result (IsProgramOf (system_in tables.now) (root_in tables.now)) }
+    ensures fits_requests { IfOk result FitsRequests }
     ensures fits { IfOk result (λ image. image.instructions ≤ most) }
     ensures too_long { IfErr result (λ refusal. refusal ≡ CodeTooLong → most < code_length (system_in tables.now)) }
 {
     let features = features_in_order(alloc, tables)?;
     let mut linker = Linker::new(alloc);
     let routines = lower_routines(alloc, tables, &mut linker, &features, most)?;
-    let mut pool = linker.into_pool()?;
-    let root_procedure = number_in(alloc, &mut pool, &tables.root().procedure)?;
+    let root_procedure = linker.names.number(&tables.root().procedure)?;
+    let pool = linker.into_pool()?;
+    let _names = within_32_bits(pool.names.len())?;
     let numbering = Numbering::of(alloc, tables)?;
     let classes = class_codes(alloc, &numbering, &pool.names)?;
     Ok(Image {

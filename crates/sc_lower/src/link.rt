@@ -1,7 +1,8 @@
 // Links operations: what an operation names gets its number in the tables.
 
-ghost use Rattle.std.specs.Prelude.{◌≡◌, Some, IfOk, OnOk, map, slice_get};
+ghost use Rattle.std.specs.Prelude.{◌≡◌, ◌<◌, true, Some, IfOk, OnOk, map, slice_get};
 ghost use Rattle.std.specs.Option.{option_map, option_and_then, option_copied};
+ghost use Rattle.sc_lower.specs.Fitting.{AllFit, fits};
 ghost use Rattle.sc_lower.specs.Pools.{pool_in, Grows};
 ghost use Rattle.sc_code.specs.View.{named, call_of, creation_of, operation_of, test_of};
 ghost use Rattle.sc_code.specs.Operations as plain;
@@ -36,6 +37,7 @@ fn text(linker: &mut Linker<'_>, text: &str) -> Result<usize, AllocError>
 /// The number of a new call.
 #[tactic(auto, using(crate::proofs::Growing::growing))]
 fn call<'s>(linker: &mut Linker<'s>, call: &UnlinkedCall<'s>) -> Result<usize, AllocError>
+    requires { call.now.count < 17 }
     ensures found { IfOk result (λ number. option_and_then (call_of (pool_in linker.new)) (slice_get (pool_in linker.new).calls number) ≡ Some (unlinked_call call.now)) }
     ensures grows { OnOk result (Grows (pool_in linker.old) (pool_in linker.new)) }
 {
@@ -71,6 +73,8 @@ fn creation<'s>(
     linker: &mut Linker<'s>,
     creation: &UnlinkedCreation<'s>,
 ) -> Result<usize, AllocError>
+    requires few_actuals { creation.now.count < 17 }
+    requires small_class { creation.now.class < 256 }
     ensures found { IfOk result (λ number. option_and_then (creation_of (pool_in linker.new)) (slice_get (pool_in linker.new).creations number) ≡ Some (unlinked_creation creation.now)) }
     ensures grows { OnOk result (Grows (pool_in linker.old) (pool_in linker.new)) }
 {
@@ -110,6 +114,7 @@ fn demand(linker: &mut Linker<'_>, formals: &[usize]) -> Result<usize, AllocErro
 /// The number of a new separate block.
 #[tactic(auto, using(crate::proofs::Growing::growing))]
 fn block(linker: &mut Linker<'_>, first: usize, count: usize) -> Result<usize, AllocError>
+    requires { count < 17 }
     ensures found { IfOk result (λ number. slice_get (pool_in linker.new).blocks number ≡ Some (record { first = first; count = count })) }
     ensures grows { OnOk result (Grows (pool_in linker.old) (pool_in linker.new)) }
 {
@@ -122,6 +127,7 @@ fn link<'s>(
     linker: &mut Linker<'s>,
     operation: &UnlinkedOperation<'s>,
 ) -> Result<Operation, AllocError>
+    requires { fits (unlinked operation.now) ≡ true }
     ensures linked { IfOk result (λ linked. operation_of (pool_in linker.new) linked ≡ Some (unlinked operation.now)) }
     ensures grows { OnOk result (Grows (pool_in linker.old) (pool_in linker.new)) }
 {
@@ -195,6 +201,7 @@ pub fn link_all<'s>(
     linker: &mut Linker<'s>,
     code: &[UnlinkedOperation<'s>],
 ) -> Result<Vec<Operation>, AllocError>
+    requires { AllFit (map unlinked code.now) }
     ensures linked { IfOk result (λ operations. map (operation_of (pool_in linker.new)) operations.items ≡ map (λ o. Some (unlinked o)) code.now) }
     ensures grows { OnOk result (Grows (pool_in linker.old) (pool_in linker.new)) }
 {

@@ -1,6 +1,7 @@
 // The names of a program, each with a number.
 
 ghost use Rattle.std.specs.Prelude.{◌≡◌, ℕ, List, [], Some, IfOk, OnOk, map, slice_get, string_bytes};
+ghost use Rattle.sc_code.specs.RequestRoom.{AreDistinct};
 ghost use Rattle.sc_lower.specs.Growing.{Extends};
 
 use indexmap::IndexSet;
@@ -36,6 +37,7 @@ impl<'s> Names<'s> {
     pub fn number(&mut self, text: &'s str) -> Result<usize, AllocError>
         ensures found { IfOk result (λ number. slice_get self.new number ≡ Some text.now) }
         ensures kept { OnOk result (Extends self.old self.new) }
+        ensures distinct { AreDistinct self.new }
     {
         let (number, _) = self.texts.insert_full(text)?;
         Ok(number)

@@ -1,16 +1,14 @@
 // Gives the names, texts and sites of operations their numbers.
 
-ghost use Rattle.std.specs.Prelude.{◌≡◌, [], Some, IfOk, OnOk, map, slice_get, string_bytes};
-ghost use Rattle.sc_lower.specs.Growing.{Extends};
-ghost use Rattle.sc_lower.specs.Pools.{pool_in, Grows};
+ghost use Rattle.std.specs.Prelude.{◌≡◌, [], IfOk};
 ghost use Rattle.sc_code.specs.Programs.{pool_of};
+ghost use Rattle.sc_code.specs.RequestRoom.{AreDistinct, BlocksFit, CallsFit, CreationsFit};
 
 use crate::link_names::Names;
-use crate::link_pools::add;
 use sc_code::{CallSite, ConstantPool, CreationSite, Heads, ObjectTest};
 use std::alloc::{AllocError, Global};
 
-/// The tables of a program while its code is linked. They grow at their ends alone.
+/// The tables of a program while its code is linked. They grow at their ends alone, and requests have room for what they hold.
 #[derive(Drop)]
 pub struct Linker<'s> {
     pub alloc: Global,
@@ -21,9 +19,15 @@ pub struct Linker<'s> {
     pub tests: Vec<ObjectTest>,
     pub demands: Vec<Vec<usize>>,
     pub blocks: Vec<Heads>,
+    ghost distinct: { AreDistinct names },
+    ghost calls_fit: { CallsFit calls.items },
+    ghost creations_fit: { CreationsFit creations.items },
+    ghost blocks_fit: { BlocksFit blocks.items },
 }
 
 impl<'s> Linker<'s> {
+    ghost use Rattle.sc_lower.specs.Pools.{pool_in};
+
     /// Tables without entries.
     pub fn new(alloc: Global) -> Linker<'s>
         ensures { pool_in result ≡ record { names = []; texts = []; calls = []; creations = []; tests = []; demands = []; blocks = [] } }
@@ -55,28 +59,4 @@ impl<'s> Linker<'s> {
             blocks: self.blocks,
         })
     }
-}
-
-/// The number of a name, which is added behind the others where it isn't there yet. It looks at each at most once.
-fn name_number(alloc: Global, names: &mut Vec<String>, name: &str) -> Result<usize, AllocError>
-    ensures found { IfOk result (λ number. slice_get (map string_bytes names.new.items) number ≡ Some name.now) }
-    ensures kept { OnOk result (Extends (map string_bytes names.old.items) (map string_bytes names.new.items)) }
-{
-    for number in 0..names.len() {
-        if names[number].as_str() == name {
-            return Ok(number);
-        }
-    }
-    let name = String::from_str(alloc, name)?;
-    add(names, name)
-}
-
-/// The number of a name in the pool, which is added behind the others where it isn't there yet. It looks at each at most
-/// once.
-#[tactic(auto, using(crate::proofs::Growing::growing))]
-pub fn number_in(alloc: Global, pool: &mut ConstantPool, name: &str) -> Result<usize, AllocError>
-    ensures found { IfOk result (λ number. slice_get (pool_of pool.new).names number ≡ Some name.now) }
-    ensures grows { OnOk result (Grows (pool_of pool.old) (pool_of pool.new)) }
-{
-    name_number(alloc, &mut pool.names, name)
 }

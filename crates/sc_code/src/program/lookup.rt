@@ -3,6 +3,7 @@
 ghost use Rattle.std.specs.Option.{option_map, option_map_or, option_and_then};
 ghost use Rattle.std.specs.Prelude.{◌≡◌, slice_get};
 ghost use Rattle.sc_code.specs.CheckedImages.{IsOfCheckedSystem};
+ghost use Rattle.sc_code.specs.RequestRoom.{FitsRequests};
 
 use crate::program::{ClassCode, ConstantPool, Image, RoutineCode};
 
@@ -11,12 +12,14 @@ use crate::program::{ClassCode, ConstantPool, Image, RoutineCode};
 pub struct Program {
     image: Image,
     pub ghost checked: { ∥ IsOfCheckedSystem image ∥₁ },
+    pub ghost fits: { FitsRequests image },
 }
 
 impl Program {
-    /// The program of some checked system whose image this is.
+    /// The program of some checked system whose image this is, and whose names, sites and blocks fit into requests.
     pub fn of(image: Image) -> Program
-        requires { ∥ IsOfCheckedSystem image ∥₁ }
+        requires checked { ∥ IsOfCheckedSystem image ∥₁ }
+        requires fits { FitsRequests image }
         ensures { result.image ≡ image }
     {
         Program { image }

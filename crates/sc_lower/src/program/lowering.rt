@@ -1,6 +1,7 @@
 // Lowers checked systems to programs.
 
 ghost use Rattle.std.specs.Prelude.{◌≤◌, ◌^◌, IfErr, IfOk};
+ghost use Rattle.sc_code.specs.RequestRoom.{FitsRequests};
 ghost use Rattle.sc_lower.specs.Lowerings.{HandsBack, IsLowered, image_of};
 
 use crate::image::image;
@@ -25,6 +26,7 @@ const MAX_INSTRUCTIONS: u32 = 1 << 24;
 /// or no memory is left.
 pub fn lower<'s>(alloc: Global, checked: Checked<'s>) -> Result<Program, Lowering<'s>>
     ensures lowered { IfOk result (IsLowered checked.entry) }
+    ensures fits_requests { IfOk result (λ program. FitsRequests (image_of program)) }
     ensures fits { IfOk result (λ program. (image_of program).instructions ≤ 2 ^ 24) }
     ensures refused { IfErr result (HandsBack checked.entry (2 ^ 24)) }
 {
@@ -39,6 +41,7 @@ pub fn lower_within<'s>(
     most: u32,
 ) -> Result<Program, Lowering<'s>>
     ensures lowered { IfOk result (IsLowered checked.entry) }
+    ensures fits_requests { IfOk result (λ program. FitsRequests (image_of program)) }
     ensures fits { IfOk result (λ program. (image_of program).instructions ≤ most) }
     ensures refused { IfErr result (HandsBack checked.entry most) }
 {

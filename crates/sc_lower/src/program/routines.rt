@@ -6,6 +6,7 @@ ghost use Rattle.sc_tree.specs.View.{feature_of};
 ghost use Rattle.sc_class.specs.SystemIn.{system_in};
 ghost use Rattle.sc_class.specs.Tables.Features.{declared_in};
 ghost use Rattle.sc_class.specs.View.{entry_of};
+ghost use Rattle.sc_rules.specs.SystemRules.{WellFormed};
 ghost use Rattle.sc_typing.specs.FeatureNumbers.{all_features};
 ghost use Rattle.sc_lower.specs.declared.refusal.Refusal.TheVariants.{CodeTooLong};
 ghost use Rattle.sc_code.specs.declared.program.RoutineCode.{RoutineCode};
@@ -88,7 +89,8 @@ pub fn lower_routines<'s>(
     features: &[FeatureEntry<'s>],
     most: u32,
 ) -> Result<Routines, Refusal>
-    requires { map entry_of features.now ≡ all_features (system_in tables.now) }
+    requires in_order { map entry_of features.now ≡ all_features (system_in tables.now) }
+    requires well_formed { WellFormed (system_in tables.now) }
     ensures codes { let s = system_in tables.now in
         IfOk result (λ routines. map (option_map (routine_in (pool_in linker.new))) routines.codes.items ≡ codes_of s (all_features s)) }
     ensures instructions { IfOk result (λ routines. routines.instructions ≡ code_length (system_in tables.now)) }

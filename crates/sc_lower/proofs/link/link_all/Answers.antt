@@ -2,6 +2,7 @@ use Rattle.std.proofs.Common.{ap, ◌∙◌, map}
 use Rattle.sc_lower.specs.Pools.{pool_in}
 use Rattle.sc_code.specs.View.{operation_of}
 use Rattle.sc_lower.specs.Unlinked.{unlinked}
+use Rattle.sc_lower.proofs.FittingTables.{read_fits}
 use Rattle.sc_lower.proofs.Kept.{grows_not, grows_further, operations_more}
 use Rattle.sc_lower.proofs.link.link_all.Goals as goal
 
@@ -19,3 +20,6 @@ loop-operation-preserved c =
           c.loop-operation.invariant.0 c.loop-operation-test.true c.operation-item.is c.in_ok-link.ensures.linked,
       grows_further (pool_in c.args.linker.now) p q c.loop-operation.invariant.1 c.in_ok-link.ensures.grows,
     )
+
+pub link-requires : goal.link-requires
+link-requires c = read_fits unlinked c.args.code.now c.loop-operation.operation-index c.operation-item.result c.loop-operation-test.true c.operation-item.is c.requires

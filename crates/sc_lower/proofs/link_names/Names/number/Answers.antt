@@ -6,6 +6,7 @@ use Rattle.std.specs.Prelude.{bytes_eq}
 use Rattle.std.proofs.lemmas.Option.{slice_get-map}
 use Rattle.std.proofs.lemmas.Slice.Eq.{bytes_eq-Decides}
 use Rattle.sc_lower.specs.Growing.{Extends}
+use Rattle.sc_lower.proofs.FittingTables.{names_distinct}
 use Rattle.sc_lower.proofs.Growing.{extends_added}
 use Rattle.sc_lower.proofs.link_names.Names.number.Goals as goal
 
@@ -20,3 +21,9 @@ pub returns-clause-kept : goal.returns-clause-kept
 returns-clause-kept c =
     subst (λ (old : List (List ℕ)). Extends old (map (λ (t : Bor (List ℕ)). t.now) c.insert_full.new.self.keys)) c.self.view_is
     (extends_added (λ (t : Bor (List ℕ)). t.now) (list_any (λ (k : Bor (List ℕ)). bytes_eq c.args.text.now k.now) c.self.inside.texts.keys) c.self.inside.texts.keys c.insert_full.new.self.keys c.args.text c.in_ok-number.ensures.keys)
+
+pub returns-in_err-number-clause-distinct : goal.returns-in_err-number-clause-distinct
+returns-in_err-number-clause-distinct c = names_distinct c.insert_full.new.self.keys c.insert_full.ensures.unique
+
+pub returns-clause-distinct : goal.returns-clause-distinct
+returns-clause-distinct c = names_distinct c.insert_full.new.self.keys c.insert_full.ensures.unique

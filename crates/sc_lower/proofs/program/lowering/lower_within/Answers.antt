@@ -4,10 +4,11 @@ use Rattle.sc_class.specs.declared.class_tables.Tables.{Tables}
 use Rattle.sc_check.specs.CheckedTables.{tables_of}
 use Rattle.sc_code.specs.declared.program.Image.{Image}
 use Rattle.sc_code.specs.Programs.{IsProgramOf, code_length}
+use Rattle.sc_code.specs.RequestRoom.{FitsRequests}
 use Rattle.sc_lower.proofs.program.lowering.lower_within.Goals as goal
 
-pub of-requires : goal.of-requires
-of-requires c =
+pub of-requires-clause-checked : goal.of-requires-clause-checked
+of-requires-clause-checked c =
     let t = tables_of c.args.checked in
     ∣ record {
       system = system_in t;
@@ -22,6 +23,9 @@ returns-in-Ok-clause-lowered c =
     let t = tables_of c.args.checked in
     subst (λ (i : Image). IsProgramOf (system_in t) (root_in t) i) (sym c.of.ensures)
     (subst (λ (t : Tables). IsProgramOf (system_in t) (root_in t) c.in-Ok.image) c.tables.ensures.same c.in-Ok.ensures.image)
+
+pub returns-in-Ok-clause-fits_requests : goal.returns-in-Ok-clause-fits_requests
+returns-in-Ok-clause-fits_requests c = subst (λ (i : Image). FitsRequests i) (sym c.of.ensures) c.in-Ok.ensures.fits_requests
 
 pub returns-clause-refused : goal.returns-clause-refused
 returns-clause-refused c =

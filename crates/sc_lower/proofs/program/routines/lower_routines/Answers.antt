@@ -1,9 +1,11 @@
-use Rattle.std.proofs.Common.{◌≡◌, ◌+◌, ◌++◌, List, Option, map, drop, append-nil, sym, ap, ◌∙◌, arith}
+use Rattle.std.proofs.Common.{◌≡◌, ◌+◌, ◌++◌, List, Option, map, drop, append-nil, sym, ap, subst, ◌∙◌, arith}
+use Rattle.std.specs.Prelude.{Contains}
 use Rattle.std.specs.Option.{option_map}
 use Rattle.std.proofs.lemmas.List.{at_drop_all}
 use Rattle.sc_class.specs.declared.class_tables.feature_entry.FeatureEntry.{FeatureEntry}
 use Rattle.sc_class.specs.SystemIn.{system_in}
 use Rattle.sc_class.specs.View.{entry_of}
+use Rattle.sc_class.proofs.Items.{contains_at, item_in}
 use Rattle.sc_model.specs.Routines.{routine_of}
 use Rattle.sc_code.specs.declared.program.RoutineCode.{RoutineCode}
 use Rattle.sc_lower.specs.Pools.{pool_in}
@@ -51,7 +53,7 @@ returns-in_default-clause-too_long c =
     let more : c.length_of.result ≡ instructions_of s (routine_of s (entry_of f)) =
     c.length_of.ensures ∙ as_many s q c.in_ok-code.code (routine_of s (entry_of f)) c.in_ok-code.ensures.code in
     let left = next_counted s fs i f c.loop-entry-test.true c.entry-item.is in
-    let all = ap (length_of_codes s) c.requires in
+    let all = ap (length_of_codes s) c.requires.in_order in
     λ same. omega (arith, c.counted.ensures.too_many c.in_default.is, more, left, c.loop-entry.invariant.instructions, all)
 
 pub returns-clause-codes : goal.returns-clause-codes
@@ -59,11 +61,18 @@ returns-clause-codes c =
     let s = system_in c.args.tables.now in
     let done = at_drop_all (λ (fs : List FeatureEntry). codes_of s (map entry_of fs)) c.args.features.now c.loop-entry.entry-index (omega (arith, c.loop-entry-test.false)) in
     let codes = map (option_map (routine_in (pool_in c.loop-entry.linker))) c.loop-entry.codes.items in
-    sym (append-nil codes) ∙ ap (λ (rest : List (Option PlainRoutine)). codes ++ rest) (sym done) ∙ c.loop-entry.invariant.codes ∙ ap (codes_of s) c.requires
+    sym (append-nil codes) ∙ ap (λ (rest : List (Option PlainRoutine)). codes ++ rest) (sym done) ∙ c.loop-entry.invariant.codes ∙ ap (codes_of s) c.requires.in_order
 
 pub returns-clause-instructions : goal.returns-clause-instructions
 returns-clause-instructions c =
     let s = system_in c.args.tables.now in
     let done = at_drop_all (λ (fs : List FeatureEntry). length_of_codes s (map entry_of fs)) c.args.features.now c.loop-entry.entry-index (omega (arith, c.loop-entry-test.false)) in
-    let all = ap (length_of_codes s) c.requires in
+    let all = ap (length_of_codes s) c.requires.in_order in
     omega (arith, done, all, c.loop-entry.invariant.instructions)
+
+pub feature_code-requires-clause-is_there : goal.feature_code-requires-clause-is_there
+feature_code-requires-clause-is_there c =
+    let fs = c.args.features.now in
+    let i = c.loop-entry.entry-index in
+    let f = c.entry-item.result in
+    subst (λ gs. Contains gs (entry_of f)) c.requires.in_order (contains_at (map entry_of fs) i (entry_of f) (item_in entry_of fs i f c.loop-entry-test.true c.entry-item.is))
