@@ -1,7 +1,7 @@
 -- In a well-formed system the calls in the code of an expression fit into requests.
-use Rattle.std.proofs.Common.{◌≡◌, ◌<◌, ◌≤◌, ℕ, ◌+◌, Bool, true, false, List, [], ◌∷◌, ◌++◌, length, map, Option, Some, None, refl, sym, ap, subst, ◌∙◌, arith}
+use Rattle.std.proofs.Common.{◌≡◌, ◌<◌, ◌≤◌, ℕ, ◌+◌, Bool, true, false, List, [], ◌∷◌, ◌++◌, length, Option, Some, None, refl, ap, subst, arith}
 use Rattle.std.specs.Prelude.{◌&&◌, ◌||◌, Contains, nat_lt, slice_get, if◌then◌else◌}
-use Rattle.std.specs.List.{AllByRecursion, list_all}
+use Rattle.std.specs.List.{AllByRecursion}
 use Rattle.std.proofs.lemmas.Bool.{lt-ltb, ltb-false, ltb-true}
 use Rattle.std.proofs.lemmas.List.{length-map}
 use Rattle.sc_text.specs.declared.token.Span.{Span}
@@ -15,7 +15,7 @@ use Rattle.sc_class.specs.declared.identity.ClassId.TheVariants as class
 use Rattle.sc_class.specs.declared.fault.ClassFault.TheVariants as fault
 use Rattle.sc_class.specs.ClassNames.{Root}
 use Rattle.sc_class.specs.Faults.ClassRules.{IsFaultless, limit}
-use Rattle.sc_class.specs.Faults.Limits.{is_large, large_routine, many_classes, max_classes, max_formals, max_locals, block_names_of, has_wide_block_in}
+use Rattle.sc_class.specs.Faults.Limits.{is_large, large_routine, many_classes, max_formals, max_locals, block_names_of, has_wide_block_in}
 use Rattle.sc_class.specs.Tables.Features.{DeclaredFeature, feature_named}
 use Rattle.sc_class.proofs.Items.{contains_at}
 use Rattle.sc_class.proofs.Standing.{found_stands}
@@ -27,7 +27,7 @@ use Rattle.sc_rules.specs.declared.position.Use.{Use}
 use Rattle.sc_rules.specs.declared.position.Use.TheVariants.{Value}
 use Rattle.sc_rules.specs.Types.{declared_type}
 use Rattle.sc_rules.specs.Positions.{operand_context, operand_position, shares_names}
-use Rattle.sc_rules.specs.Names.{RoutineName, RoutineContext, Entity, Entities, entity_named, formal_type, Signature, named, current, signature_of, signature_of_kind, entity_signature, print_signature, meaning_of_feature, entity_or, meaning_of, qualified_meaning}
+use Rattle.sc_rules.specs.Names.{RoutineName, RoutineContext, Entity, Entities, entity_named, formal_type, Signature, named, current, signature_of, signature_of_kind, entity_signature, print_signature, meaning_of_feature, entity_or, meaning_of}
 use Rattle.sc_rules.specs.Sites.{Site, expression, IsActual, first_actual, later_actual, Part, target_part, actual_part, operand_part, left_part, right_part, joined_left_part, joined_right_part, tested_part, itself, inside}
 use Rattle.sc_rules.specs.Purity.{IsPurity}
 use Rattle.sc_rules.specs.CallRules.{count}

@@ -1,5 +1,5 @@
--- Tables of which requests have room for all items, and of names no two are equal.
-use Rattle.std.proofs.Common.{◌≡◌, ◌<◌, ℕ, length, get_or, zero, suc, Bool, true, false, List, [], ◌∷◌, ◌++◌, map, Option, Some, None, refl, sym, ap, subst, ◌∙◌}
+-- Names of which no two are equal stand at one number each, and operations that are read one after the other fit.
+use Rattle.std.proofs.Common.{◌≡◌, ◌<◌, ℕ, length, get_or, zero, suc, Bool, true, false, List, [], ◌∷◌, ◌++◌, map, Some, refl, sym, ap, subst, ◌∙◌}
 use Rattle.std.specs.Prelude.{◌&&◌, bytes_eq, slice_get}
 use Rattle.std.specs.List.{AllByRecursion, IsDistinct, list_all}
 use Rattle.std.specs.Borrow.{Bor}
@@ -31,14 +31,6 @@ names_distinct (k ∷ ks) d zero zero x e f = refl
 names_distinct (k ∷ ks) d zero (suc n) x e f = absurd (apart k ks d.0 n (f ∙ sym e))
 names_distinct (k ∷ ks) d (suc m) zero x e f = absurd (apart k ks d.0 m (e ∙ sym f))
 names_distinct (k ∷ ks) d (suc m) (suc n) x e f = ap (λ k. suc k) (names_distinct ks d.1 m n x e f)
-
--- one more item that is so
-pub one_more_so : {A : Type 0} (P : A → Type 0) (xs : List A) (y : A) → ((n : ℕ) (x : A) → slice_get xs n ≡ Some x → P x) → P y →
-    (n : ℕ) (x : A) → slice_get (xs ++ y ∷ []) n ≡ Some x → P x
-one_more_so P [] y f p zero x e = subst P (some_is y x e) p
-one_more_so P [] y f p (suc n) x e = cc
-one_more_so P (z ∷ xs) y f p zero x e = f zero x e
-one_more_so P (z ∷ xs) y f p (suc n) x e = one_more_so P xs y (λ n. f (suc n)) p n x e
 
 -- ---- operations
 

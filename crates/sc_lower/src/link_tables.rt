@@ -8,7 +8,8 @@ use crate::link_names::Names;
 use sc_code::{CallSite, ConstantPool, CreationSite, Heads, ObjectTest};
 use std::alloc::{AllocError, Global};
 
-/// The tables of a program while its code is linked. They grow at their ends alone, and requests have room for what they hold.
+/// The tables of a program while its code is linked. They grow at their ends alone, and requests have room for what they
+/// hold.
 #[derive(Drop)]
 pub struct Linker<'s> {
     pub alloc: Global,
