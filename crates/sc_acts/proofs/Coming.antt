@@ -63,6 +63,8 @@ pub record Visible (g : Run) (me : model.Reference) (start : flat.State) (a : Ac
   pub place : ℕ
   pub tail : List model.Value
   pub stands : Stands g place tail last
+  pub silent : ℕ
+  pub reaches : flat.hops silent g.system g.code me start ≡ flat.Goes (state_at place tail last)
   pub ends : step g.system me last ≡ Does a q
   pub count : ℕ
   pub at : ℕ
@@ -84,6 +86,8 @@ module _ (g : Run) (me : model.Reference) (a : Act) (q : Point) where
         place = place;
         tail = tail;
         stands = st;
+        silent = 0;
+        reaches = refl;
         ends = is ∙ e;
         count = f.0;
         at = f.1;
@@ -99,11 +103,14 @@ module _ (g : Run) (me : model.Reference) (a : Act) (q : Point) where
       flat.hops n g.system g.code me (state_at place tail p) ≡ flat.Goes (state_at to rest r) → Visible g me (state_at to rest r) a q → Visible g me (state_at place tail p) a q
   visible_later place tail p n to rest r go v =
       let j = hops_on g me n (state_at place tail p) (state_at to rest r) (flat.Goes (state_at v.at v.tail v.last)) go v.count v.hops in
+      let reached = hops_on g me n (state_at place tail p) (state_at to rest r) (flat.Goes (state_at v.place v.tail v.last)) go v.silent v.reaches in
       record {
         last = v.last;
         place = v.place;
         tail = v.tail;
         stands = v.stands;
+        silent = reached.0;
+        reaches = reached.1;
         ends = v.ends;
         count = j.0;
         at = v.at;
@@ -170,6 +177,8 @@ module _ (serve : ProgramsServe) (s : System) (x : Half) (o : Hop) (y z : PlainS
         place = v.place;
         tail = v.tail;
         stands = v.stands;
+        silent = v.silent;
+        reaches = ap (λ f. flat.hops v.silent s code me f) begin ∙ v.reaches;
         ends = ap (λ me. step s me v.last) (sym r.current) ∙ v.ends;
         shown = v.shown;
         state = v.state;

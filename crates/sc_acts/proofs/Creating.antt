@@ -88,7 +88,7 @@ born_is s z is class lives unborn =
     ∙ ap (λ b. if not b && at.object_breaks z.program (object_numbered (length z.objects + 1) w.objects) then store.failed cause.Invariant w else w) unborn
     ∙ ap (λ q. if at.object_breaks z.program q then store.failed cause.Invariant w else w) (numbered_last z.objects o)
     ∙ ap (λ b. if not b then store.failed cause.Invariant w else w)
-    (meets_same s z.program is o refl ∙ ap (λ q. model_invariants.meets_invariant s q) (fresh_same s z is class))
+    (meets_same s z.program is o (omega arith) ∙ ap (λ q. model_invariants.meets_invariant s q) (fresh_same s z is class))
 
 -- ---- what comes of it
 

@@ -47,7 +47,7 @@ use Rattle.sc_interp.specs.Values.{reference_of, value_of, values_of}
 use Rattle.sc_interp.proofs.Behind.{passes}
 use Rattle.sc_interp.proofs.Playing.{some_same}
 use Rattle.sc_interp.proofs.Popping.{values_drop}
-use Rattle.sc_acts.specs.Acting.{Comes, IsCreator, Meets, ObjectsAreCreatedBy}
+use Rattle.sc_acts.specs.Acting.{Comes, Meets, ObjectsAreCreatedBy, RunsOn}
 use Rattle.sc_acts.proofs.Calling.{entered_anew, enters_is, name_is}
 use Rattle.sc_acts.proofs.Coming.{meets}
 use Rattle.sc_acts.proofs.Creating.{failed_so, fresh_same, objects_more}
@@ -94,7 +94,7 @@ entered_settled r n routine from us w e = by (routine_at w.program routine)
 
 -- ---- the creation
 
-module _ (number class k n routine : ℕ) (name : List ℕ) (y z : PlainStore) (comes : Comes (hop.Comes (act.Create class (Some k) n)) y z) (creator : IsCreator number z)
+module _ (number class k n routine : ℕ) (name : List ℕ) (y z : PlainStore) (comes : Comes (hop.Comes (act.Create class (Some k) n)) y z) (own : RunsOn number z)
     (there : slice_get (pool_of z.program.pool).names k ≡ Some name) (has : Has n (top_activation z.frames)) (room : has_room_in n (top_activation z.frames) ≡ true)
     (found : routine_in (version_in z.program class k) ≡ Some routine) (s : System) (h : ℕ) (x : Half) (is : IsProgramFor s y.program) (region : IsRegionOf s x y)
     (m : Meets s x (hop.Comes (act.Create class (Some k) n)) y z) where
@@ -139,7 +139,7 @@ module _ (number class k n routine : ℕ) (name : List ℕ) (y z : PlainStore) (
   count_same = length-map z.objects (object_in s)
 
   same_handler : m.current.handler ≡ number
-  same_handler = some_same m.current.handler number (ap (λ fs. option_map (λ (r : Reference). r.handler) (top_current fs)) (sym m.frames) ∙ creator.handler)
+  same_handler = some_same m.current.handler number (ap (λ fs. option_map (λ (r : Reference). r.handler) (top_current fs)) (sym m.frames) ∙ own)
 
   reference_same : record (reference_of r) { handler = m.current.handler; number = length os + 1 } ≡ reference_of r
   reference_same =
@@ -234,6 +234,6 @@ module _ (number class k n routine : ℕ) (name : List ℕ) (y z : PlainStore) (
   created_whole = subst (λ v. IsRegionOf s (turn s h x) v) (sym created_is) (by_count (nat_lt (length z.objects) max_objects) told)
 
 pub objects_are_created_by : ProgramsServe → ObjectsAreCreatedBy
-objects_are_created_by serve number class k n routine name y z comes creator there has room found s h x is region =
-    created_whole number class k n routine name y z comes creator there has room found s h x is region
+objects_are_created_by serve number class k n routine name y z comes own there has room found s h x is region =
+    created_whole number class k n routine name y z comes own there has room found s h x is region
     (meets serve s x (hop.Comes (act.Create class (Some k) n)) y z is region comes)

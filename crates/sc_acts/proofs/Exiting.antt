@@ -53,7 +53,7 @@ use Rattle.sc_interp.specs.Turning.{on_top}
 use Rattle.sc_interp.specs.Values.{value_of}
 use Rattle.sc_interp.proofs.GoingOn.{less_is}
 use Rattle.sc_interp.proofs.Playing.{none_some, some_same}
-use Rattle.sc_acts.specs.Acting.{AreWhole, Comes, Meets, RoutinesEnd, TakesAs, TakesResult}
+use Rattle.sc_acts.specs.Acting.{AreWhole, Comes, Meets, RoutinesEnd, TakesAs, TakesResult, is_called}
 use Rattle.sc_acts.proofs.Coming.{meets}
 use Rattle.sc_acts.proofs.Meeting.{object_meets_same, still_settles}
 use Rattle.sc_acts.proofs.Passing.{act_same, state_same, stays, turn_is}
@@ -234,22 +234,23 @@ module _ (s : System) (x : Half) (o : Hop) (y z : PlainStore) (is : IsProgramFor
       ∙ ap (λ n. preconditions.object_meets s (model_objects.object_numbered n (objects_in s z.objects))) number_same
       ∙ ap (λ os. preconditions.object_meets s (model_objects.object_numbered m.frame.current.number os)) same
 
-  region_returned : (v : Option Value) → TakesAs v m.rest → (from : Origin) →
+  region_returned : (v : Option Value) (from : Origin) → (is_called (origin_of from) ≡ true → TakesAs v m.rest) →
       IsRegionOf s (hands from (option_map value_of v) (leaves s (frame_at m.frame m.point) m.below after)) (returned (origin_of from) v here)
-  region_returned v takes from = by from
+  region_returned v from takes = by from takes
     where
-      called : IsRegionOf s (hands (Called Unqualified) (option_map value_of v) (leaves s (frame_at m.frame m.point) m.below after)) (on_top (handed v) (left here))
-      called = still_hands s (leaves s (frame_at m.frame m.point) m.below after) (left here) v region_left (still_takes v under _ takes)
+      called : TakesAs v m.rest → IsRegionOf s (hands (Called Unqualified) (option_map value_of v) (leaves s (frame_at m.frame m.point) m.below after)) (on_top (handed v) (left here))
+      called takes = still_hands s (leaves s (frame_at m.frame m.point) m.below after) (left here) v region_left (still_takes v under _ takes)
 
       by_request : (b : Bool) → IsRegionOf s (leaves s (frame_at m.frame m.point) m.below after) (returned (requested b) v here)
       by_request true = region_left
       by_request false = region_left
 
-      by : (from : Origin) → IsRegionOf s (hands from (option_map value_of v) (leaves s (frame_at m.frame m.point) m.below after)) (returned (origin_of from) v here)
-      by (Called Unqualified) = called
-      by (Called Qualified) = called
-      by (Called Creation) = called
-      by (Requested r) = by_request (is_creation r.errand)
+      by : (from : Origin) → (is_called (origin_of from) ≡ true → TakesAs v m.rest) →
+          IsRegionOf s (hands from (option_map value_of v) (leaves s (frame_at m.frame m.point) m.below after)) (returned (origin_of from) v here)
+      by (Called Unqualified) takes = called (takes refl)
+      by (Called Qualified) takes = called (takes refl)
+      by (Called Creation) takes = called (takes refl)
+      by (Requested r) takes = by_request (is_creation r.errand)
 
 -- ---- what ends
 
@@ -300,7 +301,7 @@ module _ (serve : ProgramsServe) where
       let back : IsRegionOf s (hands m.frame.origin (option_map (λ (u : Operand). u.value) m.point.result) (leaves s f m.below after)) (returned m.activation.origin m.activation.result here) =
       subst (λ q. IsRegionOf s (hands m.frame.origin (option_map (λ (u : Operand). u.value) m.point.result) (leaves s f m.below after)) (returned q m.activation.result here)) (sym e.origin)
       (subst (λ v. IsRegionOf s (hands m.frame.origin v (leaves s f m.below after)) (returned (origin_of m.frame.origin) m.activation.result here)) e.result
-      (region_returned s x o y z is region comes whole m e.same m.activation.result (subst TakesResult m.frames takes) m.frame.origin)) in
+      (region_returned s x o y z is region comes whole m e.same m.activation.result m.frame.origin (λ c. subst TakesResult m.frames takes (ap is_called e.origin ∙ c)))) in
       subst (λ w. IsRegionOf s (turn s h x) (exited w)) (ap (λ fs. record z { frames = fs }) (sym m.frames))
       (subst (λ half. IsRegionOf s half (exited here)) (sym (turn_is s x o y z is region comes m h steps.Exits e.step_is))
       (if_region s _ _ _ _ _ _ e.unset (region_failed s x o y z is region comes whole m e.same cause.UnsetEntity)

@@ -1,10 +1,11 @@
 -- Silent operations that were done before.
-use Rattle.std.proofs.Common.{◌≡◌, ℕ, zero, suc, List, [], ◌∷◌, Some, refl, sym, ap, ◌∙◌}
+use Rattle.std.proofs.Common.{◌≡◌, ℕ, zero, suc, List, [], ◌∷◌, Some, refl, sym, ap, ◌∙◌, subst}
 use Rattle.std.specs.Option.{option_map}
 use Rattle.sc_tree.specs.Plain.{System}
 use Rattle.sc_model.specs.Values.{Reference}
 use Rattle.sc_code.specs.Machine.{Code, State, Hop, Goes, Does, hop, hops, then_hop}
 use Rattle.sc_region.specs.declared.frame.Stage.TheVariants as stage
+use Rattle.sc_region.specs.declared.job.Want.{Want}
 use Rattle.sc_region.specs.Frames.{PlainActivation, PlainFrame, top_activation, top_current}
 use Rattle.sc_region.specs.Stores.{PlainStore}
 use Rattle.sc_interp.specs.declared.act.Hop as outcome
@@ -14,7 +15,9 @@ use Rattle.sc_interp.specs.Standing.{hopped}
 use Rattle.sc_interp.specs.Values.{reference_of}
 use Rattle.sc_interp.proofs.Moving.{remains_after, runs_on, top_of}
 use Rattle.sc_interp.proofs.Playing.{none_some}
+use Rattle.sc_play.specs.Turns.{GoesOn, TurnIn, TurnMade}
 use Rattle.sc_acts.specs.Acting.{SilentOperationsJoin, TopRuns}
+use Rattle.sc_acts.specs.Placed.{TurnsJoin}
 use Rattle.sc_acts.proofs.Unique.{does_goes, goes_same}
 
 -- so many operations, and then others
@@ -58,3 +61,30 @@ silent_operations_join o y z w leads remains comes = record {
   comes = comes_joined o y z w leads remains comes.comes;
   remains = remains_after y z w remains comes.remains;
 }
+
+-- ---- turns
+
+top_still : (y z : PlainStore) → Remains y z → TopRuns y → TopRuns z
+top_still y z remains runs = by y.frames z.frames refl refl
+  where
+    by : (fs gs : List PlainFrame) → y.frames ≡ fs → z.frames ≡ gs → TopRuns z
+    by [] gs ey ez = none_some stage.Runs (sym (ap (λ hs. option_map (λ (a : PlainActivation). a.stage) (top_activation hs)) ey) ∙ runs)
+    by (f ∷ fs) [] ey ez = none_some f.current (sym (ap top_current ez) ∙ remains.current ∙ ap top_current ey)
+    by (f ∷ fs) (g ∷ gs) ey ez =
+        let same = (remains.stays f.activation g.activation (ap top_activation ey) (ap top_activation ez)).stage in
+        ap (λ hs. option_map (λ (a : PlainActivation). a.stage) (top_activation hs)) ez
+        ∙ ap (λ st. Some st) same
+        ∙ sym (ap (λ hs. option_map (λ (a : PlainActivation). a.stage) (top_activation hs)) ey)
+        ∙ runs
+
+goes_joined : (h : ℕ) (y a z : PlainStore) (w : Want) → LeadsTo y a → Remains y a → TopRuns a → GoesOn h a z w → GoesOn h y z w
+goes_joined h y a z w leads remains runs g =
+    let j = silent_operations_join g.operation y a g.before leads remains (record { runs = runs; comes = g.comes; remains = g.remains }) in
+    record { operation = g.operation; before = g.before; comes = j.comes; remains = j.remains; told = g.told; does = g.does; want = g.want }
+
+pub turns_join : TurnsJoin
+turns_join h y a z w leads remains runs =
+    let there = top_still y a remains runs in (
+      λ t. subst (λ o. TurnIn o h y z w) (sym runs) (goes_joined h y a z w leads remains there (subst (λ o. TurnIn o h a z w) there t)),
+      λ k t. subst (λ o. TurnMade o h y z w) (sym runs) (goes_joined h y a z w leads remains there (subst (λ o. TurnMade o h a z w) there t)),
+    )

@@ -29,3 +29,9 @@ pub mod Versions
 pub mod Playing
 pub mod Telling
 pub mod Rooming
+pub mod Formulas
+pub mod Keeping
+pub mod CreationRoom
+pub mod Sounding
+pub mod Placing
+pub mod Placed

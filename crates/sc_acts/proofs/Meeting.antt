@@ -6,6 +6,7 @@ use Rattle.std.proofs.lemmas.Option.{slice_get_past}
 use Rattle.std.specs.Prelude.{◌==◌, ◌&&◌, nat_lt, slice_get, if◌then◌else◌}
 use Rattle.std.specs.List.{range_with_len}
 use Rattle.std.specs.Option.{is_none, option_map, option_map_or, option_and_then}
+use Rattle.sc_formula.specs.declared.atom.Atom.{Atom}
 use Rattle.sc_formula.specs.Formula.{PlainFormula}
 use Rattle.sc_tree.specs.Plain.{System, Class}
 use Rattle.sc_class.specs.ClassNames.{Root}
@@ -47,6 +48,7 @@ use Rattle.sc_interp.specs.Serving.{version_in}
 use Rattle.sc_interp.specs.Values.{value_of, values_of}
 use Rattle.sc_interp.proofs.RegionSame.{same_current, still_fails}
 use Rattle.sc_acts.specs.Acting.{AreWhole}
+use Rattle.sc_acts.proofs.Formulas.{invariant_sees}
 use Rattle.sc_acts.proofs.Standing.{mapped_get}
 
 -- ---- lists
@@ -212,21 +214,34 @@ atom_same (Boolean b) = refl
 atom_same Void = refl
 atom_same (Attached r) = refl
 
-atoms_same : (bs : List Binding) (vs : List Value) → length vs ≡ length bs → model.atoms_of (valued bs (values_of vs)) ≡ atoms_of vs
-atoms_same [] [] e = refl
-atoms_same [] (v ∷ vs) e = absurd (omega (arith, e))
-atoms_same (b ∷ bs) [] e = absurd (omega (arith, e))
-atoms_same (b ∷ bs) (v ∷ vs) e =
-    ap (λ a. a ∷ model.atoms_of (valued bs (values_of vs))) (atom_same v) ∙ ap (λ us. atom_of v ∷ us) (atoms_same bs vs (omega (arith, e)))
+-- the atoms of the attributes, and those behind them
+record Atoms (bs : List Binding) (vs : List Value) : Type 0 where
+  more : List Atom
+  same : atoms_of vs ≡ model.atoms_of (valued bs (values_of vs)) ++ more
+  many : length bs ≤ length (model.atoms_of (valued bs (values_of vs)))
 
-pub meets_same : (s : System) (p : Image) → IsProgramFor s p → (o : PlainObject) → length o.attributes ≡ length (defaults_of (class_at p o.class)) →
+atoms_same : (bs : List Binding) (vs : List Value) → length bs ≤ length vs → Atoms bs vs
+atoms_same [] vs l = record { more = atoms_of vs; same = refl; many = omega arith }
+atoms_same (b ∷ bs) [] l = absurd (omega (arith, l))
+atoms_same (b ∷ bs) (v ∷ vs) l =
+    let rest = atoms_same bs vs (omega (arith, l)) in
+    record {
+      more = rest.more;
+      same = ap (λ us. atom_of v ∷ us) rest.same ∙ ap (λ a. a ∷ (model.atoms_of (valued bs (values_of vs)) ++ rest.more)) (sym (atom_same v));
+      many = let many = rest.many in omega (arith, many);
+    }
+
+pub meets_same : (s : System) (p : Image) → IsProgramFor s p → (o : PlainObject) → length (defaults_of (class_at p o.class)) ≤ length o.attributes →
     meets_invariant p o ≡ model.meets_invariant s (object_in s o)
 meets_same s p is o whole =
     let bs = fresh_attributes s (features s o.class) in
     let purity = purity_stands s in
     let known = invariants_are_known s is.root purity.0 is.faultless is.well_formed purity.1 o.class in
+    let many = fresh_many s is.root p is.program o.class in
+    let atoms = atoms_same bs o.attributes (omega (arith, whole, many)) in
     ap (λ cs. all_hold cs (atoms_of o.attributes)) (clauses_are s is.root p is.program o.class)
-    ∙ ap (λ us. all_hold (known_formulas (formulas_of s o.class)) us) (sym (atoms_same bs o.attributes (whole ∙ fresh_many s is.root p is.program o.class)))
+    ∙ ap (λ us. all_hold (known_formulas (formulas_of s o.class)) us) atoms.same
+    ∙ invariant_sees s o.class (model.atoms_of (valued bs (values_of o.attributes))) atoms.more atoms.many
     ∙ ap (λ cs. meets_clauses cs (model.atoms_of (valued bs (values_of o.attributes)))) (sym known)
 
 pub numbered_same : (s : System) (n : ℕ) (os : List PlainObject) → model_objects.object_numbered n (objects_in s os) ≡ option_map (object_in s) (object_numbered n os)

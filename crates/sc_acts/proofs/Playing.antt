@@ -29,11 +29,11 @@ one_more : (m : ℕ) → suc (suc m) ≡ suc m + 1
 one_more m = omega arith
 
 module _ (s : System) (h : ℕ) (j : Task) (x : Half) where
-  turn_more : (n : ℕ) → 0 < n → turn s h (played s h j n x) ≡ played s h j (n + 1) x
+  pub turn_more : (n : ℕ) → 0 < n → turn s h (played s h j n x) ≡ played s h j (n + 1) x
   turn_more zero some = absurd (omega (arith, some))
   turn_more (suc m) some = last_turn s h m (taken_turn s h j x) ∙ ap (λ k. played s h j k x) (one_more m)
 
-  want_more : (names : Numbering) (n : ℕ) → 0 < n → next_want names s h (played s h j n x) ≡ want_after names s h j (n + 1) x
+  pub want_more : (names : Numbering) (n : ℕ) → 0 < n → next_want names s h (played s h j n x) ≡ want_after names s h j (n + 1) x
   want_more names zero some = absurd (omega (arith, some))
   want_more names (suc m) some = ap (λ k. want_after names s h j k x) (one_more m)
 

@@ -1,6 +1,6 @@
 -- Routines that are to be given a value have room for it.
-use Rattle.std.proofs.Common.{◌≡◌, ◌≤◌, ◌<◌, ℕ, zero, suc, ◌+◌, ◌-◌, Bool, true, false, List, [], ◌∷◌, Option, Some, None, length, drop, take, refl, sym, ap, ◌∙◌, subst, arith}
-use Rattle.std.specs.Prelude.{◌||◌, ◌&&◌, ◌==◌, nat_lt, is_some, if◌then◌else◌}
+use Rattle.std.proofs.Common.{◌≡◌, ◌<◌, ℕ, zero, suc, ◌+◌, Bool, true, false, List, [], ◌∷◌, Option, Some, None, length, drop, refl, sym, ap, ◌∙◌, subst, arith}
+use Rattle.std.specs.Prelude.{◌||◌, ◌&&◌, ◌==◌, nat_lt, if◌then◌else◌}
 use Rattle.std.specs.Option.{option_map}
 use Rattle.sc_code.specs.declared.program.Image.{Image}
 use Rattle.sc_code.specs.declared.program.RoutineCode.{RoutineCode}
@@ -25,6 +25,7 @@ use Rattle.sc_interp.specs.Creating.{created_at, given, has_room, has_room_in, m
 use Rattle.sc_interp.specs.Entering.{called_at, entered_if, has_operands, in_call, last_values, operands_of, origin_of, routine_in}
 use Rattle.sc_interp.specs.Exiting.{exited_at, handed, handed_as, handed_at, handed_value, is_unset, is_untested, returned}
 use Rattle.sc_interp.specs.Laws.{ProgramsServe}
+use Rattle.sc_interp.specs.Playing.{Remains}
 use Rattle.sc_interp.specs.Refusing.{is_waited_for, refused_as, refused_at, waiting}
 use Rattle.sc_interp.specs.Serving.{version_in}
 use Rattle.sc_interp.specs.Standing.{formals_at}
@@ -41,9 +42,9 @@ use Rattle.sc_play.specs.CreatingObjects.{created_with}
 use Rattle.sc_play.specs.Operands.{class_number}
 use Rattle.sc_play.specs.Requesting as requesting
 use Rattle.sc_play.specs.Requesting.{awaiting_if, call_of, request_in, sent}
-use Rattle.sc_acts.specs.Acting.{TakesResult}
+use Rattle.sc_acts.specs.Acting.{TakesResult, TopRuns}
 use Rattle.sc_acts.specs.Jobs.{TakesAnswer}
-use Rattle.sc_acts.specs.Rooms.{AnswersHaveRoom, GetsAnswer, GetsAs, HasResult, HasRoom, HaveRoom, RoomIsKept, RoutinesEndWithRoom, takes_value}
+use Rattle.sc_acts.specs.Rooms.{AnswersHaveRoom, GetsAnswer, HasResult, HasRoom, HaveRoom, RoomIsKept, RoutinesEndWithRoom, takes_value}
 use Rattle.sc_acts.proofs.Exiting.{routines_end}
 
 -- ---- frames
@@ -60,7 +61,7 @@ no_value : (a : PlainActivation) (s : Stage) → a.stage ≡ s → takes_value s
 no_value a s e none = λ t. false_true (sym none ∙ ap takes_value (sym e) ∙ t)
 
 -- the topmost routine is to be given no value afterwards
-top_kept : (f : PlainActivation → PlainActivation) (s : Stage) → ((a : PlainActivation) → (f a).stage ≡ s) → takes_value s ≡ false → (fs : List PlainFrame) → HaveRoom fs → HaveRoom (top_frame f fs)
+pub top_kept : (f : PlainActivation → PlainActivation) (s : Stage) → ((a : PlainActivation) → (f a).stage ≡ s) → takes_value s ≡ false → (fs : List PlainFrame) → HaveRoom fs → HaveRoom (top_frame f fs)
 top_kept f s e none [] room = tt
 top_kept f s e none (t ∷ below) room = (no_value (f t.activation) s (e t.activation) none, room.1)
 
@@ -83,7 +84,7 @@ with_below (g ∷ gs) runs room = (no_value g.activation stage.Runs runs refl, r
 
 -- ---- stores
 
-settled_keeps : (P : List PlainFrame → Type 0) (number : ℕ) (x : PlainStore) → P [] → P x.frames → P (settled number x).frames
+pub settled_keeps : (P : List PlainFrame → Type 0) (number : ℕ) (x : PlainStore) → P [] → P x.frames → P (settled number x).frames
 settled_keeps P number x empty kept = by (is_settled number x && object_breaks x.program (object_numbered number x.objects))
   where
     by : (b : Bool) → P (if b then failed cause.Invariant x else x).frames
@@ -101,7 +102,7 @@ begins_without : (slots : List ℕ) → takes_value (stage_of slots) ≡ false
 begins_without [] = refl
 begins_without (k ∷ ks) = refl
 
-entered_room : (me : Reference) (routine : ℕ) (o : Origin) (us : List Value) (x : PlainStore) → HaveRoom x.frames → HaveRoom (entered me routine o us x).frames
+pub entered_room : (me : Reference) (routine : ℕ) (o : Origin) (us : List Value) (x : PlainStore) → HaveRoom x.frames → HaveRoom (entered me routine o us x).frames
 entered_room me routine o us x room = by (routine_at x.program routine)
   where
     by_count : (r : RoutineCode) (b : Bool) → HaveRoom (if b then record x { frames = record { current = me; activation = beginning routine r o us } ∷ x.frames } else failed cause.StackFull x).frames
@@ -274,7 +275,7 @@ handed_value_runs v a runs = by (nat_lt (length a.operands.values) a.operands.de
     by true = runs
     by false = runs
 
-handed_runs : (gives : Bool) (v : Option Value) (a : PlainActivation) → a.stage ≡ stage.Runs → (handed_as gives v a).stage ≡ stage.Runs
+pub handed_runs : (gives : Bool) (v : Option Value) (a : PlainActivation) → a.stage ≡ stage.Runs → (handed_as gives v a).stage ≡ stage.Runs
 handed_runs true (Some v) a runs = handed_value_runs v a runs
 handed_runs true None a runs = runs
 handed_runs false v a runs = runs
@@ -335,6 +336,11 @@ acts_room h (act.Open first n) z t kept = opened_room first (heads_in first n (t
 acts_room h act.Leave z t kept = left_with_room (innermost_in (top_activation z.frames)) z kept
 acts_room h act.Exit z t kept = exited_room (top_current z.frames) (top_activation z.frames) z kept.1
 
+-- silent operations leave room
+pub room_remains : (y z : PlainStore) → TopRuns y → Remains y z → HaveRoom y.frames → HaveRoom z.frames
+room_remains y z runs remains room =
+    with_below z.frames (runs_still y.frames z.frames runs (λ a b ta tb. (remains.stays a b ta tb).stage)) (below_room y.frames z.frames remains.below room)
+
 pub room_is_kept : RoomIsKept
 room_is_kept h a y z runs remains t room =
     let running = runs_still y.frames z.frames runs (λ a b ta tb. (remains.stays a b ta tb).stage) in
@@ -342,8 +348,8 @@ room_is_kept h a y z runs remains t room =
 
 takes_result : (fs : List PlainFrame) → HaveRoom fs → HasResult fs → TakesResult fs
 takes_result [] room result = tt
-takes_result (f ∷ []) room result = tt
-takes_result (f ∷ g ∷ gs) room result = λ e. (result e, room.1.0 (ap takes_value e))
+takes_result (f ∷ []) room result = λ c. tt
+takes_result (f ∷ g ∷ gs) room result = λ c e. (result c e, room.1.0 (ap takes_value e))
 
 takes_answer : (v : Option Value) (fs : List PlainFrame) → HaveRoom fs → GetsAnswer v fs → TakesAnswer v fs
 takes_answer v [] room gets = tt

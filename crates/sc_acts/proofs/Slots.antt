@@ -24,7 +24,7 @@ pub Sized : ℕ → Hop → Type 0
 Sized n (Goes f) = length f.slots ≡ n
 Sized n (Does a f) = length f.slots ≡ n
 
-set_many : {A : Type 0} (xs : List A) (k : ℕ) (x : A) → length (slice_set xs k x) ≡ length xs
+pub set_many : {A : Type 0} (xs : List A) (k : ℕ) (x : A) → length (slice_set xs k x) ≡ length xs
 set_many [] k x = refl
 set_many (y ∷ ys) zero x = refl
 set_many (y ∷ ys) (suc k) x = ap (λ n. suc n) (set_many ys k x)

@@ -1,5 +1,5 @@
 -- Requests as they are taken.
-use Rattle.std.proofs.Common.{◌≡◌, ◌⊎◌, inl, inr, ℕ, zero, suc, ◌+◌, ◌-◌, Bool, true, false, not, List, [], ◌∷◌, ◌++◌, Option, Some, None, is_some, length, map, refl, sym, ap, ◌∙◌, subst}
+use Rattle.std.proofs.Common.{◌≡◌, ◌≤◌, ◌⊎◌, inl, inr, ℕ, zero, suc, ◌+◌, ◌-◌, Bool, true, false, not, List, [], ◌∷◌, ◌++◌, Option, Some, None, is_some, length, map, refl, sym, ap, ◌∙◌, subst, arith}
 use Rattle.std.proofs.lemmas.List.{length-map}
 use Rattle.std.specs.Prelude.{◌==◌, ◌&&◌, nat_lt, slice_get, if◌then◌else◌}
 use Rattle.std.specs.Option.{is_none, option_map, option_and_then}
@@ -136,7 +136,7 @@ module _ {A : Type 0} (f : PlainStore → A) (failed : (why : Cause) (y : PlainS
 
 whole_same : (y z : PlainStore) → z.objects ≡ y.objects → z.program ≡ y.program → AreWhole y → AreWhole z
 whole_same y z objects program whole number o e =
-    whole number o (ap (object_numbered number) (sym objects) ∙ e) ∙ ap (λ p. length (defaults_of (class_at p o.class))) (sym program)
+    subst (λ p. length (defaults_of (class_at p o.class)) ≤ length o.attributes) (sym program) (whole number o (ap (object_numbered number) (sym objects) ∙ e))
 
 -- what stands in a longer list
 get_more : (os : List PlainObject) (p o : PlainObject) (k : ℕ) → slice_get (os ++ p ∷ []) k ≡ Some o → (slice_get os k ≡ Some o) ⊎ (p ≡ o)
@@ -151,12 +151,12 @@ get_more (q ∷ os) p o (suc k) e = get_more os p o k e
 whole_more : (class : ℕ) (y : PlainStore) → AreWhole y → AreWhole (with_new class y)
 whole_more class y whole number o e = by (number == 0) refl e
   where
-    there : (number == 0) ≡ false → (slice_get y.objects (number - 1) ≡ Some o) ⊎ (at.fresh_object y.program class ≡ o) → length o.attributes ≡ length (defaults_of (class_at y.program o.class))
+    there : (number == 0) ≡ false → (slice_get y.objects (number - 1) ≡ Some o) ⊎ (at.fresh_object y.program class ≡ o) → length (defaults_of (class_at y.program o.class)) ≤ length o.attributes
     there some (inl e) = whole number o (ap (λ b. if b then None else slice_get y.objects (number - 1)) some ∙ e)
-    there some (inr e) = subst (λ (q : PlainObject). length q.attributes ≡ length (defaults_of (class_at y.program q.class))) e refl
+    there some (inr e) = subst (λ (q : PlainObject). length (defaults_of (class_at y.program q.class)) ≤ length q.attributes) e (omega arith)
 
     by : (b : Bool) → (number == 0) ≡ b → (if b then None else slice_get (y.objects ++ at.fresh_object y.program class ∷ []) (number - 1)) ≡ Some o →
-        length o.attributes ≡ length (defaults_of (class_at y.program o.class))
+        length (defaults_of (class_at y.program o.class)) ≤ length o.attributes
     by true some e = none_some o e
     by false some e = there some (get_more y.objects (at.fresh_object y.program class) o (number - 1) e)
 

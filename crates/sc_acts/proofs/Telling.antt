@@ -49,7 +49,7 @@ use Rattle.sc_acts.proofs.Wanting.{creations_ask, distinct_names_have_numbers, r
 
 -- ---- the topmost routine
 
-ready_in : (p : Image) (a : Act) (o : Option PlainActivation) → IsReadyAt p a o → (b : PlainActivation) × (o ≡ Some b) × IsReady p a b
+pub ready_in : (p : Image) (a : Act) (o : Option PlainActivation) → IsReadyAt p a o → (b : PlainActivation) × (o ≡ Some b) × IsReady p a b
 ready_in p a None t = absurd t
 ready_in p a (Some b) t = (b, refl, t)
 
@@ -73,23 +73,23 @@ both_true false b e f = cc
 actuals_there : (n : ℕ) (a : PlainActivation) → n < 17 → n ≤ length a.operands.values → has_actuals n a ≡ true
 actuals_there n a l m = both_true (nat_lt n 17) (not (nat_lt (length a.operands.values) n)) (less_is n 17 l) (ap not (more_is (length a.operands.values) n m))
 
-operands_there : (n : ℕ) (a : PlainActivation) → n < 18 → n ≤ length a.operands.values → has_operands n a ≡ true
+pub operands_there : (n : ℕ) (a : PlainActivation) → n < 18 → n ≤ length a.operands.values → has_operands n a ≡ true
 operands_there n a l m = both_true (nat_lt n 18) (not (nat_lt (length a.operands.values) n)) (less_is n 18 l) (ap not (more_is (length a.operands.values) n m))
 
-call_there : (n : ℕ) (a : PlainActivation) → n < 17 → n + 1 ≤ length a.operands.values → has_call n a ≡ true
+pub call_there : (n : ℕ) (a : PlainActivation) → n < 17 → n + 1 ≤ length a.operands.values → has_call n a ≡ true
 call_there n a l m = both_true (nat_lt n 17) (nat_lt n (length a.operands.values)) (less_is n 17 l) (less_is n (length a.operands.values) (omega (arith, m)))
 
 few_operands : (c : Calling) (n : ℕ) → n < 17 → operands_of c n < 18
 few_operands calling.Unqualified n l = omega (arith, l)
 few_operands calling.Qualified n l = omega (arith, l)
 
-enter_there : (c : Calling) (n : ℕ) (a : PlainActivation) → n < 17 → operands_of c n ≤ length a.operands.values → nat_lt n 17 && has_operands (operands_of c n) a ≡ true
+pub enter_there : (c : Calling) (n : ℕ) (a : PlainActivation) → n < 17 → operands_of c n ≤ length a.operands.values → nat_lt n 17 && has_operands (operands_of c n) a ≡ true
 enter_there c n a l m = both_true (nat_lt n 17) (has_operands (operands_of c n) a) (less_is n 17 l) (operands_there (operands_of c n) a (few_operands c n l) m)
 
-creation_there : (n : ℕ) (a : PlainActivation) → n < 17 → n ≤ length a.operands.values → length (drop n a.operands.values) < a.operands.depth → may_create n a ≡ true
+pub creation_there : (n : ℕ) (a : PlainActivation) → n < 17 → n ≤ length a.operands.values → length (drop n a.operands.values) < a.operands.depth → may_create n a ≡ true
 creation_there n a l m room = both_true (has_actuals n a) (has_room n a) (actuals_there n a l m) (less_is (length (drop n a.operands.values)) a.operands.depth room)
 
-heads_there : (first n : ℕ) (a : PlainActivation) → n < 17 → n ≤ length a.operands.values → first + n ≤ length a.slots → may_open first n a ≡ true
+pub heads_there : (first n : ℕ) (a : PlainActivation) → n < 17 → n ≤ length a.operands.values → first + n ≤ length a.slots → may_open first n a ≡ true
 heads_there first n a l m slots =
     both_true (has_actuals n a) (not (nat_lt (length a.slots) (first + n))) (actuals_there n a l m) (ap not (more_is (length a.slots) (first + n) slots))
 
@@ -116,37 +116,37 @@ opened_frames first n (f ∷ below) a vs top same many =
 
 -- ---- names and sites
 
-few_actuals : (p : Image) (x n : ℕ) (gives : Bool) → FitsRequests p → NamesCall p x n gives → n < 17
+pub few_actuals : (p : Image) (x n : ℕ) (gives : Bool) → FitsRequests p → NamesCall p x n gives → n < 17
 few_actuals p x n gives fits c = subst (λ n. n < 17) c.count (fits.calls c.is_call.number c.site c.is_call.there)
 
-name_there : (p : Image) (x n : ℕ) (gives : Bool) → NamesCall p x n gives → HasName p x
+pub name_there : (p : Image) (x n : ℕ) (gives : Bool) → NamesCall p x n gives → HasName p x
 name_there p x n gives c = subst (λ x. HasName p x) c.name c.is_call.named
 
-procedure_there : (p : Image) (class : ℕ) (x : Option ℕ) (n : ℕ) → NamesCreation p class x n → HasProcedure p x
+pub procedure_there : (p : Image) (class : ℕ) (x : Option ℕ) (n : ℕ) → NamesCreation p class x n → HasProcedure p x
 procedure_there p class x n c = subst (λ x. HasProcedure p x) c.procedure c.is_creation.named
 
-small_creation : (p : Image) (class : ℕ) (x : Option ℕ) (n : ℕ) → FitsRequests p → NamesCreation p class x n → (n < 17) × (class < 256)
+pub small_creation : (p : Image) (class : ℕ) (x : Option ℕ) (n : ℕ) → FitsRequests p → NamesCreation p class x n → (n < 17) × (class < 256)
 small_creation p class x n fits c =
     let l = fits.creations c.is_creation.number c.site c.is_creation.there in
     (subst (λ n. n < 17) c.count l.0, subst (λ k. k < 256) c.class l.1)
 
-name_fits : (p : Image) (x : ℕ) → FitsRequests p → HasName p x → name_number x ≡ Some x
+pub name_fits : (p : Image) (x : ℕ) → FitsRequests p → HasName p x → name_number x ≡ Some x
 name_fits p x fits e =
     let l = slice_get_within (pool_of p.pool).names x (name_at p x) e in
     let few = fits.names in
     ap (λ b. if b then Some x else None) (less_is x 4294967296 (omega (arith, l, few)))
 
-procedure_fits : (p : Image) (x : Option ℕ) → FitsRequests p → HasProcedure p x → procedure_number x ≡ Some x
+pub procedure_fits : (p : Image) (x : Option ℕ) → FitsRequests p → HasProcedure p x → procedure_number x ≡ Some x
 procedure_fits p None fits e = refl
 procedure_fits p (Some x) fits e = ap (λ o. option_map (λ (k : ℕ). Some k) o) (name_fits p x fits e)
 
-class_fits : (class : ℕ) → class < 256 → class_number class ≡ Some class
+pub class_fits : (class : ℕ) → class < 256 → class_number class ≡ Some class
 class_fits class l = ap (λ b. if b then Some class else None) (less_is class 256 l)
 
-numbered : (z : PlainStore) (x : ℕ) → FitsRequests z.program → HasName z.program x → IsNumbered z x
+pub numbered : (z : PlainStore) (x : ℕ) → FitsRequests z.program → HasName z.program x → IsNumbered z x
 numbered z x fits e = distinct_names_have_numbers (names_of z) x (name_at z.program x) fits.distinct e
 
-procedure_numbered : (z : PlainStore) (x : Option ℕ) → FitsRequests z.program → HasProcedure z.program x → IsProcedure z x
+pub procedure_numbered : (z : PlainStore) (x : Option ℕ) → FitsRequests z.program → HasProcedure z.program x → IsProcedure z x
 procedure_numbered z None fits e = tt
 procedure_numbered z (Some x) fits e = numbered z x fits e
 
@@ -227,10 +227,10 @@ module _ (serve : ProgramsServe) where
       (objects_are_created serve h class n y z t.comes creator s h x is region)
 
   pub told_objects_are_created_by : ToldObjectsAreCreatedBy
-  told_objects_are_created_by h class k n routine y z t creator room found s x is region =
+  told_objects_are_created_by h class k n routine y z t own room found s x is region =
       let b = ready_in z.program (act.Create class (Some k) n) (top_activation z.frames) t.told in
       let small = small_creation z.program class (Some k) n t.fits b.2.named in
       let name = procedure_there z.program class (Some k) n b.2.named in
       let has : Has n (top_activation z.frames) = subst (λ o. Has n o) (sym b.1) (let l = small.0 in operands_there n b.0 (omega (arith, l)) b.2.operands) in
       subst (λ w. IsRegionOf s (turn s h x) w) (sym (ap (λ q. objects.created_of q h (Some k) n z) (class_fits class small.1)))
-      (objects_are_created_by serve h class k n routine (name_at z.program k) y z t.comes creator name has room found s h x is region)
+      (objects_are_created_by serve h class k n routine (name_at z.program k) y z t.comes own name has room found s h x is region)

@@ -50,10 +50,10 @@ use Rattle.sc_play.specs.Taking.{asks_taking}
 use Rattle.sc_play.specs.Turns.{Becomes, GoesOn, TurnIn, TurnMade, TurnOf, asks_done, done}
 use Rattle.sc_play.proofs.Programs.{turn_keeps}
 use Rattle.sc_acts.specs.Acting as acting
-use Rattle.sc_acts.specs.Acting.{Comes, HasBlock, HasNoBlock, IsNotWaitedFor, TopRuns, TurnsInto, asks_nothing, creating, opening, sending}
+use Rattle.sc_acts.specs.Acting.{AreWhole, Comes, HasBlock, HasNoBlock, IsNotWaitedFor, TopRuns, TurnsInto, asks_nothing, creating, opening, sending}
 use Rattle.sc_acts.specs.Making.{told_half}
 use Rattle.sc_acts.specs.Reserving.{MayOpen}
-use Rattle.sc_acts.specs.Turns.{FirstTurnsAreMade, IsWellPlaced, JobsAreTaken, MayAct, MayDo, MayGoOn, MayTurn, MayTurnIn, MayTurnMade, TurnsAreMade}
+use Rattle.sc_acts.specs.Turns.{FirstTurnsAreMade, JobsAreTaken, MayAct, MayDo, MayGoOn, MayTurn, MayTurnIn, MayTurnMade, TurnsAreMade}
 use Rattle.sc_acts.specs.Waiting.{IsWaitedFor, RefusesInContract}
 use Rattle.sc_acts.specs.Wanting.{MayCreate, MayRequest}
 use Rattle.sc_acts.proofs.Asking.{failures_are_told, same_unless, simple_steps_ask_nothing, told_by}
@@ -169,26 +169,26 @@ module _ (serve : ProgramsServe) (h : ℕ) (y : PlainStore) (s : System) (x : Ha
         (IsRegionOf s (turn s h x) (acted h a b) → next_want names s h x ≡ unless_failed (acted h a b).failure (asks_acted h a b (acted h a b))) → DoesSo a
     as_store a w e left_so asks = let left_here = subst (λ w. IsRegionOf s (turn s h x) w) e left_so in (left_here, sym (asks left_here))
 
-    creates : (class : ℕ) (k : Option ℕ) (n : ℕ) → Comes (hop.Comes (act.Create class k n)) y b → IsWellPlaced h b → MayAct (act.Create class k n) b →
+    creates : (class : ℕ) (k : Option ℕ) (n : ℕ) → Comes (hop.Comes (act.Create class k n)) y b → MayAct h (act.Create class k n) b →
         (acted h (act.Create class k n) b).program ≡ y.program → DoesSo (act.Create class k n)
-    creates class None n comes placed may program =
+    creates class None n comes may program =
         let a = act.Create class None n in
-        as_store a _ (sym (ap (λ q. creating_objects.created_of q h None n b) may)) (objects_are_created serve h class n y b comes placed.may_create s h x is region)
+        as_store a _ (sym (ap (λ q. creating_objects.created_of q h None n b) may.0)) (objects_are_created serve h class n y b comes may.1 s h x is region)
         (object_creations_ask serve h class None n y b (acted h a b) comes program s x is region)
-    creates class (Some k) n comes placed may program =
+    creates class (Some k) n comes may program =
         let a = act.Create class (Some k) n in
         as_store a _ (sym (ap (λ q. creating_objects.created_of q h (Some k) n b) may.0))
-        (objects_are_created_by serve h class k n may.4.0 may.1.0 y b comes placed.may_create may.1.1 may.2 may.3 may.4.1 s h x is region)
+        (objects_are_created_by serve h class k n may.4.0 may.1.0 y b comes may.5 may.1.1 may.2 may.3 may.4.1 s h x is region)
         (object_creations_ask serve h class (Some k) n y b (acted h a b) comes program s x is region)
 
-    refuses : (k : ℕ) → Comes (hop.Comes (act.Refuse k)) y b → IsWellPlaced h b → DoesSo (act.Refuse k)
-    refuses k comes placed =
+    refuses : (k : ℕ) → Comes (hop.Comes (act.Refuse k)) y b → AreWhole b → DoesSo (act.Refuse k)
+    refuses k comes whole =
         let left_so = by (top_activation b.frames) refl in
-        (left_so, sym (refusals_ask serve h k y b comes placed.whole s x is region left_so))
+        (left_so, sym (refusals_ask serve h k y b comes whole s x is region left_so))
       where
         waits : (a : PlainActivation) → top_activation b.frames ≡ Some a → (c : Bool) → is_waited_for a (formals_at b.program k) ≡ c → IsRegionOf s (turn s h x) (refused k b)
         waits a e true waited = routines_wait serve k y b comes (subst (IsWaitedFor (formals_at b.program k)) (sym e) waited) s h x is region in_contract
-        waits a e false waited = calls_are_refused serve k y b comes placed.whole (subst (IsNotWaitedFor (formals_at b.program k)) (sym e) waited) s h x is region
+        waits a e false waited = calls_are_refused serve k y b comes whole (subst (IsNotWaitedFor (formals_at b.program k)) (sym e) waited) s h x is region
 
         by : (o : Option PlainActivation) → top_activation b.frames ≡ o → IsRegionOf s (turn s h x) (refused k b)
         by None e =
@@ -219,43 +219,43 @@ module _ (serve : ProgramsServe) (h : ℕ) (y : PlainStore) (s : System) (x : Ha
             none_some m.activation (sym e ∙ ap top_activation m.frames)
         by (Some a) e = by_blocks a e a.blocks refl
 
-    acts : (a : Act) → Comes (hop.Comes a) y b → IsWellPlaced h b → MayAct a b → (acted h a b).program ≡ y.program → DoesSo a
-    acts (act.PrintInteger v) comes placed may program = simple (act.PrintInteger v) _ refl comes (integers_are_printed serve v y b comes)
-    acts (act.PrintBoolean v) comes placed may program = simple (act.PrintBoolean v) _ refl comes (booleans_are_printed serve v y b comes)
-    acts (act.PrintText k) comes placed may program = simple (act.PrintText k) _ refl comes (texts_are_printed serve k y b comes)
-    acts (act.Test n) comes placed may program = simple (act.Test n) _ refl comes (rounds_end serve n y b comes)
-    acts act.Start comes placed may program = simple act.Start _ refl comes (bodies_start serve y b comes)
-    acts (act.Enter c r k n gives) comes placed may program =
+    acts : (a : Act) → Comes (hop.Comes a) y b → MayAct h a b → (acted h a b).program ≡ y.program → DoesSo a
+    acts (act.PrintInteger v) comes may program = simple (act.PrintInteger v) _ refl comes (integers_are_printed serve v y b comes)
+    acts (act.PrintBoolean v) comes may program = simple (act.PrintBoolean v) _ refl comes (booleans_are_printed serve v y b comes)
+    acts (act.PrintText k) comes may program = simple (act.PrintText k) _ refl comes (texts_are_printed serve k y b comes)
+    acts (act.Test n) comes may program = simple (act.Test n) _ refl comes (rounds_end serve n y b comes)
+    acts act.Start comes may program = simple act.Start _ refl comes (bodies_start serve y b comes)
+    acts (act.Enter c r k n gives) comes may program =
         let left_so = calls_are_made serve c r k n gives may.0.0 y b comes may.0.1 may.1 s h x is region in
         (left_so, sym (calls_ask serve h c r k n gives y b (acted h (act.Enter c r k n gives) b) comes program s x is region left_so))
-    acts (act.Request r k n gives passes) comes placed may program =
+    acts (act.Request r k n gives passes) comes may program =
         let a = act.Request r k n gives passes in
         as_store a _ (requested_is h r k n gives passes b may.1) (requests_are_made serve r k n gives passes y b comes s h x is region)
         (requests_ask serve h r k n gives passes y b (acted h a b) comes may.0 may.1 s x is region)
-    acts (act.Create class k n) comes placed may program = creates class k n comes placed may program
-    acts (act.CreateHandler class k n passes) comes placed may program =
+    acts (act.Create class k n) comes may program = creates class k n comes may program
+    acts (act.CreateHandler class k n passes) comes may program =
         let a = act.CreateHandler class k n passes in
         as_store a _ (handler_created_is h class k n passes b may.1) (handlers_are_created serve h class k n passes y b comes s x is region)
         (creations_ask serve h class k n passes y b (acted h a b) comes may.0 may.1 s x is region)
-    acts (act.Refuse k) comes placed may program = refuses k comes placed
-    acts (act.Open first n) comes placed may program =
+    acts (act.Refuse k) comes may program = refuses k comes may
+    acts (act.Open first n) comes may program =
         let a = act.Open first n in
         as_store a _ (opened_is first n b b.frames may) (blocks_begin serve first n y b comes s h x is region)
         (blocks_ask serve h first n y b (acted h a b) comes may s x is region)
-    acts act.Leave comes placed may program = leaves comes
-    acts act.Exit comes placed may program =
-        let left_so = routines_end serve y b comes placed.whole placed.takes_result s h x is region in
-        (left_so, sym (routine_ends_ask serve h y b comes placed.whole s x is region left_so))
+    acts act.Leave comes may program = leaves comes
+    acts act.Exit comes may program =
+        let left_so = routines_end serve y b comes may.0 may.1 s h x is region in
+        (left_so, sym (routine_ends_ask serve h y b comes may.0 s x is region left_so))
 
-    hops : (o : Hop) → Comes o y b → IsWellPlaced h b → MayDo o b → (done h o b).program ≡ y.program → Makes (done h o b) (asks_done h o b (done h o b))
-    hops hop.Passed comes placed may program = let m = meets serve s x hop.Passed y b is region comes in goes_nowhere m.does
+    hops : (o : Hop) → Comes o y b → MayDo h o b → (done h o b).program ≡ y.program → Makes (done h o b) (asks_done h o b (done h o b))
+    hops hop.Passed comes may program = let m = meets serve s x hop.Passed y b is region comes in goes_nowhere m.does
       where
         goes_nowhere : {A : Type 0} {f g : flat.State} {a : flat.Act} → flat.Goes f ≡ flat.Does a g → A
         goes_nowhere e = cc
-    hops (hop.Failed why) comes placed may program =
+    hops (hop.Failed why) comes may program =
         let turns = routines_fail serve why y b comes in
         (turns s h x is region, sym (failures_are_told why y (store.failed why b) turns refl names s h x is region))
-    hops (hop.Comes a) comes placed may program = acts a comes placed may program
+    hops (hop.Comes a) comes may program = acts a comes may program
 
   -- ---- stages
 
@@ -263,7 +263,7 @@ module _ (serve : ProgramsServe) (h : ℕ) (y : PlainStore) (s : System) (x : Ha
   runs z w in_stage g may program =
       let o = g.operation in
       let b = g.before in
-      let made_so = hops b o (record { runs = in_stage; comes = g.comes; remains = g.remains }) may.placed may.may (ap (λ (z : PlainStore). z.program) (sym g.does) ∙ program) in
+      let made_so = hops b o (record { runs = in_stage; comes = g.comes; remains = g.remains }) may (ap (λ (z : PlainStore). z.program) (sym g.does) ∙ program) in
       (subst (λ z. IsRegionOf s (turn s h x) z) (sym g.does) made_so.0, g.want ∙ ap (asks_done h o b) g.does ∙ made_so.1)
 
   becomes : (v : PlainStore) (z : PlainStore) (w : Want) (asked : Want) → Becomes v want.Continue z w → IsRegionOf s (turn s h x) v → asks_on names s h x.stack x.objects ≡ asked →

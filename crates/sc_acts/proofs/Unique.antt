@@ -53,7 +53,7 @@ IsShown x = (k : State) → x ≡ Goes k → ⊥
 does_shown : (a : Act) (f : State) → IsShown (Does a f)
 does_shown a f k e = does_goes a f k e
 
-if_shown : (b : Bool) (x y : Hop) → IsShown x → IsShown y → IsShown (if b then x else y)
+pub if_shown : (b : Bool) (x y : Hop) → IsShown x → IsShown y → IsShown (if b then x else y)
 if_shown true x y l r = l
 if_shown false x y l r = r
 
@@ -64,7 +64,7 @@ object_shown : (s : System) (c : Code) (r : Reference) (procedure : Option (List
 object_shown s c r (Some x) us f = with_shown c r _ f
 object_shown s c r None us f = if_shown (meets_invariant s (fresh_object s r.class)) _ _ (with_shown c r _ f) (λ k e. does_goes _ _ k e)
 
-here_shown : (s : System) (c : Code) (me : Reference) (site : CreationSite) (us : List Value) (f : State) → IsShown (creates_here s c me site us f)
+pub here_shown : (s : System) (c : Code) (me : Reference) (site : CreationSite) (us : List Value) (f : State) → IsShown (creates_here s c me site us f)
 here_shown s c me site us f = if_shown (nat_lt (length f.objects) max_objects) _ _ (object_shown s c _ site.procedure us _) (λ k e. does_goes _ _ k e)
 
 act_shown : (p : Image) (s : System) (c : Code) (me : Reference) (a : told.Act) (f : State) → IsShown (done p s c me a f)

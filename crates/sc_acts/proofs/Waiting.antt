@@ -132,6 +132,6 @@ routines_wait serve k y z comes waits s h x is region entered =
     let o = hop.Comes (act.Refuse k) in
     let m = meets serve s x o y z is region comes in
     let r = refusal s x k y z is region comes m in
-    let first = subst (λ fs. RefusesInContract s x.objects fs) m.stack entered in
+    let first = subst (λ fs. RefusesInContract s x.objects fs) m.stack entered m.stage in
     let stands_in = first.1 r.clause m.point (m.moves ∙ ap (λ a. model.Does a m.point) r.act) in
     region_waits serve s x k y z is region comes m r first.0 stands_in h (subst (λ fs. IsWaitedFor (formals_at z.program k) (top_activation fs)) m.frames waits)

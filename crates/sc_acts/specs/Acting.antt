@@ -1,5 +1,5 @@
 -- What a turn makes of a store is what its definition makes of the half that the store stands for.
-use Rattle.std.specs.Prelude.{◌≡◌, ◌<◌, ℕ, suc, ℤ, ◌+◌, ◌-◌, Bool, true, false, ◌||◌, List, [], ◌∷◌, Option, Some, None, is_some, length, slice_get, slice_set, take}
+use Rattle.std.specs.Prelude.{◌≡◌, ◌<◌, ◌≤◌, ℕ, suc, ℤ, ◌+◌, ◌-◌, Bool, true, false, ◌||◌, List, [], ◌∷◌, Option, Some, None, is_some, length, slice_get, slice_set, take}
 use Rattle.std.specs.Fmt.{signed_decimal}
 use Rattle.std.specs.Option.{option_map}
 use Rattle.sc_tree.specs.Plain.{System}
@@ -15,7 +15,9 @@ use Rattle.sc_model.specs.Handlers.{Origin, Frame, Runs, point_of}
 use Rattle.sc_code.specs.Lowered.{run_of}
 use Rattle.sc_code.specs.Machine as flat
 use Rattle.sc_code.specs.Programs.{pool_of}
-use Rattle.sc_code.specs.Stands.{Seen, Leads, Stands}
+use Rattle.sc_code.specs.Stands.{Seen, Leads, Stands, state_at}
+use Rattle.sc_region.specs.declared.frame.Origin as code_origin
+use Rattle.sc_region.specs.declared.frame.Origin.TheVariants as origin
 use Rattle.sc_region.specs.declared.frame.Stage.TheVariants as stage
 use Rattle.sc_region.specs.declared.value.Reference.{Reference}
 use Rattle.sc_region.specs.declared.value.Value.{Value}
@@ -57,7 +59,7 @@ pub record Comes (o : Hop) (y z : PlainStore) : Type 0 where
   pub remains : Remains y z
 
 -- The topmost frame of the half makes this visible step next, from the point `last`, which a place of the code stands for. The store has come to the
--- operation that is that step in flat code, and is still to do it.
+-- operation that is that step in flat code, and is still to do it. So many silent operations lead to the place.
 pub record Meets (s : System) (x : Half) (o : Hop) (y z : PlainStore) : Type 0 where
   pub frame : Frame
   pub below : List Frame
@@ -78,6 +80,8 @@ pub record Meets (s : System) (x : Half) (o : Hop) (y z : PlainStore) : Type 0 w
   pub place : ℕ
   pub tail : List model_values.Value
   pub stands : Stands (run_of s frame.routine) place tail last
+  pub silent : ℕ
+  pub reaches : flat.hops silent s (run_of s frame.routine).code (reference_of current) (state_in s y before) ≡ flat.Goes (state_at place tail last)
   pub ends : model_step s frame.current last ≡ Does step point
   pub shown : flat.Act
   pub state : flat.State
@@ -95,19 +99,27 @@ SilentOperationsFollow = (s : System) (x : Half) (o : Hop) (y z : PlainStore) �
 
 -- ---- what holds of stores
 
--- Each object has as many attributes as its class.
+-- Each object has at least as many attributes as its class.
 abbrev pub AreWhole : PlainStore → Type 0
-AreWhole y = (number : ℕ) (o : PlainObject) → object_numbered number y.objects ≡ Some o → length o.attributes ≡ length (defaults_of (class_at y.program o.class))
+AreWhole y = (number : ℕ) (o : PlainObject) → object_numbered number y.objects ≡ Some o → length (defaults_of (class_at y.program o.class)) ≤ length o.attributes
 
 -- A caller that takes a value gets this one, and has room for it. The caller is the first of the frames.
 abbrev pub TakesAs : Option Value → List PlainFrame → Type 0
 TakesAs v [] = Unit {0}
 TakesAs v (g ∷ gs) = g.activation.stage ≡ stage.InCall true → (is_some v ≡ true) × (length g.activation.operands.values < g.activation.operands.depth)
 
--- The topmost routine has a Result where its caller takes a value, and the caller has room for it.
+-- A call of the same handler began the routine.
+abbrev pub is_called : code_origin.Origin → Bool
+is_called origin.Unqualified = true
+is_called origin.Qualified = true
+is_called origin.Creation = true
+is_called origin.Requested = false
+is_called origin.RequestedCreation = false
+
+-- The topmost routine has a Result where it was called and its caller takes a value, and the caller has room for it.
 abbrev pub TakesResult : List PlainFrame → Type 0
 TakesResult [] = Unit {0}
-TakesResult (f ∷ below) = TakesAs f.activation.result below
+TakesResult (f ∷ below) = is_called f.activation.origin ≡ true → TakesAs f.activation.result below
 
 -- ---- turns
 
@@ -231,10 +243,14 @@ CallsAreMade = (c : Calling) (r : Reference) (k n : ℕ) (gives : Bool) (name : 
 
 -- ---- objects that are created
 
+-- The topmost routine of the store runs on an object of this handler.
+abbrev pub RunsOn : ℕ → PlainStore → Type 0
+RunsOn h z = option_map (λ (r : Reference). r.handler) (top_current z.frames) ≡ Some h
+
 -- The store hasn't failed, its topmost routine runs on an object of this handler, and none runs on the next object.
 pub record IsCreator (h : ℕ) (z : PlainStore) : Type 0 where
   pub lives : z.failure ≡ None
-  pub handler : option_map (λ (r : Reference). r.handler) (top_current z.frames) ≡ Some h
+  pub handler : RunsOn h z
   pub unborn : is_current (length z.objects + 1) z.frames ≡ false
 
 -- An object of the class is created without a procedure, by the handler of this number.
@@ -244,7 +260,7 @@ ObjectsAreCreated = (h class n : ℕ) (y z : PlainStore) → Comes (hop.Comes (a
 
 -- The same by the procedure of the name of this number, which is a routine, where the operands are there and have room for the reference.
 abbrev pub ObjectsAreCreatedBy : Type 0
-ObjectsAreCreatedBy = (h class k n routine : ℕ) (name : List ℕ) (y z : PlainStore) → Comes (hop.Comes (act.Create class (Some k) n)) y z → IsCreator h z →
+ObjectsAreCreatedBy = (h class k n routine : ℕ) (name : List ℕ) (y z : PlainStore) → Comes (hop.Comes (act.Create class (Some k) n)) y z → RunsOn h z →
     slice_get (pool_of z.program.pool).names k ≡ Some name → Has n (top_activation z.frames) → has_room_in n (top_activation z.frames) ≡ true →
     routine_in (version_in z.program class k) ≡ Some routine → TurnsInto y (created_by (next_reference h class z) k n z)
 

@@ -10,3 +10,6 @@ pub mod Versions
 pub mod Playing
 pub mod Told
 pub mod Rooms
+pub mod Sound
+pub mod Halves
+pub mod Placed

@@ -9,7 +9,7 @@ use Rattle.sc_interp.specs.RegionHalves.{IsRegionOf}
 use Rattle.sc_interp.specs.RegionSteps.{IsProgramFor, MakesTurns, names_of, numbering_by, task_of}
 use Rattle.sc_interp.specs.RegionTurns.{Half, Task, played}
 use Rattle.sc_play.specs.Turns.{Turns, begun, first, more}
-use Rattle.sc_acts.specs.Turns.{MayTurn, MayTurnUnder, begun_half}
+use Rattle.sc_acts.specs.Turns.{MayTurn, MayTurnUnder, RefusesUnder}
 use Rattle.sc_acts.specs.Waiting.{RefusesInContract}
 
 -- Each of the turns may be made.
@@ -19,7 +19,7 @@ MayPlay h j start _ _ _ (more {n} {y} {z} {w} before t) = MayPlay h j start n y 
 
 -- Before each of so many turns a routine that finds a clause false stands in its contract.
 pub record PlaysInContract (s : System) (h : ℕ) (j : Job) (task : Task) (n : ℕ) (x : Half) : Type 0 where
-  pub first : RefusesInContract s x.objects (begun_half j x).stack
+  pub first : RefusesUnder s j x
   pub later : (k : ℕ) → 0 < k → k < n → RefusesInContract s (played s h task k x).objects (played s h task k x).stack
 
 -- So many turns under a job that hasn't begun.

@@ -11,7 +11,7 @@ use Rattle.sc_interp.specs.declared.act.Hop.TheVariants as hop
 use Rattle.sc_interp.specs.Playing.{Remains}
 use Rattle.sc_interp.specs.Told.{IsTold}
 use Rattle.sc_play.specs.Acting.{acted}
-use Rattle.sc_acts.specs.Acting.{AreWhole, Comes, TakesResult, TopRuns}
+use Rattle.sc_acts.specs.Acting.{AreWhole, Comes, TopRuns, is_called}
 use Rattle.sc_acts.specs.Jobs.{TakesAnswer}
 use Rattle.sc_acts.specs.Told.{Turns}
 
@@ -41,10 +41,10 @@ abbrev pub GetsAs : Option Value → List PlainFrame → Type 0
 GetsAs v [] = Unit {0}
 GetsAs v (g ∷ gs) = g.activation.stage ≡ stage.InCall true → is_some v ≡ true
 
--- The topmost routine has a Result where its caller takes a value.
+-- The topmost routine has a Result where it was called and its caller takes a value.
 abbrev pub HasResult : List PlainFrame → Type 0
 HasResult [] = Unit {0}
-HasResult (f ∷ below) = GetsAs f.activation.result below
+HasResult (f ∷ below) = is_called f.activation.origin ≡ true → GetsAs f.activation.result below
 
 -- A routine ends, where each frame has room for the value that it is to be given.
 abbrev pub RoutinesEndWithRoom : Type 0

@@ -17,7 +17,7 @@ use Rattle.sc_interp.specs.RegionTurns.{Half, turn}
 use Rattle.sc_interp.specs.Serving.{version_in}
 use Rattle.sc_interp.specs.Told.{IsTold}
 use Rattle.sc_play.specs.Acting.{acted, asks_acting}
-use Rattle.sc_acts.specs.Acting.{Comes, IsCreator}
+use Rattle.sc_acts.specs.Acting.{Comes, IsCreator, RunsOn}
 
 -- Silent operations lead from the first store to the second one, where it comes to this operation, and the topmost routine is ready for it.
 pub record ComesTold (a : Act) (y z : PlainStore) : Type 0 where
@@ -60,5 +60,5 @@ ToldObjectsAreCreated = (h class n : ℕ) (y z : PlainStore) → ComesTold (act.
 -- The same by the procedure of the name of this number, which is a routine, where there is room for the reference.
 abbrev pub ToldObjectsAreCreatedBy : Type 0
 ToldObjectsAreCreatedBy =
-    (h class k n routine : ℕ) (y z : PlainStore) → ComesTold (act.Create class (Some k) n) y z → IsCreator h z → has_room_in n (top_activation z.frames) ≡ true →
+    (h class k n routine : ℕ) (y z : PlainStore) → ComesTold (act.Create class (Some k) n) y z → RunsOn h z → has_room_in n (top_activation z.frames) ≡ true →
     routine_in (version_in z.program class k) ≡ Some routine → Turns h (act.Create class (Some k) n) y z

@@ -21,7 +21,7 @@ use Rattle.sc_interp.specs.Serving.{version_in}
 use Rattle.sc_play.specs.Answering.{top_stage}
 use Rattle.sc_play.specs.Operands.{class_number}
 use Rattle.sc_play.specs.Turns.{FirstTurn, GoesOn, TurnIn, TurnMade, TurnOf, TurnUnder, begun}
-use Rattle.sc_acts.specs.Acting.{AreWhole, IsCreator, TakesResult}
+use Rattle.sc_acts.specs.Acting.{AreWhole, IsCreator, RunsOn, TakesResult}
 use Rattle.sc_acts.specs.Jobs.{TakesAnswer}
 use Rattle.sc_acts.specs.Making.{told_half}
 use Rattle.sc_acts.specs.Reserving.{MayOpen}
@@ -31,46 +31,39 @@ use Rattle.sc_acts.specs.Wanting.{IsNumbered, IsProcedure, MayCreate, MayRequest
 
 -- ---- what is asked of a store where an operation is done
 
--- The class has a number, the procedure's name is that of a routine, and its operands are there, with room for the reference.
-abbrev pub MayCreateHere : ℕ → Option ℕ → ℕ → PlainStore → Type 0
-MayCreateHere class None n z = class_number class ≡ Some class
-MayCreateHere class (Some k) n z =
+-- The class has a number, and the store may create. A procedure's name is that of a routine, and its operands are there, with room for the reference.
+abbrev pub MayCreateHere : ℕ → ℕ → Option ℕ → ℕ → PlainStore → Type 0
+MayCreateHere h class None n z = (class_number class ≡ Some class) × IsCreator h z
+MayCreateHere h class (Some k) n z =
     (class_number class ≡ Some class) × IsNameOf (names_of z) k × Has n (top_activation z.frames) × (has_room_in n (top_activation z.frames) ≡ true)
-    × ((routine : ℕ) × (routine_in (version_in z.program class k) ≡ Some routine))
+    × ((routine : ℕ) × (routine_in (version_in z.program class k) ≡ Some routine)) × RunsOn h z
 
--- The numbers of the operation are those of names and classes, and its operands are there.
-abbrev pub MayAct : Act → PlainStore → Type 0
-MayAct (act.Enter c r k n gives) z = IsNameOf (names_of z) k × HasCall c n (top_activation z.frames)
-MayAct (act.Request r k n gives passes) z = IsNumbered z k × MayRequest k n (top_activation z.frames)
-MayAct (act.Create class k n) z = MayCreateHere class k n z
-MayAct (act.CreateHandler class k n passes) z = IsProcedure z k × MayCreate class k n (top_activation z.frames)
-MayAct (act.Open first n) z = MayOpen first n (top_activation z.frames)
-MayAct (act.PrintInteger v) z = Unit {0}
-MayAct (act.PrintBoolean b) z = Unit {0}
-MayAct (act.PrintText k) z = Unit {0}
-MayAct (act.Test n) z = Unit {0}
-MayAct act.Start z = Unit {0}
-MayAct (act.Refuse k) z = Unit {0}
-MayAct act.Leave z = Unit {0}
-MayAct act.Exit z = Unit {0}
+-- The numbers of the operation are those of names and classes, and its operands are there. Where objects are tested, they are whole, and a routine that ends has
+-- a Result for its caller.
+abbrev pub MayAct : ℕ → Act → PlainStore → Type 0
+MayAct h (act.Enter c r k n gives) z = IsNameOf (names_of z) k × HasCall c n (top_activation z.frames)
+MayAct h (act.Request r k n gives passes) z = IsNumbered z k × MayRequest k n (top_activation z.frames)
+MayAct h (act.Create class k n) z = MayCreateHere h class k n z
+MayAct h (act.CreateHandler class k n passes) z = IsProcedure z k × MayCreate class k n (top_activation z.frames)
+MayAct h (act.Open first n) z = MayOpen first n (top_activation z.frames)
+MayAct h (act.Refuse k) z = AreWhole z
+MayAct h act.Exit z = AreWhole z × TakesResult z.frames
+MayAct h (act.PrintInteger v) z = Unit {0}
+MayAct h (act.PrintBoolean b) z = Unit {0}
+MayAct h (act.PrintText k) z = Unit {0}
+MayAct h (act.Test n) z = Unit {0}
+MayAct h act.Start z = Unit {0}
+MayAct h act.Leave z = Unit {0}
 
--- How a store of the handler of the number stands while a routine runs.
-pub record IsWellPlaced (h : ℕ) (z : PlainStore) : Type 0 where
-  pub whole : AreWhole z
-  pub takes_result : TakesResult z.frames
-  -- It hasn't failed, its topmost routine runs on an object of the handler, and none runs on the next object.
-  pub may_create : IsCreator h z
+-- The operation may be done by the handler of the number, where it is visible.
+abbrev pub MayDo : ℕ → Hop → PlainStore → Type 0
+MayDo h hop.Passed z = Unit {0}
+MayDo h (hop.Failed why) z = Unit {0}
+MayDo h (hop.Comes a) z = MayAct h a z
 
--- The operation may be done, where it is visible.
-abbrev pub MayDo : Hop → PlainStore → Type 0
-MayDo hop.Passed z = Unit {0}
-MayDo (hop.Failed why) z = Unit {0}
-MayDo (hop.Comes a) z = MayAct a z
-
--- Where its silent operations have come, the store is well placed, and the operation that comes next may be done.
-pub record MayGoOn (h : ℕ) (y z : PlainStore) (w : Want) (t : GoesOn h y z w) : Type 0 where
-  pub placed : IsWellPlaced h t.before
-  pub may : MayDo t.operation t.before
+-- Where its silent operations have come, the operation that comes next may be done.
+abbrev pub MayGoOn : (h : ℕ) (y z : PlainStore) (w : Want) → GoesOn h y z w → Type 0
+MayGoOn h y z w t = MayDo h t.operation t.before
 
 -- The turn of a handler whose topmost routine is in this stage may be made.
 abbrev pub MayTurnIn : (o : Option Stage) (h : ℕ) (y z : PlainStore) (w : Want) → TurnIn o h y z w → Type 0
@@ -124,16 +117,26 @@ MayTurnUnder h (job.Granted ks) y z w t = Unit {0}
 MayTurnUnder h (job.Made k) y z w t = MayTurnMade (top_stage y) h y z w t
 MayTurnUnder h job.Go y z w t = MayTurn h y z w t
 
+-- Where a routine goes on in the first turn under the job, it stands in its contract where it finds a clause false.
+abbrev pub RefusesUnder : System → Job → Half → Type 0
+RefusesUnder s (job.Made k) x = RefusesInContract s x.objects (told_half k x).stack
+RefusesUnder s job.Go x = RefusesInContract s x.objects x.stack
+RefusesUnder s (job.Take r) x = Unit {0}
+RefusesUnder s (job.Reply v) x = Unit {0}
+RefusesUnder s job.Failed x = Unit {0}
+RefusesUnder s job.Refused x = Unit {0}
+RefusesUnder s (job.Granted ks) x = Unit {0}
+
 -- The first turn under a job, in a store in which it has begun.
 abbrev pub JobsAreTaken : Type 0
 JobsAreTaken =
     (h : ℕ) (j : Job) (y z : PlainStore) (w : Want) (t : TurnUnder h j y z w) → MayTurnUnder h j y z w t → (s : System) (x : Half) → IsProgramFor s y.program →
-    IsRegionOf s (begun_half j x) y → RefusesInContract s x.objects (begun_half j x).stack →
+    IsRegionOf s (begun_half j x) y → RefusesUnder s j x →
     IsRegionOf s (taken_turn s h (task_of (names_of y) j) x) z × (w ≡ first_want (numbering_by (names_of y)) s h (task_of (names_of y) j) x)
 
 -- The first turn under a job that hasn't begun.
 abbrev pub FirstTurnsAreMade : Type 0
 FirstTurnsAreMade =
     (h : ℕ) (j : Job) (y z : PlainStore) (w : Want) (t : FirstTurn h false j y z w) → MayTurnUnder h j (begun false j y) z w t → (s : System) (x : Half) → IsProgramFor s y.program →
-    IsRegionOf s x y → RefusesInContract s x.objects (begun_half j x).stack →
+    IsRegionOf s x y → RefusesUnder s j x →
     IsRegionOf s (taken_turn s h (task_of (names_of y) j) x) z × (w ≡ first_want (numbering_by (names_of y)) s h (task_of (names_of y) j) x)

@@ -2,7 +2,7 @@
 use Rattle.std.specs.Prelude.{◌≡◌, ℕ, true, List, [], ◌∷◌, Option, Some, None}
 use Rattle.sc_tree.specs.Plain.{System, Clause}
 use Rattle.sc_model.specs.Environments.{scope_of}
-use Rattle.sc_model.specs.Handlers.{Frame, point_of}
+use Rattle.sc_model.specs.Handlers.{Frame, Runs, point_of}
 use Rattle.sc_model.specs.Moves.{moves}
 use Rattle.sc_model.specs.Objects.{Object}
 use Rattle.sc_model.specs.Routines.{Routine, routine_named}
@@ -31,10 +31,11 @@ pub record IsInContract (s : System) (r : Routine) (p : Point) : Type 0 where
   pub names : scope_of p.environment ≡ formals_of s r
   pub olds : p.olds ≡ []
 
--- Where the topmost of the frames finds a clause false, it stands in its contract.
+-- Where the topmost of the frames, which goes on, finds a clause false, it stands in its contract.
 abbrev pub RefusesInContract : System → List Object → List Frame → Type 0
 RefusesInContract s objects [] = Unit {0}
 RefusesInContract s objects (f ∷ below) =
+    f.stage ≡ Runs →
     IsVersion s f.routine × ((k : Clause) (p : Point) → moves s f.current (point_of f objects) ≡ Does (Refuses k) p → IsInContract s f.routine p)
 
 -- The clause that is found false is waited for.

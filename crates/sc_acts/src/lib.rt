@@ -5,5 +5,6 @@
 pub mod asks;
 pub mod laws;
 pub mod rooms;
+pub mod sound;
 pub mod told;
 pub mod turning;
