@@ -1,0 +1,11 @@
+//! What turns need of the halves of handlers, each a law that is the contract of a function that does nothing.
+ghost use Rattle.sc_placed.specs.Placed.{HandlersFit};
+
+use sc_values::headline::running_frames_move;
+
+/// Where the values of a world fit, what a handler has that hasn't failed fits its turn.
+pub fn handlers_fit()
+    ensures { HandlersFit }
+{
+    running_frames_move();
+}
