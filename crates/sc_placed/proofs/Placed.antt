@@ -1,5 +1,5 @@
 -- Where the values of a world fit, the half of a handler fits a turn.
-use Rattle.std.proofs.Common.{◌≡◌, ◌<◌, ◌≤◌, ℕ, ◌-◌, Bool, true, false, List, [], ◌∷◌, Option, Some, None, is_some, length, map, refl, sym, ap, ◌∙◌, subst, arith}
+use Rattle.std.proofs.Common.{◌≡◌, ◌⊎◌, inl, inr, ◌<◌, ◌≤◌, ℕ, ◌-◌, Bool, true, false, List, [], ◌∷◌, Option, Some, None, is_some, length, map, refl, sym, ap, ◌∙◌, subst, arith}
 use Rattle.std.proofs.lemmas.List.{length-map}
 use Rattle.std.proofs.lemmas.Option.{slice_get_within}
 use Rattle.std.specs.Prelude.{◌==◌, slice_get, if◌then◌else◌}
@@ -13,20 +13,23 @@ use Rattle.sc_rules.specs.Purity.{IsPurity}
 use Rattle.sc_rules.specs.SystemRules.{WellFormed}
 use Rattle.sc_model.specs.declared.cause.Cause.TheVariants as cause
 use Rattle.sc_model.specs.Environments.{Binding, known_of}
-use Rattle.sc_model.specs.Handlers.{Called, Requested, InCall, Frame, Handler, Request, Runs, World, point_of}
+use Rattle.sc_model.specs.Handlers.{Called, Requested, Origin, Stage, Reserves, ReservesBlock, InCall, Awaits, Frame, Handler, Request, Runs, World, point_of}
 use Rattle.sc_model.specs.Moves.{moves}
 use Rattle.sc_model.specs.Objects.{Object, fresh_attributes, fresh_object, object_numbered}
 use Rattle.sc_model.specs.Steps.{Calling, Point, Does, Fails, Refuses}
-use Rattle.sc_model.specs.Values.{Operand}
-use Rattle.sc_interp.specs.RegionTurns.{Half}
+use Rattle.sc_model.specs.Values.{Operand, Reference}
+use Rattle.sc_request.specs.Handlers as core
+use Rattle.sc_interp.specs.RegionHalves.{AreHalvesOf, IsHalfOfFrame, IsStageFor, IsToldOf, unpassed}
+use Rattle.sc_interp.specs.RegionTurns.{Half, told, told_frames}
 use Rattle.sc_interp.proofs.Playing.{none_some}
 use Rattle.sc_values.specs.Fitting.{FrameFits, Gives, HandlerFits, Linked, ObjectFits, WorldFits, alone, called, empty}
 use Rattle.sc_values.specs.Points.{Each, IsAmong, ResultFits, a_result, no_result, types_of}
 use Rattle.sc_values.specs.Steps.{StepFits}
 use Rattle.sc_values.specs.Values.{RunningFramesMove}
 use Rattle.sc_acts.specs.Halves.{AreComplete, AreWithin, GivesResult, GoesWell, HalfFits, TopGoesWell}
-use Rattle.sc_acts.specs.Waiting.{RefusesInContract}
-use Rattle.sc_placed.specs.Placed.{HandlersFit, own_half}
+use Rattle.sc_acts.specs.Making.{told_half}
+use Rattle.sc_acts.specs.Waiting.{IsInContract, IsVersion, RefusesInContract}
+use Rattle.sc_placed.specs.Placed.{HandlersFit, RegionsFit, TopCreates, TopRuns, own_half}
 
 -- ---- objects and frames
 
@@ -120,3 +123,163 @@ module _ (move : RunningFramesMove) (s : System) (root : Root) (pure : RoutineNa
 
 pub handlers_fit : RunningFramesMove → HandlersFit
 handlers_fit move s root pure faultless well tells w fits h there lives = fits_so move s root pure faultless well tells w fits h there lives
+
+-- ---- halves that are alike
+
+-- The frame of a region is that of the machine, but for what the core keeps of it, and its operands.
+record IsAlike (f g : Frame) : Type 0 where
+  same : f ≡ record g { origin = f.origin; stage = f.stage; values = f.values; mark = f.mark }
+  called_too : (c : Calling) → g.origin ≡ Called c → f.origin ≡ Called c
+  in_call_too : (t : Option EntityType) → g.stage ≡ InCall t → f.stage ≡ InCall t
+
+abbrev AreAlike : List Frame → List Frame → Type 0
+AreAlike [] [] = Unit {0}
+AreAlike (f ∷ fs) (g ∷ gs) = IsAlike f g × AreAlike fs gs
+AreAlike fs gs = ⊥
+
+-- where the topmost frame of the region goes on, that of the machine does, with the same operands
+abbrev TopAlike : List Frame → List Frame → Type 0
+TopAlike [] gs = Unit {0}
+TopAlike (f ∷ fs) [] = Unit {0}
+TopAlike (f ∷ fs) (g ∷ gs) = g.stage ≡ Runs → (f.stage ≡ Runs) × (f.values ≡ g.values)
+
+current_same : (f g : Frame) → IsAlike f g → f.current ≡ g.current
+current_same f g a = ap (λ (q : Frame). q.current) a.same
+
+within_too : (n : ℕ) (fs gs : List Frame) → AreAlike fs gs → AreWithin n fs → AreWithin n gs
+within_too n [] [] a within = tt
+within_too n (f ∷ fs) (g ∷ gs) a within = (subst (λ (r : Reference). r.number ≤ n) (current_same f g a.0) within.0, within_too n fs gs a.1 within.1)
+within_too n [] (g ∷ gs) a within = absurd a
+within_too n (f ∷ fs) [] a within = absurd a
+
+point_same : (os : List Object) (f g : Frame) → IsAlike f g → f.values ≡ g.values → point_of f os ≡ point_of g os
+point_same os f g a values = ap (λ q. point_of q os) a.same ∙ ap (λ vs. record (point_of g os) { values = vs }) values
+
+gives_too : (f g : Frame) (fs gs : List Frame) → IsAlike f g → AreAlike fs gs → GivesResult f fs → GivesResult g gs
+gives_too f g [] [] a as' gives = tt
+gives_too f g (p ∷ fs) (q ∷ gs) a as' gives = λ c t from takes.
+    ap (λ (r : Frame). is_some r.result) (sym a.same) ∙ gives c t (a.called_too c from) (as'.0.in_call_too (Some t) takes)
+gives_too f g [] (q ∷ gs) a as' gives = absurd as'
+gives_too f g (p ∷ fs) [] a as' gives = absurd as'
+
+goes_too : (s : System) (h : ℕ) (os : List Object) (fs gs : List Frame) → AreAlike fs gs → TopAlike fs gs → TopGoesWell s h os fs → TopGoesWell s h os gs
+goes_too s h os [] [] a top goes = tt
+goes_too s h os (f ∷ fs) (g ∷ gs) a top goes = λ runs.
+    let alike = top runs in
+    let well = goes alike.0 in
+    let current = current_same f g a.0 in
+    let point = point_same os f g a.0 alike.1 in
+    record {
+      own = ap (λ (r : Reference). r.handler) (sym current) ∙ well.own;
+      gives_result = gives_too f g fs gs a.0 a.1 well.gives_result;
+      fits = λ p e. well.fits p (ap (λ r. moves s r (point_of f os)) current ∙ ap (moves s g.current) point ∙ e);
+    }
+goes_too s h os [] (g ∷ gs) a top goes = absurd a
+goes_too s h os (f ∷ fs) [] a top goes = absurd a
+
+contract_too : (s : System) (os : List Object) (fs gs : List Frame) → AreAlike fs gs → TopAlike fs gs → RefusesInContract s os fs → RefusesInContract s os gs
+contract_too s os [] [] a top stands = tt
+contract_too s os (f ∷ fs) (g ∷ gs) a top stands = λ runs.
+    let alike = top runs in
+    let there = stands alike.0 in
+    let current = current_same f g a.0 in
+    let routine = ap (λ (q : Frame). q.routine) a.0.same in
+    let point = point_same os f g a.0 alike.1 in (
+      subst (IsVersion s) routine there.0,
+      λ k p e. subst (λ r. IsInContract s r p) routine (there.1 k p (ap (λ r. moves s r (point_of f os)) current ∙ ap (moves s g.current) point ∙ e)),
+    )
+contract_too s os [] (g ∷ gs) a top stands = absurd a
+contract_too s os (f ∷ fs) [] a top stands = absurd a
+
+-- What fits fits where all that counts is alike.
+alike_fits : (s : System) (h : ℕ) (y : Handler) (x : Half) → HalfFits s h (own_half y) → x.objects ≡ y.objects → x.failure ≡ None → AreAlike y.stack x.stack → TopAlike y.stack x.stack →
+    HalfFits s h x
+alike_fits s h y x fits objects lives a top = record {
+  lives = lives;
+  complete = subst (AreComplete s) (sym objects) fits.complete;
+  within = subst (λ (os : List Object). AreWithin (length os) x.stack) (sym objects) (within_too (length y.objects) y.stack x.stack a fits.within);
+  goes_well = subst (λ os. TopGoesWell s h os x.stack) (sym objects) (goes_too s h y.objects y.stack x.stack a top fits.goes_well);
+  in_contract = subst (λ os. RefusesInContract s os x.stack) (sym objects) (contract_too s y.objects y.stack x.stack a top fits.in_contract);
+}
+
+-- ---- regions
+
+origin_too : (o p : Origin) (c : Calling) → p ≡ unpassed o → p ≡ Called c → o ≡ Called c
+origin_too (Called d) p c e from = sym e ∙ from
+origin_too (Requested r) p c e from = requested_not _ c (sym e ∙ from)
+
+stage_too : (h : ℕ) (f g : Stage) (t : Option EntityType) → IsStageFor h f g → g ≡ InCall t → f ≡ InCall t
+stage_too h Runs g t e from = sym e ∙ from
+stage_too h Reserves g t e from = sym e ∙ from
+stage_too h ReservesBlock g t e from = sym e ∙ from
+stage_too h (InCall u) g t e from = sym e ∙ from
+stage_too h (Awaits k gives true) g t e from = awaits_not (sym e ∙ from)
+  where
+    awaits_not : {A : Type 0} → Awaits h gives true ≡ InCall t → A
+    awaits_not e = cc
+stage_too h (Awaits k gives false) g t (inl e) from = awaits_not (sym e ∙ from)
+  where
+    awaits_not : {A : Type 0} → Awaits k gives false ≡ InCall t → A
+    awaits_not e = cc
+stage_too h (Awaits k gives false) g t (inr e) from = runs_not (sym e.1 ∙ from)
+  where
+    runs_not : {A : Type 0} → Runs ≡ InCall t → A
+    runs_not e = cc
+
+half_alike : (h : ℕ) (stage : core.Stage) (f g : Frame) → IsHalfOfFrame h stage f g → IsAlike f g
+half_alike h stage f g a = record {
+  same = a.same;
+  called_too = λ c from. origin_too f.origin g.origin c a.origin from;
+  in_call_too = λ t from. stage_too h f.stage g.stage t a.stands from;
+}
+
+halves_alike : (h : ℕ) (stage : core.Stage) (fs gs : List Frame) → AreHalvesOf h stage fs gs → AreAlike fs gs
+halves_alike h stage [] [] a = tt
+halves_alike h stage (f ∷ fs) (g ∷ gs) a = (half_alike h stage f g a.0, halves_alike h core.Runs fs gs a.1)
+halves_alike h stage [] (g ∷ gs) a = absurd a
+halves_alike h stage (f ∷ fs) [] a = absurd a
+
+-- the topmost one may have been told the handler that was made
+told_alike : (k : ℕ) (fs gs : List Frame) → AreAlike fs gs → AreAlike fs (told_frames k gs)
+told_alike k [] [] a = tt
+told_alike k (f ∷ fs) (g ∷ gs) a = (record { same = a.0.same; called_too = a.0.called_too; in_call_too = a.0.in_call_too }, a.1)
+told_alike k [] (g ∷ gs) a = absurd a
+told_alike k (f ∷ fs) [] a = absurd a
+
+runs_told : (h : ℕ) (f : Stage) (us vs : List Operand) → f ≡ Runs → IsToldOf f core.Runs us vs → us ≡ vs
+runs_told h f us vs e t = subst (λ st. IsToldOf st core.Runs us vs) e t
+
+made_told : (h k : ℕ) (f : Stage) (us vs : List Operand) → f ≡ Runs → IsToldOf f (core.HasMade k) us vs → us ≡ told k vs
+made_told h k f us vs e t = subst (λ st. IsToldOf st (core.HasMade k) us vs) e t
+
+top_going : (h : ℕ) (fs gs : List Frame) → TopRuns fs → AreHalvesOf h core.Runs fs gs → TopAlike fs gs
+top_going h [] gs runs a = tt
+top_going h (f ∷ fs) [] runs a = tt
+top_going h (f ∷ fs) (g ∷ gs) runs a = λ e. (runs, runs_told h f.stage f.values g.values runs a.0.values)
+
+top_made : (h k : ℕ) (fs gs : List Frame) → TopRuns fs → AreHalvesOf h (core.HasMade k) fs gs → TopAlike fs (told_frames k gs)
+top_made h k [] gs runs a = tt
+top_made h k (f ∷ fs) [] runs a = tt
+top_made h k (f ∷ fs) (g ∷ gs) runs a = λ e. (runs, made_told h k f.stage f.values g.values runs a.0.values)
+
+top_answered : (h k : ℕ) (stage : core.Stage) (fs gs : List Frame) → TopCreates fs → AreHalvesOf h stage fs gs → TopAlike fs (told_frames k gs)
+top_answered h k stage [] gs creates a = tt
+top_answered h k stage (f ∷ fs) [] creates a = tt
+top_answered h k stage (f ∷ fs) (g ∷ gs) creates a = λ e. not_runs (sym (subst (λ st. IsStageFor h st g.stage) creates.2 a.0.stands) ∙ e)
+  where
+    not_runs : {A : Type 0} → Awaits h creates.1 true ≡ Runs → A
+    not_runs e = cc
+
+pub regions_fit : RunningFramesMove → RegionsFit
+regions_fit move s root pure faultless well tells w fits h there lives names x =
+    let y = w.handlers h in
+    let own = handlers_fit move s root pure faultless well tells w fits h there lives in (
+      λ runs r. (let st = r.stands lives in
+          alike_fits s h (w.handlers h) x own r.objects st.0 (halves_alike h core.Runs (w.handlers h).stack x.stack st.1) (top_going h (w.handlers h).stack x.stack runs st.1)),
+      λ k runs r. (let st = r.stands lives in
+          alike_fits s h (w.handlers h) (told_half k x) own r.objects st.0 (told_alike k (w.handlers h).stack x.stack (halves_alike h (core.HasMade k) (w.handlers h).stack x.stack st.1))
+          (top_made h k (w.handlers h).stack x.stack runs st.1)),
+      λ k stage creates r. (let st = r.stands lives in
+          alike_fits s h (w.handlers h) (told_half k x) own r.objects st.0 (told_alike k (w.handlers h).stack x.stack (halves_alike h stage (w.handlers h).stack x.stack st.1))
+          (top_answered h k stage (w.handlers h).stack x.stack creates st.1)),
+    )

@@ -1,15 +1,19 @@
 -- Where the values of a world fit, the half of a handler fits a turn.
-use Rattle.std.specs.Prelude.{◌≡◌, ◌<◌, ℕ, Bool, None}
+use Rattle.std.specs.Prelude.{◌≡◌, ◌<◌, ℕ, Bool, true, List, [], ◌∷◌, Option, None}
 use Rattle.sc_tree.specs.Plain.{System}
 use Rattle.sc_class.specs.ClassNames.{Root}
 use Rattle.sc_class.specs.Faults.ClassRules.{IsFaultless}
 use Rattle.sc_rules.specs.Names.{RoutineName}
 use Rattle.sc_rules.specs.Purity.{IsPurity}
 use Rattle.sc_rules.specs.SystemRules.{WellFormed}
-use Rattle.sc_model.specs.Handlers.{Handler, World}
+use Rattle.sc_proctype.specs.declared.entity_type.EntityType.{EntityType}
+use Rattle.sc_model.specs.Handlers.{Awaits, Frame, Handler, Runs, World}
+use Rattle.sc_region.specs.declared.job.Job.TheVariants as job
+use Rattle.sc_request.specs.Handlers as core
+use Rattle.sc_interp.specs.RegionHalves.{IsRegionHalf}
 use Rattle.sc_interp.specs.RegionTurns.{Half}
 use Rattle.sc_values.specs.Fitting.{WorldFits}
-use Rattle.sc_acts.specs.Halves.{HalfFits}
+use Rattle.sc_acts.specs.Halves.{HalfFits, JobFits}
 
 -- the objects, the frames, the output and the failure of a handler of the machine
 abbrev pub own_half : Handler → Half
@@ -20,3 +24,25 @@ abbrev pub HandlersFit : Type 0
 HandlersFit =
     (s : System) (root : Root) (pure : RoutineName → Bool) → IsFaultless s root → WellFormed s → IsPurity s pure → (w : World) → WorldFits s pure w →
     (h : ℕ) → h < w.count → (w.handlers h).failure ≡ None → HalfFits s h (own_half (w.handlers h))
+
+-- ---- regions
+
+-- The topmost of the frames, if there is one, goes on.
+abbrev pub TopRuns : List Frame → Type 0
+TopRuns [] = Unit {0}
+TopRuns (f ∷ below) = f.stage ≡ Runs
+
+-- The topmost of them waits for the handler that it creates.
+abbrev pub TopCreates : List Frame → Type 0
+TopCreates [] = Unit {0}
+TopCreates (f ∷ below) = (k : ℕ) × (gives : Option EntityType) × (f.stage ≡ Awaits k gives true)
+
+-- Where the values of a world fit, the region's half of a handler that hasn't failed fits the job: to go on, with a handler that was made for it, and with that as
+-- the answer.
+abbrev pub RegionsFit : Type 0
+RegionsFit =
+    (s : System) (root : Root) (pure : RoutineName → Bool) → IsFaultless s root → WellFormed s → IsPurity s pure → (w : World) → WorldFits s pure w →
+    (h : ℕ) → h < w.count → (w.handlers h).failure ≡ None → (names : List (List ℕ)) (x : Half) →
+    (TopRuns (w.handlers h).stack → IsRegionHalf h (w.handlers h) core.Runs x → JobFits s h names job.Go x)
+    × ((k : ℕ) → TopRuns (w.handlers h).stack → IsRegionHalf h (w.handlers h) (core.HasMade k) x → JobFits s h names (job.Made k) x)
+    × ((k : ℕ) (stage : core.Stage) → TopCreates (w.handlers h).stack → IsRegionHalf h (w.handlers h) stage x → JobFits s h names (job.Made k) x)
