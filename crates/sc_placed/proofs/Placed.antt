@@ -1,35 +1,39 @@
 -- Where the values of a world fit, the half of a handler fits a turn.
-use Rattle.std.proofs.Common.{◌≡◌, ◌⊎◌, inl, inr, ◌<◌, ◌≤◌, ℕ, ◌-◌, Bool, true, false, List, [], ◌∷◌, Option, Some, None, is_some, length, map, refl, sym, ap, ◌∙◌, subst, arith}
+use Rattle.std.proofs.Common.{◌≡◌, inl, inr, ◌<◌, ◌≤◌, ℕ, ◌-◌, Bool, true, false, List, [], ◌∷◌, Option, Some, None, is_some, length, refl, sym, ap, ◌∙◌, subst, arith}
 use Rattle.std.proofs.lemmas.List.{length-map}
 use Rattle.std.proofs.lemmas.Option.{slice_get_within}
 use Rattle.std.specs.Prelude.{◌==◌, slice_get, if◌then◌else◌}
-use Rattle.sc_tree.specs.Plain.{Clause, System}
+use Rattle.sc_tree.specs.Plain.{System}
 use Rattle.sc_class.specs.ClassNames.{Root}
 use Rattle.sc_class.specs.Faults.ClassRules.{IsFaultless}
 use Rattle.sc_class.specs.Tables.Features.{features}
 use Rattle.sc_proctype.specs.declared.entity_type.EntityType.{EntityType}
-use Rattle.sc_rules.specs.Names.{Entities, Entity, RoutineName}
+use Rattle.sc_rules.specs.Names.{RoutineName}
 use Rattle.sc_rules.specs.Purity.{IsPurity}
 use Rattle.sc_rules.specs.SystemRules.{WellFormed}
 use Rattle.sc_model.specs.declared.cause.Cause.TheVariants as cause
 use Rattle.sc_model.specs.Environments.{Binding, known_of}
 use Rattle.sc_model.specs.Handlers.{Called, Requested, Origin, Stage, Reserves, ReservesBlock, InCall, Awaits, Frame, Handler, Request, Runs, World, point_of}
 use Rattle.sc_model.specs.Moves.{moves}
-use Rattle.sc_model.specs.Objects.{Object, fresh_attributes, fresh_object, object_numbered}
-use Rattle.sc_model.specs.Steps.{Calling, Point, Does, Fails, Refuses}
+use Rattle.sc_model.specs.Objects.{Object, fresh_attributes, object_numbered}
+use Rattle.sc_model.specs.Steps.{Calling, Point, Does, Fails}
+use Rattle.std.specs.Option.{option_map}
+use Rattle.sc_model.specs.Values as values
 use Rattle.sc_model.specs.Values.{Operand, Reference}
+use Rattle.sc_region.specs.declared.value.Value.{Value}
 use Rattle.sc_request.specs.Handlers as core
 use Rattle.sc_interp.specs.RegionHalves.{AreHalvesOf, IsHalfOfFrame, IsStageFor, IsToldOf, unpassed}
 use Rattle.sc_interp.specs.RegionTurns.{Half, told, told_frames}
-use Rattle.sc_interp.proofs.Playing.{none_some}
-use Rattle.sc_values.specs.Fitting.{FrameFits, Gives, HandlerFits, Linked, ObjectFits, WorldFits, alone, called, empty}
-use Rattle.sc_values.specs.Points.{Each, IsAmong, ResultFits, a_result, no_result, types_of}
+use Rattle.sc_interp.specs.Values.{value_of}
+use Rattle.sc_interp.proofs.Playing.{none_some, some_same}
+use Rattle.sc_values.specs.Fitting.{FrameFits, Gives, HandlerFits, IsThere, Linked, ObjectFits, ReplyFits, WorldFits, alone, called, is_due, is_made}
+use Rattle.sc_values.specs.Points.{Each, ResultFits, a_result, types_of}
 use Rattle.sc_values.specs.Steps.{StepFits}
 use Rattle.sc_values.specs.Values.{RunningFramesMove}
-use Rattle.sc_acts.specs.Halves.{AreComplete, AreWithin, GivesResult, GoesWell, HalfFits, TopGoesWell}
+use Rattle.sc_acts.specs.Halves.{AreComplete, AreWithin, GetsReply, GivesResult, HalfFits, TopGoesWell}
 use Rattle.sc_acts.specs.Making.{told_half}
 use Rattle.sc_acts.specs.Waiting.{IsInContract, IsVersion, RefusesInContract}
-use Rattle.sc_placed.specs.Placed.{HandlersFit, RegionsFit, TopCreates, TopRuns, own_half}
+use Rattle.sc_placed.specs.Placed.{HandlersFit, RegionsFit, RepliesFit, TakesFit, TopCreates, TopRuns, own_half}
 
 -- ---- objects and frames
 
@@ -283,3 +287,83 @@ regions_fit move s root pure faultless well tells w fits h there lives names x =
           alike_fits s h (w.handlers h) (told_half k x) own r.objects st.0 (told_alike k (w.handlers h).stack x.stack (halves_alike h stage (w.handlers h).stack x.stack st.1))
           (top_answered h k stage (w.handlers h).stack x.stack creates st.1)),
     )
+
+-- ---- requests
+
+none_numbered : {A : Type 0} (n : ℕ) (o : Object) → object_numbered n [] ≡ Some o → A
+none_numbered {A} n o e = by (n == 0) e
+  where
+    by : (b : Bool) → (if b then None else slice_get [] (n - 1)) ≡ Some o → A
+    by true e = none_some o e
+    by false e = none_some o e
+
+-- the object to which a reference leads is of its class
+there_class : (w : World) (r : Reference) → IsThere w r → (o : Object) → object_numbered r.number (w.handlers r.handler).objects ≡ Some o → o.class ≡ r.class
+there_class w r (is_made {o = p} l e c) o d = ap (λ (q : Object). q.class) (some_same o p (sym d ∙ e)) ∙ c
+there_class w r (is_due l none queue target errand number) o d = none_numbered r.number o (sym (ap (object_numbered r.number) none) ∙ d)
+
+pub takes_fit : TakesFit
+takes_fit s pure w fits h there lives names stage x region r fit q target named =
+    let f : HandlerFits s pure w h = fits h there in
+    let frames = halves_alike h stage (w.handlers h).stack x.stack (region.stands lives).1 in
+    let number = ap (λ (a : Reference). a.number) target in
+    record {
+      named = named;
+      of_class = λ o e.
+          there_class w r.target fit.target_is_there o
+          (ap (λ k. object_numbered r.target.number (w.handlers k).objects) fit.is_here ∙ ap (object_numbered r.target.number) (sym region.objects)
+          ∙ ap (λ n. object_numbered n x.objects) (sym number) ∙ e)
+          ∙ sym (ap (λ (a : Reference). a.class) target);
+      complete = subst (AreComplete s) (sym region.objects) (complete_so s w h (w.handlers h).objects f.objects_fit);
+      within = subst (λ (os : List Object). AreWithin (length os) x.stack) (sym region.objects)
+          (within_too (length (w.handlers h).objects) (w.handlers h).stack x.stack frames (are_within s pure w h (w.handlers h).stack f.frames_fit));
+    }
+
+-- ---- replies
+
+runs_await : {A : Type 0} (g : Stage) (k : ℕ) (t : EntityType) (c : Bool) → g ≡ Runs → g ≡ Awaits k (Some t) c → A
+runs_await g k t c e is = cc
+
+reserves_await : {A : Type 0} (g : Stage) (k : ℕ) (t : EntityType) (c : Bool) → g ≡ Reserves → g ≡ Awaits k (Some t) c → A
+reserves_await g k t c e is = cc
+
+block_awaits : {A : Type 0} (g : Stage) (k : ℕ) (t : EntityType) (c : Bool) → g ≡ ReservesBlock → g ≡ Awaits k (Some t) c → A
+block_awaits g k t c e is = cc
+
+call_awaits : {A : Type 0} (g : Stage) (u : Option EntityType) (k : ℕ) (t : EntityType) (c : Bool) → g ≡ InCall u → g ≡ Awaits k (Some t) c → A
+call_awaits g u k t c e is = cc
+
+awaits_same : (g : Stage) (j k : ℕ) (u v : Option EntityType) (b c : Bool) → g ≡ Awaits j u b → g ≡ Awaits k v c → u ≡ v
+awaits_same g j k u v b c e is = cc
+
+-- who waits for a value in memory waits for it in the machine
+takes_so : (h : ℕ) (f g : Stage) (k : ℕ) (t : EntityType) (c : Bool) → IsStageFor h f g → g ≡ Awaits k (Some t) c → (j : ℕ) × (d : Bool) × (f ≡ Awaits j (Some t) d)
+takes_so h Runs g k t c e is = runs_await g k t c e is
+takes_so h Reserves g k t c e is = reserves_await g k t c e is
+takes_so h ReservesBlock g k t c e is = block_awaits g k t c e is
+takes_so h (InCall u) g k t c e is = call_awaits g u k t c e is
+takes_so h (Awaits j gives true) g k t c e is = (j, true, ap (λ u. Awaits j u true) (awaits_same g h k gives (Some t) true c e is))
+takes_so h (Awaits j gives false) g k t c (inl e) is = (j, false, ap (λ u. Awaits j u false) (awaits_same g j k gives (Some t) false c e is))
+takes_so h (Awaits j gives false) g k t c (inr e) is = runs_await g k t c e.1 is
+
+some_back : (v : Option Value) (z : values.Value) → option_map value_of v ≡ Some z → is_some v ≡ true
+some_back None z e = none_some z e
+some_back (Some v) z e = refl
+
+heads_same : (f g : Frame) (fs gs : List Frame) → f ∷ fs ≡ g ∷ gs → f ≡ g
+heads_same f g fs gs e = cc
+
+gets_so : (s : System) (w : World) (h : ℕ) (u : Option values.Value) (fit : ReplyFits s w h u) (v : Option Value) → option_map value_of v ≡ u → (stage : core.Stage) (fs gs : List Frame) →
+    fs ≡ fit.frame ∷ fit.below → AreHalvesOf h stage fs gs → GetsReply v gs
+gets_so s w h u fit v same stage [] [] e a = tt
+gets_so s w h u fit v same stage (f ∷ fs) (g ∷ gs) e a = λ k t c is.
+    let takes = takes_so h f.stage g.stage k t c a.0.stands is in
+    let frame = heads_same f fit.frame fs fit.below e in
+    let waits = awaits_same fit.frame.stage fit.supplier takes.0 fit.takes (Some t) fit.is_creation takes.1 fit.stage_is (ap (λ (q : Frame). q.stage) (sym frame) ∙ takes.2) in
+    let given = fit.fits t waits in
+    some_back v given.0 (same ∙ given.1)
+gets_so s w h u fit v same stage [] (g ∷ gs) e a = absurd a
+gets_so s w h u fit v same stage (f ∷ fs) [] e a = absurd a
+
+pub replies_fit : RepliesFit
+replies_fit s w h lives names stage x region u fit v same = gets_so s w h u fit v same stage (w.handlers h).stack x.stack fit.stack_is (region.stands lives).1

@@ -1,5 +1,5 @@
 //! What turns need of the halves of handlers, each a law that is the contract of a function that does nothing.
-ghost use Rattle.sc_placed.specs.Placed.{HandlersFit, RegionsFit};
+ghost use Rattle.sc_placed.specs.Placed.{HandlersFit, RegionsFit, RepliesFit, TakesFit};
 
 use sc_values::headline::running_frames_move;
 
@@ -16,3 +16,13 @@ pub fn regions_fit()
 {
     running_frames_move();
 }
+
+/// It fits a request that fits in the machine, and that names what the program does.
+pub fn takes_fit()
+    ensures { TakesFit }
+{}
+
+/// It fits a reply that fits in the machine.
+pub fn replies_fit()
+    ensures { RepliesFit }
+{}
