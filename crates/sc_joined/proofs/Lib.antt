@@ -1,0 +1,12 @@
+pub mod Alike
+pub mod Halving
+pub mod Settling
+pub mod Entering
+pub mod Acting
+pub mod Calming
+pub mod Plain
+pub mod Taking
+pub mod Answering
+pub mod Others
+pub mod Turning
+pub mod Wanting

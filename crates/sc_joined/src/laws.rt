@@ -1,0 +1,25 @@
+//! Laws of the regions beside the machine, each the contract of a function that does nothing.
+ghost use Rattle.sc_interp.specs.RegionSteps.{RegionsAsk};
+ghost use Rattle.sc_joined.specs.Joined.{CreatedAreNew, OpensAsNew, RegionsFollow};
+
+/// What a handler's turn under its job makes of its region's half is that of the machine's turn, beside what the core's
+/// settlement leaves, where its frames stand in order, its requests have names with numbers, and settled objects meet
+/// their invariants after the turn.
+pub fn regions_follow()
+    ensures { RegionsFollow }
+{}
+
+/// What the region asks in that turn is what the machine's turn asks.
+pub fn regions_ask()
+    ensures { RegionsAsk }
+{}
+
+/// The half of a handler that is created in a turn is new.
+pub fn created_are_new()
+    ensures { CreatedAreNew }
+{}
+
+/// At the opening the half of each handler is new.
+pub fn openings_are_new()
+    ensures { OpensAsNew }
+{}
