@@ -27,7 +27,7 @@ use Rattle.sc_joined.proofs.Halving.{IsCalm, by_test}
 
 -- ---- what leaves a handler's stage
 
-ended_stage : (b : Bool) (x : Handler) → (session_ended b x).stage ≡ x.stage
+pub ended_stage : (b : Bool) (x : Handler) → (session_ended b x).stage ≡ x.stage
 ended_stage false x = refl
 ended_stage true x = refl
 
@@ -45,14 +45,14 @@ put_stage k x s j same = put_by k x s j (j == k) refl same
 put_own : (h : ℕ) (x : Handler) (s : State) → ((put h x s).handlers h).stage ≡ x.stage
 put_own h x s = rw (eq-eqb h h refl) refl
 
-released_stage : (how : Release) (ks : List ℕ) (s : State) (j : ℕ) → ((release how ks s).handlers j).stage ≡ (s.handlers j).stage
+pub released_stage : (how : Release) (ks : List ℕ) (s : State) (j : ℕ) → ((release how ks s).handlers j).stage ≡ (s.handlers j).stage
 released_stage how ks s j = ended_stage _ (s.handlers j)
 
-passed_stage : (b : Bool) (h k : ℕ) (s : State) (j : ℕ) → ((passes b h k s).handlers j).stage ≡ (s.handlers j).stage
+pub passed_stage : (b : Bool) (h k : ℕ) (s : State) (j : ℕ) → ((passes b h k s).handlers j).stage ≡ (s.handlers j).stage
 passed_stage false h k s j = refl
 passed_stage true h k s j = refl
 
-sent_stage : (b : Bool) (k : ℕ) (p : Posted) (s : State) (j : ℕ) → ((send b k p s).handlers j).stage ≡ (s.handlers j).stage
+pub sent_stage : (b : Bool) (k : ℕ) (p : Posted) (s : State) (j : ℕ) → ((send b k p s).handlers j).stage ≡ (s.handlers j).stage
 sent_stage b k p s j = put_stage k (placed b p (s.handlers k)) s j (placed_stage b p (s.handlers k))
 
 returned_stage : (p : Option Passed) (s : State) (j : ℕ) → ((return_rights p s).handlers j).stage ≡ (s.handlers j).stage
@@ -64,7 +64,7 @@ answered_stage true (Some p) a s j = put_stage p (answered a (s.handlers p)) s j
 answered_stage true None a s j = refl
 answered_stage false p a s j = refl
 
-finished_stage : (p : Posted) (a : Answer) (s : State) (j : ℕ) → ((finish p a s).handlers j).stage ≡ (s.handlers j).stage
+pub finished_stage : (p : Posted) (a : Answer) (s : State) (j : ℕ) → ((finish p a s).handlers j).stage ≡ (s.handlers j).stage
 finished_stage p a s j = answered_stage p.request.is_waited p.request.poster a (return_rights p.passed s) j ∙ returned_stage p.passed s j
 
 failed_stage : (h : ℕ) (why : Cause) (s : State) → ((fail h why s).handlers h).stage ≡ Idle

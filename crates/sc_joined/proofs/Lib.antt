@@ -10,3 +10,4 @@ pub mod Answering
 pub mod Others
 pub mod Turning
 pub mod Wanting
+pub mod Staying

@@ -1,6 +1,6 @@
 //! Laws of the regions beside the machine, each the contract of a function that does nothing.
 ghost use Rattle.sc_interp.specs.RegionSteps.{RegionsAsk};
-ghost use Rattle.sc_joined.specs.Joined.{CreatedAreNew, OpensAsNew, RegionsFollow};
+ghost use Rattle.sc_joined.specs.Joined.{CreatedAreNew, OpensAsNew, OthersKeepHalves, RegionsFollow};
 
 /// What a handler's turn under its job makes of its region's half is that of the machine's turn, beside what the core's
 /// settlement leaves, where its frames stand in order, its requests have names with numbers, and settled objects meet
@@ -12,6 +12,11 @@ pub fn regions_follow()
 /// What the region asks in that turn is what the machine's turn asks.
 pub fn regions_ask()
     ensures { RegionsAsk }
+{}
+
+/// In a turn of a handler the half of any other one's region stays that.
+pub fn others_keep_halves()
+    ensures { OthersKeepHalves }
 {}
 
 /// The half of a handler that is created in a turn is new.
