@@ -11,3 +11,4 @@ pub mod Others
 pub mod Turning
 pub mod Wanting
 pub mod Staying
+pub mod Ordering

@@ -320,7 +320,7 @@ pub turn_counts : (most : ℕ) (s : System) (h : ℕ) (w : World) → w.count �
 turn_counts most s h w = (turn_leads most s h w).counts
 
 -- a handler that has no number has no turn
-idle_turn : (most : ℕ) (s : System) (h : ℕ) (w : World) → w.count ≤ h → turn most s h w ≡ w
+pub idle_turn : (most : ℕ) (s : System) (h : ℕ) (w : World) → w.count ≤ h → turn most s h w ≡ w
 idle_turn most s h w beyond =
     ap (λ (b : Bool). if b then turn_with most s h (w.handlers h).failure (w.handlers h).stack w else w) (le-ltb h w.count beyond)
 

@@ -1,6 +1,7 @@
 //! Laws of the regions beside the machine, each the contract of a function that does nothing.
 ghost use Rattle.sc_interp.specs.RegionSteps.{RegionsAsk};
 ghost use Rattle.sc_joined.specs.Joined.{CreatedAreNew, OpensAsNew, OthersKeepHalves, RegionsFollow};
+ghost use Rattle.sc_joined.specs.Order.{OpensInOrder, TurnsKeepOrder};
 
 /// What a handler's turn under its job makes of its region's half is that of the machine's turn, beside what the core's
 /// settlement leaves, where its frames stand in order, its requests have names with numbers, and settled objects meet
@@ -27,4 +28,14 @@ pub fn created_are_new()
 /// At the opening the half of each handler is new.
 pub fn openings_are_new()
     ensures { OpensAsNew }
+{}
+
+/// At the opening the frames of all handlers stand in order.
+pub fn openings_are_in_order()
+    ensures { OpensInOrder }
+{}
+
+/// So they do after each turn.
+pub fn turns_keep_order()
+    ensures { TurnsKeepOrder }
 {}
