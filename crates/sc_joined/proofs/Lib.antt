@@ -12,3 +12,4 @@ pub mod Turning
 pub mod Wanting
 pub mod Staying
 pub mod Ordering
+pub mod Together

@@ -1,11 +1,12 @@
 -- Core and regions together are the machine: what a turn makes of them, and what it asks.
-use Rattle.std.specs.Prelude.{◌≡◌, ◌<◌, ◌≤◌, ℕ, List}
+use Rattle.std.specs.Prelude.{◌≡◌, ◌<◌, ◌≤◌, ◌==◌, ℕ, List, Option, Some, if◌then◌else◌}
 use Rattle.sc_tree.specs.Plain.{System}
 use Rattle.sc_class.specs.ClassNames.{Root}
 use Rattle.sc_model.specs.Handlers as machine
 use Rattle.sc_model.specs.Settled.{SettledObjectsMeet}
 use Rattle.sc_model.specs.Runs as runs
 use Rattle.sc_model.specs.Turns.{turn}
+use Rattle.sc_region.specs.declared.job.Job.{Job}
 use Rattle.sc_request.specs.Handlers as core
 use Rattle.sc_request.specs.Picking.{job_of}
 use Rattle.sc_request.specs.Asked.{Numbering}
@@ -14,7 +15,7 @@ use Rattle.sc_request.specs.Steps.{stepped}
 use Rattle.sc_interp.specs.RegionTurns.{Half, new_half}
 use Rattle.sc_interp.specs.RegionHalves.{IsRegionHalf}
 use Rattle.sc_interp.specs.RegionSteps.{numbering_by, taken_if, AreNamed}
-use Rattle.sc_joined.specs.Order.{AreInOrder}
+use Rattle.sc_joined.specs.Order.{AreInOrder, EachInOrder}
 
 -- ---- the handler of the turn
 
@@ -45,3 +46,25 @@ CreatedAreNew =
 -- So is that of each handler at the opening.
 abbrev pub OpensAsNew : Type 0
 OpensAsNew = (s : System) (root : Root) (k : ℕ) (stage : core.Stage) → IsRegionHalf k ((runs.opening s root).handlers k) stage new_half
+
+-- ---- all regions
+
+-- Each handler's half is its region's, and that of one that isn't there yet is new.
+pub record AreRegionHalves (w : machine.World) (c : core.State) (xs : ℕ → Half) : Type 0 where
+  pub halves : (k : ℕ) → k < w.count → IsRegionHalf k (w.handlers k) (c.handlers k).stage (xs k)
+  pub rest : (k : ℕ) → w.count ≤ k → xs k ≡ new_half
+
+-- the halves after the handler's turn under its job
+abbrev pub halves_after : System → ℕ → List (List ℕ) → Option Job → (ℕ → Half) → ℕ → Half
+halves_after s h names j xs k = if k == h then taken_if s h names j (xs h) else xs k
+
+-- At the opening all halves are new,
+abbrev pub OpensAsHalves : Type 0
+OpensAsHalves = (s : System) (root : Root) (c : core.State) → AreRegionHalves (runs.opening s root) c (λ k. new_half)
+
+-- and after each turn they are the regions'.
+abbrev pub TurnsKeepHalves : Type 0
+TurnsKeepHalves =
+    (most : ℕ) (names : List (List ℕ)) (s : System) (h : ℕ) (w : machine.World) (c : core.State) (xs : ℕ → Half) → IsHalfOf (numbering_by names) w c →
+    AreRegionHalves w c xs → EachInOrder w → AreNamed names (w.handlers h) → SettledObjectsMeet s (turn most s h w) →
+    AreRegionHalves (turn most s h w) (stepped most (numbering_by names) s h w (job_of h c) c) (halves_after s h names (job_of h c) xs)

@@ -1,6 +1,6 @@
 //! Laws of the regions beside the machine, each the contract of a function that does nothing.
 ghost use Rattle.sc_interp.specs.RegionSteps.{RegionsAsk};
-ghost use Rattle.sc_joined.specs.Joined.{CreatedAreNew, OpensAsNew, OthersKeepHalves, RegionsFollow};
+ghost use Rattle.sc_joined.specs.Joined.{CreatedAreNew, OpensAsHalves, OpensAsNew, OthersKeepHalves, RegionsFollow, TurnsKeepHalves};
 ghost use Rattle.sc_joined.specs.Order.{OpensInOrder, TurnsKeepOrder};
 
 /// What a handler's turn under its job makes of its region's half is that of the machine's turn, beside what the core's
@@ -38,4 +38,14 @@ pub fn openings_are_in_order()
 /// So they do after each turn.
 pub fn turns_keep_order()
     ensures { TurnsKeepOrder }
+{}
+
+/// At the opening the halves of all handlers are new.
+pub fn openings_are_halves()
+    ensures { OpensAsHalves }
+{}
+
+/// After each turn they are the regions' of the state that the machine steps to, beside what the core's settlement leaves.
+pub fn turns_keep_halves()
+    ensures { TurnsKeepHalves }
 {}
