@@ -13,3 +13,4 @@ pub mod Wanting
 pub mod Staying
 pub mod Ordering
 pub mod Together
+pub mod Further

@@ -1,11 +1,11 @@
 -- The frames of each handler stand in order, at the opening and after each turn.
-use Rattle.std.proofs.Common.{◌≡◌, ◌⊎◌, inl, inr, ◌==◌, ◌&&◌, ◌||◌, ◌<◌, ◌≤◌, not, ℕ, Bool, true, false, List, [], ◌∷◌, ◌++◌, Option, Some, None, length, refl, sym, ap, subst, ◌∙◌, arith}
-use Rattle.std.proofs.lemmas.Bool.{cases_eq, cases_lt, ltb-true, ne_eqb}
+use Rattle.std.proofs.Common.{◌≡◌, ◌⊎◌, inl, inr, ◌==◌, ◌&&◌, ◌||◌, ◌<◌, ◌≤◌, not, ℕ, Bool, true, false, List, [], ◌∷◌, ◌++◌, Option, Some, None, length, refl, sym, subst, arith}
+use Rattle.std.proofs.lemmas.Bool.{cases_eq, cases_lt}
 use Rattle.std.specs.Prelude.{is_some, nat_lt, if◌then◌else◌}
 use Rattle.std.specs.Option.{option_map, option_map_or}
 use Rattle.sc_tree.specs.Plain as tree
 use Rattle.sc_tree.specs.Plain.{System, FeatureKind}
-use Rattle.sc_class.specs.ClassNames.{Root, number_of}
+use Rattle.sc_class.specs.ClassNames.{number_of}
 use Rattle.sc_class.specs.Tables.Features.{DeclaredFeature}
 use Rattle.sc_proctype.specs.declared.entity_type.EntityType.{EntityType}
 use Rattle.sc_rules.specs.Types.{declared_type}
@@ -28,16 +28,16 @@ use Rattle.sc_model.specs.Runs.{root_request}
 use Rattle.sc_model.specs.Steps.{Act, Prints, Tests, Creates, CreatesHandler, Enters, Requests, Starts, Refuses, Opens, Leaves, Exits, Fails, Step, Goes, Does}
 use Rattle.sc_model.specs.Moves.{moves}
 use Rattle.sc_model.specs.Handlers.{Errand, Calls, Makes, Request, Answer, Reply, Failed, Refused, Origin, Called, Requested, Stage, Runs, Reserves, ReservesBlock, InCall, Awaits, Frame, Handler, World, new_handler, put, with_stack, point_of, frame_at}
-use Rattle.sc_model.specs.Sessions.{standing_in, reserve, release}
+use Rattle.sc_model.specs.Sessions.{standing_in, release}
 use Rattle.sc_model.specs.Answers.{finish}
 use Rattle.sc_model.specs.Failures.{fail, fails_with}
 use Rattle.sc_model.specs.Entries.{stage_with, entry, enters_bound, enters, reserves_if, may_reserve, entry_needs, block_needs}
-use Rattle.sc_model.specs.Asking.{passes, send, awaits_if, request_by, is_callback, asks, request, with_handler, posts_creation, passes_or_releases, created, creates_handler}
-use Rattle.sc_model.specs.Preconditions.{verdict_on, waits_again, is_creation, object_meets, counted_refusal, refuses, correctness_fails, false_clause}
+use Rattle.sc_model.specs.Asking.{send, awaits_if, request_by, is_callback, request, with_handler, passes_or_releases, creates_handler}
+use Rattle.sc_model.specs.Preconditions.{verdict_on, is_creation, object_meets, counted_refusal, refuses, correctness_fails, false_clause}
 use Rattle.sc_model.specs.Exits.{is_unset, is_unset_value, is_untested, handed, handed_as, handed_at, leaves_to, exits, leaves_block}
-use Rattle.sc_model.specs.Takes.{replies, takes_kind, takes_version, takes_creation, with_new_object, takes_errand, takes_next, takes_callback, released_if, takes_answer}
+use Rattle.sc_model.specs.Takes.{replies, takes_kind, takes_version, takes_creation, with_new_object, takes_errand, takes_next, released_if, takes_answer}
 use Rattle.sc_model.specs.Turns.{turn, turn_with, goes_on, settles, effect, waits}
-use Rattle.sc_joined.specs.Order.{IsAwaiting, StandsOver, TakesNone, AreInOrder, EachInOrder, OpensInOrder, TurnsKeepOrder}
+use Rattle.sc_joined.specs.Order.{IsAwaiting, StandsOver, TakesNone, AreInOrder, OpensInOrder, TurnsKeepOrder}
 use Rattle.sc_joined.proofs.Alike.{IsAlike, alike_then, own, fails_alike, release_alike, passes_alike, send_alike, finish_alike, counted_alike}
 use Rattle.sc_joined.proofs.Halving.{by_test}
 use Rattle.sc_joined.proofs.Others.{idle_turn, turn_leads}

@@ -1,5 +1,5 @@
 -- What a settlement leaves of how all other handlers stand.
-use Rattle.std.proofs.Common.{◌≡◌, ◌==◌, ◌&&◌, ◌||◌, ◌<◌, not, ℕ, Bool, true, false, List, [], ◌∷◌, Option, Some, None, refl, sym, ap, subst, ◌∙◌, arith}
+use Rattle.std.proofs.Common.{◌≡◌, ◌&&◌, ◌||◌, ◌<◌, not, ℕ, Bool, true, false, List, [], ◌∷◌, Option, Some, None, refl, sym, ap, subst, ◌∙◌, arith}
 use Rattle.std.proofs.lemmas.Bool.{ne_eqb}
 use Rattle.std.specs.Prelude.{is_some, length, nat_lt, if◌then◌else◌}
 use Rattle.arrayvec.specs.ArrayVec.{ArrayVec}
@@ -17,14 +17,12 @@ use Rattle.sc_region.specs.declared.job.Job.TheVariants as job
 use Rattle.sc_region.specs.declared.job.Request.{Request}
 use Rattle.sc_region.specs.declared.job.Want.{Want}
 use Rattle.sc_region.specs.declared.job.Want.TheVariants as want
-use Rattle.sc_request.specs.Handlers.{posted, Replied, Refused, Stage, Idle, Runs, HasMade, Reserves, Awaits, Service, Handler, State, put, new_handler, with_stage}
-use Rattle.sc_request.specs.Sessions.{fail, finish, is_callback, passed_if, passes, release, send, told, with_handler}
-use Rattle.sc_request.specs.Settling.{asked_in, asks, awaits_if, begun, counted_refusal, creates, creation, done, done_if, ends, fits_turns, made_at, may_ask, posts_unheld, sends, settled, takes, takes_answer}
+use Rattle.sc_request.specs.Handlers.{posted, Replied, Refused, Stage, Idle, Runs, HasMade, Reserves, Awaits, Service, Handler, State, put, new_handler}
+use Rattle.sc_request.specs.Sessions.{fail, is_callback, passed_if, release, send, told, with_handler}
+use Rattle.sc_request.specs.Settling.{asked_in, asks, awaits_if, begun, counted_refusal, creates, creation, done, done_if, ends, fits_turns, made_at, may_ask, posts_unheld, sends, takes, takes_answer}
 use Rattle.sc_request.specs.Asked.{Numbering, asked}
-use Rattle.sc_request.specs.Halves.{IsHalfOf}
 use Rattle.sc_request.specs.Steps.{stepped}
 use Rattle.sc_request.specs.Picking.{job_of}
-use Rattle.sc_interp.specs.RegionTurns.{Half}
 use Rattle.sc_interp.specs.RegionHalves.{IsRegionHalf}
 use Rattle.sc_joined.specs.Joined.{OthersKeepHalves}
 use Rattle.sc_joined.proofs.Halving.{by_test, half_alike}

@@ -1,12 +1,11 @@
 -- The halves of all regions, at the opening and after each turn.
-use Rattle.std.proofs.Common.{◌≡◌, ◌⊎◌, inl, inr, ◌==◌, ◌<◌, ◌≤◌, ℕ, Bool, true, false, List, Option, Some, None, refl, sym, ap, subst, ◌∙◌, arith}
+use Rattle.std.proofs.Common.{◌≡◌, ◌⊎◌, inl, inr, ◌<◌, ◌≤◌, ℕ, Bool, List, None, refl, sym, ap, subst, ◌∙◌, arith}
 use Rattle.std.proofs.lemmas.Bool.{cases_eq, cases_lt, eq-eqb, ne_eqb, le-ltb}
-use Rattle.std.specs.Prelude.{nat_lt, if◌then◌else◌}
+use Rattle.std.specs.Prelude.{if◌then◌else◌}
 use Rattle.sc_tree.specs.Plain.{System}
 use Rattle.sc_model.specs.Handlers.{World}
 use Rattle.sc_model.specs.Settled.{SettledObjectsMeet}
 use Rattle.sc_model.specs.Turns.{turn}
-use Rattle.sc_region.specs.declared.job.Job.{Job}
 use Rattle.sc_request.specs.Handlers as core
 use Rattle.sc_request.specs.Picking.{job_of, job_with}
 use Rattle.sc_request.specs.Halves.{IsHalfOf}

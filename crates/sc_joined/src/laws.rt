@@ -1,5 +1,6 @@
 //! Laws of the regions beside the machine, each the contract of a function that does nothing.
 ghost use Rattle.sc_interp.specs.RegionSteps.{RegionsAsk};
+ghost use Rattle.sc_joined.specs.Further.{FirstTurnsGoOn, FurtherTurnsSettle};
 ghost use Rattle.sc_joined.specs.Joined.{CreatedAreNew, OpensAsHalves, OpensAsNew, OthersKeepHalves, RegionsFollow, TurnsKeepHalves};
 ghost use Rattle.sc_joined.specs.Order.{OpensInOrder, TurnsKeepOrder};
 
@@ -48,4 +49,14 @@ pub fn openings_are_halves()
 /// After each turn they are the regions' of the state that the machine steps to, beside what the core's settlement leaves.
 pub fn turns_keep_halves()
     ensures { TurnsKeepHalves }
+{}
+
+/// Where the first turn under a job asks nothing its handler goes on, if a further turn may come under it.
+pub fn first_turns_go_on()
+    ensures { FirstTurnsGoOn }
+{}
+
+/// The settlement of more turns under a job is that of the first, which asks nothing, and of those that are left.
+pub fn further_turns_settle()
+    ensures { FurtherTurnsSettle }
 {}
