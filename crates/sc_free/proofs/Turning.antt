@@ -213,13 +213,13 @@ ahead_serves n x y s a =
     let stands : y.failure ≡ None = a.remains.failure ∙ s.stands in
     record { stands = stands; serve = remains_serves n x y a.remains (serving n x s) stands }
 
-ends_after : (w : Want) (n : ℕ) (x y : PlainStore) → ServesAfter w n x → EndsIn x w y → ServesAfter w n y
-ends_after w n x y s (inl same) = subst (λ (z : PlainStore). ServesAfter w n z) (sym same) s
-ends_after w n x y s (inr ahead) = λ asks. ahead_serves (left_after w n) x y (s asks) ahead.1
+ends_after : (w : Want) (n m limit : ℕ) (x y : PlainStore) → ServesAfter w n x → EndsIn m limit x w y → ServesAfter w n y
+ends_after w n m limit x y s (inl same) = subst (λ (z : PlainStore). ServesAfter w n z) (sym same) s
+ends_after w n m limit x y s (inr ahead) = λ asks. ahead_serves (left_after w n) x y (s asks) ahead.2
 
 pub regions_serve : RegionsServe
 regions_serve limit j x y o n s p =
-    ends_after o.want (served_under j n) p.last y.store
+    ends_after o.want (served_under j n) o.turns limit p.last y.store
     (turns_after x.handler x.is_told j x.store n o.turns p.last o.want s p.turns) p.ends
 
 pub refused_regions_serve : RefusedRegionsServe

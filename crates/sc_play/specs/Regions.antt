@@ -17,9 +17,9 @@ pub record PlainRegion : Type 0 where
 abbrev pub new_region : Image → ℕ → PlainRegion
 new_region p h = record { handler = h; store = new_store p; is_told = false }
 
--- Where no memory was refused, the store is the one that the last turn left.
-abbrev pub EndsIn : PlainStore → Want → PlainStore → Type 0
-EndsIn x w y = (y ≡ x) ⊎ ((w ≡ want.Continue) × IsAhead x y)
+-- Where no memory was refused, the store is the one that the last turn left. It may be refused to a turn behind so many, where there may be more.
+abbrev pub EndsIn : ℕ → ℕ → PlainStore → Want → PlainStore → Type 0
+EndsIn n limit x w y = (y ≡ x) ⊎ ((n < limit) × (w ≡ want.Continue) × IsAhead x y)
 
 -- Further turns of the handler lead from the first store to the second, where the first of all was made and asked this. With it they are so many, at most the
 -- limit, and the last asks this.
@@ -28,7 +28,7 @@ pub record PlaysOn (limit : ℕ) (h : ℕ) (x : PlainStore) (v : Want) (y : Plai
   pub some : 0 < n
   pub last : PlainStore
   pub turns : (is_told : Bool) (j : Job) (z : PlainStore) → Turns h is_told j z 1 x v → Turns h is_told j z n last w
-  pub ends : EndsIn last w y
+  pub ends : EndsIn n limit last w y
 
 -- So many turns as the outcome says, at most the limit, lead from one region to the other, and the last asks what it says. None of those before it asks
 -- anything. Where memory was refused to a turn after them, it asks nothing, and silent operations of that turn may be done.
@@ -38,7 +38,7 @@ pub record Plays (limit : ℕ) (j : Job) (x y : PlainRegion) (o : Outcome) : Typ
   pub some : 0 < o.turns
   pub last : PlainStore
   pub turns : Turns x.handler x.is_told j x.store o.turns last o.want
-  pub ends : EndsIn last o.want y.store
+  pub ends : EndsIn o.turns limit last o.want y.store
   pub same : y ≡ record x { store = y.store; is_told = false }
   pub program : y.store.program ≡ x.store.program
 

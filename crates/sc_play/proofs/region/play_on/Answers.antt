@@ -21,7 +21,7 @@ returns-in-Err c =
       some = omega (arith, c.loop-turns.auto.turns);
       last = c.loop-turns.store;
       turns = λ t j z p. subst (λ (w : Want). Turns c.args.handler t j z c.loop-turns.turns c.loop-turns.store w) none (c.loop-turns.invariant t j z p);
-      ends = inr (refl, c.in-Err.ensures.err);
+      ends = inr (c.loop-turns-test.true, refl, c.in-Err.ensures.err);
     }
 
 pub loop-turns-preserved : goal.loop-turns-preserved
