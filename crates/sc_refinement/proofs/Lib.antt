@@ -1,0 +1,15 @@
+mod Asked
+mod Assembling
+mod AtOnce
+mod Contracts
+mod Headlined
+mod Meeting
+mod Naming
+mod Opening
+mod Picking
+mod PuttingBack
+mod Reaching
+mod Refined
+mod Reporting
+mod Running
+mod Wants

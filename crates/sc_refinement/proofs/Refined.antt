@@ -1,0 +1,148 @@
+-- The world that runs refines the machine.
+use Rattle.std.proofs.Common.{◌≡◌, inl, inr, ℕ, false, refl, sym, subst, take, arith}
+use Rattle.sc_tree.specs.Plain.{System}
+use Rattle.sc_class.specs.ClassNames.{Root}
+use Rattle.sc_class.specs.Faults.ClassRules.{IsFaultless}
+use Rattle.sc_rules.specs.SystemRules.{WellFormed}
+use Rattle.sc_rules.proofs.PurityStands.{purity_stands}
+use Rattle.sc_lockpass.specs.Versions.{most_handlers}
+use Rattle.sc_model.specs.Handlers as machine
+use Rattle.sc_model.specs.Runs.{IsReached, opening, run}
+use Rattle.sc_code.specs.declared.program.Image.{Image}
+use Rattle.sc_code.specs.Programs.{IsProgramOf}
+use Rattle.sc_region.specs.declared.job.Job.{Job}
+use Rattle.sc_region.specs.declared.job.Job.TheVariants as job
+use Rattle.sc_region.specs.declared.job.Want.{Want}
+use Rattle.sc_region.specs.Stores.{PlainStore}
+use Rattle.sc_request.specs.Laws.{PicksWhereTurns}
+use Rattle.sc_interp.specs.RegionHalves.{IsRegionOf}
+use Rattle.sc_interp.specs.RegionSteps.{IsProgramFor, RegionsAsk, first_want, numbering_by, task_of}
+use Rattle.sc_interp.specs.RegionTurns.{Half, taken_turn}
+use Rattle.sc_play.specs.Regions.{EndsIn}
+use Rattle.sc_refinement.specs.Pieces.{FitsTurns, JobFits}
+use Rattle.sc_refinement.specs.Pieces.{SoundJobsAreTaken, begun_when}
+use Rattle.sc_refinement.specs.Pieces.{IsSound, NewStoresAreSound}
+use Rattle.sc_halves.specs.Reached.{EntriesAreRemembered, HalvesWhereReached}
+use Rattle.sc_refinement.specs.Pieces as joined
+use Rattle.sc_refinement.specs.Pieces.{EachInOrder, OpensInOrder, TurnsKeepOrder}
+use Rattle.sc_refinement.specs.Pieces.{SettledMeetWhereReached}
+use Rattle.sc_refinement.specs.Pieces.{OnStartedWhereReached, Pieces}
+use Rattle.sc_runtime.specs.Worlds.{opened}
+use Rattle.sc_refinement.specs.Refining.{RoundsRunAsMachine, StoppedWorldStaysNear, WorldHasHeadline, WorldRunsAsMachine}
+use Rattle.sc_refinement.specs.Standing.{names_in}
+use Rattle.sc_refinement.proofs.Assembling.{stands_along}
+use Rattle.sc_refinement.proofs.AtOnce.{rounds_are_turns}
+use Rattle.sc_refinement.proofs.Headlined.{headlined}
+use Rattle.sc_refinement.proofs.Meeting.{job_fits}
+use Rattle.sc_refinement.proofs.PuttingBack.{refused_turn_stays_near}
+use Rattle.sc_refinement.proofs.Reaching.{in_each, reached_fits}
+use Rattle.sc_refinement.proofs.Running.{HalvesMeet, OthersKeep, RegionsAskSo, RegionsFollow, SettledMeet, StoresTurn, TurnsEndThere}
+
+-- a region that plays one turn stands where that left it
+one_turn : (n : ℕ) (x y : PlainStore) (w : Want) → n ≡ 1 → EndsIn n 1 x w y → y ≡ x
+one_turn n x y w e (inl same) = same
+one_turn n x y w e (inr (few, nothing, ahead)) = absurd (omega (arith, few, e))
+
+untold : (j : Job) (x : Half) → begun_when false j x ≡ x
+untold (job.Made k) x = refl
+untold (job.Take r) x = refl
+untold (job.Reply v) x = refl
+untold job.Failed x = refl
+untold job.Refused x = refl
+untold (job.Granted ks) x = refl
+untold job.Go x = refl
+
+module _ (picks : PicksWhereTurns) (halves : HalvesWhereReached) (remembered : EntriesAreRemembered) (started : OnStartedWhereReached)
+    (settled : SettledMeetWhereReached) (follow : joined.RegionsFollow) (ask : RegionsAsk) (others : joined.OthersKeepHalves) (created : joined.CreatedAreNew) (ordered : OpensInOrder)
+    (keep_order : TurnsKeepOrder) (new_sound : NewStoresAreSound) (taken : SoundJobsAreTaken) where
+  module _ (s : System) (root : Root) (faultless : IsFaultless s root) (well : WellFormed s) (p : Image) (program : IsProgramOf s root p) (fits : FitsTurns p) (most : ℕ) where
+    abbrev Placed : ℕ → PlainStore → Type 0
+    Placed h y = IsSound y
+
+    abbrev Needs : ℕ → Job → Half → Type 0
+    Needs h j x = JobFits s h (names_in p) j x
+
+    stores_turn : StoresTurn s root p faultless well most Placed Needs
+    stores_turn h j y z w t is x region sound needs =
+        let made = taken h false j y z w t sound (subst FitsTurns (sym is) fits) s x
+        (subst (IsProgramFor s) (sym is) (record { root = root; faultless = faultless; well_formed = well; program = program }))
+        (subst (λ (a : Half). IsRegionOf s a y) (sym (untold j x)) region) (subst (λ (q : Image). JobFits s h (names_in q) j x) (sym is) needs) in (
+          subst (λ (q : Image). IsRegionOf s (taken_turn s h (task_of (names_in q) j) x) z) is made.1,
+          subst (λ (q : Image). w ≡ first_want (numbering_by (names_in q)) s h (task_of (names_in q) j) x) is made.2,
+          made.0,
+        )
+
+    halves_meet : HalvesMeet s root p faultless well most Needs
+    halves_meet h j w c x reached here half is_job named region =
+        let pure = purity_stands s in
+        job_fits s root pure.0 faultless well pure.1 w (reached_fits s root pure.0 faultless well pure.1 most w reached) (names_in p) c half named h here j x is_job region
+
+    in_order : (w : machine.World) → IsReached most s root w → EachInOrder w
+    in_order w reached = in_each s root most EachInOrder (λ h w r order. keep_order most s h w order) (ordered s root) w reached
+
+    followed : RegionsFollow s root p faultless well most
+    followed h w c x reached here half remembers named region now =
+        follow most (names_in p) s h w c x half region (in_order w reached h here) named now
+
+    asked : RegionsAskSo s root p faultless well most
+    asked h w c x j reached half named region is_job now = ask most (names_in p) s h w c x j half region is_job named now
+
+    kept : OthersKeep s root p faultless well most
+    kept h k w c x reached half apart few region = others most (numbering_by (names_in p)) s h k w c x half apart few region
+
+    settled_here : SettledMeet s root p faultless well most
+    settled_here w reached = settled s root faultless well most w reached
+
+    end_there : TurnsEndThere s root p faultless well most
+    end_there j x y o t one = one_turn o.turns t.last y.store o.want one t.ends
+
+  pub world_runs_as_machine : WorldRunsAsMachine
+  world_runs_as_machine s root faultless well p v hs y program fits runs =
+      let most : ℕ = most_handlers v in
+      stands_along s root p faultless well program fits.requests v (Placed s root faultless well p program fits most) (Needs s root faultless well p program fits most)
+      (stores_turn s root faultless well p program fits most) (halves_meet s root faultless well p program fits most) (λ h. new_sound p) (followed s root faultless well p program fits most)
+      (asked s root faultless well p program fits most) (kept s root faultless well p program fits most) (λ h k w stage past few. created most s h k w stage past few)
+      (settled_here s root faultless well p program fits most) (end_there s root faultless well p program fits most) (started s root faultless well most) picks halves remembered hs y runs
+
+  pub stopped_world_stays_near : StoppedWorldStaysNear
+  stopped_world_stays_near s root faultless well p v n hs y program fits stops =
+      let w = run (most_handlers v) s (take n hs) (opening s root) in
+      refused_turn_stays_near s p stops.next w stops.before y (world_runs_as_machine s root faultless well p v (take n hs) stops.before program fits stops.runs) stops.refused
+
+  pub world_has_headline : WorldHasHeadline
+  world_has_headline s root faultless well p v hs y program fits runs =
+      let w : machine.World = run (most_handlers v) s hs (opening s root) in
+      let reached : IsReached (most_handlers v) s root w = record { numbers = hs; run_is = refl } in (
+        w,
+        reached,
+        world_runs_as_machine s root faultless well p v hs y program fits runs,
+        headlined s root faultless well (most_handlers v) w reached (settled s root faultless well (most_handlers v) w reached),
+      )
+
+  pub rounds_run_as_machine : RoundsRunAsMachine
+  rounds_run_as_machine s root faultless well p v limit left y program fits rounds in_place =
+      let turns = rounds_are_turns limit (opened p v) left y rounds in_place in
+      (turns.0, world_runs_as_machine s root faultless well p v turns.0 y program fits turns.1)
+
+-- ---- from the pieces
+
+module _ (picks : PicksWhereTurns) (halves : HalvesWhereReached) (remembered : EntriesAreRemembered) (pieces : Pieces) where
+  pub run_from_pieces : WorldRunsAsMachine
+  run_from_pieces =
+      world_runs_as_machine picks halves remembered pieces.on_started pieces.settled_objects_meet pieces.regions_follow pieces.regions_ask pieces.others_keep_halves
+      pieces.created_are_new pieces.openings_are_in_order pieces.turns_keep_order pieces.new_stores_are_sound pieces.jobs_are_taken
+
+  pub stopped_from_pieces : StoppedWorldStaysNear
+  stopped_from_pieces =
+      stopped_world_stays_near picks halves remembered pieces.on_started pieces.settled_objects_meet pieces.regions_follow pieces.regions_ask pieces.others_keep_halves
+      pieces.created_are_new pieces.openings_are_in_order pieces.turns_keep_order pieces.new_stores_are_sound pieces.jobs_are_taken
+
+  pub headline_from_pieces : WorldHasHeadline
+  headline_from_pieces =
+      world_has_headline picks halves remembered pieces.on_started pieces.settled_objects_meet pieces.regions_follow pieces.regions_ask pieces.others_keep_halves
+      pieces.created_are_new pieces.openings_are_in_order pieces.turns_keep_order pieces.new_stores_are_sound pieces.jobs_are_taken
+
+  pub rounds_from_pieces : RoundsRunAsMachine
+  rounds_from_pieces =
+      rounds_run_as_machine picks halves remembered pieces.on_started pieces.settled_objects_meet pieces.regions_follow pieces.regions_ask pieces.others_keep_halves
+      pieces.created_are_new pieces.openings_are_in_order pieces.turns_keep_order pieces.new_stores_are_sound pieces.jobs_are_taken

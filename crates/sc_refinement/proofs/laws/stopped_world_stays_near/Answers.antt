@@ -1,0 +1,5 @@
+use Rattle.sc_refinement.proofs.Refined.{stopped_from_pieces}
+use Rattle.sc_refinement.proofs.laws.stopped_world_stays_near.Goals as goal
+
+pub returns : goal.returns
+returns c = stopped_from_pieces c.core_picks_where_the_machine_turns.ensures c.core_settles_as_half_where_reached.ensures c.entries_are_remembered.ensures

@@ -1,0 +1,68 @@
+//! Laws of the world that runs beside the machine, each the contract of a function that does nothing.
+ghost use Rattle.sc_refinement.specs.Pieces.{Pieces};
+ghost use Rattle.sc_refinement.specs.Refining.{RefusedTurnStaysNear, RoundsAreTurns, RoundsRunAsMachine, StandingWorldIsNear};
+ghost use Rattle.sc_refinement.specs.Refining.{StoppedWorldStaysNear, WorldHasHeadline, WorldReportsAsMachine, WorldRunsAsMachine};
+
+use sc_halves::laws::{core_settles_as_half_where_reached, entries_are_remembered};
+use sc_request::laws::core_picks_where_the_machine_turns;
+
+/// Where the pieces hold, the turns of any handlers lead the world of an accepted system's program to one that stands for the
+/// state to which they lead the machine.
+pub fn world_runs_as_machine()
+    ensures { Pieces → WorldRunsAsMachine }
+{
+    core_picks_where_the_machine_turns();
+    core_settles_as_half_where_reached();
+    entries_are_remembered();
+}
+
+/// Where memory was refused to a turn behind so many, the world is near the state to which those lead the machine.
+pub fn stopped_world_stays_near()
+    ensures { Pieces → StoppedWorldStaysNear }
+{
+    core_picks_where_the_machine_turns();
+    core_settles_as_half_where_reached();
+    entries_are_remembered();
+}
+
+/// So each world that turns lead to stands for a state that the machine reaches, of which the headline holds.
+pub fn world_has_headline()
+    ensures { Pieces → WorldHasHeadline }
+{
+    core_picks_where_the_machine_turns();
+    core_settles_as_half_where_reached();
+    entries_are_remembered();
+}
+
+/// A world that stands for a state is near it.
+pub fn standing_world_is_near()
+    ensures { StandingWorldIsNear }
+{}
+
+/// So is one where memory was refused to the turn of a handler of a world that stands for it: the core is what it was, and no
+/// more than silent operations of that handler's region are done.
+pub fn refused_turn_stays_near()
+    ensures { RefusedTurnStaysNear }
+{}
+
+/// A world near a state reports what the machine reports of it, and each handler stands as it does there.
+pub fn world_reports_as_machine()
+    ensures { WorldReportsAsMachine }
+{
+    core_picks_where_the_machine_turns();
+}
+
+/// Turns round and round, of which several may be made at once, are turns of handlers, one after the other, where memory was never
+/// refused within them.
+pub fn rounds_are_turns()
+    ensures { RoundsAreTurns }
+{}
+
+/// So they lead a program's world to one that stands for a state that the machine reaches.
+pub fn rounds_run_as_machine()
+    ensures { Pieces → RoundsRunAsMachine }
+{
+    core_picks_where_the_machine_turns();
+    core_settles_as_half_where_reached();
+    entries_are_remembered();
+}
