@@ -24,7 +24,6 @@ use Rattle.sc_play.specs.Regions.{PlainRegion, new_region}
 use Rattle.sc_acts.specs.Told.{FitsRequests}
 use Rattle.sc_request.specs.Laws.{PicksWhereTurns}
 use Rattle.sc_halves.specs.Reached.{EntriesAreRemembered, HalvesWhereReached, RemembersAlong}
-use Rattle.sc_halves.specs.Started.{EachOnStarted}
 use Rattle.sc_runtime.specs.Turning.{Runs}
 use Rattle.sc_runtime.specs.Worlds.{PlainWorld, max_handlers, opened}
 use Rattle.sc_refinement.specs.Standing.{IsRegionFor, StandsFor, names_in}
@@ -55,7 +54,7 @@ module _ (s : System) (root : Root) (p : Image) (faultless : IsFaultless s root)
   module _ (Placed : ℕ → PlainStore → Type 0) (Needs : ℕ → Job → Half → Type 0) (stores_turn : StoresTurn s root p faultless well most Placed Needs)
       (halves_meet : HalvesMeet s root p faultless well most Needs) (new_placed : (h : ℕ) → Placed h (new_store p)) (follow : RegionsFollow s root p faultless well most)
       (ask : RegionsAskSo s root p faultless well most) (others_keep : OthersKeep s root p faultless well most) (created : CreatedAreNew s root p faultless well most)
-      (settled_meet : SettledMeet s root p faultless well most) (end_there : TurnsEndThere s root p faultless well most) (each : EachOnStarted most s root)
+      (settled_meet : SettledMeet s root p faultless well most) (end_there : TurnsEndThere s root p faultless well most)
       (picks : PicksWhereTurns) (reached_halves : HalvesWhereReached) (entries_are_remembered : EntriesAreRemembered) where
     start_region : (h : ℕ) (r : PlainRegion) → slice_get (opened p v).regions h ≡ Some r →
         IsRegionFor s p h ((opening s root).handlers h) ((opened p v).center.state.handlers h).stage r × Placed h r.store
@@ -87,7 +86,7 @@ module _ (s : System) (root : Root) (p : Image) (faultless : IsFaultless s root)
     pub stands_along : (hs : List ℕ) (y : PlainWorld) → Runs hs (opened p v) y → StandsFor s p (run most s hs (opening s root)) y
     stands_along hs y runs =
         let remembered : RemembersAlong most n s hs (opening s root) (opened p v).center.state =
-        subst (RemembersAlong most n s hs (opening s root)) (sym (opened_state s root pure p faultless program fits)) (entries_are_remembered s root faultless well most n hs each) in
+        subst (RemembersAlong most n s hs (opening s root)) (sym (opened_state s root pure p faultless program fits)) (entries_are_remembered s root faultless well most n hs) in
         let last = along s root p faultless well most Placed Needs stores_turn halves_meet new_placed follow ask others_keep created settled_meet end_there picks reached_halves
         hs (opening s root) (opened p v) y (record { numbers = []; run_is = refl }) core remembered start runs in
         beside_stands s root p faultless well most Placed Needs stores_turn halves_meet new_placed follow ask others_keep created settled_meet end_there picks reached_halves

@@ -38,7 +38,8 @@ use Rattle.sc_interp.specs.RegionSteps.{numbering_by}
 use Rattle.sc_interp.specs.RegionTurns.{Half}
 use Rattle.sc_acts.specs.Taking.{IsNamed}
 use Rattle.sc_acts.specs.Turns.{begun_half}
-use Rattle.sc_refinement.specs.Pieces.{RefusesInContract}
+use Rattle.sc_acts.specs.Halves.{AreComplete, AreWithin, GetsReply, GivesResult, GoesWell, HalfFits, IsComplete, JobFits, RequestFits, TopGoesWell}
+use Rattle.sc_acts.specs.Waiting.{RefusesInContract}
 use Rattle.sc_values.specs.Fitting as values
 use Rattle.sc_values.specs.Fitting.{FrameFits, Gives, IsThere, Linked, ObjectFits, WorldFits, alone, called, is_due, is_made}
 use Rattle.sc_values.specs.Points.{AttributesFit, Each, ResultFits, a_result, no_result}
@@ -46,7 +47,6 @@ use Rattle.sc_values.specs.Steps.{StepFits}
 use Rattle.sc_values.proofs.Lists.{each_before, each_behind}
 use Rattle.sc_refinement.proofs.Asked.{AllAsk}
 use Rattle.sc_refinement.proofs.Contracts.{StandsInContract, begun_none, begun_stack, frame, job_here, moves_so, operands_under, same_frame, tells_at, top_in_contract, waits_for_none}
-use Rattle.sc_refinement.specs.Pieces.{AreComplete, AreWithin, GetsReply, GivesResult, GoesWell, HalfFits, IsComplete, JobFits, RequestFits, TopGoesWell}
 
 -- ---- objects
 

@@ -19,14 +19,13 @@ use Rattle.sc_interp.specs.RegionHalves.{IsRegionOf}
 use Rattle.sc_interp.specs.RegionSteps.{IsProgramFor, RegionsAsk, first_want, numbering_by, task_of}
 use Rattle.sc_interp.specs.RegionTurns.{Half, taken_turn}
 use Rattle.sc_play.specs.Regions.{EndsIn}
-use Rattle.sc_refinement.specs.Pieces.{FitsTurns, JobFits}
-use Rattle.sc_refinement.specs.Pieces.{SoundJobsAreTaken, begun_when}
-use Rattle.sc_refinement.specs.Pieces.{IsSound, NewStoresAreSound}
+use Rattle.sc_acts.specs.Halves.{FitsTurns, JobFits}
+use Rattle.sc_acts.specs.Placed.{SoundJobsAreTaken, begun_when}
+use Rattle.sc_acts.specs.Sound.{IsSound, NewStoresAreSound}
+use Rattle.sc_joined.specs.Order.{EachInOrder, OpensInOrder, TurnsKeepOrder}
+use Rattle.sc_settled.specs.Reached.{SettledMeetWhereReached}
 use Rattle.sc_halves.specs.Reached.{EntriesAreRemembered, HalvesWhereReached}
-use Rattle.sc_refinement.specs.Pieces as joined
-use Rattle.sc_refinement.specs.Pieces.{EachInOrder, OpensInOrder, TurnsKeepOrder}
-use Rattle.sc_refinement.specs.Pieces.{SettledMeetWhereReached}
-use Rattle.sc_refinement.specs.Pieces.{OnStartedWhereReached, Pieces}
+use Rattle.sc_joined.specs.Joined as joined
 use Rattle.sc_runtime.specs.Worlds.{opened}
 use Rattle.sc_refinement.specs.Refining.{RoundsRunAsMachine, StoppedWorldStaysNear, WorldHasHeadline, WorldRunsAsMachine}
 use Rattle.sc_refinement.specs.Standing.{names_in}
@@ -52,8 +51,7 @@ untold job.Refused x = refl
 untold (job.Granted ks) x = refl
 untold job.Go x = refl
 
-module _ (picks : PicksWhereTurns) (halves : HalvesWhereReached) (remembered : EntriesAreRemembered) (started : OnStartedWhereReached)
-    (settled : SettledMeetWhereReached) (follow : joined.RegionsFollow) (ask : RegionsAsk) (others : joined.OthersKeepHalves) (created : joined.CreatedAreNew) (ordered : OpensInOrder)
+module _ (picks : PicksWhereTurns) (halves : HalvesWhereReached) (remembered : EntriesAreRemembered) (settled : SettledMeetWhereReached) (follow : joined.RegionsFollow) (ask : RegionsAsk) (others : joined.OthersKeepHalves) (created : joined.CreatedAreNew) (ordered : OpensInOrder)
     (keep_order : TurnsKeepOrder) (new_sound : NewStoresAreSound) (taken : SoundJobsAreTaken) where
   module _ (s : System) (root : Root) (faultless : IsFaultless s root) (well : WellFormed s) (p : Image) (program : IsProgramOf s root p) (fits : FitsTurns p) (most : ℕ) where
     abbrev Placed : ℕ → PlainStore → Type 0
@@ -102,7 +100,7 @@ module _ (picks : PicksWhereTurns) (halves : HalvesWhereReached) (remembered : E
       stands_along s root p faultless well program fits.requests v (Placed s root faultless well p program fits most) (Needs s root faultless well p program fits most)
       (stores_turn s root faultless well p program fits most) (halves_meet s root faultless well p program fits most) (λ h. new_sound p) (followed s root faultless well p program fits most)
       (asked s root faultless well p program fits most) (kept s root faultless well p program fits most) (λ h k w stage past few. created most s h k w stage past few)
-      (settled_here s root faultless well p program fits most) (end_there s root faultless well p program fits most) (started s root faultless well most) picks halves remembered hs y runs
+      (settled_here s root faultless well p program fits most) (end_there s root faultless well p program fits most) picks halves remembered hs y runs
 
   pub stopped_world_stays_near : StoppedWorldStaysNear
   stopped_world_stays_near s root faultless well p v n hs y program fits stops =
@@ -123,26 +121,3 @@ module _ (picks : PicksWhereTurns) (halves : HalvesWhereReached) (remembered : E
   rounds_run_as_machine s root faultless well p v limit left y program fits rounds in_place =
       let turns = rounds_are_turns limit (opened p v) left y rounds in_place in
       (turns.0, world_runs_as_machine s root faultless well p v turns.0 y program fits turns.1)
-
--- ---- from the pieces
-
-module _ (picks : PicksWhereTurns) (halves : HalvesWhereReached) (remembered : EntriesAreRemembered) (pieces : Pieces) where
-  pub run_from_pieces : WorldRunsAsMachine
-  run_from_pieces =
-      world_runs_as_machine picks halves remembered pieces.on_started pieces.settled_objects_meet pieces.regions_follow pieces.regions_ask pieces.others_keep_halves
-      pieces.created_are_new pieces.openings_are_in_order pieces.turns_keep_order pieces.new_stores_are_sound pieces.jobs_are_taken
-
-  pub stopped_from_pieces : StoppedWorldStaysNear
-  stopped_from_pieces =
-      stopped_world_stays_near picks halves remembered pieces.on_started pieces.settled_objects_meet pieces.regions_follow pieces.regions_ask pieces.others_keep_halves
-      pieces.created_are_new pieces.openings_are_in_order pieces.turns_keep_order pieces.new_stores_are_sound pieces.jobs_are_taken
-
-  pub headline_from_pieces : WorldHasHeadline
-  headline_from_pieces =
-      world_has_headline picks halves remembered pieces.on_started pieces.settled_objects_meet pieces.regions_follow pieces.regions_ask pieces.others_keep_halves
-      pieces.created_are_new pieces.openings_are_in_order pieces.turns_keep_order pieces.new_stores_are_sound pieces.jobs_are_taken
-
-  pub rounds_from_pieces : RoundsRunAsMachine
-  rounds_from_pieces =
-      rounds_run_as_machine picks halves remembered pieces.on_started pieces.settled_objects_meet pieces.regions_follow pieces.regions_ask pieces.others_keep_halves
-      pieces.created_are_new pieces.openings_are_in_order pieces.turns_keep_order pieces.new_stores_are_sound pieces.jobs_are_taken

@@ -15,7 +15,7 @@ use Rattle.sc_model.specs.Settled.{SettledObjectsMeet}
 use Rattle.sc_model.specs.Values.{Attached, Reference, Value}
 use Rattle.sc_code.specs.declared.program.Image.{Image}
 use Rattle.sc_code.specs.Programs.{IsProgramOf}
-use Rattle.sc_refinement.specs.Pieces.{FitsTurns}
+use Rattle.sc_acts.specs.Halves.{FitsTurns}
 use Rattle.sc_laws.specs.Formals.{FormalsAreHeld, NamesAreHeld}
 use Rattle.sc_laws.specs.Headline.{CallbacksComeFirst, ChainsHold, OnlyWaitersAreTold, RepliesMeetNone, ReservedAreHeld, TargetsAreKept, WaitersAreTold}
 use Rattle.sc_values.specs.Places.{StandsAs}

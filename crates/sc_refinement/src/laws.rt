@@ -1,37 +1,69 @@
 //! Laws of the world that runs beside the machine, each the contract of a function that does nothing.
-ghost use Rattle.sc_refinement.specs.Pieces.{Pieces};
 ghost use Rattle.sc_refinement.specs.Refining.{RefusedTurnStaysNear, RoundsAreTurns, RoundsRunAsMachine, StandingWorldIsNear};
 ghost use Rattle.sc_refinement.specs.Refining.{StoppedWorldStaysNear, WorldHasHeadline, WorldReportsAsMachine, WorldRunsAsMachine};
 
+use sc_acts::sound::{new_stores_are_sound, sound_jobs_are_taken};
 use sc_halves::laws::{core_settles_as_half_where_reached, entries_are_remembered};
+use sc_joined::laws::{
+    created_are_new, openings_are_in_order, others_keep_halves, regions_ask, regions_follow,
+    turns_keep_order,
+};
 use sc_request::laws::core_picks_where_the_machine_turns;
+use sc_settled::laws::settled_objects_meet;
 
-/// Where the pieces hold, the turns of any handlers lead the world of an accepted system's program to one that stands for the
-/// state to which they lead the machine.
+/// The turns of any handlers lead the world of an accepted system's program to one that stands for the state to which they lead
+/// the machine.
 pub fn world_runs_as_machine()
-    ensures { Pieces → WorldRunsAsMachine }
+    ensures { WorldRunsAsMachine }
 {
     core_picks_where_the_machine_turns();
     core_settles_as_half_where_reached();
     entries_are_remembered();
+    settled_objects_meet();
+    regions_follow();
+    regions_ask();
+    others_keep_halves();
+    created_are_new();
+    openings_are_in_order();
+    turns_keep_order();
+    new_stores_are_sound();
+    sound_jobs_are_taken();
 }
 
 /// Where memory was refused to a turn behind so many, the world is near the state to which those lead the machine.
 pub fn stopped_world_stays_near()
-    ensures { Pieces → StoppedWorldStaysNear }
+    ensures { StoppedWorldStaysNear }
 {
     core_picks_where_the_machine_turns();
     core_settles_as_half_where_reached();
     entries_are_remembered();
+    settled_objects_meet();
+    regions_follow();
+    regions_ask();
+    others_keep_halves();
+    created_are_new();
+    openings_are_in_order();
+    turns_keep_order();
+    new_stores_are_sound();
+    sound_jobs_are_taken();
 }
 
 /// So each world that turns lead to stands for a state that the machine reaches, of which the headline holds.
 pub fn world_has_headline()
-    ensures { Pieces → WorldHasHeadline }
+    ensures { WorldHasHeadline }
 {
     core_picks_where_the_machine_turns();
     core_settles_as_half_where_reached();
     entries_are_remembered();
+    settled_objects_meet();
+    regions_follow();
+    regions_ask();
+    others_keep_halves();
+    created_are_new();
+    openings_are_in_order();
+    turns_keep_order();
+    new_stores_are_sound();
+    sound_jobs_are_taken();
 }
 
 /// A world that stands for a state is near it.
@@ -60,9 +92,18 @@ pub fn rounds_are_turns()
 
 /// So they lead a program's world to one that stands for a state that the machine reaches.
 pub fn rounds_run_as_machine()
-    ensures { Pieces → RoundsRunAsMachine }
+    ensures { RoundsRunAsMachine }
 {
     core_picks_where_the_machine_turns();
     core_settles_as_half_where_reached();
     entries_are_remembered();
+    settled_objects_meet();
+    regions_follow();
+    regions_ask();
+    others_keep_halves();
+    created_are_new();
+    openings_are_in_order();
+    turns_keep_order();
+    new_stores_are_sound();
+    sound_jobs_are_taken();
 }
