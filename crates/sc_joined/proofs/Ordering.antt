@@ -260,9 +260,6 @@ module _ (h : ℕ) where
       Ordered (takes_answer h a k gives b f below w)
   answer_ordered (Reply v) k gives b f below w order = by b
     where
-      z : Handler
-      z = record (w.handlers h) { stack = handed_as gives v f ∷ below; answer = None }
-
       went : Ordered (put h (record (w.handlers h) { stack = handed_as gives v f ∷ below; answer = None }) w)
       went = put_ordered (record (w.handlers h) { stack = handed_as gives v f ∷ below; answer = None }) w (handed_order gives v f below order.0 order.2)
 

@@ -263,9 +263,6 @@ module _ (most : ℕ) (names : List (List ℕ)) (s : System) (h : ℕ) (w : Worl
           Leaves_half (CreatesHandler class procedure us t false) p (settled_at (CreatesHandler class procedure us t false) p)
       creation class procedure us t p = by (cases_Bool (nat_lt w.count most))
         where
-          a : Act
-          a = CreatesHandler class procedure us t false
-
           made : Leaves_half (CreatesHandler class procedure us t false) p (core.HasMade w.count)
           made =
               subst (λ (u : Handler). IsRegionHalf h ((turns.effect most s h (CreatesHandler class procedure us t false) (frame_at f p) below (behind p)).handlers h) (core.HasMade w.count)

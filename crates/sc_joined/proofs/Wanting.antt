@@ -95,9 +95,6 @@ module _ (n : Numbering) (most : ℕ) (s : System) (h : ℕ) (w : World) (f : Fr
       ≡ asks_refusing s (Requested r) f objects
   refuses_wants r = by (is_creation r.errand) tested
     where
-      done : Want
-      done = want.Done None (record { items = f.reserved }) true
-
       by : (a b : Bool) →
           Meets s ((if a && not b then fail h cause.Invariant w
           else finish r Refused (release release_at.Refusal f.reserved (machine.put h (counted_refusal r.is_waited (record (w.handlers h) { stack = below })) w))).handlers h) →

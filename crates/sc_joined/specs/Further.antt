@@ -11,7 +11,8 @@ use Rattle.sc_request.specs.Settling.{goes_on, settled}
 -- Where the first turn under a job asks nothing, its handler goes on, if a further turn may come under it.
 abbrev pub FirstTurnsGoOn : Type 0
 FirstTurnsGoOn =
-    (most h : ℕ) (j : Job) (c : State) → job_of h c ≡ Some j → goes_on j ≡ true → job_of h (settled most h j 1 Continue c) ≡ Some Go
+    (most h : ℕ) (j : Job) (c : State) → job_of h c ≡ Some j → goes_on j ≡ true →
+    job_of h (settled most h j 1 Continue c) ≡ Some Go
 
 -- Then the settlement of more turns is that of the first, and of those that are left.
 abbrev pub FurtherTurnsSettle : Type 0

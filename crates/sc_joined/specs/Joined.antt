@@ -19,13 +19,15 @@ use Rattle.sc_joined.specs.Order.{AreInOrder, EachInOrder}
 
 -- ---- the handler of the turn
 
--- What the handler's turn under its job makes of the region's half is that of the machine's turn, beside what the core's settlement leaves.
+-- What the handler's turn under its job makes of the region's half is that of the machine's turn, beside what the core's
+-- settlement leaves.
 abbrev pub RegionsFollow : Type 0
 RegionsFollow =
-    (most : ℕ) (names : List (List ℕ)) (s : System) (h : ℕ) (w : machine.World) (c : core.State) (x : Half) → IsHalfOf (numbering_by names) w c →
-    IsRegionHalf h (w.handlers h) (c.handlers h).stage x → AreInOrder (w.handlers h).stack → AreNamed names (w.handlers h) →
-    SettledObjectsMeet s (turn most s h w) →
-    IsRegionHalf h ((turn most s h w).handlers h) ((stepped most (numbering_by names) s h w (job_of h c) c).handlers h).stage
+    (most : ℕ) (names : List (List ℕ)) (s : System) (h : ℕ) (w : machine.World) (c : core.State) (x : Half) →
+    IsHalfOf (numbering_by names) w c → IsRegionHalf h (w.handlers h) (c.handlers h).stage x →
+    AreInOrder (w.handlers h).stack → AreNamed names (w.handlers h) → SettledObjectsMeet s (turn most s h w) →
+    IsRegionHalf h ((turn most s h w).handlers h)
+    ((stepped most (numbering_by names) s h w (job_of h c) c).handlers h).stage
     (taken_if s h names (job_of h c) x)
 
 -- ---- the others
@@ -33,19 +35,23 @@ RegionsFollow =
 -- The half of any other handler stays that, beside what the core's settlement leaves.
 abbrev pub OthersKeepHalves : Type 0
 OthersKeepHalves =
-    (most : ℕ) (n : Numbering) (s : System) (h k : ℕ) (w : machine.World) (c : core.State) (x : Half) → IsHalfOf n w c → (k ≡ h → ⊥) → k < w.count →
+    (most : ℕ) (n : Numbering) (s : System) (h k : ℕ) (w : machine.World) (c : core.State) (x : Half) →
+    IsHalfOf n w c → (k ≡ h → ⊥) → k < w.count →
     IsRegionHalf k (w.handlers k) (c.handlers k).stage x →
     IsRegionHalf k ((turn most s h w).handlers k) ((stepped most n s h w (job_of h c) c).handlers k).stage x
 
 -- The half of a handler that is created in the turn is that of one that was asked for nothing yet.
 abbrev pub CreatedAreNew : Type 0
 CreatedAreNew =
-    (most : ℕ) (s : System) (h k : ℕ) (w : machine.World) (stage : core.Stage) → w.count ≤ k → k < (turn most s h w).count →
+    (most : ℕ) (s : System) (h k : ℕ) (w : machine.World) (stage : core.Stage) →
+    w.count ≤ k → k < (turn most s h w).count →
     IsRegionHalf k ((turn most s h w).handlers k) stage new_half
 
 -- So is that of each handler at the opening.
 abbrev pub OpensAsNew : Type 0
-OpensAsNew = (s : System) (root : Root) (k : ℕ) (stage : core.Stage) → IsRegionHalf k ((runs.opening s root).handlers k) stage new_half
+OpensAsNew =
+    (s : System) (root : Root) (k : ℕ) (stage : core.Stage) →
+    IsRegionHalf k ((runs.opening s root).handlers k) stage new_half
 
 -- ---- all regions
 
@@ -65,6 +71,8 @@ OpensAsHalves = (s : System) (root : Root) (c : core.State) → AreRegionHalves 
 -- and after each turn they are the regions'.
 abbrev pub TurnsKeepHalves : Type 0
 TurnsKeepHalves =
-    (most : ℕ) (names : List (List ℕ)) (s : System) (h : ℕ) (w : machine.World) (c : core.State) (xs : ℕ → Half) → IsHalfOf (numbering_by names) w c →
-    AreRegionHalves w c xs → EachInOrder w → AreNamed names (w.handlers h) → SettledObjectsMeet s (turn most s h w) →
-    AreRegionHalves (turn most s h w) (stepped most (numbering_by names) s h w (job_of h c) c) (halves_after s h names (job_of h c) xs)
+    (most : ℕ) (names : List (List ℕ)) (s : System) (h : ℕ) (w : machine.World) (c : core.State) (xs : ℕ → Half) →
+    IsHalfOf (numbering_by names) w c → AreRegionHalves w c xs → EachInOrder w → AreNamed names (w.handlers h) →
+    SettledObjectsMeet s (turn most s h w) →
+    AreRegionHalves (turn most s h w) (stepped most (numbering_by names) s h w (job_of h c) c)
+    (halves_after s h names (job_of h c) xs)

@@ -6,6 +6,7 @@ use Rattle.sc_model.specs.Handlers.{Origin, Called, Requested, Stage, Awaits, Fr
 use Rattle.sc_model.specs.Runs.{opening}
 use Rattle.sc_model.specs.Turns.{turn}
 
+-- it waits for a supplier's answer
 abbrev pub IsAwaiting : Stage → Type 0
 IsAwaiting (Awaits k gives is_creation) = Unit {0}
 IsAwaiting stage = ⊥
@@ -21,17 +22,18 @@ abbrev pub TakesNone : Stage → Type 0
 TakesNone (Awaits k gives true) = gives ≡ None
 TakesNone stage = Unit {0}
 
+-- It is so of each of these frames.
 abbrev pub AreInOrder : List Frame → Type 0
 AreInOrder [] = Unit {0}
 AreInOrder (f ∷ below) = StandsOver f.origin below × TakesNone f.stage × AreInOrder below
 
--- the frames of each handler
+-- The frames of each handler are in order.
 abbrev pub EachInOrder : World → Type 0
 EachInOrder w = (k : ℕ) → k < w.count → AreInOrder (w.handlers k).stack
 
 -- ---- laws
 
--- They stand so at the opening,
+-- They are so at the opening,
 abbrev pub OpensInOrder : Type 0
 OpensInOrder = (s : System) (root : Root) → EachInOrder (opening s root)
 

@@ -46,7 +46,8 @@ pub fn openings_are_halves()
     ensures { OpensAsHalves }
 {}
 
-/// After each turn they are the regions' of the state that the machine steps to, beside what the core's settlement leaves.
+/// After each turn they are the regions' of the state that the machine steps to, beside what the core's settlement
+/// leaves.
 pub fn turns_keep_halves()
     ensures { TurnsKeepHalves }
 {}
