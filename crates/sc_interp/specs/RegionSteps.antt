@@ -24,7 +24,6 @@ use Rattle.sc_region.specs.declared.job.Want.TheVariants as want
 use Rattle.sc_request.specs.Handlers as core
 use Rattle.sc_request.specs.Picking.{job_of}
 use Rattle.sc_request.specs.Halves.{IsHalfOf}
-use Rattle.sc_request.specs.Steps.{stepped, IsGrantedUnder}
 use Rattle.sc_request.specs.Asked.{Numbering, asked, asks_errand, asks_on}
 use Rattle.sc_interp.specs.Values.{reference_of, value_of, values_of}
 use Rattle.sc_interp.specs.RegionTurns.{Half, new_half, Task, Takes, Replied, SupplierFailed, WasRefused, Granted, Made, GoesOn, Misfits, told_frames, taken_turn, turn, played}
@@ -145,17 +144,7 @@ IsNamed names (machine.Makes (Some x)) = slice_get names (number_among x names) 
 abbrev pub AreNamed : List (List ℕ) → machine.Handler → Type 0
 AreNamed names y = All (λ (r : machine.Request). IsNamed names r.errand) (y.queue ++ to_list y.callback)
 
--- Core and region together are the machine: where they are its halves, what the handler's turn under its job makes of the region's half is that of the
--- machine's turn. That settled objects meet their invariants there is to be proved of the machine, as is what the core grants to a turn.
-abbrev pub RegionsStep : Type 0
-RegionsStep =
-    (most : ℕ) (names : List (List ℕ)) (s : System) (h : ℕ) (w : World) (c : core.State) (x : Half) → IsHalfOf (numbering_by names) w c →
-    IsRegionHalf h (w.handlers h) (c.handlers h).stage x → IsGrantedUnder (numbering_by names) s h w (job_of h c) c → AreNamed names (w.handlers h) →
-    SettledObjectsMeet s (model.turn most s h w) →
-    IsRegionHalf h ((model.turn most s h w).handlers h) ((stepped most (numbering_by names) s h w (job_of h c) c).handlers h).stage
-    (taken_if s h names (job_of h c) x)
-
--- What the region asks is what the machine's turn asks.
+-- Where core and region are the machine's halves, what the region asks is what the machine's turn asks.
 abbrev pub RegionsAsk : Type 0
 RegionsAsk =
     (most : ℕ) (names : List (List ℕ)) (s : System) (h : ℕ) (w : World) (c : core.State) (x : Half) (j : Job) → IsHalfOf (numbering_by names) w c →
