@@ -1,10 +1,10 @@
 -- Lines that tell refusals, and why there is no answer.
-use Rattle.std.proofs.Common.{◌≡◌, ◌<◌, ◌⊎◌, inl, inr, ℕ, List, Option, Some, None, length, refl, ap, sym, subst}
+use Rattle.std.proofs.Common.{◌≡◌, ◌<◌, ◌⊎◌, inl, inr, ℕ, List, Option, Some, None, length, ap, sym, subst}
 use Rattle.std.specs.Option.{option_map}
 use Rattle.sc_serve.specs.declared.serve.Fault.{Fault}
 use Rattle.sc_serve.specs.declared.serve.Fault.TheVariants as fault
-use Rattle.sc_serve.specs.declared.refusal.Rejection.{Rejection}
-use Rattle.sc_serve.specs.declared.refusal.Rejection.TheVariants as rejection
+use Rattle.sc_execution.specs.declared.rejection.Rejection.{Rejection}
+use Rattle.sc_execution.specs.declared.rejection.Rejection.TheVariants as rejection
 use Rattle.sc_serve.specs.Answer.{IsUnansweredOn, IsUnread, line_of, out_of_memory}
 use Rattle.sc_serve.specs.Refusal.{Told, refusal_line, told}
 use Rattle.sc_source.specs.Source.{File, place_at}

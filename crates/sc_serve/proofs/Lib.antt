@@ -1,9 +1,1 @@
-pub mod Calls
-pub mod ExecutionLemmas
-pub mod Found
-pub mod SimpleParts
-pub mod PlayLemmas
-pub mod ReplayLemmas
-pub mod RootClass
-pub mod RootLemmas
 pub mod AnswerLemmas

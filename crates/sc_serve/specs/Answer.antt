@@ -1,5 +1,5 @@
 -- What the program answers for a source text.
-use Rattle.std.specs.Prelude.{ℕ, ◌≡◌, ◌≢◌, ◌<◌, ◌⊎◌, Bool, true, false, if◌then◌else◌, List, [], ◌∷◌, ◌++◌, Option, Some, codes, get_or, length}
+use Rattle.std.specs.Prelude.{ℕ, ◌≡◌, ◌<◌, ◌⊎◌, Bool, true, false, if◌then◌else◌, List, [], ◌∷◌, ◌++◌, Option, Some, codes, get_or, length}
 use Rattle.std.specs.List.{list_any}
 use Rattle.std.specs.Option.{option_map}
 use Rattle.sc_text.specs.declared.fault.LexFault.TheVariants as lexing
@@ -9,18 +9,13 @@ use Rattle.sc_serve.specs.declared.serve.Exit.{Exit}
 use Rattle.sc_serve.specs.declared.serve.Exit.TheVariants.{Done, Failed, Refused, Unfinished}
 use Rattle.sc_serve.specs.declared.serve.Fault.{Fault}
 use Rattle.sc_serve.specs.declared.serve.Fault.TheVariants as fault
-use Rattle.sc_serve.specs.declared.arguments.Command.{Command}
-use Rattle.sc_serve.specs.declared.arguments.Command.TheVariants as command
-use Rattle.sc_serve.specs.declared.arguments.UsageFault.{UsageFault}
-use Rattle.sc_serve.specs.declared.arguments.UsageFault.TheVariants as usage
-use Rattle.clap.specs.declared.error.Error.{Error}
-use Rattle.clap.specs.declared.error.kind.ErrorKind.TheVariants as kind
-use Rattle.clap.specs.Values.{kind_of}
-use Rattle.sc_serve.specs.Execution.{IsAccepted, IsNotRunFor, IsPrinted, IsRefusedFor, IsRunOf, IsUnreadable}
+use Rattle.sc_arguments.specs.declared.arguments.Command.{Command}
+use Rattle.sc_arguments.specs.declared.arguments.Command.TheVariants as command
+use Rattle.sc_execution.specs.Execution.{IsAccepted, IsNotRunFor, IsPrinted, IsRefusedFor, IsRunOf, IsUnreadable}
 use Rattle.sc_class.specs.ClassNames.{Root}
 use Rattle.sc_class.specs.View.{root_of}
-use Rattle.sc_serve.specs.declared.refusal.Rejection.{Rejection}
-use Rattle.sc_serve.specs.declared.refusal.Rejection.TheVariants as rejection
+use Rattle.sc_execution.specs.declared.rejection.Rejection.{Rejection}
+use Rattle.sc_execution.specs.declared.rejection.Rejection.TheVariants as rejection
 use Rattle.sc_serve.specs.Refusal.{refusal_line, told, too_long_line}
 use Rattle.sc_source.specs.Source.{File, joined, line_feed, names_of, place_at}
 use Rattle.sc_source.specs.Joining.{no_memory}
@@ -86,16 +81,6 @@ IsAnswerOn command names output exit =
 
 abbrev pub out_of_memory : Fault
 out_of_memory = fault.OutOfMemory
-
-abbrev pub usage_out_of_memory : UsageFault
-usage_out_of_memory = usage.OutOfMemory
-
--- What the reader of arguments says is told as it is, want of memory as that.
-abbrev pub TellsError : Error → UsageFault → Type 0
-TellsError e usage.OutOfMemory = kind_of e ≡ kind.OutOfMemory
-TellsError e (usage.Arguments said) = (said ≡ e) × (kind_of e ≢ kind.OutOfMemory)
-TellsError e usage.NoCommand = ⊥
-TellsError e usage.BadRoot = ⊥
 
 -- The file of this number among those of these names can't be read, or memory ran out.
 abbrev pub IsUnread : List (List ℕ) → JoinFault → Fault → Type 0

@@ -9,13 +9,9 @@ use Rattle.sc_class.specs.declared.fault.ClassFault.{ClassFault}
 use Rattle.sc_class.specs.declared.fault.ClassFault.TheVariants as classes
 use Rattle.sc_rules.specs.declared.fault.Fault.{Fault}
 use Rattle.sc_rules.specs.RuleText.{code_of, name_of}
-use Rattle.sc_typing.specs.declared.fault.CheckFault.{CheckFault}
-use Rattle.sc_typing.specs.declared.fault.CheckFault.TheVariants as checking
-use Rattle.sc_lower.specs.declared.program.lowering.Lowering.{Lowering}
-use Rattle.sc_lower.specs.declared.program.lowering.Lowering.TheVariants as lowering
 use Rattle.sc_serve.specs.declared.refusal.Refusal.{Refusal}
-use Rattle.sc_serve.specs.declared.refusal.Rejection.{Rejection}
-use Rattle.sc_serve.specs.declared.refusal.Rejection.TheVariants as rejection
+use Rattle.sc_execution.specs.declared.rejection.Rejection.{Rejection}
+use Rattle.sc_execution.specs.declared.rejection.Rejection.TheVariants as rejection
 use Rattle.sc_source.specs.Source.{Place, line_feed}
 
 -- ` FILE:LINE:COLUMN`, or nothing where there is no place
@@ -87,28 +83,3 @@ told rejection.OutOfMemory = None
 -- the line that tells that a program would be too long
 abbrev pub too_long_line : List ℕ
 too_long_line = codes "refused CodeTooLong" ++ (line_feed ∷ [])
-
--- ---- what is made of faults
-
-abbrev pub out_of_memory : Rejection
-out_of_memory = rejection.OutOfMemory
-
-abbrev pub of_system : CheckFault → Rejection
-of_system (checking.Refused fault) = rejection.Rules fault
-of_system checking.OutOfMemory = rejection.OutOfMemory
-
-abbrev pub of_code : Lowering → Rejection
-of_code (lowering.CodeTooLong checked) = rejection.CodeTooLong
-of_code (lowering.OutOfMemory checked) = rejection.OutOfMemory
-
-abbrev pub of_text : LexFault → Rejection
-of_text lexing.OutOfMemory = rejection.OutOfMemory
-of_text fault = rejection.Text fault
-
-abbrev pub of_tokens : ParseFault → Rejection
-of_tokens parsing.OutOfMemory = rejection.OutOfMemory
-of_tokens fault = rejection.Grammar fault
-
-abbrev pub of_classes : ClassFault → Rejection
-of_classes classes.OutOfMemory = rejection.OutOfMemory
-of_classes fault = rejection.Classes fault

@@ -5,30 +5,13 @@ ghost use Rattle.std.specs.Option.{option_map};
 ghost use Rattle.sc_source.specs.Source.{place_at};
 ghost use Rattle.sc_serve.specs.Refusal as spec;
 
-use sc_check::CheckFault;
 use sc_class::ClassFault;
-use sc_lower::Lowering;
+use sc_execution::Rejection;
 use sc_parse::ParseFault;
 use sc_rules::Fault;
 use sc_source::source::{Place, Source};
 use sc_text::{LexFault, Span};
 use std::alloc::{AllocError, Global};
-
-/// Why nothing is made of a source text.
-#[derive(Debug, Drop)]
-pub enum Rejection {
-    /// It spells no tokens.
-    Text(LexFault),
-    /// Its tokens spell no system, or none that is nested at most 64 deep.
-    Grammar(ParseFault),
-    /// Something is at fault in the classes of its system.
-    Classes(ClassFault),
-    /// A rule fails in its system.
-    Rules(Fault),
-    /// Its system is sound, and its code has more instructions than a program may have.
-    CodeTooLong,
-    OutOfMemory,
-}
 
 /// How a refusal is told: its code, its name, and the part of the source text that is at fault, if there is one.
 #[derive(Clone, Copy, Debug, PartialEq, Eq)]
@@ -54,14 +37,12 @@ impl Refusal {
             None => format!(in alloc; "refused {code} {name}\n"),
         }
     }
-}
-
-impl Rejection {
-    /// How it is told, where it has a code. That a program would be too long has none; that memory ran out is no refusal.
-    pub fn refusal(&self) -> Option<Refusal>
-        ensures { option_map spec.seen result ≡ spec.told self.now }
+    /// How a rejection is told, where it has a code. That a program would be too long has none; that memory ran out is no
+    /// refusal.
+    pub fn of(rejection: &Rejection) -> Option<Refusal>
+        ensures { option_map spec.seen result ≡ spec.told rejection.now }
     {
-        match self {
+        match rejection {
             Rejection::Text(fault) => text_refusal(fault),
             Rejection::Grammar(fault) => grammar_refusal(*fault),
             Rejection::Classes(fault) => class_refusal(*fault),
@@ -136,67 +117,4 @@ fn refusal_of_all(code: &'static str, name: &'static str) -> Option<Refusal>
         name,
         span: None,
     })
-}
-
-impl From<AllocError> for Rejection {
-    ghost from_gives = { λ _ rejection. rejection ≡ spec.out_of_memory };
-
-    fn from(_error: AllocError) -> Rejection {
-        Rejection::OutOfMemory
-    }
-}
-
-impl From<LexFault> for Rejection {
-    ghost from_gives = { λ fault rejection. rejection ≡ spec.of_text fault };
-
-    fn from(fault: LexFault) -> Rejection {
-        match fault {
-            LexFault::OutOfMemory => Rejection::OutOfMemory,
-            _ => Rejection::Text(fault),
-        }
-    }
-}
-
-impl From<ParseFault> for Rejection {
-    ghost from_gives = { λ fault rejection. rejection ≡ spec.of_tokens fault };
-
-    fn from(fault: ParseFault) -> Rejection {
-        match fault {
-            ParseFault::OutOfMemory => Rejection::OutOfMemory,
-            _ => Rejection::Grammar(fault),
-        }
-    }
-}
-
-impl From<ClassFault> for Rejection {
-    ghost from_gives = { λ fault rejection. rejection ≡ spec.of_classes fault };
-
-    fn from(fault: ClassFault) -> Rejection {
-        match fault {
-            ClassFault::OutOfMemory => Rejection::OutOfMemory,
-            _ => Rejection::Classes(fault),
-        }
-    }
-}
-
-impl<'s> From<Lowering<'s>> for Rejection {
-    ghost from_gives = { λ fault rejection. rejection ≡ spec.of_code fault };
-
-    fn from(fault: Lowering<'s>) -> Rejection {
-        match fault {
-            Lowering::CodeTooLong(_) => Rejection::CodeTooLong,
-            Lowering::OutOfMemory(_) => Rejection::OutOfMemory,
-        }
-    }
-}
-
-impl From<CheckFault> for Rejection {
-    ghost from_gives = { λ fault rejection. rejection ≡ spec.of_system fault };
-
-    fn from(fault: CheckFault) -> Rejection {
-        match fault {
-            CheckFault::Refused(fault) => Rejection::Rules(fault),
-            CheckFault::OutOfMemory => Rejection::OutOfMemory,
-        }
-    }
 }

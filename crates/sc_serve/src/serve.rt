@@ -7,14 +7,14 @@ ghost use Rattle.sc_class.specs.View.{root_of};
 ghost use Rattle.sc_serve.specs.Answer.{IsAnswerOn, IsAnswerTo, IsRefusalOf, IsRejectedFor, too_long};
 ghost use Rattle.sc_serve.specs.Answer.{IsReplayOn, IsReplayTo, IsUnansweredOn, IsUnplayed, IsUnread};
 
-use crate::arguments::{Command, Invocation, ReplayOptions, UsageFault, read_arguments};
-use crate::excerpt::excerpt;
-use crate::execution::{check_text, load_text, print_text, replay, run_text};
-use crate::failure::{Played, failure_note};
-use crate::refusal::Rejection;
+use crate::refusal::Refusal;
+use sc_arguments::{Command, Invocation, ReplayOptions, UsageFault, read_arguments};
 use sc_audit::{ReadFault, read_record};
+use sc_breakdown::excerpt::excerpt;
+use sc_breakdown::{Played, failure_note};
 use sc_class::Root;
 use sc_diagnosis::{Related, diagnose};
+use sc_execution::{Rejection, check_text, load_text, print_text, replay, run_text};
 use sc_explain::{find, list};
 use sc_model::Status;
 use sc_source::files::{Files, NamedFile, read_source};
@@ -242,7 +242,7 @@ fn explanation(
     root: &Root,
     rejection: &Rejection,
 ) -> Result<Vec<u8>, AllocError> {
-    let Some(refusal) = rejection.refusal() else {
+    let Some(refusal) = Refusal::of(rejection) else {
         return match rejection {
             Rejection::CodeTooLong => {
                 Vec::from_slice(alloc, b"`scoop explain CodeTooLong` says more\n")
@@ -314,7 +314,7 @@ fn answer_rejected<'a>(
     ensures refused { IfOk result (λ answer. IsRefusalOf source.now rejection.now answer.text.items answer.exit) }
     ensures untold { IfErr result (λ fault. fault ≡ spec.out_of_memory) }
 {
-    match rejection.refusal() {
+    match Refusal::of(rejection) {
         Some(refusal) => {
             let line = refusal.line(alloc, source)?.into_bytes();
             Ok(Answer::new(alloc, line, Exit::Refused))

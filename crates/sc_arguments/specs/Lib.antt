@@ -1,0 +1,3 @@
+pub mod Internal
+pub mod RootOption
+pub mod Usage

@@ -1,0 +1,381 @@
+// The arguments of a command line: what is asked for, and of which files.
+
+mod root_option;
+
+ghost use Rattle.std.specs.Prelude.{◌≡◌};
+ghost use Rattle.sc_arguments.specs.Usage as spec;
+
+use clap::builder::ValueParser;
+use clap::error::ErrorKind;
+use clap::{Arg, ArgAction, ArgMatches, value_parser};
+use sc_class::Root;
+use std::alloc::{AllocError, Global};
+use std::convert::AsStr;
+
+/// What the arguments of a command line ask for.
+#[derive(Drop)]
+pub enum Invocation<'a> {
+    /// To do something with the system of these files.
+    OnFiles(Command, Vec<&'a str>),
+    /// To play a record with the system of these files.
+    Replay(ReplayOptions<'a>, Vec<&'a str>),
+    /// To explain this code or name, or to list all codes.
+    Explain(Option<&'a str>),
+}
+
+/// What is to be done with a system.
+#[derive(Drop)]
+pub enum Command {
+    /// Checks it.
+    Check(CheckOptions),
+    /// Checks and runs it.
+    Run(RunOptions),
+    /// Prints its canonical text.
+    Print,
+}
+
+#[derive(Drop)]
+pub struct CheckOptions {
+    pub root: Root,
+    /// Whether a refusal is to be shown in its line of the text too.
+    pub is_explained: bool,
+}
+
+#[derive(Drop)]
+pub struct RunOptions {
+    pub root: Root,
+    /// The most turns that are played, from 1 to 10,000,000.
+    pub turns: u32,
+    /// Whether a refusal is to be shown in its line of the text too.
+    pub is_explained: bool,
+}
+
+#[derive(Drop)]
+pub struct ReplayOptions<'a> {
+    pub root: Root,
+    /// The name of the file that the record stands in.
+    pub record: &'a str,
+}
+
+/// Why the arguments ask for nothing that can be done.
+#[derive(Drop)]
+pub enum UsageFault {
+    /// They don't fit a command, or ask for its help or version: the text for the user.
+    Arguments(clap::Error),
+    /// There is no command among them. `Arguments` comes before it.
+    NoCommand,
+    /// What `--root` gives isn't two names with one dot between.
+    BadRoot,
+    OutOfMemory,
+}
+
+impl From<clap::Error> for UsageFault {
+    ghost from_gives = { λ error fault. spec.TellsError error fault };
+
+    fn from(error: clap::Error) -> UsageFault {
+        if error.kind() == ErrorKind::OutOfMemory {
+            UsageFault::OutOfMemory
+        } else {
+            UsageFault::Arguments(error)
+        }
+    }
+}
+
+impl From<AllocError> for UsageFault {
+    ghost from_gives = { λ _ fault. fault ≡ spec.usage_out_of_memory };
+
+    fn from(_error: AllocError) -> UsageFault {
+        UsageFault::OutOfMemory
+    }
+}
+
+const DEFAULT_TURNS: u32 = 1_000_000;
+
+const ABOUT: &str = "Checks and runs systems of SCOOP classes";
+
+const LONG_ABOUT: &str = "\
+Checks and runs systems of SCOOP classes.
+
+SCOOP is Eiffel's model of concurrency: each object belongs to a handler, which
+alone runs the object's features. A system is the classes of all its files.";
+
+const STATUS_HELP: &str = "\
+Exit status:
+  0  done, and every handler is free
+  1  the system is refused
+  2  an argument, a file or the output is at fault
+  3  a handler has failed
+  4  a handler is waiting or busy
+  5  memory ran out";
+
+const CHECK_AFTER_HELP: &str = "\
+Limits:
+  1048576 bytes of all files together, 64 constructs around a token, 256 classes,
+  256 features of a class, 16 formals and 256 locals of a routine
+
+Exit status:
+  0  the system is well formed
+  1  it is refused: `scoop explain CODE` says why
+  2  an argument, a file or the output is at fault
+  5  memory ran out";
+
+const RUN_AFTER_HELP: &str = "\
+Limits:
+  those of `scoop check`, and 16777216 instructions of its code; 512 handlers; 65536
+  objects of a handler, 1024 routines running at once and 4096 requests in its queue
+
+Exit status:
+  0  done, and every handler is free
+  1  the system is refused
+  2  an argument, a file or the output is at fault
+  3  a handler has failed
+  4  a handler is waiting or busy
+  5  memory ran out";
+
+const REPLAY_AFTER_HELP: &str = "\
+Limits:
+  those of `scoop run`, and 64 handlers for a record of version 1; 1000000 lines of a
+  record, and 10000000 turns
+
+Exit status:
+  0  done, and every handler is free
+  1  the system is refused, or the record
+  2  an argument, a file or the output is at fault
+  3  a handler has failed
+  4  a handler is waiting or busy
+  5  memory ran out";
+
+const PRINT_AFTER_HELP: &str = "\
+Limits:
+  1048576 bytes of all files together, 64 constructs around a token
+
+Exit status:
+  0  the text is printed
+  1  it is no system
+  2  an argument, a file or the output is at fault
+  5  memory ran out";
+
+const EXPLAIN_AFTER_HELP: &str = "\
+Exit status:
+  0  done
+  2  there is no such code, or the output is at fault
+  5  memory ran out";
+
+const CHECK_ABOUT: &str = "Says whether a system is well formed";
+
+const CHECK_LONG_ABOUT: &str = "\
+Says whether a system is well formed.
+
+Writes `ok`, or one line with the first rule that is broken and where:
+`refused CODE Name FILE:LINE:COLUMN`.";
+
+const RUN_ABOUT: &str = "Runs a system, and reports what became of each handler";
+
+const RUN_LONG_ABOUT: &str = "\
+Runs a system, and reports what became of each handler.
+
+The system is checked first, as by `scoop check`. The run begins with the root
+procedure and goes on turn by turn, until no handler has anything to do or the
+turns are used up. The report has for each handler
+
+  handler NUMBER STATUS refused COUNT output BYTES
+
+and then, on lines of its own, what the handler printed. The status is `free`,
+`waiting`, `busy` or `failed` with the code of the failure, and COUNT is the
+number of requests that were refused. The report ends with `stopped idle`, or
+with `stopped limit` where the turns were used up.";
+
+const REPLAY_ABOUT: &str = "Plays the turns of a record, and reports what became of each handler";
+
+const REPLAY_LONG_ABOUT: &str = "\
+Plays the turns of a record, and reports what became of each handler.
+
+The system is checked first, as by `scoop check`. The record is a text of the lines
+
+  scoop record 2
+  HANDLER TURNS
+  end LINES
+
+with any number of lines in the middle: each names a handler and how many turns it
+takes, one after the other. A turn of a handler that isn't there, or that has nothing to
+do, changes nothing. The report is as of `scoop run`.";
+
+const PRINT_ABOUT: &str = "Writes the text of a system in its one canonical layout";
+
+const PRINT_LONG_ABOUT: &str = "\
+Writes the text of a system in its one canonical layout.
+
+The text is read, but not checked. Comments and notes are left out, and there
+are no more parentheses than the grammar needs. Printed again, the text stays
+as it is.";
+
+const EXPLAIN_ABOUT: &str = "Says what a code stands for, and why";
+
+const EXPLAIN_LONG_ABOUT: &str = "\
+Says what a code stands for, and why: the code of a refusal or of a failure.
+
+Each page has a smallest text that is refused, or that fails, and the nearest
+one that isn't. Without a code all codes are listed with their names.";
+
+const EXPLAIN_HELP: &str = "Shows where a refusal stands, on standard error";
+
+const RUN_EXPLAIN_HELP: &str =
+    "Shows where a refusal stands, or says what a failure is, on standard error";
+
+const CODE_HELP: &str = "The code, as V6, or its name, in any letter case";
+
+const RECORD_HELP: &str = "The file of the record; `-` is standard input";
+
+const FILE_HELP: &str = "The files of the system's classes, in order; `-` is standard input";
+
+const ROOT_HELP: &str = "The root class and its creation procedure";
+
+const TURNS_HELP: &str = "The most turns that are played, 1 to 10000000";
+
+/// Reads the arguments of a command line, of which the first is the program's name.
+pub fn read_arguments<'a, S: AsStr>(
+    alloc: Global,
+    arguments: &'a [S],
+) -> Result<Invocation<'a>, UsageFault> {
+    let matches = scoop_command(alloc)?.try_get_matches_from(arguments)?;
+    let Some((name, options)) = matches.subcommand() else {
+        return Err(UsageFault::NoCommand);
+    };
+    let command = match name {
+        "replay" => return read_replay(alloc, options),
+        "explain" => return Ok(Invocation::Explain(options.get_str("CODE"))),
+        "print" => Command::Print,
+        "run" => Command::Run(RunOptions {
+            root: read_root(alloc, options)?,
+            turns: options.get_one("turns").unwrap_or(DEFAULT_TURNS),
+            is_explained: options.get_flag("explain"),
+        }),
+        _ => Command::Check(CheckOptions {
+            root: read_root(alloc, options)?,
+            is_explained: options.get_flag("explain"),
+        }),
+    };
+    Ok(Invocation::OnFiles(command, read_files(alloc, options)?))
+}
+
+fn read_replay<'a>(alloc: Global, options: &ArgMatches<'a>) -> Result<Invocation<'a>, UsageFault> {
+    let replay = ReplayOptions {
+        root: read_root(alloc, options)?,
+        record: options.get_str("RECORD").unwrap_or(""),
+    };
+    Ok(Invocation::Replay(replay, read_files(alloc, options)?))
+}
+
+fn read_root(alloc: Global, options: &ArgMatches<'_>) -> Result<Root, UsageFault> {
+    let text = options.get_str("root").unwrap_or("");
+    root_option::root_of(alloc, text)?.ok_or(UsageFault::BadRoot)
+}
+
+fn read_files<'a>(alloc: Global, options: &ArgMatches<'a>) -> Result<Vec<&'a str>, AllocError> {
+    Vec::from_slice(alloc, options.get_strs("FILE").unwrap_or(&[]))
+}
+
+fn scoop_command<'a>(alloc: Global) -> Result<clap::Command<'a>, AllocError> {
+    clap::Command::new(alloc, "scoop")
+        .bin_name("scoop")?
+        .version("0.1.0")
+        .about(ABOUT)
+        .long_about(LONG_ABOUT)
+        .after_help(STATUS_HELP)
+        .subcommand_required(true)
+        .arg_required_else_help(true)
+        .subcommand(check_command(alloc)?)?
+        .subcommand(run_command(alloc)?)?
+        .subcommand(replay_command(alloc)?)?
+        .subcommand(print_command(alloc)?)?
+        .subcommand(explain_command(alloc)?)
+}
+
+fn check_command<'a>(alloc: Global) -> Result<clap::Command<'a>, AllocError> {
+    clap::Command::new(alloc, "check")
+        .about(CHECK_ABOUT)
+        .long_about(CHECK_LONG_ABOUT)
+        .after_help(CHECK_AFTER_HELP)
+        .arg(explain_argument(alloc, EXPLAIN_HELP))?
+        .arg(root_argument(alloc))?
+        .arg(file_argument(alloc))
+}
+
+fn run_command<'a>(alloc: Global) -> Result<clap::Command<'a>, AllocError> {
+    clap::Command::new(alloc, "run")
+        .about(RUN_ABOUT)
+        .long_about(RUN_LONG_ABOUT)
+        .after_help(RUN_AFTER_HELP)
+        .arg(turns_argument(alloc))?
+        .arg(explain_argument(alloc, RUN_EXPLAIN_HELP))?
+        .arg(root_argument(alloc))?
+        .arg(file_argument(alloc))
+}
+
+fn replay_command<'a>(alloc: Global) -> Result<clap::Command<'a>, AllocError> {
+    clap::Command::new(alloc, "replay")
+        .about(REPLAY_ABOUT)
+        .long_about(REPLAY_LONG_ABOUT)
+        .after_help(REPLAY_AFTER_HELP)
+        .arg(root_argument(alloc))?
+        .arg(record_argument(alloc))?
+        .arg(file_argument(alloc))
+}
+
+fn print_command<'a>(alloc: Global) -> Result<clap::Command<'a>, AllocError> {
+    clap::Command::new(alloc, "print")
+        .about(PRINT_ABOUT)
+        .long_about(PRINT_LONG_ABOUT)
+        .after_help(PRINT_AFTER_HELP)
+        .arg(file_argument(alloc))
+}
+
+fn explain_command<'a>(alloc: Global) -> Result<clap::Command<'a>, AllocError> {
+    let code = Arg::new(alloc, "CODE").help(CODE_HELP);
+    clap::Command::new(alloc, "explain")
+        .about(EXPLAIN_ABOUT)
+        .long_about(EXPLAIN_LONG_ABOUT)
+        .after_help(EXPLAIN_AFTER_HELP)
+        .arg(code)
+}
+
+fn root_argument<'a>(alloc: Global) -> Arg<'a> {
+    Arg::new(alloc, "root")
+        .long("root")
+        .value_name("CLASS.PROCEDURE")
+        .default_value("APPLICATION.make")
+        .help(ROOT_HELP)
+}
+
+fn turns_argument<'a>(alloc: Global) -> Arg<'a> {
+    Arg::new(alloc, "turns")
+        .long("turns")
+        .value_name("N")
+        .value_parser(turns_parser())
+        .default_value("1000000")
+        .help(TURNS_HELP)
+}
+
+/// What `--turns` may be.
+fn turns_parser<'a>() -> ValueParser<'a> {
+    value_parser!(u32).range(1..=10_000_000)
+}
+
+fn explain_argument<'a>(alloc: Global, help: &'a str) -> Arg<'a> {
+    Arg::new(alloc, "explain")
+        .long("explain")
+        .action(ArgAction::SetTrue)
+        .help(help)
+}
+
+fn record_argument<'a>(alloc: Global) -> Arg<'a> {
+    Arg::new(alloc, "RECORD").required(true).help(RECORD_HELP)
+}
+
+fn file_argument<'a>(alloc: Global) -> Arg<'a> {
+    Arg::new(alloc, "FILE")
+        .required(true)
+        .num_args(1..)
+        .action(ArgAction::Append)
+        .help(FILE_HELP)
+}

@@ -1,0 +1,11 @@
+//! The arguments of a command line: what is asked for, and of which files.
+//!
+//! [`read_arguments`] answers an [`Invocation`], or a [`UsageFault`] where the arguments ask for nothing that can be done,
+//! or for help.
+#![tactic(auto)]
+
+mod arguments;
+
+pub use arguments::{
+    CheckOptions, Command, Invocation, ReplayOptions, RunOptions, UsageFault, read_arguments,
+};

@@ -1,0 +1,14 @@
+//! What is said of the failures of a run beside its report: what each is, where it was and for whom its handler ran. See
+//! [`failure_note`].
+//!
+//! The run is played once more for that. The sentences are for people: nothing of the answer, which is the report, depends
+//! on them. [`excerpt::excerpt`] is a line of the text, with carets under a part of it.
+#![tactic(auto)]
+
+mod breakdown;
+pub mod excerpt;
+mod failure;
+mod history;
+mod words;
+
+pub use failure::{Played, failure_note};

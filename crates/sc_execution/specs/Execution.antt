@@ -1,0 +1,264 @@
+-- What the check, the run and the printing of a source text come to.
+use Rattle.std.specs.Prelude.{ℕ, ◌≡◌, ◌≤◌, ◌<◌, ◌+◌, ◌^◌, ◌⊎◌, ◌↔◌, true, false, List, [], ◌∷◌, ◌++◌, map, length, Option, Some, None, slice_get, replicate}
+use Rattle.std.specs.List.{flat_map}
+use Rattle.std.specs.Option.{option_map}
+use Rattle.sc_text.specs.Kind.{Kind}
+use Rattle.sc_text.specs.Spelling.{Lexeme, Spells, IsRefused, max_source_bytes}
+use Rattle.sc_tree.specs.Plain.{System}
+use Rattle.sc_tree.specs.Bare.{bare_system}
+use Rattle.sc_tree.specs.Grammar.Classes.{IsSystem}
+use Rattle.sc_tree.specs.Canonical.{canonical_text}
+use Rattle.sc_parse.specs.Parses.{Refuses}
+use Rattle.sc_parse.specs.Places.{IsPlaced}
+use Rattle.sc_parse.specs.declared.fault.ParseFault.{ParseFault}
+use Rattle.sc_text.specs.declared.token.Span.{Span}
+use Rattle.sc_class.specs.ClassNames.{Root}
+use Rattle.sc_class.specs.Faults.ClassRules as class_rules
+use Rattle.sc_class.specs.Faults.ClassRules.{IsFaultless}
+use Rattle.sc_world.specs.declared.cause.Cause as one_cause
+use Rattle.sc_world.specs.declared.cause.Cause.TheVariants as why_one
+use Rattle.sc_world.specs.declared.status.Status as one_status
+use Rattle.sc_world.specs.declared.status.Status.TheVariants as one
+use Rattle.sc_model.specs.declared.cause.Cause.{Cause}
+use Rattle.sc_model.specs.declared.cause.Cause.TheVariants as cause
+use Rattle.sc_model.specs.declared.status.Status.{Status}
+use Rattle.sc_model.specs.declared.status.Status.TheVariants as status
+use Rattle.sc_world.specs.Lookup as lookup
+use Rattle.sc_world.specs.World.{World, opening, run, has_turn_at}
+use Rattle.sc_world.specs.Report.{report, status_of}
+use Rattle.sc_rules.specs.declared.rule.Rule.{Rule}
+use Rattle.sc_rules.specs.SystemRules.{SystemFails, WellFormed}
+use Rattle.sc_code.specs.declared.program.Image.{Image}
+use Rattle.sc_code.specs.Programs.{IsProgramOf, code_length}
+use Rattle.sc_lockpass.specs.declared.version.Version.{Version}
+use Rattle.sc_lockpass.specs.declared.version.Version.TheVariants.{Two}
+use Rattle.sc_audit.specs.declared.line.RecordLine.{RecordLine}
+use Rattle.sc_runtime.specs.Worlds.{PlainWorld, opened}
+use Rattle.sc_runtime.specs.Turning.{Runs}
+use Rattle.sc_runtime.specs.Rounds.{EndsRounds}
+use Rattle.sc_runtime.specs.Reports as told
+use Rattle.sc_execution.specs.Simple.{is_simple}
+use Rattle.sc_execution.specs.declared.rejection.Rejection.{Rejection}
+use Rattle.sc_execution.specs.declared.rejection.Rejection.TheVariants as rejection
+
+-- the kinds of the tokens that a text spells
+abbrev pub kinds : List Lexeme → List Kind
+kinds ts = map (λ t. t.kind) ts
+
+-- The text spells tokens that spell the tree, in no more than 1,048,576 bytes and nested at most 64 deep. The tree is one
+-- without places.
+pub record IsSpelled (text : List ℕ) (tree : System) : Type 0 where
+  pub tokens : List Lexeme
+  pub nesting : ℕ
+  pub spelled : Spells text tokens
+  pub short : length text ≤ max_source_bytes
+  pub shallow : nesting ≤ 64
+  pub grammar : IsSystem tree (kinds tokens) nesting
+
+-- The text spells tokens that spell the system, and each part of it stands where its tokens do.
+pub record IsRead (text : List ℕ) (system : System) : Type 0 where
+  pub tokens : List Lexeme
+  pub nesting : ℕ
+  pub spelled : Spells text tokens
+  pub short : length text ≤ max_source_bytes
+  pub shallow : nesting ≤ 64
+  pub grammar : IsSystem (bare_system system) (kinds tokens) nesting
+  pub placed : IsPlaced system tokens
+
+-- No class fault is in the system, which is run from this root, and no rule fails in it.
+pub record IsSound (system : System) (root : Root) : Type 0 where
+  pub faultless : IsFaultless system root
+  pub well_formed : WellFormed system
+
+-- The system is sound, and its code has no more instructions than a program may have.
+pub record IsRunnable (system : System) (root : Root) : Type 0 where
+  pub sound : IsSound system root
+  pub short : code_length system ≤ 2 ^ 24
+
+-- The text spells a system that is sound.
+pub record IsAccepted (text : List ℕ) (root : Root) : Type 0 where
+  pub system : System
+  pub read : IsRead text system
+  pub sound : IsSound system root
+
+-- The text spells a tree, and with its places it is sound.
+pub record MustBeAccepted (text : List ℕ) (root : Root) : Type 0 where
+  pub tree : System
+  pub spelled : IsSpelled text tree
+  pub sound : (system : System) → IsRead text system → IsSound system root
+
+-- The same, and its code is no longer than that of a program may be.
+pub record MustBeRun (text : List ℕ) (root : Root) : Type 0 where
+  pub tree : System
+  pub spelled : IsSpelled text tree
+  pub runnable : (system : System) → IsRead text system → IsRunnable system root
+
+-- ---- refusals
+
+-- The text spells tokens, and they spell no system, or none that is shallow, as the fault says.
+pub record IsNoSystem (text : List ℕ) (fault : ParseFault) : Type 0 where
+  pub tokens : List Lexeme
+  pub spelled : Spells text tokens
+  pub refuses : Refuses (kinds tokens) fault
+
+-- The text spells no system, as the rejection says, or memory ran out.
+abbrev pub IsUnreadable : List ℕ → Rejection → Type 0
+IsUnreadable text (rejection.Text fault) = IsRefused text fault
+IsUnreadable text (rejection.Grammar fault) = IsNoSystem text fault
+IsUnreadable text (rejection.Classes fault) = ⊥
+IsUnreadable text (rejection.Rules fault) = ⊥
+IsUnreadable text rejection.CodeTooLong = ⊥
+IsUnreadable text rejection.OutOfMemory = Unit {0}
+
+-- The system has no class fault, and the rule fails in it at the place.
+pub record HasFailing (system : System) (root : Root) (rule : Rule) (place : Span) : Type 0 where
+  pub faultless : IsFaultless system root
+  pub fails : SystemFails system rule place
+
+-- What the rejection says is at fault in the system, or memory ran out.
+abbrev pub IsAtFault : System → Root → Rejection → Type 0
+IsAtFault system root (rejection.Classes fault) = class_rules.Fails system root fault
+IsAtFault system root (rejection.Rules fault) = HasFailing system root fault.rule fault.span
+IsAtFault system root rejection.OutOfMemory = Unit {0}
+IsAtFault system root rejection.CodeTooLong = ⊥
+IsAtFault system root (rejection.Text fault) = ⊥
+IsAtFault system root (rejection.Grammar fault) = ⊥
+
+-- The text spells a system in which this is at fault.
+pub record HasFault (text : List ℕ) (root : Root) (why : Rejection) : Type 0 where
+  pub system : System
+  pub read : IsRead text system
+  pub fault : IsAtFault system root why
+
+-- A refusal is true of the text.
+abbrev pub IsRefusedFor : List ℕ → Root → Rejection → Type 0
+IsRefusedFor text root (rejection.Text fault) = IsRefused text fault
+IsRefusedFor text root (rejection.Grammar fault) = IsNoSystem text fault
+IsRefusedFor text root (rejection.Classes fault) = HasFault text root (rejection.Classes fault)
+IsRefusedFor text root (rejection.Rules fault) = HasFault text root (rejection.Rules fault)
+IsRefusedFor text root rejection.OutOfMemory = Unit {0}
+IsRefusedFor text root rejection.CodeTooLong = ⊥
+
+-- The text spells a system that is sound, and its code has more instructions than a program may have.
+pub record IsTooLong (text : List ℕ) (root : Root) : Type 0 where
+  pub system : System
+  pub read : IsRead text system
+  pub sound : IsSound system root
+  pub long : 2 ^ 24 < code_length system
+
+-- What keeps the system of the text from being run is true of it.
+abbrev pub IsNotRunFor : List ℕ → Root → Rejection → Type 0
+IsNotRunFor text root (rejection.Text fault) = IsRefused text fault
+IsNotRunFor text root (rejection.Grammar fault) = IsNoSystem text fault
+IsNotRunFor text root (rejection.Classes fault) = HasFault text root (rejection.Classes fault)
+IsNotRunFor text root (rejection.Rules fault) = HasFault text root (rejection.Rules fault)
+IsNotRunFor text root rejection.CodeTooLong = IsTooLong text root
+IsNotRunFor text root rejection.OutOfMemory = Unit {0}
+
+-- ---- how handlers stand
+
+-- a cause of the machine of simple systems, among all
+abbrev pub cause_of : one_cause.Cause → Cause
+cause_of why_one.Invariant = cause.Invariant
+cause_of why_one.Overflow = cause.Overflow
+cause_of why_one.DivideByZero = cause.DivideByZero
+cause_of why_one.StackFull = cause.StackFull
+cause_of why_one.BadCode = cause.BadCode
+
+abbrev pub standing_of : one_status.Status → Status
+standing_of (one.Failed why) = status.Failed (cause_of why)
+standing_of one.Busy = status.Busy
+standing_of one.Waiting = status.Waiting
+standing_of one.Free = status.Free
+
+-- how the one handler stands, if there is one
+abbrev pub standings : Option one_status.Status → List Status
+standings None = []
+standings (Some how) = standing_of how ∷ []
+
+-- ---- runs of simple systems
+
+-- a root, as the machine has it
+abbrev pub run_root : Root → lookup.Root
+run_root r = record { class = r.class; procedure = r.procedure }
+
+-- the world after so many turns of handler 0
+abbrev pub world_after : System → lookup.Root → ℕ → World
+world_after system root turns = run system (replicate turns 0) (opening root)
+
+-- The report and how the handlers stand are those of the world after some turns of handler 0, of which there are at most so
+-- many, and fewer only where handler 0 has nothing to do any more.
+pub record IsRun (system : System) (root : lookup.Root) (limit : ℕ) (text : List ℕ) (statuses : List Status) : Type 0 where
+  pub turns : ℕ
+  pub within : turns ≤ limit
+  pub ended : (turns ≡ limit) ⊎ (has_turn_at 0 (world_after system root turns) ≡ false)
+  pub report_is : text ≡ report (world_after system root turns)
+  pub statuses_are : statuses ≡ standings (option_map status_of (slice_get (world_after system root turns) 0))
+
+-- ---- runs of programs
+
+-- The report and how the handlers stand are those of the world.
+pub record Leaves (world : PlainWorld) (text : List ℕ) (statuses : List Status) : Type 0 where
+  pub report_is : text ≡ told.report world
+  pub statuses_are : statuses ≡ told.statuses world
+
+-- From the opening of the program, with 512 handlers at most, rounds of so many turns lead to a world that leaves the report
+-- and the handlers standing so. Fewer turns are made only where no handler has anything to do any more.
+pub record IsWorldRun (program : Image) (limit : ℕ) (text : List ℕ) (statuses : List Status) : Type 0 where
+  pub world : PlainWorld
+  pub ends : EndsRounds limit (opened program Two) world
+  pub leaves : Leaves world text statuses
+
+-- The program of the system is run so.
+pub record IsProgramRun (system : System) (root : Root) (limit : ℕ) (text : List ℕ) (statuses : List Status) : Type 0 where
+  pub program : Image
+  pub is_program : IsProgramOf system root program
+  pub is_run : IsWorldRun program limit text statuses
+
+-- The text spells a system that is sound. The report and how the handlers stand are those of its run: that of the machine on
+-- trees where it is simple, and that of its program where it isn't.
+pub record IsRunOf (text : List ℕ) (root : Root) (limit : ℕ) (output : List ℕ) (statuses : List Status) : Type 0 where
+  pub system : System
+  pub read : IsRead text system
+  pub sound : IsSound system root
+  pub is_run : is_simple system ≡ true → IsRun system (run_root root) limit output statuses
+  pub is_program_run : is_simple system ≡ false → IsProgramRun system root limit output statuses
+
+-- The text spells a system that is sound, and this is its program.
+pub record IsLoaded (text : List ℕ) (root : Root) (program : Image) : Type 0 where
+  pub system : System
+  pub read : IsRead text system
+  pub sound : IsSound system root
+  pub is_program : IsProgramOf system root program
+
+-- ---- replays
+
+-- the turns of a line: the number of its handler, once for each
+abbrev pub line_turns : RecordLine → List ℕ
+line_turns line = replicate line.turns line.handler
+
+-- From the opening of the program, with as many handlers as the version has, the turns of these lines, one after the other,
+-- lead to a world that leaves the report and the handlers standing so.
+pub record IsReplay (program : Image) (version : Version) (lines : List RecordLine) (text : List ℕ) (statuses : List Status) : Type 0 where
+  pub world : PlainWorld
+  pub runs : Runs (flat_map line_turns lines) (opened program version) world
+  pub leaves : Leaves world text statuses
+
+-- A replay of no lines leaves what the opening of its program does.
+abbrev pub EmptyReplayLeavesOpening : Type 0
+EmptyReplayLeavesOpening = (program : Image) (version : Version) (text : List ℕ) (statuses : List Status) →
+    IsReplay program version [] text statuses → Leaves (opened program version) text statuses
+
+-- A line may be split: one handler's turns, some and then others.
+abbrev pub LinesMayBeSplit : Type 0
+LinesMayBeSplit = (program : Image) (version : Version) (before after : List RecordLine) (h m n : ℕ) (text : List ℕ) (statuses : List Status) →
+    IsReplay program version (before ++ record { handler = h; turns = m + n } ∷ after) text statuses
+    ↔ IsReplay program version (before ++ record { handler = h; turns = m } ∷ record { handler = h; turns = n } ∷ after) text statuses
+
+-- ---- canonical text
+
+-- The text spells a system, and the output is its canonical text.
+pub record IsPrinted (text output : List ℕ) : Type 0 where
+  pub tree : System
+  pub spelled : IsSpelled text tree
+  pub printed : output ≡ canonical_text tree

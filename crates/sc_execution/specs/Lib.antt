@@ -1,0 +1,3 @@
+pub mod Execution
+pub mod Rejection
+pub mod Simple
