@@ -33,7 +33,7 @@ fn other_class(system: &System, name: &str, span: Span) -> Option<Span> {
 }
 
 fn other_entity(system: &System, name: &str, span: Span) -> Option<Span> {
-    let class = class_around(system, span)?;
+    let (_, class) = class_around(&system.classes, span)?;
     if let Some(found) = other_inherited(system, class, name, span) {
         return Some(found);
     }
@@ -136,10 +136,11 @@ fn other(declared: &Name, name: &str, span: Span) -> Option<Span> {
     is_other.then_some(declared.span)
 }
 
-fn class_around(system: &System, span: Span) -> Option<&Class> {
-    for class in system.classes.iter() {
+/// The class in which a part of the text stands, with its number.
+pub fn class_around(classes: &[Class], span: Span) -> Option<(usize, &Class)> {
+    for (number, class) in classes.iter().enumerate() {
         if class.span.start <= span.start && span.start < class.span.end {
-            return Some(class);
+            return Some((number, class));
         }
     }
     None

@@ -120,7 +120,7 @@ fn push_sentence(lines: &mut String, text: &str, part: &str) -> Result<(), Alloc
             lines.push_str(after)?;
         }
     }
-    lines.push('\n')
+    lines.push_str("\n")
 }
 
 /// Adds what helps, with the part of the text at its `#`.
@@ -134,5 +134,5 @@ fn push_help(lines: &mut String, text: &str, part: &str) -> Result<(), AllocErro
             lines.push_str(after)?;
         }
     }
-    lines.push('\n')
+    lines.push_str("\n")
 }

@@ -2,6 +2,7 @@
 
 use crate::reading::tokens_of;
 use sc_parse::{ParseFault, parse};
+use sc_text::Token;
 use std::alloc::{AllocError, Global};
 
 /// What is tried: how it is called, and a token of it.
@@ -91,22 +92,33 @@ pub fn expected(
         }
     }
     if separator == ", " {
-        lines.push('\n')?;
+        lines.push_str("\n")?;
     }
     Ok(())
 }
 
 /// Whether a system begins with the text and the token.
 fn may_follow(alloc: Global, before: &str, token: &str) -> Result<bool, AllocError> {
+    let text = joined(alloc, before, token)?;
+    match tokens_of(alloc, &text)? {
+        None => Ok(false),
+        Some(tokens) => may_begin(alloc, &tokens, text.len()),
+    }
+}
+
+/// The text with the token behind it.
+fn joined(alloc: Global, before: &str, token: &str) -> Result<String, AllocError> {
     let mut text = String::from_str(alloc, before)?;
-    text.push(' ')?;
+    text.push_str(" ")?;
     text.push_str(token)?;
-    let Some(tokens) = tokens_of(alloc, &text)? else {
-        return Ok(false);
-    };
-    match parse(alloc, &tokens) {
+    Ok(text)
+}
+
+/// Whether a system begins with the tokens of a text of this length.
+fn may_begin(alloc: Global, tokens: &[Token], length: usize) -> Result<bool, AllocError> {
+    match parse(alloc, tokens) {
         Ok(_) => Ok(true),
-        Err(ParseFault::NotInGrammar { span }) => Ok(span.start >= text.len()),
+        Err(ParseFault::NotInGrammar { span }) => Ok(span.start >= length),
         Err(ParseFault::OutOfMemory) => Err(AllocError),
         Err(_) => Ok(false),
     }

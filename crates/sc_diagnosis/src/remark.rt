@@ -3,7 +3,7 @@
 use crate::site::{Part, Site};
 use crate::types::{
     Compared, Passed, assigned_types, class_of_created, head_types, meaning_of_call,
-    meaning_of_creation, passed_types, type_of_value,
+    meaning_of_creation, passed_types, type_of_actual, type_of_value,
 };
 use sc_class::ClassId;
 use sc_proctype::EntityType;
@@ -12,7 +12,7 @@ use sc_text::Span;
 use sc_tree::{BinaryOperator, Call, Expr, UnaryOperator};
 use sc_typing::{
     CheckFault, Entity, Formals, Meaning, RoutineContext, Signature, Typing, is_boolean,
-    judge_binary, judge_unary, judged_type, operand_context, operand_position, variable_span,
+    judge_binary, judge_unary, operand_context, operand_position, variable_span,
 };
 
 /// What is said of a fault.
@@ -101,11 +101,7 @@ impl<'c, 't, 's> Fault<'c, 't, 's> {
         e: &'s Expr,
     ) -> Result<Option<Remark<'s>>, CheckFault> {
         let typing = self.routine.condition(context, names, e)?;
-        let given = typing.entity_type.filter(|given| !is_boolean(given.class));
-        match given {
-            None => Ok(None),
-            Some(given) => Ok(Some(Remark::Condition(given))),
-        }
+        Ok(of_untrue(typing.entity_type))
     }
 
     fn of_operation(
@@ -167,16 +163,7 @@ impl<'c, 't, 's> Fault<'c, 't, 's> {
         };
         let found = self.routine.judged_actuals(context, names, actuals)?;
         match signature.formals {
-            Formals::Printed => {
-                let given = found
-                    .get(number)
-                    .and_then(|actual| judged_type(actual.judged));
-                let given = given.filter(|given| !given.is_expanded());
-                match given {
-                    None => Ok(None),
-                    Some(given) => Ok(Some(Remark::Printed(given))),
-                }
-            }
+            Formals::Printed => { Ok(of_printed(type_of_actual(&found, number))) }
             Formals::Declared(formals) => {
                 let target = signature.target;
                 let types = passed_types(self.routine, &found, target, formals, number)?;
@@ -235,6 +222,26 @@ fn as_creation<'s>(remark: Remark<'s>, class: Option<ClassId>) -> Option<Remark<
         (Remark::Unknown, None) => None,
         (Remark::Unknown, Some(class)) => Some(Remark::Lacking(class)),
         _ => Some(remark),
+    }
+}
+
+/// That a reference is printed.
+fn of_printed<'s>(given: Option<EntityType>) -> Option<Remark<'s>> {
+    let given = given?;
+    if given.is_expanded() {
+        None
+    } else {
+        Some(Remark::Printed(given))
+    }
+}
+
+/// That a condition isn't BOOLEAN.
+fn of_untrue<'s>(given: Option<EntityType>) -> Option<Remark<'s>> {
+    let given = given?;
+    if is_boolean(given.class) {
+        None
+    } else {
+        Some(Remark::Condition(given))
     }
 }
 

@@ -181,8 +181,8 @@ fn push_actuals(alloc: Global, lines: &mut String, count: usize) -> Result<(), A
         0 => lines.push_str("no actuals"),
         1 => lines.push_str("1 actual"),
         _ => {
-            let words = format!(in alloc; "{count} actuals")?;
-            lines.push_str(&words)
+            push_number(alloc, lines, count)?;
+            lines.push_str(" actuals")
         }
     }
 }
@@ -192,6 +192,10 @@ fn push_given_number(alloc: Global, lines: &mut String, count: usize) -> Result<
     if count == 0 {
         return lines.push_str("none");
     }
-    let words = format!(in alloc; "{count}")?;
-    lines.push_str(&words)
+    push_number(alloc, lines, count)
+}
+
+fn push_number(alloc: Global, lines: &mut String, number: usize) -> Result<(), AllocError> {
+    let digits = format!(in alloc; "{number}")?;
+    lines.push_str(&digits)
 }

@@ -20,7 +20,7 @@ impl<'c, 't, 's> Scope<'c, 't, 's> {
     /// Adds a type in quotes, as it is declared: with the name of the formal or the block whose handler it is of.
     pub fn push_type(self, lines: &mut String, given: EntityType) -> Result<(), AllocError> {
         let is_void = given.class == ClassId::None;
-        lines.push('`')?;
+        lines.push_str("`")?;
         if !given.attached && !is_void {
             lines.push_str("detachable ")?;
         }
@@ -34,7 +34,7 @@ impl<'c, 't, 's> Scope<'c, 't, 's> {
             }
         }
         lines.push_str(self.class_name(given.class))?;
-        lines.push('`')?;
+        lines.push_str("`")?;
         if given.tag == Tag::None && !is_void {
             lines.push_str(" of a handler that isn't known here")?;
         }

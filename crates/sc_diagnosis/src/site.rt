@@ -5,14 +5,14 @@ use sc_text::Span;
 use sc_tree::{Call, CreationCall, Expr, Variable};
 
 /// What is looked for: a part of this kind that stands there.
-#[derive(Clone, Copy, Debug, PartialEq, Eq)]
+#[derive(Clone, Copy)]
 pub struct Aim {
     pub kind: Kind,
     pub span: Span,
 }
 
 /// A kind of parts.
-#[derive(Clone, Copy, Debug, PartialEq, Eq)]
+#[derive(Clone, Copy, PartialEq, Eq)]
 pub enum Kind {
     /// The name of what is called or assigned.
     Name,
@@ -55,97 +55,70 @@ pub struct Site<'s> {
 }
 
 impl Aim {
-    /// The part, where it is one of this kind and stands where this is aimed at.
-    pub fn met<'s>(
+    /// Passes a part. Err where it is one of this kind and stands where this is aimed at.
+    pub fn pass<'s>(
         self,
         kind: Kind,
         span: Span,
         context: Context,
         part: Part<'s>,
-    ) -> Option<Site<'s>> {
-        let is_met = self.kind == kind && self.span == span;
-        is_met.then_some(Site { context, part })
+    ) -> Result<(), Site<'s>> {
+        if self.kind == kind && self.span == span {
+            Err(Site { context, part })
+        } else {
+            Ok(())
+        }
     }
 }
 
-/// What is looked for in an expression.
+/// Passes an expression. Err where what is looked for stands in it.
 #[cycle(expressions)]
-pub fn in_expression<'s>(aim: Aim, context: Context, e: &'s Expr) -> Option<Site<'s>> {
+pub fn pass_expression<'s>(aim: Aim, context: Context, e: &'s Expr) -> Result<(), Site<'s>> {
     match e {
-        Expr::Integer(_, _) | Expr::Boolean(_, _) => None,
-        Expr::Void(_) | Expr::Current(_) | Expr::Result(_) => None,
-        Expr::Call(call) => in_call(aim, context, call),
+        Expr::Integer(_, _) | Expr::Boolean(_, _) => Ok(()),
+        Expr::Void(_) | Expr::Current(_) | Expr::Result(_) => Ok(()),
+        Expr::Call(call) => pass_call(aim, context, call),
         Expr::Unary(span, operator, operand) => {
-            let found = aim.met(Kind::Operation, *span, context, Part::Operation(e));
-            if found.is_some() {
-                return found;
-            }
-            in_expression(aim, sc_typing::operand_context(*operator, context), operand)
+            aim.pass(Kind::Operation, *span, context, Part::Operation(e))?;
+            pass_expression(aim, sc_typing::operand_context(*operator, context), operand)
         }
         Expr::Binary(span, _, left, right) => {
-            let found = aim.met(Kind::Operation, *span, context, Part::Operation(e));
-            if found.is_some() {
-                return found;
-            }
-            let found = in_expression(aim, context, left);
-            if found.is_some() {
-                return found;
-            }
-            in_expression(aim, context, right)
+            aim.pass(Kind::Operation, *span, context, Part::Operation(e))?;
+            pass_expression(aim, context, left)?;
+            pass_expression(aim, context, right)
         }
-        Expr::ObjectTest(_, _, tested, _) => in_expression(aim, context, tested),
+        Expr::ObjectTest(_, _, tested, _) => pass_expression(aim, context, tested),
     }
 }
 
-/// What is looked for in a call: its name, its target or its actuals.
+/// Passes a call: its name, its target and its actuals.
 #[cycle(expressions)]
-pub fn in_call<'s>(aim: Aim, context: Context, call: &'s Call) -> Option<Site<'s>> {
-    let found = aim.met(Kind::Name, call.name.span, context, Part::CallName(call));
-    if found.is_some() {
-        return found;
-    }
+pub fn pass_call<'s>(aim: Aim, context: Context, call: &'s Call) -> Result<(), Site<'s>> {
+    aim.pass(Kind::Name, call.name.span, context, Part::CallName(call))?;
     if let Some(target) = &call.target {
-        let found = in_expression(aim, context, target);
-        if found.is_some() {
-            return found;
-        }
+        pass_expression(aim, context, target)?;
     }
     for (number, actual) in call.actuals.iter().enumerate() {
         let part = Part::Actual(call, number);
-        let found = aim.met(Kind::Actual, actual.span(), context, part);
-        if found.is_some() {
-            return found;
-        }
-        let found = in_expression(aim, context, actual);
-        if found.is_some() {
-            return found;
-        }
+        aim.pass(Kind::Actual, actual.span(), context, part)?;
+        pass_expression(aim, context, actual)?;
     }
-    None
+    Ok(())
 }
 
-/// What is looked for in the call that an entity is created by.
-pub fn in_creation<'s>(
+/// Passes the call that an entity is created by.
+pub fn pass_creation<'s>(
     aim: Aim,
     created: &'s Variable,
     call: &'s CreationCall,
-) -> Option<Site<'s>> {
+) -> Result<(), Site<'s>> {
     let context = Context::Body;
     let part = Part::CreationName(created, call);
-    let found = aim.met(Kind::Name, call.name.span, context, part);
-    if found.is_some() {
-        return found;
-    }
+    aim.pass(Kind::Name, call.name.span, context, part)?;
     for (number, actual) in call.actuals.iter().enumerate() {
         let part = Part::CreationActual(created, call, number);
-        let found = aim.met(Kind::Actual, actual.span(), context, part);
-        if found.is_some() {
-            return found;
-        }
-        let found = in_expression(aim, context, actual);
-        if found.is_some() {
-            return found;
-        }
+        aim.pass(Kind::Actual, actual.span(), context, part)?;
+        pass_expression(aim, context, actual)?;
     }
-    None
+    Ok(())
 }

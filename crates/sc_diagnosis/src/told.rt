@@ -1,11 +1,11 @@
 // A sentence on one fault, with the types and names that are found in the checked tables.
 
-use crate::declared::feature_around;
+use crate::declared::{class_around, feature_around};
 use crate::nearest::{nearest_entity, nearest_feature};
 use crate::remark::{Fault, Remark};
 use crate::scope::{Scope, part_of};
 use crate::site::{Aim, Kind, Site};
-use crate::walk::{in_clauses, in_routine};
+use crate::walk::{in_routine, pass_clauses};
 use sc_class::{ClassFault, ClassId, Root, Tables, tables};
 use sc_rules::Context;
 use sc_text::Span;
@@ -22,19 +22,29 @@ pub struct Refused<'c> {
     pub span: Span,
 }
 
+/// The codes of which more can be said, each with the kind of the parts that the rule fails at.
+const AIMS: [(&str, Kind); 7] = [
+    ("V1", Kind::Name),
+    ("V2", Kind::Name),
+    ("V3", Kind::Actual),
+    ("V4", Kind::Assigned),
+    ("V7", Kind::Name),
+    ("V8", Kind::Condition),
+    ("V9", Kind::Operation),
+];
+
 impl<'c> Refused<'c> {
     /// What is looked for, where more can be said of the rule.
     fn aim(self) -> Option<Aim> {
-        let kind = match self.code {
-            "V1" | "V2" | "V7" => Kind::Name,
-            "V3" => Kind::Actual,
-            "V4" => Kind::Assigned,
-            "V8" => Kind::Condition,
-            "V9" => Kind::Operation,
-            _ => return None,
-        };
-        let span = self.span;
-        Some(Aim { kind, span })
+        for (code, kind) in &AIMS {
+            if *code == self.code {
+                return Some(Aim {
+                    kind: *kind,
+                    span: self.span,
+                });
+            }
+        }
+        None
     }
 
     /// Adds a sentence on this very fault and what helps, and whether there is one.
@@ -71,7 +81,7 @@ impl<'c> Refused<'c> {
         tables: &Tables<'_>,
         aim: Aim,
     ) -> Result<bool, CheckFault> {
-        let Some((number, class)) = class_around(tables, self.span) else {
+        let Some((number, class)) = class_around(tables.classes(), self.span) else {
             return Ok(false);
         };
         let purity = Purity::NotAsked;
@@ -100,9 +110,9 @@ impl<'c> Refused<'c> {
             result: None,
             purity: &purity,
         };
-        match in_clauses(aim, Context::Invariant, &class.invariant) {
-            None => self.push_creator(lines, &routine, class),
-            Some(site) => self.push_at(lines, &routine, &mut names, site),
+        match pass_clauses(aim, Context::Invariant, &class.invariant) {
+            Ok(()) => self.push_creator(lines, &routine, class),
+            Err(site) => self.push_at(lines, &routine, &mut names, site),
         }
     }
 
@@ -159,7 +169,7 @@ impl<'c> Refused<'c> {
         remark: Remark<'_>,
     ) -> Result<(), AllocError> {
         scope.push_remark(lines, self.span, remark)?;
-        lines.push('\n')?;
+        lines.push_str("\n")?;
         self.push_nearest(lines, scope, remark)
     }
 
@@ -195,14 +205,4 @@ fn is_among(span: Span, names: &[Name]) -> bool {
         }
     }
     false
-}
-
-/// The class in which a part of the text stands, with its number.
-fn class_around<'s>(tables: &Tables<'s>, span: Span) -> Option<(usize, &'s Class)> {
-    for (number, class) in tables.classes().iter().enumerate() {
-        if class.span.start <= span.start && span.start < class.span.end {
-            return Some((number, class));
-        }
-    }
-    None
 }

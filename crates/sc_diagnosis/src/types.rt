@@ -14,7 +14,7 @@ use sc_typing::{
 };
 
 /// What is given, and what would be taken.
-#[derive(Clone, Copy, Debug, PartialEq, Eq)]
+#[derive(Clone, Copy)]
 pub struct Compared {
     pub given: EntityType,
     pub taken: EntityType,
@@ -38,12 +38,17 @@ fn known_handlers(
 ) -> Result<Vec<Known>, CheckFault> {
     let mut known = Vec::with_capacity(routine.alloc, found.len())?;
     for actual in found {
-        known.push(match judged_type(actual.judged) {
-            Some(actual) => Known::of(actual.tag),
-            None => Known::Neither,
-        })?;
+        known.push(known_handler(actual))?;
     }
     Ok(known)
+}
+
+/// What is known of the handler of an actual.
+fn known_handler(actual: &JudgedActual) -> Known {
+    match judged_type(actual.judged) {
+        Some(actual) => Known::of(actual.tag),
+        None => Known::Neither,
+    }
 }
 
 /// The types of the right side of an assignment and of its left side, where they don't conform.
@@ -55,9 +60,7 @@ pub fn assigned_types<'s>(
 ) -> Result<Option<Compared>, CheckFault>
     ensures { IfOk result (λ types. IfSome types (IsMismatch (system_in routine.now.tables.now))) }
 {
-    let (Assignee::Local(Some(taken)) | Assignee::Attribute(Some(taken))) = routine.assignee(
-        names, variable,
-    ) else {
+    let Some(taken) = type_of_variable(routine, names, variable) else {
         return Ok(None);
     };
     let Some(given) = type_of_source(routine, Context::Body, names, value)? else {
@@ -107,6 +110,18 @@ pub fn type_of_value<'s>(
     Ok(typing.entity_type)
 }
 
+/// The type of an entity that is assigned or created, if it has one.
+fn type_of_variable<'s>(
+    routine: &RoutineContext<'_, 's>,
+    names: &[Entity<'s>],
+    variable: &Variable,
+) -> Option<EntityType> {
+    match routine.assignee(names, variable) {
+        Assignee::Local(found) | Assignee::Attribute(found) => found,
+        _ => None,
+    }
+}
+
 /// What the name of a call stands for.
 pub fn meaning_of_call<'s>(
     routine: &RoutineContext<'_, 's>,
@@ -128,11 +143,9 @@ pub fn meaning_of_creation<'s>(
     created: &Variable,
     call: &CreationCall,
 ) -> Meaning<'s> {
-    match routine.assignee(names, created) {
-        Assignee::Local(Some(created)) | Assignee::Attribute(Some(created)) => {
-            routine.qualified_meaning(created, &call.name.text)
-        }
-        _ => Meaning::TargetUntyped,
+    match type_of_variable(routine, names, created) {
+        None => Meaning::TargetUntyped,
+        Some(created) => routine.qualified_meaning(created, &call.name.text),
     }
 }
 
@@ -142,10 +155,13 @@ pub fn class_of_created<'s>(
     names: &[Entity<'s>],
     created: &Variable,
 ) -> Option<ClassId> {
-    match routine.assignee(names, created) {
-        Assignee::Local(Some(created)) | Assignee::Attribute(Some(created)) => Some(created.class),
-        _ => None,
-    }
+    let created = type_of_variable(routine, names, created)?;
+    Some(created.class)
+}
+
+/// The type of the actual at a number, if it has one.
+pub fn type_of_actual(found: &[JudgedActual], number: usize) -> Option<EntityType> {
+    judged_type(found.get(number)?.judged)
 }
 
 /// An actual's type, and the type that it has to conform to, with the formal that has this type.
@@ -165,11 +181,13 @@ pub fn passed_types<'s>(
 ) -> Result<Option<Passed<'s>>, CheckFault>
     ensures { IfOk result (λ passed. IfSome passed (λ it. IsMismatch (system_in routine.now.tables.now) it.compared)) }
 {
-    let (Some(actual), Some(formal)) = (found.get(number), formals.get(number)) else {
+    let Some(formal) = formals.get(number) else {
         return Ok(None);
     };
-    let declared = declared_type(routine.tables, formals, &formal.declared_type);
-    let (Some(given), Some(declared)) = (judged_type(actual.judged), declared) else {
+    let Some(given) = type_of_actual(found, number) else {
+        return Ok(None);
+    };
+    let Some(declared) = declared_type(routine.tables, formals, &formal.declared_type) else {
         return Ok(None);
     };
     let known = known_handlers(routine, found)?;
