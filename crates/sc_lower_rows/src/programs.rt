@@ -1,11 +1,12 @@
 // Source texts, and what their code is.
 
-use sc_check::{CheckFault, check};
-use sc_class::{Root, tables};
+use sc_check::{CheckFault, Checked, check};
+use sc_class::{Root, Tables, tables};
+use sc_code::Program;
 use sc_lower::{Lowering, lower, lower_within};
 use sc_parse::parse;
-use sc_text::lex;
-use std::alloc::Global;
+use sc_text::{Token, lex};
+use std::alloc::{AllocError, Global};
 use std::test::Fail;
 
 /// How many features a program is asked for.
@@ -15,35 +16,57 @@ const ASKED: usize = 8;
 /// instructions the program has, and the greatest number of operands of each routine.
 fn answer(alloc: Global, text: &str, most: u32) -> Result<String, Fail> {
     let tokens = lex(alloc, text)?;
-    let system = parse(alloc, &tokens)?;
-    let root = Root {
+    answer_of(alloc, &tokens, most)
+}
+
+/// The same of its tokens.
+fn answer_of(alloc: Global, tokens: &[Token], most: u32) -> Result<String, Fail> {
+    let system = parse(alloc, tokens)?;
+    let root = root_of(alloc)?;
+    judged(alloc, tables(alloc, &system, &root)?, most)
+}
+
+fn root_of(alloc: Global) -> Result<Root, AllocError> {
+    Ok(Root {
         class: String::from_str(alloc, "application")?,
         procedure: String::from_str(alloc, "make")?,
-    };
-    let tables = tables(alloc, &system, &root)?;
-    let checked = match check(alloc, tables) {
-        Ok(checked) => checked,
-        Err(CheckFault::OutOfMemory) => return Err(Fail::new("out of memory")),
-        Err(_) => return Err(Fail::new("not well formed")),
-    };
-    let mut told = String::new(alloc);
-    let program = match lower_within(alloc, checked, most) {
-        Ok(program) => program,
-        Err(Lowering::OutOfMemory(_)) => return Err(Fail::new("out of memory")),
-        Err(Lowering::CodeTooLong(checked)) => {
-            told = String::from_str(alloc, "too long, ")?;
-            match lower(alloc, checked) {
-                Ok(program) => program,
-                Err(Lowering::OutOfMemory(_)) => return Err(Fail::new("out of memory")),
-                Err(Lowering::CodeTooLong(_)) => return Err(Fail::new("not lowered")),
-            }
-        }
-    };
+    })
+}
+
+/// The same of its classes.
+fn judged(alloc: Global, tables: Tables<'_>, most: u32) -> Result<String, Fail> {
+    match check(alloc, tables) {
+        Ok(checked) => lowered_within(alloc, checked, most),
+        Err(CheckFault::OutOfMemory) => Err(Fail::new("out of memory")),
+        Err(_) => Err(Fail::new("not well formed")),
+    }
+}
+
+/// The same of a checked system.
+fn lowered_within(alloc: Global, checked: Checked<'_>, most: u32) -> Result<String, Fail> {
+    match lower_within(alloc, checked, most) {
+        Ok(program) => Ok(told(alloc, "", &program)?),
+        Err(Lowering::OutOfMemory(_)) => Err(Fail::new("out of memory")),
+        Err(Lowering::CodeTooLong(checked)) => lowered(alloc, checked),
+    }
+}
+
+/// What a system is lowered to that was handed back.
+fn lowered(alloc: Global, checked: Checked<'_>) -> Result<String, Fail> {
+    match lower(alloc, checked) {
+        Ok(program) => Ok(told(alloc, "too long, ", &program)?),
+        Err(Lowering::OutOfMemory(_)) => Err(Fail::new("out of memory")),
+        Err(Lowering::CodeTooLong(_)) => Err(Fail::new("not lowered")),
+    }
+}
+
+/// What there is of a program, behind this text.
+fn told(alloc: Global, before: &str, program: &Program) -> Result<String, AllocError> {
     let instructions = program.instructions();
-    told = format!(in alloc; "{told}{instructions}:")?;
+    let mut told = format!(in alloc; "{before}{instructions}:")?;
     for number in 0..ASKED {
         let depth = program.depth(number);
-        told = format!(in alloc; "{told} {depth}")?;
+        write!(told, " {depth}")?;
     }
     Ok(told)
 }
