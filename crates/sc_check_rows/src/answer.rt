@@ -1,10 +1,10 @@
 // What the checker says of a source text.
 
 use sc_check::{CheckFault, check};
-use sc_class::{Root, tables};
+use sc_class::{Root, Tables, tables};
 use sc_parse::parse;
-use sc_text::lex;
-use std::alloc::Global;
+use sc_text::{Token, lex};
+use std::alloc::{AllocError, Global};
 use std::process::Abort;
 use std::test::Fail;
 
@@ -14,22 +14,38 @@ const ROOT: &str = "class APPLICATION create make feature make do end end";
 /// That the system of a source text is well formed, or the rule that fails in it and the offset of its place.
 fn answer(alloc: Global, text: &str) -> Result<String, Fail> {
     let tokens = lex(alloc, text)?;
-    let system = parse(alloc, &tokens)?;
-    let root = Root {
-        class: String::from_str(alloc, "application")?,
-        procedure: String::from_str(alloc, "make")?,
-    };
-    let tables = tables(alloc, &system, &root)?;
+    answer_of(alloc, &tokens)
+}
+
+/// The same of its tokens.
+fn answer_of(alloc: Global, tokens: &[Token]) -> Result<String, Fail> {
+    let system = parse(alloc, tokens)?;
+    let root = root_of(alloc, "application", "make")?;
+    judged(alloc, tables(alloc, &system, &root)?)
+}
+
+/// The root of a class and a procedure.
+pub fn root_of(alloc: Global, class: &str, procedure: &str) -> Result<Root, AllocError> {
+    Ok(Root {
+        class: String::from_str(alloc, class)?,
+        procedure: String::from_str(alloc, procedure)?,
+    })
+}
+
+/// The same of its classes.
+fn judged(alloc: Global, tables: Tables<'_>) -> Result<String, Fail> {
     match check(alloc, tables) {
         Ok(_) => Ok(String::from_str(alloc, "well formed")?),
         Err(CheckFault::Refused(fault)) => {
-            let code = fault.rule.code();
-            let name = fault.rule.name();
-            let start = fault.span.start;
-            Ok(format!(in alloc; "{code} {name} at {start}")?)
+            let rule = fault.rule;
+            Ok(told(alloc, rule.code(), rule.name(), fault.span.start)?)
         }
         Err(CheckFault::OutOfMemory) => Err(Fail::new("out of memory")),
     }
+}
+
+fn told(alloc: Global, code: &str, name: &str, start: usize) -> Result<String, AllocError> {
+    format!(in alloc; "{code} {name} at {start}")
 }
 
 /// Checks a source in which a mark stands where it is refused, or that has no mark and is accepted.
@@ -38,22 +54,33 @@ pub fn expect_answer<R: Abort + AllocGlobal>(
     refusal: &str,
     marked: &str,
 ) -> Result<(), Fail> {
-    let alloc = rt.alloc();
-    let (text, wanted) = match marked.split_once('`') {
-        None => (
-            format!(in alloc; "{marked} {ROOT}")?,
-            String::from_str(alloc, "well formed")?,
-        ),
-        Some((before, behind)) => {
-            let start = before.len();
-            (
-                format!(in alloc; "{before}{behind} {ROOT}")?,
-                format!(in alloc; "{refusal} at {start}")?,
-            )
-        }
-    };
-    let answer = answer(alloc, text.as_str())?;
-    assert_eq!(rt; answer.as_str(), wanted.as_str(), "of {text}");
+    match marked.split_once('`') {
+        None => expect_well_formed(rt, marked),
+        Some((before, behind)) => expect_refusal(rt, refusal, before, behind),
+    }
+}
+
+fn expect_well_formed<R: Abort + AllocGlobal>(rt: &R, source: &str) -> Result<(), Fail> {
+    let text = format!(in rt.alloc(); "{source} {ROOT}")?;
+    expect(rt, &text, "well formed")
+}
+
+/// Checks a source that is refused behind its first part.
+fn expect_refusal<R: Abort + AllocGlobal>(
+    rt: &R,
+    refusal: &str,
+    before: &str,
+    behind: &str,
+) -> Result<(), Fail> {
+    let start = before.len();
+    let text = format!(in rt.alloc(); "{before}{behind} {ROOT}")?;
+    let wanted = format!(in rt.alloc(); "{refusal} at {start}")?;
+    expect(rt, &text, &wanted)
+}
+
+fn expect<R: Abort + AllocGlobal>(rt: &R, text: &str, wanted: &str) -> Result<(), Fail> {
+    let answer = answer(rt.alloc(), text)?;
+    assert_eq!(rt; answer.as_str(), wanted, "of {text}");
     Ok(())
 }
 

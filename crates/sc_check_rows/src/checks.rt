@@ -1,9 +1,10 @@
 // What the checker lends of a well-formed system, and what it says of another.
 
+use crate::answer::root_of;
 use sc_check::{CheckFault, Checked, check};
-use sc_class::{Root, tables};
+use sc_class::tables;
 use sc_parse::parse;
-use sc_text::lex;
+use sc_text::{Span, Token, lex};
 use std::alloc::{AllocError, Global};
 use std::test::Fail;
 
@@ -25,14 +26,21 @@ fn told(alloc: Global, checked: &Result<Checked<'_>, CheckFault>) -> Result<Stri
             let class = checked.tables().class_named("a");
             format!(in alloc; "{class:?}")
         }
-        Err(CheckFault::Refused(fault)) => {
-            let name = fault.rule.name();
-            let start = fault.span.start;
-            let end = fault.span.end;
-            format!(in alloc; "{name} {start}..{end}")
-        }
+        Err(CheckFault::Refused(fault)) => told_rule(alloc, fault.rule.name(), fault.span),
         Err(CheckFault::OutOfMemory) => Err(AllocError),
     }
+}
+
+fn told_rule(alloc: Global, name: &str, span: Span) -> Result<String, AllocError> {
+    let Span { start, end } = span;
+    format!(in alloc; "{name} {start}..{end}")
+}
+
+fn told_of(alloc: Global, tokens: &[Token]) -> Result<String, Fail> {
+    let system = parse(alloc, tokens)?;
+    let root = root_of(alloc, "a", "make")?;
+    let tables = tables(alloc, &system, &root)?;
+    Ok(told(alloc, &check(alloc, tables))?)
 }
 
 #[test]
@@ -40,13 +48,7 @@ fn systems_are_lent_or_refused(rt: HostRuntime) -> Result<(), Fail> {
     let alloc = rt.alloc();
     for &(source, wanted) in &CHECKS {
         let tokens = lex(alloc, source)?;
-        let system = parse(alloc, &tokens)?;
-        let root = Root {
-            class: String::from_str(alloc, "a")?,
-            procedure: String::from_str(alloc, "make")?,
-        };
-        let tables = tables(alloc, &system, &root)?;
-        let told = told(alloc, &check(alloc, tables))?;
+        let told = told_of(alloc, &tokens)?;
         assert_eq!(rt; told.as_str(), wanted, "of {source}");
     }
     Ok(())
