@@ -1,8 +1,8 @@
 // The programs of source texts.
 
 use crate::reading::{root_of, system_of};
-use sc_check::{CheckFault, check};
-use sc_class::tables;
+use sc_check::{CheckFault, Checked, check};
+use sc_class::{Tables, tables};
 use sc_code::Program;
 use sc_lower::{Lowering, lower};
 use std::alloc::Global;
@@ -16,12 +16,21 @@ pub fn program_of(
     procedure: &str,
 ) -> Result<Program, Fail> {
     let system = system_of(alloc, source)?;
-    let tables = tables(alloc, &system, &root_of(alloc, class, procedure)?)?;
-    let checked = match check(alloc, tables) {
-        Ok(checked) => checked,
-        Err(CheckFault::Refused(_)) => return Err(Fail::new("a rule fails")),
-        Err(CheckFault::OutOfMemory) => return Err(Fail::new("out of memory")),
-    };
+    let root = root_of(alloc, class, procedure)?;
+    judged(alloc, tables(alloc, &system, &root)?)
+}
+
+/// The program of classes.
+fn judged(alloc: Global, tables: Tables<'_>) -> Result<Program, Fail> {
+    match check(alloc, tables) {
+        Ok(checked) => lowered(alloc, checked),
+        Err(CheckFault::Refused(_)) => Err(Fail::new("a rule fails")),
+        Err(CheckFault::OutOfMemory) => Err(Fail::new("out of memory")),
+    }
+}
+
+/// The program of a checked system.
+fn lowered(alloc: Global, checked: Checked<'_>) -> Result<Program, Fail> {
     match lower(alloc, checked) {
         Ok(program) => Ok(program),
         Err(Lowering::CodeTooLong(_)) => Err(Fail::new("the code is too long")),
