@@ -1,0 +1,74 @@
+-- What is claimed of each world that turns lead to, from the bytes of a source text on.
+use Rattle.std.specs.Prelude.{◌≡◌, ℕ, List, map}
+use Rattle.std.specs.List.{flat_map, range_with_len}
+use Rattle.sc_tree.specs.Plain.{System}
+use Rattle.sc_class.specs.ClassNames.{Root}
+use Rattle.sc_lockpass.specs.Versions.{most_handlers}
+use Rattle.sc_lockpass.specs.declared.version.Version.{Version}
+use Rattle.sc_audit.specs.declared.line.RecordLine.{RecordLine}
+use Rattle.sc_model.specs.declared.status.Status.{Status}
+use Rattle.sc_model.specs.Handlers.{World}
+use Rattle.sc_model.specs.Reports as machine
+use Rattle.sc_model.specs.Runs.{IsReached, opening, run}
+use Rattle.sc_code.specs.declared.program.Image.{Image}
+use Rattle.sc_code.specs.RequestRoom.{FitsRequests}
+use Rattle.sc_runtime.specs.Rounds.{Rounds}
+use Rattle.sc_runtime.specs.Turning.{Runs}
+use Rattle.sc_runtime.specs.Worlds.{PlainWorld, opened}
+use Rattle.sc_refinement.specs.Refining.{EndInPlace, HasHeadline}
+use Rattle.sc_refinement.specs.Standing.{StandsFor}
+use Rattle.sc_execution.specs.Execution.{IsLoaded, IsRead, IsReplay, IsSound, Leaves, line_turns}
+
+-- ---- worlds
+
+-- The text spells a system that is sound. The world stands for a state that the machine on this system reaches, and of that
+-- state the headline holds.
+pub record StandsForReached (text : List ℕ) (root : Root) (program : Image) (version : Version) (world : PlainWorld) : Type 0 where
+  pub system : System
+  pub read : IsRead text system
+  pub sound : IsSound system root
+  pub state : World
+  pub reached : IsReached (most_handlers version) system root state
+  pub stands : StandsFor system program state world
+  pub headline : HasHeadline system state
+
+-- Each world to which turns lead, from the opening of a text's program.
+abbrev pub Headline : Type 0
+Headline =
+    (text : List ℕ) (root : Root) (program : Image) (version : Version) (handlers : List ℕ) (world : PlainWorld) →
+    IsLoaded text root program → FitsRequests program → Runs handlers (opened program version) world →
+    StandsForReached text root program version world
+
+-- ---- reports
+
+-- the state of the machine after the turns of these handlers, from the opening of the system
+abbrev pub machine_after : System → Root → Version → List ℕ → World
+machine_after s root version handlers = run (most_handlers version) s handlers (opening s root)
+
+-- The report of the state, and how its handlers stand, in order of number.
+pub record IsReportOf (state : World) (report : List ℕ) (statuses : List Status) : Type 0 where
+  pub report_is : report ≡ machine.report state
+  pub statuses_are : statuses ≡ map (λ h. machine.status_of h state) (range_with_len 0 state.count)
+
+-- The text spells a system that is sound, and the report is that of the machine on it after these turns.
+pub record IsMachineRun (text : List ℕ) (root : Root) (version : Version) (handlers : List ℕ) (report : List ℕ) (statuses : List Status) : Type 0 where
+  pub system : System
+  pub read : IsRead text system
+  pub sound : IsSound system root
+  pub told : IsReportOf (machine_after system root version handlers) report statuses
+
+-- What a replay leaves is what the machine reports after the turns of the record's lines, one after the other.
+abbrev pub ReplaysAreTheMachines : Type 0
+ReplaysAreTheMachines =
+    (text : List ℕ) (root : Root) (program : Image) (version : Version) (lines : List RecordLine) (report : List ℕ) (statuses : List Status) →
+    IsLoaded text root program → FitsRequests program → IsReplay program version lines report statuses →
+    IsMachineRun text root version (flat_map line_turns lines) report statuses
+
+-- What turns round and round leave is what the machine reports after the turns of some handlers, where memory was never
+-- refused within the rounds.
+abbrev pub RoundsAreTheMachines : Type 0
+RoundsAreTheMachines =
+    (text : List ℕ) (root : Root) (program : Image) (version : Version) (limit left : ℕ) (world : PlainWorld) (report : List ℕ) (statuses : List Status) →
+    IsLoaded text root program → FitsRequests program → (rounds : Rounds limit (opened program version) left world) →
+    EndInPlace limit (opened program version) left world rounds → Leaves world report statuses →
+    (handlers : List ℕ) × IsMachineRun text root version handlers report statuses

@@ -1,0 +1,35 @@
+//! Laws of worlds and replays, from the bytes of a source text on, each the contract of a function that does nothing.
+ghost use Rattle.sc_headline.specs.Headline.{Headline, ReplaysAreTheMachines, RoundsAreTheMachines};
+
+use sc_refinement::laws::{
+    rounds_run_as_machine, standing_world_is_near, world_has_headline, world_reports_as_machine,
+    world_runs_as_machine,
+};
+
+/// For every source text that is accepted, and whatever handlers make turns, in every order: the world of the text's program
+/// stands for a state that the machine on trees reaches, in which the handlers of formals and of open separate blocks are held,
+/// each value fits its type, whatever is typed non-separate belongs to its own handler, and each settled object meets its
+/// class invariant.
+pub fn headline()
+    ensures { Headline }
+{
+    world_has_headline();
+}
+
+/// What a replay of a record leaves is what the machine on trees reports after the turns of the record's lines.
+pub fn replays_are_the_machines()
+    ensures { ReplaysAreTheMachines }
+{
+    world_runs_as_machine();
+    standing_world_is_near();
+    world_reports_as_machine();
+}
+
+/// What a run leaves is what the machine on trees reports after some turns, where memory was never refused within it.
+pub fn rounds_are_the_machines()
+    ensures { RoundsAreTheMachines }
+{
+    rounds_run_as_machine();
+    standing_world_is_near();
+    world_reports_as_machine();
+}
