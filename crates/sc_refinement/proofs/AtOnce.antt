@@ -1,5 +1,5 @@
 -- Turns of a handler that are made at once are its turns, one after the other.
-use Rattle.std.proofs.Common.{◌≡◌, ◌+◌, ◌==◌, ◌&&◌, inl, ℕ, zero, suc, Bool, true, false, List, [], ◌∷◌, ◌++◌, Option, Some, None, is_some, slice_get, slice_set, refl, sym, ap, subst, ◌∙◌, arith}
+use Rattle.std.proofs.Common.{◌≡◌, ◌+◌, ◌==◌, ◌&&◌, inl, inr, ℕ, zero, suc, Bool, true, false, List, [], ◌∷◌, ◌++◌, Option, Some, None, is_some, slice_get, slice_set, refl, sym, ap, subst, ◌∙◌, arith}
 use Rattle.std.proofs.lemmas.Bool.{eq-eqb}
 use Rattle.std.proofs.Math.Path.{fun_ext}
 use Rattle.std.specs.Prelude.{nat_lt, if◌then◌else◌}
@@ -20,7 +20,7 @@ use Rattle.sc_request.specs.Picking.{job_answered, job_at, job_awaiting, job_idl
 use Rattle.sc_request.specs.Sessions.{session_ended}
 use Rattle.sc_request.specs.Settling.{asked_in, begun, fits_turns, goes_on, made_at, settled, takes, takes_answer, takes_callback, takes_next}
 use Rattle.sc_interp.specs.Turning.{unless_failed}
-use Rattle.sc_play.specs.Regions.{PlainRegion}
+use Rattle.sc_play.specs.Regions.{EndsIn, PlainRegion}
 use Rattle.sc_play.specs.Turns.{Becomes, FirstTurn, TurnOf, Turns, first, more}
 use Rattle.sc_play.proofs.Programs.{turns_keep}
 use Rattle.sc_runtime.specs.Rounds.{more as one_more, none, turns_at_once}
@@ -350,9 +350,17 @@ makes_runs limit h j turns x y picks m there =
     } in
     (all.0, subst (λ (z : PlainWorld). RunsBy all.0 x z) (sym same) all.1)
 
+-- Where memory was refused to none of them, it stands there.
+ends_there : (n limit : ℕ) (x y : PlainStore) (w : Want) → (w ≡ want.Continue → n ≡ limit) → EndsIn n limit x w y → y ≡ x
+ends_there n limit x y w all (inl same) = same
+ends_there n limit x y w all (inr (few, nothing, ahead)) = absurd (omega (arith, few, all nothing))
+
 pub rounds_are_turns : RoundsAreTurns
-rounds_are_turns limit x _ _ none in_place = ([], refl)
-rounds_are_turns limit x _ _ (one_more {left = l} {turns = n} {y = y} {z = z} h j rounds is makes) in_place =
-    let before = rounds_are_turns limit x l y rounds in_place.0 in
-    let last = makes_runs (turns_at_once l y) h j n y z (next_picks h j y.center is) makes in_place.1 in
+rounds_are_turns limit x _ _ none unrefused = ([], refl)
+rounds_are_turns limit x _ _ (one_more {left = l} {turns = n} {y = y} {z = z} h j rounds is makes) unrefused =
+    let before = rounds_are_turns limit x l y rounds unrefused.0 in
+    let o = makes.settles.outcome in
+    let there : makes.after.store ≡ makes.settles.plays.last =
+    ends_there o.turns (turns_at_once l y) makes.settles.plays.last makes.after.store o.want (λ e. makes.settles.count ∙ unrefused.1 e) makes.settles.plays.ends in
+    let last = makes_runs (turns_at_once l y) h j n y z (next_picks h j y.center is) makes there in
     (before.0 ++ last.0, runs_join before.0 last.0 x y z before.1 last.1)

@@ -15,13 +15,15 @@ use Rattle.sc_code.specs.declared.program.Image.{Image}
 use Rattle.sc_region.specs.declared.job.Job.{Job}
 use Rattle.sc_region.specs.declared.job.Job.TheVariants as job
 use Rattle.sc_request.specs.Handlers.{Answer, Awaits, Handler, HasMade, Idle, Posted, Refused, Replied, Reserves, Runs, Stage, State, SupplierFailed, standing_in}
-use Rattle.sc_request.specs.Logs.{Center, granted, picked, put_back, put_back_with, ungranted}
+use Rattle.sc_request.specs.Logs.{Center, granted, next, picked, put_back, put_back_with, ungranted}
 use Rattle.sc_request.specs.Picking.{job_answered, job_at, job_awaiting, job_idle, job_of, job_reserving, job_with, needs}
 use Rattle.sc_request.specs.Halves.{IsHalfOf}
 use Rattle.sc_interp.specs.RegionSteps.{numbering_by}
 use Rattle.sc_play.specs.Regions.{PlainRegion}
+use Rattle.sc_runtime.specs.Rounds.{HeldUpNext, IsRefusedNext}
 use Rattle.sc_runtime.specs.Turning.{HeldUpUnder, IsHeldUp, IsRefusedTurn}
 use Rattle.sc_runtime.specs.Worlds.{PlainWorld}
+use Rattle.sc_runtime.proofs.Freeing.{next_picks}
 use Rattle.sc_refinement.specs.Refining.{RefusedTurnStaysNear, StandingWorldIsNear}
 use Rattle.sc_refinement.specs.Standing.{IsNear, IsRegionFor, StandsFor, StandsNear, names_in}
 use Rattle.sc_refinement.proofs.Picking.{picks_job}
@@ -172,7 +174,7 @@ module _ (s : System) (p : Image) (h : ℕ) (w : World) (x y : PlainWorld) (stan
   abbrev Near : ℕ → PlainRegion → Type 0
   Near k r = (start : PlainRegion) × IsNear start r × IsRegionFor s p k (w.handlers k) (y.center.state.handlers k).stage start
 
-  held_near : (j : Job) → job_of h x.center.state ≡ Some j → IsHeldUp h j x y → StandsNear s p w y
+  pub held_near : (j : Job) → job_of h x.center.state ≡ Some j → IsHeldUp h j x y → StandsNear s p w y
   held_near j is held = record {
     core = subst (IsHalfOf (numbering_by (names_in p)) w) (sym same) stands.core;
     none_out = λ k. ap (λ (d : Center). d.out k) held.put_back.center ∙ back_out h j x.center k (stands.none_out k);
@@ -214,3 +216,12 @@ module _ (s : System) (p : Image) (h : ℕ) (w : World) (x y : PlainWorld) (stan
 
 pub refused_turn_stays_near : RefusedTurnStaysNear
 refused_turn_stays_near s p h w x y stands refused = refused_near s p h w x y stands refused
+
+-- the same of the next handler that has something to do
+pub refused_next_near : (s : System) (p : Image) (w : World) (x y : PlainWorld) → StandsFor s p w x → IsRefusedNext x y → StandsNear s p w y
+refused_next_near s p w x y stands (inl same) = subst (StandsNear s p w) (sym same) (standing_world_is_near s p w x stands)
+refused_next_near s p w x y stands (inr held) = by (next x.center) refl held
+  where
+    by : (o : Option (ℕ × Job)) → next x.center ≡ o → HeldUpNext o x y → StandsNear s p w y
+    by None e same = subst (StandsNear s p w) (sym same) (standing_world_is_near s p w x stands)
+    by (Some q) e held = held_near s p q.0 w x y stands q.1 (sym (picks_job q.0 x.center (stands.none_out q.0)) ∙ next_picks q.0 q.1 x.center e) held

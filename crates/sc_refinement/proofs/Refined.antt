@@ -27,13 +27,13 @@ use Rattle.sc_settled.specs.Reached.{SettledMeetWhereReached}
 use Rattle.sc_halves.specs.Reached.{EntriesAreRemembered, HalvesWhereReached}
 use Rattle.sc_joined.specs.Joined as joined
 use Rattle.sc_runtime.specs.Worlds.{opened}
-use Rattle.sc_refinement.specs.Refining.{RoundsRunAsMachine, StoppedWorldStaysNear, WorldHasHeadline, WorldRunsAsMachine}
+use Rattle.sc_refinement.specs.Refining.{RoundsRunAsMachine, StoppedRoundsStayNear, StoppedWorldStaysNear, WorldHasHeadline, WorldRunsAsMachine}
 use Rattle.sc_refinement.specs.Standing.{names_in}
 use Rattle.sc_refinement.proofs.Assembling.{stands_along}
 use Rattle.sc_refinement.proofs.AtOnce.{rounds_are_turns}
 use Rattle.sc_refinement.proofs.Headlined.{headlined}
 use Rattle.sc_refinement.proofs.Meeting.{job_fits}
-use Rattle.sc_refinement.proofs.PuttingBack.{refused_turn_stays_near}
+use Rattle.sc_refinement.proofs.PuttingBack.{refused_next_near, refused_turn_stays_near}
 use Rattle.sc_refinement.proofs.Reaching.{in_each, reached_fits}
 use Rattle.sc_refinement.proofs.Running.{HalvesMeet, OthersKeep, RegionsAskSo, RegionsFollow, SettledMeet, StoresTurn, TurnsEndThere}
 
@@ -118,6 +118,11 @@ module _ (picks : PicksWhereTurns) (halves : HalvesWhereReached) (remembered : E
       )
 
   pub rounds_run_as_machine : RoundsRunAsMachine
-  rounds_run_as_machine s root faultless well p v limit left y program fits rounds in_place =
-      let turns = rounds_are_turns limit (opened p v) left y rounds in_place in
+  rounds_run_as_machine s root faultless well p v limit left y program fits rounds unrefused =
+      let turns = rounds_are_turns limit (opened p v) left y rounds unrefused in
       (turns.0, world_runs_as_machine s root faultless well p v turns.0 y program fits turns.1)
+
+  pub stopped_rounds_stay_near : StoppedRoundsStayNear
+  stopped_rounds_stay_near s root faultless well p v limit y program fits stops unrefused =
+      let turns = rounds_run_as_machine s root faultless well p v limit stops.left stops.before program fits stops.rounds unrefused in
+      (turns.0, refused_next_near s p (run (most_handlers v) s turns.0 (opening s root)) stops.before y turns.1 stops.refused)

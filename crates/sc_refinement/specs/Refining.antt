@@ -15,13 +15,14 @@ use Rattle.sc_model.specs.Settled.{SettledObjectsMeet}
 use Rattle.sc_model.specs.Values.{Attached, Reference, Value}
 use Rattle.sc_code.specs.declared.program.Image.{Image}
 use Rattle.sc_code.specs.Programs.{IsProgramOf}
+use Rattle.sc_region.specs.declared.job.Want.TheVariants as want
 use Rattle.sc_acts.specs.Halves.{FitsTurns}
 use Rattle.sc_laws.specs.Formals.{FormalsAreHeld, NamesAreHeld}
 use Rattle.sc_laws.specs.Headline.{CallbacksComeFirst, ChainsHold, OnlyWaitersAreTold, RepliesMeetNone, ReservedAreHeld, TargetsAreKept, WaitersAreTold}
 use Rattle.sc_values.specs.Places.{StandsAs}
 use Rattle.sc_values.specs.Values.{WhereAccepted}
 use Rattle.sc_runtime.specs.Reports.{report, statuses}
-use Rattle.sc_runtime.specs.Rounds.{Rounds, more, none}
+use Rattle.sc_runtime.specs.Rounds.{Rounds, StopsRounds, more, none, turns_at_once}
 use Rattle.sc_runtime.specs.Turning.{IsRefusedTurn, Runs, StopsBehind}
 use Rattle.sc_runtime.specs.Worlds.{PlainWorld, opened}
 use Rattle.sc_refinement.specs.Standing.{StandsFor, StandsNear}
@@ -89,21 +90,31 @@ WorldReportsAsMachine =
 
 -- ---- turns round and round
 
--- Within the rounds memory was never refused: each region that played stands where its last turn left it.
-abbrev pub EndInPlace : (limit : ℕ) (x : PlainWorld) (left : ℕ) (y : PlainWorld) → Rounds limit x left y → Type 0
-EndInPlace limit x _ _ none = Unit {0}
-EndInPlace limit x _ _ (more {left} {turns} {y} {z} h j rounds next makes) =
-    EndInPlace limit x left y rounds × (makes.after.store ≡ makes.settles.plays.last)
+-- Memory was refused to no turn within the rounds: a handler that asks nothing has made all turns that it might make at
+-- once. Only one that is alone may make several.
+abbrev pub NoneRefused : (limit : ℕ) (x : PlainWorld) (left : ℕ) (y : PlainWorld) → Rounds limit x left y → Type 0
+NoneRefused limit x _ _ none = Unit {0}
+NoneRefused limit x _ _ (more {left} {turns} {y} {z} h j rounds next makes) =
+    NoneRefused limit x left y rounds
+    × (makes.settles.outcome.want ≡ want.Continue → turns ≡ turns_at_once left y)
 
 -- Such rounds are turns of handlers, one after the other.
 abbrev pub RoundsAreTurns : Type 0
 RoundsAreTurns =
     (limit : ℕ) (x : PlainWorld) (left : ℕ) (y : PlainWorld) (rounds : Rounds limit x left y) →
-    EndInPlace limit x left y rounds → (hs : List ℕ) × Runs hs x y
+    NoneRefused limit x left y rounds → (hs : List ℕ) × Runs hs x y
 
 -- So they lead a program's world to one that stands for a state that the machine reaches.
 abbrev pub RoundsRunAsMachine : Type 0
 RoundsRunAsMachine = WhereAccepted λ s root.
     (p : Image) (v : Version) (limit left : ℕ) (y : PlainWorld) → IsProgramOf s root p → FitsTurns p →
-    (rounds : Rounds limit (opened p v) left y) → EndInPlace limit (opened p v) left y rounds →
+    (rounds : Rounds limit (opened p v) left y) → NoneRefused limit (opened p v) left y rounds →
     (hs : List ℕ) × StandsFor s p (run (most_handlers v) s hs (opening s root)) y
+
+-- Where memory was refused to a turn behind such rounds, the world is near that state.
+abbrev pub StoppedRoundsStayNear : Type 0
+StoppedRoundsStayNear = WhereAccepted λ s root.
+    (p : Image) (v : Version) (limit : ℕ) (y : PlainWorld) → IsProgramOf s root p → FitsTurns p →
+    (stops : StopsRounds limit (opened p v) y) →
+    NoneRefused limit (opened p v) stops.left stops.before stops.rounds →
+    (hs : List ℕ) × StandsNear s p (run (most_handlers v) s hs (opening s root)) y

@@ -1,6 +1,6 @@
 //! Laws of the world that runs beside the machine, each the contract of a function that does nothing.
 ghost use Rattle.sc_refinement.specs.Refining.{RefusedTurnStaysNear, RoundsAreTurns, RoundsRunAsMachine, StandingWorldIsNear};
-ghost use Rattle.sc_refinement.specs.Refining.{StoppedWorldStaysNear, WorldHasHeadline, WorldReportsAsMachine, WorldRunsAsMachine};
+ghost use Rattle.sc_refinement.specs.Refining.{StoppedRoundsStayNear, StoppedWorldStaysNear, WorldHasHeadline, WorldReportsAsMachine, WorldRunsAsMachine};
 
 use sc_acts::sound::{new_stores_are_sound, sound_jobs_are_taken};
 use sc_halves::laws::{core_settles_as_half_where_reached, entries_are_remembered};
@@ -93,6 +93,24 @@ pub fn rounds_are_turns()
 /// So they lead a program's world to one that stands for a state that the machine reaches.
 pub fn rounds_run_as_machine()
     ensures { RoundsRunAsMachine }
+{
+    core_picks_where_the_machine_turns();
+    core_settles_as_half_where_reached();
+    entries_are_remembered();
+    settled_objects_meet();
+    regions_follow();
+    regions_ask();
+    others_keep_halves();
+    created_are_new();
+    openings_are_in_order();
+    turns_keep_order();
+    new_stores_are_sound();
+    sound_jobs_are_taken();
+}
+
+/// Where memory was refused to a turn behind such rounds, the world is near that state.
+pub fn stopped_rounds_stay_near()
+    ensures { StoppedRoundsStayNear }
 {
     core_picks_where_the_machine_turns();
     core_settles_as_half_where_reached();
