@@ -12,7 +12,7 @@ use Rattle.sc_code.specs.RequestRoom.{FitsRequests}
 use Rattle.sc_runtime.specs.Rounds.{Rounds}
 use Rattle.sc_runtime.specs.Turning.{Runs}
 use Rattle.sc_runtime.specs.Worlds.{PlainWorld, opened}
-use Rattle.sc_refinement.specs.Refining.{EndInPlace, RoundsRunAsMachine, StandingWorldIsNear, WorldHasHeadline, WorldReportsAsMachine, WorldRunsAsMachine}
+use Rattle.sc_refinement.specs.Refining.{NoneRefused, RoundsRunAsMachine, StandingWorldIsNear, WorldHasHeadline, WorldReportsAsMachine, WorldRunsAsMachine}
 use Rattle.sc_refinement.specs.Standing.{StandsFor}
 use Rattle.sc_execution.specs.Execution.{IsLoaded, IsReplay, Leaves, line_turns}
 use Rattle.sc_headline.specs.Headline.{Headline, IsMachineRun, IsReportOf, ReplaysAreTheMachines, RoundsAreTheMachines, StandsForReached, machine_after}

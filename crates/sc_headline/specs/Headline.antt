@@ -15,7 +15,7 @@ use Rattle.sc_code.specs.RequestRoom.{FitsRequests}
 use Rattle.sc_runtime.specs.Rounds.{Rounds}
 use Rattle.sc_runtime.specs.Turning.{Runs}
 use Rattle.sc_runtime.specs.Worlds.{PlainWorld, opened}
-use Rattle.sc_refinement.specs.Refining.{EndInPlace, HasHeadline}
+use Rattle.sc_refinement.specs.Refining.{NoneRefused, HasHeadline}
 use Rattle.sc_refinement.specs.Standing.{StandsFor}
 use Rattle.sc_execution.specs.Execution.{IsLoaded, IsRead, IsReplay, IsSound, Leaves, line_turns}
 
@@ -70,5 +70,5 @@ abbrev pub RoundsAreTheMachines : Type 0
 RoundsAreTheMachines =
     (text : List ℕ) (root : Root) (program : Image) (version : Version) (limit left : ℕ) (world : PlainWorld) (report : List ℕ) (statuses : List Status) →
     IsLoaded text root program → FitsRequests program → (rounds : Rounds limit (opened program version) left world) →
-    EndInPlace limit (opened program version) left world rounds → Leaves world report statuses →
+    NoneRefused limit (opened program version) left world rounds → Leaves world report statuses →
     (handlers : List ℕ) × IsMachineRun text root version handlers report statuses

@@ -21,7 +21,7 @@ use Rattle.sc_interp.specs.RegionSteps.{numbering_by}
 use Rattle.sc_interp.specs.RegionTurns.{Half, new_half}
 use Rattle.sc_interp.proofs.RegionOpening.{new_region as new_store_stands}
 use Rattle.sc_play.specs.Regions.{PlainRegion, new_region}
-use Rattle.sc_acts.specs.Told.{FitsRequests}
+use Rattle.sc_code.specs.RequestRoom.{FitsRequests}
 use Rattle.sc_request.specs.Laws.{PicksWhereTurns}
 use Rattle.sc_halves.specs.Reached.{EntriesAreRemembered, HalvesWhereReached, RemembersAlong}
 use Rattle.sc_runtime.specs.Turning.{Runs}

@@ -24,7 +24,7 @@ use Rattle.sc_interp.specs.RegionSteps.{number_among, numbering_by}
 use Rattle.sc_interp.specs.RegionTurns.{new_half}
 use Rattle.sc_play.specs.Regions.{PlainRegion, new_region}
 use Rattle.sc_acts.specs.Taking.{IsNamed, IsNameOf}
-use Rattle.sc_acts.specs.Told.{FitsRequests}
+use Rattle.sc_code.specs.RequestRoom.{FitsRequests}
 use Rattle.sc_acts.proofs.Wanting.{distinct_names_have_numbers}
 use Rattle.sc_values.proofs.Opening.{opening_fits}
 use Rattle.sc_halves.specs.Reached as halves
