@@ -30,6 +30,7 @@ use Rattle.sc_rules.specs.declared.rule.Rule.{Rule}
 use Rattle.sc_rules.specs.SystemRules.{SystemFails, WellFormed}
 use Rattle.sc_code.specs.declared.program.Image.{Image}
 use Rattle.sc_code.specs.Programs.{IsProgramOf, code_length}
+use Rattle.sc_code.specs.RequestRoom.{FitsRequests}
 use Rattle.sc_lockpass.specs.declared.version.Version.{Version}
 use Rattle.sc_lockpass.specs.declared.version.Version.TheVariants.{Two}
 use Rattle.sc_audit.specs.declared.line.RecordLine.{RecordLine}
@@ -224,12 +225,13 @@ pub record IsRunOf (text : List ℕ) (root : Root) (limit : ℕ) (output : List 
   pub is_run : is_simple system ≡ true → IsRun system (run_root root) limit output statuses
   pub is_program_run : is_simple system ≡ false → IsProgramRun system root limit output statuses
 
--- The text spells a system that is sound, and this is its program.
+-- The text spells a system that is sound, and this is its program; requests have room for what it names.
 pub record IsLoaded (text : List ℕ) (root : Root) (program : Image) : Type 0 where
   pub system : System
   pub read : IsRead text system
   pub sound : IsSound system root
   pub is_program : IsProgramOf system root program
+  pub fits : FitsRequests program
 
 -- ---- replays
 

@@ -8,7 +8,6 @@ use Rattle.sc_audit.specs.declared.line.RecordLine.{RecordLine}
 use Rattle.sc_model.specs.declared.status.Status.{Status}
 use Rattle.sc_model.specs.Handlers.{World}
 use Rattle.sc_code.specs.declared.program.Image.{Image}
-use Rattle.sc_code.specs.RequestRoom.{FitsRequests}
 use Rattle.sc_runtime.specs.Rounds.{Rounds}
 use Rattle.sc_runtime.specs.Turning.{Runs}
 use Rattle.sc_runtime.specs.Worlds.{PlainWorld, opened}
@@ -18,8 +17,8 @@ use Rattle.sc_execution.specs.Execution.{IsLoaded, IsReplay, Leaves, line_turns}
 use Rattle.sc_headline.specs.Headline.{Headline, IsMachineRun, IsReportOf, ReplaysAreTheMachines, RoundsAreTheMachines, StandsForReached, machine_after}
 
 pub headed : WorldHasHeadline → Headline
-headed law text root program version handlers world loaded fits runs =
-    let found = law loaded.system root loaded.sound.faultless loaded.sound.well_formed program version handlers world loaded.is_program fits runs in
+headed law text root program version handlers world loaded runs =
+    let found = law loaded.system root loaded.sound.faultless loaded.sound.well_formed program version handlers world loaded.is_program loaded.fits runs in
     record {
       system = loaded.system;
       read = loaded.read;
@@ -38,9 +37,9 @@ reported near tells s p w x report statuses stands leaves =
     record { report_is = leaves.report_is ∙ told.0; statuses_are = leaves.statuses_are ∙ told.1 }
 
 pub replayed : WorldRunsAsMachine → StandingWorldIsNear → WorldReportsAsMachine → ReplaysAreTheMachines
-replayed law near tells text root program version lines report statuses loaded fits replay =
+replayed law near tells text root program version lines report statuses loaded replay =
     let turns = flat_map line_turns lines in
-    let stands = law loaded.system root loaded.sound.faultless loaded.sound.well_formed program version turns replay.world loaded.is_program fits replay.runs in
+    let stands = law loaded.system root loaded.sound.faultless loaded.sound.well_formed program version turns replay.world loaded.is_program loaded.fits replay.runs in
     record {
       system = loaded.system;
       read = loaded.read;
@@ -49,8 +48,8 @@ replayed law near tells text root program version lines report statuses loaded f
     }
 
 pub rounded : RoundsRunAsMachine → StandingWorldIsNear → WorldReportsAsMachine → RoundsAreTheMachines
-rounded law near tells text root program version limit left world report statuses loaded fits rounds in_place leaves =
-    let found = law loaded.system root loaded.sound.faultless loaded.sound.well_formed program version limit left world loaded.is_program fits rounds in_place in
+rounded law near tells text root program version limit left world report statuses loaded rounds none_refused leaves =
+    let found = law loaded.system root loaded.sound.faultless loaded.sound.well_formed program version limit left world loaded.is_program loaded.fits rounds none_refused in
     (found.0, record {
       system = loaded.system;
       read = loaded.read;

@@ -11,7 +11,6 @@ use Rattle.sc_model.specs.Handlers.{World}
 use Rattle.sc_model.specs.Reports as machine
 use Rattle.sc_model.specs.Runs.{IsReached, opening, run}
 use Rattle.sc_code.specs.declared.program.Image.{Image}
-use Rattle.sc_code.specs.RequestRoom.{FitsRequests}
 use Rattle.sc_runtime.specs.Rounds.{Rounds}
 use Rattle.sc_runtime.specs.Turning.{Runs}
 use Rattle.sc_runtime.specs.Worlds.{PlainWorld, opened}
@@ -36,7 +35,7 @@ pub record StandsForReached (text : List ℕ) (root : Root) (program : Image) (v
 abbrev pub Headline : Type 0
 Headline =
     (text : List ℕ) (root : Root) (program : Image) (version : Version) (handlers : List ℕ) (world : PlainWorld) →
-    IsLoaded text root program → FitsRequests program → Runs handlers (opened program version) world →
+    IsLoaded text root program → Runs handlers (opened program version) world →
     StandsForReached text root program version world
 
 -- ---- reports
@@ -61,7 +60,7 @@ pub record IsMachineRun (text : List ℕ) (root : Root) (version : Version) (han
 abbrev pub ReplaysAreTheMachines : Type 0
 ReplaysAreTheMachines =
     (text : List ℕ) (root : Root) (program : Image) (version : Version) (lines : List RecordLine) (report : List ℕ) (statuses : List Status) →
-    IsLoaded text root program → FitsRequests program → IsReplay program version lines report statuses →
+    IsLoaded text root program → IsReplay program version lines report statuses →
     IsMachineRun text root version (flat_map line_turns lines) report statuses
 
 -- What turns round and round leave is what the machine reports after the turns of some handlers, where memory was never
@@ -69,6 +68,6 @@ ReplaysAreTheMachines =
 abbrev pub RoundsAreTheMachines : Type 0
 RoundsAreTheMachines =
     (text : List ℕ) (root : Root) (program : Image) (version : Version) (limit left : ℕ) (world : PlainWorld) (report : List ℕ) (statuses : List Status) →
-    IsLoaded text root program → FitsRequests program → (rounds : Rounds limit (opened program version) left world) →
+    IsLoaded text root program → (rounds : Rounds limit (opened program version) left world) →
     NoneRefused limit (opened program version) left world rounds → Leaves world report statuses →
     (handlers : List ℕ) × IsMachineRun text root version handlers report statuses

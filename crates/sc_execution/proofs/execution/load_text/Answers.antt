@@ -23,4 +23,5 @@ returns-clause-loaded c =
       read = c.in_ok-system.ensures.read;
       sound = c.in_ok-checked.ensures.sound;
       is_program = rw (c.in_ok-checked.ensures.of_it, c.in_ok-checked.ensures.rooted) at c.in_ok-lower.ensures.lowered;
+      fits = c.in_ok-lower.ensures.fits_requests;
     }
