@@ -47,7 +47,8 @@ use Rattle.sc_interp.specs.Values.{reference_of, value_of, values_of}
 use Rattle.sc_interp.proofs.Behind.{passes}
 use Rattle.sc_interp.proofs.Playing.{some_same}
 use Rattle.sc_interp.proofs.Popping.{values_drop}
-use Rattle.sc_acts.specs.Acting.{Comes, Meets, ObjectsAreCreatedBy, RunsOn}
+use Rattle.sc_play.specs.CreatingObjects.{created_by_name}
+use Rattle.sc_acts.specs.Acting.{Comes, Meets, ObjectsAreCreatedBy, RunsOn, TurnsInto}
 use Rattle.sc_acts.proofs.Calling.{entered_anew, enters_is, name_is}
 use Rattle.sc_acts.proofs.Coming.{meets}
 use Rattle.sc_acts.proofs.Creating.{failed_so, fresh_same, objects_more}
@@ -237,3 +238,43 @@ pub objects_are_created_by : ProgramsServe → ObjectsAreCreatedBy
 objects_are_created_by serve number class k n routine name y z comes own there has room found s h x is region =
     created_whole number class k n routine name y z comes own there has room found s h x is region
     (meets serve s x (hop.Comes (act.Create class (Some k) n)) y z is region comes)
+
+-- ---- too many objects
+
+module _ (class k n : ℕ) (y z : PlainStore) (comes : Comes (hop.Comes (act.Create class (Some k) n)) y z) (full : nat_lt (length z.objects) max_objects ≡ false)
+    (s : System) (h : ℕ) (x : Half) (is : IsProgramFor s y.program) (region : IsRegionOf s x y) (m : Meets s x (hop.Comes (act.Create class (Some k) n)) y z) where
+  abbrev there_are : List Object
+  there_are = objects_in s z.objects
+
+  abbrev left_with : State
+  left_with = without n (state_of there_are m.activation)
+
+  abbrev next : values.Reference
+  next = record { handler = m.current.handler; number = length there_are + 1; class = class }
+
+  too_many : (b : Bool) → b ≡ false →
+      (if b then flat.creates_object s (run_of s m.frame.routine).code next (Some (name_at y.program k)) (actuals n (values_of m.activation.operands.values))
+      (record left_with { objects = there_are ++ model_objects.fresh_object s class ∷ [] })
+      else flat.fails cause.TooManyObjects left_with) ≡ flat.Does m.shown m.state →
+      flat.Does (flat.Fails cause.TooManyObjects) left_with ≡ flat.Does m.shown m.state
+  too_many true q e = cc
+  too_many false q e = e
+
+  -- whatever the procedure is, the handler fails for them
+  creation_fails : IsRegionOf s (turn s h x) (store.failed cause.TooManyObjects z)
+  creation_fails =
+      let count : length there_are ≡ length z.objects = length-map z.objects (object_in s) in
+      failed_so s x (hop.Comes (act.Create class (Some k) n)) y z is region comes m h cause.TooManyObjects left_with z
+      (too_many (nat_lt (length there_are) max_objects) (ap (λ j. nat_lt j max_objects) count ∙ full) m.does) refl refl
+
+-- The same where the handler may have too many objects: only where it has not, the procedure is asked for.
+pub objects_are_created_by_name : ProgramsServe → (number class k n : ℕ) (name : List ℕ) (y z : PlainStore) → Comes (hop.Comes (act.Create class (Some k) n)) y z →
+    RunsOn number z → slice_get (pool_of z.program.pool).names k ≡ Some name → Has n (top_activation z.frames) → has_room_in n (top_activation z.frames) ≡ true →
+    (nat_lt (length z.objects) max_objects ≡ true → (routine : ℕ) × (routine_in (version_in z.program class k) ≡ Some routine)) →
+    TurnsInto y (created_by_name (next_reference number class z) k n z)
+objects_are_created_by_name serve number class k n name y z comes own there has room found s h x is region = by (nat_lt (length z.objects) max_objects) refl
+  where
+    by : (b : Bool) → nat_lt (length z.objects) max_objects ≡ b →
+        IsRegionOf s (turn s h x) (if b then created_by (next_reference number class z) k n z else store.failed cause.TooManyObjects z)
+    by true few = let q = found few in objects_are_created_by serve number class k n q.0 name y z comes own there has room q.1 s h x is region
+    by false full = creation_fails class k n y z comes full s h x is region (meets serve s x (hop.Comes (act.Create class (Some k) n)) y z is region comes)

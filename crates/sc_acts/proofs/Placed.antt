@@ -18,9 +18,10 @@ use Rattle.sc_interp.specs.RegionTurns.{Half, Task, played, taken_turn}
 use Rattle.sc_play.specs.Answering.{told}
 use Rattle.sc_play.specs.Turns.{TurnUnder, Turns, first, more}
 use Rattle.sc_play.proofs.Programs.{turns_keep}
-use Rattle.sc_acts.specs.Halves.{FitsTurns, JobFits, PlayFits}
+use Rattle.sc_acts.specs.Halves.{JobFits, PlayFits}
 use Rattle.sc_acts.specs.Placed.{SoundJobsAreTaken, SoundTurnsAreMade, SoundTurnsArePlayed, begun_when}
 use Rattle.sc_acts.specs.Sound.{IsSound}
+use Rattle.sc_code.specs.RequestRoom.{FitsRequests}
 use Rattle.sc_acts.specs.Turns.{RefusesUnder, begun_half}
 use Rattle.sc_acts.proofs.Making.{creators_are_told}
 use Rattle.sc_acts.proofs.Placing.{may_take, may_turn}
@@ -46,7 +47,7 @@ refuses_so s h names job.Refused x fits = tt
 refuses_so s h names (job.Granted ks) x fits = tt
 
 -- in a store in which it has begun
-taken_so : ProgramsServe → (h : ℕ) (j : Job) (y z : PlainStore) (w : Want) → TurnUnder h j y z w → IsSound y → FitsTurns y.program → (s : System) (x : Half) → IsProgramFor s y.program →
+taken_so : ProgramsServe → (h : ℕ) (j : Job) (y z : PlainStore) (w : Want) → TurnUnder h j y z w → IsSound y → FitsRequests y.program → (s : System) (x : Half) → IsProgramFor s y.program →
     IsRegionOf s (begun_half j x) y → JobFits s h (names_of y) j x →
     IsSound z × IsRegionOf s (taken_turn s h (task_of (names_of y) j) x) z × (w ≡ first_want (numbering_by (names_of y)) s h (task_of (names_of y) j) x)
 taken_so serve h j y z w t sound program s x is region fits =
@@ -67,7 +68,7 @@ sound_jobs_are_taken serve h is_told job.Go y z w t sound program s x is region 
 
 -- ---- so many turns
 
-module _ (serve : ProgramsServe) (h : ℕ) (is_told : Bool) (j : Job) (start : PlainStore) (sound : IsSound start) (program : FitsTurns start.program) (s : System) (x : Half)
+module _ (serve : ProgramsServe) (h : ℕ) (is_told : Bool) (j : Job) (start : PlainStore) (sound : IsSound start) (program : FitsRequests start.program) (s : System) (x : Half)
     (is : IsProgramFor s start.program) (region : IsRegionOf s (begun_when is_told j x) start) (total : ℕ) (fits : PlayFits s h (names_of start) j total x) where
   abbrev task : Task
   task = task_of (names_of start) j
@@ -100,7 +101,7 @@ module _ (serve : ProgramsServe) (h : ℕ) (is_told : Bool) (j : Job) (start : P
   plays _ _ _ (more {n} {y} {z} {w} before t) few =
       let p = plays n y want.Continue before (omega (arith, few)) in
       let kept = turns_keep h is_told j start n y want.Continue before in
-      let made = sound_turns_are_made serve h y z w t p.sound_there (subst FitsTurns (sym kept) program) s (played s h task n x) (subst (IsProgramFor s) (sym kept) is) p.leads
+      let made = sound_turns_are_made serve h y z w t p.sound_there (subst FitsRequests (sym kept) program) s (played s h task n x) (subst (IsProgramFor s) (sym kept) is) p.leads
       (fits.later n p.some (omega (arith, few))) in
       record {
         some = omega arith;

@@ -22,6 +22,9 @@ use Rattle.sc_model.specs.Steps as model
 use Rattle.sc_model.specs.Steps.{Calling, Point, Does}
 use Rattle.sc_model.specs.Values as values
 use Rattle.sc_model.specs.Values.{Operand}
+use Rattle.sc_code.specs.declared.program.Image.{Image}
+use Rattle.sc_code.specs.declared.program.Version.{Version}
+use Rattle.sc_code.specs.declared.program.Version.TheVariants as version
 use Rattle.sc_code.specs.Lowered.{run_of}
 use Rattle.sc_code.specs.Machine as flat
 use Rattle.sc_code.specs.Machine.{State}
@@ -50,7 +53,7 @@ use Rattle.sc_interp.specs.RegionHalves.{AreFrames, IsRegionOf, StandsIn, origin
 use Rattle.sc_interp.specs.RegionSteps.{IsProgramFor, names_of}
 use Rattle.sc_interp.specs.RegionTurns as half
 use Rattle.sc_interp.specs.RegionTurns.{Half}
-use Rattle.sc_interp.specs.Serving.{version_in}
+use Rattle.sc_interp.specs.Serving.{is_routine_in, version_in}
 use Rattle.sc_interp.specs.Standing.{actuals, name_at, state_of, without}
 use Rattle.sc_interp.specs.Told.{IsTold, NamesCreation}
 use Rattle.sc_interp.specs.Values.{reference_of, value_of, values_of}
@@ -61,15 +64,17 @@ use Rattle.sc_interp.proofs.RegionSame.{same_current}
 use Rattle.sc_play.specs.Answering.{top_stage}
 use Rattle.sc_play.specs.Turns.{GoesOn, TurnIn, TurnMade, TurnOf, TurnUnder}
 use Rattle.sc_acts.specs.Acting.{AreWhole, Comes, Meets, RunsOn, TakesAs, TakesResult, TopRuns, is_called}
-use Rattle.sc_acts.specs.Halves.{AreComplete, AreWithin, FitsTurns, GetsReply, GivesResult, GoesWell, HalfFits, JobFits, RequestFits, TopGoesWell}
+use Rattle.sc_acts.specs.Halves.{AreComplete, AreWithin, GetsReply, GivesResult, GoesWell, HalfFits, HasRoutine, JobFits, RequestFits, TopGoesWell}
 use Rattle.sc_acts.specs.Making.{told_half}
 use Rattle.sc_acts.specs.Reserving.{MayOpen}
 use Rattle.sc_acts.specs.Rooms.{GetsAnswer, HaveRoom, takes_value}
 use Rattle.sc_acts.specs.Sound.{CreateForNothing, CreatesForNothing, IsSound}
 use Rattle.sc_acts.specs.Taking.{IsTakeable}
+use Rattle.sc_code.specs.RequestRoom.{FitsRequests}
 use Rattle.sc_acts.specs.Turns.{MayAct, MayDo, MayTurn, MayTurnIn, MayTurnMade, MayTurnUnder, begun_half}
 use Rattle.sc_acts.specs.Wanting.{MayCreate, MayRequest}
-use Rattle.sc_acts.proofs.Coming.{meets, runs_in}
+use Rattle.sc_acts.proofs.Calling.{enters_is}
+use Rattle.sc_acts.proofs.Coming.{all_declared, meets, runs_in}
 use Rattle.sc_acts.proofs.CreationRoom.{room_left}
 use Rattle.sc_acts.proofs.Keeping.{Moved, complete_kept, complete_numbered, count_kept, creates_next, moved_same}
 use Rattle.sc_acts.proofs.Meeting.{fresh_many, numbered_same}
@@ -142,17 +147,19 @@ called_is (Requested r) e = by (is_creation r.errand) e
     by true e = cc
     by false e = cc
 
-some_there : {A : Type 0} (o : Option A) → is_some o ≡ true → (a : A) × (o ≡ Some a)
-some_there None e = cc
-some_there (Some a) e = (a, refl)
-
 some_mapped : {A B : Type 0} (f : A → B) (o : Option A) → is_some (option_map f o) ≡ is_some o
 some_mapped f None = refl
 some_mapped f (Some a) = refl
 
+-- a version that is a routine has the number of one
+routine_some : (v : Option Version) → is_routine_in v ≡ Some true → (routine : ℕ) × (routine_in v ≡ Some routine)
+routine_some (Some (version.Routine n)) e = (n, refl)
+routine_some (Some (version.Attribute n)) e = cc
+routine_some None e = cc
+
 -- ---- one operation
 
-module _ (serve : ProgramsServe) (h : ℕ) (y : PlainStore) (sound : IsSound y) (program : FitsTurns y.program) (s : System) (x : Half) (is : IsProgramFor s y.program)
+module _ (serve : ProgramsServe) (h : ℕ) (y : PlainStore) (sound : IsSound y) (program : FitsRequests y.program) (s : System) (x : Half) (is : IsProgramFor s y.program)
     (region : IsRegionOf s x y) (fits : HalfFits s h x) where
   -- no fewer objects than before, and more
   abbrev Enough : List Object → Type 0
@@ -171,8 +178,8 @@ module _ (serve : ProgramsServe) (h : ℕ) (y : PlainStore) (sound : IsSound y) 
     abbrev start : Point
     start = point_of m.frame x.objects
 
-    program_there : FitsTurns b.program
-    program_there = subst FitsTurns (sym comes.remains.program) program
+    program_there : FitsRequests b.program
+    program_there = subst FitsRequests (sym comes.remains.program) program
 
     is_there : IsProgramFor s b.program
     is_there = subst (IsProgramFor s) (sym comes.remains.program) is
@@ -322,7 +329,7 @@ module _ (serve : ProgramsServe) (h : ℕ) (y : PlainStore) (sound : IsSound y) 
     may_create_alone : IsTold alone b → MayAct h (act.Create class None n) b
     may_create_alone told_so =
         let a = ready_in b.program (act.Create class None n) (top_activation b.frames) told_so in
-        let small = small_creation b.program class None n (program_there alone b comes).requests a.2.named in
+        let small = small_creation b.program class None n (program_there alone b comes) a.2.named in
         let few = no_fewer (nat_lt (length os) max_objects) (meets_invariant s (fresh_object s class)) (nat_lt (length behind.values) (run_of s met.frame.routine).code.depth) met.does in
         let count = length-map b.objects (object_in s) in
         (class_fits class small.1, record { lives = lives_there alone b comes; handler = runs_on alone b comes; unborn = unborn_there alone b comes (omega (arith, few, count)) })
@@ -376,16 +383,33 @@ module _ (serve : ProgramsServe) (h : ℕ) (y : PlainStore) (sound : IsSound y) 
         ∙ ap (λ j. nat_lt (length (drop n made.activation.operands.values)) j) (sym ((stays s x creation y b is region comes made).depth ∙ made.stood.depth))
         ∙ ap (λ fs. has_room_in n (top_activation fs)) (sym made.frames)
 
-    routine_there : NamesCreation b.program class (Some k) n → (routine : ℕ) × (routine_in (version_in b.program class k) ≡ Some routine)
-    routine_there c =
-        some_there (routine_in (version_in b.program class k))
-        (subst (λ j. is_some (routine_in (version_in b.program j k)) ≡ true) c.class
-        ((program_there creation b comes).creations c.is_creation.number c.site k c.is_creation.there c.procedure))
+    -- where there is room for one more object the procedure is entered, and so it is a routine
+    entered_so : (c d : Bool) → c ≡ true →
+        (if c then (if d then flat.does asked (record after { values = values.Attached new ∷ after.values }) else flat.stuck after) else flat.fails cause.TooManyObjects ahead)
+        ≡ flat.Does made.shown made.state → HasRoutine s class (name_at y.program k)
+    entered_so true true q e =
+        let shown = act_same asked made.shown _ made.state e in
+        let seen = enters_is made.last.environment made.point.environment model.Creation made.step new (name_at y.program k) (actuals n (values_of made.activation.operands.values)) false
+        (subst (λ a. Seen made.last.environment made.point.environment made.step a) (sym shown) made.seen) in
+        (goes creation b comes).enters model.Creation new (name_at y.program k) seen.actuals seen.type made.point (made.moves ∙ ap (λ a. Does a made.point) seen.act)
+    entered_so true false q e = not_stuck creation b comes (fails_so creation b comes cause.BadCode after e)
+    entered_so false d q e = cc
+
+    routine_there : NamesCreation b.program class (Some k) n → nat_lt (length b.objects) max_objects ≡ true →
+        (routine : ℕ) × (routine_in (version_in b.program class k) ≡ Some routine)
+    routine_there c few =
+        let p = is_there creation b comes in
+        let serves = serve s p.root b.program p.faultless (all_declared s p.well_formed) p.program in
+        let count : length there ≡ length b.objects = length-map b.objects (object_in s) in
+        let has = entered_so (nat_lt (length there) max_objects) (nat_lt (length after.values) code.depth) (ap (λ j. nat_lt j max_objects) count ∙ few) made.does in
+        let named = ap (λ (p : Image). name_at p k) comes.remains.program in
+        routine_some (version_in b.program class k)
+        (serves.routines class k (name_at b.program k) (procedure_there b.program class (Some k) n c) ∙ subst (HasRoutine s class) (sym named) has)
 
     may_create_by : IsTold creation b → MayAct h (act.Create class (Some k) n) b
     may_create_by told_so =
         let a = ready_in b.program (act.Create class (Some k) n) (top_activation b.frames) told_so in
-        let small = small_creation b.program class (Some k) n (program_there creation b comes).requests a.2.named in
+        let small = small_creation b.program class (Some k) n (program_there creation b comes) a.2.named in
         let has : Has n (top_activation b.frames) = subst (λ o. Has n o) (sym a.1) (let l = small.0 in operands_there n a.0 (omega (arith, l)) a.2.operands) in
         let room = has_room_there (nat_lt (length there) max_objects) (nat_lt (length after.values) code.depth) refl made.does in
         (class_fits class small.1, (name_at b.program k, procedure_there b.program class (Some k) n a.2.named), has, sym room_same ∙ room, routine_there a.2.named, runs_on creation b comes)
@@ -395,14 +419,14 @@ module _ (serve : ProgramsServe) (h : ℕ) (y : PlainStore) (sound : IsSound y) 
   may_act (act.Enter c r k n gives) b comes told_so =
       let a = act.Enter c r k n gives in
       let q = ready_in b.program a (top_activation b.frames) told_so in
-      let requests = (program_there (hop.Comes a) b comes).requests in (
+      let requests = program_there (hop.Comes a) b comes in (
         (name_at b.program k, name_there b.program k n gives q.2.named),
         subst (λ o. HasCall c n o) (sym q.1) (enter_there c n q.0 (few_actuals b.program k n gives requests q.2.named) q.2.operands),
       )
   may_act (act.Request r k n gives passes) b comes told_so =
       let a = act.Request r k n gives passes in
       let q = ready_in b.program a (top_activation b.frames) told_so in
-      let requests = (program_there (hop.Comes a) b comes).requests in
+      let requests = program_there (hop.Comes a) b comes in
       let name = name_there b.program k n gives q.2.named in (
         numbered b k requests name,
         subst (λ o. MayRequest k n o) (sym q.1) (name_fits b.program k requests name, call_there n q.0 (few_actuals b.program k n gives requests q.2.named) q.2.operands),
@@ -412,7 +436,7 @@ module _ (serve : ProgramsServe) (h : ℕ) (y : PlainStore) (sound : IsSound y) 
   may_act (act.CreateHandler class k n passes) b comes told_so =
       let a = act.CreateHandler class k n passes in
       let q = ready_in b.program a (top_activation b.frames) told_so in
-      let requests = (program_there (hop.Comes a) b comes).requests in
+      let requests = program_there (hop.Comes a) b comes in
       let small = small_creation b.program class k n requests q.2.named in
       let name = procedure_there b.program class k n q.2.named in (
         procedure_numbered b k requests name,
@@ -422,7 +446,7 @@ module _ (serve : ProgramsServe) (h : ℕ) (y : PlainStore) (sound : IsSound y) 
   may_act (act.Open first n) b comes told_so =
       let a = act.Open first n in
       let q = ready_in b.program a (top_activation b.frames) told_so in
-      let few = (program_there (hop.Comes a) b comes).requests.blocks q.2.named.0 _ q.2.named.1 in
+      let few = (program_there (hop.Comes a) b comes).blocks q.2.named.0 _ q.2.named.1 in
       subst (λ o. MayOpen first n o) (sym q.1) (heads_there first n q.0 few q.2.operands q.2.slots)
   may_act (act.Refuse k) b comes told_so = may_refuse k b comes
   may_act act.Exit b comes told_so = may_exit b comes
@@ -492,7 +516,7 @@ gets s os v [] (g ∷ gs) a may = absurd a
 gets s os v (f ∷ fs) [] a may = absurd a
 
 -- The first turn under a job that fits may be made.
-pub may_take : ProgramsServe → (h : ℕ) (j : Job) (y : PlainStore) → IsSound y → FitsTurns y.program → (s : System) (x : Half) → IsProgramFor s y.program → IsRegionOf s (begun_half j x) y →
+pub may_take : ProgramsServe → (h : ℕ) (j : Job) (y : PlainStore) → IsSound y → FitsRequests y.program → (s : System) (x : Half) → IsProgramFor s y.program → IsRegionOf s (begun_half j x) y →
     JobFits s h (names_of y) j x → (z : PlainStore) (w : Want) (t : TurnUnder h j y z w) → MayTurnUnder h j y z w t
 may_take serve h (job.Take r) y sound program s x is region fits z w t = takeable r y s x is region fits
 may_take serve h (job.Reply v) y sound program s x is region fits z w t = answers_have_room v y sound.room (gets s x.objects v x.stack y.frames region.frames fits)

@@ -215,7 +215,11 @@ created_by_room r k n z (Some a) room = by (has_room n a && has_operands n a)
 created_room : (h : ℕ) (class : Option ℕ) (k : Option ℕ) (n : ℕ) (z : PlainStore) → RunsWithRoom z.frames → HaveRoom (objects.created_of class h k n z).frames
 created_room h None k n z kept = tt
 created_room h (Some class) None n z kept = given_room n (next_reference h class z) (made class z) (made_keeps class z kept)
-created_room h (Some class) (Some k) n z kept = created_by_room (next_reference h class z) k n z (top_activation z.frames) kept.1
+created_room h (Some class) (Some k) n z kept = by (nat_lt (length z.objects) max_objects)
+  where
+    by : (b : Bool) → HaveRoom (if b then created_at (next_reference h class z) k n (top_activation z.frames) z else failed cause.TooManyObjects z).frames
+    by true = created_by_room (next_reference h class z) k n z (top_activation z.frames) kept.1
+    by false = tt
 
 creating_room : (r : Reference) (class : ℕ) (k : Option ℕ) (n : ℕ) (passes : Bool) (fs : List PlainFrame) → IsRunning fs → HaveRoom fs →
     HaveRoom (top_frame (handlers.creating r (creation_with class k n passes)) fs)

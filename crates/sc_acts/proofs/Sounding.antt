@@ -154,7 +154,9 @@ created_by_free r k n z (Some a) free =
 created_free : (h : ℕ) (class : Option ℕ) (k : Option ℕ) (n : ℕ) (z : PlainStore) → CreateForNothing z.frames → CreateForNothing (objects.created_of class h k n z).frames
 created_free h None k n z free = tt
 created_free h (Some class) None n z free = given_free n (next_reference h class z) (made class z) (made_free class z free)
-created_free h (Some class) (Some k) n z free = created_by_free (next_reference h class z) k n z (top_activation z.frames) free
+created_free h (Some class) (Some k) n z free =
+    either_free (nat_lt (length z.objects) max_objects) (created_at (next_reference h class z) k n (top_activation z.frames) z) (failed cause.TooManyObjects z)
+    (created_by_free (next_reference h class z) k n z (top_activation z.frames) free) tt
 
 created_as_free : (w : Option Want) (r : Reference) (class : ℕ) (k : Option ℕ) (n : ℕ) (passes : Bool) (z : PlainStore) → CreateForNothing z.frames →
     CreateForNothing (created_as w r (creation_with class k n passes) z).frames

@@ -43,7 +43,7 @@ use Rattle.sc_acts.specs.Told.{ComesTold, ToldBlocksBegin, ToldCallsAreMade, Tol
 use Rattle.sc_acts.specs.Wanting.{IsNumbered, IsProcedure, MayCreate, MayRequest}
 use Rattle.sc_acts.proofs.Calling.{calls_are_made}
 use Rattle.sc_acts.proofs.Creating.{objects_are_created}
-use Rattle.sc_acts.proofs.CreatingBy.{objects_are_created_by}
+use Rattle.sc_acts.proofs.CreatingBy.{objects_are_created_by_name}
 use Rattle.sc_acts.proofs.Staging.{blocks_begin, handlers_are_created, requests_are_made}
 use Rattle.sc_acts.proofs.Wanting.{creations_ask, distinct_names_have_numbers, requests_ask}
 
@@ -233,4 +233,4 @@ module _ (serve : ProgramsServe) where
       let name = procedure_there z.program class (Some k) n b.2.named in
       let has : Has n (top_activation z.frames) = subst (λ o. Has n o) (sym b.1) (let l = small.0 in operands_there n b.0 (omega (arith, l)) b.2.operands) in
       subst (λ w. IsRegionOf s (turn s h x) w) (sym (ap (λ q. objects.created_of q h (Some k) n z) (class_fits class small.1)))
-      (objects_are_created_by serve h class k n routine (name_at z.program k) y z t.comes own name has room found s h x is region)
+      (objects_are_created_by_name serve h class k n (name_at z.program k) y z t.comes own name has room (λ few. (routine, found)) s h x is region)

@@ -62,7 +62,7 @@ use Rattle.sc_acts.proofs.Calling.{calls_are_made}
 use Rattle.sc_acts.proofs.CallsAsking.{calls_ask, object_creations_ask}
 use Rattle.sc_acts.proofs.Coming.{meets}
 use Rattle.sc_acts.proofs.Creating.{objects_are_created}
-use Rattle.sc_acts.proofs.CreatingBy.{objects_are_created_by}
+use Rattle.sc_acts.proofs.CreatingBy.{objects_are_created_by_name}
 use Rattle.sc_acts.proofs.Exiting.{routines_end}
 use Rattle.sc_acts.proofs.Jobs.{answers_are_taken, bad_answers_are_taken, grants_are_taken}
 use Rattle.sc_acts.proofs.Making.{creators_are_told, made_are_answers}
@@ -178,7 +178,7 @@ module _ (serve : ProgramsServe) (h : ℕ) (y : PlainStore) (s : System) (x : Ha
     creates class (Some k) n comes may program =
         let a = act.Create class (Some k) n in
         as_store a _ (sym (ap (λ q. creating_objects.created_of q h (Some k) n b) may.0))
-        (objects_are_created_by serve h class k n may.4.0 may.1.0 y b comes may.5 may.1.1 may.2 may.3 may.4.1 s h x is region)
+        (objects_are_created_by_name serve h class k n may.1.0 y b comes may.5 may.1.1 may.2 may.3 may.4 s h x is region)
         (object_creations_ask serve h class (Some k) n y b (acted h a b) comes program s x is region)
 
     refuses : (k : ℕ) → Comes (hop.Comes (act.Refuse k)) y b → AreWhole b → DoesSo (act.Refuse k)

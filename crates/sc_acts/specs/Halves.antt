@@ -1,40 +1,26 @@
 -- What turns need of the half that a store stands for.
-use Rattle.std.specs.Prelude.{◌≡◌, ◌<◌, ◌≤◌, ℕ, Bool, true, List, [], ◌∷◌, Option, Some, None, is_some, length, slice_get}
+use Rattle.std.specs.Prelude.{◌≡◌, ◌<◌, ◌≤◌, ℕ, Bool, true, List, [], ◌∷◌, Option, Some, None, is_some, length}
+use Rattle.std.specs.Option.{option_map}
 use Rattle.sc_tree.specs.Plain.{System}
-use Rattle.sc_class.specs.Tables.Features.{features}
+use Rattle.sc_class.specs.Tables.Features.{DeclaredFeature, features}
 use Rattle.sc_proctype.specs.declared.entity_type.EntityType.{EntityType}
 use Rattle.sc_model.specs.declared.cause.Cause.TheVariants as cause
 use Rattle.sc_model.specs.Handlers.{Called, InCall, Awaits, Frame, Runs, point_of}
 use Rattle.sc_model.specs.Moves.{moves}
 use Rattle.sc_model.specs.Objects.{Object, fresh_attributes, object_numbered}
-use Rattle.sc_model.specs.Steps.{Calling, Point, Does, Fails}
-use Rattle.sc_code.specs.declared.program.Image.{Image}
-use Rattle.sc_code.specs.declared.site.CreationSite.{CreationSite}
-use Rattle.sc_code.specs.Programs.{pool_of}
-use Rattle.sc_code.specs.RequestRoom.{FitsRequests}
+use Rattle.sc_model.specs.Routines.{version_of}
+use Rattle.sc_model.specs.Steps.{Calling, Point, Does, Enters, Fails}
+use Rattle.sc_model.specs.Values as values
 use Rattle.sc_region.specs.declared.job.Job.{Job}
 use Rattle.sc_region.specs.declared.job.Job.TheVariants as job
 use Rattle.sc_region.specs.declared.job.Request.{Request}
 use Rattle.sc_region.specs.declared.value.Value.{Value}
-use Rattle.sc_interp.specs.Entering.{routine_in}
 use Rattle.sc_interp.specs.RegionSteps.{task_of}
 use Rattle.sc_interp.specs.RegionTurns.{Half, played}
-use Rattle.sc_interp.specs.Serving.{version_in}
+use Rattle.sc_interp.specs.Serving.{is_routine}
 use Rattle.sc_acts.specs.Taking.{IsNamed}
 use Rattle.sc_acts.specs.Making.{told_half}
 use Rattle.sc_acts.specs.Waiting.{RefusesInContract}
-
--- ---- the program
-
--- Each creation of the program that names a procedure is by a routine of its class.
-abbrev pub CreatesByRoutines : Image → Type 0
-CreatesByRoutines p = (number : ℕ) (site : CreationSite) (k : ℕ) → slice_get (pool_of p.pool).creations number ≡ Some site → site.procedure ≡ Some k →
-    is_some (routine_in (version_in p site.class k)) ≡ true
-
--- Requests have room for what the program names, and its creations are by routines.
-pub record FitsTurns (p : Image) : Type 0 where
-  pub requests : FitsRequests p
-  pub creations : CreatesByRoutines p
 
 -- ---- objects
 
@@ -58,10 +44,17 @@ abbrev pub GivesResult : Frame → List Frame → Type 0
 GivesResult f [] = Unit {0}
 GivesResult f (g ∷ gs) = (c : Calling) (t : EntityType) → f.origin ≡ Called c → g.stage ≡ InCall (Some t) → is_some f.result ≡ true
 
--- The frame runs on an object of the handler of the number, gives its caller a Result, and doesn't come to what no case fits.
+-- The class has a routine of the name.
+abbrev pub HasRoutine : System → ℕ → List ℕ → Type 0
+HasRoutine s class name = option_map (λ (f : DeclaredFeature). is_routine f.feature.kind) (version_of s class name) ≡ Some true
+
+-- The frame runs on an object of the handler of the number, gives its caller a Result, enters only routines that there are, and doesn't come to what no case
+-- fits.
 pub record GoesWell (s : System) (h : ℕ) (objects : List Object) (f : Frame) (below : List Frame) : Type 0 where
   pub own : f.current.handler ≡ h
   pub gives_result : GivesResult f below
+  pub enters : (c : Calling) (r : values.Reference) (name : List ℕ) (us : List values.Operand) (t : Option EntityType) (p : Point) →
+      moves s f.current (point_of f objects) ≡ Does (Enters c r name us t) p → HasRoutine s r.class name
   pub fits : (p : Point) → moves s f.current (point_of f objects) ≡ Does (Fails cause.BadCode) p → ⊥
 
 -- The topmost of the frames does, where it goes on.

@@ -12,9 +12,10 @@ use Rattle.sc_interp.specs.RegionSteps.{IsProgramFor, MakesTurns, first_want, na
 use Rattle.sc_interp.specs.RegionTurns.{Half, played, taken_turn, turn}
 use Rattle.sc_play.specs.Turns.{FirstTurn, TurnOf, TurnUnder, Turns}
 use Rattle.sc_acts.specs.Acting.{TopRuns}
-use Rattle.sc_acts.specs.Halves.{FitsTurns, HalfFits, JobFits, PlayFits}
+use Rattle.sc_acts.specs.Halves.{HalfFits, JobFits, PlayFits}
 use Rattle.sc_acts.specs.Making.{told_half}
 use Rattle.sc_acts.specs.Sound.{IsSound}
+use Rattle.sc_code.specs.RequestRoom.{FitsRequests}
 
 -- ---- what a region stands for
 
@@ -44,20 +45,20 @@ TurnsJoin = (h : ℕ) (y a z : PlainStore) (w : Want) → LeadsTo y a → Remain
 -- A turn.
 abbrev pub SoundTurnsAreMade : Type 0
 SoundTurnsAreMade =
-    (h : ℕ) (y z : PlainStore) (w : Want) → TurnOf h y z w → IsSound y → FitsTurns y.program → (s : System) (x : Half) → IsProgramFor s y.program → IsRegionOf s x y → HalfFits s h x →
+    (h : ℕ) (y z : PlainStore) (w : Want) → TurnOf h y z w → IsSound y → FitsRequests y.program → (s : System) (x : Half) → IsProgramFor s y.program → IsRegionOf s x y → HalfFits s h x →
     IsSound z × IsRegionOf s (turn s h x) z × (w ≡ next_want (numbering_by (names_of y)) s h x)
 
 -- The first turn under a job.
 abbrev pub SoundJobsAreTaken : Type 0
 SoundJobsAreTaken =
-    (h : ℕ) (is_told : Bool) (j : Job) (y z : PlainStore) (w : Want) → FirstTurn h is_told j y z w → IsSound y → FitsTurns y.program → (s : System) (x : Half) →
+    (h : ℕ) (is_told : Bool) (j : Job) (y z : PlainStore) (w : Want) → FirstTurn h is_told j y z w → IsSound y → FitsRequests y.program → (s : System) (x : Half) →
     IsProgramFor s y.program → IsRegionOf s (begun_when is_told j x) y → JobFits s h (names_of y) j x →
     IsSound z × IsRegionOf s (taken_turn s h (task_of (names_of y) j) x) z × (w ≡ first_want (numbering_by (names_of y)) s h (task_of (names_of y) j) x)
 
 -- So many turns under a job.
 abbrev pub SoundTurnsArePlayed : Type 0
 SoundTurnsArePlayed =
-    (h : ℕ) (is_told : Bool) (j : Job) (limit n : ℕ) (y z : PlainStore) (w : Want) → Turns h is_told j y n z w → n ≤ limit → IsSound y → FitsTurns y.program →
+    (h : ℕ) (is_told : Bool) (j : Job) (limit n : ℕ) (y z : PlainStore) (w : Want) → Turns h is_told j y n z w → n ≤ limit → IsSound y → FitsRequests y.program →
     (s : System) (x : Half) → IsProgramFor s y.program → IsRegionOf s (begun_when is_told j x) y → PlayFits s h (names_of y) j n x →
     (let b : Half = played s h (task_of (names_of y) j) n x in
     IsSound z × IsRegionOf s b z × MakesTurns (numbering_by (names_of y)) s h (task_of (names_of y) j) limit n w x b)

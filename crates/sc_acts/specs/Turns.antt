@@ -1,5 +1,5 @@
 -- One whole turn of a handler: what it makes of a store is what the definition of a turn makes of the half that the store stands for, and it asks the same.
-use Rattle.std.specs.Prelude.{◌≡◌, ℕ, true, false, Option, Some, None}
+use Rattle.std.specs.Prelude.{◌≡◌, ℕ, true, false, Option, Some, None, length, nat_lt}
 use Rattle.sc_tree.specs.Plain.{System}
 use Rattle.sc_region.specs.declared.frame.Stage.{Stage}
 use Rattle.sc_region.specs.declared.frame.Stage.TheVariants as stage
@@ -7,7 +7,7 @@ use Rattle.sc_region.specs.declared.job.Job.{Job}
 use Rattle.sc_region.specs.declared.job.Job.TheVariants as job
 use Rattle.sc_region.specs.declared.job.Want.{Want}
 use Rattle.sc_region.specs.Frames.{top_activation}
-use Rattle.sc_region.specs.Stores.{PlainStore}
+use Rattle.sc_region.specs.Stores.{PlainStore, max_objects}
 use Rattle.sc_interp.specs.declared.act.Act.{Act}
 use Rattle.sc_interp.specs.declared.act.Act.TheVariants as act
 use Rattle.sc_interp.specs.declared.act.Hop.{Hop}
@@ -31,12 +31,13 @@ use Rattle.sc_acts.specs.Wanting.{IsNumbered, IsProcedure, MayCreate, MayRequest
 
 -- ---- what is asked of a store where an operation is done
 
--- The class has a number, and the store may create. A procedure's name is that of a routine, and its operands are there, with room for the reference.
+-- The class has a number, and the store may create. A procedure's operands are there, with room for the reference, and its name is that of a routine where there
+-- is room for one more object.
 abbrev pub MayCreateHere : ℕ → ℕ → Option ℕ → ℕ → PlainStore → Type 0
 MayCreateHere h class None n z = (class_number class ≡ Some class) × IsCreator h z
 MayCreateHere h class (Some k) n z =
     (class_number class ≡ Some class) × IsNameOf (names_of z) k × Has n (top_activation z.frames) × (has_room_in n (top_activation z.frames) ≡ true)
-    × ((routine : ℕ) × (routine_in (version_in z.program class k) ≡ Some routine)) × RunsOn h z
+    × (nat_lt (length z.objects) max_objects ≡ true → (routine : ℕ) × (routine_in (version_in z.program class k) ≡ Some routine)) × RunsOn h z
 
 -- The numbers of the operation are those of names and classes, and its operands are there. Where objects are tested, they are whole, and a routine that ends has
 -- a Result for its caller.

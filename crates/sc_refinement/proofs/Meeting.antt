@@ -5,9 +5,11 @@ use Rattle.std.proofs.lemmas.Option.{slice_get_within}
 use Rattle.std.specs.List.{flat_map}
 use Rattle.std.specs.Option.{option_map}
 use Rattle.std.specs.Prelude.{map, if◌then◌else◌}
-use Rattle.sc_tree.specs.Plain.{System}
+use Rattle.sc_tree.specs.Plain as tree
+use Rattle.sc_tree.specs.Plain.{FeatureKind, System}
 use Rattle.sc_class.specs.ClassNames.{Root}
 use Rattle.sc_class.specs.Faults.ClassRules.{IsFaultless}
+use Rattle.sc_class.specs.Tables.Features.{DeclaredFeature}
 use Rattle.sc_proctype.specs.declared.entity_type.EntityType.{EntityType}
 use Rattle.sc_rules.specs.Names.{RoutineName}
 use Rattle.sc_rules.specs.Purity.{IsPurity}
@@ -19,8 +21,8 @@ use Rattle.sc_model.specs.Handlers as machine
 use Rattle.sc_model.specs.Handlers.{Awaits, Called, Frame, InCall, Origin, Requested, Reserves, ReservesBlock, Runs, Stage, World, point_of}
 use Rattle.sc_model.specs.Moves.{moves}
 use Rattle.sc_model.specs.Objects.{Object, fresh_object, object_numbered}
-use Rattle.sc_model.specs.Routines.{Routine}
-use Rattle.sc_model.specs.Steps.{Calling, Does, Fails, Point}
+use Rattle.sc_model.specs.Routines.{Routine, version_of}
+use Rattle.sc_model.specs.Steps.{Calling, Does, Enters, Fails, Point}
 use Rattle.sc_model.specs.Values.{Operand, Reference, Value}
 use Rattle.sc_region.specs.declared.job.Job.{Job}
 use Rattle.sc_region.specs.declared.job.Job.TheVariants as job
@@ -36,17 +38,35 @@ use Rattle.sc_request.specs.Sessions as sessions
 use Rattle.sc_interp.specs.RegionHalves.{AreHalvesOf, IsHalfOfFrame, IsRegionHalf, IsStageFor, unpassed}
 use Rattle.sc_interp.specs.RegionSteps.{numbering_by}
 use Rattle.sc_interp.specs.RegionTurns.{Half}
+use Rattle.sc_interp.specs.Serving as serving
 use Rattle.sc_acts.specs.Taking.{IsNamed}
 use Rattle.sc_acts.specs.Turns.{begun_half}
-use Rattle.sc_acts.specs.Halves.{AreComplete, AreWithin, GetsReply, GivesResult, GoesWell, HalfFits, IsComplete, JobFits, RequestFits, TopGoesWell}
+use Rattle.sc_acts.specs.Halves.{AreComplete, AreWithin, GetsReply, GivesResult, GoesWell, HalfFits, HasRoutine, IsComplete, JobFits, RequestFits, TopGoesWell}
 use Rattle.sc_acts.specs.Waiting.{RefusesInContract}
 use Rattle.sc_values.specs.Fitting as values
 use Rattle.sc_values.specs.Fitting.{FrameFits, Gives, IsThere, Linked, ObjectFits, WorldFits, alone, called, is_due, is_made}
+use Rattle.sc_values.specs.Places as places
 use Rattle.sc_values.specs.Points.{AttributesFit, Each, ResultFits, a_result, no_result}
 use Rattle.sc_values.specs.Steps.{StepFits}
 use Rattle.sc_values.proofs.Lists.{each_before, each_behind}
 use Rattle.sc_refinement.proofs.Asked.{AllAsk}
 use Rattle.sc_refinement.proofs.Contracts.{StandsInContract, begun_none, begun_stack, frame, job_here, moves_so, operands_under, same_frame, tells_at, top_in_contract, waits_for_none}
+
+-- ---- routines that are entered
+
+routine_same : (kind : FeatureKind) → serving.is_routine kind ≡ places.is_routine kind
+routine_same (tree.Attribute d) = refl
+routine_same (tree.Routine r) = refl
+
+-- a version that is a routine is one that the class has
+has_routine : (s : System) (class : ℕ) (name : List ℕ) (f : DeclaredFeature) → version_of s class name ≡ Some f → places.is_routine f.feature.kind ≡ true → HasRoutine s class name
+has_routine s class name f found is =
+    ap (option_map (λ (f : DeclaredFeature). serving.is_routine f.feature.kind)) found ∙ ap (λ b. Some b) (routine_same f.feature.kind ∙ is)
+
+-- The routine of this object that has come to the point enters only routines that there are.
+abbrev EntersRoutines : System → Reference → Routine → Point → Type 0
+EntersRoutines s me r p = (d : Calling) (o : Reference) (name : List ℕ) (vs : List Operand) (t : Option EntityType) (q : Point) →
+    moves s me p ≡ Does (Enters d o name vs t) q → HasRoutine s o.class name
 
 -- ---- objects
 
@@ -171,8 +191,15 @@ module _ (s : System) (root : Root) (pure : RoutineName → Bool) (faultless : I
       gives_result = gives_result s pure w h (c.handlers h).stage f g fs gs us (subst (Linked s h) stack (fits h here).frames_are_linked) fit are.0 are.1;
       fits = subst (λ (os : List Object). GoesOn s g.current g.routine (point_of (record g { values = us }) os)) (sym region.objects)
           (same_frame (GoesOn s) h (c.handlers h).stage (w.handlers h).objects f g us are.0 (same_values f g fs stack runs are.0) goes);
+      enters = subst (λ (os : List Object). EntersRoutines s g.current g.routine (point_of (record g { values = us }) os)) (sym region.objects)
+          (same_frame (EntersRoutines s) h (c.handlers h).stage (w.handlers h).objects f g us are.0 (same_values f g fs stack runs are.0) enters);
     }
       where
+        enters : EntersRoutines s f.current f.routine (point_of f (w.handlers h).objects)
+        enters d o name vs t q e =
+            let step = subst (StepFits s pure f.routine f.current) e (moves_so s root pure faultless well tells w fits h here f fs stack none) in
+            has_routine s o.class name step.2.0.version step.2.0.is_version step.2.1
+
         goes : GoesOn s f.current f.routine (point_of f (w.handlers h).objects)
         goes q e =
             let no : true ≡ false = (subst (StepFits s pure f.routine f.current) e (moves_so s root pure faultless well tells w fits h here f fs stack none)).0 in

@@ -10,6 +10,7 @@ use Rattle.sc_model.specs.Handlers as machine
 use Rattle.sc_model.specs.Runs.{IsReached, opening, run}
 use Rattle.sc_code.specs.declared.program.Image.{Image}
 use Rattle.sc_code.specs.Programs.{IsProgramOf}
+use Rattle.sc_code.specs.RequestRoom.{FitsRequests}
 use Rattle.sc_region.specs.declared.job.Job.{Job}
 use Rattle.sc_region.specs.declared.job.Job.TheVariants as job
 use Rattle.sc_region.specs.declared.job.Want.{Want}
@@ -19,7 +20,7 @@ use Rattle.sc_interp.specs.RegionHalves.{IsRegionOf}
 use Rattle.sc_interp.specs.RegionSteps.{IsProgramFor, RegionsAsk, first_want, numbering_by, task_of}
 use Rattle.sc_interp.specs.RegionTurns.{Half, taken_turn}
 use Rattle.sc_play.specs.Regions.{EndsIn}
-use Rattle.sc_acts.specs.Halves.{FitsTurns, JobFits}
+use Rattle.sc_acts.specs.Halves.{JobFits}
 use Rattle.sc_acts.specs.Placed.{SoundJobsAreTaken, begun_when}
 use Rattle.sc_acts.specs.Sound.{IsSound, NewStoresAreSound}
 use Rattle.sc_joined.specs.Order.{EachInOrder, OpensInOrder, TurnsKeepOrder}
@@ -53,7 +54,7 @@ untold job.Go x = refl
 
 module _ (picks : PicksWhereTurns) (halves : HalvesWhereReached) (remembered : EntriesAreRemembered) (settled : SettledMeetWhereReached) (follow : joined.RegionsFollow) (ask : RegionsAsk) (others : joined.OthersKeepHalves) (created : joined.CreatedAreNew) (ordered : OpensInOrder)
     (keep_order : TurnsKeepOrder) (new_sound : NewStoresAreSound) (taken : SoundJobsAreTaken) where
-  module _ (s : System) (root : Root) (faultless : IsFaultless s root) (well : WellFormed s) (p : Image) (program : IsProgramOf s root p) (fits : FitsTurns p) (most : ℕ) where
+  module _ (s : System) (root : Root) (faultless : IsFaultless s root) (well : WellFormed s) (p : Image) (program : IsProgramOf s root p) (fits : FitsRequests p) (most : ℕ) where
     abbrev Placed : ℕ → PlainStore → Type 0
     Placed h y = IsSound y
 
@@ -62,7 +63,7 @@ module _ (picks : PicksWhereTurns) (halves : HalvesWhereReached) (remembered : E
 
     stores_turn : StoresTurn s root p faultless well most Placed Needs
     stores_turn h j y z w t is x region sound needs =
-        let made = taken h false j y z w t sound (subst FitsTurns (sym is) fits) s x
+        let made = taken h false j y z w t sound (subst FitsRequests (sym is) fits) s x
         (subst (IsProgramFor s) (sym is) (record { root = root; faultless = faultless; well_formed = well; program = program }))
         (subst (λ (a : Half). IsRegionOf s a y) (sym (untold j x)) region) (subst (λ (q : Image). JobFits s h (names_in q) j x) (sym is) needs) in (
           subst (λ (q : Image). IsRegionOf s (taken_turn s h (task_of (names_in q) j) x) z) is made.1,

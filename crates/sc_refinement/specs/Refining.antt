@@ -15,8 +15,8 @@ use Rattle.sc_model.specs.Settled.{SettledObjectsMeet}
 use Rattle.sc_model.specs.Values.{Attached, Reference, Value}
 use Rattle.sc_code.specs.declared.program.Image.{Image}
 use Rattle.sc_code.specs.Programs.{IsProgramOf}
+use Rattle.sc_code.specs.RequestRoom.{FitsRequests}
 use Rattle.sc_region.specs.declared.job.Want.TheVariants as want
-use Rattle.sc_acts.specs.Halves.{FitsTurns}
 use Rattle.sc_laws.specs.Formals.{FormalsAreHeld, NamesAreHeld}
 use Rattle.sc_laws.specs.Headline.{CallbacksComeFirst, ChainsHold, OnlyWaitersAreTold, RepliesMeetNone, ReservedAreHeld, TargetsAreKept, WaitersAreTold}
 use Rattle.sc_values.specs.Places.{StandsAs}
@@ -53,13 +53,13 @@ pub record HasHeadline (s : System) (w : World) : Type 0 where
 -- The turns of any handlers lead a program's world to one that stands for the state to which they lead the machine.
 abbrev pub WorldRunsAsMachine : Type 0
 WorldRunsAsMachine = WhereAccepted λ s root.
-    (p : Image) (v : Version) (hs : List ℕ) (y : PlainWorld) → IsProgramOf s root p → FitsTurns p →
+    (p : Image) (v : Version) (hs : List ℕ) (y : PlainWorld) → IsProgramOf s root p → FitsRequests p →
     Runs hs (opened p v) y → StandsFor s p (run (most_handlers v) s hs (opening s root)) y
 
 -- So each world that turns lead to stands for a state that is reached, of which the headline holds.
 abbrev pub WorldHasHeadline : Type 0
 WorldHasHeadline = WhereAccepted λ s root.
-    (p : Image) (v : Version) (hs : List ℕ) (y : PlainWorld) → IsProgramOf s root p → FitsTurns p →
+    (p : Image) (v : Version) (hs : List ℕ) (y : PlainWorld) → IsProgramOf s root p → FitsRequests p →
     Runs hs (opened p v) y →
     (w : World) × IsReached (most_handlers v) s root w × StandsFor s p w y × HasHeadline s w
 
@@ -79,7 +79,7 @@ RefusedTurnStaysNear =
 -- machine.
 abbrev pub StoppedWorldStaysNear : Type 0
 StoppedWorldStaysNear = WhereAccepted λ s root.
-    (p : Image) (v : Version) (n : ℕ) (hs : List ℕ) (y : PlainWorld) → IsProgramOf s root p → FitsTurns p →
+    (p : Image) (v : Version) (n : ℕ) (hs : List ℕ) (y : PlainWorld) → IsProgramOf s root p → FitsRequests p →
     StopsBehind n hs (opened p v) y → StandsNear s p (run (most_handlers v) s (take n hs) (opening s root)) y
 
 -- A world that is near a state reports what the machine reports of it, and each handler stands as it does there.
@@ -107,14 +107,14 @@ RoundsAreTurns =
 -- So they lead a program's world to one that stands for a state that the machine reaches.
 abbrev pub RoundsRunAsMachine : Type 0
 RoundsRunAsMachine = WhereAccepted λ s root.
-    (p : Image) (v : Version) (limit left : ℕ) (y : PlainWorld) → IsProgramOf s root p → FitsTurns p →
+    (p : Image) (v : Version) (limit left : ℕ) (y : PlainWorld) → IsProgramOf s root p → FitsRequests p →
     (rounds : Rounds limit (opened p v) left y) → NoneRefused limit (opened p v) left y rounds →
     (hs : List ℕ) × StandsFor s p (run (most_handlers v) s hs (opening s root)) y
 
 -- Where memory was refused to a turn behind such rounds, the world is near that state.
 abbrev pub StoppedRoundsStayNear : Type 0
 StoppedRoundsStayNear = WhereAccepted λ s root.
-    (p : Image) (v : Version) (limit : ℕ) (y : PlainWorld) → IsProgramOf s root p → FitsTurns p →
+    (p : Image) (v : Version) (limit : ℕ) (y : PlainWorld) → IsProgramOf s root p → FitsRequests p →
     (stops : StopsRounds limit (opened p v) y) →
     NoneRefused limit (opened p v) stops.left stops.before stops.rounds →
     (hs : List ℕ) × StandsNear s p (run (most_handlers v) s hs (opening s root)) y
