@@ -1,13 +1,22 @@
 -- Lines that tell refusals, and why there is no answer.
-use Rattle.std.proofs.Common.{◌≡◌, ◌<◌, ◌⊎◌, inl, inr, ℕ, List, Option, Some, None, length, ap, sym, subst}
+use Rattle.std.proofs.Common.{◌≡◌, ◌<◌, ◌⊎◌, inl, inr, ℕ, List, Option, Some, None, Result, Ok, Err, IfOk, length, ap, sym, subst}
 use Rattle.std.specs.Option.{option_map}
+use Rattle.std.specs.Prelude.{IfSome}
+use Rattle.sc_audit.specs.declared.beginning.ReadFault.{ReadFault}
+use Rattle.sc_audit.specs.declared.beginning.ReadFault.TheVariants as reading
+use Rattle.sc_audit.specs.Reading.{IsReadFault}
+use Rattle.sc_audit.specs.Records.{IsRecordText}
+use Rattle.sc_class.specs.ClassNames.{Root}
+use Rattle.sc_code.specs.declared.program.Image.{Image}
+use Rattle.sc_execution.specs.Execution.{IsLoaded, IsNotRunFor}
+use Rattle.sc_serve.specs.declared.serve.Answer.{Answer}
 use Rattle.sc_serve.specs.declared.serve.Fault.{Fault}
 use Rattle.sc_serve.specs.declared.serve.Fault.TheVariants as fault
 use Rattle.sc_execution.specs.declared.rejection.Rejection.{Rejection}
 use Rattle.sc_execution.specs.declared.rejection.Rejection.TheVariants as rejection
-use Rattle.sc_serve.specs.Answer.{IsUnansweredOn, IsUnread, line_of, out_of_memory}
+use Rattle.sc_serve.specs.Answer.{IsBadRecord, IsRefusalOf, IsReplayOn, IsReplayTo, IsUnansweredOn, IsUnread, line_of, out_of_memory}
 use Rattle.sc_serve.specs.Refusal.{Told, refusal_line, told}
-use Rattle.sc_source.specs.Source.{File, place_at}
+use Rattle.sc_source.specs.Source.{File, joined, names_of, place_at}
 use Rattle.sc_source.specs.Joining.{no_memory}
 use Rattle.sc_source.specs.declared.source.JoinFault.{JoinFault}
 
@@ -34,3 +43,24 @@ unread names why (fault.CannotRead name reading) (inl e) u = absurd (u.0 e)
 unread names why (fault.CannotRead name reading) (inr l) u = (why.file, l, u.1)
 unread names why fault.CannotWrite w u = u
 unread names why fault.NotText w u = u
+
+-- what is told to be no record is none
+pub no_record : (held now : Option (List ℕ)) (f : ReadFault) → IsReadFault held now f → IsBadRecord f → IfSome held (λ bytes. ¬ IsRecordText bytes)
+no_record None now (reading.BadRecord line) is bad = tt
+no_record (Some bytes) now (reading.BadRecord line) is bad = is.no_record
+no_record held now (reading.Unreadable error) is bad = absurd bad
+no_record held now reading.OutOfMemory is bad = absurd bad
+
+-- what is answered with the program of the files' source text is answered on the files
+pub replayed_on_files : (root : Root) (held : Option (List ℕ)) (names : List (List ℕ)) (source : List File) (program : Image) (r : Result Answer Fault) →
+    names_of source ≡ names → IsLoaded (joined source) root program → IfOk r (λ answer. IsReplayTo program held answer.text.items answer.exit) →
+    IfOk r (λ answer. IsReplayOn root held names answer.text.items answer.exit)
+replayed_on_files root held names source program (Ok answer) named loaded told = inl (source, named, inl (program, loaded, told))
+replayed_on_files root held names source program (Err fault) named loaded told = tt
+
+-- and so is what keeps that text from being run
+pub rejected_on_files : (root : Root) (held : Option (List ℕ)) (names : List (List ℕ)) (source : List File) (why : Rejection) (r : Result Answer Fault) →
+    names_of source ≡ names → IsNotRunFor (joined source) root why → IfOk r (λ answer. IsRefusalOf source why answer.text.items answer.exit) →
+    IfOk r (λ answer. IsReplayOn root held names answer.text.items answer.exit)
+rejected_on_files root held names source why (Ok answer) named is told = inl (source, named, inr (why, is, told))
+rejected_on_files root held names source why (Err fault) named is told = tt

@@ -1,8 +1,14 @@
 -- What the program answers for a source text.
-use Rattle.std.specs.Prelude.{ℕ, ◌≡◌, ◌<◌, ◌⊎◌, Bool, true, false, if◌then◌else◌, List, [], ◌∷◌, ◌++◌, Option, Some, codes, get_or, length}
+use Rattle.std.specs.Prelude.{ℕ, ◌≡◌, ◌<◌, ◌⊎◌, Bool, true, false, if◌then◌else◌, List, [], ◌∷◌, ◌++◌, Option, Some, IfSome, codes, get_or, length}
 use Rattle.std.specs.List.{list_any}
 use Rattle.std.specs.Option.{option_map}
 use Rattle.sc_text.specs.declared.fault.LexFault.TheVariants as lexing
+use Rattle.sc_lockpass.specs.declared.version.Version.{Version}
+use Rattle.sc_audit.specs.declared.line.RecordLine.{RecordLine}
+use Rattle.sc_audit.specs.declared.beginning.ReadFault.{ReadFault}
+use Rattle.sc_audit.specs.declared.beginning.ReadFault.TheVariants as reading
+use Rattle.sc_audit.specs.Records.{IsRecord, IsRecordText, text_of}
+use Rattle.sc_code.specs.declared.program.Image.{Image}
 use Rattle.sc_model.specs.declared.status.Status.{Status}
 use Rattle.sc_model.specs.declared.status.Status.TheVariants as status
 use Rattle.sc_serve.specs.declared.serve.Exit.{Exit}
@@ -11,7 +17,7 @@ use Rattle.sc_serve.specs.declared.serve.Fault.{Fault}
 use Rattle.sc_serve.specs.declared.serve.Fault.TheVariants as fault
 use Rattle.sc_arguments.specs.declared.arguments.Command.{Command}
 use Rattle.sc_arguments.specs.declared.arguments.Command.TheVariants as command
-use Rattle.sc_execution.specs.Execution.{IsAccepted, IsNotRunFor, IsPrinted, IsRefusedFor, IsRunOf, IsUnreadable}
+use Rattle.sc_execution.specs.Execution.{IsAccepted, IsLoaded, IsNotRunFor, IsPrinted, IsRefusedFor, IsReplay, IsRunOf, IsUnreadable}
 use Rattle.sc_class.specs.ClassNames.{Root}
 use Rattle.sc_class.specs.View.{root_of}
 use Rattle.sc_execution.specs.declared.rejection.Rejection.{Rejection}
@@ -106,21 +112,47 @@ IsUnansweredOn names fault.NotText = ⊥
 abbrev pub bad_record : List ℕ
 bad_record = codes "refused A1 BadRecord" ++ (line_feed ∷ [])
 
--- What is answered where a record is played with the system of this text: that it is no record, or a report, and the status that goes
--- with how the handlers stand.
-abbrev pub IsReplayTo : List ℕ → Exit → Type 0
-IsReplayTo output exit = ((output ≡ bad_record) × (exit ≡ Refused)) ⊎ ((hows : List Status) × (exit ≡ exit_of hows))
+-- Nothing is read of a record since it is none.
+abbrev pub IsBadRecord : ReadFault → Type 0
+IsBadRecord (reading.BadRecord line) = Unit {0}
+IsBadRecord (reading.Unreadable error) = ⊥
+IsBadRecord reading.OutOfMemory = ⊥
 
--- What is answered on the source text of these files, which is run from this root: something is at fault in it, or a record is played.
-abbrev pub IsReplayOf : Root → List File → List ℕ → Exit → Type 0
-IsReplayOf root source output exit =
-    (IsAccepted (joined source) root × IsReplayTo output exit)
+-- the answer that a file holds no record
+pub record TellsBadRecord (output : List ℕ) (exit : Exit) : Type 0 where
+  pub line : output ≡ bad_record
+  pub status : exit ≡ Refused
+
+-- It is told that the file holds no record, and what it holds is none, as far as that is known.
+abbrev pub IsNoRecord : Option (List ℕ) → List ℕ → Exit → Type 0
+IsNoRecord held output exit = IfSome held (λ bytes. ¬ IsRecordText bytes) × TellsBadRecord output exit
+
+-- The program is played by the lines of a record, which is what the file holds, as far as that is known: the report of the
+-- replay, and the status that goes with how the handlers stand.
+pub record IsPlayed (program : Image) (held : Option (List ℕ)) (output : List ℕ) (exit : Exit) : Type 0 where
+  pub version : Version
+  pub lines : List RecordLine
+  pub limits : IsRecord version lines
+  pub read : IfSome held (λ bytes. bytes ≡ text_of version lines)
+  pub hows : List Status
+  pub replay : IsReplay program version lines output hows
+  pub status : exit ≡ exit_of hows
+
+-- What is answered where the record that a file holds is played with the program.
+abbrev pub IsReplayTo : Image → Option (List ℕ) → List ℕ → Exit → Type 0
+IsReplayTo program held output exit = IsNoRecord held output exit ⊎ IsPlayed program held output exit
+
+-- What is answered on the source text of these files, which is run from this root: a record is played with its program, or
+-- something is at fault in it.
+abbrev pub IsReplayOf : Root → Option (List ℕ) → List File → List ℕ → Exit → Type 0
+IsReplayOf root held source output exit =
+    ((program : Image) × IsLoaded (joined source) root program × IsReplayTo program held output exit)
     ⊎ ((why : Rejection) × IsNotRunFor (joined source) root why × IsRefusalOf source why output exit)
 
--- What is answered on files of these names.
-abbrev pub IsReplayOn : Root → List (List ℕ) → List ℕ → Exit → Type 0
-IsReplayOn root names output exit =
-    ((source : List File) × (names_of source ≡ names) × IsReplayOf root source output exit)
+-- What is answered on files of these names, where this is held by the file of the record, as far as that is known.
+abbrev pub IsReplayOn : Root → Option (List ℕ) → List (List ℕ) → List ℕ → Exit → Type 0
+IsReplayOn root held names output exit =
+    ((source : List File) × (names_of source ≡ names) × IsReplayOf root held source output exit)
     ⊎ IsRefusalOf [] too_long output exit
 
 -- Why no record of this name is played: it can't be read, or nothing is answered on the files.

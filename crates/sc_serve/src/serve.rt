@@ -1,11 +1,12 @@
 // One call of the program, from its arguments to its status.
 
-ghost use Rattle.std.specs.Prelude.{◌≡◌, [], ◌∷◌, IfErr, IfOk, map};
+ghost use Rattle.std.specs.Prelude.{◌≡◌, [], ◌∷◌, IfErr, IfOk, OnOk, map};
 ghost use Rattle.sc_serve.specs.Answer as spec;
 ghost use Rattle.std.specs.List.{list_any};
 ghost use Rattle.sc_class.specs.View.{root_of};
+ghost use Rattle.sc_lower.specs.Lowerings.{image_of};
 ghost use Rattle.sc_serve.specs.Answer.{IsAnswerOn, IsAnswerTo, IsRefusalOf, IsRejectedFor, too_long};
-ghost use Rattle.sc_serve.specs.Answer.{IsReplayOn, IsReplayTo, IsUnansweredOn, IsUnplayed, IsUnread};
+ghost use Rattle.sc_serve.specs.Answer.{IsBadRecord, IsReplayOn, IsReplayTo, IsUnansweredOn, IsUnplayed, IsUnread, TellsBadRecord};
 
 use crate::refusal::Refusal;
 use sc_arguments::{Command, Invocation, ReplayOptions, UsageFault, read_arguments};
@@ -13,6 +14,7 @@ use sc_audit::{ReadFault, read_record};
 use sc_breakdown::excerpt::excerpt;
 use sc_breakdown::{Played, failure_note};
 use sc_class::Root;
+use sc_code::Program;
 use sc_diagnosis::{Related, diagnose};
 use sc_execution::{Rejection, check_text, load_text, print_text, replay, run_text};
 use sc_explain::{find, list};
@@ -369,6 +371,7 @@ fn examine(
 }
 
 /// Plays a record with the system of the named files.
+#[tactic(auto, using(crate::proofs::AnswerLemmas::unanswered, crate::proofs::AnswerLemmas::unread))]
 fn answer_replay<'a, F: Files>(
     alloc: Global,
     options: &ReplayOptions<'a>,
@@ -376,29 +379,45 @@ fn answer_replay<'a, F: Files>(
     names: &[&'a str],
 ) -> Result<Answer, Fault<'a>>
     ensures answer { let named = map (λ name. name.now) names.now in
-        IfOk result (λ answer. IsReplayOn (root_of options.now.root) named answer.text.items answer.exit) }
+        let held = F.bytes_of files.now options.now.record.now in
+        IfOk result (λ answer. IsReplayOn (root_of options.now.root) held named answer.text.items answer.exit) }
     ensures unplayed { IfErr result (IsUnplayed options.now.record.now (map (λ name. name.now) names.now)) }
 {
     let source = match read_source(alloc, files, names) {
         Ok(source) => source,
         Err(fault) => return answer_unread(alloc, names, fault),
     };
-    let program = match load_text(alloc, source.text(), &options.root) {
-        Ok(program) => program,
-        Err(rejection) => return answer_rejected(alloc, &source, &rejection),
-    };
-    let record = match read_record(alloc, &mut NamedFile::new(files, options.record)) {
+    match load_text(alloc, source.text(), &options.root) {
+        Ok(program) => play_record(alloc, &program, files, options.record),
+        Err(rejection) => answer_rejected(alloc, &source, &rejection),
+    }
+}
+
+/// Plays with a program the record that the named file holds.
+#[tactic(auto, using(crate::proofs::AnswerLemmas::unanswered, crate::proofs::AnswerLemmas::no_record))]
+fn play_record<'a, F: Files>(
+    alloc: Global,
+    program: &Program,
+    files: &F,
+    name: &'a str,
+) -> Result<Answer, Fault<'a>>
+    ensures answer { let held = F.bytes_of files.now name.now in
+        IfOk result (λ answer. IsReplayTo (image_of program.now) held answer.text.items answer.exit) }
+    ensures unread { IfErr result (IsUnansweredOn (name.now ∷ [])) }
+{
+    let record = match read_record(alloc, &mut NamedFile::new(files, name)) {
         Ok(record) => record,
-        Err(fault) => return answer_no_record(alloc, options.record, fault),
+        Err(fault) => return answer_no_record(alloc, name, fault),
     };
-    let outcome = replay(alloc, &program, &record)?;
+    let outcome = replay(alloc, program, &record)?;
     let exit = exit_of(outcome.statuses.as_slice());
     Ok(Answer::new(alloc, outcome.report, exit))
 }
 
 /// What is answered where a file holds no record.
 fn answer_no_record<'a>(alloc: Global, name: &'a str, fault: ReadFault) -> Result<Answer, Fault<'a>>
-    ensures refused { IfOk result (λ answer. IsReplayTo answer.text.items answer.exit) }
+    ensures refused { IfOk result (λ answer. TellsBadRecord answer.text.items answer.exit) }
+    ensures bad { OnOk result (IsBadRecord fault) }
     ensures unread { IfErr result (IsUnansweredOn (name.now ∷ [])) }
 {
     match fault {
