@@ -143,7 +143,9 @@ created_at_serves n r name k (Some a) x top s =
 
 created_with_serves : (n : ℕ) (procedure : Option ℕ) (r : Reference) (k : ℕ) (x : PlainStore) → Serving n x → Serving n (created_with procedure r k x)
 created_with_serves n None r k x s = given_serves n k r (made r.class x) (made_serves n r.class x s)
-created_with_serves n (Some name) r k x s = created_at_serves n r name k (top_activation x.frames) x refl s
+created_with_serves n (Some name) r k x s =
+    if_serves (nat_lt (length x.objects) max_objects) n (created_at r name k (top_activation x.frames) x) (failed cause.TooManyObjects x)
+    (created_at_serves n r name k (top_activation x.frames) x refl s) (failed_serves n cause.TooManyObjects x)
 
 created_of_serves : (n : ℕ) (class : Option ℕ) (h : ℕ) (procedure : Option ℕ) (k : ℕ) (x : PlainStore) → Serving n x → Serving n (created_of class h procedure k x)
 created_of_serves n None h procedure k x s = failed_serves n cause.BadCode x

@@ -119,7 +119,9 @@ created_at_keeps r name n (Some a) x =
 
 created_with_keeps : (procedure : Option ℕ) (r : Reference) (n : ℕ) (x : PlainStore) → (objects.created_with procedure r n x).program ≡ x.program
 created_with_keeps None r n x = created_keeps r n x
-created_with_keeps (Some name) r n x = created_at_keeps r name n (top_activation x.frames) x
+created_with_keeps (Some name) r n x =
+    kept_if x.program (nat_lt (length x.objects) max_objects) (created_at r name n (top_activation x.frames) x) (failed cause.TooManyObjects x)
+    (created_at_keeps r name n (top_activation x.frames) x) refl
 
 created_of_keeps : (o : Option ℕ) (h : ℕ) (procedure : Option ℕ) (n : ℕ) (x : PlainStore) → (objects.created_of o h procedure n x).program ≡ x.program
 created_of_keeps None h procedure n x = refl

@@ -1,11 +1,11 @@
 -- What the creation of an object of the same handler makes of a store, and what it asks.
-use Rattle.std.specs.Prelude.{ℕ, ◌+◌, Option, Some, None, length, min}
+use Rattle.std.specs.Prelude.{ℕ, ◌+◌, Option, Some, None, length, min, nat_lt, if◌then◌else◌}
 use Rattle.sc_model.specs.declared.cause.Cause.TheVariants as cause
 use Rattle.sc_region.specs.declared.job.Want.{Want}
 use Rattle.sc_region.specs.declared.job.Want.TheVariants as want
 use Rattle.sc_region.specs.declared.value.Reference.{Reference}
 use Rattle.sc_region.specs.Frames.{top_activation}
-use Rattle.sc_region.specs.Stores.{PlainStore, failed, next_reference}
+use Rattle.sc_region.specs.Stores.{PlainStore, failed, max_objects, next_reference}
 use Rattle.sc_interp.specs.Creating.{created, created_by}
 use Rattle.sc_interp.specs.Entering.{asks_beginning}
 use Rattle.sc_play.specs.Operands.{class_number}
@@ -14,10 +14,14 @@ use Rattle.sc_play.specs.Operands.{class_number}
 abbrev pub nearest_reference : ℕ → ℕ → PlainStore → Reference
 nearest_reference h class x = record { handler = h; number = min (length x.objects) 4294967294 + 1; class = class }
 
+-- by the procedure of the name; where there are too many objects it fails for that, whatever the procedure is
+abbrev pub created_by_name : Reference → ℕ → ℕ → PlainStore → PlainStore
+created_by_name r name n x = if nat_lt (length x.objects) max_objects then created_by r name n x else failed cause.TooManyObjects x
+
 -- by the procedure of the name, or without one
 abbrev pub created_with : Option ℕ → Reference → ℕ → PlainStore → PlainStore
 created_with None r n x = created r n x
-created_with (Some name) r n x = created_by r name n x
+created_with (Some name) r n x = created_by_name r name n x
 
 abbrev pub created_of : Option ℕ → ℕ → Option ℕ → ℕ → PlainStore → PlainStore
 created_of None h procedure n x = failed cause.BadCode x

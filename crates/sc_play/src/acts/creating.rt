@@ -1,14 +1,20 @@
 //! Creations of objects of this handler, by the number of their class.
 ghost use Rattle.std.specs.Prelude.{◌≡◌, IfOk, OnOk, OnErr};
+ghost use Rattle.sc_region.specs.Frames.{top_activation};
 ghost use Rattle.sc_region.specs.Stores.{next_reference};
+ghost use Rattle.sc_interp.specs.Entering.{asks_beginning};
 ghost use Rattle.sc_interp.specs.Turning.{unless_failed};
-ghost use Rattle.sc_play.specs.CreatingObjects.{asks_created, created_with, nearest_reference, object_created};
+ghost use Rattle.sc_play.specs.CreatingObjects.{asks_created, created_by_name, created_with, nearest_reference, object_created};
 
 use crate::acts::numbers::class_number;
 use crate::acts::stages::misfit;
 use sc_interp::turning::{create, create_by};
+use sc_model::Cause;
 use sc_region::{Reference, Store, Want};
 use std::alloc::AllocError;
+
+/// How many objects a handler has at most.
+const MAX_OBJECTS: usize = 65_536;
 
 /// The reference to the next object of this handler; where no number can say which it is, to the last that one can.
 fn next_reference(store: &Store<'_>, handler: u16, class: u8) -> Reference
@@ -19,6 +25,26 @@ fn next_reference(store: &Store<'_>, handler: u16, class: u8) -> Reference
         handler,
         number,
         class,
+    }
+}
+
+/// An object is created by the procedure of the name. Where the handler has too many objects it fails for that, whatever
+/// the procedure is. Err where there is no memory; nothing has changed then.
+fn create_by_name(
+    store: &mut Store<'_>,
+    object: Reference,
+    name: usize,
+    count: usize,
+) -> Result<Want, AllocError>
+    ensures ok { OnOk result (store.new ≡ created_by_name object name count store.old) }
+    ensures want { IfOk result (λ asked. asked ≡ unless_failed store.new.failure (asks_beginning store.new.program (top_activation store.new.frames))) }
+    ensures err { OnErr result (store.new ≡ store.old) }
+{
+    if store.object_count() < MAX_OBJECTS {
+        create_by(store, object, name, count)
+    } else {
+        store.fail(Cause::TooManyObjects);
+        Ok(Want::Fail(Cause::TooManyObjects))
     }
 }
 
@@ -38,7 +64,7 @@ fn create_by_number(
     let object = next_reference(store, handler, class);
     match procedure {
         None => create(store, object, count),
-        Some(name) => create_by(store, object, name, count),
+        Some(name) => create_by_name(store, object, name, count),
     }
 }
 

@@ -1,9 +1,9 @@
 use Rattle.std.proofs.Common.{◌≡◌, OnOk, sym, ap, ◌∙◌, subst}
 use Rattle.sc_region.specs.declared.value.Reference.{Reference}
 use Rattle.sc_region.specs.Stores.{PlainStore, next_reference}
-use Rattle.sc_interp.specs.Creating.{created, created_by}
-use Rattle.sc_play.specs.CreatingObjects.{created_with}
-use Rattle.sc_play.proofs.Created.{created_nearest, created_by_nearest}
+use Rattle.sc_interp.specs.Creating.{created}
+use Rattle.sc_play.specs.CreatingObjects.{created_by_name, created_with}
+use Rattle.sc_play.proofs.Created.{created_nearest, created_by_name_nearest}
 use Rattle.sc_play.proofs.acts.creating.create_by_number.Goals as goal
 
 pub returns-in-None-clause-ok : goal.returns-in-None-clause-ok
@@ -18,7 +18,7 @@ pub returns-in-Some-clause-ok : goal.returns-in-Some-clause-ok
 returns-in-Some-clause-ok c =
     let x = c.args.store.now in
     let next = next_reference c.args.handler c.args.class x in
-    subst (λ (z : PlainStore). OnOk c.create_by.result (c.create_by.new.store ≡ z))
-    (ap (λ (r : Reference). created_by r c.in-Some.name c.args.count x) c.next_reference-object.ensures
-    ∙ created_by_nearest c.args.handler c.args.class c.in-Some.name c.args.count x
-    ∙ ap (λ o. created_with o next c.args.count x) (sym c.in-Some.is)) c.create_by.ensures.ok
+    subst (λ (z : PlainStore). OnOk c.create_by_name.result (c.create_by_name.new.store ≡ z))
+    (ap (λ (r : Reference). created_by_name r c.in-Some.name c.args.count x) c.next_reference-object.ensures
+    ∙ created_by_name_nearest c.args.handler c.args.class c.in-Some.name c.args.count x
+    ∙ ap (λ o. created_with o next c.args.count x) (sym c.in-Some.is)) c.create_by_name.ensures.ok
