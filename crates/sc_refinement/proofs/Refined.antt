@@ -98,7 +98,7 @@ module _ (picks : PicksWhereTurns) (halves : HalvesWhereReached) (remembered : E
   pub world_runs_as_machine : WorldRunsAsMachine
   world_runs_as_machine s root faultless well p v hs y program fits runs =
       let most : ℕ = most_handlers v in
-      stands_along s root p faultless well program fits.requests v (Placed s root faultless well p program fits most) (Needs s root faultless well p program fits most)
+      stands_along s root p faultless well program fits v (Placed s root faultless well p program fits most) (Needs s root faultless well p program fits most)
       (stores_turn s root faultless well p program fits most) (halves_meet s root faultless well p program fits most) (λ h. new_sound p) (followed s root faultless well p program fits most)
       (asked s root faultless well p program fits most) (kept s root faultless well p program fits most) (λ h k w stage past few. created most s h k w stage past few)
       (settled_here s root faultless well p program fits most) (end_there s root faultless well p program fits most) picks halves remembered hs y runs
