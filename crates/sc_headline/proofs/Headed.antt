@@ -49,10 +49,12 @@ replayed law near tells text root program version lines report statuses loaded r
 
 pub rounded : RoundsRunAsMachine → StandingWorldIsNear → WorldReportsAsMachine → RoundsAreTheMachines
 rounded law near tells text root program version limit left world report statuses loaded rounds none_refused leaves =
-    let found = law loaded.system root loaded.sound.faultless loaded.sound.well_formed program version limit left world loaded.is_program loaded.fits rounds none_refused in
-    (found.0, record {
-      system = loaded.system;
-      read = loaded.read;
-      sound = loaded.sound;
-      told = reported near tells loaded.system program (machine_after loaded.system root version found.0) world report statuses found.1 leaves;
-    })
+    let found = law loaded.system root loaded.sound.faultless loaded.sound.well_formed program version limit left world loaded.is_program loaded.fits rounds none_refused in (
+      found.0,
+      record {
+        system = loaded.system;
+        read = loaded.read;
+        sound = loaded.sound;
+        told = reported near tells loaded.system program (machine_after loaded.system root version found.0) world report statuses found.1 leaves;
+      },
+    )
