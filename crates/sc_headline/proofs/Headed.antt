@@ -1,20 +1,15 @@
 -- From the bytes of a source text to the state of the machine.
-use Rattle.std.proofs.Common.{◌≡◌, ℕ, List, ◌∙◌}
+use Rattle.std.proofs.Common.{ℕ, List, ◌∙◌}
 use Rattle.std.specs.List.{flat_map}
 use Rattle.sc_tree.specs.Plain.{System}
-use Rattle.sc_class.specs.ClassNames.{Root}
-use Rattle.sc_lockpass.specs.declared.version.Version.{Version}
-use Rattle.sc_audit.specs.declared.line.RecordLine.{RecordLine}
 use Rattle.sc_model.specs.declared.status.Status.{Status}
 use Rattle.sc_model.specs.Handlers.{World}
 use Rattle.sc_code.specs.declared.program.Image.{Image}
-use Rattle.sc_runtime.specs.Rounds.{Rounds}
-use Rattle.sc_runtime.specs.Turning.{Runs}
-use Rattle.sc_runtime.specs.Worlds.{PlainWorld, opened}
-use Rattle.sc_refinement.specs.Refining.{NoneRefused, RoundsRunAsMachine, StandingWorldIsNear, WorldHasHeadline, WorldReportsAsMachine, WorldRunsAsMachine}
+use Rattle.sc_runtime.specs.Worlds.{PlainWorld}
+use Rattle.sc_refinement.specs.Refining.{RoundsRunAsMachine, StandingWorldIsNear, WorldHasHeadline, WorldReportsAsMachine, WorldRunsAsMachine}
 use Rattle.sc_refinement.specs.Standing.{StandsFor}
-use Rattle.sc_execution.specs.Execution.{IsLoaded, IsReplay, Leaves, line_turns}
-use Rattle.sc_headline.specs.Headline.{Headline, IsMachineRun, IsReportOf, ReplaysAreTheMachines, RoundsAreTheMachines, StandsForReached, machine_after}
+use Rattle.sc_execution.specs.Execution.{Leaves, line_turns}
+use Rattle.sc_headline.specs.Headline.{Headline, IsReportOf, ReplaysAreTheMachines, RoundsAreTheMachines, machine_after}
 
 pub headed : WorldHasHeadline → Headline
 headed law text root program version handlers world loaded runs =
