@@ -112,7 +112,7 @@ module _ (s : System) (pure : RoutineName → Bool) (tells : IsPurity s pure) (r
   have_classes p fit = each_more (OperandFits s me.handler p.environment) (HasClass s)
       (λ u f q e. (subst (λ (v : Value). Fits s me.handler (handler_named p.environment) v u.type) e f).0) p.values fit
 
-  clause_next : (p : Point) → StandsSo s pure r me [] p → StandsInClauses s pure r.contract n [] p → ClauseStep s pure r.contract n (step s me p)
+  pub clause_next : (p : Point) → StandsSo s pure r me [] p → StandsInClauses s pure r.contract n [] p → ClauseStep s pure r.contract n (step s me p)
   clause_next p f z = clause_step s pure r.contract n me (typed_there (subst (λ (ns : Entities). are_typed ns ≡ true) z.names_are (all_typed p.environment)))
       pure_versions same_kind run.kept.heir p z (have_classes p f.0.values_fit)
 

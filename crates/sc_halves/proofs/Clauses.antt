@@ -53,7 +53,7 @@ use Rattle.sc_values.specs.Typed.{context_in, stacked}
 use Rattle.sc_values.proofs.Names.{FeatureMeant, feature_meant, same_meaning, named_alike, unary_there, binary_there}
 use Rattle.sc_laws.proofs.Machine.{contains_first, contains_later}
 use Rattle.sc_halves.specs.Entries.{HasStarted}
-use Rattle.sc_halves.specs.Clauses.{IsOfType, AreOfTypes, IsPureIfRoutine, InClauses, StandsInClauses, RunsPure, ClauseAct, ClauseStep}
+use Rattle.sc_halves.specs.Clauses.{IsOfType, AreOfTypes, IsPureIfRoutine, InClauses, StandsInClauses, RunsPure, RunsPureIfRoutine, ClauseAct, ClauseStep}
 use Rattle.sc_halves.specs.Clauses as clauses
 
 no : {A : Type 0} → false ≡ true → A
@@ -514,11 +514,15 @@ module _ (s : System) (pure : RoutineName → Bool) (t : Text) (n : Entities) (m
           after,
         )
 
-    asks_fine : (r : Reference) (fs : List FormalType) (g : Tag) → a.tag ≡ g → Fine (requests r g x acs (Some c) (passes_rights fs acs) p)
-    asks_fine r fs tag.Own e = tt
-    asks_fine r fs (tag.With y) e = (none_passed fs ts acs are (alone (ap is_foreign e)), after)
-    asks_fine r fs tag.Any e = (none_passed fs ts acs are (alone (ap is_foreign e)), after)
-    asks_fine r fs tag.None e = (none_passed fs ts acs are (alone (ap is_foreign e)), after)
+    versions_pure : (r : Reference) → class_conforms s (class.Declared r.class) a.class ≡ true → RunsPureIfRoutine s pure r x
+    versions_pure r conf g e i = pure_versions r.class a.class x f g conf there e (pure_routine a f (same_kind r.class a.class x f g conf there e i) is)
+
+    asks_fine : (r : Reference) → class_conforms s (class.Declared r.class) a.class ≡ true → (fs : List FormalType) (g : Tag) → a.tag ≡ g →
+        Fine (requests r g x acs (Some c) (passes_rights fs acs) p)
+    asks_fine r conf fs tag.Own e = tt
+    asks_fine r conf fs (tag.With y) e = (none_passed fs ts acs are (alone (ap is_foreign e)), after, versions_pure r conf)
+    asks_fine r conf fs tag.Any e = (none_passed fs ts acs are (alone (ap is_foreign e)), after, versions_pure r conf)
+    asks_fine r conf fs tag.None e = (none_passed fs ts acs are (alone (ap is_foreign e)), after, versions_pure r conf)
 
     on_fine : (v : Value) → ((r : Reference) → v ≡ Attached r → class_conforms s (class.Declared r.class) a.class ≡ true) → Fine (calls_on s me x v a (Some f) acs p)
     on_fine Void conf = tt
@@ -529,7 +533,7 @@ module _ (s : System) (pure : RoutineName → Bool) (t : Text) (n : Entities) (m
         (if_fine (r.handler == me.handler) (calls_version r x acs (Some c) (object_numbered r.number p.objects) (version_of s r.class x) p)
         (requests r a.tag x acs (Some c) (passes_rights (signature_of s a f).formals acs) p)
         (versions_fine r (conf r refl) (object_numbered r.number p.objects) (version_of s r.class x) refl)
-        (asks_fine r (signature_of s a f).formals a.tag refl))
+        (asks_fine r (conf r refl) (signature_of s a f).formals a.tag refl))
 
     -- the target's value lies under the actuals
     target_fine : (v : Operand) → IsOfType a v → HasClass s v → Fine (calls_on s me x v.value v.type (feature_named s v.type.class x) acs p)

@@ -1,16 +1,16 @@
-mod Bodies
-mod Callers
-mod Calming
-mod Clausal
-mod Clauses
-mod Fine
-mod Granting
-mod Guarding
-mod Keeping
-mod Linking
-mod Purely
-mod Quiet
-mod Reaching
-mod Recalling
-mod Remembering
-mod Unstarted
+pub mod Bodies
+pub mod Callers
+pub mod Calming
+pub mod Clausal
+pub mod Clauses
+pub mod Fine
+pub mod Granting
+pub mod Guarding
+pub mod Keeping
+pub mod Linking
+pub mod Purely
+pub mod Quiet
+pub mod Reaching
+pub mod Recalling
+pub mod Remembering
+pub mod Unstarted

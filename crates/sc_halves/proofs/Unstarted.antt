@@ -292,7 +292,7 @@ module _ (s : System) (pure : RoutineName → Bool) (h : ℕ) (w : World) where
         is,
       )
   acts_stood most (Requests t x us gives passing) f below v o at (inl i) back is = request_stood t x us gives passing f below v o (inl i) is
-  acts_stood most (Requests t x us gives passing) f below v o at (inr (lends, z)) back is = request_stood t x us gives passing f below v o (inr z) is
+  acts_stood most (Requests t x us gives passing) f below v o at (inr (lends, z, more)) back is = request_stood t x us gives passing f below v o (inr z) is
   acts_stood most (Refuses k) f below v o at z back is = clause_stood (verdict_on f k) f below v o is
   acts_stood most Opens f below v o at (inl i) back is = stack_stood (record f { stage = ReservesBlock } ∷ below) v o (inl i, is)
   acts_stood most Opens f below v o at (inr z) back is = absurd z
@@ -310,8 +310,8 @@ module _ (s : System) (pure : RoutineName → Bool) (h : ℕ) (w : World) where
   at_point (CreatesHandler class procedure us t passing) f p z = z
   at_point (Enters c me x us gives) f p (runs, (a, e, z)) =
       (runs, (a, e, record { types = z.types; text_is = z.text_is; names_are = z.names_are; left = z.left; values = z.values }))
-  at_point (Requests t x us gives passing) f p (lends, (a, e, z)) =
-      (lends, (a, e, record { types = z.types; text_is = z.text_is; names_are = z.names_are; left = z.left; values = z.values }))
+  at_point (Requests t x us gives passing) f p (lends, (a, e, z), more) =
+      (lends, (a, e, record { types = z.types; text_is = z.text_is; names_are = z.names_are; left = z.left; values = z.values }), more)
   at_point (Refuses k) f p z = z
   at_point Opens f p z = z
   at_point Leaves f p z = z

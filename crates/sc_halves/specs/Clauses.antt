@@ -31,7 +31,7 @@ use Rattle.sc_model.specs.Tasks.{Task, Eval, ApplyUnary, EvalRight, ApplyBinary,
 use Rattle.sc_model.specs.Values.{Reference, Value, Operand}
 use Rattle.sc_values.specs.Fitting.{ActualsFit, coming_to}
 use Rattle.sc_values.specs.Points.{Each}
-use Rattle.sc_values.specs.Places.{of_actuals}
+use Rattle.sc_values.specs.Places.{is_routine, of_actuals}
 use Rattle.sc_values.specs.Steps.{IsThereIfOwn, StandsSo, ValuesDo}
 use Rattle.sc_values.specs.Typed.{context_in, stacked}
 use Rattle.sc_halves.specs.Entries.{HasStarted}
@@ -89,10 +89,16 @@ pub record StandsInClauses (s : System) (pure : RoutineName → Bool) (t : Text)
 abbrev pub RunsPure : System → (RoutineName → Bool) → Reference → List ℕ → Type 0
 RunsPure s pure o x = (f : DeclaredFeature) → version_of s o.class x ≡ Some f → pure (routine_of f) ≡ true
 
--- It calls what contracts may call, lends nothing with a request, and does nothing else until it starts, is refused or fails.
+-- each such version that is a routine is one
+abbrev pub RunsPureIfRoutine : System → (RoutineName → Bool) → Reference → List ℕ → Type 0
+RunsPureIfRoutine s pure o x =
+    (f : DeclaredFeature) → version_of s o.class x ≡ Some f → is_routine f.feature.kind ≡ true → pure (routine_of f) ≡ true
+
+-- It calls and asks for what contracts may call, lends nothing with a request, and does nothing else until it starts, is refused or fails.
 abbrev pub ClauseAct : System → (RoutineName → Bool) → Text → Entities → Act → Point → Type 0
 ClauseAct s pure t n (Enters c o x us gives) p = RunsPure s pure o x × ((a : EntityType) × (gives ≡ Some a) × StandsInClauses s pure t n (a ∷ []) p)
-ClauseAct s pure t n (Requests o x us gives passes) p = (passes ≡ false) × ((a : EntityType) × (gives ≡ Some a) × StandsInClauses s pure t n (a ∷ []) p)
+ClauseAct s pure t n (Requests o x us gives passes) p =
+    (passes ≡ false) × ((a : EntityType) × (gives ≡ Some a) × StandsInClauses s pure t n (a ∷ []) p) × RunsPureIfRoutine s pure o x
 ClauseAct s pure t n Starts p = HasStarted p.tasks
 ClauseAct s pure t n (Refuses k) p = Unit {0}
 ClauseAct s pure t n (Fails why) p = Unit {0}
