@@ -1,1 +1,4 @@
 pub mod PointsEntries
+pub mod PointsKinds
+pub mod PointsLists
+pub mod PointsSteps

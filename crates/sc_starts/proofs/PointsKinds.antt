@@ -1,0 +1,166 @@
+-- What a step of a task without `old` is not: the start of a body, a refusal, or the exit.
+use Rattle.std.proofs.Common.{ℕ, zero, suc, ◌≡◌, List, [], ◌∷◌, ◌++◌, Option, Some, None, refl, sym, ap, subst, ◌∙◌, inr}
+use Rattle.sc_tree.specs.Plain as tree
+use Rattle.sc_tree.specs.Plain.{System, Clause, CreationCall, Head, Variable, Named, ResultVariable, Expr, Exprs, no_exprs, expr_then, Instr, Instrs, no_instrs, instr_then, Branches, no_branches, branch_then}
+use Rattle.sc_model.specs.Moves.{first_visible, moves, step, then_go}
+use Rattle.sc_model.specs.Sizes.{size}
+use Rattle.sc_model.specs.Steps.{Act, Starts, Refuses, Exits, Point, Step, Goes, Does}
+use Rattle.sc_model.specs.Tasks.{Task, Do, In, Declare, Forget, Eval, ApplyUnary, EvalRight, ApplyBinary, Conclude, Bind, CallUnqualified, CallQualified, AssignTo, Print, Choose, Repeat, EndLoop, Checked, Require, Required, KeepOld, Ensured, CreateBy, Open, Leave}
+use Rattle.sc_model.specs.Values.{Reference}
+use Rattle.sc_values.specs.Points.{Each}
+use Rattle.sc_settled.proofs.Tasks.{Behind, OfTask, OfTasks, class_behind}
+use Rattle.sc_settled.proofs.Texts.{OfExpr, OfExprs, OfCall, OfClauses, OfHeads, OfVariable, OfInstr, OfInstrs, OfBranches}
+use Rattle.sc_settled.proofs.Walking.{MayAssign, SteppedSo, moves_so}
+use Rattle.sc_evaluation.specs.Evaluating.{extended, extended_step}
+use Rattle.sc_evaluation.specs.Laws.{StepExtends}
+use Rattle.sc_evaluation.specs.Texts.{IsOldless}
+use Rattle.sc_starts.proofs.PointsLists.{append_nil}
+
+-- ---- any text
+
+abbrev Any : List ℕ → Type 0
+Any x = Unit {0}
+
+mutual
+  any_expr : (e : Expr) → OfExpr Any e
+  any_expr (tree.Call q tree.no_target x es) = (tt, any_exprs es)
+  any_expr (tree.Call q (tree.target a) x es) = (any_expr a, any_exprs es)
+  any_expr (tree.Unary q op a) = any_expr a
+  any_expr (tree.Binary q op a b) = (any_expr a, any_expr b)
+  any_expr (tree.ObjectTest q d a x) = any_expr a
+  any_expr (tree.Integer q z) = tt
+  any_expr (tree.Boolean q b) = tt
+  any_expr (tree.Void q) = tt
+  any_expr (tree.Current q) = tt
+  any_expr (tree.Result q) = tt
+
+  any_exprs : (es : Exprs) → OfExprs Any es
+  any_exprs no_exprs = tt
+  any_exprs (expr_then e es) = (any_expr e, any_exprs es)
+
+any_clauses : (ks : List Clause) → OfClauses Any ks
+any_clauses [] = tt
+any_clauses (k ∷ ks) = (any_expr k.condition, any_clauses ks)
+
+any_heads : (ds : List Head) → OfHeads Any ds
+any_heads [] = tt
+any_heads (d ∷ ds) = (any_expr d.value, any_heads ds)
+
+any_call : (k : Option CreationCall) → OfCall Any k
+any_call None = tt
+any_call (Some k) = any_exprs k.actuals
+
+any_variable : (v : Variable) → OfVariable Any v
+any_variable (Named x) = tt
+any_variable (ResultVariable q) = tt
+
+mutual
+  any_instr : (i : Instr) → OfInstr Any Any (Unit {0}) i
+  any_instr (tree.Assign q v e) = (any_variable v, any_expr e)
+  any_instr (tree.PrintText q text) = tt
+  any_instr (tree.CallRoutine q tree.no_target x es) = (tt, (tt, any_exprs es))
+  any_instr (tree.CallRoutine q (tree.target a) x es) = (tt, (any_expr a, any_exprs es))
+  any_instr (tree.Create q c) = (tt, (any_variable c.variable, any_call c.call))
+  any_instr (tree.If q e body bs other) = (any_expr e, (any_instrs body, (any_branches bs, any_instrs other)))
+  any_instr (tree.Loop q initial e body) = (any_instrs initial, (any_expr e, any_instrs body))
+  any_instr (tree.Check q ks) = any_clauses ks
+  any_instr (tree.Block q ds body) = (tt, (any_heads ds, any_instrs body))
+
+  any_instrs : (is : Instrs) → OfInstrs Any Any (Unit {0}) is
+  any_instrs no_instrs = tt
+  any_instrs (instr_then i is) = (any_instr i, any_instrs is)
+
+  any_branches : (bs : Branches) → OfBranches Any Any (Unit {0}) bs
+  any_branches no_branches = tt
+  any_branches (branch_then e body bs) = (any_expr e, (any_instrs body, any_branches bs))
+
+-- ---- any tasks
+
+module _ (K : Type 0) where
+  any_task : (t : Task) → IsOldless t → OfTask Any Any (Unit {0}) K t
+  any_task (Do body) o = any_instrs body
+  any_task (Eval i e) o = any_expr e
+  any_task (EvalRight op i e) o = any_expr e
+  any_task (CallUnqualified x n) o = tt
+  any_task (AssignTo v) o = any_variable v
+  any_task Print o = tt
+  any_task (Choose depth body bs other) o = (any_instrs body, (any_branches bs, any_instrs other))
+  any_task (Repeat e body) o = (any_expr e, any_instrs body)
+  any_task (EndLoop e body) o = (any_expr e, any_instrs body)
+  any_task (Require ks) o = absurd o
+  any_task (Required k) o = absurd o
+  any_task (CreateBy v k n) o = (tt, any_variable v)
+  any_task (Open xs body) o = (tt, any_instrs body)
+  any_task (Leave depth) o = tt
+  any_task (In text) o = tt
+  any_task (Declare locals) o = tt
+  any_task (Forget depth) o = tt
+  any_task (ApplyUnary op) o = tt
+  any_task (ApplyBinary op) o = tt
+  any_task Conclude o = tt
+  any_task (Bind d x) o = tt
+  any_task (CallQualified x n) o = tt
+  any_task Checked o = tt
+  any_task KeepOld o = tt
+  any_task Ensured o = tt
+
+  module _ (End : Type 0) (F : List Task → Type 0) where
+    abbrev AnyTasks : ℕ → List Task → Type 0
+    AnyTasks k ts = OfTasks (λ k. Any) (λ k. Any) (Unit {0}) K End F k ts
+
+    behind_any : (t : Task) (ts : List Task) (X : Type 0) → IsOldless t → X → Behind F t ts X
+    behind_any (Require ks) ts X o x = absurd o
+    behind_any t ts X o x = x
+
+    any_tasks : (ts rest : List Task) → Each IsOldless ts → ((k : ℕ) → AnyTasks k rest) → (k : ℕ) → AnyTasks k (ts ++ rest)
+    any_tasks [] rest o l k = l k
+    any_tasks (t ∷ ts) rest o l k =
+        (any_task t o.0, behind_any t (ts ++ rest) (AnyTasks (class_behind k t) (ts ++ rest)) o.0 (any_tasks ts rest o.1 l (class_behind k t)))
+
+-- ---- steps
+
+any_objects : (s : System) (me : Reference) → MayAssign s me (λ k. Any) (λ os. Unit {0})
+any_objects s me k x f d v objects a there kind o = tt
+
+-- It starts no body, refuses nothing and doesn't exit.
+abbrev pub IsWithin : Step → Type 0
+IsWithin (Does Starts q) = ⊥
+IsWithin (Does (Refuses k) q) = ⊥
+IsWithin (Does Exits q) = ⊥
+IsWithin st = Unit {0}
+
+module _ (extends : StepExtends) (s : System) (me : Reference) (p : Point) (t : Task) (rest : List Task) (e : p.tasks ≡ t ∷ rest) (o : Each IsOldless p.tasks) where
+  starts_none : SteppedSo s me (λ k. Any) (λ k. Any) (Unit {0}) ⊥ (Unit {0}) (λ ts. ⊥) (λ os. Unit {0}) (any_objects s me) (moves s me p)
+  starts_none = moves_so s me (λ k. Any) (λ k. Any) (Unit {0}) ⊥ (Unit {0}) (λ ts. ⊥) (λ os. Unit {0}) (any_objects s me) p tt
+      (subst (λ ts. OfTasks (λ k. Any) (λ k. Any) (Unit {0}) ⊥ (Unit {0}) (λ ts. ⊥) p.text.class ts) (append_nil p.tasks)
+      (any_tasks ⊥ (Unit {0}) (λ ts. ⊥) p.tasks [] o (λ k. tt) p.text.class))
+
+  -- a clause stands behind it
+  abbrev Longer : Point
+  Longer = extended p.olds (Require [] ∷ []) p
+
+  exits_never : SteppedSo s me (λ k. Any) (λ k. Any) (Unit {0}) (Unit {0}) ⊥ (λ ts. Unit {0}) (λ os. Unit {0}) (any_objects s me) (moves s me Longer)
+  exits_never = moves_so s me (λ k. Any) (λ k. Any) (Unit {0}) (Unit {0}) ⊥ (λ ts. Unit {0}) (λ os. Unit {0}) (any_objects s me) Longer tt
+      (any_tasks (Unit {0}) ⊥ (λ ts. Unit {0}) p.tasks (Require [] ∷ []) o (λ k. ((tt, tt), inr tt)) p.text.class)
+
+  pub step_is_within : IsWithin (step s me p)
+  step_is_within = by (step s me p) refl
+    where
+      first : (x : Step) → step s me p ≡ x →
+          SteppedSo s me (λ k. Any) (λ k. Any) (Unit {0}) ⊥ (Unit {0}) (λ ts. ⊥) (λ os. Unit {0}) (any_objects s me) (then_go x (first_visible (size p.tasks) s me))
+      first x i = subst (λ x. SteppedSo s me (λ k. Any) (λ k. Any) (Unit {0}) ⊥ (Unit {0}) (λ ts. ⊥) (λ os. Unit {0}) (any_objects s me)
+          (then_go x (first_visible (size p.tasks) s me))) i starts_none
+
+      longer : (x : Step) → step s me p ≡ x →
+          SteppedSo s me (λ k. Any) (λ k. Any) (Unit {0}) (Unit {0}) ⊥ (λ ts. Unit {0}) (λ os. Unit {0}) (any_objects s me)
+          (then_go (extended_step p.olds (Require [] ∷ []) x) (first_visible (size Longer.tasks) s me))
+      longer x i = subst (λ x. SteppedSo s me (λ k. Any) (λ k. Any) (Unit {0}) (Unit {0}) ⊥ (λ ts. Unit {0}) (λ os. Unit {0}) (any_objects s me)
+          (then_go x (first_visible (size Longer.tasks) s me)))
+          (extends s me p.olds (Require [] ∷ []) p t rest e (subst (Each IsOldless) e o).0 ∙ ap (extended_step p.olds (Require [] ∷ [])) i) exits_never
+
+      by : (x : Step) → step s me p ≡ x → IsWithin x
+      by (Does Starts q) i = (first (Does Starts q) i).0
+      by (Does (Refuses k) q) i = (first (Does (Refuses k) q) i).0
+      by (Does Exits q) i = (longer (Does Exits q) i).0
+      by (Goes q) i = tt
+      by (Does a q) i = tt
