@@ -1,3 +1,4 @@
+pub mod PointsClauses
 pub mod PointsEntries
 pub mod PointsKinds
 pub mod PointsLists
