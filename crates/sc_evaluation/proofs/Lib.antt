@@ -1,0 +1,3 @@
+pub mod Extending
+pub mod Holding
+pub mod Locally

@@ -1,0 +1,3 @@
+pub mod Evaluating
+pub mod Laws
+pub mod Texts

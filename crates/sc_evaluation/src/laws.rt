@@ -1,0 +1,1 @@
+//! Laws of evaluations, each the contract of a function that does nothing.
