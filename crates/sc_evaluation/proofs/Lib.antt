@@ -1,3 +1,4 @@
 pub mod Extending
 pub mod Holding
 pub mod Locally
+pub mod Oldless

@@ -85,13 +85,13 @@ pub record StaysInContract (rest : List Task) (p q : Point) : Type 0 where
   pub result_is : q.result ≡ p.result
   pub objects_are : q.objects ≡ p.objects
 
--- So it is after the step, if it isn't a failure or a refusal. A contract does nothing that is seen but calls, and the start.
+-- So it is after the step, if it isn't a failure. A contract does nothing that is seen but calls, the start and a refusal.
 abbrev pub StepsInContract : List Task → Point → Step → Type 0
 StepsInContract rest p (Goes q) = StaysInContract rest p q
 StepsInContract rest p (Does (Enters c o x us g) q) = StaysInContract rest p q
 StepsInContract rest p (Does (Requests o x us g passes) q) = StaysInContract rest p q
 StepsInContract rest p (Does Starts q) = StaysInContract rest p q
-StepsInContract rest p (Does (Refuses k) q) = Unit {0}
+StepsInContract rest p (Does (Refuses k) q) = StaysInContract rest p q
 StepsInContract rest p (Does (Fails why) q) = Unit {0}
 StepsInContract rest p (Does a q) = ⊥
 
