@@ -1,3 +1,4 @@
+pub mod Contracts
 pub mod Extending
 pub mod Holding
 pub mod Locally

@@ -1,5 +1,5 @@
 -- Tasks without `old` leave such tasks.
-use Rattle.std.proofs.Common.{arith, ◌≡◌, ◌+◌, ℕ, ℤ, List, [], ◌∷◌, ◌++◌, Option, Some, None, Ok, Err, Bool, true, false, refl, subst, sym, ap, append_assoc}
+use Rattle.std.proofs.Common.{arith, ◌≡◌, ◌+◌, ℕ, ℤ, List, [], ◌∷◌, ◌++◌, Option, Some, None, Ok, Err, Bool, true, false, refl, subst, sym}
 use Rattle.std.specs.Prelude.{map, if◌then◌else◌, length, nat_lt, ◌==◌}
 use Rattle.sc_formula.specs.declared.arithmetic.ArithmeticFault.TheVariants as fault
 use Rattle.sc_formula.specs.declared.arithmetic.ArithmeticOperator.{ArithmeticOperator}
@@ -31,7 +31,7 @@ use Rattle.sc_model.specs.Routines.{place_in, version_of}
 use Rattle.sc_model.specs.Olds.{olds_in, olds_of, olds_of_each}
 use Rattle.sc_model.specs.Limits.{max_objects}
 use Rattle.sc_model.specs.Tasks.{Task, Do, In, Declare, Forget, Eval, ApplyUnary, EvalRight, ApplyBinary, Conclude, Bind, CallUnqualified, CallQualified, AssignTo, Print, Choose, Repeat, EndLoop, Checked, Require, Required, KeepOld, Ensured, CreateBy, Open, Leave, evals, head_evals, checks}
-use Rattle.sc_model.specs.Steps.{Point, Step, fails, gives, comes, reads_as, reads_attribute, popped, forgets}
+use Rattle.sc_model.specs.Steps.{Point, Step, fails, gives, reads_as, reads_attribute, popped, forgets}
 use Rattle.sc_model.specs.Calls.{given_by, passes_rights, enters_unqualified, calls_own, calls_unqualified, calls_kind, calls_version, requests, calls_object, calls_on, calls_qualified}
 use Rattle.sc_model.specs.Creations.{creates_object, creates_here, creates_at, creates_as, creates, assigned_at}
 use Rattle.sc_model.specs.ObjectTests.{is_tested, binds_if, binds}
@@ -42,7 +42,6 @@ use Rattle.sc_evaluation.specs.Laws.{StepOldless, point_after}
 use Rattle.sc_values.specs.Points.{Each}
 use Rattle.sc_values.proofs.Lists.{each_append}
 use Rattle.sc_evaluation.specs.Texts.{HasNoOld, HaveNoOld, ClauseHasNoOld, HeadHasNoOld, CallHasNoOld, OldlessInstr, OldlessInstrs, OldlessBranches, IsOldless}
-
 
 left_none : {A : Type 0} (xs ys : List A) → length (xs ++ ys) ≡ 0 → length xs ≡ 0
 left_none [] ys e = refl
@@ -268,10 +267,11 @@ module _ (s : System) (me : Reference) where
   evaluate_l i (tree.Current q) p o l = l
   evaluate_l i (tree.Result q) p o l = result_l p.result p.text.result p l
   evaluate_l i (tree.Call q tree.no_target x es) p o l = begins_name_l x.text (binding_named x.text p.environment) i es p o l
-  evaluate_l i (tree.Call q (tree.target a) x es) p o l =
-      (left_none (olds_of a) (olds_of_each es) o,
-      behind_these (evals (i + olds_in a) es) (CallQualified x.text (count es)) p.tasks
-      (evals_oldless (i + olds_in a) es (right_none (olds_of a) (olds_of_each es) o)) tt l)
+  evaluate_l i (tree.Call q (tree.target a) x es) p o l = (
+    left_none (olds_of a) (olds_of_each es) o,
+    behind_these (evals (i + olds_in a) es) (CallQualified x.text (count es)) p.tasks
+        (evals_oldless (i + olds_in a) es (right_none (olds_of a) (olds_of_each es) o)) tt l,
+  )
   evaluate_l i (tree.Unary q unary.Old a) p o l = absurd (omega (arith, o))
   evaluate_l i (tree.Unary q unary.Not a) p o l = (o, (tt, l))
   evaluate_l i (tree.Unary q unary.Plus a) p o l = (o, (tt, l))
