@@ -33,7 +33,7 @@ within_then : {h : RoutineContext} {a b c : Site} → Within h a b → Part h b 
 within_then itself p = inside p itself
 within_then (inside q w) p = inside q (within_then w p)
 
-each_from : {A : Type 0} (P : A → Type 0) (xs : List A) → ((x : A) → Contains xs x → P x) → Each P xs
+pub each_from : {A : Type 0} (P : A → Type 0) (xs : List A) → ((x : A) → Contains xs x → P x) → Each P xs
 each_from P [] f = tt
 each_from P (x ∷ xs) f = (f x (zero, omega arith, refl), each_from P xs (λ y i. f y (suc i.0, omega (arith, i.1), i.2)))
 

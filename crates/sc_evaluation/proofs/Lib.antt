@@ -5,3 +5,4 @@ pub mod Holding
 pub mod Locally
 pub mod Oldless
 pub mod Stems
+pub mod Testless
