@@ -1,3 +1,4 @@
+pub mod PointsBound
 pub mod PointsClauses
 pub mod PointsEntries
 pub mod PointsKinds
