@@ -1,3 +1,5 @@
+pub mod PointsPure
+pub mod PointsFunctions
 pub mod PointsBound
 pub mod PointsClauses
 pub mod PointsEntries

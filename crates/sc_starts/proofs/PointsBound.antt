@@ -70,7 +70,7 @@ take_past [] ys m = ap (λ (n : ℕ). take n ys) (let e : 0 + m ≡ m = omega ar
 take_past (x ∷ xs) ys m = ap (λ (n : ℕ). take n (x ∷ xs ++ ys)) (let e : suc (length xs) + m ≡ suc (length xs + m) = omega arith in e)
     ∙ ap (λ zs. x ∷ zs) (take_past xs ys m)
 
-take_these : {A : Type 0} (xs ys : List A) → take (length xs) (xs ++ ys) ≡ xs
+pub take_these : {A : Type 0} (xs ys : List A) → take (length xs) (xs ++ ys) ≡ xs
 take_these [] ys = refl
 take_these (x ∷ xs) ys = ap (λ zs. x ∷ zs) (take_these xs ys)
 
@@ -417,7 +417,7 @@ module _ (contract : StepOfContract) (s : System) (me : Reference) (bs : List Bi
   -- ---- evaluations
 
   module _ (M : ℕ → Type 0) (O : ℕ → List Object) where
-    after_firm : (p : Point) → Has p.environment × Left p.tasks → (x : Step) → step s me p ≡ x → Firm x
+    pub after_firm : (p : Point) → Has p.environment × Left p.tasks → (x : Step) → step s me p ≡ x → Firm x
     after_firm p z x e = subst Firm e (step_firm p z.0 z.1)
 
     -- So it is of all that the evaluation reaches.
