@@ -1,11 +1,8 @@
 -- In an accepted system no `old` stands in a body or a precondition.
-use Rattle.std.proofs.Common.{◌≡◌, ◌++◌, ◌+◌, ℕ, Bool, true, false, List, [], ◌∷◌, Option, Some, None, arith, refl, sym, ap, ap₂, subst, suc, zero}
+use Rattle.std.proofs.Common.{◌≡◌, ◌++◌, Bool, false, List, [], ◌∷◌, Option, Some, None, arith, refl, sym, ap, ap₂, subst, suc, zero}
 use Rattle.std.specs.Prelude.{Contains, length}
-use Rattle.sc_text.specs.declared.token.Span.{Span}
 use Rattle.sc_tree.specs.Plain as tree
 use Rattle.sc_tree.specs.Plain.{Branches, Clause, Creation, CreationCall, Expr, Exprs, Head, Instr, Instrs, RoutineDeclaration, System, branch_then, expr_then, instr_then, no_branches, no_exprs, no_instrs}
-use Rattle.sc_class.specs.ClassNames.{Root}
-use Rattle.sc_class.specs.Faults.ClassRules.{IsFaultless}
 use Rattle.sc_class.specs.Tables.Features.{DeclaredFeature}
 use Rattle.sc_rules.specs.Names.{Entities, RoutineContext, RoutineName, context_of, formals_known, known_in_body}
 use Rattle.sc_rules.specs.Positions.{is_ensure}
@@ -22,7 +19,7 @@ use Rattle.sc_rules.proofs.EachTyped.{each_is_typed_lem}
 use Rattle.sc_rules.proofs.PurityStands.{purity_stands}
 use Rattle.sc_rules.proofs.TextLaws.{blocks_reserve, conditions_give}
 use Rattle.sc_model.specs.Olds.{olds_of, olds_of_each}
-use Rattle.sc_model.specs.Routines.{Routine, routine_named}
+use Rattle.sc_model.specs.Routines.{Routine}
 use Rattle.sc_values.specs.Points.{Each}
 use Rattle.sc_values.proofs.Olds.{none_old}
 use Rattle.sc_evaluation.specs.Laws.{IsWithoutOld, TextsAreOldless}

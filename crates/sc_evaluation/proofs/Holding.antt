@@ -16,7 +16,7 @@ use Rattle.sc_model.specs.Steps.{Point, Exits, Step, Does}
 use Rattle.sc_model.specs.Tasks.{Task, Eval}
 use Rattle.sc_model.specs.Values.{Boolean, Operand, operand, Reference, Value, values_of}
 use Rattle.sc_evaluation.specs.Evaluating.{Answers, attribute, routine, Reaches, begins, goes, tests, enters, requests, EndsTrue}
-use Rattle.sc_evaluation.specs.Laws.{EndsTrueHolds}
+use Rattle.sc_evaluation.specs.Laws.{EndsTrueHolds, Told, TrueEvaluationsHold}
 
 -- the text on the object, where the call that it waits for gives a value of this type
 abbrev stands : Reference → Point → Option EntityType → Evaluation
@@ -150,3 +150,6 @@ module _ (s : System) (w : World) where
 
 pub ends_true_holds : EndsTrueHolds
 ends_true_holds s w f k M none e = ends_true_holds_lem s w M f k none e
+
+pub true_evaluations_hold : TrueEvaluationsHold
+true_evaluations_hold s w f k may none e = ends_true_holds s w f k (Told may) none e

@@ -6,7 +6,7 @@ use Rattle.sc_model.specs.Objects.{Object, object_numbered}
 use Rattle.sc_model.specs.Steps.{Point}
 use Rattle.sc_model.specs.Values.{Operand, Reference, Value}
 use Rattle.sc_evaluation.specs.Evaluating.{Answers, attribute, routine, Reaches, begins, goes, tests, enters, requests, EndsTrue}
-use Rattle.sc_evaluation.specs.Laws.{AnswersLocally, AnswersMore, EndsTrueLocally, EndsTrueMore, ReachesLocally, ReachesMore}
+use Rattle.sc_evaluation.specs.Laws.{AnswersAreLocal, AnswersLocally, AnswersMore, EndsTrueLocally, EndsTrueMore, EvaluationsAreLocal, EvaluationsMayAskMore, ReachesLocally, ReachesMore, Told}
 
 module _ (s : System) (M N : ℕ → Type 0) (O P : ℕ → List Object) (same : (k : ℕ) → M k → O k ≡ P k) (more : (k : ℕ) → M k → N k) where
   mutual
@@ -51,3 +51,14 @@ reaches_more s M N O more me p q a = reaches_over s M N O O (λ k m. refl) more 
 
 pub ends_true_more : EndsTrueMore
 ends_true_more s M N O more me p e = ends_true_over s M N O O (λ k m. refl) more me p e
+
+-- ---- those for whom a test is true
+
+pub answers_are_local : AnswersAreLocal
+answers_are_local s may O P same r x us v a = answers_locally s (Told may) O P same r x us v a
+
+pub evaluations_are_local : EvaluationsAreLocal
+evaluations_are_local s may O P same me p e = ends_true_locally s (Told may) O P same me p e
+
+pub evaluations_may_ask_more : EvaluationsMayAskMore
+evaluations_may_ask_more s may more O f me p e = ends_true_more s (Told may) (Told more) O f me p e

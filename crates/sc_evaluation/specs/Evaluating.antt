@@ -1,6 +1,6 @@
--- What an evaluation comes to, by its parts: within one text it goes from a point to another, and a call gives a value. It
--- is over the objects of all handlers at once, with the bodies of functions and without their contracts, as a clause is
--- evaluated; but each routine stands by itself.
+-- What an evaluation comes to, by its parts: within one text it goes from a point to another, and a call gives a value.
+-- It is over the objects of all handlers at once, with the bodies of functions and without their contracts, as a clause
+-- is evaluated; but each routine stands by itself.
 use Rattle.std.specs.Prelude.{ℕ, ◌≡◌, Bool, true, false, List, [], ◌∷◌, ◌++◌, Option, Some}
 use Rattle.sc_tree.specs.Plain as tree
 use Rattle.sc_tree.specs.Plain.{System, Clause, DeclaredType, RoutineDeclaration}
@@ -17,19 +17,22 @@ use Rattle.sc_model.specs.Exits.{is_unset_value}
 use Rattle.sc_model.specs.Clauses.{body_point}
 
 mutual
-  -- The call of a feature of the object gives the value, where `O` are the objects of each handler. `M` says which handlers
-  -- may be asked.
-  pub data Answers (s : System) (M : ℕ → Type 0) (O : ℕ → List Object) : Reference → List ℕ → List Operand → Value → Type 0 where
-    attribute : {r : Reference} {x : List ℕ} {us : List Operand} {o : Object} {f : DeclaredFeature} {d : DeclaredType} {b : Binding} →
-        M r.handler → object_numbered r.number (O r.handler) ≡ Some o → version_of s r.class x ≡ Some f →
-        f.feature.kind ≡ tree.Attribute d → binding_named x o.attributes ≡ Some b → is_unset_value b.value b.type ≡ false →
+  -- The call of a feature of the object gives the value, where `O` are the objects of each handler. `M` says which
+  -- handlers may be asked.
+  pub data Answers (s : System) (M : ℕ → Type 0) (O : ℕ → List Object) : Reference → List ℕ → List Operand → Value →
+      Type 0 where
+    attribute : {r : Reference} {x : List ℕ} {us : List Operand} {o : Object} {f : DeclaredFeature} {d : DeclaredType}
+        {b : Binding} → M r.handler → object_numbered r.number (O r.handler) ≡ Some o →
+        version_of s r.class x ≡ Some f → f.feature.kind ≡ tree.Attribute d →
+        binding_named x o.attributes ≡ Some b → is_unset_value b.value b.type ≡ false →
         Answers s M O r x us b.value
-    routine : {r : Reference} {x : List ℕ} {us : List Operand} {o : Object} {f : DeclaredFeature} {c : RoutineDeclaration} {q : Routine}
-        {bs : List Binding} {p : Point} {u : Operand} →
+    routine : {r : Reference} {x : List ℕ} {us : List Operand} {o : Object} {f : DeclaredFeature}
+        {c : RoutineDeclaration} {q : Routine} {bs : List Binding} {p : Point} {u : Operand} →
         M r.handler → object_numbered r.number (O r.handler) ≡ Some o → version_of s r.class x ≡ Some f →
         f.feature.kind ≡ tree.Routine c → routine_of s f ≡ Some q →
         formals_bound s q.text.formals 0 q.text.formals (values_of us) ≡ Some bs →
-        Reaches s M O r (body_point s q (O r.handler) bs) p → p.tasks ≡ [] → p.result ≡ Some u → is_unset_value u.value u.type ≡ false →
+        Reaches s M O r (body_point s q (O r.handler) bs) p → p.tasks ≡ [] → p.result ≡ Some u →
+        is_unset_value u.value u.type ≡ false →
         Answers s M O r x us u.value
 
   -- The text of one routine, on Current, goes from the first point to the second. Calls are done at once.
@@ -37,19 +40,26 @@ mutual
     begins : {me : Reference} {p : Point} → Reaches s M O me p p
     goes : {me : Reference} {p q r : Point} → Reaches s M O me p q → step s me q ≡ Goes r → Reaches s M O me p r
     tests : {me : Reference} {p q r : Point} → Reaches s M O me p q → step s me q ≡ Does Tests r → Reaches s M O me p r
-    enters : {me o : Reference} {p q r : Point} {c : Calling} {x : List ℕ} {us : List Operand} {t : EntityType} {v : Value} →
-        Reaches s M O me p q → step s me q ≡ Does (Enters c o x us (Some t)) r → Answers s M O o x us v →
-        Reaches s M O me p (record r { values = operand v t ∷ r.values })
-    requests : {me o : Reference} {p q r : Point} {x : List ℕ} {us : List Operand} {t : EntityType} {passing : Bool} {v : Value} →
-        Reaches s M O me p q → step s me q ≡ Does (Requests o x us (Some t) passing) r → Answers s M O o x us v →
-        Reaches s M O me p (record r { values = operand v t ∷ r.values })
+    enters : {me o : Reference} {p q r : Point} {c : Calling} {x : List ℕ} {us : List Operand} {t : EntityType}
+        {v : Value} → Reaches s M O me p q → step s me q ≡ Does (Enters c o x us (Some t)) r →
+        Answers s M O o x us v → Reaches s M O me p (record r { values = operand v t ∷ r.values })
+    requests : {me o : Reference} {p q r : Point} {x : List ℕ} {us : List Operand} {t : EntityType} {passing : Bool}
+        {v : Value} → Reaches s M O me p q → step s me q ≡ Does (Requests o x us (Some t) passing) r →
+        Answers s M O o x us v → Reaches s M O me p (record r { values = operand v t ∷ r.values })
 
 -- ---- clauses of a precondition
 
 -- a clause before its evaluation, in the text of the contract, where names stand for these
 abbrev pub clause_point : List Object → Text → List Binding → Option Operand → Clause → Point
-clause_point objects t bs result k =
-    record { objects = objects; text = t; environment = bs; result = result; olds = []; tasks = Eval 0 k.condition ∷ []; values = [] }
+clause_point objects t bs result k = record {
+  objects = objects;
+  text = t;
+  environment = bs;
+  result = result;
+  olds = [];
+  tasks = Eval 0 k.condition ∷ [];
+  values = [];
+}
 
 -- From this point the evaluation comes to its end, and gives true.
 pub record EndsTrue (s : System) (M : ℕ → Type 0) (O : ℕ → List Object) (me : Reference) (p : Point) : Type 0 where

@@ -1,5 +1,5 @@
 -- What is proved of evaluations by their parts, and of steps of texts without `old` and of contracts.
-use Rattle.std.specs.Prelude.{ℕ, ◌≡◌, List, [], ◌∷◌, ◌++◌, Some, Contains}
+use Rattle.std.specs.Prelude.{ℕ, ◌≡◌, Bool, true, List, [], ◌∷◌, ◌++◌, Some, Contains}
 use Rattle.sc_tree.specs.Plain.{System, Clause}
 use Rattle.sc_model.specs.Values.{Reference, Value, Operand}
 use Rattle.sc_model.specs.Objects.{Object}
@@ -50,12 +50,41 @@ abbrev pub EndsTrueMore : Type 1
 EndsTrueMore = (s : System) (M N : ℕ → Type 0) (O : ℕ → List Object) → ((k : ℕ) → M k → N k) →
     (me : Reference) (p : Point) → EndsTrue s M O me p → EndsTrue s N O me p
 
+-- ---- evaluations that ask those for whom a test is true
+
+abbrev pub Told : (ℕ → Bool) → ℕ → Type 0
+Told may k = may k ≡ true
+
+-- A clause whose evaluation by its parts ends with true holds.
+abbrev pub TrueEvaluationsHold : Type 0
+TrueEvaluationsHold = (s : System) (w : World) (f : Frame) (k : Clause) (may : ℕ → Bool) → f.olds ≡ [] →
+    EndsTrue s (Told may) (λ j. (w.handlers j).objects) f.current
+    (clause_point (w.handlers f.current.handler).objects f.routine.contract f.environment f.result k) →
+    Holds s w f k
+
+-- What a call gives depends on the objects of those alone that may be asked.
+abbrev pub AnswersAreLocal : Type 0
+AnswersAreLocal = (s : System) (may : ℕ → Bool) (O N : ℕ → List Object) → ((k : ℕ) → may k ≡ true → O k ≡ N k) →
+    (r : Reference) (x : List ℕ) (us : List Operand) (v : Value) → Answers s (Told may) O r x us v →
+    Answers s (Told may) N r x us v
+
+-- So does the evaluation of a clause.
+abbrev pub EvaluationsAreLocal : Type 0
+EvaluationsAreLocal = (s : System) (may : ℕ → Bool) (O N : ℕ → List Object) → ((k : ℕ) → may k ≡ true → O k ≡ N k) →
+    (me : Reference) (p : Point) → EndsTrue s (Told may) O me p → EndsTrue s (Told may) N me p
+
+-- It stays one where more may be asked.
+abbrev pub EvaluationsMayAskMore : Type 0
+EvaluationsMayAskMore = (s : System) (may more : ℕ → Bool) (O : ℕ → List Object) →
+    ((k : ℕ) → may k ≡ true → more k ≡ true) →
+    (me : Reference) (p : Point) → EndsTrue s (Told may) O me p → EndsTrue s (Told more) O me p
+
 -- ---- what stands behind
 
 -- A step of a task without `old` is the same whatever stands behind it, and whatever the `old`s are.
 abbrev pub StepExtends : Type 0
-StepExtends = (s : System) (me : Reference) (os : List Operand) (ts : List Task) (p : Point) (t : Task) (rest : List Task) →
-    p.tasks ≡ t ∷ rest → IsOldless t → step s me (extended os ts p) ≡ extended_step os ts (step s me p)
+StepExtends = (s : System) (me : Reference) (os : List Operand) (ts : List Task) (p : Point) (t : Task)
+    (rest : List Task) → p.tasks ≡ t ∷ rest → IsOldless t → step s me (extended os ts p) ≡ extended_step os ts (step s me p)
 
 -- where a step comes to
 abbrev pub point_after : Step → Point
@@ -64,7 +93,8 @@ point_after (Does a p) = p
 
 -- Tasks without `old` leave such tasks.
 abbrev pub StepOldless : Type 0
-StepOldless = (s : System) (me : Reference) (p : Point) → Each IsOldless p.tasks → Each IsOldless (point_after (step s me p)).tasks
+StepOldless = (s : System) (me : Reference) (p : Point) → Each IsOldless p.tasks →
+    Each IsOldless (point_after (step s me p)).tasks
 
 -- In an accepted system no `old` stands in the body of a routine, nor in its precondition.
 pub record IsWithoutOld (r : Routine) : Type 0 where
@@ -72,7 +102,8 @@ pub record IsWithoutOld (r : Routine) : Type 0 where
   pub require : (k : Clause) → Contains r.require k → HasNoOld k.condition
 
 abbrev pub TextsAreOldless : Type 0
-TextsAreOldless = WhereAccepted λ s root. (k : ℕ) (x : List ℕ) (r : Routine) → routine_named s k x ≡ Some r → IsWithoutOld r
+TextsAreOldless = WhereAccepted λ s root. (k : ℕ) (x : List ℕ) (r : Routine) → routine_named s k x ≡ Some r →
+    IsWithoutOld r
 
 -- ---- contracts
 
@@ -85,7 +116,8 @@ pub record StaysInContract (rest : List Task) (p q : Point) : Type 0 where
   pub result_is : q.result ≡ p.result
   pub objects_are : q.objects ≡ p.objects
 
--- So it is after the step, if it isn't a failure. A contract does nothing that is seen but calls, the start and a refusal.
+-- So it is after the step, if it isn't a failure. A contract does nothing that is seen but calls, the start and a
+-- refusal.
 abbrev pub StepsInContract : List Task → Point → Step → Type 0
 StepsInContract rest p (Goes q) = StaysInContract rest p q
 StepsInContract rest p (Does (Enters c o x us g) q) = StaysInContract rest p q
@@ -100,8 +132,8 @@ abbrev pub StepOfContract : Type 0
 StepOfContract = (s : System) (me : Reference) (t : Task) (ts rest : List Task) (p : Point) → p.tasks ≡ t ∷ ts ++ rest →
     IsOfContract t → Each IsOfContract ts → StepsInContract rest p (step s me p)
 
--- In an accepted system no object test stands in a precondition, in a postcondition or in what its `old`s keep: each task of
--- a contract is one.
+-- In an accepted system no object test stands in a precondition, in a postcondition or in what its `old`s keep: each
+-- task of a contract is one.
 pub record IsWithoutTests (r : Routine) : Type 0 where
   pub require : Each ClauseHasNoTest r.require
   pub olds : Each HasNoTest (olds_of_clauses r.ensure)
@@ -110,4 +142,5 @@ pub record IsWithoutTests (r : Routine) : Type 0 where
   pub behind : Each IsOfContract (ensures 0 r.ensure)
 
 abbrev pub TextsAreTestless : Type 0
-TextsAreTestless = WhereAccepted λ s root. (k : ℕ) (x : List ℕ) (r : Routine) → routine_named s k x ≡ Some r → IsWithoutTests r
+TextsAreTestless = WhereAccepted λ s root. (k : ℕ) (x : List ℕ) (r : Routine) → routine_named s k x ≡ Some r →
+    IsWithoutTests r

@@ -32,7 +32,8 @@ abbrev mutual
   OldlessInstr (tree.CallRoutine q tree.no_target x es) = HaveNoOld es
   OldlessInstr (tree.CallRoutine q (tree.target a) x es) = HasNoOld a × HaveNoOld es
   OldlessInstr (tree.Create q c) = CallHasNoOld c.call
-  OldlessInstr (tree.If q e body bs other) = HasNoOld e × (OldlessInstrs body × (OldlessBranches bs × OldlessInstrs other))
+  OldlessInstr (tree.If q e body bs other) =
+      HasNoOld e × (OldlessInstrs body × (OldlessBranches bs × OldlessInstrs other))
   OldlessInstr (tree.Loop q initial e body) = OldlessInstrs initial × (HasNoOld e × OldlessInstrs body)
   OldlessInstr (tree.Check q ks) = Each ClauseHasNoOld ks
   OldlessInstr (tree.Block q ds body) = Each HeadHasNoOld ds × OldlessInstrs body
@@ -95,7 +96,8 @@ ClauseHasNoTest k = HasNoTest k.condition
 
 -- ---- tasks of contracts
 
--- The task belongs to a precondition, to the `old`s or to a postcondition. It binds, declares, forgets and assigns nothing.
+-- The task belongs to a precondition, to the `old`s or to a postcondition. It binds, declares, forgets and assigns
+-- nothing.
 abbrev pub IsOfContract : Task → Type 0
 IsOfContract (Eval i e) = HasNoTest e
 IsOfContract (EvalRight op i e) = HasNoTest e
