@@ -1,4 +1,6 @@
+pub mod Held
 pub mod Others
+pub mod Rights
 pub mod Standing
 pub mod Tops
 pub mod Turned

@@ -130,7 +130,7 @@ pair_of (r ∷ rs) (q ∷ qs) b is i = ⊎_elim
     (λ later. let p = pair_of rs qs b is.1 later in (p.0, inr p.1))
     (contains_cases q qs b i)
 
-both : (xs ys : List Request) (ps qs : List machine.Request) → AreRequests xs ps → AreRequests ys qs → AreRequests (xs ++ ys) (ps ++ qs)
+pub both : (xs ys : List Request) (ps qs : List machine.Request) → AreRequests xs ps → AreRequests ys qs → AreRequests (xs ++ ys) (ps ++ qs)
 both [] ys [] qs is rest = rest
 both [] ys (q ∷ ps) qs is rest = absurd is
 both (x ∷ xs) ys [] qs is rest = absurd is

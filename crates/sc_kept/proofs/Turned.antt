@@ -376,7 +376,7 @@ module _ (most : ℕ) (s : System) (w : World) (g k : ℕ) (within : k ≢ w.cou
         heard = subst (λ x. Heard g k (Because s w g) x v) off c.heard;
         count = c.count;
         own = λ q. ⊎_elim
-            (λ e. laws.OwnQueueMoves.takes r (at ∙ ap (λ qs. r ∷ qs) (sym (e ∙ ap (λ (y : Handler). y.queue) (m_put-own g (record (w.handlers g) { queue = rs }) w)))))
+            (λ e. laws.OwnQueueMoves.takes r empty (at ∙ ap (λ qs. r ∷ qs) (sym (e ∙ ap (λ (y : Handler). y.queue) (m_put-own g (record (w.handlers g) { queue = rs }) w)))))
             (λ d. laws.OwnQueueMoves.falls d) c.own;
       }
 

@@ -18,7 +18,7 @@ use Rattle.sc_laws.proofs.Replies.{top_or_below}
 use Rattle.sc_laws.proofs.links.Reached.{reached_stands}
 use Rattle.sc_values.specs.Fitting.{MayEnd, runs, next, called_back}
 use Rattle.sc_kept.specs.Laws.{TopAwaits, IsUnlent, NoCallback, EndsTheOne, StandsOnce}
-use Rattle.sc_kept.proofs.Standing.{PairAt, pair_one, pair_is, pair_same, pair_before, pair_behind, pair_of, Apart, apart, begun_in, stacked, this_if, standing, callback_requests, standing_is, standing_one, standing_numbered, Begins, blocks_begin}
+use Rattle.sc_kept.proofs.Standing.{PairAt, pair_one, pair_is, pair_same, pair_before, pair_behind, pair_of, Apart, apart, begun_in, stacked, this_if, standing, callback_requests, both, standing_is, standing_one, standing_numbered, Begins, blocks_begin}
 use Rattle.sc_kept.proofs.Tops.{top_awaits, no_parts, there_callback, lives_there, replies_same, callback_none}
 
 -- ---- in the world of rights
@@ -124,7 +124,7 @@ waits_passing fs p v at keeps = true_false (sym p.2 ∙ ap (λ (x : Wait). x.pas
 -- ---- of the machine
 
 module _ (t : World) (m : machine.World) (law : IsLawful t) (stands : Stands t m) where
-  paired_at : (k : ℕ) → AreRequests (standing (t.handlers k)) (requests_at (m.handlers k))
+  pub paired_at : (k : ℕ) → AreRequests (standing (t.handlers k)) (requests_at (m.handlers k))
   paired_at k = standing_is (t.handlers k) (m.handlers k) (stands.handlers k)
 
   -- a request of the world of rights, for one that h posted and lent nothing with
@@ -161,11 +161,11 @@ module _ (t : World) (m : machine.World) (law : IsLawful t) (stands : Stands t m
   -- ---- what may end
 
   -- the world's request, at the same place
-  record Ending (g : ℕ) (r : machine.Request) : Type 0 where
-    request : Request
-    pair : PairAt (standing (t.handlers g)) (requests_at (m.handlers g)) request r
-    older : (n : ℕ) → HasWait n (t.handlers g).stack → n < request.number
-    passes : (k lo hi : ℕ) → Asks (t.handlers g) k lo hi → ⊥
+  pub record Ending (g : ℕ) (r : machine.Request) : Type 0 where
+    pub request : Request
+    pub pair : PairAt (standing (t.handlers g)) (requests_at (m.handlers g)) request r
+    pub older : (n : ℕ) → HasWait n (t.handlers g).stack → n < request.number
+    pub passes : (k lo hi : ℕ) → Asks (t.handlers g) k lo hi → ⊥
 
   first_pair : (rs : List Request) (qs : List machine.Request) (q : machine.Request) → AreRequests rs (q ∷ qs) → (a : Request) × PairAt rs (q ∷ qs) a q
   first_pair [] qs q is = absurd is
@@ -189,17 +189,11 @@ module _ (t : World) (m : machine.World) (law : IsLawful t) (stands : Stands t m
       ((m.handlers g).queue ++ to_list (m.handlers g).callback) (stacked (m.handlers g).stack) a q
       (front g) p
     where
-      both : (xs ys : List Request) (ps qs : List machine.Request) → AreRequests xs ps → AreRequests ys qs → AreRequests (xs ++ ys) (ps ++ qs)
-      both [] ys [] qs is rest = rest
-      both [] ys (q ∷ ps) qs is rest = absurd is
-      both (x ∷ xs) ys [] qs is rest = absurd is
-      both (x ∷ xs) ys (q ∷ ps) qs is rest = (is.0, both xs ys ps qs is.1 rest)
-
       front : (g : ℕ) → AreRequests ((t.handlers g).requests ++ this_if (t.handlers g).callback) ((m.handlers g).queue ++ to_list (m.handlers g).callback)
       front g = both (t.handlers g).requests (this_if (t.handlers g).callback) (m.handlers g).queue (to_list (m.handlers g).callback) (stands.handlers g).requests
           (callback_requests (t.handlers g).callback (m.handlers g).callback (stands.handlers g).callback)
 
-  ending : (g : ℕ) (r : machine.Request) → MayEnd (m.handlers g) r → Ending g r
+  pub ending : (g : ℕ) (r : machine.Request) → MayEnd (m.handlers g) r → Ending g r
   ending g r (runs {f} {below} at stage begun) =
       let st = subst (λ x. IsStaged x (place_of f below) (AreBlocks (NamesOf f.stage f) f.blocks (IsRoutine f (NeedsOf f.stage f) (IsStack below)))
       (t.handlers g).stack) stage (subst (λ s. IsStack s (t.handlers g).stack) at (stands.handlers g).stack) in
@@ -232,7 +226,7 @@ module _ (t : World) (m : machine.World) (law : IsLawful t) (stands : Stands t m
         passes = λ k lo hi a. waits_passing (t.handlers g).stack l.1 a.for a.waits a.keeps;
       }
 
-  still_lives : (g : ℕ) (r : Request) → IsOne r (requests_of (t.handlers g)) → (t.handlers g).failed ≡ false
+  pub still_lives : (g : ℕ) (r : Request) → IsOne r (requests_of (t.handlers g)) → (t.handlers g).failed ≡ false
   still_lives g r one = by (t.handlers g).failed refl
     where
       by : (b : Bool) → (t.handlers g).failed ≡ b → (t.handlers g).failed ≡ false

@@ -133,15 +133,20 @@ pub record Stays (w : World) (g k : ℕ) (y : Handler) : Type 0 where
 abbrev pub OthersStay : Type 0
 OthersStay = (most : ℕ) (s : System) (w : World) (g k : ℕ) → k < w.count → k ≢ g → Stays w g k ((turn most s g w).handlers k)
 
--- The queue of the handler of the turn stays, or gives its first, or falls with its handler.
+-- The queue of the handler of the turn stays, or gives its first where nothing runs, or falls with its handler.
 pub data OwnQueueMoves (x y : Handler) : Type 0 where
   stays : y.queue ≡ x.queue → OwnQueueMoves x y
-  takes : (r : Request) → x.queue ≡ r ∷ y.queue → OwnQueueMoves x y
+  takes : (r : Request) → x.stack ≡ [] → x.queue ≡ r ∷ y.queue → OwnQueueMoves x y
   falls : is_some y.failure ≡ true → OwnQueueMoves x y
 
 abbrev pub OwnQueueShrinks : Type 0
 OwnQueueShrinks = (most : ℕ) (s : System) (root : Root) (w : World) → IsReached most s root w → (g : ℕ)
     → OwnQueueMoves (w.handlers g) ((turn most s g w).handlers g)
+
+-- A handler that comes with the turn of another one has no frames.
+abbrev pub NewIsIdle : Type 0
+NewIsIdle = (most : ℕ) (s : System) (root : Root) (w : World) → IsReached most s root w → (g k : ℕ) → w.count ≤ k → k ≢ g
+    → ((turn most s g w).handlers k).stack ≡ []
 
 -- There are as many handlers as before, or more.
 abbrev pub CountGrows : Type 0
