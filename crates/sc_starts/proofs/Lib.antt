@@ -1,8 +1,9 @@
-pub mod PointsPure
-pub mod PointsFunctions
 pub mod PointsBound
 pub mod PointsClauses
 pub mod PointsEntries
+pub mod PointsFunctions
 pub mod PointsKinds
 pub mod PointsLists
+pub mod PointsPure
+pub mod PointsReached
 pub mod PointsSteps

@@ -1,7 +1,6 @@
 -- The body of a routine leaves its actuals as they are: they stay the first names that are known.
-use Rattle.std.proofs.Common.{ℕ, zero, suc, ◌+◌, ◌≡◌, Bool, true, false, List, [], ◌∷◌, ◌++◌, Option, Some, None, refl, sym, ap, subst, ◌∙◌, arith}
+use Rattle.std.proofs.Common.{ℕ, suc, ◌+◌, ◌≡◌, Bool, true, false, List, [], ◌∷◌, ◌++◌, Option, Some, None, refl, sym, ap, subst, ◌∙◌, arith}
 use Rattle.std.specs.Prelude.{length, take, map, bytes_eq, cond, nat_lt, slice_get}
-use Rattle.sc_tree.specs.declared.expression.UnaryOperator.{UnaryOperator}
 use Rattle.sc_tree.specs.declared.expression.UnaryOperator.TheVariants as unary
 use Rattle.sc_tree.specs.declared.expression.BinaryOperator.{BinaryOperator}
 use Rattle.sc_tree.specs.Plain as tree
@@ -16,9 +15,9 @@ use Rattle.sc_proctype.specs.declared.entity_type.EntityType.{EntityType}
 use Rattle.sc_rules.specs.declared.position.Role.{Role}
 use Rattle.sc_rules.specs.declared.position.Role.TheVariants as role
 use Rattle.sc_rules.specs.CallRules.{count}
-use Rattle.sc_rules.specs.Names.{Assignee, Entity, assignee, assignee_of_feature, assignee_of_kind, assignee_of_result, assignee_or, assignee_type, current, entity_named, given_type, is_local, reserved, test_type, to_local, to_attribute, unassignable, unknown_assignee}
+use Rattle.sc_rules.specs.Names.{Entity, assignee_of_feature, assignee_of_kind, assignee_of_result, assignee_or, assignee_type, current, entity_named, given_type, is_local, reserved, test_type, to_local, unassignable}
 use Rattle.sc_rules.specs.Types.{declared_type}
-use Rattle.sc_model.specs.Creations.{assigned_at, creates, creates_as, creates_at, creates_here, creates_object}
+use Rattle.sc_model.specs.Creations.{assigned_at, creates, creates_as, creates_at, creates_object}
 use Rattle.sc_model.specs.declared.cause.Cause.{Cause}
 use Rattle.sc_model.specs.declared.cause.Cause.TheVariants as cause
 use Rattle.sc_model.specs.Environments.{Binding, assigned_to, bind, binding_named, formals_bound, handler_named, is_formal, known_of, locals_bound, scope_of, with_binding}
@@ -32,15 +31,15 @@ use Rattle.sc_model.specs.ObjectTests.{binds, binds_if, is_tested}
 use Rattle.sc_model.specs.Olds.{olds_in}
 use Rattle.sc_model.specs.Operators.{is_short}
 use Rattle.sc_model.specs.Routines.{Routine, place_in}
-use Rattle.sc_model.specs.Steps.{Act, Prints, Tests, Creates, CreatesHandler, Enters, Requests, Starts, Refuses, Opens, Leaves, Exits, Fails, Point, Step, Goes, Does, fails, forgets, gives, popped, reads_as, reads_attribute}
+use Rattle.sc_model.specs.Steps.{Prints, Tests, Creates, CreatesHandler, Enters, Requests, Starts, Refuses, Opens, Leaves, Exits, Fails, Point, Step, Goes, Does, fails, forgets, gives, popped, reads_as, reads_attribute}
 use Rattle.sc_model.specs.Tasks.{Task, Do, In, Declare, Forget, Eval, ApplyUnary, EvalRight, ApplyBinary, Conclude, Bind, CallUnqualified, CallQualified, AssignTo, Print, Choose, Repeat, EndLoop, Checked, Require, Required, KeepOld, Ensured, CreateBy, Open, Leave, checks, evals, head_evals}
 use Rattle.sc_model.specs.Values.{Reference, Value, Integer, Boolean, Void, Attached, Operand}
 use Rattle.sc_values.specs.Points.{Each}
 use Rattle.sc_evaluation.specs.Evaluating.{Reaches, begins as at_first, goes, tests as tested, enters, requests}
 use Rattle.sc_evaluation.specs.Laws.{StaysInContract, StepOfContract, StepsInContract}
 use Rattle.sc_evaluation.specs.Texts.{IsOfContract}
-use Rattle.sc_starts.specs.Following.{AreBound, body_tasks}
-use Rattle.sc_starts.proofs.PointsLists.{append_assoc, append_nil}
+use Rattle.sc_starts.specs.Following.{AreBound}
+use Rattle.sc_starts.proofs.PointsLists.{append_assoc}
 
 -- ---- the actuals are formals
 
@@ -109,7 +108,7 @@ module _ (contract : StepOfContract) (s : System) (me : Reference) (bs : List Bi
   -- the task forgets none of them
   abbrev pub IsBehind : Task → Type 0
   IsBehind (Forget d) = (m : ℕ) × (d ≡ length bs + m)
-  IsBehind (Choose d body branches other) = (m : ℕ) × (d ≡ length bs + m)
+  IsBehind (Choose d body cs other) = (m : ℕ) × (d ≡ length bs + m)
   IsBehind t = Unit {0}
 
   abbrev pub Left : List Task → Type 0
@@ -149,7 +148,7 @@ module _ (contract : StepOfContract) (s : System) (me : Reference) (bs : List Bi
     where
       one : (t : Task) → IsOfContract t → IsBehind t
       one (Forget d) o = absurd o
-      one (Choose d body branches other) o = absurd o
+      one (Choose d body cs other) o = absurd o
       one t o = tt
 
   if_firm : (b : Bool) (x y : Step) → Firm x → Firm y → Firm (cond b x y)

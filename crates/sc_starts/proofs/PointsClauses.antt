@@ -1,5 +1,5 @@
 -- What a turn makes of a routine that stands in its precondition, beside the evaluation of its clauses.
-use Rattle.std.proofs.Common.{ℕ, zero, suc, ◌≡◌, Bool, true, false, List, [], ◌∷◌, ◌++◌, Option, Some, None, refl, sym, ap, subst, ◌∙◌}
+use Rattle.std.proofs.Common.{ℕ, zero, suc, ◌≡◌, Bool, true, false, List, [], ◌∷◌, ◌++◌, Option, Some, refl, sym, ap, subst, ◌∙◌}
 use Rattle.std.specs.Prelude.{Contains}
 use Rattle.std.proofs.lemmas.List.Elements.{Contains-append_right}
 use Rattle.sc_tree.specs.Plain.{System, Clause}
@@ -14,11 +14,10 @@ use Rattle.sc_model.specs.Environments.{Binding}
 use Rattle.sc_model.specs.Instructions.{required}
 use Rattle.sc_model.specs.Moves.{first_visible, moves, performs, step, step_at, then_go}
 use Rattle.sc_model.specs.Objects.{Object}
-use Rattle.sc_model.specs.Olds.{olds_of_clauses}
 use Rattle.sc_model.specs.Routines.{Routine, Text, routine_named}
 use Rattle.sc_model.specs.Sizes.{size}
 use Rattle.sc_model.specs.Steps.{Act, Prints, Tests, Creates, CreatesHandler, Enters, Requests, Starts, Refuses, Opens, Leaves, Exits, Fails, Point, Step, Goes, Does}
-use Rattle.sc_model.specs.Tasks.{Task, Eval, Require, Required, keeps_olds}
+use Rattle.sc_model.specs.Tasks.{Task, Required}
 use Rattle.sc_model.specs.Values.{Reference, Value, Integer, Boolean, Void, Attached, Operand, operand}
 use Rattle.sc_laws.proofs.Machine.{contains_first}
 use Rattle.sc_values.specs.Points.{Each, IsAmong}
@@ -29,14 +28,13 @@ use Rattle.sc_values.proofs.Running.{is_run}
 use Rattle.sc_values.proofs.Steps.{step_fits}
 use Rattle.sc_halves.specs.Clauses.{AreOfTypes, ClauseStep, InClauses, StandsInClauses}
 use Rattle.sc_halves.specs.Clauses as clauses
-use Rattle.sc_halves.specs.Entries.{HasStarted}
 use Rattle.sc_halves.proofs.Clausal.{clause_next, own_values, rest_started, still_there}
 use Rattle.sc_evaluation.specs.Evaluating.{EndsTrue, begins}
 use Rattle.sc_evaluation.specs.Laws.{StaysInContract, StepExtends, StepOfContract, StepOldless, StepsInContract, TextsAreOldless, TextsAreTestless}
 use Rattle.sc_evaluation.specs.Texts.{ClauseHasNoOld, ClauseHasNoTest}
 use Rattle.sc_starts.specs.Following.{ClausesAt, HasDone, Hold, IsAt, behind_clause, between_point, body_tasks, clause_of}
 use Rattle.sc_starts.specs.Following as at
-use Rattle.sc_starts.specs.Points.{ClauseSteps, InContract, started_point}
+use Rattle.sc_starts.specs.Points.{ClauseSteps, InContract}
 use Rattle.sc_starts.proofs.PointsLists.{append_assoc, append_nil}
 use Rattle.sc_starts.proofs.PointsSteps.{Stepped, Unchanged, step_within, steps_on, unchanged}
 
@@ -145,7 +143,7 @@ module _ (extends : StepExtends) (leaves : StepOldless) (contract : StepOfContra
     at_end i =
         let tasks : p.tasks ≡ Required k ∷ behind_clause r ks = ap (λ (p : Point). p.tasks) a.stands ∙ ap (λ us. us ++ Required k ∷ behind_clause r ks) i in
         let one = one_value s pure r.contract n k (behind_clause r ks) z.types p.values
-            (subst (λ ts. InClauses s pure r.contract n ts z.types) tasks z.left) z.values in
+        (subst (λ ts. InClauses s pure r.contract n ts z.types) tasks z.left) z.values in
         subst (λ ts. So (step_at s me ts p)) (sym tasks)
         (subst (λ vs. So (performs s me (Required k) vs (record p { tasks = behind_clause r ks }))) (sym one.1)
         (ended_so one.0.value one.0.type i one.1))
@@ -162,7 +160,10 @@ module _ (extends : StepExtends) (leaves : StepOldless) (contract : StepOfContra
       by : (t : EntityType) → g ≡ Some t → q.text ≡ r.contract →
           HasDone s M O me (clause_of O me r bs k) (Required k ∷ behind_clause r ks) (Enters c o x us g) q × (q.olds ≡ p.olds) → So (Does (Enters c o x us g) q)
       by t i text (d, same) = (
-        t, i, f.0, z.0,
+        t,
+        i,
+        f.0,
+        z.0,
         at.inside done ks k e holds (same ∙ none) (subst (λ g. HasDone s M O me (clause_of O me r bs k) (Required k ∷ behind_clause r ks) (Enters c o x us g) q) i d),
         done_clause k (Required k ∷ behind_clause r ks) (Enters c o x us g) q (testless_clause done ks k e) d (λ q y. y) (λ n. cc) text (same ∙ none),
       )
@@ -171,7 +172,10 @@ module _ (extends : StepExtends) (leaves : StepOldless) (contract : StepOfContra
       by : (t : EntityType) → g ≡ Some t → q.text ≡ r.contract →
           HasDone s M O me (clause_of O me r bs k) (Required k ∷ behind_clause r ks) (Requests o x us g passes) q × (q.olds ≡ p.olds) → So (Does (Requests o x us g passes) q)
       by t i text (d, same) = (
-        t, i, z.0, z.2,
+        t,
+        i,
+        z.0,
+        z.2,
         at.inside done ks k e holds (same ∙ none)
             (subst (λ b. HasDone s M O me (clause_of O me r bs k) (Required k ∷ behind_clause r ks) (Requests o x us (Some t) b) q) z.0
             (subst (λ g. HasDone s M O me (clause_of O me r bs k) (Required k ∷ behind_clause r ks) (Requests o x us g passes) q) i d)),

@@ -1,34 +1,28 @@
 -- Where routines begin beside an evaluation by the definition, how the values of calls take them on, and what functions answer.
-use Rattle.std.proofs.Common.{ℕ, zero, suc, ◌+◌, ◌≡◌, Bool, true, false, List, [], ◌∷◌, ◌++◌, Option, Some, None, refl, sym, ap, subst, ◌∙◌, inl, inr}
+use Rattle.std.proofs.Common.{ℕ, suc, ◌+◌, ◌≡◌, Bool, true, List, [], ◌∷◌, ◌++◌, Option, Some, None, refl, sym, ap, subst, ◌∙◌}
 use Rattle.std.specs.Prelude.{length, take}
 use Rattle.sc_tree.specs.Plain as tree
 use Rattle.sc_tree.specs.Plain.{System, Clause, Declaration, FeatureKind}
-use Rattle.sc_class.specs.ClassNames.{Root}
-use Rattle.sc_class.specs.Faults.ClassRules.{IsFaultless}
 use Rattle.sc_proctype.specs.declared.entity_type.EntityType.{EntityType}
 use Rattle.sc_rules.specs.declared.position.Role.TheVariants as role
 use Rattle.sc_rules.specs.Names.{reserved}
-use Rattle.sc_rules.specs.SystemRules.{WellFormed}
 use Rattle.sc_rules.specs.Types.{declared_type}
 use Rattle.sc_model.specs.Entries.{entry}
 use Rattle.sc_model.specs.Environments.{Binding, bind, formals_bound, with_binding}
-use Rattle.sc_model.specs.Exits.{is_unset_value}
-use Rattle.sc_model.specs.Handlers.{Origin, point_of}
-use Rattle.sc_model.specs.Objects.{Object, object_numbered}
+use Rattle.sc_model.specs.Handlers.{point_of}
+use Rattle.sc_model.specs.Objects.{Object}
 use Rattle.sc_model.specs.Olds.{olds_of_clauses}
-use Rattle.sc_model.specs.Routines.{Routine, routine_named}
+use Rattle.sc_model.specs.Routines.{Routine}
 use Rattle.sc_model.specs.Steps.{Calling, Point, Enters, Requests}
-use Rattle.sc_model.specs.Tasks.{Task, requires, keeps_olds, tasks_of}
-use Rattle.sc_model.specs.Values.{Reference, Value, Operand, operand, values_of}
-use Rattle.sc_values.specs.Points.{Each}
+use Rattle.sc_model.specs.Tasks.{Task, requires, keeps_olds}
+use Rattle.sc_model.specs.Values.{Reference, Value, Operand, operand}
 use Rattle.sc_settled.proofs.Modes.{IsVersionOf, routine_found}
 use Rattle.sc_settled.proofs.Purely.{is_routine}
-use Rattle.sc_evaluation.specs.Evaluating.{Answers, Reaches, extended, routine, enters, requests}
-use Rattle.sc_evaluation.specs.Laws.{TextsAreTestless, IsWithoutTests}
-use Rattle.sc_evaluation.specs.Texts.{IsOfContract}
+use Rattle.sc_evaluation.specs.Evaluating.{Answers, routine, enters, requests}
+use Rattle.sc_evaluation.specs.Laws.{TextsAreTestless}
 use Rattle.sc_starts.specs.Following.{AreBound, ClausesAt, ClauseDone, HasDone, IsAt, Own, PureAt, PureCalls, behind_clause, between_point, body_tasks, bound_in, start_of}
 use Rattle.sc_starts.specs.Following as at
-use Rattle.sc_starts.specs.Points.{ClauseGoesOn, ClauseGoesOnAnswered, EntryFollows, EntryIsBetween, HasRun, PureAnswers, PureCallsMore, PureGoesOn}
+use Rattle.sc_starts.specs.Points.{ClauseGoesOn, ClauseGoesOnAnswered, EntryFollows, EntryIsBetween, PureAnswers, PureCallsMore, PureGoesOn}
 
 -- ---- calls that give a value
 

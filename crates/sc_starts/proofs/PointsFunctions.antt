@@ -1,5 +1,5 @@
 -- Pure functions have a Result, and what they call gives a value.
-use Rattle.std.proofs.Common.{ℕ, ◌≡◌, ◌&&◌, Bool, true, false, List, [], ◌∷◌, Option, Some, None, refl, sym, ap, subst, ◌∙◌}
+use Rattle.std.proofs.Common.{ℕ, ◌≡◌, Bool, true, false, List, [], ◌∷◌, Option, Some, None, refl, sym, ap, subst, ◌∙◌}
 use Rattle.std.specs.Prelude.{is_some, not}
 use Rattle.std.specs.List.{list_all}
 use Rattle.std.specs.Option.{option_map}
@@ -23,7 +23,7 @@ use Rattle.sc_model.specs.Tasks.{Task, In}
 use Rattle.sc_model.specs.Values.{Operand, Reference}
 use Rattle.sc_values.specs.Points.{Agrees, ResultFits, types_of}
 use Rattle.sc_values.specs.Points as point
-use Rattle.sc_values.specs.Steps.{CallFits, EntryFits, GivesFit, KindFits, StandsSo, a_routine, an_attribute}
+use Rattle.sc_values.specs.Steps.{EntryFits, GivesFit, KindFits, StandsSo, a_routine, an_attribute}
 use Rattle.sc_values.specs.Typed.{IsTyped, Known}
 use Rattle.sc_values.specs.Typed as typed
 use Rattle.sc_values.proofs.Lists.{same_some}

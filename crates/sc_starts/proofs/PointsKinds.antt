@@ -1,10 +1,10 @@
 -- What a step of a task without `old` is not: the start of a body, a refusal, or the exit.
-use Rattle.std.proofs.Common.{ℕ, zero, suc, ◌≡◌, List, [], ◌∷◌, ◌++◌, Option, Some, None, refl, sym, ap, subst, ◌∙◌, inr}
+use Rattle.std.proofs.Common.{ℕ, ◌≡◌, List, [], ◌∷◌, ◌++◌, Option, Some, None, refl, ap, subst, ◌∙◌, inr}
 use Rattle.sc_tree.specs.Plain as tree
 use Rattle.sc_tree.specs.Plain.{System, Clause, CreationCall, Head, Variable, Named, ResultVariable, Expr, Exprs, no_exprs, expr_then, Instr, Instrs, no_instrs, instr_then, Branches, no_branches, branch_then}
 use Rattle.sc_model.specs.Moves.{first_visible, moves, step, then_go}
 use Rattle.sc_model.specs.Sizes.{size}
-use Rattle.sc_model.specs.Steps.{Act, Starts, Refuses, Exits, Point, Step, Goes, Does}
+use Rattle.sc_model.specs.Steps.{Starts, Refuses, Exits, Point, Step, Goes, Does}
 use Rattle.sc_model.specs.Tasks.{Task, Do, In, Declare, Forget, Eval, ApplyUnary, EvalRight, ApplyBinary, Conclude, Bind, CallUnqualified, CallQualified, AssignTo, Print, Choose, Repeat, EndLoop, Checked, Require, Required, KeepOld, Ensured, CreateBy, Open, Leave}
 use Rattle.sc_model.specs.Values.{Reference}
 use Rattle.sc_values.specs.Points.{Each}

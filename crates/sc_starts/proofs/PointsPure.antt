@@ -1,8 +1,7 @@
 -- What a turn makes of a pure function, beside the evaluation of its body.
-use Rattle.std.proofs.Common.{ℕ, zero, suc, ◌≡◌, Bool, true, false, List, [], ◌∷◌, ◌++◌, Option, Some, None, refl, sym, ap, subst, ◌∙◌, inl, inr}
+use Rattle.std.proofs.Common.{ℕ, zero, suc, ◌≡◌, Bool, true, List, [], ◌∷◌, ◌++◌, Option, Some, refl, sym, ap, subst, ◌∙◌}
 use Rattle.std.specs.Prelude.{length, take}
 use Rattle.sc_tree.specs.Plain.{System}
-use Rattle.sc_tree.specs.Plain as tree
 use Rattle.sc_class.specs.ClassNames.{Root}
 use Rattle.sc_class.specs.Faults.ClassRules.{IsFaultless}
 use Rattle.sc_proctype.specs.declared.entity_type.EntityType.{EntityType}
@@ -13,10 +12,10 @@ use Rattle.sc_model.specs.Entries.{result_of}
 use Rattle.sc_model.specs.Environments.{Binding}
 use Rattle.sc_model.specs.Moves.{first_visible, moves, step, step_at, then_go}
 use Rattle.sc_model.specs.Objects.{Object}
-use Rattle.sc_model.specs.Routines.{Routine, Text, routine_named}
+use Rattle.sc_model.specs.Routines.{Routine, routine_named}
 use Rattle.sc_model.specs.Sizes.{size}
-use Rattle.sc_model.specs.Steps.{Calling, Unqualified, Qualified, Creation, Act, Prints, Tests, Creates, CreatesHandler, Enters, Requests, Starts, Refuses, Opens, Leaves, Exits, Fails, Point, Step, Goes, Does, forgets}
-use Rattle.sc_model.specs.Tasks.{Task, In, Declare, Do, Forget, ensures}
+use Rattle.sc_model.specs.Steps.{Unqualified, Qualified, Creation, Prints, Tests, Creates, CreatesHandler, Enters, Requests, Starts, Refuses, Opens, Leaves, Exits, Fails, Point, Step, Goes, Does}
+use Rattle.sc_model.specs.Tasks.{Task, Declare, Do}
 use Rattle.sc_model.specs.Values.{Reference, Operand}
 use Rattle.sc_values.specs.Points.{Each, IsAmong}
 use Rattle.sc_values.specs.Steps.{IsThereIfOwn, StandsSo, StepFits, ValuesDo}
@@ -28,12 +27,12 @@ use Rattle.sc_settled.proofs.Purely.{AssignsNone, CallsPure}
 use Rattle.sc_settled.proofs.Walking.{MayAssign, SteppedSo, moves_so}
 use Rattle.sc_halves.specs.Calm.{CalmStep, name_of}
 use Rattle.sc_halves.proofs.Clausal.{own_values, still_there}
-use Rattle.sc_evaluation.specs.Evaluating.{Reaches, begins, goes, tests, enters, requests}
+use Rattle.sc_evaluation.specs.Evaluating.{Reaches, begins}
 use Rattle.sc_evaluation.specs.Laws.{StaysInContract, StepExtends, StepOfContract, StepOldless, StepsInContract, TextsAreOldless, TextsAreTestless}
 use Rattle.sc_evaluation.specs.Texts.{IsOfContract}
 use Rattle.sc_starts.specs.Following.{AreBound, HasDone, IsAt, Own, PureAt, PureCalls, behind_body, body_tasks, start_of}
 use Rattle.sc_starts.specs.Following as at
-use Rattle.sc_starts.specs.Points.{HasRun, IsThisCall, KeepsActuals, PureSteps}
+use Rattle.sc_starts.specs.Points.{HasRun, IsThisCall, PureSteps}
 use Rattle.sc_starts.proofs.PointsBound.{Has, Left, after_firm, bound_formals, reaches_firm, take_these}
 use Rattle.sc_starts.proofs.PointsEntries.{bound_length, takes_bound}
 use Rattle.sc_starts.proofs.PointsFunctions.{gives_value, none_at_text, result_there}

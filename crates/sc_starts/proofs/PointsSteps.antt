@@ -1,15 +1,13 @@
 -- What a step makes of a point within a text, beside the evaluation of that text.
-use Rattle.std.proofs.Common.{ℕ, ◌≡◌, Bool, true, false, List, [], ◌∷◌, ◌++◌, Option, Some, None, refl, sym, ap, subst, ◌∙◌}
+use Rattle.std.proofs.Common.{ℕ, ◌≡◌, List, [], ◌∷◌, Some, refl, sym, ap, subst, ◌∙◌}
 use Rattle.sc_tree.specs.Plain.{System}
 use Rattle.sc_model.specs.Moves.{step, step_at}
 use Rattle.sc_model.specs.Objects.{Object}
-use Rattle.sc_model.specs.Steps.{Act, Prints, Tests, Creates, CreatesHandler, Enters, Requests, Starts, Refuses, Opens, Leaves, Exits, Fails, Point, Step, Goes, Does}
-use Rattle.sc_model.specs.Tasks.{Task, Require, Required}
+use Rattle.sc_model.specs.Steps.{Prints, Tests, Creates, CreatesHandler, Enters, Requests, Starts, Refuses, Opens, Leaves, Exits, Fails, Point, Step, Goes, Does}
+use Rattle.sc_model.specs.Tasks.{Task}
 use Rattle.sc_model.specs.Values.{Reference, Operand}
 use Rattle.sc_values.specs.Points.{Each}
-use Rattle.sc_values.proofs.Lists.{each_append}
-use Rattle.sc_halves.specs.Entries.{HasStarted, is_clause}
-use Rattle.sc_evaluation.specs.Evaluating.{Reaches, extended, extended_step, goes, tests, begins, enters, requests}
+use Rattle.sc_evaluation.specs.Evaluating.{Reaches, extended_step, goes, tests, begins, enters, requests}
 use Rattle.sc_evaluation.specs.Laws.{StepExtends, StepOfContract, StepOldless, StaysInContract, StepsInContract, point_after}
 use Rattle.sc_evaluation.specs.Texts.{IsOfContract, IsOldless}
 use Rattle.sc_starts.specs.Following.{HasDone, IsAt}

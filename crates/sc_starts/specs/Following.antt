@@ -9,11 +9,11 @@ use Rattle.sc_model.specs.Objects.{Object}
 use Rattle.sc_model.specs.Routines.{Routine, routine_named}
 use Rattle.sc_model.specs.Olds.{olds_of_clauses}
 use Rattle.sc_model.specs.Tasks.{Task, Do, In, Declare, Forget, Require, Required, keeps_olds, ensures}
-use Rattle.sc_model.specs.Steps.{Calling, Point, Act, Enters, Requests, Step, Goes, Does}
+use Rattle.sc_model.specs.Steps.{Calling, Point, Act, Enters, Requests, Does}
 use Rattle.sc_model.specs.Moves.{step}
 use Rattle.sc_model.specs.Entries.{result_of}
 use Rattle.sc_model.specs.Clauses.{body_point}
-use Rattle.sc_model.specs.Handlers.{Request, Calls, Origin, Called, Requested, Answer, Reply, Failed, Refused, Stage, Runs, Reserves, InCall, Awaits, Frame, World, point_of}
+use Rattle.sc_model.specs.Handlers.{Request, Calls, Origin, Called, Requested, Reply, Failed, Refused, Stage, Runs, Reserves, InCall, Awaits, Frame, World, point_of}
 use Rattle.sc_laws.specs.Headline.{is_awaiting}
 use Rattle.sc_values.specs.Points.{Each}
 use Rattle.sc_halves.specs.Calm.{name_of}

@@ -1,11 +1,10 @@
 -- What the moves of a turn make of a point that stands beside an evaluation by the definition.
-use Rattle.std.specs.Prelude.{ℕ, ◌≡◌, ◌<◌, Bool, true, false, List, [], ◌∷◌, ◌++◌, Option, Some, None, length, take}
-use Rattle.sc_tree.specs.Plain.{System, Clause}
+use Rattle.std.specs.Prelude.{ℕ, ◌≡◌, ◌<◌, Bool, true, false, List, [], ◌∷◌, ◌++◌, Some, None, length, take}
+use Rattle.sc_tree.specs.Plain.{System}
 use Rattle.sc_class.specs.ClassNames.{Root}
 use Rattle.sc_class.specs.Faults.ClassRules.{IsFaultless}
-use Rattle.sc_class.specs.Tables.Features.{DeclaredFeature}
 use Rattle.sc_proctype.specs.declared.entity_type.EntityType.{EntityType}
-use Rattle.sc_rules.specs.Names.{RoutineName, routine_of}
+use Rattle.sc_rules.specs.Names.{RoutineName}
 use Rattle.sc_rules.specs.Purity.{IsPurity}
 use Rattle.sc_rules.specs.SystemRules.{WellFormed}
 use Rattle.sc_model.specs.Entries.{entry, result_of}
@@ -15,7 +14,7 @@ use Rattle.sc_model.specs.Handlers.{Origin, Runs, Frame, World, point_of}
 use Rattle.sc_model.specs.Moves.{moves}
 use Rattle.sc_model.specs.Objects.{Object, object_numbered}
 use Rattle.sc_model.specs.Olds.{olds_of_clauses}
-use Rattle.sc_model.specs.Routines.{Routine, routine_named, version_of}
+use Rattle.sc_model.specs.Routines.{Routine, routine_named}
 use Rattle.sc_model.specs.Runs.{IsReached}
 use Rattle.sc_model.specs.Steps.{Calling, Point, Act, Tests, Enters, Requests, Starts, Refuses, Exits, Fails, Step, Goes, Does}
 use Rattle.sc_model.specs.Tasks.{keeps_olds}
