@@ -1,4 +1,9 @@
 pub mod PointsBound
+pub mod OthersLocal
+pub mod OthersQuiet
+pub mod OthersRun
+pub mod OthersStack
+pub mod OthersWorlds
 pub mod PointsClauses
 pub mod PointsEntries
 pub mod PointsFunctions

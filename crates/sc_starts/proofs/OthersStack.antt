@@ -1,0 +1,171 @@
+-- The routine of a clause's request on a stack, under pure functions that it has called.
+use Rattle.std.proofs.Common.{ℕ, ◌≡◌, Bool, true, false, List, [], ◌∷◌, ◌++◌, Option, Some, None, length, take, refl, sym, ap, subst, ◌∙◌}
+use Rattle.std.specs.Option.{option_and_then}
+use Rattle.sc_tree.specs.Plain as tree
+use Rattle.sc_tree.specs.Plain.{System, FeatureKind}
+use Rattle.sc_class.specs.Tables.Features.{DeclaredFeature}
+use Rattle.sc_proctype.specs.declared.entity_type.EntityType.{EntityType}
+use Rattle.sc_rules.specs.Names.{RoutineName}
+use Rattle.sc_rules.specs.Names as rules
+use Rattle.sc_model.specs.Environments.{Binding, formals_bound}
+use Rattle.sc_model.specs.Exits.{handed, handed_as, handed_at}
+use Rattle.sc_model.specs.Handlers.{Request, Origin, Called, Requested, Stage, Runs, Reserves, ReservesBlock, InCall, Awaits, Frame, frame_at}
+use Rattle.sc_model.specs.Routines.{Routine, routine_from, routine_named, routine_of, routine_with, origin_of, version_of}
+use Rattle.sc_model.specs.Steps.{Calling, Point}
+use Rattle.sc_model.specs.Values.{Reference, Value, Operand, values_of}
+use Rattle.sc_values.specs.Points.{Each}
+use Rattle.sc_halves.specs.Calm.{name_of}
+use Rattle.sc_starts.specs.Following.{IsCalledPure, IsFor, bound_in, is_called}
+
+no_true : {B : Type 0} → false ≡ true → B
+no_true e = cc
+
+first_of_two : {x y : Frame} {xs ys : List Frame} → x ∷ xs ≡ y ∷ ys → x ≡ y
+first_of_two e = cc
+
+rest_of_two : {x y : Frame} {xs ys : List Frame} → x ∷ xs ≡ y ∷ ys → xs ≡ ys
+rest_of_two e = cc
+
+same_request : {q r : Request} → Requested q ≡ Requested r → q ≡ r
+same_request e = cc
+
+module _ (s : System) (pure : RoutineName → Bool) (q : Request) (o : Reference) (x : List ℕ) (us : List Operand) where
+  -- The frame is that of the request, and runs what it asks for.
+  pub record IsOf (c : Frame) : Type 0 where
+    pub is_pure : pure (name_of c.routine) ≡ true
+    pub origin_is : c.origin ≡ Requested q
+    pub is_for : IsFor s o x (values_of us) c
+
+  -- It stands so on the stack, on these.
+  pub data OnStack (below : List Frame) : List Frame → Type 0 where
+    is_it : {c : Frame} → IsOf c → OnStack below (c ∷ below)
+    above : {f : Frame} {fs : List Frame} → IsCalledPure pure f → OnStack below fs → OnStack below (f ∷ fs)
+
+  pub on_stack : (fs : List Frame) (c : Frame) (below : List Frame) → Each (IsCalledPure pure) fs → IsOf c → OnStack below (fs ++ c ∷ below)
+  on_stack [] c below e i = is_it i
+  on_stack (f ∷ fs) c below e i = above e.0 (on_stack fs c below e.1 i)
+
+  pub record Parts (below st : List Frame) : Type 0 where
+    pub fs : List Frame
+    pub frame : Frame
+    pub stack_is : st ≡ fs ++ frame ∷ below
+    pub are_called : Each (IsCalledPure pure) fs
+    pub is_of : IsOf frame
+
+  pub parts : (below st : List Frame) → OnStack below st → Parts below st
+  parts below _ (is_it {c} i) = record { fs = []; frame = c; stack_is = refl; are_called = tt; is_of = i }
+  parts below _ (above {f} {fs} i more) =
+      let z : Parts below fs = parts below fs more in
+      record { fs = f ∷ z.fs; frame = z.frame; stack_is = ap (λ (st : List Frame). f ∷ st) z.stack_is; are_called = (i, z.are_called); is_of = z.is_of }
+
+  -- ---- its topmost frame
+
+  -- The frame stands in its place: it runs the same for the same.
+  pub record Replaces (f g : Frame) : Type 0 where
+    pub current_is : g.current ≡ f.current
+    pub routine_is : g.routine ≡ f.routine
+    pub origin_is : g.origin ≡ f.origin
+    pub bound_is : bound_in g ≡ bound_in f
+
+  replaced : (f g : Frame) → Replaces f g → IsOf f → IsOf g
+  replaced f g r i = record {
+    is_pure = ap (λ (z : Routine). pure (name_of z)) r.routine_is ∙ i.is_pure;
+    origin_is = r.origin_is ∙ i.origin_is;
+    is_for = record {
+      current_is = r.current_is ∙ i.is_for.current_is;
+      routine_is = i.is_for.routine_is ∙ ap Some (sym r.routine_is);
+      bound_is = ap (λ (z : Routine). formals_bound s z.text.formals 0 z.text.formals (values_of us)) r.routine_is ∙ i.is_for.bound_is ∙ ap Some (sym r.bound_is);
+    };
+  }
+
+  called_replaced : (f g : Frame) → Replaces f g → IsCalledPure pure f → IsCalledPure pure g
+  called_replaced f g r i = (ap is_called r.origin_is ∙ i.0, ap (λ (z : Routine). pure (name_of z)) r.routine_is ∙ i.1)
+
+  pub top_replaced : (below : List Frame) (f g : Frame) (fs : List Frame) → Replaces f g → OnStack below (f ∷ fs) → OnStack below (g ∷ fs)
+  top_replaced below f g fs r z = by (f ∷ fs) z refl
+    where
+      by : (st : List Frame) → OnStack below st → st ≡ f ∷ fs → OnStack below (g ∷ fs)
+      by _ (is_it {c = u} i) e = subst (λ (us : List Frame). OnStack below (g ∷ us)) (rest_of_two e)
+          (is_it (replaced f g r (subst IsOf (first_of_two e) i)))
+      by _ (above {f = u} {fs = us} i more) e = above (called_replaced f g r (subst (IsCalledPure pure) (first_of_two e) i)) (subst (OnStack below) (rest_of_two e) more)
+
+  -- it is pure
+  pub top_is_pure : (below : List Frame) (f : Frame) (fs : List Frame) → OnStack below (f ∷ fs) → pure (name_of f.routine) ≡ true
+  top_is_pure below f fs z = by (f ∷ fs) z refl
+    where
+      by : (st : List Frame) → OnStack below st → st ≡ f ∷ fs → pure (name_of f.routine) ≡ true
+      by _ (is_it {c = u} i) e = subst (λ (g : Frame). pure (name_of g.routine) ≡ true) (first_of_two e) i.is_pure
+      by _ (above {f = u} {fs = us} i more) e = subst (λ (g : Frame). pure (name_of g.routine) ≡ true) (first_of_two e) i.1
+
+  pub not_empty : (below : List Frame) → OnStack below [] → ⊥
+  not_empty below z = by [] z refl
+    where
+      by : (st : List Frame) → OnStack below st → st ≡ [] → ⊥
+      by _ (is_it {c = u} i) e = cc
+      by _ (above {f = u} {fs = us} i more) e = cc
+
+  -- where it was called, the rest stands so
+  pub called_leaves : (below : List Frame) (f : Frame) (fs : List Frame) (c : Calling) → f.origin ≡ Called c → OnStack below (f ∷ fs) → OnStack below fs
+  called_leaves below f fs c o_is z = by (f ∷ fs) z refl
+    where
+      not_requested : {A : Type 0} → Called c ≡ Requested q → A
+      not_requested e = cc
+
+      by : (st : List Frame) → OnStack below st → st ≡ f ∷ fs → OnStack below fs
+      by _ (is_it {c = u} i) e = not_requested (sym o_is ∙ sym (ap (λ (g : Frame). g.origin) (first_of_two e)) ∙ i.origin_is)
+      by _ (above {f = u} {fs = us} i more) e = subst (OnStack below) (rest_of_two e) more
+
+  -- where a request began it, it is that of the request, on the others
+  pub record Ended (below : List Frame) (f : Frame) (fs : List Frame) (r : Request) : Type 0 where
+    pub is_of : IsOf f
+    pub rest_is : fs ≡ below
+    pub request_is : r ≡ q
+
+  pub requested_ends : (below : List Frame) (f : Frame) (fs : List Frame) (r : Request) → f.origin ≡ Requested r → OnStack below (f ∷ fs) → Ended below f fs r
+  requested_ends below f fs r o_is z = by (f ∷ fs) z refl
+    where
+      by : (st : List Frame) → OnStack below st → st ≡ f ∷ fs → Ended below f fs r
+      by _ (is_it {c = u} i) e =
+          let j : IsOf f = subst IsOf (first_of_two e) i in
+          record { is_of = j; rest_is = sym (rest_of_two e); request_is = same_request (sym o_is ∙ j.origin_is) }
+      by _ (above {f = u} {fs = us} i more) e =
+          no_true (sym (ap is_called (ap (λ (g : Frame). g.origin) (first_of_two e) ∙ o_is)) ∙ i.0)
+
+  -- a value that is handed to the topmost leaves it in its place
+  handed_replaces : (v : Option Value) (f : Frame) (st : Stage) → Replaces f (handed_at st v f)
+  handed_replaces (Some v) f (InCall (Some t)) = record { current_is = refl; routine_is = refl; origin_is = refl; bound_is = refl }
+  handed_replaces None f (InCall (Some t)) = record { current_is = refl; routine_is = refl; origin_is = refl; bound_is = refl }
+  handed_replaces v f (InCall None) = record { current_is = refl; routine_is = refl; origin_is = refl; bound_is = refl }
+  handed_replaces v f Runs = record { current_is = refl; routine_is = refl; origin_is = refl; bound_is = refl }
+  handed_replaces v f Reserves = record { current_is = refl; routine_is = refl; origin_is = refl; bound_is = refl }
+  handed_replaces v f ReservesBlock = record { current_is = refl; routine_is = refl; origin_is = refl; bound_is = refl }
+  handed_replaces v f (Awaits k t c) = record { current_is = refl; routine_is = refl; origin_is = refl; bound_is = refl }
+
+  pub handed_stands : (below : List Frame) (v : Option Value) (st : List Frame) → OnStack below st → OnStack below (handed v st)
+  handed_stands below v [] z = absurd (not_empty below z)
+  handed_stands below v (f ∷ fs) z = top_replaced below f (handed_at f.stage v f) fs (handed_replaces v f f.stage) z
+
+-- ---- what is entered
+
+-- the routine of a feature has its name
+pub routine_name : (s : System) (f : DeclaredFeature) (r : Routine) → routine_of s f ≡ Some r → name_of r ≡ rules.routine_of f
+routine_name s f r e = of_origin (origin_of s f) e
+  where
+    of_kinds : (k : ℕ) (m u : FeatureKind) → routine_with s f.feature.name.text f.class m k u ≡ Some r → name_of r ≡ rules.routine_of f
+    of_kinds k (tree.Routine own) (tree.Routine original) e = cc
+    of_kinds k (tree.Attribute d) u e = cc
+    of_kinds k (tree.Routine own) (tree.Attribute d) e = cc
+
+    of_origin : (c : Option DeclaredFeature) → routine_from s f c ≡ Some r → name_of r ≡ rules.routine_of f
+    of_origin None e = cc
+    of_origin (Some c) e = of_kinds c.class f.feature.kind c.feature.kind e
+
+-- each routine of a name that runs only what contracts may call is such a one
+pub named_is_pure : (s : System) (pure : RoutineName → Bool) (k : ℕ) (x : List ℕ) →
+    ((f : DeclaredFeature) → version_of s k x ≡ Some f → pure (rules.routine_of f) ≡ true) → (r : Routine) → routine_named s k x ≡ Some r →
+    pure (name_of r) ≡ true
+named_is_pure s pure k x runs r e = by (version_of s k x) refl e
+  where
+    by : (v : Option DeclaredFeature) → version_of s k x ≡ v → option_and_then (routine_of s) v ≡ Some r → pure (name_of r) ≡ true
+    by None i e = cc
+    by (Some f) i e = ap pure (routine_name s f r e) ∙ runs f i
