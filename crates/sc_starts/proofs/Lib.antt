@@ -3,6 +3,7 @@ pub mod OthersLocal
 pub mod OthersQuiet
 pub mod OthersRun
 pub mod OthersStack
+pub mod OthersTake
 pub mod OthersWorlds
 pub mod PointsClauses
 pub mod PointsEntries

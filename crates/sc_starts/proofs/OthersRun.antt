@@ -99,7 +99,7 @@ module _ (s : System) (pure : RoutineName → Bool) (g h : ℕ) (apart : h ≢ g
     failure_is = a.failure_is ∙ z.failure_is;
   }
 
-  either : (b : Bool) (y z : World) → (b ≡ true → Comes y) → (b ≡ false → Comes z) → Comes (if b then y else z)
+  pub either : (b : Bool) (y z : World) → (b ≡ true → Comes y) → (b ≡ false → Comes z) → Comes (if b then y else z)
   either true y z t u = t refl
   either false y z t u = u refl
 
@@ -140,14 +140,14 @@ module _ (s : System) (pure : RoutineName → Bool) (g h : ℕ) (apart : h ≢ g
 
   -- ---- its end
 
-  -- so many of a world from which the request is gone are those that were before
-  record Left (v : World) : Type 0 where
-    stack_is : (v.handlers g).stack ≡ below
-    objects_are : (v.handlers g).objects ≡ (w.handlers g).objects
-    queue_is : (v.handlers g).queue ≡ (w.handlers g).queue
-    top_is : v.rights.top g ≡ w.rights.top g
-    answer_is : (v.handlers h).answer ≡ None
-    failure_is : (v.handlers h).failure ≡ None
+  -- the request doesn't stand on these frames
+  pub record Left (v : World) : Type 0 where
+    pub stack_is : (v.handlers g).stack ≡ below
+    pub objects_are : (v.handlers g).objects ≡ (w.handlers g).objects
+    pub queue_is : (v.handlers g).queue ≡ (w.handlers g).queue
+    pub top_is : v.rights.top g ≡ w.rights.top g
+    pub answer_is : (v.handlers h).answer ≡ None
+    pub failure_is : (v.handlers h).failure ≡ None
 
   alike_left : (v u : World) → Alike g h apart v u → Left v → Left u
   alike_left v u a z = record {
@@ -174,7 +174,7 @@ module _ (s : System) (pure : RoutineName → Bool) (g h : ℕ) (apart : h ≢ g
   finish_hears a v z = ap (λ (k : Handler). k.answer) (put_own h g back (answered a (v.handlers h)) v)
       ∙ heard_so a (v.handlers h).failure (v.handlers h).answer z.failure_is z.answer_is
 
-  finish_over : (value : Value) (v : World) → Left v → Answers s (Own o.handler) (objects_of w) o x us value → Over (finish asks (Reply (Some value)) v)
+  pub finish_over : (value : Value) (v : World) → Left v → Answers s (Own o.handler) (objects_of w) o x us value → Over (finish asks (Reply (Some value)) v)
   finish_over value v z answers =
       let other : (finish asks (Reply (Some value)) v).handlers g ≡ v.handlers g = put_other h g back (answered (Reply (Some value)) (v.handlers h)) v in
       record {
