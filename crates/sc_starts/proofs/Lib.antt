@@ -1,4 +1,5 @@
 pub mod PointsBound
+pub mod OthersAsked
 pub mod OthersLocal
 pub mod OthersQuiet
 pub mod OthersRun
