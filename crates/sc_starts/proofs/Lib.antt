@@ -1,5 +1,6 @@
 pub mod PointsBound
 pub mod OthersAsked
+pub mod OthersFollow
 pub mod OthersLocal
 pub mod OthersQuiet
 pub mod OthersRun
