@@ -1,7 +1,6 @@
 -- What a turn gives back or releases is its handler's.
-use Rattle.std.proofs.Common.{◌≡◌, ◌≢◌, ◌⊎◌, ⊎_elim, inl, inr, ℕ, suc, ◌<◌, ◌==◌, ◌||◌, Bool, true, false, List, [], ◌∷◌, ◌++◌, Option, Some, None, refl, sym, ap, ◌∙◌, subst, arith}
-use Rattle.std.specs.Prelude.{Contains, is_some}
-use Rattle.std.specs.Option.{option_map}
+use Rattle.std.proofs.Common.{◌≡◌, ⊎_elim, inl, ℕ, suc, ◌==◌, ◌||◌, Bool, true, false, List, [], ◌∷◌, Option, Some, None, refl, sym, ap, ◌∙◌, subst, arith}
+use Rattle.std.specs.Prelude.{Contains}
 use Rattle.std.proofs.lemmas.Bool.{eqb-true}
 use Rattle.sc_proctype.specs.declared.entity_type.EntityType.{EntityType}
 use Rattle.sc_lockpass.specs.Rights.{Rights, is_among}
@@ -10,13 +9,13 @@ use Rattle.sc_model.specs.Values.{Value}
 use Rattle.sc_model.specs.Handlers as machine
 use Rattle.sc_model.specs.Handlers.{Runs, Awaits, Reply}
 use Rattle.sc_model.specs.Failures.{requests_at}
-use Rattle.sc_laws.specs.World.{Grant, Reservation, Wait, Request, Frame, Handler, World, holder, put, resumed, take_answer, requests_of}
-use Rattle.sc_laws.specs.Steps.{waits_for, answered, IsActive, Step, Answers}
-use Rattle.sc_laws.specs.Consistent.{HasWait, StackWaits, IsOpen, HasGrant, IsFirst, IsTrail, Nobody, Lends, IsOne, IsStuckFrom}
+use Rattle.sc_laws.specs.World.{Grant, Reservation, Wait, Request, Frame, Handler, World, holder, resumed, take_answer, requests_of}
+use Rattle.sc_laws.specs.Steps.{waits_for, answered, Answers}
+use Rattle.sc_laws.specs.Consistent.{IsOpen, HasGrant, IsFirst, Nobody, Lends, IsOne, IsStuckFrom}
 use Rattle.sc_laws.specs.Returns.{ReturnsTo, IsListed}
 use Rattle.sc_laws.specs.Laws.{RunsIn, EachGranted}
 use Rattle.sc_laws.specs.Lawful.{IsLawful}
-use Rattle.sc_laws.specs.Stands.{NeedsOf, NamesOf, answer_of, handlers_of, IsRequest, IsRoutine, AreBlocks, place_of, IsCreation, IsStaged, IsStack, Stands}
+use Rattle.sc_laws.specs.Stands.{NeedsOf, NamesOf, handlers_of, IsRequest, IsRoutine, AreBlocks, place_of, IsCreation, IsStaged, IsStack, Stands}
 use Rattle.sc_laws.specs.Headline.{has_reply, is_awaiting}
 use Rattle.sc_laws.proofs.Rights.{put-same, not_some}
 use Rattle.sc_laws.proofs.Waits.{true_false}

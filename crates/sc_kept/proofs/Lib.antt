@@ -5,3 +5,4 @@ pub mod Standing
 pub mod Tops
 pub mod Turned
 pub mod Unlent
+pub mod Unused

@@ -1,15 +1,15 @@
 -- What a turn leaves of another handler, and how an answer comes there.
-use Rattle.std.proofs.Common.{◌≡◌, ◌≢◌, ◌⊎◌, ⊎_elim, inl, inr, ℕ, ◌+◌, ◌<◌, ◌≤◌, ◌==◌, ◌&&◌, ◌||◌, not, Bool, true, false, List, [], ◌∷◌, ◌++◌, Option, Some, None, length, refl, sym, ap, ◌∙◌, subst, arith}
+use Rattle.std.proofs.Common.{◌≡◌, ◌≢◌, ◌⊎◌, ⊎_elim, inl, inr, ℕ, ◌≤◌, ◌==◌, ◌&&◌, ◌||◌, not, Bool, true, false, List, [], ◌∷◌, ◌++◌, Option, Some, None, length, refl, sym, ap, ◌∙◌, subst, arith}
 use Rattle.std.specs.Prelude.{if◌then◌else◌, nat_lt, is_some}
 use Rattle.std.specs.List.{list_any}
 use Rattle.std.specs.Option.{option_map}
-use Rattle.std.proofs.lemmas.Bool.{eq-eqb, eqb-true, ne_eqb, cases_eq, ltb-true}
+use Rattle.std.proofs.lemmas.Bool.{eq-eqb, eqb-true, ne_eqb, cases_eq}
 use Rattle.sc_tree.specs.Plain as tree
 use Rattle.sc_tree.specs.Plain.{System, Clause, FeatureKind, DeclaredType}
 use Rattle.sc_class.specs.Tables.Features.{DeclaredFeature}
 use Rattle.sc_proctype.specs.declared.entity_type.EntityType.{EntityType}
 use Rattle.sc_rules.specs.Types.{declared_type}
-use Rattle.sc_lockpass.specs.Rights.{Rights, is_handler, held, is_among}
+use Rattle.sc_lockpass.specs.Rights.{Rights, is_handler, is_among}
 use Rattle.sc_lockpass.specs.Passing.{Passed}
 use Rattle.sc_waitcond.specs.Reservations.{ends_session, reserve_fails}
 use Rattle.sc_waitcond.specs.declared.condition.Verdict.{Verdict}
@@ -18,30 +18,21 @@ use Rattle.sc_waitcond.specs.declared.session.Release.{Release}
 use Rattle.sc_waitcond.specs.declared.session.Release.TheVariants as release_at
 use Rattle.sc_model.specs.declared.cause.Cause.{Cause}
 use Rattle.sc_model.specs.declared.cause.Cause.TheVariants as cause
-use Rattle.sc_model.specs.Values.{Reference, Attached, Value, Operand, operand, values_of}
+use Rattle.sc_model.specs.Values.{Reference, Value, Operand}
 use Rattle.sc_model.specs.Environments.{Binding, binding_named, formals_bound}
 use Rattle.sc_model.specs.Objects.{Object, object_numbered, fresh_object}
 use Rattle.sc_model.specs.Invariants.{meets_invariant}
 use Rattle.sc_model.specs.Routines.{Routine, routine_named, routine_of, version_of}
-use Rattle.sc_model.specs.Limits.{max_frames, max_queue}
-use Rattle.sc_model.specs.Steps.{Point, Act, Prints, Tests, Creates, CreatesHandler, Enters, Requests, Starts, Refuses, Opens, Leaves, Exits, Fails, Step, Goes, Does}
-use Rattle.sc_model.specs.Moves.{moves}
-use Rattle.sc_model.specs.Handlers.{Errand, Calls, Makes, Request, Answer, Reply, Failed, Refused, Origin, Called, Requested, Stage, Runs, Reserves, ReservesBlock, InCall, Awaits, Frame, Handler, World, new_handler, point_of, frame_at, put, with_stack}
+use Rattle.sc_model.specs.Limits.{max_frames}
+use Rattle.sc_model.specs.Handlers.{Errand, Calls, Makes, Request, Answer, Reply, Failed, Refused, Origin, Called, Requested, Frame, Handler, World, put, with_stack}
 use Rattle.sc_model.specs.Sessions.{session_ended, standing_in, reserve, release}
 use Rattle.sc_model.specs.Answers.{heard, answered, answer_to, return_rights, finish}
 use Rattle.sc_model.specs.Failures.{is_waited_by, requests_at, told, fallen, fails_with, fail}
-use Rattle.sc_model.specs.Entries.{entry, enters_bound, enters, entry_needs, block_needs, reserves_if, may_reserve}
-use Rattle.sc_model.specs.Asking.{passes, placed, send, awaits_if, request_by, is_callback, asks, request, with_handler, posts_creation, passes_or_releases, created, creates_handler}
-use Rattle.sc_model.specs.Preconditions.{verdict_on, waits_again, is_creation, object_meets, counted_refusal, refuses, correctness_fails, false_clause}
+use Rattle.sc_model.specs.Entries.{entry, enters_bound, enters, reserves_if}
+use Rattle.sc_model.specs.Preconditions.{waits_again, is_creation, object_meets, counted_refusal, refuses, correctness_fails, false_clause}
 use Rattle.sc_model.specs.Exits.{is_unset_value, is_unset, is_untested, handed, handed_as, leaves_to, exits, leaves_block}
-use Rattle.sc_model.specs.Takes.{replies, takes_kind, takes_version, takes_creation, with_new_object, takes_errand, takes_next, takes_callback, released_if, takes_answer}
-use Rattle.sc_model.specs.Turns.{prints_text, effect, settles, waits, goes_on, turn_with, turn}
-use Rattle.sc_laws.proofs.Rights.{not_some}
-use Rattle.sc_laws.proofs.Waits.{true_false}
+use Rattle.sc_model.specs.Takes.{replies, takes_kind, takes_version, takes_creation, with_new_object, takes_errand, released_if, takes_answer}
 use Rattle.sc_laws.proofs.links.Standing.{m_put-own, m_put-off}
-use Rattle.sc_laws.proofs.links.Turning.{ActFits, StepFits, FrameFits, StackFits}
-use Rattle.sc_kept.specs.Laws as laws
-use Rattle.sc_kept.specs.Laws.{QueueComes, CallbackComes, Stays}
 
 -- ---- handlers
 

@@ -1,9 +1,9 @@
 -- A turn takes no right from another handler.
-use Rattle.std.proofs.Common.{◌≡◌, ◌≢◌, ◌⊎◌, ⊎_elim, inl, inr, ℕ, ◌+◌, ◌<◌, ◌≤◌, ◌==◌, ◌&&◌, ◌||◌, not, Bool, true, false, List, [], ◌∷◌, ◌++◌, Option, Some, None, length, refl, sym, ap, ◌∙◌, subst, arith}
+use Rattle.std.proofs.Common.{◌≡◌, ◌≢◌, ℕ, ◌==◌, ◌&&◌, ◌||◌, not, Bool, true, false, List, [], ◌∷◌, ◌++◌, Option, Some, None, length, refl, sym, ap, ◌∙◌, subst, arith}
 use Rattle.std.specs.Prelude.{if◌then◌else◌, nat_lt, is_some, Contains}
 use Rattle.std.specs.List.{list_all}
 use Rattle.std.specs.Option.{option_map, is_none}
-use Rattle.std.proofs.lemmas.Bool.{eq-eqb, eqb-true, ne_eqb, cases_eq}
+use Rattle.std.proofs.lemmas.Bool.{eq-eqb, eqb-true, ne_eqb}
 use Rattle.sc_tree.specs.Plain as tree
 use Rattle.sc_tree.specs.Plain.{System, FeatureKind}
 use Rattle.sc_class.specs.ClassNames.{Root}
@@ -18,23 +18,20 @@ use Rattle.sc_waitcond.specs.Reservations.{Standing, may_be_reserved, mark_allow
 use Rattle.sc_waitcond.specs.declared.mark.Marked.{Marked}
 use Rattle.sc_waitcond.specs.declared.condition.Verdict.{Verdict}
 use Rattle.sc_waitcond.specs.declared.condition.Verdict.TheVariants as verdict
-use Rattle.sc_waitcond.specs.declared.session.Release.TheVariants as release_at
 use Rattle.sc_model.specs.declared.cause.Cause.{Cause}
-use Rattle.sc_model.specs.declared.cause.Cause.TheVariants as cause
-use Rattle.sc_model.specs.Values.{Reference, Attached, Value, Operand, operand, values_of}
+use Rattle.sc_model.specs.Values.{Reference, Value, Operand, values_of}
 use Rattle.sc_model.specs.Environments.{Binding, binding_named, formals_bound}
 use Rattle.sc_model.specs.Objects.{Object, object_numbered, fresh_object}
 use Rattle.sc_model.specs.Invariants.{meets_invariant}
 use Rattle.sc_model.specs.Routines.{Routine, routine_named, routine_of, version_of}
 use Rattle.sc_model.specs.Limits.{max_frames, max_queue}
-use Rattle.sc_model.specs.Steps.{Point, Act, Prints, Tests, Creates, CreatesHandler, Enters, Requests, Starts, Refuses, Opens, Leaves, Exits, Fails, Step, Goes, Does}
+use Rattle.sc_model.specs.Steps.{Act, Prints, Tests, Creates, CreatesHandler, Enters, Requests, Starts, Refuses, Opens, Leaves, Exits, Fails, Step, Goes, Does}
 use Rattle.sc_model.specs.Moves.{moves}
-use Rattle.sc_model.specs.Handlers.{Errand, Calls, Makes, Request, Answer, Reply, Failed, Refused, Origin, Called, Requested, Stage, Runs, Reserves, ReservesBlock, InCall, Awaits, Frame, Handler, World, point_of, frame_at, put, with_stack}
+use Rattle.sc_model.specs.Handlers.{Errand, Calls, Makes, Request, Answer, Reply, Failed, Refused, Origin, Called, Requested, Stage, Runs, Reserves, ReservesBlock, InCall, Awaits, Frame, World, point_of, frame_at, put}
 use Rattle.sc_model.specs.Sessions.{standing_in}
 use Rattle.sc_model.specs.Answers.{answer_to, return_rights, finish}
-use Rattle.sc_model.specs.Failures.{fails_with, fail}
 use Rattle.sc_model.specs.Entries.{enters_bound, enters, entry_needs, block_needs, reserves_if, may_reserve}
-use Rattle.sc_model.specs.Asking.{passes, is_callback, asks, request, passes_or_releases, created, creates_handler}
+use Rattle.sc_model.specs.Asking.{passes, is_callback, asks, request, created, creates_handler}
 use Rattle.sc_model.specs.Preconditions.{verdict_on, is_creation, object_meets, refuses, correctness_fails, false_clause}
 use Rattle.sc_model.specs.Exits.{is_unset_value, is_unset, is_untested, leaves_to, exits, leaves_block}
 use Rattle.sc_model.specs.Takes.{replies, takes_kind, takes_version, takes_creation, takes_errand, takes_next, takes_answer}

@@ -1,5 +1,5 @@
 -- The requests that stand at a handler, place by place beside those of the world of rights.
-use Rattle.std.proofs.Common.{◌≡◌, ◌≢◌, ◌⊎◌, ⊎_elim, inl, inr, ℕ, suc, ◌<◌, Bool, true, false, List, [], ◌∷◌, ◌++◌, Option, Some, None, refl, sym, ap, ◌∙◌, subst}
+use Rattle.std.proofs.Common.{◌≡◌, ◌≢◌, ◌⊎◌, ⊎_elim, inl, inr, ℕ, suc, ◌<◌, true, false, List, [], ◌∷◌, ◌++◌, Option, Some, None, refl, sym, ap, ◌∙◌, subst}
 use Rattle.std.specs.Prelude.{Contains}
 use Rattle.std.specs.List.{flat_map}
 use Rattle.std.proofs.lemmas.List.{append_assoc}
@@ -162,8 +162,12 @@ apart n (r ∷ rs) (y ∷ before) behind q numbered is =
       is = a.is;
       stands = inr a.stands;
       others = λ b i. ⊎_elim
-          (λ e. (r, subst (IsRequest r) e is.0, inl refl,
-          (λ same. numbered.1 (subst (λ m. HasNumber m rs) (sym same) (one_number a.request rs a.stands)))))
+          (λ e. (
+            r,
+            subst (IsRequest r) e is.0,
+            inl refl,
+            (λ same. numbered.1 (subst (λ m. HasNumber m rs) (sym same) (one_number a.request rs a.stands))),
+          ))
           (λ later. let c = a.others b later in (c.0, c.1, inr c.2, c.3))
           (contains_cases y (before ++ behind) b i);
     }

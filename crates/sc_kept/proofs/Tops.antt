@@ -1,5 +1,5 @@
 -- Who waits, where another handler may push on its waiting stack, or nothing has come.
-use Rattle.std.proofs.Common.{◌≡◌, ◌≢◌, ◌⊎◌, ⊎_elim, inl, inr, ℕ, ◌<◌, ◌≤◌, Bool, true, false, List, [], ◌∷◌, Option, Some, None, refl, sym, ap, ◌∙◌, subst}
+use Rattle.std.proofs.Common.{◌≡◌, ◌≢◌, ◌⊎◌, ⊎_elim, ℕ, ◌≤◌, Bool, true, false, List, [], ◌∷◌, Option, Some, None, refl, sym, ap, ◌∙◌, subst}
 use Rattle.std.specs.Prelude.{is_some}
 use Rattle.std.specs.Option.{option_map}
 use Rattle.sc_proctype.specs.declared.entity_type.EntityType.{EntityType}
@@ -7,8 +7,8 @@ use Rattle.sc_lockpass.specs.Rights.{Rights}
 use Rattle.sc_model.specs.declared.cause.Cause.{Cause}
 use Rattle.sc_model.specs.Handlers as machine
 use Rattle.sc_model.specs.Handlers.{Runs, Reserves, ReservesBlock, InCall, Awaits, Reply, Failed, Refused}
-use Rattle.sc_laws.specs.World.{Grant, Wait, Request, Frame, Answer, World, holder}
-use Rattle.sc_laws.specs.Steps.{waits_for, answered, IsActive}
+use Rattle.sc_laws.specs.World.{Grant, Wait, Request, Frame, World, holder}
+use Rattle.sc_laws.specs.Steps.{waits_for, answered}
 use Rattle.sc_laws.specs.Consistent.{HasWait, HasPassed, Asks, IsFirst, IsBased}
 use Rattle.sc_laws.specs.Consistent as consistent
 use Rattle.sc_laws.specs.Lawful.{IsLawful}

@@ -1,36 +1,26 @@
 -- What a whole turn leaves of another handler, how an answer comes there, and what becomes of the own queue.
-use Rattle.std.proofs.Common.{◌≡◌, ◌≢◌, ◌⊎◌, ⊎_elim, inl, inr, ℕ, suc, ◌+◌, ◌<◌, ◌≤◌, ◌==◌, ◌&&◌, ◌||◌, not, Bool, true, false, List, [], ◌∷◌, ◌++◌, Option, Some, None, length, refl, sym, ap, ◌∙◌, subst, arith}
+use Rattle.std.proofs.Common.{◌≡◌, ◌≢◌, ◌⊎◌, ⊎_elim, inl, inr, ℕ, suc, ◌<◌, ◌≤◌, ◌==◌, ◌&&◌, ◌||◌, not, Bool, true, false, List, [], ◌∷◌, ◌++◌, Option, Some, None, length, refl, sym, ap, ◌∙◌, subst, arith}
 use Rattle.std.specs.Prelude.{if◌then◌else◌, nat_lt, is_some}
 use Rattle.std.specs.Option.{option_map}
-use Rattle.std.proofs.lemmas.Bool.{eq-eqb, eqb-true, ne_eqb, cases_eq, ltb-true}
-use Rattle.sc_tree.specs.Plain as tree
-use Rattle.sc_tree.specs.Plain.{System, Clause, DeclaredType}
-use Rattle.sc_class.specs.ClassNames.{Root}
-use Rattle.sc_class.specs.Tables.Features.{DeclaredFeature}
+use Rattle.std.proofs.lemmas.Bool.{eqb-true, ne_eqb, ltb-true}
+use Rattle.sc_tree.specs.Plain.{System, Clause}
 use Rattle.sc_proctype.specs.declared.entity_type.EntityType.{EntityType}
-use Rattle.sc_rules.specs.Types.{declared_type}
 use Rattle.sc_lockpass.specs.Rights.{is_handler, held}
 use Rattle.sc_waitcond.specs.declared.session.Release.TheVariants as release_at
 use Rattle.sc_model.specs.declared.cause.Cause.{Cause}
 use Rattle.sc_model.specs.declared.cause.Cause.TheVariants as cause
-use Rattle.sc_model.specs.Values.{Reference, Attached, Value, Operand, operand, values_of}
-use Rattle.sc_model.specs.Environments.{Binding, binding_named}
-use Rattle.sc_model.specs.Objects.{Object, object_numbered}
-use Rattle.sc_model.specs.Routines.{routine_named, version_of}
+use Rattle.sc_model.specs.Values.{Reference, Value, Operand, values_of}
+use Rattle.sc_model.specs.Objects.{object_numbered}
+use Rattle.sc_model.specs.Routines.{routine_named}
 use Rattle.sc_model.specs.Limits.{max_queue}
 use Rattle.sc_model.specs.Steps.{Point, Act, Prints, Tests, Creates, CreatesHandler, Enters, Requests, Starts, Refuses, Opens, Leaves, Exits, Fails, Step, Goes, Does}
 use Rattle.sc_model.specs.Moves.{moves}
-use Rattle.sc_model.specs.Handlers.{Errand, Calls, Makes, Request, Answer, Reply, Failed, Refused, Called, Requested, Stage, Runs, Reserves, ReservesBlock, InCall, Awaits, Frame, Handler, World, new_handler, point_of, frame_at, put, with_stack}
-use Rattle.sc_model.specs.Answers.{heard}
-use Rattle.sc_model.specs.Failures.{fail}
+use Rattle.sc_model.specs.Handlers.{Calls, Makes, Request, Answer, Reply, Refused, Called, Requested, Stage, Runs, Reserves, ReservesBlock, InCall, Awaits, Frame, Handler, World, new_handler, point_of, frame_at, put, with_stack}
 use Rattle.sc_model.specs.Entries.{entry_needs, block_needs, may_reserve}
-use Rattle.sc_model.specs.Asking.{passes, placed, send, awaits_if, request_by, is_callback, asks, request, with_handler, posts_creation, passes_or_releases, created, creates_handler}
+use Rattle.sc_model.specs.Asking.{passes, placed, send, awaits_if, request_by, is_callback, asks, request, with_handler, passes_or_releases, created, creates_handler}
 use Rattle.sc_model.specs.Preconditions.{verdict_on}
-use Rattle.sc_model.specs.Exits.{is_unset_value}
-use Rattle.sc_model.specs.Takes.{takes_errand, takes_next, takes_callback, takes_answer}
+use Rattle.sc_model.specs.Takes.{takes_next}
 use Rattle.sc_model.specs.Turns.{effect, settles, waits, goes_on, turn_with, turn}
-use Rattle.sc_model.specs.Runs.{IsReached}
-use Rattle.sc_laws.proofs.Rights.{not_some}
 use Rattle.sc_laws.proofs.Waits.{true_false}
 use Rattle.sc_laws.proofs.links.Standing.{m_put-own, m_put-off}
 use Rattle.sc_laws.proofs.links.Turning.{ActFits, StepFits, FrameFits, StackFits}
@@ -39,7 +29,7 @@ use Rattle.sc_laws.proofs.links.Reached.{reached_linked}
 use Rattle.sc_values.specs.Fitting.{MayEnd, next, runs, called_back}
 use Rattle.sc_kept.specs.Laws as laws
 use Rattle.sc_kept.specs.Laws.{QueueComes, CallbackComes, Stays, OthersStay, CountGrows, MayAnswer, Ends, IsAttribute, AnswerComes, AnswersCome, OwnQueueMoves, OwnQueueShrinks}
-use Rattle.sc_kept.proofs.Others.{Rests, rests_same, rests_again, put_at, put_queue, some_same, Same, still, same_again, put_same, stack_same, release_same, Heard, same, told_so, ended, Comes, same_comes, heard_after, comes_after, fail_comes, enters_comes, reserves_comes, clause_comes, exits_comes, block_comes, AtOnce, errand_comes, takes_answer_comes, ended_rests, ended_answer, ended_queue}
+use Rattle.sc_kept.proofs.Others.{Rests, rests_same, put_at, Same, still, same_again, put_same, stack_same, release_same, Heard, same, told_so, ended, Comes, same_comes, heard_after, comes_after, fail_comes, enters_comes, reserves_comes, clause_comes, exits_comes, block_comes, AtOnce, errand_comes, takes_answer_comes}
 
 -- ---- tests
 
@@ -189,7 +179,7 @@ module _ (g k : ℕ) (ne : k ≢ g) (Why : Request → Answer → Type 0) (Q : T
       there : (asks g r x us t passing waiting f below w).handlers ≡ after.handlers
       there = passed_handlers passing r.handler after
 
-  request_turned : (r : Reference) (x : List ℕ) (us : List Operand) (t : Option EntityType) (passing : Bool) (f : Frame) (below : List Frame)
+  pub request_turned : (r : Reference) (x : List ℕ) (us : List Operand) (t : Option EntityType) (passing : Bool) (f : Frame) (below : List Frame)
       (w : World) → (Q → r.handler ≢ g) → Turned w (request g r x us t passing f below w)
   request_turned r x us t passing f below w other =
       if_turned w (not (held w.rights g r.handler)) _ _ (λ e. comes_turned (fail_comes g k ne Why cause.NotHeld w))

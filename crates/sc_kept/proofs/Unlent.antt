@@ -1,11 +1,11 @@
 -- Whoever waits and has lent nothing waits on top, for this one request.
-use Rattle.std.proofs.Common.{◌≡◌, ◌≢◌, ◌⊎◌, ⊎_elim, inl, inr, ℕ, suc, ◌<◌, Bool, true, false, List, [], ◌∷◌, ◌++◌, Option, Some, None, refl, sym, ap, ◌∙◌, subst, arith}
+use Rattle.std.proofs.Common.{◌≡◌, ◌≢◌, ⊎_elim, inl, ℕ, ◌<◌, Bool, true, false, List, [], ◌∷◌, ◌++◌, Option, Some, None, refl, sym, ap, ◌∙◌, subst, arith}
 use Rattle.std.specs.Prelude.{Contains, is_some}
 use Rattle.std.specs.Option.{option_map}
 use Rattle.sc_model.specs.Handlers as machine
 use Rattle.sc_model.specs.Handlers.{Requested, Runs}
 use Rattle.sc_model.specs.Failures.{request_of, to_list, requests_at}
-use Rattle.sc_laws.specs.World.{Wait, Request, Frame, Handler, SupplierFailed, World, passes, popped, requests_of}
+use Rattle.sc_laws.specs.World.{Wait, Request, Frame, SupplierFailed, World, passes, popped, requests_of}
 use Rattle.sc_laws.specs.Steps.{waits_for, answered, IsTold}
 use Rattle.sc_laws.specs.Consistent.{Asks, HasWait, StackWaits, HasPassed, IsOpen, HasGrant, IsAway, Lends, Told, On, Stuck, IsOne, IsConsistent}
 use Rattle.sc_laws.specs.Lawful.{IsLawful}
@@ -18,7 +18,7 @@ use Rattle.sc_laws.proofs.Replies.{top_or_below}
 use Rattle.sc_laws.proofs.links.Reached.{reached_stands}
 use Rattle.sc_values.specs.Fitting.{MayEnd, runs, next, called_back}
 use Rattle.sc_kept.specs.Laws.{TopAwaits, IsUnlent, NoCallback, EndsTheOne, StandsOnce}
-use Rattle.sc_kept.proofs.Standing.{PairAt, pair_one, pair_is, pair_same, pair_before, pair_behind, pair_of, Apart, apart, begun_in, stacked, this_if, standing, callback_requests, both, standing_is, standing_one, standing_numbered, Begins, blocks_begin}
+use Rattle.sc_kept.proofs.Standing.{PairAt, pair_one, pair_is, pair_same, pair_before, pair_behind, pair_of, apart, begun_in, stacked, this_if, standing, callback_requests, both, standing_is, standing_one, standing_numbered, blocks_begin}
 use Rattle.sc_kept.proofs.Tops.{top_awaits, no_parts, there_callback, lives_there, replies_same, callback_none}
 
 -- ---- in the world of rights
@@ -131,9 +131,11 @@ module _ (t : World) (m : machine.World) (law : IsLawful t) (stands : Stands t m
   kept : (h k : ℕ) (q : machine.Request) (a : Request) → (m.handlers h).failure ≡ None → IsOne a (standing (t.handlers k)) → IsRequest a q
       → q.poster ≡ Some h → q.is_waited ≡ true → q.passed ≡ None → (a.poster ≡ h) × KeepsAll t k a
   kept h k q a alive one is by_h waited none =
-      let mine : a.poster ≡ h = subst (IsPoster a) by_h is.poster in
-      (mine, unlent_keeps t law.consistent k a (standing_one (t.handlers k) a one) (is.waited ∙ waited) (is.passed ∙ none)
-      (ap (λ y. (t.handlers y).failed) mine ∙ lives_there t m law stands h alive))
+      let mine : a.poster ≡ h = subst (IsPoster a) by_h is.poster in (
+        mine,
+        unlent_keeps t law.consistent k a (standing_one (t.handlers k) a one) (is.waited ∙ waited) (is.passed ∙ none)
+            (ap (λ y. (t.handlers y).failed) mine ∙ lives_there t m law stands h alive),
+      )
 
   -- two that are waited for on top of h are one
   same_top : (h k j : ℕ) (a c : Request) → a.poster ≡ h → c.poster ≡ h → OnTop t k a → OnTop t j c → (a.number ≡ c.number) × (k ≡ j)
@@ -247,10 +249,12 @@ module _ (t : World) (m : machine.World) (law : IsLawful t) (stands : Stands t m
       (record { stands = one; waited = is.waited ∙ waited; lives = still_lives g e.request one; older = e.older; passes = e.passes })
       (ap (λ y. (t.handlers y).failed) mine ∙ lives_there t m law stands h alive)
       (ap (λ y. (t.handlers y).answer) mine ∙ (stands.handlers h).answer ∙ ap (option_map answer_of) none) in
-      let same = same_top h g k e.request p.0 mine c.0 top c.1.top in
-      (same.1, pair_same t.next (standing (t.handlers k)) (requests_at (m.handlers k)) e.request p.0 r q
-      (standing_numbered t.next (t.handlers k) (law.consistent.numbered k))
-      (subst (λ y. PairAt (standing (t.handlers y)) (requests_at (m.handlers y)) e.request r) same.1 e.pair) p.1 same.0)
+      let same = same_top h g k e.request p.0 mine c.0 top c.1.top in (
+        same.1,
+        pair_same t.next (standing (t.handlers k)) (requests_at (m.handlers k)) e.request p.0 r q
+            (standing_numbered t.next (t.handlers k) (law.consistent.numbered k))
+            (subst (λ y. PairAt (standing (t.handlers y)) (requests_at (m.handlers y)) e.request r) same.1 e.pair) p.1 same.0,
+      )
 
   stands_once_at : (h k : ℕ) (q r : machine.Request) (before behind : List machine.Request) → (m.handlers h).failure ≡ None
       → requests_at (m.handlers k) ≡ before ++ q ∷ behind → q.poster ≡ Some h → q.is_waited ≡ true → q.passed ≡ None

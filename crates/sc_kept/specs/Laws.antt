@@ -13,7 +13,7 @@ use Rattle.sc_model.specs.Objects.{Object, object_numbered}
 use Rattle.sc_model.specs.Routines.{version_of}
 use Rattle.sc_model.specs.Steps.{Act, Point, Exits, Refuses, Does}
 use Rattle.sc_model.specs.Moves.{moves}
-use Rattle.sc_model.specs.Handlers.{Request, Calls, Makes, Answer, Reply, Failed, Refused, Requested, Runs, Awaits, Frame, Handler, World, point_of}
+use Rattle.sc_model.specs.Handlers.{Request, Calls, Makes, Reply, Failed, Refused, Requested, Runs, Awaits, Frame, Handler, World, point_of}
 use Rattle.sc_model.specs.Answers.{heard}
 use Rattle.sc_model.specs.Exits.{is_unset_value}
 use Rattle.sc_model.specs.Failures.{requests_at}
