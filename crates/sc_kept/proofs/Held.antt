@@ -15,7 +15,7 @@ use Rattle.sc_laws.specs.Consistent.{IsOpen, HasGrant, IsFirst, Nobody, Lends, I
 use Rattle.sc_laws.specs.Returns.{ReturnsTo, IsListed}
 use Rattle.sc_laws.specs.Laws.{RunsIn, EachGranted}
 use Rattle.sc_laws.specs.Lawful.{IsLawful}
-use Rattle.sc_laws.specs.Stands.{NeedsOf, NamesOf, handlers_of, IsRequest, IsRoutine, AreBlocks, place_of, IsCreation, IsStaged, IsStack, Stands}
+use Rattle.sc_laws.specs.Stands.{NeedsOf, NamesOf, handlers_of, IsRoutine, AreBlocks, place_of, IsCreation, IsStaged, IsStack, Stands}
 use Rattle.sc_laws.specs.Headline.{has_reply, is_awaiting}
 use Rattle.sc_laws.proofs.Rights.{put-same, not_some}
 use Rattle.sc_laws.proofs.Waits.{true_false}
@@ -26,7 +26,7 @@ use Rattle.sc_laws.proofs.Machine.{contains_none, contains_first, contains_later
 use Rattle.sc_values.specs.Fitting.{MayEnd}
 use Rattle.sc_kept.proofs.Standing.{pair_one, pair_is, standing, standing_one}
 use Rattle.sc_kept.proofs.Tops.{lives_there, queue_is, top_is, replies_same}
-use Rattle.sc_kept.proofs.Unlent.{ending, paired_at, still_lives}
+use Rattle.sc_kept.proofs.Unlent.{Ending, ending, paired_at, still_lives}
 
 -- ---- what was passed
 
@@ -51,51 +51,54 @@ module _ (t : World) (m : machine.World) (law : IsLawful t) (stands : Stands t m
       ))
       (law.consistent.clients g r one waited)
 
+  -- the request ends, and this was passed with it
+  module _ (q : machine.Request) (p : Passed) (e : Ending t m law stands g q) (passed : q.passed ≡ Some p) where
+    stands_here : IsOne e.request (requests_of (t.handlers g))
+    stands_here = standing_one (t.handlers g) e.request
+        (pair_one (standing (t.handlers g)) (requests_at (m.handlers g)) e.request q e.pair)
+
+    was_passed : e.request.passed ≡ Some p
+    was_passed = (pair_is (standing (t.handlers g)) (requests_at (m.handlers g)) e.request q (paired_at t m law stands g) e.pair).passed ∙ passed
+
+    is_waited : e.request.waited ≡ true
+    is_waited = by e.request.waited refl
+      where
+        by : (b : Bool) → e.request.waited ≡ b → e.request.waited ≡ true
+        by true i = i
+        by false i = not_some p (sym (law.returnable.waited g e.request stands_here i) ∙ was_passed)
+
+    not_stuck : {A : Type 0} → IsStuckFrom t g (suc e.request.number) → A
+    not_stuck s = absurd (let lt = e.older s.0 s.2 in let le = s.1 in omega (arith, lt, le))
+
+    queue_first : (k : ℕ) (o : Option ℕ) → ReturnsTo e.request.number o (t.queue k) → holder (t.queue k) ≡ Some g
+    queue_first k o l =
+        let n = e.request.number in
+        let h = grant_of n (t.queue k) (returns_granted n o (t.queue k) l) in
+        let mine = (granted_here e.request stands_here is_waited k h.0).0 h.1 in
+        first_holder g n (t.queue k) (lifo t Nobody g n e.older (λ lo i a. a) (still_lives t m law stands g e.request stands_here)
+        (t.queue k) (law.consistent.queue_trails k) (subst (λ y. HasGrant y n (t.queue k)) mine h.1))
+
+    top_first : (k : ℕ) (o : Option ℕ) → ReturnsTo e.request.number o (t.top k) → holder (t.top k) ≡ Some g
+    top_first k o l =
+        let n = e.request.number in
+        let h = grant_of n (t.top k) (returns_granted n o (t.top k) l) in
+        let mine = (granted_here e.request stands_here is_waited k h.0).1 h.1 in
+        first_holder g n (t.top k) (lifo t (Lends t k) g n e.older (λ lo i a. e.passes k lo i a.0)
+        (still_lives t m law stands g e.request stands_here) (t.top k) (law.consistent.top_trails k)
+        (subst (λ y. HasGrant y n (t.top k)) mine h.1))
+
+    passed_here : IsHere m.rights g p
+    passed_here =
+        let listed = law.returnable.listed g e.request p stands_here was_passed in
+        record {
+          queue = λ k o i. sym (queue_is t m law stands k) ∙ ⊎_elim
+              (λ l. queue_first k o (subst (λ x. IsListed e.request.number x (t.queue k)) i l)) (λ s. not_stuck s) (listed.queues k);
+          top = λ k o i. sym (top_is t m law stands k) ∙ ⊎_elim
+              (λ l. top_first k o (subst (λ x. IsListed e.request.number x (t.top k)) i l)) (λ s. not_stuck s) (listed.tops k);
+        }
+
   pub listed_here : (q : machine.Request) (p : Passed) → MayEnd (m.handlers g) q → q.passed ≡ Some p → IsHere m.rights g p
-  listed_here q p may passed = record {
-    queue = λ k o e. sym (queue_is t m law stands k) ∙ ⊎_elim
-        (λ l. queue_first k o (subst (λ x. IsListed (ending t m law stands g q may).request.number x (t.queue k)) e l))
-        (λ s. not_stuck s)
-        ((law.returnable.listed g (ending t m law stands g q may).request p one (same_as.passed ∙ passed)).queues k);
-    top = λ k o e. sym (top_is t m law stands k) ∙ ⊎_elim
-        (λ l. top_first k o (subst (λ x. IsListed (ending t m law stands g q may).request.number x (t.top k)) e l))
-        (λ s. not_stuck s)
-        ((law.returnable.listed g (ending t m law stands g q may).request p one (same_as.passed ∙ passed)).tops k);
-  }
-    where
-      stood : IsOne (ending t m law stands g q may).request (standing (t.handlers g))
-      stood = pair_one (standing (t.handlers g)) (requests_at (m.handlers g)) (ending t m law stands g q may).request q (ending t m law stands g q may).pair
-
-      one : IsOne (ending t m law stands g q may).request (requests_of (t.handlers g))
-      one = standing_one (t.handlers g) (ending t m law stands g q may).request stood
-
-      same_as : IsRequest (ending t m law stands g q may).request q
-      same_as = pair_is (standing (t.handlers g)) (requests_at (m.handlers g)) (ending t m law stands g q may).request q (paired_at t m law stands g) (ending t m law stands g q may).pair
-
-      waited : (b : Bool) → (ending t m law stands g q may).request.waited ≡ b → (ending t m law stands g q may).request.waited ≡ true
-      waited true e = e
-      waited false e = not_some p (sym (law.returnable.waited g (ending t m law stands g q may).request one e) ∙ same_as.passed ∙ passed)
-
-      not_stuck : {A : Type 0} → IsStuckFrom t g (suc (ending t m law stands g q may).request.number) → A
-      not_stuck s = absurd (let lt = (ending t m law stands g q may).older s.0 s.2 in let le = s.1 in omega (arith, lt, le))
-
-      queue_first : (k : ℕ) (o : Option ℕ) → ReturnsTo (ending t m law stands g q may).request.number o (t.queue k) → holder (t.queue k) ≡ Some g
-      queue_first k o l =
-          let n = (ending t m law stands g q may).request.number in
-          let h = grant_of n (t.queue k) (returns_granted n o (t.queue k) l) in
-          let mine = (granted_here (ending t m law stands g q may).request one (waited (ending t m law stands g q may).request.waited refl) k h.0).0 h.1 in
-          first_holder g n (t.queue k) (lifo t Nobody g n (ending t m law stands g q may).older (λ lo i a. a)
-          (still_lives t m law stands g (ending t m law stands g q may).request one) (t.queue k) (law.consistent.queue_trails k)
-          (subst (λ y. HasGrant y n (t.queue k)) mine h.1))
-
-      top_first : (k : ℕ) (o : Option ℕ) → ReturnsTo (ending t m law stands g q may).request.number o (t.top k) → holder (t.top k) ≡ Some g
-      top_first k o l =
-          let n = (ending t m law stands g q may).request.number in
-          let h = grant_of n (t.top k) (returns_granted n o (t.top k) l) in
-          let mine = (granted_here (ending t m law stands g q may).request one (waited (ending t m law stands g q may).request.waited refl) k h.0).1 h.1 in
-          first_holder g n (t.top k) (lifo t (Lends t k) g n (ending t m law stands g q may).older (λ lo i a. (ending t m law stands g q may).passes k lo i a.0)
-          (still_lives t m law stands g (ending t m law stands g q may).request one) (t.top k) (law.consistent.top_trails k)
-          (subst (λ y. HasGrant y n (t.top k)) mine h.1))
+  listed_here q p may passed = passed_here q p (ending t m law stands g q may) passed
 
   -- ---- the creation of a handler, whose answer has come
 

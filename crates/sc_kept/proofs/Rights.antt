@@ -225,12 +225,6 @@ module _ (g : ℕ) where
       → Kept g w.rights (created g (record { handler = w.count; number = 1; class = class }) procedure us t passing f below w).rights
   created_kept class procedure us t passing f below w queue top = by passing
     where
-      given : Rights
-      given = record {
-        queue = λ j. if j == w.count then Some g else w.rights.queue j;
-        top = λ j. if j == w.count then None else w.rights.top j;
-      }
-
       new_kept : Kept g w.rights (record {
         queue = λ j. if j == w.count then Some g else w.rights.queue j;
         top = λ j. if j == w.count then None else w.rights.top j;

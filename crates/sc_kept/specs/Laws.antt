@@ -54,7 +54,8 @@ abbrev pub IdleHasNoTop : Type 0
 IdleHasNoTop = InEachReached (λ (w : World). (k : ℕ) → (w.handlers k).failure ≡ None → (w.handlers k).stack ≡ []
     → w.rights.top k ≡ None)
 
--- Where another one may push on a handler's waiting stack and isn't waiting for it, that handler waits, and nothing has come.
+-- Where another one may push on a handler's waiting stack and isn't waiting for it, that handler waits, and nothing
+-- has come.
 abbrev pub CalledBackWaits : Type 0
 CalledBackWaits = InEachReached (λ (w : World). (k h : ℕ) → w.rights.top k ≡ Some h → k ≢ h
     → (w.handlers k).failure ≡ None → (w.handlers h).failure ≡ None
@@ -85,7 +86,8 @@ EndsTheOne = InEachReached (λ (w : World). (h k g : ℕ) (q r : Request) → (w
 
 -- Its request stands once, and no other stands anywhere with which it has lent nothing.
 abbrev pub StandsOnce : Type 0
-StandsOnce = InEachReached (λ (w : World). (h k : ℕ) (q r : Request) (before behind : List Request) → (w.handlers h).failure ≡ None
+StandsOnce = InEachReached (λ (w : World). (h k : ℕ) (q r : Request) (before behind : List Request)
+    → (w.handlers h).failure ≡ None
     → requests_at (w.handlers k) ≡ before ++ q ∷ behind → q.poster ≡ Some h → q.is_waited ≡ true → q.passed ≡ None
     → r.poster ≡ Some h → r.is_waited ≡ true → r.passed ≡ None
     → (Contains (before ++ behind) r → ⊥) × ((j : ℕ) → j ≢ k → Contains (requests_at (w.handlers j)) r → ⊥))
@@ -131,7 +133,8 @@ pub record Stays (w : World) (g k : ℕ) (y : Handler) : Type 0 where
   pub callback_comes : CallbackComes w g k y
 
 abbrev pub OthersStay : Type 0
-OthersStay = (most : ℕ) (s : System) (w : World) (g k : ℕ) → k < w.count → k ≢ g → Stays w g k ((turn most s g w).handlers k)
+OthersStay = (most : ℕ) (s : System) (w : World) (g k : ℕ) → k < w.count → k ≢ g
+    → Stays w g k ((turn most s g w).handlers k)
 
 -- The queue of the handler of the turn stays, or gives its first where nothing runs, or falls with its handler.
 pub data OwnQueueMoves (x y : Handler) : Type 0 where
@@ -145,8 +148,8 @@ OwnQueueShrinks = (most : ℕ) (s : System) (root : Root) (w : World) → IsReac
 
 -- A handler that comes with the turn of another one has no frames.
 abbrev pub NewIsIdle : Type 0
-NewIsIdle = (most : ℕ) (s : System) (root : Root) (w : World) → IsReached most s root w → (g k : ℕ) → w.count ≤ k → k ≢ g
-    → ((turn most s g w).handlers k).stack ≡ []
+NewIsIdle = (most : ℕ) (s : System) (root : Root) (w : World) → IsReached most s root w → (g k : ℕ) → w.count ≤ k
+    → k ≢ g → ((turn most s g w).handlers k).stack ≡ []
 
 -- There are as many handlers as before, or more.
 abbrev pub CountGrows : Type 0
@@ -187,15 +190,18 @@ pub record IsAttribute (s : System) (w : World) (g : ℕ) (r : Request) (v : Val
 
 -- how the answer of k comes in a turn of g
 pub data AnswerComes (s : System) (w : World) (g k : ℕ) (after : World) : Type 0 where
-  stays : (after.handlers k).answer ≡ (w.handlers k).answer → AnswerComes s w g k after
+  stays : (after.handlers k).answer ≡ (w.handlers k).answer
+      → AnswerComes s w g k after
   told : is_some (after.handlers g).failure ≡ true
-      → (after.handlers k).answer ≡ heard Failed (w.handlers k).failure (w.handlers k).answer → AnswerComes s w g k after
+      → (after.handlers k).answer ≡ heard Failed (w.handlers k).failure (w.handlers k).answer
+      → AnswerComes s w g k after
   exits : {r : Request} {p : Point} → MayAnswer w g k r → Ends s w g r Exits p
       → (after.handlers k).answer
       ≡ heard (Reply (option_map (λ (u : Operand). u.value) p.result)) (w.handlers k).failure (w.handlers k).answer
       → AnswerComes s w g k after
   refused : {r : Request} {c : Clause} {p : Point} → MayAnswer w g k r → Ends s w g r (Refuses c) p
-      → (after.handlers k).answer ≡ heard Refused (w.handlers k).failure (w.handlers k).answer → AnswerComes s w g k after
+      → (after.handlers k).answer ≡ heard Refused (w.handlers k).failure (w.handlers k).answer
+      → AnswerComes s w g k after
   attribute : {r : Request} {v : Value} → MayAnswer w g k r → IsAttribute s w g r v
       → (after.handlers k).answer ≡ heard (Reply (Some v)) (w.handlers k).failure (w.handlers k).answer
       → AnswerComes s w g k after
@@ -204,4 +210,5 @@ pub data AnswerComes (s : System) (w : World) (g k : ℕ) (after : World) : Type
       → AnswerComes s w g k after
 
 abbrev pub AnswersCome : Type 0
-AnswersCome = (most : ℕ) (s : System) (w : World) (g k : ℕ) → k < w.count → k ≢ g → AnswerComes s w g k (turn most s g w)
+AnswersCome = (most : ℕ) (s : System) (w : World) (g k : ℕ) → k < w.count → k ≢ g
+    → AnswerComes s w g k (turn most s g w)
