@@ -1,5 +1,5 @@
 -- How what a handler has asked for a clause, and waits for, moves on in a turn of another handler.
-use Rattle.std.proofs.Common.{ℕ, ◌≡◌, ◌≢◌, ◌⊎◌, ◌<◌, ◌≤◌, ◌==◌, Bool, true, false, List, [], ◌∷◌, ◌++◌, Option, Some, None, refl, sym, ap, subst, ◌∙◌, inl, inr, append_assoc}
+use Rattle.std.proofs.Common.{ℕ, ◌≡◌, ◌≢◌, ◌⊎◌, ◌<◌, ◌==◌, Bool, true, false, List, [], ◌∷◌, ◌++◌, Option, Some, None, refl, sym, ap, subst, ◌∙◌, inl, inr, append_assoc}
 use Rattle.std.proofs.lemmas.Bool.{eq-eqb, eqb-true, lt-ltb}
 use Rattle.std.proofs.lemmas.List.Elements.{Contains-append_left, Contains-append_right, Contains-push}
 use Rattle.std.specs.Prelude.{Contains, if◌then◌else◌, is_some, nat_lt}
@@ -18,11 +18,10 @@ use Rattle.sc_model.specs.Handlers.{Request, Answer, Reply, Failed, Refused, Req
 use Rattle.sc_model.specs.Moves.{moves}
 use Rattle.sc_model.specs.Objects.{Object}
 use Rattle.sc_model.specs.Runs.{IsReached, opening, run}
-use Rattle.sc_model.specs.Steps.{Step}
 use Rattle.sc_model.specs.Takes.{takes, takes_next}
 use Rattle.sc_model.specs.Turns.{goes_on, turn, turn_with, waits}
 use Rattle.sc_model.specs.Values.{Reference, Operand, Value}
-use Rattle.sc_laws.specs.Headline.{WaitersAreTold, has_reply, topmost}
+use Rattle.sc_laws.specs.Headline.{has_reply, topmost}
 use Rattle.sc_laws.proofs.Machine.{contains_first, machine_waiters_are_told}
 use Rattle.sc_laws.proofs.links.Reached.{reached_stands}
 use Rattle.sc_values.specs.Fitting.{FrameFits, MayEnd, WorldFits}
@@ -33,13 +32,12 @@ use Rattle.sc_halves.specs.Clauses.{RunsPureIfRoutine}
 use Rattle.sc_evaluation.specs.Evaluating.{Answers}
 use Rattle.sc_evaluation.specs.Laws.{AnswersLocally, EndsTrueLocally, ReachesLocally}
 use Rattle.sc_kept.specs.Laws.{AnswerComes, AnswersCome, BeyondIsUnused, CallbackComes, CallbacksMeetWaiters, CalledBackWaits, EndsTheOne, IsUnlent, MayAnswer, OthersStay, OwnQueueMoves, OwnQueueShrinks, QueueComes, RightsStay, Stays, StandsOnce, TopAwaits}
-use Rattle.sc_kept.specs.Laws as kept
 use Rattle.sc_starts.specs.Following.{FollowsPure, FrameFollows, IsCalledPure, IsPending, IsQuiet, Own, PureAt, RequestStands, StackFollows, WorldFollows, bound_in, clause_request, objects_of}
 use Rattle.sc_starts.specs.Following as following
 use Rattle.sc_starts.specs.Points.{EntryFollows, PureAnswers, PureMoves}
 use Rattle.sc_starts.proofs.OthersQuiet.{StaysQuiet, false_is_true, one_holder, posts_to_there, pushes_there, quiet_stays}
-use Rattle.sc_starts.proofs.OthersRun.{Comes, Left, On, fails_comes, on, over, settles_comes}
-use Rattle.sc_starts.proofs.OthersStack.{IsOf, OnStack, Parts, not_empty, on_stack, parts, top_is_pure}
+use Rattle.sc_starts.proofs.OthersRun.{Comes, On, fails_comes, on, over, settles_comes}
+use Rattle.sc_starts.proofs.OthersStack.{OnStack, Parts, not_empty, on_stack, parts, top_is_pure}
 use Rattle.sc_starts.proofs.OthersTake.{IsTypedAt, takes_comes, typed_at}
 use Rattle.sc_starts.proofs.OthersWorlds.{as_callback, began_on, begun_on, in_queue, on_stack_of, put_other, put_own}
 
@@ -61,10 +59,10 @@ pub record Known : Type 1 where
   pub pure_answers : PureAnswers
   pub entry_follows : EntryFollows
 
-reply_no_failure : {A : Type 0} {v : Option Value} → Reply v ≡ Failed → A
+pub reply_no_failure : {A : Type 0} {v : Option Value} → Reply v ≡ Failed → A
 reply_no_failure e = cc
 
-refusal_no_failure : {A : Type 0} → Refused ≡ Failed → A
+pub refusal_no_failure : {A : Type 0} → Refused ≡ Failed → A
 refusal_no_failure e = cc
 
 stack_is_none : {A : Type 0} {f : Frame} {fs : List Frame} → [] ≡ f ∷ fs → A

@@ -5,7 +5,6 @@ use Rattle.std.specs.Prelude.{Contains}
 use Rattle.sc_tree.specs.Plain.{System}
 use Rattle.sc_class.specs.ClassNames.{Root}
 use Rattle.sc_class.specs.Faults.ClassRules.{IsFaultless}
-use Rattle.sc_proctype.specs.declared.entity_type.EntityType.{EntityType}
 use Rattle.sc_rules.specs.Names.{RoutineName}
 use Rattle.sc_rules.specs.Purity.{IsPurity}
 use Rattle.sc_rules.specs.SystemRules.{WellFormed}
@@ -19,13 +18,21 @@ use Rattle.sc_model.specs.Turns.{turn}
 use Rattle.sc_model.specs.Values.{Value}
 use Rattle.sc_values.specs.Fitting.{FrameFits, WorldFits}
 use Rattle.sc_values.specs.Points.{Each}
-use Rattle.sc_laws.specs.Headline.{has_reply, is_awaiting}
-use Rattle.sc_halves.specs.Calm.{name_of}
+use Rattle.sc_laws.specs.Headline.{is_awaiting}
 use Rattle.sc_halves.specs.Entries.{HasStarted}
+use Rattle.sc_halves.proofs.Linking.{reached_fits}
+use Rattle.sc_evaluation.proofs.Locally.{answers_locally, ends_true_locally, reaches_locally}
+use Rattle.sc_kept.proofs.Rights.{rights_stay}
+use Rattle.sc_kept.proofs.Tops.{beyond_is_unused, callbacks_meet_waiters, called_back_waits}
+use Rattle.sc_kept.proofs.Turned.{answers_come, others_stay, own_queue_shrinks}
+use Rattle.sc_kept.proofs.Unlent.{ends_the_one, stands_once}
 use Rattle.sc_kept.specs.Laws.{AnswerComes, Stays, TopAwaits}
 use Rattle.sc_starts.specs.Following.{AboveIsPure, AwaitsOf, ClauseDone, ClausesAt, FollowsPure, FrameFollows, InPrecondition, IsLost, IsQuiet, MayAsk, StackFollows, StandsByStage, WorldFollows, between_point, bound_in, objects_of}
-use Rattle.sc_starts.proofs.OthersAsked.{IsToldNone, Known, Onward, Waiting, asked_onward}
+use Rattle.sc_starts.specs.Turns.{OthersFollow}
+use Rattle.sc_starts.proofs.OthersAsked.{IsToldNone, Known, Onward, asked_onward, refusal_no_failure, reply_no_failure}
 use Rattle.sc_starts.proofs.OthersLocal.{clause_done_local, clauses_local, follows_local}
+use Rattle.sc_starts.proofs.PointsEntries.{pure_answers}
+use Rattle.sc_starts.proofs.PointsReached.{entry_follows, pure_moves}
 use Rattle.sc_starts.proofs.OthersQuiet.{StaysQuiet, false_is_true, quiet_stays}
 
 -- ---- who waits on top
@@ -39,12 +46,6 @@ awaits_of f below st k e a = subst (λ (z : Stage). AwaitsOf z k) (sym (ap (λ (
 
 nobody_above : {A : Type 0} {f : Frame} → Some f ≡ None → A
 nobody_above e = cc
-
-reply_no_failure : {A : Type 0} {v : Option Value} → Reply v ≡ Failed → A
-reply_no_failure e = cc
-
-refusal_no_failure : {A : Type 0} → Refused ≡ Failed → A
-refusal_no_failure e = cc
 
 -- a pure function awaits nobody
 pure_awaits_none : (s : System) (O : ℕ → List Object) (above : Option Frame) (f : Frame) (z : Stage) (k : ℕ) → FollowsPure s O above f z → AwaitsOf z k → ⊥
@@ -190,16 +191,25 @@ module _ (known : Known) (s : System) (root : Root) (pure : RoutineName → Bool
           (at_objects (ClausesAt s (MayAsk h z.asked) (objects_of after) f.current f.routine (bound_in f))
           (clauses_local known.reaches_locally known.ends_true_locally s (MayAsk h z.asked) (objects_of w) (objects_of after)
           (asked_same (none_awaited Runs e (λ k a. a))) f.current current_same f.routine (bound_in f) (point_of f (w.handlers h).objects) i))))
-      by_stage Reserves e i = inr (again (subst (StandsByStage s pure after h z.asked above f) (sym e) (i.0,
-          at_objects (λ (p : Point). p ≡ between_point (objects_of after) f.current f.routine (bound_in f) f.routine.require)
-          (i.1 ∙ ap (λ (os : List Object). record (between_point (objects_of w) f.current f.routine (bound_in f) f.routine.require) { objects = os }) current_same))))
+      by_stage Reserves e i = inr (again (subst (StandsByStage s pure after h z.asked above f) (sym e) (
+        i.0,
+        at_objects (λ (p : Point). p ≡ between_point (objects_of after) f.current f.routine (bound_in f) f.routine.require)
+            (i.1 ∙ ap (λ (os : List Object). record (between_point (objects_of w) f.current f.routine (bound_in f) f.routine.require) { objects = os }) current_same),
+      )))
       by_stage ReservesBlock e i = absurd i
       by_stage (InCall None) e i = absurd i
-      by_stage (InCall (Some t)) e (c, o, x, us, done, same, above_for) = inr (again (subst (StandsByStage s pure after h z.asked above f) (sym e) (c, o, x, us,
-          at_objects (ClauseDone s (MayAsk h z.asked) (objects_of after) f.current f.routine (bound_in f) (Enters c o x us (Some t)))
-          (clause_done_local known.reaches_locally known.ends_true_locally s (MayAsk h z.asked) (objects_of w) (objects_of after)
-          (asked_same (none_awaited (InCall (Some t)) e (λ k a. a))) f.current current_same f.routine (bound_in f) (Enters c o x us (Some t))
-          (point_of f (w.handlers h).objects) done), same, above_for)))
+      by_stage (InCall (Some t)) e (c, o, x, us, done, same, above_for) = inr (again (subst (StandsByStage s pure after h z.asked above f) (sym e) (
+        c,
+        o,
+        x,
+        us,
+        at_objects (ClauseDone s (MayAsk h z.asked) (objects_of after) f.current f.routine (bound_in f) (Enters c o x us (Some t)))
+            (clause_done_local known.reaches_locally known.ends_true_locally s (MayAsk h z.asked) (objects_of w) (objects_of after)
+            (asked_same (none_awaited (InCall (Some t)) e (λ k a. a))) f.current current_same f.routine (bound_in f) (Enters c o x us (Some t))
+            (point_of f (w.handlers h).objects) done),
+        same,
+        above_for,
+      )))
       by_stage (Awaits k None c) e i = absurd i
       by_stage (Awaits k (Some t) true) e i = absurd i
       by_stage (Awaits k (Some t) false) e (o, x, us, done, same, not_own, alone, runs_pure, pending) = by onward
@@ -211,14 +221,22 @@ module _ (known : Known) (s : System) (root : Root) (pure : RoutineName → Bool
 
           by : Onward s pure w after h z.asked o x us → Next
           by (Onward.lost n) = inl (ap is_awaiting e, n)
-          by (Onward.goes objects now) = inr (again (subst (StandsByStage s pure after h z.asked above f) (sym e) (o, x, us,
-              at_objects (ClauseDone s (MayAsk h z.asked) (objects_of after) f.current f.routine (bound_in f) (Requests o x us (Some t) false))
-              (clause_done_local known.reaches_locally known.ends_true_locally s (MayAsk h z.asked) (objects_of w) (objects_of after)
-              (asked_same (λ j a i.
-              let is_o : o.handler ≡ j = same ∙ subst (λ (x : Stage). AwaitsOf x j) e a in
-              subst (λ (j : ℕ). objects_of w j ≡ objects_of after j) is_o (sym (objects (subst (Contains z.asked) (sym is_o) i)))))
-              f.current current_same f.routine (bound_in f) (Requests o x us (Some t) false) (point_of f (w.handlers h).objects) done),
-              same, not_own, alone, runs_pure, now)))
+          by (Onward.goes objects now) = inr (again (subst (StandsByStage s pure after h z.asked above f) (sym e) (
+            o,
+            x,
+            us,
+            at_objects (ClauseDone s (MayAsk h z.asked) (objects_of after) f.current f.routine (bound_in f) (Requests o x us (Some t) false))
+                (clause_done_local known.reaches_locally known.ends_true_locally s (MayAsk h z.asked) (objects_of w) (objects_of after)
+                (asked_same (λ j a i.
+                let is_o : o.handler ≡ j = same ∙ subst (λ (x : Stage). AwaitsOf x j) e a in
+                subst (λ (j : ℕ). objects_of w j ≡ objects_of after j) is_o (sym (objects (subst (Contains z.asked) (sym is_o) i)))))
+                f.current current_same f.routine (bound_in f) (Requests o x us (Some t) false) (point_of f (w.handlers h).objects) done),
+            same,
+            not_own,
+            alone,
+            runs_pure,
+            now,
+          )))
 
       precondition_next : Next
       precondition_next = by_stage f.stage refl z.stands
@@ -229,8 +247,11 @@ module _ (known : Known) (s : System) (root : Root) (pure : RoutineName → Bool
       FrameFollows s pure w h above f → FrameFollows s pure after h above f
   frame_on f below above mine top z = record {
     in_precondition = by z.in_precondition;
-    in_pure = λ p. ((z.in_pure p).0, follows_local known.reaches_locally known.ends_true_locally s (objects_of w) (objects_of after) above f
-        (subst (λ (k : ℕ). objects_of w k ≡ objects_of after k) (sym mine) own_same) f.stage (z.in_pure p).1);
+    in_pure = λ p. (
+      (z.in_pure p).0,
+      follows_local known.reaches_locally known.ends_true_locally s (objects_of w) (objects_of after) above f
+          (subst (λ (k : ℕ). objects_of w k ≡ objects_of after k) (sym mine) own_same) f.stage (z.in_pure p).1,
+    );
     reserves_nothing = z.reserves_nothing;
     is_bound = z.is_bound;
   }
@@ -265,3 +286,29 @@ module _ (known : Known) (s : System) (root : Root) (pure : RoutineName → Bool
   pub stack_follows : StackFollows s pure after h None (after.handlers h).stack
   stack_follows = subst (StackFollows s pure after h None) (sym stay.stack_stays)
       (stack_on (w.handlers h).stack None (fits h here).frames_fit (record { is_all = λ e. refl; or_none = λ i. inl refl }) (follows h here lives))
+
+-- ---- all of it
+
+known_laws : Known
+known_laws = record {
+  called_back_waits = called_back_waits;
+  callbacks_meet_waiters = callbacks_meet_waiters;
+  ends_the_one = ends_the_one;
+  stands_once = stands_once;
+  beyond_is_unused = beyond_is_unused;
+  rights_stay = rights_stay;
+  others_stay = others_stay;
+  own_queue_shrinks = own_queue_shrinks;
+  answers_come = answers_come;
+  answers_locally = answers_locally;
+  reaches_locally = reaches_locally;
+  ends_true_locally = ends_true_locally;
+  pure_moves = pure_moves;
+  pure_answers = pure_answers;
+  entry_follows = entry_follows;
+}
+
+pub others_follow : OthersFollow
+others_follow s root pure faultless well tells most g h w reached follows here apart lives =
+    stack_follows known_laws s root pure faultless well tells most w reached (reached_fits s root pure faultless well tells most w reached) follows g h here
+    (sym (others_stay most s w g h here apart).failure_stays ∙ lives) apart

@@ -1,5 +1,5 @@
 -- Where a frame stands beside an evaluation over the objects of some handlers, it stands so over the same objects of them.
-use Rattle.std.proofs.Common.{ℕ, ◌≡◌, Bool, true, false, List, [], ◌∷◌, Option, Some, None, refl, sym, ap, subst, ◌∙◌, inl, inr}
+use Rattle.std.proofs.Common.{ℕ, ◌≡◌, List, [], ◌∷◌, Option, Some, None, sym, subst}
 use Rattle.sc_tree.specs.Plain.{System, Clause}
 use Rattle.sc_proctype.specs.declared.entity_type.EntityType.{EntityType}
 use Rattle.sc_model.specs.Clauses.{body_point}
@@ -11,7 +11,6 @@ use Rattle.sc_model.specs.Routines.{Routine}
 use Rattle.sc_model.specs.Steps.{Act, Enters, Point}
 use Rattle.sc_model.specs.Tasks.{Task, Required}
 use Rattle.sc_model.specs.Values.{Reference, Operand}
-use Rattle.sc_values.specs.Points.{Each}
 use Rattle.sc_evaluation.specs.Evaluating.{EndsTrue, Reaches, clause_point}
 use Rattle.sc_evaluation.specs.Laws.{EndsTrueLocally, ReachesLocally}
 use Rattle.sc_starts.specs.Following.{Own, AboveIsFor, ClauseDone, ClausesAt, FollowsPure, HasDone, Hold, IsAt, PureAt, PureCalls, behind_body, behind_clause, between_point, bound_in, clause_of, start_of}

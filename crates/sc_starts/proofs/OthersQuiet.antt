@@ -1,6 +1,6 @@
 -- A handler that another one has asked stays quiet in each turn, and its objects stay.
-use Rattle.std.proofs.Common.{ℕ, ◌≡◌, ◌≢◌, ◌⊎◌, ◌<◌, ◌≤◌, ◌==◌, Bool, true, false, List, [], ◌∷◌, ◌++◌, Option, Some, None, refl, sym, ap, subst, ◌∙◌, inl, inr}
-use Rattle.std.proofs.lemmas.Bool.{eq-eqb, eqb-true, ltb-true, ltb-false, lt-ltb}
+use Rattle.std.proofs.Common.{ℕ, ◌≡◌, ◌≢◌, ◌⊎◌, ◌<◌, ◌==◌, Bool, true, false, List, [], ◌∷◌, ◌++◌, Option, Some, None, refl, sym, ap, subst, ◌∙◌}
+use Rattle.std.proofs.lemmas.Bool.{eq-eqb, eqb-true, ltb-true, ltb-false}
 use Rattle.std.specs.Prelude.{◌&&◌, if◌then◌else◌, is_some, nat_lt}
 use Rattle.std.specs.List.{list_any}
 use Rattle.sc_tree.specs.Plain.{System}
@@ -12,7 +12,7 @@ use Rattle.sc_waitcond.specs.declared.session.Release.TheVariants as release_at
 use Rattle.sc_model.specs.declared.cause.Cause.{Cause}
 use Rattle.sc_model.specs.declared.cause.Cause.TheVariants as cause
 use Rattle.sc_model.specs.Failures.{fails_with, fallen, is_waited_by, requests_at, told}
-use Rattle.sc_model.specs.Handlers.{Request, Answer, Reply, Failed, Refused, Awaits, Stage, Frame, Handler, World}
+use Rattle.sc_model.specs.Handlers.{Request, Answer, Reply, Failed, Refused, Stage, Frame, Handler, World}
 use Rattle.sc_model.specs.Runs.{IsReached}
 use Rattle.sc_model.specs.Sessions.{session_ended}
 use Rattle.sc_model.specs.Takes.{takes_next}

@@ -1,15 +1,13 @@
 -- What a turn makes of a clause's request while it runs: it runs on, or its poster is answered, or is told that it won't be.
-use Rattle.std.proofs.Common.{ℕ, ◌≡◌, ◌≢◌, ◌⊎◌, ◌==◌, ◌&&◌, ◌||◌, not, Bool, true, false, List, [], ◌∷◌, ◌++◌, Option, Some, None, refl, sym, ap, subst, ◌∙◌, inl, inr}
+use Rattle.std.proofs.Common.{ℕ, ◌≡◌, ◌≢◌, ◌⊎◌, ◌||◌, Bool, true, false, List, [], ◌∷◌, Option, Some, None, refl, sym, ap, subst, ◌∙◌, inl, inr}
 use Rattle.std.specs.Prelude.{Contains, if◌then◌else◌, length, nat_lt}
 use Rattle.std.specs.List.{list_any}
 use Rattle.std.specs.Option.{option_map}
 use Rattle.sc_tree.specs.Plain.{System, Clause}
-use Rattle.sc_proctype.specs.declared.entity_type.EntityType.{EntityType}
 use Rattle.sc_rules.specs.Names.{RoutineName}
 use Rattle.sc_waitcond.specs.Conditions.{clause_kind, kind_where, lies_on_any, verdict_of_false}
 use Rattle.sc_waitcond.specs.declared.condition.Verdict.{Verdict}
 use Rattle.sc_waitcond.specs.declared.condition.Verdict.TheVariants as verdict
-use Rattle.sc_waitcond.specs.declared.session.Release.{Release}
 use Rattle.sc_waitcond.specs.declared.session.Release.TheVariants as release_at
 use Rattle.sc_model.specs.declared.cause.Cause.{Cause}
 use Rattle.sc_model.specs.declared.cause.Cause.TheVariants as cause
@@ -18,10 +16,10 @@ use Rattle.sc_model.specs.Entries.{entry, enters, enters_bound}
 use Rattle.sc_model.specs.Environments.{Binding, formals_bound}
 use Rattle.sc_model.specs.Exits.{exits, handed, is_unset, is_unset_value, is_untested, leaves_to}
 use Rattle.sc_model.specs.Failures.{fails_with, requests_at}
-use Rattle.sc_model.specs.Handlers.{Request, Answer, Reply, Failed, Refused, Origin, Called, Requested, Stage, Runs, InCall, Frame, Handler, World, frame_at, point_of, put, with_stack}
+use Rattle.sc_model.specs.Handlers.{Request, Answer, Reply, Failed, Refused, Origin, Called, Requested, InCall, Frame, Handler, World, frame_at, put, with_stack}
 use Rattle.sc_model.specs.Limits.{max_frames}
 use Rattle.sc_model.specs.Objects.{Object, object_numbered}
-use Rattle.sc_model.specs.Preconditions.{correctness_fails, counted_refusal, false_clause, formals_among, is_creation, names_in, object_meets, refuses, verdict_on}
+use Rattle.sc_model.specs.Preconditions.{correctness_fails, counted_refusal, false_clause, formals_among, names_in, object_meets, refuses, verdict_on}
 use Rattle.sc_model.specs.Routines.{Routine, routine_named}
 use Rattle.sc_model.specs.Sessions.{release}
 use Rattle.sc_model.specs.Steps.{Calling, Act, Prints, Tests, Creates, CreatesHandler, Enters, Requests, Starts, Refuses, Opens, Leaves, Exits, Fails, Step, Goes, Does, Point}
@@ -31,7 +29,7 @@ use Rattle.sc_halves.specs.Calm.{name_of}
 use Rattle.sc_evaluation.specs.Evaluating.{Answers}
 use Rattle.sc_starts.specs.Following.{Own, bound_in, clause_request, objects_of}
 use Rattle.sc_starts.specs.Points.{HasRun, KeepsActuals, PureActs, PureAnswers, PureSteps}
-use Rattle.sc_starts.proofs.OthersStack.{Ended, IsOf, OnStack, Parts, Replaces, above, called_leaves, handed_stands, named_is_pure, not_empty, parts, requested_ends, top_replaced}
+use Rattle.sc_starts.proofs.OthersStack.{Ended, IsOf, OnStack, Parts, Replaces, above, called_leaves, handed_stands, named_is_pure, parts, requested_ends, top_replaced}
 use Rattle.sc_starts.proofs.OthersWorlds.{Alike, began_on, begun_on, fails_told, on_stack_of, put_other, put_own, release_alike}
 
 -- ---- an entry that reserved nothing doesn't wait

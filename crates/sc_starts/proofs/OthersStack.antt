@@ -1,17 +1,16 @@
 -- The routine of a clause's request on a stack, under pure functions that it has called.
-use Rattle.std.proofs.Common.{ℕ, ◌≡◌, Bool, true, false, List, [], ◌∷◌, ◌++◌, Option, Some, None, length, take, refl, sym, ap, subst, ◌∙◌}
+use Rattle.std.proofs.Common.{ℕ, ◌≡◌, Bool, true, false, List, [], ◌∷◌, ◌++◌, Option, Some, None, refl, sym, ap, subst, ◌∙◌}
 use Rattle.std.specs.Option.{option_and_then}
 use Rattle.sc_tree.specs.Plain as tree
 use Rattle.sc_tree.specs.Plain.{System, FeatureKind}
 use Rattle.sc_class.specs.Tables.Features.{DeclaredFeature}
-use Rattle.sc_proctype.specs.declared.entity_type.EntityType.{EntityType}
 use Rattle.sc_rules.specs.Names.{RoutineName}
 use Rattle.sc_rules.specs.Names as rules
-use Rattle.sc_model.specs.Environments.{Binding, formals_bound}
-use Rattle.sc_model.specs.Exits.{handed, handed_as, handed_at}
-use Rattle.sc_model.specs.Handlers.{Request, Origin, Called, Requested, Stage, Runs, Reserves, ReservesBlock, InCall, Awaits, Frame, frame_at}
+use Rattle.sc_model.specs.Environments.{formals_bound}
+use Rattle.sc_model.specs.Exits.{handed, handed_at}
+use Rattle.sc_model.specs.Handlers.{Request, Called, Requested, Stage, Runs, Reserves, ReservesBlock, InCall, Awaits, Frame}
 use Rattle.sc_model.specs.Routines.{Routine, routine_from, routine_named, routine_of, routine_with, origin_of, version_of}
-use Rattle.sc_model.specs.Steps.{Calling, Point}
+use Rattle.sc_model.specs.Steps.{Calling}
 use Rattle.sc_model.specs.Values.{Reference, Value, Operand, values_of}
 use Rattle.sc_values.specs.Points.{Each}
 use Rattle.sc_halves.specs.Calm.{name_of}

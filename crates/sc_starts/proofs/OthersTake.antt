@@ -1,6 +1,5 @@
 -- What comes of a clause's request as it is taken: it runs, or its poster is answered, or is told that it won't be.
-use Rattle.std.proofs.Common.{ℕ, ◌≡◌, ◌≢◌, ◌⊎◌, ◌<◌, ◌==◌, Bool, true, false, List, [], ◌∷◌, ◌++◌, Option, Some, None, refl, sym, ap, subst, ◌∙◌, inl, inr}
-use Rattle.std.proofs.lemmas.Bool.{eq-eqb}
+use Rattle.std.proofs.Common.{ℕ, ◌≡◌, ◌≢◌, ◌<◌, ◌==◌, Bool, true, false, List, [], ◌∷◌, Option, Some, None, refl, sym, ap, subst, ◌∙◌, inl}
 use Rattle.std.proofs.lemmas.List.Elements.{Contains-append_left}
 use Rattle.std.specs.Prelude.{Contains, if◌then◌else◌, length, nat_lt}
 use Rattle.std.specs.Option.{option_and_then}
@@ -9,7 +8,6 @@ use Rattle.sc_tree.specs.Plain.{System, DeclaredType, FeatureKind}
 use Rattle.sc_class.specs.Tables.Features.{DeclaredFeature, named_among, features}
 use Rattle.sc_proctype.specs.declared.entity_type.EntityType.{EntityType}
 use Rattle.sc_rules.specs.Names.{RoutineName}
-use Rattle.sc_rules.specs.Names as rules
 use Rattle.sc_rules.specs.Types.{declared_type}
 use Rattle.sc_model.specs.declared.cause.Cause.{Cause}
 use Rattle.sc_model.specs.declared.cause.Cause.TheVariants as cause
@@ -22,11 +20,10 @@ use Rattle.sc_model.specs.Limits.{max_frames}
 use Rattle.sc_model.specs.Objects.{Object, object_numbered}
 use Rattle.sc_model.specs.Routines.{Routine, routine_named, routine_of, version_of}
 use Rattle.sc_model.specs.Takes.{replies, takes, takes_kind, takes_version}
-use Rattle.sc_model.specs.Values.{Reference, Value, Operand, values_of}
+use Rattle.sc_model.specs.Values.{Reference, Operand, values_of}
 use Rattle.sc_values.specs.Fitting.{HandlerFits, IsThere, ObjectFits, RequestFits, WorldFits}
 use Rattle.sc_values.specs.Fitting as fitting
 use Rattle.sc_values.specs.Places.{is_routine}
-use Rattle.sc_values.specs.Points.{Each}
 use Rattle.sc_values.proofs.Attributes.{Attribute, attribute_found}
 use Rattle.sc_values.proofs.Calls.{numbered_fits}
 use Rattle.sc_values.proofs.Lists.{each_in}
@@ -34,7 +31,7 @@ use Rattle.sc_laws.proofs.Machine.{contains_first}
 use Rattle.sc_halves.specs.Calm.{name_of}
 use Rattle.sc_halves.specs.Clauses.{RunsPureIfRoutine}
 use Rattle.sc_evaluation.specs.Evaluating.{Answers}
-use Rattle.sc_starts.specs.Following.{AreBound, IsFor, Own, bound_in, clause_request, objects_of}
+use Rattle.sc_starts.specs.Following.{AreBound, bound_in, clause_request, objects_of}
 use Rattle.sc_starts.proofs.OthersStack.{OnStack, is_it, routine_name}
 use Rattle.sc_starts.proofs.OthersRun.{Comes, Left, On, either, finish_over, on, over, lost}
 use Rattle.sc_starts.proofs.OthersWorlds.{fails_told, put_other, put_own}

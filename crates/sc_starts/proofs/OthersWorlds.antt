@@ -9,12 +9,11 @@ use Rattle.sc_waitcond.specs.Reservations.{ends_session}
 use Rattle.sc_waitcond.specs.declared.session.Release.{Release}
 use Rattle.sc_waitcond.specs.declared.session.Release.TheVariants as release_at
 use Rattle.sc_model.specs.declared.cause.Cause.{Cause}
-use Rattle.sc_model.specs.Answers.{answered, finish, heard}
+use Rattle.sc_model.specs.Answers.{heard}
 use Rattle.sc_model.specs.Failures.{fails_with, fallen, is_waited_by, request_of, requests_at, to_list, told}
-use Rattle.sc_model.specs.Handlers.{Request, Answer, Failed, Requested, Frame, Handler, World, put}
-use Rattle.sc_model.specs.Objects.{Object}
+use Rattle.sc_model.specs.Handlers.{Request, Failed, Requested, Frame, Handler, World, put}
 use Rattle.sc_model.specs.Sessions.{release, session_ended}
-use Rattle.sc_laws.proofs.Machine.{contains_cases, contains_first, contains_later, contains_none}
+use Rattle.sc_laws.proofs.Machine.{contains_cases, contains_first, contains_none}
 
 -- ---- requests at a handler
 

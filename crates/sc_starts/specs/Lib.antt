@@ -1,3 +1,4 @@
 pub mod Following
 pub mod Points
 pub mod Starting
+pub mod Turns
