@@ -53,7 +53,8 @@ formals_are s all i (d ∷ ds) [] bs e = cc
 formals_are s all i (d ∷ ds) (v ∷ vs) bs e =
     by (declared_type s all d.declared_type) (formals_bound s all (i + 1) ds vs) (λ cs j. formals_are s all (i + 1) ds vs cs j) e
   where
-    by : (o : Option EntityType) (rest : Option (List Binding)) → ((cs : List Binding) → rest ≡ Some cs → AreFormals cs) →
+    by : (o : Option EntityType) (rest : Option (List Binding)) →
+        ((cs : List Binding) → rest ≡ Some cs → AreFormals cs) →
         with_binding o d.name.text i v rest ≡ Some bs → AreFormals bs
     by None rest others e = cc
     by (Some t) None others e = cc
@@ -85,7 +86,8 @@ formal_not_local role.Test e i = cc
 formal_not_local role.Block e i = cc
 
 -- Where a local is assigned, the formals before it stay.
-assigned_behind : (x : List ℕ) (v : Value) (e : Entity) (cs more : List Binding) → AreFormals cs → entity_named x (scope_of (cs ++ more)) ≡ Some e → is_local e.role ≡ true →
+assigned_behind : (x : List ℕ) (v : Value) (e : Entity) (cs more : List Binding) → AreFormals cs →
+    entity_named x (scope_of (cs ++ more)) ≡ Some e → is_local e.role ≡ true →
     (ms : List Binding) × (assigned_to x v (cs ++ more) ≡ cs ++ ms)
 assigned_behind x v e [] more f i l = (assigned_to x v more, refl)
 assigned_behind x v e (b ∷ cs) more f i l = by (bytes_eq b.name x) refl (λ i. assigned_behind x v e cs more f.1 i l) i
@@ -157,13 +159,15 @@ module _ (contract : StepOfContract) (s : System) (me : Reference) (bs : List Bi
 
   -- ---- expressions
 
-  reads_firm : (d : EntityType) (v : Value) (t : EntityType) (p : Point) → Has p.environment → Left p.tasks → Firm (reads_as d v t p)
+  reads_firm : (d : EntityType) (v : Value) (t : EntityType) (p : Point) → Has p.environment → Left p.tasks →
+      Firm (reads_as d v t p)
   reads_firm d Void t p h l = if_firm d.attached (fails cause.UnsetEntity p) (gives Void t p) tt (h, l)
   reads_firm d (Integer z) t p h l = (h, l)
   reads_firm d (Boolean b) t p h l = (h, l)
   reads_firm d (Attached r) t p h l = (h, l)
 
-  attribute_firm : (b : Option Binding) (t : EntityType) (p : Point) → Has p.environment → Left p.tasks → Firm (reads_attribute b t p)
+  attribute_firm : (b : Option Binding) (t : EntityType) (p : Point) → Has p.environment → Left p.tasks →
+      Firm (reads_attribute b t p)
   attribute_firm None t p h l = tt
   attribute_firm (Some b) t p h l = reads_firm t b.value t p h l
 
@@ -173,7 +177,8 @@ module _ (contract : StepOfContract) (s : System) (me : Reference) (bs : List Bi
   right_firm None true op i e u p h l = (h, (tt, (tt, l)))
   right_firm None false op i e u p h l = (h, (tt, (tt, l)))
 
-  binds_firm : (d : Option DeclaredType) (x : List ℕ) (v : Value) (t : Option EntityType) (p : Point) → Has p.environment → Left p.tasks → Firm (binds s me.handler d x v t p)
+  binds_firm : (d : Option DeclaredType) (x : List ℕ) (v : Value) (t : Option EntityType) (p : Point) →
+      Has p.environment → Left p.tasks → Firm (binds s me.handler d x v t p)
   binds_firm d x v None p h l = tt
   binds_firm d x v (Some t) p h l = by (is_tested s me.handler (handler_named p.environment) v d t)
     where
@@ -185,25 +190,30 @@ module _ (contract : StepOfContract) (s : System) (me : Reference) (bs : List Bi
   found_firm None p h l = tt
   found_firm (Some u) p h l = (h, l)
 
-  result_firm : (u : Option Operand) (t : Option (Option EntityType)) (p : Point) → Has p.environment → Left p.tasks → Firm (reads_result u t p)
+  result_firm : (u : Option Operand) (t : Option (Option EntityType)) (p : Point) → Has p.environment → Left p.tasks →
+      Firm (reads_result u t p)
   result_firm (Some u) (Some (Some t)) p h l = reads_firm u.type u.value t p h l
   result_firm (Some u) (Some None) p h l = tt
   result_firm (Some u) None p h l = tt
   result_firm None t p h l = tt
 
-  own_firm : (t : Option EntityType) (b : Option Binding) (p : Point) → Has p.environment → Left p.tasks → Firm (reads_own t b p)
+  own_firm : (t : Option EntityType) (b : Option Binding) (p : Point) → Has p.environment → Left p.tasks →
+      Firm (reads_own t b p)
   own_firm None b p h l = tt
   own_firm (Some t) b p h l = attribute_firm b t p h l
 
-  kind_firm : (x : List ℕ) (k : FeatureKind) (i : ℕ) (es : Exprs) (p : Point) → Has p.environment → Left p.tasks → Firm (begins_kind s me x k i es p)
+  kind_firm : (x : List ℕ) (k : FeatureKind) (i : ℕ) (es : Exprs) (p : Point) → Has p.environment → Left p.tasks →
+      Firm (begins_kind s me x k i es p)
   kind_firm x (tree.Attribute d) i es p h l = own_firm (given_type s (current (place_in s p.text)) d) (binding_named x (attributes_of me.number p.objects)) p h l
   kind_firm x (tree.Routine r) i es p h l = (h, actuals_left i es (CallUnqualified x (count es)) p.tasks (tt, l))
 
-  feature_firm : (x : List ℕ) (f : Option DeclaredFeature) (i : ℕ) (es : Exprs) (p : Point) → Has p.environment → Left p.tasks → Firm (begins_feature s me x f i es p)
+  feature_firm : (x : List ℕ) (f : Option DeclaredFeature) (i : ℕ) (es : Exprs) (p : Point) → Has p.environment →
+      Left p.tasks → Firm (begins_feature s me x f i es p)
   feature_firm x None i es p h l = tt
   feature_firm x (Some f) i es p h l = kind_firm x f.feature.kind i es p h l
 
-  name_firm : (x : List ℕ) (b : Option Binding) (i : ℕ) (es : Exprs) (p : Point) → Has p.environment → Left p.tasks → Firm (begins_name s me x b i es p)
+  name_firm : (x : List ℕ) (b : Option Binding) (i : ℕ) (es : Exprs) (p : Point) → Has p.environment → Left p.tasks →
+      Firm (begins_name s me x b i es p)
   name_firm x (Some b) i es p h l = reads_firm b.type b.value b.type p h l
   name_firm x None i es p h l = feature_firm x (feature_named s (class.Declared p.text.class) x) i es p h l
 
@@ -224,7 +234,8 @@ module _ (contract : StepOfContract) (s : System) (me : Reference) (bs : List Bi
 
   -- ---- instructions
 
-  to_local_firm : (x : Name) (v : Value) (o : Option Entity) (p : Point) → entity_named x.text (scope_of p.environment) ≡ o → Has p.environment → Left p.tasks →
+  to_local_firm : (x : Name) (v : Value) (o : Option Entity) (p : Point) →
+      entity_named x.text (scope_of p.environment) ≡ o → Has p.environment → Left p.tasks →
       Firm (assigns me (Named x) (assignee_or (place_in s p.text) x.text o) v p)
   to_local_firm x v (Some e) p i (more, j) l = by (is_local e.role) refl
     where
@@ -239,7 +250,8 @@ module _ (contract : StepOfContract) (s : System) (me : Reference) (bs : List Bi
       of_kind (tree.Attribute d) = (h, l)
       of_kind (tree.Routine r) = tt
 
-      of_feature : (f : Option DeclaredFeature) → Firm (assigns me (Named x) (assignee_of_feature (place_in s p.text) f) v p)
+      of_feature : (f : Option DeclaredFeature) →
+          Firm (assigns me (Named x) (assignee_of_feature (place_in s p.text) f) v p)
       of_feature None = tt
       of_feature (Some f) = of_kind f.feature.kind
 
@@ -248,7 +260,8 @@ module _ (contract : StepOfContract) (s : System) (me : Reference) (bs : List Bi
       by true = tt
       by false = of_feature (feature_named s (class.Declared p.text.class) x.text)
 
-  assigns_firm : (x : Variable) (v : Value) (p : Point) → Has p.environment → Left p.tasks → Firm (assigns me x (assigned_at s x p) v p)
+  assigns_firm : (x : Variable) (v : Value) (p : Point) → Has p.environment → Left p.tasks →
+      Firm (assigns me x (assigned_at s x p) v p)
   assigns_firm (Named x) v p h l = to_local_firm x v (entity_named x.text (scope_of p.environment)) p refl h l
   assigns_firm (ResultVariable q) v p h l = by p.text.result
     where
@@ -263,11 +276,13 @@ module _ (contract : StepOfContract) (s : System) (me : Reference) (bs : List Bi
   prints_firm Void p = tt
   prints_firm (Attached r) p = tt
 
-  other_firm : (d : ℕ) (cs : Branches) (other : Instrs) (p : Point) → (m : ℕ) × (d ≡ length bs + m) → Has p.environment → Left p.tasks → Firm (chooses_other d cs other p)
+  other_firm : (d : ℕ) (cs : Branches) (other : Instrs) (p : Point) → (m : ℕ) × (d ≡ length bs + m) →
+      Has p.environment → Left p.tasks → Firm (chooses_other d cs other p)
   other_firm d no_branches other p i h l = (h, (tt, l))
   other_firm d (branch_then e b cs) other p i h l = (h, (tt, (i, l)))
 
-  chooses_firm : (d : ℕ) (v : Value) (body : Instrs) (cs : Branches) (other : Instrs) (p : Point) → (m : ℕ) × (d ≡ length bs + m) → Has p.environment → Left p.tasks →
+  chooses_firm : (d : ℕ) (v : Value) (body : Instrs) (cs : Branches) (other : Instrs) (p : Point) →
+      (m : ℕ) × (d ≡ length bs + m) → Has p.environment → Left p.tasks →
       Firm (chooses d v body cs other p)
   chooses_firm d (Boolean true) body cs other p i h l = (h, (tt, (i, l)))
   chooses_firm d (Boolean false) body cs other p i h l = other_firm d cs other (forgets d p) i (shorter p.environment d h i) l
@@ -275,7 +290,8 @@ module _ (contract : StepOfContract) (s : System) (me : Reference) (bs : List Bi
   chooses_firm d Void body cs other p i h l = tt
   chooses_firm d (Attached r) body cs other p i h l = tt
 
-  ends_loop_firm : (v : Value) (e : tree.Expr) (body : Instrs) (p : Point) → Has p.environment → Left p.tasks → Firm (ends_loop v e body p)
+  ends_loop_firm : (v : Value) (e : tree.Expr) (body : Instrs) (p : Point) → Has p.environment → Left p.tasks →
+      Firm (ends_loop v e body p)
   ends_loop_firm (Boolean true) e body p h l = (h, l)
   ends_loop_firm (Boolean false) e body p h l = (h, (tt, (tt, l)))
   ends_loop_firm (Integer z) e body p h l = tt
@@ -289,11 +305,13 @@ module _ (contract : StepOfContract) (s : System) (me : Reference) (bs : List Bi
   tests_firm why Void p h l = tt
   tests_firm why (Attached r) p h l = tt
 
-  opens_firm : (xs : List Name) (body : Instrs) (us : Option (List Operand × List Operand)) (p : Point) → Firm (opens xs body us p)
+  opens_firm : (xs : List Name) (body : Instrs) (us : Option (List Operand × List Operand)) (p : Point) →
+      Firm (opens xs body us p)
   opens_firm xs body None p = tt
   opens_firm xs body (Some (us, vs)) p = tt
 
-  routine_firm : (b : Bool) (x : List ℕ) (es : Exprs) (p : Point) → Has p.environment → Left p.tasks → Firm (begins_routine b x es p)
+  routine_firm : (b : Bool) (x : List ℕ) (es : Exprs) (p : Point) → Has p.environment → Left p.tasks →
+      Firm (begins_routine b x es p)
   routine_firm true x no_exprs p h l = tt
   routine_firm true x (expr_then a no_exprs) p h l = (h, (tt, (tt, l)))
   routine_firm true x (expr_then a (expr_then f es)) p h l = tt
@@ -317,11 +335,13 @@ module _ (contract : StepOfContract) (s : System) (me : Reference) (bs : List Bi
 
   -- ---- creations
 
-  made_firm : (r : Reference) (t : EntityType) (call : Option (List ℕ)) (us : List Operand) (p : Point) → Has p.environment → Left p.tasks → Firm (creates_object s r t call us p)
+  made_firm : (r : Reference) (t : EntityType) (call : Option (List ℕ)) (us : List Operand) (p : Point) →
+      Has p.environment → Left p.tasks → Firm (creates_object s r t call us p)
   made_firm r t (Some x) us p h l = (h, l)
   made_firm r t None us p h l = if_firm (meets_invariant s (fresh_object s r.class)) _ (fails cause.Invariant p) tt tt
 
-  creates_firm : (call : Option (List ℕ)) (t : EntityType) (g : Tag) (c : ClassId) (us : List Operand) (p : Point) → Has p.environment → Left p.tasks →
+  creates_firm : (call : Option (List ℕ)) (t : EntityType) (g : Tag) (c : ClassId) (us : List Operand) (p : Point) →
+      Has p.environment → Left p.tasks →
       Firm (creates_at s me call t g c us p)
   creates_firm call t tag.Own (class.Declared k) us p h l = if_firm (nat_lt (length p.objects) max_objects) _ (fails cause.TooManyObjects p)
       (made_firm (record { handler = me.handler; number = length p.objects + 1; class = k }) t call us (record p { objects = p.objects ++ fresh_object s k ∷ [] }) h l) tt
@@ -337,11 +357,13 @@ module _ (contract : StepOfContract) (s : System) (me : Reference) (bs : List Bi
   creates_firm call t (tag.With x) c us p h l = tt
   creates_firm call t tag.None c us p h l = tt
 
-  creates_as_firm : (call : Option (List ℕ)) (t : Option EntityType) (us : List Operand) (p : Point) → Has p.environment → Left p.tasks → Firm (creates_as s me call t us p)
+  creates_as_firm : (call : Option (List ℕ)) (t : Option EntityType) (us : List Operand) (p : Point) →
+      Has p.environment → Left p.tasks → Firm (creates_as s me call t us p)
   creates_as_firm call None us p h l = tt
   creates_as_firm call (Some t) us p h l = creates_firm call t t.tag t.class us p h l
 
-  create_firm : (v : Variable) (call : Option (List ℕ)) (us : Option (List Operand × List Operand)) (p : Point) → Has p.environment → Left p.tasks → Firm (creates s me v call us p)
+  create_firm : (v : Variable) (call : Option (List ℕ)) (us : Option (List Operand × List Operand)) (p : Point) →
+      Has p.environment → Left p.tasks → Firm (creates s me v call us p)
   create_firm v call None p h l = tt
   create_firm v call (Some (us, vs)) p h l =
       creates_as_firm call (assignee_type (assigned_at s v p)) us (record p { tasks = AssignTo v ∷ p.tasks; values = vs }) h (tt, l)
@@ -349,10 +371,12 @@ module _ (contract : StepOfContract) (s : System) (me : Reference) (bs : List Bi
   -- ---- tasks
 
   -- a contract's task, where p.tasks is what is left behind it
-  of_contract : (t : Task) (p : Point) → IsOfContract t → Has p.environment → Left p.tasks → Firm (performs s me t p.values p)
+  of_contract : (t : Task) (p : Point) → IsOfContract t → Has p.environment → Left p.tasks →
+      Firm (performs s me t p.values p)
   of_contract t p o h l = by (performs s me t p.values p) (contract s me t [] p.tasks (record p { tasks = t ∷ p.tasks }) refl o tt)
     where
-      stays : (q : Point) → StaysInContract p.tasks (record p { tasks = t ∷ p.tasks }) q → Has q.environment × Left q.tasks
+      stays : (q : Point) → StaysInContract p.tasks (record p { tasks = t ∷ p.tasks }) q →
+          Has q.environment × Left q.tasks
       stays q y = (subst Has (sym y.environment_is) h, subst Left (sym y.tasks_are) (contract_left y.tasks p.tasks y.of_contract l))
 
       by : (x : Step) → StepsInContract p.tasks (record p { tasks = t ∷ p.tasks }) x → Firm x
@@ -370,7 +394,8 @@ module _ (contract : StepOfContract) (s : System) (me : Reference) (bs : List Bi
       by (Does Leaves q) y = tt
       by (Does Exits q) y = tt
 
-  performs_firm : (t : Task) (vs : List Operand) (p : Point) → p.values ≡ vs → IsBehind t → Has p.environment → Left p.tasks → Firm (performs s me t vs p)
+  performs_firm : (t : Task) (vs : List Operand) (p : Point) → p.values ≡ vs → IsBehind t → Has p.environment →
+      Left p.tasks → Firm (performs s me t vs p)
   performs_firm (Do no_instrs) vs p e o h l = (h, l)
   performs_firm (Do (instr_then i is)) vs p e o h l = begins_firm i (record p { tasks = Do is ∷ p.tasks }) h (tt, l)
   performs_firm (In text) vs p e o h l = (h, l)
@@ -420,7 +445,8 @@ module _ (contract : StepOfContract) (s : System) (me : Reference) (bs : List Bi
     after_firm p z x e = subst Firm e (step_firm p z.0 z.1)
 
     -- So it is of all that the evaluation reaches.
-    pub reaches_firm : (p q : Point) → Has p.environment × Left p.tasks → Reaches s M O me p q → Has q.environment × Left q.tasks
+    pub reaches_firm : (p q : Point) → Has p.environment × Left p.tasks → Reaches s M O me p q →
+        Has q.environment × Left q.tasks
     reaches_firm p _ z at_first = z
     reaches_firm p r z (goes {q} before e) = after_firm q (reaches_firm p q z before) (Goes r) e
     reaches_firm p r z (tested {q} before e) = after_firm q (reaches_firm p q z before) (Does Tests r) e

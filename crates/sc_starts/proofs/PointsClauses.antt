@@ -51,6 +51,13 @@ module _ (extends : StepExtends) (leaves : StepOldless) (contract : StepOfContra
   abbrev So : Step → Type 0
   So st = ClauseSteps s pure M O me r bs st
 
+  -- inside the clause, behind which others are left
+  abbrev At : Clause → List Clause → Point → Type 0
+  At k ks q = IsAt s M O me (clause_of O me r bs k) (Required k ∷ behind_clause r ks) q
+
+  abbrev Done : Clause → List Clause → Act → Point → Type 0
+  Done k ks a q = HasDone s M O me (clause_of O me r bs k) (Required k ∷ behind_clause r ks) a q
+
   -- ---- clauses
 
   oldless_clause : (done ks : List Clause) (k : Clause) → r.require ≡ done ++ k ∷ ks → ClauseHasNoOld k
@@ -63,7 +70,8 @@ module _ (extends : StepExtends) (leaves : StepOldless) (contract : StepOfContra
 
   -- ---- what stays
 
-  in_clause : (k : Clause) (ts : List Task) (p : Point) → ClauseHasNoTest k → IsAt s M O me (clause_of O me r bs k) ts p → p.text ≡ r.contract → p.olds ≡ [] → InContract O me r bs p
+  in_clause : (k : Clause) (ts : List Task) (p : Point) → ClauseHasNoTest k →
+      IsAt s M O me (clause_of O me r bs k) ts p → p.text ≡ r.contract → p.olds ≡ [] → InContract O me r bs p
   in_clause k ts p none a text olds = by (unchanged contract s M O me (clause_of O me r bs k) a.at (none, tt) a.reaches)
     where
       by : Unchanged (clause_of O me r bs k) a.at → InContract O me r bs p
@@ -75,8 +83,10 @@ module _ (extends : StepExtends) (leaves : StepOldless) (contract : StepOfContra
         olds_are = olds;
       }
 
-  done_clause : (k : Clause) (ts : List Task) (a : Act) (p : Point) → ClauseHasNoTest k → (d : HasDone s M O me (clause_of O me r bs k) ts a p) →
-      ((q : Point) → StepsInContract [] q (Does a d.after) → StaysInContract [] q d.after) → (Does a d.after ≡ Does Exits d.before → ⊥) →
+  done_clause : (k : Clause) (ts : List Task) (a : Act) (p : Point) → ClauseHasNoTest k →
+      (d : HasDone s M O me (clause_of O me r bs k) ts a p) →
+      ((q : Point) → StepsInContract [] q (Does a d.after) → StaysInContract [] q d.after) →
+      (Does a d.after ≡ Does Exits d.before → ⊥) →
       p.text ≡ r.contract → p.olds ≡ [] → InContract O me r bs p
   done_clause k ts a p none d so some text olds = by (unchanged contract s M O me (clause_of O me r bs k) d.before (none, tt) d.reaches)
     where
@@ -92,7 +102,8 @@ module _ (extends : StepExtends) (leaves : StepOldless) (contract : StepOfContra
 
   -- ---- between clauses
 
-  between_so : (done ks : List Clause) → r.require ≡ done ++ ks → Hold s M O me r bs done → So (step s me (between_point O me r bs ks))
+  between_so : (done ks : List Clause) → r.require ≡ done ++ ks → Hold s M O me r bs done →
+      So (step s me (between_point O me r bs ks))
   between_so done [] e holds = (subst (λ (qs : List Clause). Hold s M O me r bs qs) (sym (e ∙ append_nil done)) holds, rest_started r, refl)
   between_so done (k ∷ ks) e holds = (
     at.inside done ks k e holds refl (record { at = clause_of O me r bs k; reaches = begins; stands = refl; oldless = (oldless_clause done ks k e, tt) }),
@@ -102,18 +113,28 @@ module _ (extends : StepExtends) (leaves : StepOldless) (contract : StepOfContra
   -- ---- at the end of a clause
 
   module _ (done ks : List Clause) (k : Clause) (e : r.require ≡ done ++ k ∷ ks) (holds : Hold s M O me r bs done) (p : Point) (none : p.olds ≡ [])
-      (a : IsAt s M O me (clause_of O me r bs k) (Required k ∷ behind_clause r ks) p) (z : StandsInClauses s pure r.contract n [] p) where
+      (a : At k ks p) (z : StandsInClauses s pure r.contract n [] p) where
     here : InContract O me r bs p
     here = in_clause k (Required k ∷ behind_clause r ks) p (testless_clause done ks k e) a z.text_is none
 
-    -- behind the clause
+    -- behind the clause, whatever is left
+    left : {ts : List Task} {vs : List Operand} → InContract O me r bs (record p { tasks = ts; values = vs })
+    left = record {
+      objects_are = here.objects_are;
+      text_is = here.text_is;
+      environment_is = here.environment_is;
+      result_is = here.result_is;
+      olds_are = none;
+    }
+
     abbrev behind : Point
     behind = record p { tasks = behind_clause r ks; values = [] }
 
     behind_is : behind ≡ between_point O me r bs ks
     behind_is = same p.objects p.text p.environment p.result p.olds here.objects_are here.text_is here.environment_is here.result_is none
       where
-        same : (os : List Object) (t : Text) (cs : List Binding) (u : Option Operand) (us : List Operand) → os ≡ O me.handler → t ≡ r.contract → cs ≡ bs →
+        same : (os : List Object) (t : Text) (cs : List Binding) (u : Option Operand) (us : List Operand) →
+            os ≡ O me.handler → t ≡ r.contract → cs ≡ bs →
             u ≡ result_of r.text.result → us ≡ [] →
             (record { objects = os; text = t; environment = cs; result = u; olds = us; tasks = behind_clause r ks; values = [] }) ≡ between_point O me r bs ks
         same os t cs u us a b c d e = rw (a, b, c, d, e) refl
@@ -121,7 +142,7 @@ module _ (extends : StepExtends) (leaves : StepOldless) (contract : StepOfContra
     ended_so : (v : Value) (u : EntityType) → a.at.tasks ≡ [] → p.values ≡ operand v u ∷ [] → So (required k v behind)
     ended_so (Boolean true) u i vs = (
       at.between (done ++ k ∷ []) ks (e ∙ sym (append_assoc done (k ∷ []) ks)) (each_append _ done (k ∷ []) holds (ends, tt)) behind_is,
-      record { objects_are = here.objects_are; text_is = here.text_is; environment_is = here.environment_is; result_is = here.result_is; olds_are = none },
+      left,
     )
       where
         ends : EndsTrue s M O me (clause_of O me r bs k)
@@ -134,7 +155,7 @@ module _ (extends : StepExtends) (leaves : StepOldless) (contract : StepOfContra
           values_are = sym (ap (λ (p : Point). p.values) a.stands) ∙ vs;
         }
     ended_so (Boolean false) u i vs =
-        record { objects_are = here.objects_are; text_is = here.text_is; environment_is = here.environment_is; result_is = here.result_is; olds_are = none }
+        left
     ended_so (Integer m) u i vs = tt
     ended_so Void u i vs = tt
     ended_so (Attached o) u i vs = tt
@@ -151,34 +172,35 @@ module _ (extends : StepExtends) (leaves : StepOldless) (contract : StepOfContra
   -- ---- a step
 
   -- within a clause
-  within_so : (done ks : List Clause) (k : Clause) → r.require ≡ done ++ k ∷ ks → Hold s M O me r bs done → (p : Point) → p.olds ≡ [] → (x : Step) →
+  within_so : (done ks : List Clause) (k : Clause) → r.require ≡ done ++ k ∷ ks → Hold s M O me r bs done →
+      (p : Point) → p.olds ≡ [] → (x : Step) →
       Stepped extends leaves s M O me (clause_of O me r bs k) (Required k ∷ behind_clause r ks) p.olds x → ClauseStep s pure r.contract n x → StepFits s pure r me x → So x
   within_so done ks k e holds p none (Goes q) y z f =
       (at.inside done ks k e holds (y.1 ∙ none) y.0, in_clause k (Required k ∷ behind_clause r ks) q (testless_clause done ks k e) y.0 z.text_is (y.1 ∙ none))
   within_so done ks k e holds p none (Does (Enters c o x us g) q) y z f = by z.1.0 z.1.1 z.1.2.text_is y
     where
       by : (t : EntityType) → g ≡ Some t → q.text ≡ r.contract →
-          HasDone s M O me (clause_of O me r bs k) (Required k ∷ behind_clause r ks) (Enters c o x us g) q × (q.olds ≡ p.olds) → So (Does (Enters c o x us g) q)
+          Done k ks (Enters c o x us g) q × (q.olds ≡ p.olds) → So (Does (Enters c o x us g) q)
       by t i text (d, same) = (
         t,
         i,
         f.0,
         z.0,
-        at.inside done ks k e holds (same ∙ none) (subst (λ g. HasDone s M O me (clause_of O me r bs k) (Required k ∷ behind_clause r ks) (Enters c o x us g) q) i d),
+        at.inside done ks k e holds (same ∙ none) (subst (λ g. Done k ks (Enters c o x us g) q) i d),
         done_clause k (Required k ∷ behind_clause r ks) (Enters c o x us g) q (testless_clause done ks k e) d (λ q y. y) (λ n. cc) text (same ∙ none),
       )
   within_so done ks k e holds p none (Does (Requests o x us g passes) q) y z f = by z.1.0 z.1.1 z.1.2.text_is y
     where
       by : (t : EntityType) → g ≡ Some t → q.text ≡ r.contract →
-          HasDone s M O me (clause_of O me r bs k) (Required k ∷ behind_clause r ks) (Requests o x us g passes) q × (q.olds ≡ p.olds) → So (Does (Requests o x us g passes) q)
+          Done k ks (Requests o x us g passes) q × (q.olds ≡ p.olds) → So (Does (Requests o x us g passes) q)
       by t i text (d, same) = (
         t,
         i,
         z.0,
         z.2,
         at.inside done ks k e holds (same ∙ none)
-            (subst (λ b. HasDone s M O me (clause_of O me r bs k) (Required k ∷ behind_clause r ks) (Requests o x us (Some t) b) q) z.0
-            (subst (λ g. HasDone s M O me (clause_of O me r bs k) (Required k ∷ behind_clause r ks) (Requests o x us g passes) q) i d)),
+            (subst (λ b. Done k ks (Requests o x us (Some t) b) q) z.0
+            (subst (λ g. Done k ks (Requests o x us g passes) q) i d)),
         done_clause k (Required k ∷ behind_clause r ks) (Requests o x us g passes) q (testless_clause done ks k e) d (λ q y. y) (λ n. cc) text (same ∙ none),
       )
   within_so done ks k e holds p none (Does Starts q) y z f = absurd y
@@ -192,7 +214,8 @@ module _ (extends : StepExtends) (leaves : StepOldless) (contract : StepOfContra
   within_so done ks k e holds p none (Does Leaves q) y z f = absurd z
   within_so done ks k e holds p none (Does Exits q) y z f = absurd z
 
-  step_so : (p : Point) → ClausesAt s M O me r bs p → StandsInClauses s pure r.contract n [] p → ClauseStep s pure r.contract n (step s me p) → StepFits s pure r me (step s me p) →
+  step_so : (p : Point) → ClausesAt s M O me r bs p → StandsInClauses s pure r.contract n [] p →
+      ClauseStep s pure r.contract n (step s me p) → StepFits s pure r me (step s me p) →
       So (step s me p)
   step_so p (at.between done ks e holds i) z y f = subst (λ p. So (step s me p)) (sym i) (between_so done ks e holds)
   step_so p (at.inside done ks k e holds none a) z y f = by a.at.tasks refl
@@ -205,7 +228,8 @@ module _ (extends : StepExtends) (leaves : StepOldless) (contract : StepOfContra
   -- ---- a turn
 
   module _ (objects : List Object) (there : IsAmong objects me) where
-    within : (m : ℕ) (p : Point) → ClausesAt s M O me r bs p → InContract O me r bs p → StandsSo s pure r me [] p → Stays (IsThereIfOwn me.handler objects) objects p →
+    within : (m : ℕ) (p : Point) → ClausesAt s M O me r bs p → InContract O me r bs p → StandsSo s pure r me [] p →
+        Stays (IsThereIfOwn me.handler objects) objects p →
         StandsInClauses s pure r.contract n [] p → So (first_visible m s me p)
     within zero p a c f h z = (a, c)
     within (suc m) p a c f h z = by (step s me p) (λ q. within m q) fits stays stands (step_so p a z stands fits)
@@ -220,7 +244,8 @@ module _ (extends : StepExtends) (leaves : StepOldless) (contract : StepOfContra
         stands : ClauseStep s pure r.contract n (step s me p)
         stands = clause_next s pure tells r me (is_run s root pure faultless well tells r me named) n p f z
 
-        by : (x : Step) → ((q : Point) → ClausesAt s M O me r bs q → InContract O me r bs q → StandsSo s pure r me [] q → Stays (IsThereIfOwn me.handler objects) objects q →
+        by : (x : Step) →
+            ((q : Point) → ClausesAt s M O me r bs q → InContract O me r bs q → StandsSo s pure r me [] q → Stays (IsThereIfOwn me.handler objects) objects q →
             StandsInClauses s pure r.contract n [] q → So (first_visible m s me q)) → StepFits s pure r me x →
             StepStays (IsThereIfOwn me.handler objects) me (own_values me.handler objects me there) objects x → ClauseStep s pure r.contract n x → So x →
             So (then_go x (first_visible m s me))
@@ -233,7 +258,8 @@ module _ (extends : StepExtends) (leaves : StepOldless) (contract : StepOfContra
   in_contract p (at.inside done ks k e holds none a) text = in_clause k (Required k ∷ behind_clause r ks) p (testless_clause done ks k e) a text none
 
   -- So does its next turn.
-  pub clauses_move : (p : Point) → ClausesAt s M O me r bs p → StandsSo s pure r me [] p → ValuesDo (IsThereIfOwn me.handler p.objects) p →
+  pub clauses_move : (p : Point) → ClausesAt s M O me r bs p → StandsSo s pure r me [] p →
+      ValuesDo (IsThereIfOwn me.handler p.objects) p →
       StandsInClauses s pure r.contract n [] p → So (moves s me p)
   clauses_move p a f h z =
       within p.objects f.1.current (suc (size p.tasks)) p a (in_contract p a z.text_is) f (record { values = h; there = λ o z. z }) z

@@ -94,7 +94,8 @@ bound_length s all i (d ∷ ds) [] bs e = cc
 bound_length s all i (d ∷ ds) (v ∷ vs) bs e =
     by (declared_type s all d.declared_type) (formals_bound s all (i + 1) ds vs) (λ cs j. bound_length s all (i + 1) ds vs cs j) e
   where
-    by : (o : Option EntityType) (rest : Option (List Binding)) → ((cs : List Binding) → rest ≡ Some cs → length cs ≡ length ds) →
+    by : (o : Option EntityType) (rest : Option (List Binding)) →
+        ((cs : List Binding) → rest ≡ Some cs → length cs ≡ length ds) →
         with_binding o d.name.text i v rest ≡ Some bs → length bs ≡ suc (length ds)
     by None rest others e = cc
     by (Some t) None others e = cc
@@ -105,7 +106,8 @@ pub take_all : {A : Type 0} (xs : List A) → take (length xs) xs ≡ xs
 take_all [] = refl
 take_all (x ∷ xs) = ap (λ ys. x ∷ ys) (take_all xs)
 
-pub takes_bound : (s : System) (r : Routine) (bs : List Binding) → AreBound s r bs → take (length r.text.formals) bs ≡ bs
+pub takes_bound : (s : System) (r : Routine) (bs : List Binding) → AreBound s r bs →
+    take (length r.text.formals) bs ≡ bs
 takes_bound s r bs (vs, e) =
     subst (λ (n : ℕ). take n bs ≡ bs) (bound_length s r.text.formals 0 r.text.formals vs bs e) (take_all bs)
 
@@ -120,7 +122,8 @@ module _ (testless : TextsAreTestless) where
 pub entry_is_between : EntryIsBetween
 entry_is_between O me r bs o some = by r.require refl
   where
-    by : (ks : List Clause) → r.require ≡ ks → point_of (entry me r o bs) (O me.handler) ≡ between_point O me r bs r.require
+    by : (ks : List Clause) → r.require ≡ ks →
+        point_of (entry me r o bs) (O me.handler) ≡ between_point O me r bs r.require
     by [] e = absurd (some e)
     by (k ∷ ks) e = ap (λ (ts : List Task). record (between_point O me r bs r.require) { tasks = ts })
         (ap (λ (ks : List Clause). (requires ks ++ keeps_olds (olds_of_clauses r.ensure)) ++ body_tasks r) e ∙ ap (λ (ks : List Clause). behind_clause r ks) (sym e))

@@ -36,7 +36,8 @@ no e = cc
 
 module _ (s : System) (pure : RoutineName → Bool) (tells : IsPurity s pure) where
   -- the declaration of a pure function
-  candidate : (k : ℕ) (x : List ℕ) (f : DeclaredFeature) → version_of s k x ≡ Some f → pure (rules.routine_of f) ≡ true → is_pure_candidate f.feature.kind ≡ true
+  candidate : (k : ℕ) (x : List ℕ) (f : DeclaredFeature) → version_of s k x ≡ Some f →
+      pure (rules.routine_of f) ≡ true → is_pure_candidate f.feature.kind ≡ true
   candidate k x f e is = by (is_pure_candidate f.feature.kind) refl
     where
       stands : StandsInText s k x f
@@ -50,12 +51,14 @@ module _ (s : System) (pure : RoutineName → Bool) (tells : IsPurity s pure) wh
       by false i = absurd ((pure_is_closed s pure tells (rules.routine_of f) is).0 (no_candidate (ap is_pure_candidate_if_any there ∙ i)))
 
   -- a routine that may be pure is a function
-  gives_result : (c : tree.RoutineDeclaration) → is_pure_candidate (tree.Routine c) ≡ true → is_some c.result_type ≡ true
+  gives_result : (c : tree.RoutineDeclaration) → is_pure_candidate (tree.Routine c) ≡ true →
+      is_some c.result_type ≡ true
   gives_result c e = (and_true (is_some c.result_type) (list_all (λ (d : Declaration). not (reserves d)) c.formals) e).0
 
   -- ---- what is called
 
-  given_so : (me : ℕ) (of : Reserved → Option ℕ) (k : ℕ) (d : Option DeclaredType) (g : Option EntityType) → GivesFit s me of k d g → is_some d ≡ true →
+  given_so : (me : ℕ) (of : Reserved → Option ℕ) (k : ℕ) (d : Option DeclaredType) (g : Option EntityType) →
+      GivesFit s me of k d g → is_some d ≡ true →
       (t : EntityType) × (g ≡ Some t)
   given_so me of k None g f e = no e
   given_so me of k (Some d) (Some t) f e = (t, refl)
@@ -66,20 +69,23 @@ module _ (s : System) (pure : RoutineName → Bool) (tells : IsPurity s pure) wh
   gives_value me of o x us g (c, is) runs =
       by c.version.feature.kind c.fits (candidate o.class x c.version c.is_version (runs c.version c.is_version))
     where
-      by : (m : FeatureKind) → KindFits s me of o.handler us g m → is_pure_candidate m ≡ true → (t : EntityType) × (g ≡ Some t)
+      by : (m : FeatureKind) → KindFits s me of o.handler us g m → is_pure_candidate m ≡ true →
+          (t : EntityType) × (g ≡ Some t)
       by _ (a_routine {version} fits f) e = given_so me of o.handler version.result_type g f (gives_result version e)
       by _ (an_attribute none f) e = no e
 
   -- ---- the Result
 
   module _ (k : ℕ) (x : List ℕ) (r : Routine) (named : routine_named s k x ≡ Some r) (is : pure (name_of r) ≡ true) where
-    declared_result : (m n : FeatureKind) (y : List ℕ) (i j : ℕ) → is_pure_candidate m ≡ true → routine_with s y i m j n ≡ Some r →
+    declared_result : (m n : FeatureKind) (y : List ℕ) (i j : ℕ) → is_pure_candidate m ≡ true →
+        routine_with s y i m j n ≡ Some r →
         (t : Option EntityType) × (r.text.result ≡ Some t)
     declared_result (tree.Attribute d) n y i j e w = no e
     declared_result (tree.Routine own) (tree.Attribute d) y i j e w = cc
     declared_result (tree.Routine own) (tree.Routine original) y i j e w = by own.result_type refl (gives_result own e)
       where
-        by : (d : Option DeclaredType) → own.result_type ≡ d → is_some d ≡ true → (t : Option EntityType) × (r.text.result ≡ Some t)
+        by : (d : Option DeclaredType) → own.result_type ≡ d → is_some d ≡ true →
+            (t : Option EntityType) × (r.text.result ≡ Some t)
         by None l e = no e
         by (Some d) l e = (
           declared_type s [] d,
@@ -92,7 +98,8 @@ module _ (s : System) (pure : RoutineName → Bool) (tells : IsPurity s pure) wh
         of_version : IsVersionOf s k x r → (t : Option EntityType) × (r.text.result ≡ Some t)
         of_version v = by (origin_of s v.feature) v.is_routine_of
           where
-            by : (o : Option DeclaredFeature) → routine_from s v.feature o ≡ Some r → (t : Option EntityType) × (r.text.result ≡ Some t)
+            by : (o : Option DeclaredFeature) → routine_from s v.feature o ≡ Some r →
+                (t : Option EntityType) × (r.text.result ≡ Some t)
             by None e = cc
             by (Some o) e = declared_result v.feature.feature.kind o.feature.kind v.feature.feature.name.text v.feature.class o.class
                 (candidate k x v.feature v.is_version (subst (λ (f : RoutineName). pure f ≡ true) v.has_name is)) e
@@ -100,7 +107,8 @@ module _ (s : System) (pure : RoutineName → Bool) (tells : IsPurity s pure) wh
     pub result_there : (h : ℕ) (u : Option Operand) → ResultFits s h r.text.result u → (v : Operand) × (u ≡ Some v)
     result_there h u f = by r.text.result u f has_result.1
       where
-        by : (g : Option (Option EntityType)) (w : Option Operand) → ResultFits s h g w → g ≡ Some has_result.0 → (v : Operand) × (w ≡ Some v)
+        by : (g : Option (Option EntityType)) (w : Option Operand) → ResultFits s h g w → g ≡ Some has_result.0 →
+            (v : Operand) × (w ≡ Some v)
         by _ _ point.no_result e = cc
         by _ _ (point.a_result {u} f) e = (u, refl)
 
@@ -115,7 +123,8 @@ pub none_at_text : (s : System) (pure : RoutineName → Bool) (r : Routine) (me 
     p.tasks ≡ In u ∷ k → p.values ≡ []
 none_at_text s pure r me p u k f e = by f.0.known f.0.agrees (subst (λ ts. IsTyped s pure r ts f.0.known) e f.0.is_typed)
   where
-    none_typed : (t : Text) (n : rules.Entities) (os vs : List EntityType) → IsTyped s pure r (In u ∷ k) (typed.at t n os vs) → vs ≡ []
+    none_typed : (t : Text) (n : rules.Entities) (os vs : List EntityType) →
+        IsTyped s pure r (In u ∷ k) (typed.at t n os vs) → vs ≡ []
     none_typed t n os _ (typed.in_text a d) = refl
 
     by : (x : Known) → Agrees p [] x → IsTyped s pure r (In u ∷ k) x → p.values ≡ []

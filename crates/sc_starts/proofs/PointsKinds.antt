@@ -112,7 +112,8 @@ module _ (K : Type 0) where
     behind_any (Require ks) ts X o x = absurd o
     behind_any t ts X o x = x
 
-    any_tasks : (ts rest : List Task) → Each IsOldless ts → ((k : ℕ) → AnyTasks k rest) → (k : ℕ) → AnyTasks k (ts ++ rest)
+    any_tasks : (ts rest : List Task) → Each IsOldless ts → ((k : ℕ) → AnyTasks k rest) → (k : ℕ) →
+        AnyTasks k (ts ++ rest)
     any_tasks [] rest o l k = l k
     any_tasks (t ∷ ts) rest o l k =
         (any_task t o.0, behind_any t (ts ++ rest) (AnyTasks (class_behind k t) (ts ++ rest)) o.0 (any_tasks ts rest o.1 l (class_behind k t)))
@@ -130,7 +131,16 @@ IsWithin (Does Exits q) = ⊥
 IsWithin st = Unit {0}
 
 module _ (extends : StepExtends) (s : System) (me : Reference) (p : Point) (t : Task) (rest : List Task) (e : p.tasks ≡ t ∷ rest) (o : Each IsOldless p.tasks) where
-  starts_none : SteppedSo s me (λ k. Any) (λ k. Any) (Unit {0}) ⊥ (Unit {0}) (λ ts. ⊥) (λ os. Unit {0}) (any_objects s me) (moves s me p)
+  -- no body starts, and nothing is refused
+  abbrev NoneStarts : Step → Type 0
+  NoneStarts x = SteppedSo s me (λ k. Any) (λ k. Any) (Unit {0}) ⊥ (Unit {0}) (λ ts. ⊥) (λ os. Unit {0}) (any_objects s me) x
+
+  -- nothing exits
+  abbrev NoneExits : Step → Type 0
+  NoneExits x =
+      SteppedSo s me (λ k. Any) (λ k. Any) (Unit {0}) (Unit {0}) ⊥ (λ ts. Unit {0}) (λ os. Unit {0}) (any_objects s me) x
+
+  starts_none : NoneStarts (moves s me p)
   starts_none = moves_so s me (λ k. Any) (λ k. Any) (Unit {0}) ⊥ (Unit {0}) (λ ts. ⊥) (λ os. Unit {0}) (any_objects s me) p tt
       (subst (λ ts. OfTasks (λ k. Any) (λ k. Any) (Unit {0}) ⊥ (Unit {0}) (λ ts. ⊥) p.text.class ts) (append_nil p.tasks)
       (any_tasks ⊥ (Unit {0}) (λ ts. ⊥) p.tasks [] o (λ k. tt) p.text.class))
@@ -139,7 +149,7 @@ module _ (extends : StepExtends) (s : System) (me : Reference) (p : Point) (t : 
   abbrev Longer : Point
   Longer = extended p.olds (Require [] ∷ []) p
 
-  exits_never : SteppedSo s me (λ k. Any) (λ k. Any) (Unit {0}) (Unit {0}) ⊥ (λ ts. Unit {0}) (λ os. Unit {0}) (any_objects s me) (moves s me Longer)
+  exits_never : NoneExits (moves s me Longer)
   exits_never = moves_so s me (λ k. Any) (λ k. Any) (Unit {0}) (Unit {0}) ⊥ (λ ts. Unit {0}) (λ os. Unit {0}) (any_objects s me) Longer tt
       (any_tasks (Unit {0}) ⊥ (λ ts. Unit {0}) p.tasks (Require [] ∷ []) o (λ k. ((tt, tt), inr tt)) p.text.class)
 
@@ -147,14 +157,14 @@ module _ (extends : StepExtends) (s : System) (me : Reference) (p : Point) (t : 
   step_is_within = by (step s me p) refl
     where
       first : (x : Step) → step s me p ≡ x →
-          SteppedSo s me (λ k. Any) (λ k. Any) (Unit {0}) ⊥ (Unit {0}) (λ ts. ⊥) (λ os. Unit {0}) (any_objects s me) (then_go x (first_visible (size p.tasks) s me))
-      first x i = subst (λ x. SteppedSo s me (λ k. Any) (λ k. Any) (Unit {0}) ⊥ (Unit {0}) (λ ts. ⊥) (λ os. Unit {0}) (any_objects s me)
+          NoneStarts (then_go x (first_visible (size p.tasks) s me))
+      first x i = subst (λ x. NoneStarts
           (then_go x (first_visible (size p.tasks) s me))) i starts_none
 
       longer : (x : Step) → step s me p ≡ x →
-          SteppedSo s me (λ k. Any) (λ k. Any) (Unit {0}) (Unit {0}) ⊥ (λ ts. Unit {0}) (λ os. Unit {0}) (any_objects s me)
+          NoneExits
           (then_go (extended_step p.olds (Require [] ∷ []) x) (first_visible (size Longer.tasks) s me))
-      longer x i = subst (λ x. SteppedSo s me (λ k. Any) (λ k. Any) (Unit {0}) (Unit {0}) ⊥ (λ ts. Unit {0}) (λ os. Unit {0}) (any_objects s me)
+      longer x i = subst (λ x. NoneExits
           (then_go x (first_visible (size Longer.tasks) s me)))
           (extends s me p.olds (Require [] ∷ []) p t rest e (subst (Each IsOldless) e o).0 ∙ ap (extended_step p.olds (Require [] ∷ [])) i) exits_never
 

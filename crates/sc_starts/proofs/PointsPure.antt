@@ -14,7 +14,7 @@ use Rattle.sc_model.specs.Moves.{first_visible, moves, step, step_at, then_go}
 use Rattle.sc_model.specs.Objects.{Object}
 use Rattle.sc_model.specs.Routines.{Routine, routine_named}
 use Rattle.sc_model.specs.Sizes.{size}
-use Rattle.sc_model.specs.Steps.{Unqualified, Qualified, Creation, Prints, Tests, Creates, CreatesHandler, Enters, Requests, Starts, Refuses, Opens, Leaves, Exits, Fails, Point, Step, Goes, Does}
+use Rattle.sc_model.specs.Steps.{Act, Unqualified, Qualified, Creation, Prints, Tests, Creates, CreatesHandler, Enters, Requests, Starts, Refuses, Opens, Leaves, Exits, Fails, Point, Step, Goes, Does}
 use Rattle.sc_model.specs.Tasks.{Task, Declare, Do}
 use Rattle.sc_model.specs.Values.{Reference, Operand}
 use Rattle.sc_values.specs.Points.{Each, IsAmong}
@@ -52,7 +52,8 @@ module _ (s : System) (pure : RoutineName → Bool) (me : Reference) (os : List 
   assigns_none : MayAssign s me (AssignsNone s) (λ to. to ≡ os)
   assigns_none k x g d v objects a e i o = absurd (a g d e i)
 
-  keeps_so : (x : Step) → SteppedSo s me (CallsPure s pure) (AssignsNone s) ⊥ (Unit {0}) (Unit {0}) (λ ts. ⊥) (λ to. to ≡ os) assigns_none x → Keep os x
+  keeps_so : (x : Step) →
+      SteppedSo s me (CallsPure s pure) (AssignsNone s) ⊥ (Unit {0}) (Unit {0}) (λ ts. ⊥) (λ to. to ≡ os) assigns_none x → Keep os x
   keeps_so (Goes q) h = h.0
   keeps_so (Does (Enters Unqualified o x us g) q) h = h.0
   keeps_so (Does (Enters Qualified o x us g) q) h = h.0
@@ -86,10 +87,24 @@ module _ (extends : StepExtends) (leaves : StepOldless) (contract : StepOfContra
   abbrev IsBound : Point → Type 0
   IsBound q = take (length r.text.formals) q.environment ≡ bs
 
+  abbrev Inside : Point → Type 0
+  Inside q = IsAt s (Own me.handler) O me (start_of s O me r bs) (behind_body r) q
+
+  abbrev Done : Act → Point → Type 0
+  Done a q = HasDone s (Own me.handler) O me (start_of s O me r bs) (behind_body r) a q
+
+  -- the actuals are the first names, and what is left forgets none of them
+  abbrev Known : List Binding → Type 0
+  Known cs = Has contract s me bs (bound_formals s r bs bound) cs
+
+  abbrev Deep : List Task → Type 0
+  Deep ts = Left contract s me bs (bound_formals s r bs bound) ts
+
   -- where it stands; before its body the objects are those
   data Here (p : Point) : Type 0 where
-    before : (ts : List Task) → p.tasks ≡ ts ++ body_tasks r → Each IsOfContract ts → p.environment ≡ bs → p.result ≡ result_of r.text.result → p.objects ≡ O me.handler → Here p
-    during : IsAt s (Own me.handler) O me (start_of s O me r bs) (behind_body r) p → Here p
+    before : (ts : List Task) → p.tasks ≡ ts ++ body_tasks r → Each IsOfContract ts → p.environment ≡ bs →
+        p.result ≡ result_of r.text.result → p.objects ≡ O me.handler → Here p
+    during : Inside p → Here p
     behind : {e : Point} → Runs e → e.tasks ≡ [] → p.result ≡ e.result → Each IsOfContract p.tasks → IsBound p → Here p
 
   abbrev So : Step → Type 0
@@ -106,18 +121,19 @@ module _ (extends : StepExtends) (leaves : StepOldless) (contract : StepOfContra
   same_bound : (q : Point) → q.environment ≡ bs → IsBound q
   same_bound q e = ap (take (length r.text.formals)) e ∙ takes_bound s r bs bound
 
-  has_bound : (q : Point) → Has contract s me bs (bound_formals s r bs bound) q.environment → IsBound q
+  has_bound : (q : Point) → Known q.environment → IsBound q
   has_bound q (more, e) =
       ap (take (length r.text.formals)) e
       ∙ subst (λ (n : ℕ). take n (bs ++ more) ≡ bs) (bound_length s r.text.formals 0 r.text.formals bound.0 bs bound.1) (take_these bs more)
 
-  first_names : Has contract s me bs (bound_formals s r bs bound) bs × Left contract s me bs (bound_formals s r bs bound) (start_of s O me r bs).tasks
+  first_names : Known bs × Deep (start_of s O me r bs).tasks
   first_names = (([], sym (append_nil bs)), (tt, (tt, tt)))
 
-  reached_names : (e : Point) → Runs e → Has contract s me bs (bound_formals s r bs bound) e.environment × Left contract s me bs (bound_formals s r bs bound) e.tasks
+  reached_names : (e : Point) → Runs e →
+      Known e.environment × Deep e.tasks
   reached_names e v = reaches_firm contract s me bs (bound_formals s r bs bound) (Own me.handler) O (start_of s O me r bs) e first_names v
 
-  bound_during : (p : Point) → IsAt s (Own me.handler) O me (start_of s O me r bs) (behind_body r) p → IsBound p
+  bound_during : (p : Point) → Inside p → IsBound p
   bound_during p a = ap (λ (p : Point). take (length r.text.formals) p.environment) a.stands ∙ has_bound a.at (reached_names a.at a.reaches).0
 
   here_bound : (p : Point) → Here p → IsBound p
@@ -127,7 +143,8 @@ module _ (extends : StepExtends) (leaves : StepOldless) (contract : StepOfContra
 
   -- ---- before the body
 
-  before_so : (t : Task) (ts : List Task) (p : Point) → p.tasks ≡ t ∷ ts ++ body_tasks r → Each IsOfContract (t ∷ ts) → p.environment ≡ bs → p.result ≡ result_of r.text.result →
+  before_so : (t : Task) (ts : List Task) (p : Point) → p.tasks ≡ t ∷ ts ++ body_tasks r →
+      Each IsOfContract (t ∷ ts) → p.environment ≡ bs → p.result ≡ result_of r.text.result →
       p.objects ≡ O me.handler → So (step s me p)
   before_so t ts p e o i u j = by (step s me p) (contract s me t ts (body_tasks r) p e o.0 o.1)
     where
@@ -154,7 +171,8 @@ module _ (extends : StepExtends) (leaves : StepOldless) (contract : StepOfContra
   begun olds os cs u vs = record { objects = os; text = r.text; environment = cs; result = u; olds = olds; tasks = Declare r.locals ∷ Do r.body ∷ behind_body r; values = vs }
 
   -- the body begins
-  begins_so : (p : Point) → p.tasks ≡ body_tasks r → p.environment ≡ bs → p.result ≡ result_of r.text.result → p.objects ≡ O me.handler → p.values ≡ [] → So (step s me p)
+  begins_so : (p : Point) → p.tasks ≡ body_tasks r → p.environment ≡ bs → p.result ≡ result_of r.text.result →
+      p.objects ≡ O me.handler → p.values ≡ [] → So (step s me p)
   begins_so p e i u j v = subst (λ ts. So (step_at s me ts p)) (sym e) (during (record {
     at = start_of s O me r bs;
     reaches = begins;
@@ -162,20 +180,25 @@ module _ (extends : StepExtends) (leaves : StepOldless) (contract : StepOfContra
     oldless = (tt, ((no_olds s root faultless well me.class r.name r named).body, tt));
   }))
     where
-      same : (os : List Object) (cs : List Binding) (u : Option Operand) (vs : List Operand) → os ≡ O me.handler → cs ≡ bs → u ≡ result_of r.text.result → vs ≡ [] →
+      same : (os : List Object) (cs : List Binding) (u : Option Operand) (vs : List Operand) → os ≡ O me.handler →
+          cs ≡ bs → u ≡ result_of r.text.result → vs ≡ [] →
           begun p.olds os cs u vs ≡ begun p.olds (O me.handler) bs (result_of r.text.result) []
       same os cs u vs a b c d = rw (a, b, c, d) refl
 
   -- ---- within the body
 
-  within_so : (p : Point) (os : List Operand) (x : Step) → Stepped extends leaves s (Own me.handler) O me (start_of s O me r bs) (behind_body r) os x → StepFits s pure r me x → So x
+  within_so : (p : Point) (os : List Operand) (x : Step) →
+      Stepped extends leaves s (Own me.handler) O me (start_of s O me r bs) (behind_body r) os x →
+      StepFits s pure r me x → So x
   within_so p os (Goes q) y f = during y.0
   within_so p os (Does Tests q) y f = during y.0
   within_so p os (Does (Enters c o x us g) q) y f = by f.0 y.0
     where
-      by : o.handler ≡ me.handler → HasDone s (Own me.handler) O me (start_of s O me r bs) (behind_body r) (Enters c o x us g) q → So (Does (Enters c o x us g) q)
+      by : o.handler ≡ me.handler →
+          Done (Enters c o x us g) q →
+          So (Does (Enters c o x us g) q)
       by own d = (
-        λ t i. at.during own (subst (λ g. HasDone s (Own me.handler) O me (start_of s O me r bs) (behind_body r) (Enters c o x us g) q) i d) (refl, refl, refl),
+        λ t i. at.during own (subst (λ g. Done (Enters c o x us g) q) i d) (refl, refl, refl),
         ap (λ (p : Point). take (length r.text.formals) p.environment) d.stands
             ∙ has_bound d.after (after_firm contract s me bs (bound_formals s r bs bound) (Own me.handler) O d.before (reached_names d.before d.reaches)
             (Does (Enters c o x us g) d.after) d.step_is).0,
@@ -192,7 +215,8 @@ module _ (extends : StepExtends) (leaves : StepOldless) (contract : StepOfContra
   within_so p os (Does Leaves q) y f = tt
 
   -- the body ends
-  ends_so : (p : Point) (a : IsAt s (Own me.handler) O me (start_of s O me r bs) (behind_body r) p) → a.at.tasks ≡ [] → So (step s me p)
+  ends_so : (p : Point) (a : Inside p) →
+      a.at.tasks ≡ [] → So (step s me p)
   ends_so p a e =
       let tasks : p.tasks ≡ behind_body r = ap (λ (p : Point). p.tasks) a.stands ∙ ap (λ us. us ++ behind_body r) e in
       subst (λ ts. So (step_at s me ts p)) (sym tasks)
@@ -201,7 +225,8 @@ module _ (extends : StepExtends) (leaves : StepOldless) (contract : StepOfContra
 
   -- ---- behind it
 
-  behind_so : (e : Point) → Runs e → e.tasks ≡ [] → (t : Task) (ts : List Task) (p : Point) → p.tasks ≡ t ∷ ts → p.result ≡ e.result → Each IsOfContract (t ∷ ts) → IsBound p →
+  behind_so : (e : Point) → Runs e → e.tasks ≡ [] → (t : Task) (ts : List Task) (p : Point) → p.tasks ≡ t ∷ ts →
+      p.result ≡ e.result → Each IsOfContract (t ∷ ts) → IsBound p →
       So (step s me p)
   behind_so e v n t ts p i u o b = by (step s me p) (contract s me t ts [] p (i ∙ ap (λ us. t ∷ us) (sym (append_nil ts))) o.0 o.1)
     where
@@ -249,7 +274,8 @@ module _ (extends : StepExtends) (leaves : StepOldless) (contract : StepOfContra
   -- ---- a turn
 
   module _ (objects : List Object) (there : IsAmong objects me) where
-    within : (m : ℕ) (p : Point) → Here p → StandsSo s pure r me [] p → Stays (IsThereIfOwn me.handler objects) objects p →
+    within : (m : ℕ) (p : Point) → Here p → StandsSo s pure r me [] p →
+        Stays (IsThereIfOwn me.handler objects) objects p →
         So (first_visible m s me p) × StepFits s pure r me (first_visible m s me p)
     within zero p a f h = (a, f)
     within (suc m) p a f h = by (step s me p) (λ q. within m q) fits stays (step_so p a f fits)
@@ -261,7 +287,8 @@ module _ (extends : StepExtends) (leaves : StepOldless) (contract : StepOfContra
         stays : StepStays (IsThereIfOwn me.handler objects) me (own_values me.handler objects me there) objects (step s me p)
         stays = step_stays (IsThereIfOwn me.handler objects) me (own_values me.handler objects me there) objects s p h
 
-        by : (x : Step) → ((q : Point) → Here q → StandsSo s pure r me [] q → Stays (IsThereIfOwn me.handler objects) objects q →
+        by : (x : Step) →
+            ((q : Point) → Here q → StandsSo s pure r me [] q → Stays (IsThereIfOwn me.handler objects) objects q →
             So (first_visible m s me q) × StepFits s pure r me (first_visible m s me q)) → StepFits s pure r me x →
             StepStays (IsThereIfOwn me.handler objects) me (own_values me.handler objects me there) objects x → So x →
             So (then_go x (first_visible m s me)) × StepFits s pure r me (then_go x (first_visible m s me))
@@ -280,7 +307,8 @@ module _ (extends : StepExtends) (leaves : StepOldless) (contract : StepOfContra
   there p (behind v n u o b) = at.behind v n u o
 
   -- what it does is what such a function may do
-  steps_so : (x : Step) → So x → StepFits s pure r me x → CalmStep s pure x → Keep (O me.handler) x → PureSteps s pure O me r bs x
+  steps_so : (x : Step) → So x → StepFits s pure r me x → CalmStep s pure x → Keep (O me.handler) x →
+      PureSteps s pure O me r bs x
   steps_so (Goes q) y f calm k = (there q y, record { objects_are = k; bound_are = here_bound q y })
   steps_so (Does (Enters c o x us g) q) y f calm k = by (gives_value s pure tells me.handler _ o x us g f.2 calm)
     where
@@ -300,7 +328,8 @@ module _ (extends : StepExtends) (leaves : StepOldless) (contract : StepOfContra
   steps_so (Does Leaves q) y f calm k = absurd calm
 
   -- So does its next turn.
-  pub functions_move : (p : Point) → PureAt s O me r bs p → p.objects ≡ O me.handler → IsBound p → StandsSo s pure r me [] p → ValuesDo (IsThereIfOwn me.handler p.objects) p →
+  pub functions_move : (p : Point) → PureAt s O me r bs p → p.objects ≡ O me.handler → IsBound p →
+      StandsSo s pure r me [] p → ValuesDo (IsThereIfOwn me.handler p.objects) p →
       IsLeftPure s pure p.text.class p.tasks → CalmStep s pure (moves s me p) → PureSteps s pure O me r bs (moves s me p)
   functions_move p a j b f h l calm =
       let z = within p.objects f.1.current (suc (size p.tasks)) p (here p a j b) f (record { values = h; there = λ o z. z }) in

@@ -5,6 +5,7 @@ use Rattle.std.specs.Option.{option_map_or}
 use Rattle.sc_tree.specs.Plain.{System}
 use Rattle.sc_class.specs.ClassNames.{Root, number_of}
 use Rattle.sc_class.specs.Faults.ClassRules.{IsFaultless}
+use Rattle.sc_proctype.specs.declared.entity_type.EntityType.{EntityType}
 use Rattle.sc_rules.specs.Names.{RoutineName, formals_known}
 use Rattle.sc_rules.specs.Purity.{IsPurity}
 use Rattle.sc_rules.specs.SystemRules.{WellFormed}
@@ -83,31 +84,37 @@ module _ (s : System) (root : Root) (pure : RoutineName → Bool) (faultless : I
   -- ---- the topmost frame
 
   module _ (w : World) (reached : IsReached most s root w) (h : ℕ) (f : Frame) (below : List Frame) (g : GoesOn w h f below) where
+    abbrev Here : Point
+    Here = point_of f (w.handlers h).objects
+
     fits : WorldFits s pure w
     fits = reached_fits s root pure faultless well tells most w reached
 
     frame : FrameFits s pure w h f
     frame = (subst (Each (FrameFits s pure w h)) g.stack_is (fits h g.is_there).frames_fit).0
 
-    stands_so : StandsSo s pure f.routine f.current [] (point_of f (w.handlers h).objects)
+    stands_so : StandsSo s pure f.routine f.current [] Here
     stands_so = (
-      subst (λ k. PointFits s pure f.routine k [] (point_of f (w.handlers h).objects)) (sym frame.is_own)
-          (subst (λ g. PointFits s pure f.routine h (coming_to g) (point_of f (w.handlers h).objects)) g.runs frame.point_fits),
+      subst (λ k. PointFits s pure f.routine k [] Here) (sym frame.is_own)
+          (subst (λ g. PointFits s pure f.routine h (coming_to g) Here) g.runs frame.point_fits),
       store_fits s pure w h f frame (fits h g.is_there).objects_fit,
     )
 
-    values_do : ValuesDo (IsThereIfOwn f.current.handler (w.handlers h).objects) (point_of f (w.handlers h).objects)
-    values_do = subst (λ k. ValuesDo (IsThereIfOwn k (w.handlers h).objects) (point_of f (w.handlers h).objects)) (sym frame.is_own)
+    values_do : ValuesDo (IsThereIfOwn f.current.handler (w.handlers h).objects) Here
+    values_do = subst (λ k. ValuesDo (IsThereIfOwn k (w.handlers h).objects) Here) (sym frame.is_own)
         (values_there s pure w h f frame (fits h g.is_there).objects_fit)
 
+    abbrev InClauses : List EntityType → Point → Type 0
+    InClauses coming p = StandsInClauses s pure f.routine.contract (formals_known s f.routine.text.formals) coming p
+
     -- it stands in its clauses
-    in_clauses : (HasStarted f.tasks → ⊥) → StandsInClauses s pure f.routine.contract (formals_known s f.routine.text.formals) [] (point_of f (w.handlers h).objects)
+    in_clauses : (HasStarted f.tasks → ⊥) → InClauses [] Here
     in_clauses not = by (subst (Each (HasStartedOrStands s pure)) g.stack_is (each_stands s root pure faultless well tells most w reached h g.is_there)).0
       where
-        by : HasStartedOrStands s pure f → StandsInClauses s pure f.routine.contract (formals_known s f.routine.text.formals) [] (point_of f (w.handlers h).objects)
+        by : HasStartedOrStands s pure f → InClauses [] Here
         by (inl is) = absurd (not is)
         by (inr z) =
-            let y = subst (λ (st : Stage). StandsInClauses s pure f.routine.contract (formals_known s f.routine.text.formals) (coming_to st) (point_of f [])) g.runs z in
+            let y = subst (λ (st : Stage). InClauses (coming_to st) (point_of f [])) g.runs z in
             record { types = y.types; text_is = y.text_is; names_are = y.names_are; left = y.left; values = y.values }
 
     -- what is left of it calls what is pure

@@ -3,11 +3,11 @@ use Rattle.std.proofs.Common.{ℕ, ◌≡◌, List, [], ◌∷◌, Some, refl, s
 use Rattle.sc_tree.specs.Plain.{System}
 use Rattle.sc_model.specs.Moves.{step, step_at}
 use Rattle.sc_model.specs.Objects.{Object}
-use Rattle.sc_model.specs.Steps.{Prints, Tests, Creates, CreatesHandler, Enters, Requests, Starts, Refuses, Opens, Leaves, Exits, Fails, Point, Step, Goes, Does}
+use Rattle.sc_model.specs.Steps.{Act, Prints, Tests, Creates, CreatesHandler, Enters, Requests, Starts, Refuses, Opens, Leaves, Exits, Fails, Point, Step, Goes, Does}
 use Rattle.sc_model.specs.Tasks.{Task}
 use Rattle.sc_model.specs.Values.{Reference, Operand}
 use Rattle.sc_values.specs.Points.{Each}
-use Rattle.sc_evaluation.specs.Evaluating.{Reaches, extended_step, goes, tests, begins, enters, requests}
+use Rattle.sc_evaluation.specs.Evaluating.{Reaches, extended, extended_step, goes, tests, begins, enters, requests}
 use Rattle.sc_evaluation.specs.Laws.{StepExtends, StepOfContract, StepOldless, StaysInContract, StepsInContract, point_after}
 use Rattle.sc_evaluation.specs.Texts.{IsOfContract, IsOldless}
 use Rattle.sc_starts.specs.Following.{HasDone, IsAt}
@@ -27,7 +27,12 @@ module _ (extends : StepExtends) (leaves : StepOldless) (s : System) (M : ℕ �
   Stepped os (Does (Fails why) q) = Unit {0}
   Stepped os (Does a q) = HasDone s M O me start ts a q × (q.olds ≡ os)
 
-  extended_so : (os : List Operand) (before : Point) → Reaches s M O me start before → (x : Step) → step s me before ≡ x → IsWithin x → Each IsOldless (point_after x).tasks →
+  did : (os : List Operand) (before : Point) → Reaches s M O me start before → (a : Act) (q : Point) →
+      step s me before ≡ Does a q → Each IsOldless q.tasks → HasDone s M O me start ts a (extended os ts q)
+  did os before r a q e o = record { before = before; after = q; reaches = r; step_is = e; stands = refl; oldless = o }
+
+  extended_so : (os : List Operand) (before : Point) → Reaches s M O me start before → (x : Step) →
+      step s me before ≡ x → IsWithin x → Each IsOldless (point_after x).tasks →
       Stepped os (extended_step os ts x)
   extended_so os before r (Goes q) e w o = (record { at = q; reaches = goes r e; stands = refl; oldless = o }, refl)
   extended_so os before r (Does Tests q) e w o = (record { at = q; reaches = tests r e; stands = refl; oldless = o }, refl)
@@ -35,15 +40,16 @@ module _ (extends : StepExtends) (leaves : StepOldless) (s : System) (M : ℕ �
   extended_so os before r (Does Starts q) e w o = w
   extended_so os before r (Does (Refuses k) q) e w o = w
   extended_so os before r (Does Exits q) e w o = w
-  extended_so os before r (Does (Prints text) q) e w o = (record { before = before; after = q; reaches = r; step_is = e; stands = refl; oldless = o }, refl)
-  extended_so os before r (Does Creates q) e w o = (record { before = before; after = q; reaches = r; step_is = e; stands = refl; oldless = o }, refl)
-  extended_so os before r (Does (CreatesHandler k x us t passes) q) e w o = (record { before = before; after = q; reaches = r; step_is = e; stands = refl; oldless = o }, refl)
-  extended_so os before r (Does (Enters c a x us g) q) e w o = (record { before = before; after = q; reaches = r; step_is = e; stands = refl; oldless = o }, refl)
-  extended_so os before r (Does (Requests a x us g passes) q) e w o = (record { before = before; after = q; reaches = r; step_is = e; stands = refl; oldless = o }, refl)
-  extended_so os before r (Does Opens q) e w o = (record { before = before; after = q; reaches = r; step_is = e; stands = refl; oldless = o }, refl)
-  extended_so os before r (Does Leaves q) e w o = (record { before = before; after = q; reaches = r; step_is = e; stands = refl; oldless = o }, refl)
+  extended_so os before r (Does (Prints text) q) e w o = (did os before r (Prints text) q e o, refl)
+  extended_so os before r (Does Creates q) e w o = (did os before r Creates q e o, refl)
+  extended_so os before r (Does (CreatesHandler k x us t passes) q) e w o = (did os before r (CreatesHandler k x us t passes) q e o, refl)
+  extended_so os before r (Does (Enters c a x us g) q) e w o = (did os before r (Enters c a x us g) q e o, refl)
+  extended_so os before r (Does (Requests a x us g passes) q) e w o = (did os before r (Requests a x us g passes) q e o, refl)
+  extended_so os before r (Does Opens q) e w o = (did os before r Opens q e o, refl)
+  extended_so os before r (Does Leaves q) e w o = (did os before r Leaves q e o, refl)
 
-  pub step_within : (p : Point) (a : IsAt s M O me start ts p) (t : Task) (rest : List Task) → a.at.tasks ≡ t ∷ rest → Stepped p.olds (step s me p)
+  pub step_within : (p : Point) (a : IsAt s M O me start ts p) (t : Task) (rest : List Task) → a.at.tasks ≡ t ∷ rest →
+      Stepped p.olds (step s me p)
   step_within p a t rest e =
       subst (Stepped p.olds) (sym (ap (step s me) a.stands ∙ extends s me p.olds ts a.at t rest e (subst (Each IsOldless) e a.oldless).0))
       (extended_so p.olds a.at a.reaches (step s me a.at) refl (step_is_within extends s me a.at t rest e a.oldless) (leaves s me a.at a.oldless))
@@ -67,7 +73,8 @@ module _ (contract : StepOfContract) (s : System) (M : ℕ → Type 0) (O : ℕ 
   }
 
   -- a step where tasks are left
-  pub steps_on : (q : Point) → Each IsOfContract q.tasks → (x : Step) → step s me q ≡ x → (x ≡ Does Exits q → ⊥) → StepsInContract [] q x
+  pub steps_on : (q : Point) → Each IsOfContract q.tasks → (x : Step) → step s me q ≡ x → (x ≡ Does Exits q → ⊥) →
+      StepsInContract [] q x
   steps_on q o x e some = by q.tasks refl
     where
       by : (ts : List Task) → q.tasks ≡ ts → StepsInContract [] q x
