@@ -26,7 +26,7 @@ use Rattle.sc_settled.proofs.Texts.{OfExpr, OfExprs, OfCall, OfClauses, OfHeads,
 
 -- ---- three ways
 
-abbrev Any : List ℕ → Type 0
+abbrev pub Any : List ℕ → Type 0
 Any x = Unit {0}
 
 -- No clause of the precondition is left.
@@ -66,7 +66,7 @@ not_both s pure k j (t ∷ ts) u v = not_both s pure (class_behind k t) (class_b
 -- ---- any text
 
 mutual
-  any_expr : (e : Expr) → OfExpr Any e
+  pub any_expr : (e : Expr) → OfExpr Any e
   any_expr (tree.Call q tree.no_target x es) = (tt, any_exprs es)
   any_expr (tree.Call q (tree.target a) x es) = (any_expr a, any_exprs es)
   any_expr (tree.Unary q op a) = any_expr a
@@ -78,28 +78,28 @@ mutual
   any_expr (tree.Current q) = tt
   any_expr (tree.Result q) = tt
 
-  any_exprs : (es : Exprs) → OfExprs Any es
+  pub any_exprs : (es : Exprs) → OfExprs Any es
   any_exprs no_exprs = tt
   any_exprs (expr_then e es) = (any_expr e, any_exprs es)
 
-any_clauses : (ks : List Clause) → OfClauses Any ks
+pub any_clauses : (ks : List Clause) → OfClauses Any ks
 any_clauses [] = tt
 any_clauses (k ∷ ks) = (any_expr k.condition, any_clauses ks)
 
-any_heads : (ds : List Head) → OfHeads Any ds
+pub any_heads : (ds : List Head) → OfHeads Any ds
 any_heads [] = tt
 any_heads (d ∷ ds) = (any_expr d.value, any_heads ds)
 
-any_call : (k : Option CreationCall) → OfCall Any k
+pub any_call : (k : Option CreationCall) → OfCall Any k
 any_call None = tt
 any_call (Some k) = any_exprs k.actuals
 
-any_variable : (v : Variable) → OfVariable Any v
+pub any_variable : (v : Variable) → OfVariable Any v
 any_variable (Named x) = tt
 any_variable (ResultVariable q) = tt
 
 mutual
-  any_instr : (i : Instr) → OfInstr Any Any (Unit {0}) i
+  pub any_instr : (i : Instr) → OfInstr Any Any (Unit {0}) i
   any_instr (tree.Assign q v e) = (any_variable v, any_expr e)
   any_instr (tree.PrintText q text) = tt
   any_instr (tree.CallRoutine q tree.no_target x es) = (tt, (tt, any_exprs es))
@@ -110,11 +110,11 @@ mutual
   any_instr (tree.Check q ks) = any_clauses ks
   any_instr (tree.Block q ds body) = (tt, (any_heads ds, any_instrs body))
 
-  any_instrs : (is : Instrs) → OfInstrs Any Any (Unit {0}) is
+  pub any_instrs : (is : Instrs) → OfInstrs Any Any (Unit {0}) is
   any_instrs no_instrs = tt
   any_instrs (instr_then i is) = (any_instr i, any_instrs is)
 
-  any_branches : (bs : Branches) → OfBranches Any Any (Unit {0}) bs
+  pub any_branches : (bs : Branches) → OfBranches Any Any (Unit {0}) bs
   any_branches no_branches = tt
   any_branches (branch_then e body bs) = (any_expr e, (any_instrs body, any_branches bs))
 

@@ -15,3 +15,6 @@ pub mod PointsLists
 pub mod PointsPure
 pub mod PointsReached
 pub mod PointsSteps
+pub mod Reaching
+pub mod Unstarting
+pub mod Verdicts
