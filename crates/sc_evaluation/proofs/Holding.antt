@@ -143,13 +143,13 @@ module _ (s : System) (w : World) where
           leads_then z.runs (leads_step f.current e.end z.gives [] (Does Exits e.end) (Comes (Boolean true)) (exits_at f.current e.end e.end.tasks e.tasks_are)
           (leads_by (ap last_value e.values_are)))
 
-      ends_true_holds_lem : f.olds ≡ [] → EndsTrue s M O f.current (start []) → Holds s w f k
-      ends_true_holds_lem none e =
+      end_holds : f.olds ≡ [] → EndsTrue s M O f.current (start []) → Holds s w f k
+      end_holds none e =
           let l = subst (λ os. Leads (Further (stands f.current (start os) None) []) (Comes (Boolean true))) (sym none) (ends_true_leads e) in
           record { steps = l.steps; is_true = l.leads }
 
 pub ends_true_holds : EndsTrueHolds
-ends_true_holds s w f k M none e = ends_true_holds_lem s w M f k none e
+ends_true_holds s w f k M none e = end_holds s w M f k none e
 
 pub true_evaluations_hold : TrueEvaluationsHold
 true_evaluations_hold s w f k may none e = ends_true_holds s w f k (Told may) none e

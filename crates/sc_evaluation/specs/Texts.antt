@@ -8,6 +8,7 @@ use Rattle.sc_values.specs.Points.{Each}
 
 -- ---- texts without `old`
 
+-- no `old` stands in the expression
 abbrev pub HasNoOld : Expr → Type 0
 HasNoOld e = olds_in e ≡ 0
 
@@ -48,7 +49,7 @@ abbrev mutual
 
 -- ---- tasks without `old`
 
--- The task reads no `old` and keeps none; nor is it a whole contract's.
+-- The task reads no `old` and keeps none, and belongs to a body or to the evaluation of one expression.
 abbrev pub IsOldless : Task → Type 0
 IsOldless (Do body) = OldlessInstrs body
 IsOldless (Eval i e) = HasNoOld e
