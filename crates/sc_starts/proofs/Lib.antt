@@ -1,3 +1,6 @@
+pub mod OwnKept
+pub mod OwnPlain
+pub mod OwnWorlds
 pub mod PointsBound
 pub mod OthersAsked
 pub mod OthersFollow
