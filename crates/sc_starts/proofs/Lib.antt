@@ -1,3 +1,4 @@
+pub mod OwnEntries
 pub mod OwnKept
 pub mod OwnPlain
 pub mod OwnWorlds
