@@ -1,5 +1,6 @@
 pub mod OwnEntries
 pub mod OwnKept
+pub mod OwnMoves
 pub mod OwnPlain
 pub mod OwnWorlds
 pub mod PointsBound

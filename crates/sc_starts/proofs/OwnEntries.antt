@@ -23,6 +23,7 @@ use Rattle.sc_values.specs.Fitting.{FrameFits}
 use Rattle.sc_values.specs.Points.{Each}
 use Rattle.sc_values.proofs.Lists.{none_in}
 use Rattle.sc_halves.specs.Calm.{name_of}
+use Rattle.sc_halves.specs.Clauses.{RunsPure}
 use Rattle.sc_halves.specs.Entries.{HasStarted}
 use Rattle.sc_halves.proofs.Clausal.{rest_of, rest_started}
 use Rattle.sc_halves.proofs.Quiet.{pure_reserve_nothing}
@@ -60,6 +61,26 @@ module _ (s : System) (pure : RoutineName → Bool) (tells : IsPurity s pure) wh
           (subst (λ (y : List ℕ). named_among y (declared_features s f.class) ≡ Some f) (sym stands.is_named) stands.is_declared) e
 
       by : (v : Option DeclaredFeature) → version_of s k x ≡ v → option_and_then (routine_of s) v ≡ Some r → ReservesNothing s pure r
+      by None i e = cc
+      by (Some f) i e = of_origin f i (origin_of s f) e
+
+-- ---- what contracts may call is entered
+
+module _ (s : System) (pure : RoutineName → Bool) where
+  named_so : (f : DeclaredFeature) (k : ℕ) (m o : FeatureKind) (r : Routine) → pure (rules.routine_of f) ≡ true →
+      routine_with s f.feature.name.text f.class m k o ≡ Some r → pure (name_of r) ≡ true
+  named_so f k (tree.Routine own) (tree.Routine original) r is e = subst (λ (q : Routine). pure (name_of q) ≡ true) (same_routine _ r e) is
+  named_so f k (tree.Attribute d) o r is e = cc
+  named_so f k (tree.Routine own) (tree.Attribute d) r is e = cc
+
+  pub runs_pure : (o : Reference) (x : List ℕ) (r : Routine) → RunsPure s pure o x → routine_named s o.class x ≡ Some r → pure (name_of r) ≡ true
+  runs_pure o x r runs e = by (version_of s o.class x) refl e
+    where
+      of_origin : (f : DeclaredFeature) → version_of s o.class x ≡ Some f → (c : Option DeclaredFeature) → routine_from s f c ≡ Some r → pure (name_of r) ≡ true
+      of_origin f i None e = cc
+      of_origin f i (Some c) e = named_so f c.class f.feature.kind c.feature.kind r (runs f i) e
+
+      by : (v : Option DeclaredFeature) → version_of s o.class x ≡ v → option_and_then (routine_of s) v ≡ Some r → pure (name_of r) ≡ true
       by None i e = cc
       by (Some f) i e = of_origin f i (origin_of s f) e
 
