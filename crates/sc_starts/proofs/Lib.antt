@@ -2,6 +2,7 @@ pub mod OwnEntries
 pub mod OwnKept
 pub mod OwnMoves
 pub mod OwnPlain
+pub mod OwnPure
 pub mod OwnWorlds
 pub mod PointsBound
 pub mod OthersAsked

@@ -115,13 +115,17 @@ module _ (s : System) (root : Root) (pure : RoutineName → Bool) (faultless : I
 
 -- ---- a routine of the own handler is entered
 
-module _ (s : System) (pure : RoutineName → Bool) (w : World) (h : ℕ) (f : Frame) (below : List Frame) (p : Point) (same : p.objects ≡ (w.handlers h).objects) where
-  abbrev pub Moved : World
-  Moved = put h (record (w.handlers h) { objects = p.objects; stack = frame_at f p ∷ below }) w
+-- the frame at the point, in this stage
+abbrev pub at_stage : Frame → Point → Stage → Frame
+at_stage f p g = record (frame_at f p) { stage = g }
 
-  -- the frame at the point, in this stage
-  abbrev pub at_stage : Stage → Frame
-  at_stage st = record (frame_at f p) { stage = st }
+-- the world in which the frame has moved to the point
+abbrev pub moved_in : World → ℕ → Frame → List Frame → Point → World
+moved_in w h f below p = put h (record (w.handlers h) { objects = p.objects; stack = frame_at f p ∷ below }) w
+
+module _ (s : System) (pure : RoutineName → Bool) (w : World) (h : ℕ) (f : Frame) (below : List Frame) (p : Point) (same : p.objects ≡ (w.handlers h).objects) where
+  abbrev Moved : World
+  Moved = moved_in w h f below p
 
   pub moved_stack : (st : List Frame) → with_stack h st Moved ≡ with_stack h st w
   moved_stack st = stack_again h p.objects (frame_at f p ∷ below) st w same
@@ -131,20 +135,20 @@ module _ (s : System) (pure : RoutineName → Bool) (w : World) (h : ℕ) (f : F
 
   pub enters_follow : (o : Reference) (x : List ℕ) (c : Calling) (us : List Operand) (gives : Option EntityType) →
       ((r : Routine) (bs : List Binding) → routine_named s o.class x ≡ Some r → formals_bound s r.text.formals 0 r.text.formals (values_of us) ≡ Some bs →
-      StackFollows s pure (with_stack h (entry o r (Called c) bs ∷ at_stage (InCall gives) ∷ below) w) h None (entry o r (Called c) bs ∷ at_stage (InCall gives) ∷ below)) →
-      Follow s pure h (enters s h o (routine_named s o.class x) (Called c) (at_stage (InCall gives) ∷ below) [] (values_of us) Moved)
+      StackFollows s pure (with_stack h (entry o r (Called c) bs ∷ at_stage f p (InCall gives) ∷ below) w) h None (entry o r (Called c) bs ∷ at_stage f p (InCall gives) ∷ below)) →
+      Follow s pure h (enters s h o (routine_named s o.class x) (Called c) (at_stage f p (InCall gives) ∷ below) [] (values_of us) Moved)
   enters_follow o x c us gives follow = by (routine_named s o.class x) refl
     where
       bound : (r : Routine) → routine_named s o.class x ≡ Some r → (b : Option (List Binding)) → formals_bound s r.text.formals 0 r.text.formals (values_of us) ≡ b →
-          Follow s pure h (enters_bound h o r (Called c) (at_stage (InCall gives) ∷ below) [] b Moved)
+          Follow s pure h (enters_bound h o r (Called c) (at_stage f p (InCall gives) ∷ below) [] b Moved)
       bound r e None i = fails_follow s pure h cause.BadCode [] Moved
-      bound r e (Some bs) i = either_follow s pure h (nat_lt (length (at_stage (InCall gives) ∷ below)) max_frames)
-          (with_stack h (entry o r (Called c) bs ∷ at_stage (InCall gives) ∷ below) Moved) (fails_with h cause.StackFull [] Moved)
-          (subst (Follow s pure h) (sym (moved_stack (entry o r (Called c) bs ∷ at_stage (InCall gives) ∷ below)))
-          (stack_follows s pure h (entry o r (Called c) bs ∷ at_stage (InCall gives) ∷ below) w (follow r bs e i)))
+      bound r e (Some bs) i = either_follow s pure h (nat_lt (length (at_stage f p (InCall gives) ∷ below)) max_frames)
+          (with_stack h (entry o r (Called c) bs ∷ at_stage f p (InCall gives) ∷ below) Moved) (fails_with h cause.StackFull [] Moved)
+          (subst (Follow s pure h) (sym (moved_stack (entry o r (Called c) bs ∷ at_stage f p (InCall gives) ∷ below)))
+          (stack_follows s pure h (entry o r (Called c) bs ∷ at_stage f p (InCall gives) ∷ below) w (follow r bs e i)))
           (fails_follow s pure h cause.StackFull [] Moved)
 
-      by : (r : Option Routine) → routine_named s o.class x ≡ r → Follow s pure h (enters s h o r (Called c) (at_stage (InCall gives) ∷ below) [] (values_of us) Moved)
+      by : (r : Option Routine) → routine_named s o.class x ≡ r → Follow s pure h (enters s h o r (Called c) (at_stage f p (InCall gives) ∷ below) [] (values_of us) Moved)
       by None e = fails_follow s pure h cause.BadCode [] Moved
       by (Some r) e = bound r e (formals_bound s r.text.formals 0 r.text.formals (values_of us)) refl
 
@@ -181,27 +185,27 @@ module _ (s : System) (pure : RoutineName → Bool) (w : World) (h : ℕ) (f : F
     abbrev U : World
     U = with_stack h st w
 
-    pub point_there : (z : Stage) → point_of (at_stage z) (U.handlers h).objects ≡ p
+    pub point_there : (z : Stage) → point_of (at_stage f p z) (U.handlers h).objects ≡ p
     point_there z = ap (λ (os : List Object). record p { objects = os }) (ap (λ (x : Handler). x.objects) (m_put-own h (record (w.handlers h) { stack = st }) w) ∙ sym same)
 
-    pub bound_there : p.environment ≡ bound_in f → f.environment ≡ bound_in f → (z : Stage) → bound_in (at_stage z) ≡ bound_in f
+    pub bound_there : p.environment ≡ bound_in f → f.environment ≡ bound_in f → (z : Stage) → bound_in (at_stage f p z) ≡ bound_in f
     bound_there e i z = ap (λ (bs : List Binding). take (length f.routine.text.formals) bs) (e ∙ sym i)
 
     pub done_there : (M : ℕ → Type 0) (a : Act) (z : Stage) → p.environment ≡ bound_in f → f.environment ≡ bound_in f →
         ClauseDone s M (objects_of w) f.current f.routine (bound_in f) a p →
-        ClauseDone s M (objects_of U) f.current f.routine (bound_in (at_stage z)) a (point_of (at_stage z) (U.handlers h).objects)
-    done_there M a z e i d = subst (ClauseDone s M (objects_of U) f.current f.routine (bound_in (at_stage z)) a) (sym (point_there z))
+        ClauseDone s M (objects_of U) f.current f.routine (bound_in (at_stage f p z)) a (point_of (at_stage f p z) (U.handlers h).objects)
+    done_there M a z e i d = subst (ClauseDone s M (objects_of U) f.current f.routine (bound_in (at_stage f p z)) a) (sym (point_there z))
         (subst (λ (bs : List Binding). ClauseDone s M (objects_of U) f.current f.routine bs a p) (sym (bound_there e i z))
         (subst (λ (O : ℕ → List Object). ClauseDone s M O f.current f.routine (bound_in f) a p) (sym (same_stack h st w).objects_are) d))
 
     pub calls_there : (above : Frame) (o : Reference) (x : List ℕ) (c : Calling) (us : List Operand) (gives : Option EntityType) → IsCalledPure pure above →
         IsFor s o x (values_of us) above → Before s pure w h f (Does (Enters c o x us gives) p) →
-        HasStarted p.tasks ⊎ (IsLost U h (at_stage (InCall gives)) ⊎ (AboveIsPure pure (Some above) × InPrecondition s pure U h (Some above) (at_stage (InCall gives))))
+        HasStarted p.tasks ⊎ (IsLost U h (at_stage f p (InCall gives)) ⊎ (AboveIsPure pure (Some above) × InPrecondition s pure U h (Some above) (at_stage f p (InCall gives))))
     calls_there above o x c us gives is for (inl i) = inl i
     calls_there above o x c us gives is for (inr (asked, quiet, env, (t, e, at, runs, done, there))) = inr (inr (is, record {
       asked = asked;
       quiet = λ k i. let q = quiet k i in (q.0, inl ((same_stack h st w).quiet k q.0 q.1));
       environment_is = there.environment_is ∙ sym (bound_there there.environment_is env (InCall gives));
-      stands = subst (λ (g : Option EntityType). StandsByStage s pure U h asked (Some above) (at_stage (InCall gives)) (InCall g)) (sym e)
+      stands = subst (λ (g : Option EntityType). StandsByStage s pure U h asked (Some above) (at_stage f p (InCall gives)) (InCall g)) (sym e)
           (c, o, x, us, done_there (MayAsk h asked) (Enters c o x us (Some t)) (InCall gives) there.environment_is env done, at ∙ own, for);
     }))
