@@ -1,5 +1,7 @@
+pub mod OwnClauses
 pub mod OwnEntries
 pub mod OwnKept
+pub mod OwnMore
 pub mod OwnMoves
 pub mod OwnPlain
 pub mod OwnPure
