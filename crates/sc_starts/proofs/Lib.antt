@@ -1,3 +1,4 @@
+pub mod OwnAsks
 pub mod OwnClauses
 pub mod OwnEntries
 pub mod OwnKept
