@@ -28,7 +28,7 @@ use Rattle.sc_model.specs.Moves.{moves}
 use Rattle.sc_model.specs.Tasks.{Task, tasks_of}
 use Rattle.sc_model.specs.Handlers.{Request, Calls, Answer, Reply, Failed, Refused, Origin, Called, Requested, Stage, Runs, Reserves, ReservesBlock, InCall, Awaits, Frame, Handler, World, point_of, frame_at, put, with_stack}
 use Rattle.sc_model.specs.Sessions.{session_ended, standing_in, reserve, release}
-use Rattle.sc_model.specs.Failures.{fail}
+use Rattle.sc_model.specs.Failures.{fail, requests_at}
 use Rattle.sc_model.specs.Entries.{entry, entry_needs, may_reserve, reserves_if}
 use Rattle.sc_model.specs.Asking.{placed, send, is_callback, asks, request}
 use Rattle.sc_model.specs.Preconditions.{verdict_on, waits_again, correctness_fails, false_clause}
@@ -59,18 +59,21 @@ use Rattle.sc_starts.proofs.OwnKept.{AllPlain, not_awaited, plain_below, plain_f
 use Rattle.sc_starts.proofs.OwnPlain.{stays, refuses_good}
 use Rattle.sc_starts.proofs.OwnEntries.{begins_or_starts, entry_follows_there}
 use Rattle.sc_starts.proofs.OwnMoves.{Follow, Before, Ahead, moved_in, at_stage, either_follow, fails_follow, stack_follows, same_stack, moved_stack, moved_alone, enters_follow, entry_for, entry_pure, entered_so, point_there, bound_there, done_there, calls_there}
+use Rattle.sc_starts.proofs.OwnAsks.{request_follows}
 use Rattle.sc_starts.proofs.OwnMore.{clause_done_more, stands_at}
 
--- the holder is the handler
-pub holder_is : (h : ℕ) (o : Option ℕ) → is_handler h o ≡ true → o ≡ Some h
-holder_is h None e = cc
-holder_is h (Some k) e = ap (λ (j : ℕ). Some j) (eqb-true k h e)
+first_of : (f g : Frame) (a b : List Frame) → f ∷ a ≡ g ∷ b → f ≡ g
+first_of f g a b e = cc
+
+reply_none : (v : Option Value) (A : Type 0) → IsNoReply (Some (Reply v)) → A
+reply_none v A (inl e) = cc
+reply_none v A (inr e) = cc
 
 module _ (testless : TextsAreTestless) (clauses_moved : ClauseMoves) (answers_more : AnswersMore) (reaches_more : ReachesMore) (ends_true_more : EndsTrueMore)
     (s : System) (root : Root) (pure : RoutineName → Bool) (faultless : IsFaultless s root) (well : WellFormed s) (tells : IsPurity s pure) (most : ℕ)
     (w : World) (reached : IsReached most s root w) (h : ℕ) (here : h < w.count) (lives : (w.handlers h).failure ≡ None)
     (f : Frame) (below : List Frame) (at : (w.handlers h).stack ≡ f ∷ below) (i : InPrecondition s pure w h None f)
-    (own : f.current.handler ≡ h) (rest : AllPlain pure (w.handlers h).answer below) (impure : pure (name_of f.routine) ≡ true → ⊥) where
+    (own : f.current.handler ≡ h) (rest : AllPlain pure (w.handlers h).answer below) (impure : pure (name_of f.routine) ≡ true → ⊥) (replies : AnswerFits s w h) where
   abbrev O : ℕ → List Object
   O = objects_of w
 
@@ -220,3 +223,168 @@ module _ (testless : TextsAreTestless) (clauses_moved : ClauseMoves) (answers_mo
         by verdict.Wait = begins_again p c
         by verdict.Refuse = correctness f.origin
         by verdict.Start = fails_follow s pure h cause.BadCode [] (moved_in w h f below p)
+
+    -- ---- it asks another handler
+
+    never : (v : Option Value) → (w.handlers h).answer ≡ Some (Reply v) → ⊥
+    never v e =
+        let z : ReplyFits s w h v = replies v e in
+        let waits : Runs ≡ Awaits z.supplier z.takes z.is_creation =
+            sym runs_now ∙ ap (λ (g : Frame). g.stage) (first_of f z.frame below z.below (sym at ∙ z.stack_is)) ∙ z.stage_is in
+        cc
+
+    apart : (o : Reference) (x : List ℕ) (us : List Operand) (gives : Option EntityType) (passing : Bool) (p : Point) →
+        Ahead s pure w h f ≡ Does (Requests o x us gives passing) p → o.handler ≢ h
+    apart o x us gives passing p e =
+        let stack : StackFits s h w (f ∷ below) = subst (StackFits s h w) at (stack_fits s h w (reached_linked most s root w reached).sound here) in
+        (subst (StepFits h f) e (subst (turning.FrameFits s h w f) runs_now stack)).0
+
+    asks_on : (o : Reference) (x : List ℕ) (us : List Operand) (gives : Option EntityType) (passing : Bool) (p : Point) →
+        Ahead s pure w h f ≡ Does (Requests o x us gives passing) p →
+        ClauseActs s pure (MayAsk h i.asked) O f.current f.routine (bound_in f) (Requests o x us gives passing) p →
+        Follow s pure h (request h o x us gives passing (frame_at f p) below (moved_in w h f below p))
+    asks_on o x us gives passing p a (t, e, lends, pures, done, there) =
+        subst (λ (g : Option EntityType). Follow s pure h (request h o x us g passing (frame_at f p) below (moved_in w h f below p))) (sym e)
+        (subst (λ (b : Bool). Follow s pure h (request h o x us (Some t) b (frame_at f p) below (moved_in w h f below p))) (sym lends)
+        (request_follows s pure w h f below i own rest impure quiet_now never o x us t p (apart o x us gives passing p a) pures done there))
+
+    -- ---- its move
+
+    acts_on : (a : Act) (p : Point) → Ahead s pure w h f ≡ Does a p → ClauseActs s pure (MayAsk h i.asked) O f.current f.routine (bound_in f) a p →
+        Follow s pure h (effect most s h a (frame_at f p) below (moved_in w h f below p))
+    acts_on (Prints text) p e m = absurd m
+    acts_on Tests p e m = absurd m
+    acts_on Creates p e m = absurd m
+    acts_on Starts p e m = inr (stays s pure h (moved_in w h f below p) (frame_at f p ∷ below)
+        (ap (λ (y : Handler). y.stack) (m_put-own h (record (w.handlers h) { objects = p.objects; stack = frame_at f p ∷ below }) w)) ((inl m.1, impure), moved_plain p))
+    acts_on (CreatesHandler class procedure us t passing) p e m = absurd m
+    acts_on (Enters c o x us gives) p e m = calls_on c o x us gives p m
+    acts_on (Requests o x us gives passing) p e m = asks_on o x us gives passing p e m
+    acts_on (Refuses k) p e m = refused_on k p m
+    acts_on Opens p e m = absurd m
+    acts_on Leaves p e m = absurd m
+    acts_on Exits p e m = absurd m
+    acts_on (Fails why) p e m = fails_follow s pure h why [] (moved_in w h f below p)
+
+    settles_on : (st : Step) → Ahead s pure w h f ≡ st → ClauseSteps s pure (MayAsk h i.asked) O f.current f.routine (bound_in f) st →
+        Follow s pure h (settles most s h st f below w)
+    settles_on (Goes p) e m = unchanged
+    settles_on (Does a p) e m = acts_on a p e m
+
+    runs_on : Follow s pure h (settles most s h (Ahead s pure w h f) f below w)
+    runs_on = settles_on (Ahead s pure w h f) refl
+        (clauses_moved s root pure faultless well tells most w reached h f below goes (MayAsk h i.asked) (bound_in f)
+        (subst (λ (st : Stage). StandsByStage s pure w h i.asked None f st) runs_now i.stands))
+
+  -- ---- it reserves
+
+  module _ (reserving : f.stage ≡ Reserves) (ks : List ℕ) where
+    abbrev Past : Frame
+    Past = record f { stage = Runs; reserved = ks }
+
+    abbrev Reserved : World
+    Reserved = reserve h ks (with_stack h (Past ∷ below) w)
+
+    past : FrameFollows s pure Reserved h None Past
+    past = impure_frame Reserved None Past refl (inr (inr (tt, record {
+      asked = [];
+      quiet = λ k j. absurd (none_in k j);
+      environment_is = i.environment_is;
+      stands = following.between [] f.routine.require refl tt
+          (subst (λ (N : ℕ → List Object). point_of f (N h) ≡ between_point N f.current f.routine (bound_in f) f.routine.require) (sym (same_stack h (Past ∷ below) w).objects_are)
+          (subst (λ (st : Stage). StandsByStage s pure w h i.asked None f st) reserving i.stands).1);
+    })))
+
+    reserves_on : (b : Bool) → Follow s pure h (reserves_if b h ks Past below w)
+    reserves_on true = either_follow s pure h (reserve_fails (standing_in w) w.rights ks) (fail h cause.SupplierFailed w) Reserved
+        (fails_follow s pure h cause.SupplierFailed [] w)
+        (inl (subst (StackFollows s pure Reserved h None) (sym (ap (λ (y : Handler). y.stack) (m_put-own h (record (w.handlers h) { stack = Past ∷ below }) w)))
+        (past, rest_follows Reserved (Some Past) (same_stack h (Past ∷ below) w).no_reply)))
+    reserves_on false = unchanged
+
+  -- ---- it waits
+
+  module _ (alone : (k : ℕ) (q : Request) → Contains (requests_at (w.handlers k)) q → q.poster ≡ Some h → q.is_waited ≡ true → q.passed ≡ None → (w.handlers h).callback ≡ None)
+      (no_callback : (r : Request) (v : Option Value) → (w.handlers h).callback ≡ Some r → (w.handlers h).answer ≡ Some (Reply v) → ⊥) where
+    module _ (k : ℕ) (t : EntityType) (waiting : f.stage ≡ Awaits k (Some t) false) (o : Reference) (x : List ℕ) (us : List Operand)
+        (done : ClauseDone s (MayAsk h i.asked) O f.current f.routine (bound_in f) (Requests o x us (Some t) false) (point_of f (w.handlers h).objects))
+        (to : o.handler ≡ k) (other : k ≢ h) (v : Value) (came : (w.handlers h).answer ≡ Some (Reply (Some v))) (given : Answers s (Own o.handler) O o x us v)
+        (still : IsQuiet w h o.handler) where
+      abbrev Taken : Frame
+      Taken = record f { stage = Runs; values = operand v t ∷ f.values }
+
+      abbrev Asked : List ℕ
+      Asked = o.handler ∷ i.asked
+
+      abbrev T : World
+      T = put h (record (w.handlers h) { stack = Taken ∷ below; answer = None }) w
+
+      same : IsSame h w T
+      same = same_put h (record (w.handlers h) { stack = Taken ∷ below; answer = None }) w refl (λ n. reply_none (Some v) (IsNoReply None) (subst IsNoReply came n))
+
+      all_quiet : (j : ℕ) → Contains Asked j → (j ≢ h) × (IsQuiet T h j ⊎ AwaitsOf Taken.stage j)
+      all_quiet j c = by (contains_cases o.handler i.asked j c)
+        where
+          this : (j : ℕ) → o.handler ≡ j → (j ≢ h) × IsQuiet w h j
+          this j e = (λ m. other (sym to ∙ e ∙ m), subst (IsQuiet w h) e still)
+
+          before : IsQuiet w h j ⊎ AwaitsOf f.stage j → IsQuiet w h j
+          before (inl q) = q
+          before (inr a) = (this j (to ∙ subst (λ (st : Stage). AwaitsOf st j) waiting a)).1
+
+          by : (o.handler ≡ j) ⊎ Contains i.asked j → (j ≢ h) × (IsQuiet T h j ⊎ AwaitsOf Taken.stage j)
+          by (inl e) = let q = this j e in (q.0, inl (same.quiet j q.0 q.1))
+          by (inr m) = let q = i.quiet j m in (q.0, inl (same.quiet j q.0 (before q.1)))
+
+      more : (j : ℕ) → MayAsk h i.asked j → MayAsk h Asked j
+      more j (inl e) = inl e
+      more j (inr c) = inr (contains_later o.handler i.asked j c)
+
+      this_more : (j : ℕ) → Own o.handler j → MayAsk h Asked j
+      this_more j e = inr (subst (Contains Asked) (sym e) (contains_first o.handler i.asked))
+
+      stands_taken : ClausesAt s (MayAsk h Asked) O f.current f.routine (bound_in f) (point_of Taken (O h))
+      stands_taken = clause_goes_on_answered s (MayAsk h Asked) O f.current f.routine (bound_in f) (point_of f (w.handlers h).objects) o x us t false v
+          (clause_done_more reaches_more ends_true_more s (MayAsk h i.asked) (MayAsk h Asked) more O f.current f.routine (bound_in f) (Requests o x us (Some t) false)
+          (point_of f (w.handlers h).objects) done)
+          (answers_more s (Own o.handler) (MayAsk h Asked) O this_more o x us v given)
+
+      taken : FrameFollows s pure T h None Taken
+      taken = impure_frame T None Taken refl (inr (inr (tt, record {
+        asked = Asked;
+        quiet = all_quiet;
+        environment_is = i.environment_is;
+        stands = subst (λ (N : ℕ → List Object). ClausesAt s (MayAsk h Asked) N f.current f.routine (bound_in f) (point_of Taken (N h))) (sym same.objects_are) stands_taken;
+      })))
+
+      takes_on : Follow s pure h T
+      takes_on = inl (subst (StackFollows s pure T h None) (sym (ap (λ (y : Handler). y.stack) (m_put-own h (record (w.handlers h) { stack = Taken ∷ below; answer = None }) w)))
+          (taken, rest_follows T (Some Taken) same.no_reply))
+
+    waits_on : (k : ℕ) (gives : Option EntityType) (c : Bool) → f.stage ≡ Awaits k gives c → StandsByStage s pure w h i.asked None f (Awaits k gives c) →
+        Follow s pure h (waits s h (w.handlers h).callback (w.handlers h).answer k gives c f below w)
+    waits_on k None c e z = absurd z
+    waits_on k (Some t) true e z = absurd z
+    waits_on k (Some t) false e (o, x, us, done, to, other, top, pures, pending) = by pending
+      where
+        took : (r : Option Request) → (w.handlers h).callback ≡ r → (v : Value) → (w.handlers h).answer ≡ Some (Reply (Some v)) → Answers s (Own o.handler) O o x us v →
+            IsQuiet w h o.handler → Follow s pure h (waits s h r (Some (Reply (Some v))) k (Some t) false f below w)
+        took (Some r) j v came given still = absurd (no_callback r (Some v) j came)
+        took None j v came given still = takes_on k t e o x us done to other v came given still
+
+        by : IsPending s pure w h i.asked o x us → Follow s pure h (waits s h (w.handlers h).callback (w.handlers h).answer k (Some t) false f below w)
+        by (following.stands none there) =
+            subst (λ (r : Option Request). Follow s pure h (waits s h r (w.handlers h).answer k (Some t) false f below w))
+            (sym (alone o.handler (clause_request h o x us) (stands_at s pure w h i.asked o x us there) refl refl refl))
+            (subst (λ (a : Option Answer). Follow s pure h (waits s h None a k (Some t) false f below w)) (sym none) unchanged)
+        by (following.replied {v} came given still) =
+            subst (λ (a : Option Answer). Follow s pure h (waits s h (w.handlers h).callback a k (Some t) false f below w)) (sym came)
+            (took (w.handlers h).callback refl v came given still)
+
+    -- Its turn, whatever it does.
+    pub clause_follows : (st : Stage) → f.stage ≡ st → Follow s pure h (goes_on most s h st f below w)
+    clause_follows Runs e = runs_on e
+    clause_follows Reserves e = reserves_on e (entry_needs h f w) (may_reserve (entry_needs h f w) f.mark w)
+    clause_follows ReservesBlock e = absurd (subst (λ (st : Stage). StandsByStage s pure w h i.asked None f st) e i.stands)
+    clause_follows (InCall gives) e = fails_follow s pure h cause.BadCode [] w
+    clause_follows (Awaits k gives c) e = waits_on k gives c e (subst (λ (st : Stage). StandsByStage s pure w h i.asked None f st) e i.stands)
