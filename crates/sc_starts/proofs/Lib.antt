@@ -1,6 +1,7 @@
 pub mod OwnAsks
 pub mod OwnClauses
 pub mod OwnEntries
+pub mod OwnFollows
 pub mod OwnKept
 pub mod OwnMore
 pub mod OwnMoves
