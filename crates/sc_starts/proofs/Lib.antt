@@ -1,3 +1,11 @@
+pub mod OthersAsked
+pub mod OthersFollow
+pub mod OthersLocal
+pub mod OthersQuiet
+pub mod OthersRun
+pub mod OthersStack
+pub mod OthersTake
+pub mod OthersWorlds
 pub mod OwnAsks
 pub mod OwnClauses
 pub mod OwnEntries
@@ -9,14 +17,6 @@ pub mod OwnPlain
 pub mod OwnPure
 pub mod OwnWorlds
 pub mod PointsBound
-pub mod OthersAsked
-pub mod OthersFollow
-pub mod OthersLocal
-pub mod OthersQuiet
-pub mod OthersRun
-pub mod OthersStack
-pub mod OthersTake
-pub mod OthersWorlds
 pub mod PointsClauses
 pub mod PointsEntries
 pub mod PointsFunctions
@@ -26,5 +26,6 @@ pub mod PointsPure
 pub mod PointsReached
 pub mod PointsSteps
 pub mod Reaching
+pub mod Starts
 pub mod Unstarting
 pub mod Verdicts
