@@ -1,5 +1,5 @@
 -- The turn of a handler whose topmost frame asks another handler for a clause of its precondition.
-use Rattle.std.proofs.Common.{ℕ, ◌≡◌, ◌≢◌, ◌⊎◌, ⊎_elim, ◌<◌, ◌==◌, ◌&&◌, ◌||◌, not, Bool, true, false, List, [], ◌∷◌, ◌++◌, Option, Some, None, refl, sym, ap, subst, ◌∙◌, inl, inr}
+use Rattle.std.proofs.Common.{ℕ, ◌≡◌, ◌≢◌, ◌⊎◌, ⊎_elim, ◌==◌, ◌&&◌, ◌||◌, not, Bool, true, false, List, [], ◌∷◌, Option, Some, None, refl, sym, ap, subst, ◌∙◌, inl, inr}
 use Rattle.std.proofs.lemmas.Bool.{cases_eq, eq-eqb, eqb-true, ne_eqb}
 use Rattle.std.specs.Prelude.{if◌then◌else◌, Contains, is_some, length, nat_lt, take}
 use Rattle.sc_tree.specs.Plain.{System}
@@ -13,7 +13,7 @@ use Rattle.sc_model.specs.Values.{Reference, Value, Operand}
 use Rattle.sc_model.specs.Environments.{Binding}
 use Rattle.sc_model.specs.Objects.{Object}
 use Rattle.sc_model.specs.Steps.{Requests, Point}
-use Rattle.sc_model.specs.Handlers.{Request, Answer, Reply, Failed, Refused, Stage, Awaits, Frame, Handler, World, point_of, frame_at, put, with_stack}
+use Rattle.sc_model.specs.Handlers.{Request, Answer, Reply, Failed, Refused, Awaits, Frame, Handler, World, point_of, frame_at, with_stack}
 use Rattle.sc_model.specs.Failures.{fail}
 use Rattle.sc_model.specs.Asking.{placed, send, is_callback, asks, request}
 use Rattle.sc_laws.proofs.links.Standing.{m_put-own, m_put-off}
@@ -24,7 +24,7 @@ use Rattle.sc_starts.specs.Following.{objects_of, MayAsk, bound_in, ClauseDone, 
 use Rattle.sc_starts.specs.Following as following
 use Rattle.sc_starts.specs.Points.{InContract}
 use Rattle.sc_starts.proofs.OwnWorlds.{IsNoReply, put_objects, quiet_stays}
-use Rattle.sc_starts.proofs.OwnKept.{AllPlain, plain_follows, plain_kept}
+use Rattle.sc_starts.proofs.OwnKept.{AllPlain, plain_follows}
 use Rattle.sc_starts.proofs.OwnMoves.{Follow, moved_in, at_stage, either_follow, fails_follow, same_stack, moved_stack}
 
 -- the holder is the handler
@@ -120,12 +120,15 @@ module _ (s : System) (pure : RoutineName → Bool) (w : World) (h : ℕ) (f : F
 
         by : ((w.handlers h).answer ≡ None) ⊎ IsNoReply (w.handlers h).answer →
             HasStarted G.tasks ⊎ (IsLost V h G ⊎ (AboveIsPure pure None × InPrecondition s pure V h None G))
-        by (inl none) = inr (inr (tt, record {
-          asked = i.asked;
-          quiet = quiet_there;
-          environment_is = there.environment_is ∙ sym bound_is;
-          stands = (o, x, us, done_there, refl, apart, refl, runs, following.stands (answer_is ∙ none) stands);
-        }))
+        by (inl none) = inr (inr (
+          tt,
+          record {
+            asked = i.asked;
+            quiet = quiet_there;
+            environment_is = there.environment_is ∙ sym bound_is;
+            stands = (o, x, us, done_there, refl, apart, refl, runs, following.stands (answer_is ∙ none) stands);
+          },
+        ))
         by (inr n) = inr (inl (refl, subst IsNoReply (sym answer_is) n))
 
         frame : FrameFollows s pure V h None G
@@ -170,11 +173,11 @@ module _ (s : System) (pure : RoutineName → Bool) (w : World) (h : ℕ) (f : F
           (sent holds stands (is_handler h (w.rights.top K)) refl)
 
       by : (a : Bool) → not (held w.rights h K) ≡ a → (b : Bool) → is_some ((moved_in w h f below p).handlers K).failure ≡ b → Follow s pure h (
-        if a then fail h cause.NotHeld (moved_in w h f below p)
-        else if b then fail h cause.SupplierFailed (moved_in w h f below p)
-        else if not (is_callback h K (moved_in w h f below p)) && not (nat_lt (length ((moved_in w h f below p).handlers K).queue) max_queue)
-        then fail h cause.QueueFull (moved_in w h f below p) else asks h o x us (Some t) false true (frame_at f p) below (moved_in w h f below p)
-      )
+          if a then fail h cause.NotHeld (moved_in w h f below p)
+          else if b then fail h cause.SupplierFailed (moved_in w h f below p)
+          else if not (is_callback h K (moved_in w h f below p)) && not (nat_lt (length ((moved_in w h f below p).handlers K).queue) max_queue)
+          then fail h cause.QueueFull (moved_in w h f below p) else asks h o x us (Some t) false true (frame_at f p) below (moved_in w h f below p)
+          )
       by true e b j = fails_follow s pure h cause.NotHeld [] (moved_in w h f below p)
       by false e true j = fails_follow s pure h cause.SupplierFailed [] (moved_in w h f below p)
       by false e false j = either_follow s pure h (not (is_callback h K (moved_in w h f below p)) && not (nat_lt (length ((moved_in w h f below p).handlers K).queue) max_queue))

@@ -1,8 +1,7 @@
 -- The turn of a handler whose topmost frame stands in its precondition and runs no pure function.
-use Rattle.std.proofs.Common.{ℕ, ◌≡◌, ◌≢◌, ◌⊎◌, ⊎_elim, ◌<◌, ◌==◌, ◌&&◌, ◌||◌, not, Bool, true, false, List, [], ◌∷◌, ◌++◌, Option, Some, None, refl, sym, ap, subst, ◌∙◌, inl, inr}
+use Rattle.std.proofs.Common.{ℕ, ◌≡◌, ◌≢◌, ◌⊎◌, ◌<◌, ◌&&◌, Bool, true, false, List, [], ◌∷◌, Option, Some, None, refl, sym, ap, subst, ◌∙◌, inl, inr}
 use Rattle.std.proofs.Math.Path.{fun_ext}
-use Rattle.std.proofs.lemmas.Bool.{cases_eq, eqb-true, ne_eqb}
-use Rattle.std.specs.Prelude.{if◌then◌else◌, Contains, is_some, length, nat_lt, take}
+use Rattle.std.specs.Prelude.{Contains, length, take}
 use Rattle.sc_tree.specs.Plain.{System, Clause}
 use Rattle.sc_class.specs.ClassNames.{Root}
 use Rattle.sc_class.specs.Faults.ClassRules.{IsFaultless}
@@ -10,43 +9,36 @@ use Rattle.sc_proctype.specs.declared.entity_type.EntityType.{EntityType}
 use Rattle.sc_rules.specs.Names.{RoutineName}
 use Rattle.sc_rules.specs.Purity.{IsPurity}
 use Rattle.sc_rules.specs.SystemRules.{WellFormed}
-use Rattle.sc_lockpass.specs.Rights.{held, is_among, is_handler}
+use Rattle.sc_lockpass.specs.Rights.{is_among}
 use Rattle.sc_waitcond.specs.Reservations.{ends_session, mark_of, reserve_fails}
 use Rattle.sc_waitcond.specs.declared.condition.Verdict.{Verdict}
 use Rattle.sc_waitcond.specs.declared.condition.Verdict.TheVariants as verdict
-use Rattle.sc_waitcond.specs.declared.session.Release.{Release}
 use Rattle.sc_waitcond.specs.declared.session.Release.TheVariants as release_at
-use Rattle.sc_model.specs.declared.cause.Cause.{Cause}
 use Rattle.sc_model.specs.declared.cause.Cause.TheVariants as cause
-use Rattle.sc_model.specs.Limits.{max_queue}
-use Rattle.sc_model.specs.Values.{Reference, Value, Operand, operand, values_of}
+use Rattle.sc_model.specs.Values.{Reference, Value, Operand, operand}
 use Rattle.sc_model.specs.Environments.{Binding}
 use Rattle.sc_model.specs.Objects.{Object}
 use Rattle.sc_model.specs.Routines.{Routine}
 use Rattle.sc_model.specs.Steps.{Calling, Act, Prints, Tests, Creates, CreatesHandler, Enters, Requests, Starts, Refuses, Opens, Leaves, Exits, Fails, Step, Goes, Does, Point}
-use Rattle.sc_model.specs.Moves.{moves}
-use Rattle.sc_model.specs.Tasks.{Task, tasks_of}
-use Rattle.sc_model.specs.Handlers.{Request, Calls, Answer, Reply, Failed, Refused, Origin, Called, Requested, Stage, Runs, Reserves, ReservesBlock, InCall, Awaits, Frame, Handler, World, point_of, frame_at, put, with_stack}
+use Rattle.sc_model.specs.Tasks.{tasks_of}
+use Rattle.sc_model.specs.Handlers.{Request, Answer, Reply, Origin, Called, Requested, Stage, Runs, Reserves, ReservesBlock, InCall, Awaits, Frame, Handler, World, point_of, frame_at, put, with_stack}
 use Rattle.sc_model.specs.Sessions.{session_ended, standing_in, reserve, release}
 use Rattle.sc_model.specs.Failures.{fail, requests_at}
 use Rattle.sc_model.specs.Entries.{entry, entry_needs, may_reserve, reserves_if}
-use Rattle.sc_model.specs.Asking.{placed, send, is_callback, asks, request}
+use Rattle.sc_model.specs.Asking.{request}
 use Rattle.sc_model.specs.Preconditions.{verdict_on, waits_again, correctness_fails, false_clause}
-use Rattle.sc_model.specs.Takes.{takes_answer}
 use Rattle.sc_model.specs.Turns.{effect, settles, waits, goes_on}
 use Rattle.sc_model.specs.Runs.{IsReached}
 use Rattle.sc_laws.specs.Headline.{is_awaiting}
 use Rattle.sc_laws.proofs.Machine.{contains_cases, contains_first, contains_later}
 use Rattle.sc_laws.proofs.links.Reached.{reached_linked}
 use Rattle.sc_laws.proofs.links.SoundTurns.{stack_fits}
-use Rattle.sc_laws.proofs.links.Standing.{m_put-own, m_put-off}
+use Rattle.sc_laws.proofs.links.Standing.{m_put-own}
 use Rattle.sc_laws.proofs.links.Turning.{StackFits, StepFits}
 use Rattle.sc_laws.proofs.links.Turning as turning
-use Rattle.sc_values.specs.Fitting.{AnswerFits, FrameFits, ReplyFits}
-use Rattle.sc_values.specs.Points.{Each}
+use Rattle.sc_values.specs.Fitting.{AnswerFits, ReplyFits}
 use Rattle.sc_values.proofs.Lists.{none_in}
 use Rattle.sc_halves.specs.Calm.{name_of}
-use Rattle.sc_halves.specs.Clauses.{RunsPure}
 use Rattle.sc_halves.specs.Entries.{HasStarted}
 use Rattle.sc_evaluation.specs.Evaluating.{Answers}
 use Rattle.sc_evaluation.specs.Laws.{AnswersMore, EndsTrueMore, ReachesMore, TextsAreTestless}
@@ -54,11 +46,11 @@ use Rattle.sc_starts.specs.Following.{objects_of, MayAsk, Own, bound_in, between
 use Rattle.sc_starts.specs.Following as following
 use Rattle.sc_starts.specs.Points.{InContract, ClauseActs, ClauseSteps, ClauseMoves, GoesOn}
 use Rattle.sc_starts.proofs.PointsEntries.{clause_goes_on_answered, entry_is_between}
-use Rattle.sc_starts.proofs.OwnWorlds.{IsNoReply, IsSame, put_objects, quiet_stays, same_put}
-use Rattle.sc_starts.proofs.OwnKept.{AllPlain, not_awaited, plain_below, plain_follows, plain_kept}
+use Rattle.sc_starts.proofs.OwnWorlds.{IsNoReply, IsSame, same_put}
+use Rattle.sc_starts.proofs.OwnKept.{AllPlain, not_awaited, plain_follows, plain_kept}
 use Rattle.sc_starts.proofs.OwnPlain.{stays, refuses_good}
 use Rattle.sc_starts.proofs.OwnEntries.{begins_or_starts, entry_follows_there}
-use Rattle.sc_starts.proofs.OwnMoves.{Follow, Before, Ahead, moved_in, at_stage, either_follow, fails_follow, stack_follows, same_stack, moved_stack, moved_alone, enters_follow, entry_for, entry_pure, entered_so, point_there, bound_there, done_there, calls_there}
+use Rattle.sc_starts.proofs.OwnMoves.{Follow, Ahead, moved_in, at_stage, either_follow, fails_follow, same_stack, moved_stack, enters_follow, entry_for, entry_pure, entered_so, calls_there}
 use Rattle.sc_starts.proofs.OwnAsks.{request_follows}
 use Rattle.sc_starts.proofs.OwnMore.{clause_done_more, stands_at}
 
@@ -195,12 +187,15 @@ module _ (testless : TextsAreTestless) (clauses_moved : ClauseMoves) (answers_mo
           by : HasStarted (tasks_of f.routine) ⊎ (f.routine.require ≡ [] → ⊥) →
               HasStarted (tasks_of f.routine) ⊎ (IsLost Ended h Anew ⊎ (AboveIsPure pure None × InPrecondition s pure Ended h None Anew))
           by (inl j) = inl j
-          by (inr some) = inr (inr (tt, record {
-            asked = [];
-            quiet = λ k j. absurd (none_in k j);
-            environment_is = c.environment_is ∙ sym bound_anew;
-            stands = (refl, stands_anew some);
-          }))
+          by (inr some) = inr (inr (
+            tt,
+            record {
+              asked = [];
+              quiet = λ k j. absurd (none_in k j);
+              environment_is = c.environment_is ∙ sym bound_anew;
+              stands = (refl, stands_anew some);
+            },
+          ))
 
       begins_again : Follow s pure h (waits_again h (frame_at f p) below (moved_in w h f below p))
       begins_again = subst (λ (v : World). Follow s pure h (release release_at.FalseWaitCondition f.reserved v)) (sym (moved_stack s pure w h f below p (objects_same p c) St))
@@ -230,7 +225,7 @@ module _ (testless : TextsAreTestless) (clauses_moved : ClauseMoves) (answers_mo
     never v e =
         let z : ReplyFits s w h v = replies v e in
         let waits : Runs ≡ Awaits z.supplier z.takes z.is_creation =
-            sym runs_now ∙ ap (λ (g : Frame). g.stage) (first_of f z.frame below z.below (sym at ∙ z.stack_is)) ∙ z.stage_is in
+        sym runs_now ∙ ap (λ (g : Frame). g.stage) (first_of f z.frame below z.below (sym at ∙ z.stack_is)) ∙ z.stage_is in
         cc
 
     apart : (o : Reference) (x : List ℕ) (us : List Operand) (gives : Option EntityType) (passing : Bool) (p : Point) →
@@ -286,14 +281,17 @@ module _ (testless : TextsAreTestless) (clauses_moved : ClauseMoves) (answers_mo
     Reserved = reserve h ks (with_stack h (Past ∷ below) w)
 
     past : FrameFollows s pure Reserved h None Past
-    past = impure_frame Reserved None Past refl (inr (inr (tt, record {
-      asked = [];
-      quiet = λ k j. absurd (none_in k j);
-      environment_is = i.environment_is;
-      stands = following.between [] f.routine.require refl tt
-          (subst (λ (N : ℕ → List Object). point_of f (N h) ≡ between_point N f.current f.routine (bound_in f) f.routine.require) (sym (same_stack h (Past ∷ below) w).objects_are)
-          (subst (λ (st : Stage). StandsByStage s pure w h i.asked None f st) reserving i.stands).1);
-    })))
+    past = impure_frame Reserved None Past refl (inr (inr (
+      tt,
+      record {
+        asked = [];
+        quiet = λ k j. absurd (none_in k j);
+        environment_is = i.environment_is;
+        stands = following.between [] f.routine.require refl tt
+            (subst (λ (N : ℕ → List Object). point_of f (N h) ≡ between_point N f.current f.routine (bound_in f) f.routine.require) (sym (same_stack h (Past ∷ below) w).objects_are)
+            (subst (λ (st : Stage). StandsByStage s pure w h i.asked None f st) reserving i.stands).1);
+      },
+    )))
 
     reserves_on : (b : Bool) → Follow s pure h (reserves_if b h ks Past below w)
     reserves_on true = either_follow s pure h (reserve_fails (standing_in w) w.rights ks) (fail h cause.SupplierFailed w) Reserved
@@ -350,12 +348,15 @@ module _ (testless : TextsAreTestless) (clauses_moved : ClauseMoves) (answers_mo
           (answers_more s (Own o.handler) (MayAsk h Asked) O this_more o x us v given)
 
       taken : FrameFollows s pure T h None Taken
-      taken = impure_frame T None Taken refl (inr (inr (tt, record {
-        asked = Asked;
-        quiet = all_quiet;
-        environment_is = i.environment_is;
-        stands = subst (λ (N : ℕ → List Object). ClausesAt s (MayAsk h Asked) N f.current f.routine (bound_in f) (point_of Taken (N h))) (sym same.objects_are) stands_taken;
-      })))
+      taken = impure_frame T None Taken refl (inr (inr (
+        tt,
+        record {
+          asked = Asked;
+          quiet = all_quiet;
+          environment_is = i.environment_is;
+          stands = subst (λ (N : ℕ → List Object). ClausesAt s (MayAsk h Asked) N f.current f.routine (bound_in f) (point_of Taken (N h))) (sym same.objects_are) stands_taken;
+        },
+      )))
 
       takes_on : Follow s pure h T
       takes_on = inl (subst (StackFollows s pure T h None) (sym (ap (λ (y : Handler). y.stack) (m_put-own h (record (w.handlers h) { stack = Taken ∷ below; answer = None }) w)))

@@ -1,5 +1,5 @@
 -- A routine that is entered follows.
-use Rattle.std.proofs.Common.{ℕ, ◌≡◌, ◌≢◌, ◌⊎◌, ◌<◌, Bool, true, false, List, [], ◌∷◌, ◌++◌, Option, Some, None, refl, sym, ap, subst, ◌∙◌, inl, inr}
+use Rattle.std.proofs.Common.{ℕ, ◌≡◌, ◌⊎◌, Bool, true, List, [], ◌∷◌, ◌++◌, Option, Some, None, refl, sym, ap, subst, ◌∙◌, inl, inr}
 use Rattle.std.specs.Option.{option_and_then}
 use Rattle.sc_tree.specs.Plain as tree
 use Rattle.sc_tree.specs.Plain.{System, Clause, FeatureKind}
@@ -13,12 +13,12 @@ use Rattle.sc_rules.specs.Purity.{IsPurity}
 use Rattle.sc_rules.specs.Purity as purity
 use Rattle.sc_rules.specs.SystemRules.{WellFormed}
 use Rattle.sc_model.specs.Values.{Reference, Value}
-use Rattle.sc_model.specs.Environments.{Binding, formals_bound, separate_formals}
+use Rattle.sc_model.specs.Environments.{Binding, separate_formals}
 use Rattle.sc_model.specs.Olds.{olds_of_clauses}
 use Rattle.sc_model.specs.Routines.{Routine, version_of, routine_named, routine_of, routine_from, routine_with, origin_of}
 use Rattle.sc_model.specs.Tasks.{requires, keeps_olds, tasks_of}
 use Rattle.sc_model.specs.Entries.{entry, stage_with}
-use Rattle.sc_model.specs.Handlers.{Answer, Origin, Stage, Runs, Frame, World, point_of}
+use Rattle.sc_model.specs.Handlers.{Origin, Frame, World, point_of}
 use Rattle.sc_values.specs.Fitting.{FrameFits}
 use Rattle.sc_values.specs.Points.{Each}
 use Rattle.sc_values.proofs.Lists.{none_in}
@@ -31,7 +31,7 @@ use Rattle.sc_evaluation.specs.Laws.{TextsAreTestless}
 use Rattle.sc_starts.specs.Following.{objects_of, bound_in, AreBound, between_point, PureAt, FollowsPure, IsLost, AboveIsPure, StandsByStage, InPrecondition, FrameFollows, StackFollows}
 use Rattle.sc_starts.specs.Following as following
 use Rattle.sc_starts.proofs.PointsEntries.{entry_follows, entry_is_between, takes_bound}
-use Rattle.sc_starts.proofs.OwnKept.{AllPlain, plain_follows}
+use Rattle.sc_starts.proofs.OwnKept.{plain_follows}
 use Rattle.sc_starts.proofs.OwnPlain.{IsCalm, IsEntry, plain, entered}
 
 same_routine : (q r : Routine) → Some q ≡ Some r → q ≡ r
@@ -116,12 +116,15 @@ module _ (testless : TextsAreTestless) (s : System) (root : Root) (pure : Routin
     in_precondition : HasStarted (tasks_of r) ⊎ (r.require ≡ [] → ⊥) →
         HasStarted (tasks_of r) ⊎ (IsLost v h C ⊎ (AboveIsPure pure None × InPrecondition s pure v h None C))
     in_precondition (inl i) = inl i
-    in_precondition (inr some) = inr (inr (tt, record {
-      asked = [];
-      quiet = λ k c. absurd (none_in k c);
-      environment_is = sym bound_is;
-      stands = by_stage some (separate_formals bs);
-    }))
+    in_precondition (inr some) = inr (inr (
+      tt,
+      record {
+        asked = [];
+        quiet = λ k c. absurd (none_in k c);
+        environment_is = sym bound_is;
+        stands = by_stage some (separate_formals bs);
+      },
+    ))
 
     pure_begins : pure (name_of r) ≡ true → FollowsPure s (objects_of v) None C (stage_with (separate_formals bs))
     pure_begins is = subst (λ (us : List Value). FollowsPure s (objects_of v) None C (stage_with us)) (sym (pure_reserves_nothing s pure tells me.class x r named is bs bound))

@@ -11,12 +11,10 @@ use Rattle.sc_rules.specs.SystemRules.{WellFormed}
 use Rattle.sc_model.specs.declared.cause.Cause.{Cause}
 use Rattle.sc_model.specs.declared.cause.Cause.TheVariants as cause
 use Rattle.sc_model.specs.Failures.{requests_at}
-use Rattle.sc_model.specs.Handlers.{Request, Reply, Answer, Stage, Runs, Reserves, ReservesBlock, InCall, Awaits, Frame, World}
+use Rattle.sc_model.specs.Handlers.{Request, Stage, Runs, Reserves, ReservesBlock, InCall, Awaits, Frame, World}
 use Rattle.sc_model.specs.Runs.{IsReached}
 use Rattle.sc_model.specs.Turns.{goes_on, turn_with, turn}
-use Rattle.sc_model.specs.Values.{Value}
-use Rattle.sc_laws.specs.Headline.{is_awaiting}
-use Rattle.sc_values.specs.Fitting.{FrameFits, HandlerFits, Linked, WorldFits}
+use Rattle.sc_values.specs.Fitting.{FrameFits, HandlerFits, Linked}
 use Rattle.sc_values.specs.Points.{Each}
 use Rattle.sc_values.proofs.Turning.{callbacks_stand_alone}
 use Rattle.sc_halves.specs.Calm.{name_of}
@@ -26,13 +24,11 @@ use Rattle.sc_evaluation.proofs.Locally.{answers_more, ends_true_more, reaches_m
 use Rattle.sc_evaluation.proofs.Testless.{texts_are_testless}
 use Rattle.sc_kept.proofs.Turned.{count_grows}
 use Rattle.sc_kept.proofs.Unlent.{no_callback_there}
-use Rattle.sc_starts.specs.Following.{objects_of, FollowsPure, IsLost, AboveIsPure, InPrecondition, FrameFollows, StackFollows, WorldFollows}
-use Rattle.sc_starts.specs.Points.{GoesOn}
+use Rattle.sc_starts.specs.Following.{objects_of, FollowsPure, IsLost, AboveIsPure, InPrecondition, StackFollows, WorldFollows}
 use Rattle.sc_starts.specs.Turns.{OwnFollows}
 use Rattle.sc_starts.proofs.PointsReached.{clause_moves, pure_moves}
-use Rattle.sc_starts.proofs.OwnWorlds.{IsNoReply}
 use Rattle.sc_starts.proofs.OwnKept.{AllPlain, plain_below}
-use Rattle.sc_starts.proofs.OwnPlain.{IsCalm, next_good, goes_good}
+use Rattle.sc_starts.proofs.OwnPlain.{next_good, goes_good}
 use Rattle.sc_starts.proofs.OwnEntries.{calm_follows}
 use Rattle.sc_starts.proofs.OwnMoves.{Follow, fails_follow}
 use Rattle.sc_starts.proofs.OwnPure.{pure_follows}

@@ -1,15 +1,13 @@
 -- Frames that stand below the topmost one follow again, where nothing that they rest on has changed.
 use Rattle.std.proofs.Common.{ℕ, ◌≡◌, ◌≢◌, ◌⊎◌, Bool, true, false, List, [], ◌∷◌, Option, Some, None, refl, sym, ap, subst, ◌∙◌, inl, inr}
-use Rattle.std.specs.Prelude.{Contains}
 use Rattle.sc_tree.specs.Plain.{System}
-use Rattle.sc_proctype.specs.declared.entity_type.EntityType.{EntityType}
 use Rattle.sc_rules.specs.Names.{RoutineName}
 use Rattle.sc_model.specs.Values.{Reference, Value, Operand, values_of}
 use Rattle.sc_model.specs.Environments.{Binding, formals_bound}
 use Rattle.sc_model.specs.Objects.{Object}
-use Rattle.sc_model.specs.Routines.{Routine, routine_named}
+use Rattle.sc_model.specs.Routines.{Routine}
 use Rattle.sc_model.specs.Steps.{Calling, Enters}
-use Rattle.sc_model.specs.Handlers.{Answer, Origin, Stage, Runs, Reserves, ReservesBlock, InCall, Awaits, Frame, World, point_of}
+use Rattle.sc_model.specs.Handlers.{Answer, Stage, Runs, Reserves, ReservesBlock, InCall, Awaits, Frame, World, point_of}
 use Rattle.sc_laws.specs.Headline.{is_awaiting}
 use Rattle.sc_halves.specs.Calm.{name_of}
 use Rattle.sc_halves.specs.Entries.{HasStarted}
@@ -120,8 +118,10 @@ module _ (s : System) (pure : RoutineName → Bool) (h : ℕ) (w v : World) (sam
   frame_kept : (f f' g : Frame) → IsAlike f f' → FrameFollows s pure w h (Some f) g → FrameFollows s pure v h (Some f') g
   frame_kept f f' g a z = record {
     in_precondition = by z.in_precondition;
-    in_pure = λ e. let i = z.in_pure e in (alike_pure pure f f' a i.0,
-      subst (λ (O : ℕ → List Object). FollowsPure s O (Some f') g g.stage) (sym same.objects_are) (alike_calls s (objects_of w) f f' g a g.stage i.1));
+    in_pure = λ e. let i = z.in_pure e in (
+      alike_pure pure f f' a i.0,
+      subst (λ (O : ℕ → List Object). FollowsPure s O (Some f') g g.stage) (sym same.objects_are) (alike_calls s (objects_of w) f f' g a g.stage i.1),
+    );
     is_bound = z.is_bound;
     reserves_nothing = z.reserves_nothing;
   }

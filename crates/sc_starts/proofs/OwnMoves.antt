@@ -1,5 +1,5 @@
 -- What the topmost frame of a handler that evaluates leaves of its stack, whether it runs a pure function or stands in its precondition.
-use Rattle.std.proofs.Common.{ℕ, ◌≡◌, ◌≢◌, ◌⊎◌, ◌<◌, Bool, true, false, List, [], ◌∷◌, Option, Some, None, refl, sym, ap, subst, ◌∙◌, inl, inr}
+use Rattle.std.proofs.Common.{ℕ, ◌≡◌, ◌≢◌, ◌⊎◌, Bool, true, false, List, [], ◌∷◌, Option, Some, None, refl, sym, ap, subst, ◌∙◌, inl, inr}
 use Rattle.std.specs.Prelude.{if◌then◌else◌, Contains, length, nat_lt, take}
 use Rattle.std.specs.List.{list_any}
 use Rattle.sc_tree.specs.Plain.{System, Clause}
@@ -14,31 +14,29 @@ use Rattle.sc_waitcond.specs.declared.condition.Verdict.TheVariants as verdict
 use Rattle.sc_model.specs.declared.cause.Cause.{Cause}
 use Rattle.sc_model.specs.declared.cause.Cause.TheVariants as cause
 use Rattle.sc_model.specs.Limits.{max_frames}
-use Rattle.sc_model.specs.Values.{Reference, Value, Operand, values_of}
+use Rattle.sc_model.specs.Values.{Reference, Operand, values_of}
 use Rattle.sc_model.specs.Environments.{Binding, formals_bound}
 use Rattle.sc_model.specs.Objects.{Object}
 use Rattle.sc_model.specs.Routines.{Routine, routine_named}
-use Rattle.sc_model.specs.Steps.{Calling, Act, Enters, Step, Goes, Does, Point}
+use Rattle.sc_model.specs.Steps.{Calling, Act, Enters, Step, Does, Point}
 use Rattle.sc_model.specs.Moves.{moves}
-use Rattle.sc_model.specs.Handlers.{Request, Origin, Called, Requested, Stage, Runs, InCall, Frame, Handler, World, point_of, frame_at, put, with_stack}
-use Rattle.sc_model.specs.Failures.{fails_with, fail}
+use Rattle.sc_model.specs.Handlers.{Request, Called, Stage, InCall, Frame, Handler, World, point_of, frame_at, put, with_stack}
+use Rattle.sc_model.specs.Failures.{fails_with}
 use Rattle.sc_model.specs.Entries.{entry, enters_bound, enters}
 use Rattle.sc_model.specs.Preconditions.{formals_among, names_in, verdict_on}
 use Rattle.sc_model.specs.Runs.{IsReached}
 use Rattle.sc_laws.specs.Headline.{is_awaiting}
 use Rattle.sc_laws.proofs.links.Standing.{m_put-own}
-use Rattle.sc_halves.specs.Calm.{name_of}
 use Rattle.sc_halves.specs.Clauses.{RunsPure}
 use Rattle.sc_halves.specs.Entries.{HasStarted, RefusesNone}
 use Rattle.sc_halves.proofs.Calming.{moves_calm}
-use Rattle.sc_evaluation.specs.Laws.{TextsAreTestless}
-use Rattle.sc_starts.specs.Following.{objects_of, MayAsk, AreBound, bound_in, ClausesAt, ClauseDone, IsFor, IsQuiet, IsCalledPure, IsLost, AboveIsPure, StandsByStage, InPrecondition, FrameFollows, StackFollows}
-use Rattle.sc_starts.specs.Points.{InContract, ClauseSteps, ClauseMoves, GoesOn}
+use Rattle.sc_starts.specs.Following.{objects_of, MayAsk, bound_in, ClauseDone, IsFor, IsQuiet, IsCalledPure, IsLost, AboveIsPure, StandsByStage, InPrecondition, FrameFollows, StackFollows}
+use Rattle.sc_starts.specs.Points.{ClauseSteps, ClauseMoves, GoesOn}
 use Rattle.sc_starts.proofs.PointsEntries.{takes_bound}
-use Rattle.sc_starts.proofs.OwnWorlds.{IsNoReply, IsSame, same_put, fallen_stack, stack_again, stack_once}
-use Rattle.sc_starts.proofs.OwnKept.{IsAlike, not_awaited}
+use Rattle.sc_starts.proofs.OwnWorlds.{IsSame, same_put, stack_again, stack_once}
+use Rattle.sc_starts.proofs.OwnKept.{not_awaited}
 use Rattle.sc_starts.proofs.OwnPlain.{IsCalm, IsEntry, fails_good}
-use Rattle.sc_starts.proofs.OwnEntries.{entry_follows_there, runs_pure}
+use Rattle.sc_starts.proofs.OwnEntries.{runs_pure}
 
 -- ---- an entry that reserved nothing doesn't wait
 
@@ -202,10 +200,13 @@ module _ (s : System) (pure : RoutineName → Bool) (w : World) (h : ℕ) (f : F
         IsFor s o x (values_of us) above → Before s pure w h f (Does (Enters c o x us gives) p) →
         HasStarted p.tasks ⊎ (IsLost U h (at_stage f p (InCall gives)) ⊎ (AboveIsPure pure (Some above) × InPrecondition s pure U h (Some above) (at_stage f p (InCall gives))))
     calls_there above o x c us gives is for (inl i) = inl i
-    calls_there above o x c us gives is for (inr (asked, quiet, env, (t, e, at, runs, done, there))) = inr (inr (is, record {
-      asked = asked;
-      quiet = λ k i. let q = quiet k i in (q.0, inl ((same_stack h st w).quiet k q.0 q.1));
-      environment_is = there.environment_is ∙ sym (bound_there there.environment_is env (InCall gives));
-      stands = subst (λ (g : Option EntityType). StandsByStage s pure U h asked (Some above) (at_stage f p (InCall gives)) (InCall g)) (sym e)
-          (c, o, x, us, done_there (MayAsk h asked) (Enters c o x us (Some t)) (InCall gives) there.environment_is env done, at ∙ own, for);
-    }))
+    calls_there above o x c us gives is for (inr (asked, quiet, env, (t, e, at, runs, done, there))) = inr (inr (
+      is,
+      record {
+        asked = asked;
+        quiet = λ k i. let q = quiet k i in (q.0, inl ((same_stack h st w).quiet k q.0 q.1));
+        environment_is = there.environment_is ∙ sym (bound_there there.environment_is env (InCall gives));
+        stands = subst (λ (g : Option EntityType). StandsByStage s pure U h asked (Some above) (at_stage f p (InCall gives)) (InCall g)) (sym e)
+            (c, o, x, us, done_there (MayAsk h asked) (Enters c o x us (Some t)) (InCall gives) there.environment_is env done, at ∙ own, for);
+      },
+    ))

@@ -10,7 +10,7 @@ use Rattle.sc_proctype.specs.declared.entity_type.EntityType.{EntityType}
 use Rattle.sc_rules.specs.Names.{RoutineName}
 use Rattle.sc_rules.specs.Types.{declared_type}
 use Rattle.sc_lockpass.specs.Rights.{held}
-use Rattle.sc_waitcond.specs.Reservations.{mark_of, reserve_fails}
+use Rattle.sc_waitcond.specs.Reservations.{reserve_fails}
 use Rattle.sc_waitcond.specs.declared.session.Release.{Release}
 use Rattle.sc_waitcond.specs.declared.session.Release.TheVariants as release_at
 use Rattle.sc_model.specs.declared.cause.Cause.{Cause}
@@ -28,7 +28,7 @@ use Rattle.sc_model.specs.Sessions.{standing_in, reserve, release}
 use Rattle.sc_model.specs.Answers.{finish}
 use Rattle.sc_model.specs.Failures.{fails_with}
 use Rattle.sc_model.specs.Entries.{entry, enters_bound, enters, entry_needs, block_needs, may_reserve, reserves_if}
-use Rattle.sc_model.specs.Asking.{passes, send, awaits_if, request_by, is_callback, asks, request, with_handler, posts_creation, passes_or_releases, created, creates_handler}
+use Rattle.sc_model.specs.Asking.{passes, send, awaits_if, request_by, is_callback, asks, request, with_handler, posts_creation, passes_or_releases, created}
 use Rattle.sc_model.specs.Preconditions.{is_creation, object_meets, counted_refusal, refuses}
 use Rattle.sc_model.specs.Exits.{is_unset_value, is_unset, is_untested, handed_as, handed_at, handed, leaves_to, exits, leaves_block}
 use Rattle.sc_model.specs.Takes.{replies, takes_kind, takes_version, takes_creation, with_new_object, takes_errand, takes, takes_next, released_if, takes_answer}
@@ -291,9 +291,6 @@ module _ (s : System) (pure : RoutineName → Bool) (h : ℕ) where
         (plain_kept pure (w.handlers h).answer ((put h x w).handlers h).answer below
         (λ n. subst (λ (y : Handler). IsNoReply y.answer) (sym (m_put-own h x w)) n) is)
       where
-        refused : (k j : Clause) → Refuses k ≡ Refuses j → RefusesNone (Does (Refuses k) p) → ⊥
-        refused k j e z = z
-
         never : (a : Act) → RefusesNone (Does a p) → (k : Clause) → a ≡ Refuses k → ⊥
         never a z k e = subst (λ (a : Act). RefusesNone (Does a p)) e z
 

@@ -1,6 +1,6 @@
 -- The turn of a handler whose topmost frame runs a function that contracts may call.
-use Rattle.std.proofs.Common.{ℕ, ◌≡◌, ◌≢◌, ◌⊎◌, ◌<◌, ◌||◌, Bool, true, false, List, [], ◌∷◌, Option, Some, None, refl, sym, ap, subst, ◌∙◌, inl, inr}
-use Rattle.std.specs.Prelude.{if◌then◌else◌, Contains}
+use Rattle.std.proofs.Common.{ℕ, ◌≡◌, ◌⊎◌, ◌||◌, Bool, true, false, List, [], ◌∷◌, Option, Some, None, refl, sym, ap, subst, ◌∙◌, inl, inr}
+use Rattle.std.specs.Prelude.{if◌then◌else◌}
 use Rattle.std.specs.Option.{option_map}
 use Rattle.sc_tree.specs.Plain.{System, Clause}
 use Rattle.sc_class.specs.ClassNames.{Root}
@@ -19,11 +19,11 @@ use Rattle.sc_model.specs.Objects.{Object, object_numbered}
 use Rattle.sc_model.specs.Routines.{Routine, routine_named}
 use Rattle.sc_model.specs.Steps.{Calling, Act, Prints, Tests, Creates, CreatesHandler, Enters, Requests, Starts, Refuses, Opens, Leaves, Exits, Fails, Step, Goes, Does, Point}
 use Rattle.sc_model.specs.Moves.{moves}
-use Rattle.sc_model.specs.Handlers.{Request, Reply, Origin, Called, Requested, Stage, Runs, InCall, Frame, Handler, World, point_of, frame_at, put, with_stack}
+use Rattle.sc_model.specs.Handlers.{Request, Reply, Origin, Called, Requested, Stage, Runs, InCall, Frame, Handler, World, point_of, frame_at, with_stack}
 use Rattle.sc_model.specs.Sessions.{release}
 use Rattle.sc_model.specs.Failures.{fail}
 use Rattle.sc_model.specs.Entries.{entry}
-use Rattle.sc_model.specs.Preconditions.{object_meets, verdict_on, refuses, correctness_fails, false_clause}
+use Rattle.sc_model.specs.Preconditions.{object_meets, verdict_on, correctness_fails, false_clause}
 use Rattle.sc_model.specs.Exits.{is_unset_value, is_unset, is_untested, handed_at, handed, leaves_to, exits}
 use Rattle.sc_model.specs.Turns.{effect, settles}
 use Rattle.sc_model.specs.Runs.{IsReached}
@@ -39,11 +39,11 @@ use Rattle.sc_evaluation.specs.Laws.{AnswersMore, TextsAreTestless}
 use Rattle.sc_starts.specs.Following.{objects_of, MayAsk, Own, AreBound, bound_in, PureAt, PureCalls, ClausesAt, IsFor, AboveIsFor, FollowsPure, is_called, IsCalledPure, IsLost, AboveIsPure, StandsByStage, InPrecondition, FrameFollows, StackFollows}
 use Rattle.sc_starts.specs.Points.{ClauseMoves, GoesOn, KeepsActuals, HasRun, IsThisCall, PureActs, PureSteps, PureMoves}
 use Rattle.sc_starts.proofs.PointsEntries.{clause_goes_on, pure_calls_more, pure_goes_on, pure_answers}
-use Rattle.sc_starts.proofs.OwnWorlds.{IsNoReply, IsSame, none_released}
+use Rattle.sc_starts.proofs.OwnWorlds.{IsNoReply, none_released}
 use Rattle.sc_starts.proofs.OwnKept.{IsAlike, AllPlain, below_kept, not_awaited, plain_below, plain_kept}
-use Rattle.sc_starts.proofs.OwnPlain.{plain, stays, finish_good, release_good, stack_good, refuses_good}
+use Rattle.sc_starts.proofs.OwnPlain.{plain, finish_good, release_good, stack_good, refuses_good}
 use Rattle.sc_starts.proofs.OwnEntries.{entry_follows_there}
-use Rattle.sc_starts.proofs.OwnMoves.{Follow, Before, Ahead, moved_in, at_stage, either_follow, fails_follow, stack_follows, same_stack, stands_before, moved_stack, moved_alone, enters_follow, entry_for, entry_pure, entered_so, calls_there, waits_not}
+use Rattle.sc_starts.proofs.OwnMoves.{Follow, Before, moved_in, at_stage, either_follow, fails_follow, stack_follows, same_stack, stands_before, moved_stack, moved_alone, enters_follow, entry_for, entry_pure, entered_so, calls_there, waits_not}
 
 -- ---- the frame below a routine that its own handler called
 
@@ -116,19 +116,16 @@ module _ (testless : TextsAreTestless) (clauses_moved : ClauseMoves) (pures_move
 
   -- ---- it goes on
 
-  abbrev R : Stage
-  R = Runs
-
   runs_on : (p : Point) (keeps : Keeps p) → PureAt s O f.current f.routine (bound_in f) p → HasStarted p.tasks →
       Follow s pure h (moved_in w h f below p)
   runs_on p keeps i j = subst (Follow s pure h) (sym (moved_alone s pure w h f below p (objects_same p keeps)))
       (subst (λ (g : Stage). Follow s pure h (with_stack h (at_stage f p g ∷ below) w)) (sym goes.runs)
-      (stack_follows s pure h (at_stage f p R ∷ below) w (
-        frame_follows p keeps (at_stage f p R ∷ below) R None (inl j)
-            (tt, there p keeps (at_stage f p R ∷ below) R (λ N bs q. PureAt s N f.current f.routine bs q) i),
-        below_kept s pure h w (with_stack h (at_stage f p R ∷ below) w)
-            (same_stack h (at_stage f p R ∷ below) w) f (at_stage f p R) below
-            (alike p keeps (at_stage f p R ∷ below) R) y,
+      (stack_follows s pure h (at_stage f p Runs ∷ below) w (
+        frame_follows p keeps (at_stage f p Runs ∷ below) Runs None (inl j)
+            (tt, there p keeps (at_stage f p Runs ∷ below) Runs (λ N bs q. PureAt s N f.current f.routine bs q) i),
+        below_kept s pure h w (with_stack h (at_stage f p Runs ∷ below) w)
+            (same_stack h (at_stage f p Runs ∷ below) w) f (at_stage f p Runs) below
+            (alike p keeps (at_stage f p Runs ∷ below) Runs) y,
       )))
 
   -- ---- it calls
@@ -234,8 +231,11 @@ module _ (testless : TextsAreTestless) (clauses_moved : ClauseMoves) (pures_move
                 (λ o x us for. subst (λ (k : ℕ). Answers s (Own k) O o x us v) (sym own_g) (given o x us for)))
 
         taken_on : Follow s pure h (V St)
-        taken_on = stack_follows s pure h St w (taking, below_kept s pure h w (V St) (same_stack h St w) g (Taking t) more
-            (record { current_is = refl; routine_is = refl; origin_is = refl; bound_is = refl }) on.1)
+        taken_on = stack_follows s pure h St w (
+          taking,
+          below_kept s pure h w (V St) (same_stack h St w) g (Taking t) more
+              (record { current_is = refl; routine_is = refl; origin_is = refl; bound_is = refl }) on.1,
+        )
 
       -- a procedure's call gives nothing
       module _ (e : g.stage ≡ InCall None) where
@@ -263,8 +263,11 @@ module _ (testless : TextsAreTestless) (clauses_moved : ClauseMoves) (pures_move
             by (inr (inr (p, i))) = absurd (none i)
 
         gone_on : Follow s pure h (V Rest)
-        gone_on = stack_follows s pure h Rest w (going, below_kept s pure h w (V Rest) (same_stack h Rest w) g (record g { stage = Runs }) more
-            (record { current_is = refl; routine_is = refl; origin_is = refl; bound_is = refl }) on.1)
+        gone_on = stack_follows s pure h Rest w (
+          going,
+          below_kept s pure h w (V Rest) (same_stack h Rest w) g (record g { stage = Runs }) more
+              (record { current_is = refl; routine_is = refl; origin_is = refl; bound_is = refl }) on.1,
+        )
 
       handed_on : (t : Option EntityType) → g.stage ≡ InCall t → Follow s pure h (V (handed_at g.stage (Some v) g ∷ more))
       handed_on (Some t) e = subst (λ (st : Stage). Follow s pure h (V (handed_at st (Some v) g ∷ more))) (sym e) (taken_on t e)
@@ -272,8 +275,8 @@ module _ (testless : TextsAreTestless) (clauses_moved : ClauseMoves) (pures_move
 
     returned : (c : Calling) → f.origin ≡ Called c → (st : List Frame) → StackFollows s pure w h (Some f) st → Each (FrameFits s pure w h) st → Linked s h (f ∷ st) →
         Follow s pure h (with_stack h (handed (Some v) st) w)
-    returned c called [] on own linked = stack_follows s pure h [] w tt
-    returned c called (g ∷ more) on own linked = let j = in_call s h f g more c called linked in handed_on g more on own.0.is_own j.0 j.1
+    returned c called [] on there_fits linked = stack_follows s pure h [] w tt
+    returned c called (g ∷ more) on there_fits linked = let j = in_call s h f g more c called linked in handed_on g more on there_fits.0.is_own j.0 j.1
 
   -- below a frame that a request began none evaluates
   below_plain : (r : Request) → f.origin ≡ Requested r → (p : Point) → AllPlain pure ((moved_in w h f below p).handlers h).answer below
@@ -289,21 +292,21 @@ module _ (testless : TextsAreTestless) (clauses_moved : ClauseMoves) (pures_move
 
       leaves : is_unset p.result ≡ false → (o : Origin) → f.origin ≡ o → Follow s pure h (leaves_to h o f.reserved (option_map (λ (u : Operand). u.value) p.result) below (moved_in w h f below p))
       leaves e (Called c) i = subst (Follow s pure h) (sym (
-            ap (λ (ks : List ℕ). release release_at.Exit ks (with_stack h (handed (option_map (λ (u : Operand). u.value) p.result) below) (moved_in w h f below p))) (z.reserves_nothing is)
-            ∙ none_released release_at.Exit (with_stack h (handed (option_map (λ (u : Operand). u.value) p.result) below) (moved_in w h f below p))
-            ∙ moved_stack s pure w h f below p (objects_same p keeps) (handed (option_map (λ (u : Operand). u.value) p.result) below)
-            ∙ ap (λ (r : Option Operand). with_stack h (handed (option_map (λ (u : Operand). u.value) r) below) w) result
+          ap (λ (ks : List ℕ). release release_at.Exit ks (with_stack h (handed (option_map (λ (u : Operand). u.value) p.result) below) (moved_in w h f below p))) (z.reserves_nothing is)
+          ∙ none_released release_at.Exit (with_stack h (handed (option_map (λ (u : Operand). u.value) p.result) below) (moved_in w h f below p))
+          ∙ moved_stack s pure w h f below p (objects_same p keeps) (handed (option_map (λ (u : Operand). u.value) p.result) below)
+          ∙ ap (λ (r : Option Operand). with_stack h (handed (option_map (λ (u : Operand). u.value) r) below) w) result
           )) (returned u.value (answers p u run result (set e)) c i below y fits.1 linked)
       leaves e (Requested r) i = inr
-        (finish_good s pure h r (Reply (option_map (λ (u : Operand). u.value) p.result)) (release release_at.Exit f.reserved (with_stack h below (moved_in w h f below p)))
-            (release_good s pure h release_at.Exit f.reserved (with_stack h below (moved_in w h f below p)) (stack_good s pure h below (moved_in w h f below p) (plain (below_plain r i p)))))
+          (finish_good s pure h r (Reply (option_map (λ (u : Operand). u.value) p.result)) (release release_at.Exit f.reserved (with_stack h below (moved_in w h f below p)))
+          (release_good s pure h release_at.Exit f.reserved (with_stack h below (moved_in w h f below p)) (stack_good s pure h below (moved_in w h f below p) (plain (below_plain r i p)))))
 
       by : (b : Bool) → is_unset p.result ≡ b → Follow s pure h (
-        if b then fail h cause.UnsetEntity (moved_in w h f below p)
-        else if is_untested f.origin || object_meets s (object_numbered f.current.number ((moved_in w h f below p).handlers h).objects)
-        then leaves_to h f.origin f.reserved (option_map (λ (u : Operand). u.value) p.result) below (moved_in w h f below p)
-        else fail h cause.Invariant (moved_in w h f below p)
-      )
+          if b then fail h cause.UnsetEntity (moved_in w h f below p)
+          else if is_untested f.origin || object_meets s (object_numbered f.current.number ((moved_in w h f below p).handlers h).objects)
+          then leaves_to h f.origin f.reserved (option_map (λ (u : Operand). u.value) p.result) below (moved_in w h f below p)
+          else fail h cause.Invariant (moved_in w h f below p)
+          )
       by true e = fails_follow s pure h cause.UnsetEntity [] (moved_in w h f below p)
       by false e = either_follow s pure h (is_untested f.origin || object_meets s (object_numbered f.current.number ((moved_in w h f below p).handlers h).objects))
           (leaves_to h f.origin f.reserved (option_map (λ (u : Operand). u.value) p.result) below (moved_in w h f below p)) (fail h cause.Invariant (moved_in w h f below p))

@@ -1,5 +1,5 @@
 -- What the frames of a handler rest on, and what stays of it in the handler's own turn.
-use Rattle.std.proofs.Common.{ℕ, ◌≡◌, ◌≢◌, ◌⊎◌, ◌==◌, ◌&&◌, Bool, true, false, List, [], ◌∷◌, ◌++◌, Option, Some, None, refl, sym, ap, subst, ◌∙◌, inl, inr}
+use Rattle.std.proofs.Common.{ℕ, ◌≡◌, ◌≢◌, ◌⊎◌, ◌==◌, ◌&&◌, Bool, true, false, List, [], ◌++◌, Option, Some, None, refl, sym, ap, subst, ◌∙◌, inl, inr}
 use Rattle.std.proofs.Math.Path.{fun_ext}
 use Rattle.std.proofs.lemmas.Bool.{eq-eqb, eqb-true}
 use Rattle.std.specs.Prelude.{if◌then◌else◌, is_some}
@@ -25,9 +25,6 @@ use Rattle.sc_starts.specs.Following as following
 -- no reply has come, but that there will be none
 abbrev pub IsNoReply : Option Answer → Type 0
 IsNoReply a = (a ≡ Some Failed) ⊎ (a ≡ Some Refused)
-
-failed_no_reply : (a : Answer) → a ≡ Failed → IsNoReply (Some a)
-failed_no_reply a e = inl (ap (λ (b : Answer). Some b) e)
 
 heard_failed : (a : Answer) (why : Option Cause) → IsNoReply (heard a why (Some Failed))
 heard_failed a (Some why) = inl refl
