@@ -15,7 +15,6 @@ use Rattle.sc_model.specs.Objects.{Object}
 use Rattle.sc_model.specs.Runs.{IsReached}
 use Rattle.sc_model.specs.Steps.{Point, Enters, Requests}
 use Rattle.sc_model.specs.Turns.{turn}
-use Rattle.sc_model.specs.Values.{Value}
 use Rattle.sc_values.specs.Fitting.{FrameFits, WorldFits}
 use Rattle.sc_values.specs.Points.{Each}
 use Rattle.sc_laws.specs.Headline.{is_awaiting}

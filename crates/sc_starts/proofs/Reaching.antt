@@ -1,5 +1,5 @@
 -- In each state that an accepted system reaches, frames follow the evaluation by the definition.
-use Rattle.std.proofs.Common.{ℕ, zero, suc, ◌≡◌, ◌<◌, ◌≤◌, inl, inr, ⊎_elim, Bool, true, false, List, [], ◌∷◌, Option, Some, None, refl, sym, ap, subst, ◌∙◌}
+use Rattle.std.proofs.Common.{ℕ, ◌≡◌, ◌<◌, inl, inr, Bool, true, false, List, [], ◌∷◌, None, refl, sym, ap, subst, ◌∙◌}
 use Rattle.std.specs.Option.{option_map_or}
 use Rattle.std.specs.Prelude.{◌⊎◌, ◌≢◌, if◌then◌else◌, nat_lt}
 use Rattle.std.proofs.lemmas.Bool.{ltb-true, ltb-false}
@@ -33,7 +33,7 @@ module _ (own : OwnFollows) (others : OthersFollow) (new_is_idle : NewIsIdle) (s
           (own s root pure faultless well tells most h w reached follows (ltb-true h w.count l)) lives
       same e false l =
           let still : turn most s g w ≡ w = ap (λ (j : ℕ). turn most s j w) (sym e)
-              ∙ ap (λ (b : Bool). if b then turn_with most s h (w.handlers h).failure (w.handlers h).stack w else w) l in
+          ∙ ap (λ (b : Bool). if b then turn_with most s h (w.handlers h).failure (w.handlers h).stack w else w) l in
           subst (λ (x : World). h < x.count → (x.handlers h).failure ≡ None → StackFollows s pure x h None (x.handlers h).stack) (sym still)
           (follows h) here lives
 

@@ -1,6 +1,6 @@
 -- Right after the turn in which a body starts, the clauses of its precondition hold.
-use Rattle.std.proofs.Common.{ℕ, ◌≡◌, ◌<◌, inl, inr, Bool, true, false, List, [], ◌∷◌, Option, Some, None, refl, sym, ap, subst, ◌∙◌}
-use Rattle.std.specs.Prelude.{◌⊎◌, ◌≢◌, ◌==◌, if◌then◌else◌, nat_lt, Contains}
+use Rattle.std.proofs.Common.{ℕ, ◌≡◌, ◌<◌, inl, inr, Bool, true, false, List, ◌∷◌, None, refl, sym, ap, subst, ◌∙◌}
+use Rattle.std.specs.Prelude.{◌⊎◌, ◌==◌, if◌then◌else◌, Contains}
 use Rattle.std.proofs.lemmas.Bool.{eqb-true, lt-ltb}
 use Rattle.sc_tree.specs.Plain.{System, Clause}
 use Rattle.sc_class.specs.ClassNames.{Root}
@@ -12,7 +12,6 @@ use Rattle.sc_rules.proofs.PurityStands.{purity_stands}
 use Rattle.sc_model.specs.Clauses.{Holds}
 use Rattle.sc_model.specs.Entries.{result_of}
 use Rattle.sc_model.specs.Handlers.{Stage, Runs, Frame, World, point_of, frame_at, put}
-use Rattle.sc_model.specs.Moves.{moves}
 use Rattle.sc_model.specs.Objects.{Object}
 use Rattle.sc_model.specs.Runs.{IsReached}
 use Rattle.sc_model.specs.Steps.{Point, Starts, Step, Does}
@@ -27,7 +26,7 @@ use Rattle.sc_halves.specs.Entries.{HasStarted}
 use Rattle.sc_halves.proofs.Linking.{reached_fits}
 use Rattle.sc_kept.specs.Laws.{NewIsIdle}
 use Rattle.sc_values.proofs.Lists.{each_in}
-use Rattle.sc_starts.specs.Following.{AboveIsPure, FrameFollows, IsLost, Hold, InPrecondition, MayAsk, StackFollows, StandsByStage, WorldFollows, bound_in, clause_of, objects_of}
+use Rattle.sc_starts.specs.Following.{AboveIsPure, FrameFollows, IsLost, Hold, InPrecondition, MayAsk, StackFollows, StandsByStage, bound_in, clause_of, objects_of}
 use Rattle.sc_starts.specs.Points.{ClauseMoves, ClauseSteps, started_point}
 use Rattle.sc_starts.specs.Starting.{BodiesStartWhereTheyHold, IsVerdict}
 use Rattle.sc_starts.specs.Turns.{OwnFollows, OthersFollow}
@@ -79,10 +78,10 @@ module _ (clause_moves : ClauseMoves) (s : System) (root : Root) (pure : Routine
   starts_so : (asked : List ℕ) → StandsByStage s pure w h asked None f f.stage → HasStartedSo
   starts_so asked stands =
       let c : ClauseSteps s pure (MayAsk h asked) (objects_of w) f.current f.routine (bound_in f) (Does Starts p) =
-          subst (ClauseSteps s pure (MayAsk h asked) (objects_of w) f.current f.routine (bound_in f)) v.starts
-          (clause_moves s root pure faultless well tells most w reached h f below
-          (record { is_there = v.is_there; lives = v.lives; stack_is = v.stack_is; runs = v.runs }) (MayAsk h asked) (bound_in f)
-          (subst (StandsByStage s pure w h asked None f) v.runs stands)) in
+      subst (ClauseSteps s pure (MayAsk h asked) (objects_of w) f.current f.routine (bound_in f)) v.starts
+      (clause_moves s root pure faultless well tells most w reached h f below
+      (record { is_there = v.is_there; lives = v.lives; stack_is = v.stack_is; runs = v.runs }) (MayAsk h asked) (bound_in f)
+      (subst (StandsByStage s pure w h asked None f) v.runs stands)) in
       record { asked = MayAsk h asked; hold = c.0; point_is = c.2 }
 
   by_frame : FrameFollows s pure w h None f → HasStartedSo
@@ -101,8 +100,8 @@ module _ (clause_moves : ClauseMoves) (s : System) (root : Root) (pure : Routine
       let same : p.objects ≡ (w.handlers h).objects = ap (λ (q : Point). q.objects) so.point_is ∙ ap O own in
       let stay = objects_stay w h f below p same in
       let ends : EndsTrue s so.asked (objects_of y) f.current (clause_of O f.current f.routine (bound_in f) k) =
-          ends_true_locally s so.asked O (objects_of y) (λ j m. stay j) f.current (clause_of O f.current f.routine (bound_in f) k)
-          (each_in (λ (k : Clause). EndsTrue s so.asked O f.current (clause_of O f.current f.routine (bound_in f) k)) f.routine.require k so.hold among) in
+      ends_true_locally s so.asked O (objects_of y) (λ j m. stay j) f.current (clause_of O f.current f.routine (bound_in f) k)
+      (each_in (λ (k : Clause). EndsTrue s so.asked O f.current (clause_of O f.current f.routine (bound_in f) k)) f.routine.require k so.hold among) in
       ends_true_holds s y (frame_at f p) k so.asked (ap (λ (q : Point). q.olds) so.point_is)
       (subst (λ (q : Point). EndsTrue s so.asked (objects_of y) f.current (clause_point (objects_of y f.current.handler) f.routine.contract q.environment q.result k))
       (sym so.point_is)
@@ -123,7 +122,7 @@ bodies_start clause_moves own others new_is_idle s root faultless well most w re
     by : (pure : RoutineName → Bool) × IsPurity s pure → Holds s (turn most s h w) (frame_at f p) k
     by (pure, tells) =
         let follows : StackFollows s pure w h None (f ∷ below) = subst (StackFollows s pure w h None) v.stack_is
-            (reached_follows own others new_is_idle s root pure faultless well tells most w reached h v.is_there v.lives) in
+        (reached_follows own others new_is_idle s root pure faultless well tells most w reached h v.is_there v.lives) in
         subst (λ (y : World). Holds s y (frame_at f p) k) (sym (verdict_turn s most w h f below p v))
         (each_holds clause_moves s root pure faultless well tells most w reached h f below p v
         (by_frame clause_moves s root pure faultless well tells most w reached h f below p v follows.0)
