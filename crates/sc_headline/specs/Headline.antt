@@ -29,7 +29,7 @@ pub record StandsForReached (text : List ℕ) (root : Root) (program : Image) (v
   pub state : World
   pub reached : IsReached (most_handlers version) system root state
   pub stands : StandsFor system program state world
-  pub headline : HasHeadline system state
+  pub headline : HasHeadline (most_handlers version) system state
 
 -- Each world to which turns lead, from the opening of a text's program.
 abbrev pub Headline : Type 0

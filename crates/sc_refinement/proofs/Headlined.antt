@@ -11,9 +11,10 @@ use Rattle.sc_laws.proofs.Machine.{machine_callbacks_come_first, machine_chains_
 use Rattle.sc_laws.proofs.links.Held.{reached_formals_are_held, reached_names_are_held}
 use Rattle.sc_laws.proofs.links.Reached.{reached_stands}
 use Rattle.sc_values.proofs.Awaiting.{each_non_separate_is_own, each_value_fits}
+use Rattle.sc_starts.proofs.Starts.{bodies_start_where_they_hold}
 use Rattle.sc_refinement.specs.Refining.{HasHeadline}
 
-pub headlined : (s : System) (root : Root) → IsFaultless s root → WellFormed s → (most : ℕ) (w : World) → IsReached most s root w → SettledObjectsMeet s w → HasHeadline s w
+pub headlined : (s : System) (root : Root) → IsFaultless s root → WellFormed s → (most : ℕ) (w : World) → IsReached most s root w → SettledObjectsMeet s w → HasHeadline most s w
 headlined s root faultless well most w is settled =
     let t = reached_stands most s root w is in
     record {
@@ -29,4 +30,5 @@ headlined s root faultless well most w is settled =
       values_fit = each_value_fits s root faultless well most w is;
       non_separate_is_own = each_non_separate_is_own s root faultless well most w is;
       settled_objects_meet = settled;
+      bodies_start_where_clauses_hold = bodies_start_where_they_hold s root faultless well most w is;
     }

@@ -21,6 +21,7 @@ use Rattle.sc_laws.specs.Formals.{FormalsAreHeld, NamesAreHeld}
 use Rattle.sc_laws.specs.Headline.{CallbacksComeFirst, ChainsHold, OnlyWaitersAreTold, RepliesMeetNone, ReservedAreHeld, TargetsAreKept, WaitersAreTold}
 use Rattle.sc_values.specs.Places.{StandsAs}
 use Rattle.sc_values.specs.Values.{WhereAccepted}
+use Rattle.sc_starts.specs.Starting.{StartsWhereTheyHold}
 use Rattle.sc_runtime.specs.Reports.{report, statuses}
 use Rattle.sc_runtime.specs.Rounds.{Rounds, StopsRounds, more, none, turns_at_once}
 use Rattle.sc_runtime.specs.Turning.{IsRefusedTurn, Runs, StopsBehind}
@@ -29,9 +30,10 @@ use Rattle.sc_refinement.specs.Standing.{StandsFor, StandsNear}
 
 -- ---- the state that a world stands for
 
--- What the headline claims of a state: who holds and waits for whom, which values stand where, and that settled objects
--- meet their class invariants.
-pub record HasHeadline (s : System) (w : World) : Type 0 where
+-- What the headline claims of a state, where there may be so many handlers: who holds and waits for whom, which values stand
+-- where, that settled objects meet their class invariants, and that in the next turn a body starts only where the clauses of
+-- its precondition hold.
+pub record HasHeadline (most : ℕ) (s : System) (w : World) : Type 0 where
   pub reserved_are_held : ReservedAreHeld w
   pub formals_are_held : FormalsAreHeld w
   pub names_are_held : NamesAreHeld w
@@ -47,6 +49,7 @@ pub record HasHeadline (s : System) (w : World) : Type 0 where
       (h : ℕ) (of : Reserved → Option ℕ) (r : Reference) (t : EntityType) (may_be_unset : Bool) →
       StandsAs s w h of (Attached r) t may_be_unset → t.tag ≡ tag.Own → r.handler ≡ h
   pub settled_objects_meet : SettledObjectsMeet s w
+  pub bodies_start_where_clauses_hold : StartsWhereTheyHold s most w
 
 -- ---- turns one after the other
 
@@ -61,7 +64,7 @@ abbrev pub WorldHasHeadline : Type 0
 WorldHasHeadline = WhereAccepted λ s root.
     (p : Image) (v : Version) (hs : List ℕ) (y : PlainWorld) → IsProgramOf s root p → FitsRequests p →
     Runs hs (opened p v) y →
-    (w : World) × IsReached (most_handlers v) s root w × StandsFor s p w y × HasHeadline s w
+    (w : World) × IsReached (most_handlers v) s root w × StandsFor s p w y × HasHeadline (most_handlers v) s w
 
 -- ---- where memory was refused
 
