@@ -36,32 +36,38 @@ each_from P (x ∷ xs) f = (f x (zero, omega arith, refl), each_from P xs (λ y 
 
 no_olds_each : (es : Exprs) → ((e : Expr) → IsActual e es → olds_of e ≡ []) → olds_of_each es ≡ []
 no_olds_each no_exprs f = refl
-no_olds_each (expr_then e es) f = ap₂ (λ xs ys. xs ++ ys) (f e first_actual) (no_olds_each es (λ d i. f d (later_actual i)))
+no_olds_each (expr_then e es) f = ap₂ (λ xs ys. xs ++ ys) (f e first_actual)
+    (no_olds_each es (λ d i. f d (later_actual i)))
 
 none_long : {A : Type 0} {xs : List A} → xs ≡ [] → length xs ≡ 0
 none_long e = ap length e
 
-module _ (s : System) (pure : RoutineName → Bool) (well : WellFormed s) (tells : IsPurity s pure) (h : RoutineContext) where
+module _ (s : System) (pure : RoutineName → Bool) (well : WellFormed s) (tells : IsPurity s pure)
+    (h : RoutineContext) where
   abbrev Here : Site → Type 0
   Here b = Stands s pure h b
 
   part_stands : {a b : Site} → Here a → Part h a b → Here b
   part_stands (stands_in t w) p = stands_in t (within_then w p)
 
-  expr_none : (c : Context) (q : Position) (n : Entities) (e : Expr) → is_ensure c ≡ false → Here (expression c q n e) → olds_of e ≡ []
+  expr_none : (c : Context) (q : Position) (n : Entities) (e : Expr) → is_ensure c ≡ false → Here (expression c q n e) →
+      olds_of e ≡ []
   expr_none c q n e i w = none_old i (each_is_typed_lem s pure well tells h c q n e w).2
 
-  expr_oldless : (c : Context) (q : Position) (n : Entities) (e : Expr) → is_ensure c ≡ false → Here (expression c q n e) → HasNoOld e
+  expr_oldless : (c : Context) (q : Position) (n : Entities) (e : Expr) → is_ensure c ≡ false →
+      Here (expression c q n e) → HasNoOld e
   expr_oldless c q n e i w = none_long (expr_none c q n e i w)
 
-  actuals_oldless : (n : Entities) (es : Exprs) → ((e : Expr) → IsActual e es → Here (expression context.Body Source n e)) → HaveNoOld es
+  actuals_oldless : (n : Entities) (es : Exprs) →
+      ((e : Expr) → IsActual e es → Here (expression context.Body Source n e)) → HaveNoOld es
   actuals_oldless n es f = none_long (no_olds_each es (λ e i. expr_none context.Body Source n e refl (f e i)))
 
   mutual
     instr_oldless : (i : Instr) (n : Entities) → Here (instruction n i) → OldlessInstr i
     instr_oldless (tree.Assign q v e) n w = expr_oldless context.Body Source n e refl (part_stands w source_part)
     instr_oldless (tree.PrintText q text) n w = tt
-    instr_oldless (tree.CallRoutine q tree.no_target x es) n w = actuals_oldless n es (λ e j. part_stands w (call_actual_part j))
+    instr_oldless (tree.CallRoutine q tree.no_target x es) n w = actuals_oldless n es
+        (λ e j. part_stands w (call_actual_part j))
     instr_oldless (tree.CallRoutine q (tree.target a) x es) n w = (
       expr_oldless context.Body Plain n a refl (part_stands w call_target_part),
       actuals_oldless n es (λ e j. part_stands w (call_actual_part j)),
@@ -72,7 +78,8 @@ module _ (s : System) (pure : RoutineName → Bool) (well : WellFormed s) (tells
         by None e = tt
         by (Some k) e = actuals_oldless n k.actuals (λ a j. part_stands w (creation_actual_part e j))
     instr_oldless (tree.If q e is bs other) n w =
-        let z = conditions_give s pure well tells h context.Body n e (part_stands w (condition_part {choice = choice})) in (
+        let z = conditions_give s pure well tells h context.Body n e
+        (part_stands w (condition_part {choice = choice})) in (
           expr_oldless context.Body Condition n e refl (part_stands w (condition_part {choice = choice})),
           (
             instrs_oldless is z.0 (part_stands w (then_part {choice = choice} z.1)),
@@ -96,10 +103,12 @@ module _ (s : System) (pure : RoutineName → Bool) (well : WellFormed s) (tells
         loop : tree.Iteration
         loop = record { initial = initial; until = e; body = is }
     instr_oldless (tree.Check q ks) n w =
-        each_from ClauseHasNoOld ks (λ k l. expr_oldless context.Check Plain n k.condition refl (part_stands w (check_part l)))
+        each_from ClauseHasNoOld ks
+        (λ k l. expr_oldless context.Check Plain n k.condition refl (part_stands w (check_part l)))
     instr_oldless (tree.Block q ds is) n w =
         let z = blocks_reserve s pure well tells h n q block w in (
-          each_from HeadHasNoOld ds (λ d l. expr_oldless context.Body Plain n d.value refl (part_stands w (head_part {block = block} l))),
+          each_from HeadHasNoOld ds
+              (λ d l. expr_oldless context.Body Plain n d.value refl (part_stands w (head_part {block = block} l))),
           instrs_oldless is z.0 (part_stands w (block_part {block = block} z.1)),
         )
       where
@@ -108,7 +117,8 @@ module _ (s : System) (pure : RoutineName → Bool) (well : WellFormed s) (tells
 
     instrs_oldless : (is : Instrs) (n : Entities) → Here (instructions n is) → OldlessInstrs is
     instrs_oldless no_instrs n w = tt
-    instrs_oldless (instr_then i is) n w = (instr_oldless i n (part_stands w first_part), instrs_oldless is n (part_stands w others_part))
+    instrs_oldless (instr_then i is) n w =
+        (instr_oldless i n (part_stands w first_part), instrs_oldless is n (part_stands w others_part))
 
     branches_oldless : (bs : Branches) (n : Entities) → Here (branches n bs) → OldlessBranches bs
     branches_oldless no_branches n w = tt
@@ -121,19 +131,23 @@ module _ (s : System) (pure : RoutineName → Bool) (well : WellFormed s) (tells
           ),
         )
 
-module _ (s : System) (pure : RoutineName → Bool) (well : WellFormed s) (tells : IsPurity s pure) (f : DeclaredFeature) (routine : RoutineDeclaration)
+module _ (s : System) (pure : RoutineName → Bool) (well : WellFormed s) (tells : IsPurity s pure) (f : DeclaredFeature)
+    (routine : RoutineDeclaration)
     (d : IsDeclared s f routine) where
   abbrev judged : RoutineContext
   judged = context_of s pure f.class routine
 
   body_oldless : OldlessInstrs routine.body
-  body_oldless = instrs_oldless s pure well tells judged routine.body (known_in_body s routine) (stands_in (laws.body d.is_class d.declares d.kind) itself)
+  body_oldless = instrs_oldless s pure well tells judged routine.body (known_in_body s routine)
+      (stands_in (laws.body d.is_class d.declares d.kind) itself)
 
   clause_oldless : (k : Clause) → Contains routine.precondition k → HasNoOld k.condition
-  clause_oldless k l = expr_oldless s pure well tells judged context.Require Plain (formals_known s routine.formals) k.condition refl
+  clause_oldless k l = expr_oldless s pure well tells judged context.Require Plain
+      (formals_known s routine.formals) k.condition refl
       (stands_in (laws.precondition d.is_class d.declares d.kind l) itself)
 
-without_old : (s : System) (pure : RoutineName → Bool) → WellFormed s → IsPurity s pure → (r : Routine) → Stem s r → IsWithoutOld r
+without_old : (s : System) (pure : RoutineName → Bool) → WellFormed s → IsPurity s pure → (r : Routine) → Stem s r →
+    IsWithoutOld r
 without_old s pure well tells r m = record {
   body = subst OldlessInstrs (body_is s r m) (body_oldless s pure well tells m.feature m.own m.has_body);
   require = λ k l. clause_oldless s pure well tells m.origin m.original m.has_contract k

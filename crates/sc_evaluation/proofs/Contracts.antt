@@ -46,9 +46,11 @@ abbrev Before : List Task → List Task → Type 0
 Before rest l = (ts : List Task) × (l ≡ ts ++ rest) × Each IsOfContract ts
 
 before_more : (rest us l : List Task) → Each IsOfContract us → Before rest l → Before rest (us ++ l)
-before_more rest us l o b = (us ++ b.0, ap (λ l. us ++ l) b.1 ∙ sym (append_assoc us b.0 rest), each_append IsOfContract us b.0 o b.2)
+before_more rest us l o b =
+    (us ++ b.0, ap (λ l. us ++ l) b.1 ∙ sym (append_assoc us b.0 rest), each_append IsOfContract us b.0 o b.2)
 
-module _ (s : System) (me : Reference) (rest : List Task) (bs : List Binding) (result : Option Operand) (objects : List Object) where
+module _ (s : System) (me : Reference) (rest : List Task) (bs : List Binding) (result : Option Operand)
+    (objects : List Object) where
   abbrev Same : Point → Type 0
   Same p = (p.environment ≡ bs) × ((p.result ≡ result) × (p.objects ≡ objects))
 
@@ -68,8 +70,10 @@ module _ (s : System) (me : Reference) (rest : List Task) (bs : List Binding) (r
   if_c true x y h k = h
   if_c false x y h k = k
 
-  actuals_c : (i : ℕ) (es : Exprs) (t : Task) (l : List Task) → HaveNoTest es → IsOfContract t → Before rest l → Before rest ((evals i es ++ t ∷ []) ++ l)
-  actuals_c i es t l o a b = before_more rest (evals i es ++ t ∷ []) l (each_append IsOfContract (evals i es) (t ∷ []) (evals_of_contract i es o) (a, tt)) b
+  actuals_c : (i : ℕ) (es : Exprs) (t : Task) (l : List Task) → HaveNoTest es → IsOfContract t → Before rest l →
+      Before rest ((evals i es ++ t ∷ []) ++ l)
+  actuals_c i es t l o a b = before_more rest (evals i es ++ t ∷ []) l
+      (each_append IsOfContract (evals i es) (t ∷ []) (evals_of_contract i es o) (a, tt)) b
 
   -- ---- values
 
@@ -107,7 +111,8 @@ module _ (s : System) (me : Reference) (rest : List Task) (bs : List Binding) (r
   unary_c unary.Plus (Attached r) p l = tt
   unary_c unary.Old v p l = tt
 
-  integers_c : (o : Option ArithmeticOperator) (c : Option Comparison) (a b : ℤ) (p : Point) → Left p → Steps (apply_to_integers o c a b p)
+  integers_c : (o : Option ArithmeticOperator) (c : Option Comparison) (a b : ℤ) (p : Point) → Left p →
+      Steps (apply_to_integers o c a b p)
   integers_c (Some o) c a b p l = outcome_c (result_of o a b) p l
   integers_c None (Some c) a b p l = l
   integers_c None None a b p l = tt
@@ -129,7 +134,8 @@ module _ (s : System) (me : Reference) (rest : List Task) (bs : List Binding) (r
   applies_c op v [] p l = tt
   applies_c op v (u ∷ vs) p l = binary_c op u.value v (record p { values = vs }) l
 
-  right_c : (d : Option Bool) (short : Bool) (op : BinaryOperator) (i : ℕ) (e : tree.Expr) (u : Operand) (p : Point) → HasNoTest e → Left p →
+  right_c : (d : Option Bool) (short : Bool) (op : BinaryOperator) (i : ℕ) (e : tree.Expr) (u : Operand) (p : Point) →
+      HasNoTest e → Left p →
       Steps (evals_right d short op i e u p)
   right_c (Some b) short op i e u p o l = l
   right_c None true op i e u p o l = (before_more rest (Eval i e ∷ Conclude ∷ []) p.tasks (o, (tt, tt)) l.0, l.1)
@@ -141,58 +147,72 @@ module _ (s : System) (me : Reference) (rest : List Task) (bs : List Binding) (r
 
   -- ---- calls
 
-  enters_c : (x : List ℕ) (us : List Operand) (g : Option (Option EntityType)) (p : Point) → Left p → Steps (enters_unqualified me x us g p)
+  enters_c : (x : List ℕ) (us : List Operand) (g : Option (Option EntityType)) (p : Point) → Left p →
+      Steps (enters_unqualified me x us g p)
   enters_c x us None p l = tt
   enters_c x us (Some g) p l = l
 
-  own_c : (x : List ℕ) (f : Option DeclaredFeature) (us : List Operand) (p : Point) → Left p → Steps (calls_own s me x f us p)
+  own_c : (x : List ℕ) (f : Option DeclaredFeature) (us : List Operand) (p : Point) → Left p →
+      Steps (calls_own s me x f us p)
   own_c x None us p l = tt
   own_c x (Some f) us p l = enters_c x us (given_by (signature_of s (current (place_in s p.text)) f).gives) p l
 
-  unqualified_c : (x : List ℕ) (us : Option (List Operand × List Operand)) (p : Point) → Left p → Steps (calls_unqualified s me x us p)
+  unqualified_c : (x : List ℕ) (us : Option (List Operand × List Operand)) (p : Point) → Left p →
+      Steps (calls_unqualified s me x us p)
   unqualified_c x None p l = tt
-  unqualified_c x (Some (us, vs)) p l = own_c x (feature_named s (class.Declared p.text.class) x) us (record p { values = vs }) l
+  unqualified_c x (Some (us, vs)) p l = own_c x (feature_named s (class.Declared p.text.class) x) us
+      (record p { values = vs }) l
 
-  kind_c : (r : Reference) (x : List ℕ) (us : List Operand) (g : Option EntityType) (o : Object) (k : FeatureKind) (p : Point) → Left p →
+  kind_c : (r : Reference) (x : List ℕ) (us : List Operand) (g : Option EntityType) (o : Object) (k : FeatureKind)
+      (p : Point) → Left p →
       Steps (calls_kind r x us g o k p)
   kind_c r x us (Some t) o (tree.Attribute d) p l = attribute_c (binding_named x o.attributes) t p l
   kind_c r x us None o (tree.Attribute d) p l = tt
   kind_c r x us (Some t) o (tree.Routine c) p l = l
   kind_c r x us None o (tree.Routine c) p l = l
 
-  version_c : (r : Reference) (x : List ℕ) (us : List Operand) (g : Option EntityType) (o : Option Object) (f : Option DeclaredFeature) (p : Point) → Left p →
+  version_c : (r : Reference) (x : List ℕ) (us : List Operand) (g : Option EntityType) (o : Option Object)
+      (f : Option DeclaredFeature) (p : Point) → Left p →
       Steps (calls_version r x us g o f p)
   version_c r x us g (Some o) (Some f) p l = kind_c r x us g o f.feature.kind p l
   version_c r x us g (Some o) None p l = tt
   version_c r x us g None f p l = tt
 
-  requests_c : (r : Reference) (t : Tag) (x : List ℕ) (us : List Operand) (g : Option EntityType) (b : Bool) (p : Point) → Left p →
+  requests_c : (r : Reference) (t : Tag) (x : List ℕ) (us : List Operand) (g : Option EntityType) (b : Bool)
+      (p : Point) → Left p →
       Steps (requests r t x us g b p)
   requests_c r tag.Own x us g b p l = tt
   requests_c r (tag.With y) x us g b p l = l
   requests_c r tag.Any x us g b p l = l
   requests_c r tag.None x us g b p l = l
 
-  object_c : (r : Reference) (t : EntityType) (x : List ℕ) (us : List Operand) (g : Signature) (gives : Option (Option EntityType)) (p : Point) → Left p →
+  object_c : (r : Reference) (t : EntityType) (x : List ℕ) (us : List Operand) (g : Signature)
+      (gives : Option (Option EntityType)) (p : Point) → Left p →
       Steps (calls_object s me r t x us g gives p)
   object_c r t x us g None p l = tt
   object_c r t x us g (Some gives) p l =
-      if_c (r.handler == me.handler) (calls_version r x us gives (object_numbered r.number p.objects) (version_of s r.class x) p) (requests r t.tag x us gives (passes_rights g.formals us) p)
+      if_c (r.handler == me.handler)
+      (calls_version r x us gives (object_numbered r.number p.objects) (version_of s r.class x) p)
+      (requests r t.tag x us gives (passes_rights g.formals us) p)
       (version_c r x us gives (object_numbered r.number p.objects) (version_of s r.class x) p l)
       (requests_c r t.tag x us gives (passes_rights g.formals us) p l)
 
-  on_value_c : (x : List ℕ) (v : Value) (t : EntityType) (f : Option DeclaredFeature) (us : List Operand) (p : Point) → Left p →
+  on_value_c : (x : List ℕ) (v : Value) (t : EntityType) (f : Option DeclaredFeature) (us : List Operand)
+      (p : Point) → Left p →
       Steps (calls_on s me x v t f us p)
   on_value_c x Void t f us p l = tt
   on_value_c x (Integer z) t f us p l = tt
   on_value_c x (Boolean b) t f us p l = tt
   on_value_c x (Attached r) t None us p l = tt
-  on_value_c x (Attached r) t (Some f) us p l = object_c r t x us (signature_of s t f) (given_by (signature_of s t f).gives) p l
+  on_value_c x (Attached r) t (Some f) us p l = object_c r t x us (signature_of s t f)
+      (given_by (signature_of s t f).gives) p l
 
-  qualified_c : (x : List ℕ) (us : Option (List Operand × List Operand)) (p : Point) → Left p → Steps (calls_qualified s me x us p)
+  qualified_c : (x : List ℕ) (us : Option (List Operand × List Operand)) (p : Point) → Left p →
+      Steps (calls_qualified s me x us p)
   qualified_c x None p l = tt
   qualified_c x (Some (us, [])) p l = tt
-  qualified_c x (Some (us, v ∷ vs)) p l = on_value_c x v.value v.type (feature_named s v.type.class x) us (record p { values = vs }) l
+  qualified_c x (Some (us, v ∷ vs)) p l = on_value_c x v.value v.type (feature_named s v.type.class x) us
+      (record p { values = vs }) l
 
   -- ---- expressions
 
@@ -208,15 +228,19 @@ module _ (s : System) (me : Reference) (rest : List Task) (bs : List Binding) (r
   reads_own_c None b p l = tt
   reads_own_c (Some t) b p l = attribute_c b t p l
 
-  begins_kind_c : (x : List ℕ) (k : FeatureKind) (i : ℕ) (es : Exprs) (p : Point) → HaveNoTest es → Left p → Steps (begins_kind s me x k i es p)
-  begins_kind_c x (tree.Attribute d) i es p o l = reads_own_c (given_type s (current (place_in s p.text)) d) (binding_named x (attributes_of me.number p.objects)) p l
+  begins_kind_c : (x : List ℕ) (k : FeatureKind) (i : ℕ) (es : Exprs) (p : Point) → HaveNoTest es → Left p →
+      Steps (begins_kind s me x k i es p)
+  begins_kind_c x (tree.Attribute d) i es p o l = reads_own_c (given_type s (current (place_in s p.text)) d)
+      (binding_named x (attributes_of me.number p.objects)) p l
   begins_kind_c x (tree.Routine r) i es p o l = (actuals_c i es (CallUnqualified x (count es)) p.tasks o tt l.0, l.1)
 
-  begins_feature_c : (x : List ℕ) (f : Option DeclaredFeature) (i : ℕ) (es : Exprs) (p : Point) → HaveNoTest es → Left p → Steps (begins_feature s me x f i es p)
+  begins_feature_c : (x : List ℕ) (f : Option DeclaredFeature) (i : ℕ) (es : Exprs) (p : Point) → HaveNoTest es →
+      Left p → Steps (begins_feature s me x f i es p)
   begins_feature_c x None i es p o l = tt
   begins_feature_c x (Some f) i es p o l = begins_kind_c x f.feature.kind i es p o l
 
-  begins_name_c : (x : List ℕ) (b : Option Binding) (i : ℕ) (es : Exprs) (p : Point) → HaveNoTest es → Left p → Steps (begins_name s me x b i es p)
+  begins_name_c : (x : List ℕ) (b : Option Binding) (i : ℕ) (es : Exprs) (p : Point) → HaveNoTest es → Left p →
+      Steps (begins_name s me x b i es p)
   begins_name_c x (Some b) i es p o l = reads_as_c b.type b.value b.type p l
   begins_name_c x None i es p o l = begins_feature_c x (feature_named s (class.Declared p.text.class) x) i es p o l
 
@@ -226,16 +250,21 @@ module _ (s : System) (me : Reference) (rest : List Task) (bs : List Binding) (r
   evaluate_c i (tree.Void q) p o l = l
   evaluate_c i (tree.Current q) p o l = l
   evaluate_c i (tree.Result q) p o l = result_c p.result p.text.result p l
-  evaluate_c i (tree.Call q tree.no_target x es) p o l = begins_name_c x.text (binding_named x.text p.environment) i es p o l
+  evaluate_c i (tree.Call q tree.no_target x es) p o l = begins_name_c x.text
+      (binding_named x.text p.environment) i es p o l
   evaluate_c i (tree.Call q (tree.target a) x es) p o l = (
-    before_more rest (Eval i a ∷ []) ((evals (i + olds_in a) es ++ CallQualified x.text (count es) ∷ []) ++ p.tasks) (o.0, tt)
+    before_more rest (Eval i a ∷ [])
+        ((evals (i + olds_in a) es ++ CallQualified x.text (count es) ∷ []) ++ p.tasks) (o.0, tt)
         (actuals_c (i + olds_in a) es (CallQualified x.text (count es)) p.tasks o.1 tt l.0),
     l.1,
   )
   evaluate_c i (tree.Unary q unary.Old a) p o l = found_c (slice_get p.olds i) p l
-  evaluate_c i (tree.Unary q unary.Not a) p o l = (before_more rest (Eval i a ∷ ApplyUnary unary.Not ∷ []) p.tasks (o, (tt, tt)) l.0, l.1)
-  evaluate_c i (tree.Unary q unary.Plus a) p o l = (before_more rest (Eval i a ∷ ApplyUnary unary.Plus ∷ []) p.tasks (o, (tt, tt)) l.0, l.1)
-  evaluate_c i (tree.Unary q unary.Minus a) p o l = (before_more rest (Eval i a ∷ ApplyUnary unary.Minus ∷ []) p.tasks (o, (tt, tt)) l.0, l.1)
+  evaluate_c i (tree.Unary q unary.Not a) p o l =
+      (before_more rest (Eval i a ∷ ApplyUnary unary.Not ∷ []) p.tasks (o, (tt, tt)) l.0, l.1)
+  evaluate_c i (tree.Unary q unary.Plus a) p o l =
+      (before_more rest (Eval i a ∷ ApplyUnary unary.Plus ∷ []) p.tasks (o, (tt, tt)) l.0, l.1)
+  evaluate_c i (tree.Unary q unary.Minus a) p o l =
+      (before_more rest (Eval i a ∷ ApplyUnary unary.Minus ∷ []) p.tasks (o, (tt, tt)) l.0, l.1)
   evaluate_c i (tree.Binary q op a b) p o l =
       (before_more rest (Eval i a ∷ EvalRight op (i + olds_in a) b ∷ []) p.tasks (o.0, (o.1, tt)) l.0, l.1)
   evaluate_c i (tree.ObjectTest q d a x) p o l = absurd o
@@ -261,7 +290,8 @@ module _ (s : System) (me : Reference) (rest : List Task) (bs : List Binding) (r
   performs_c (CallUnqualified x n) vs p o l = unqualified_c x (popped n [] vs) p l
   performs_c (CallQualified x n) vs p o l = qualified_c x (popped n [] vs) p l
   performs_c (Require []) vs p o l = l
-  performs_c (Require (k ∷ ks)) vs p o l = (before_more rest (Eval 0 k.condition ∷ Required k ∷ Require ks ∷ []) p.tasks (o.0, (tt, (o.1, tt))) l.0, l.1)
+  performs_c (Require (k ∷ ks)) vs p o l =
+      (before_more rest (Eval 0 k.condition ∷ Required k ∷ Require ks ∷ []) p.tasks (o.0, (tt, (o.1, tt))) l.0, l.1)
   performs_c (ApplyUnary op) [] p o l = tt
   performs_c (EvalRight op i right) [] p o l = tt
   performs_c (ApplyBinary op) [] p o l = tt
@@ -270,7 +300,8 @@ module _ (s : System) (me : Reference) (rest : List Task) (bs : List Binding) (r
   performs_c KeepOld [] p o l = tt
   performs_c Ensured [] p o l = tt
   performs_c (ApplyUnary op) (u ∷ vs) p o l = unary_c op u.value (record p { values = vs }) l
-  performs_c (EvalRight op i right) (u ∷ vs) p o l = right_c (decided_by op u.value) (is_short op) op i right u (record p { values = vs }) o l
+  performs_c (EvalRight op i right) (u ∷ vs) p o l = right_c (decided_by op u.value) (is_short op) op i right u
+      (record p { values = vs }) o l
   performs_c (ApplyBinary op) (u ∷ vs) p o l = applies_c op u.value vs (record p { values = vs }) l
   performs_c Conclude (u ∷ vs) p o l = concludes_c u.value (record p { values = vs }) l
   performs_c (Required k) (u ∷ vs) p o l = required_c k u.value (record p { values = vs }) l
@@ -290,9 +321,11 @@ module _ (s : System) (me : Reference) (rest : List Task) (bs : List Binding) (r
   performs_c (Open xs body) vs p o l = absurd o
   performs_c (Leave depth) vs p o l = absurd o
 
-  step_at_c : (t : Task) (ts l : List Task) (p : Point) → l ≡ t ∷ ts ++ rest → IsOfContract t → Each IsOfContract ts → Same p → Steps (step_at s me l p)
+  step_at_c : (t : Task) (ts l : List Task) (p : Point) → l ≡ t ∷ ts ++ rest → IsOfContract t → Each IsOfContract ts →
+      Same p → Steps (step_at s me l p)
   step_at_c t ts l p e o a b =
-      subst (λ l. Steps (step_at s me l p)) (sym e) (performs_c t p.values (record p { tasks = ts ++ rest }) o ((ts, refl, a), b))
+      subst (λ l. Steps (step_at s me l p)) (sym e)
+      (performs_c t p.values (record p { tasks = ts ++ rest }) o ((ts, refl, a), b))
 
 module _ (s : System) (me : Reference) (rest : List Task) (p : Point) where
   stays : (q : Point) → Left s me rest p.environment p.result p.objects q → StaysInContract rest p q
@@ -305,7 +338,8 @@ module _ (s : System) (me : Reference) (rest : List Task) (p : Point) where
     objects_are = l.1.1.1;
   }
 
-  steps_act : (a : Act) (q : Point) → Steps s me rest p.environment p.result p.objects (Does a q) → StepsInContract rest p (Does a q)
+  steps_act : (a : Act) (q : Point) → Steps s me rest p.environment p.result p.objects (Does a q) →
+      StepsInContract rest p (Does a q)
   steps_act (Enters c o x us g) q l = stays q l
   steps_act (Requests o x us g passes) q l = stays q l
   steps_act Starts q l = stays q l
@@ -325,4 +359,5 @@ module _ (s : System) (me : Reference) (rest : List Task) (p : Point) where
 
 pub step_of_contract : StepOfContract
 step_of_contract s me t ts rest p e o a =
-    steps s me rest p (step s me p) (step_at_c s me rest p.environment p.result p.objects t ts p.tasks p e o a (refl, (refl, refl)))
+    steps s me rest p (step s me p)
+    (step_at_c s me rest p.environment p.result p.objects t ts p.tasks p e o a (refl, (refl, refl)))

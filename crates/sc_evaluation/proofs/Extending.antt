@@ -60,12 +60,14 @@ module _ (s : System) (me : Reference) (os : List Operand) (ts : List Task) wher
   -- ---- values
 
   reads_as_x : (d : EntityType) (v : Value) (t : EntityType) (p : Point) → reads_as d v t (X p) ≡ XS (reads_as d v t p)
-  reads_as_x d Void t p = if_x d.attached (fails cause.UnsetEntity (X p)) (gives Void t (X p)) (fails cause.UnsetEntity p) (gives Void t p) refl refl
+  reads_as_x d Void t p = if_x d.attached (fails cause.UnsetEntity (X p)) (gives Void t (X p))
+      (fails cause.UnsetEntity p) (gives Void t p) refl refl
   reads_as_x d (Integer z) t p = refl
   reads_as_x d (Boolean b) t p = refl
   reads_as_x d (Attached r) t p = refl
 
-  attribute_x : (b : Option Binding) (t : EntityType) (p : Point) → reads_attribute b t (X p) ≡ XS (reads_attribute b t p)
+  attribute_x : (b : Option Binding) (t : EntityType) (p : Point) → reads_attribute b t (X p) ≡ XS
+      (reads_attribute b t p)
   attribute_x None t p = refl
   attribute_x (Some b) t p = reads_as_x t b.value t p
 
@@ -93,12 +95,14 @@ module _ (s : System) (me : Reference) (os : List Operand) (ts : List Task) wher
   unary_x unary.Plus (Attached r) p = refl
   unary_x unary.Old v p = refl
 
-  integers_x : (o : Option ArithmeticOperator) (c : Option Comparison) (a b : ℤ) (p : Point) → apply_to_integers o c a b (X p) ≡ XS (apply_to_integers o c a b p)
+  integers_x : (o : Option ArithmeticOperator) (c : Option Comparison) (a b : ℤ) (p : Point) →
+      apply_to_integers o c a b (X p) ≡ XS (apply_to_integers o c a b p)
   integers_x (Some o) c a b p = outcome_x (result_of o a b) p
   integers_x None (Some c) a b p = refl
   integers_x None None a b p = refl
 
-  booleans_x : (o : Option Connective) (a b : Bool) (p : Point) → apply_to_booleans o a b (X p) ≡ XS (apply_to_booleans o a b p)
+  booleans_x : (o : Option Connective) (a b : Bool) (p : Point) → apply_to_booleans o a b (X p) ≡ XS
+      (apply_to_booleans o a b p)
   booleans_x (Some o) a b p = refl
   booleans_x None a b p = refl
 
@@ -111,7 +115,8 @@ module _ (s : System) (me : Reference) (os : List Operand) (ts : List Task) wher
   binary_x op Void Void p = truth_x (identity_of op true) p
   binary_x op v w p = refl
 
-  applies_x : (op : BinaryOperator) (v : Value) (vs : List Operand) (p : Point) → applies op v vs (X p) ≡ XS (applies op v vs p)
+  applies_x : (op : BinaryOperator) (v : Value) (vs : List Operand) (p : Point) →
+      applies op v vs (X p) ≡ XS (applies op v vs p)
   applies_x op v [] p = refl
   applies_x op v (u ∷ vs) p = binary_x op u.value v (record p { values = vs })
 
@@ -127,55 +132,67 @@ module _ (s : System) (me : Reference) (os : List Operand) (ts : List Task) wher
 
   -- ---- object tests
 
-  binds_if_x : (b : Bool) (x : List ℕ) (v : Value) (t : EntityType) (p : Point) → binds_if b x v t (X p) ≡ XS (binds_if b x v t p)
+  binds_if_x : (b : Bool) (x : List ℕ) (v : Value) (t : EntityType) (p : Point) → binds_if b x v t (X p) ≡ XS
+      (binds_if b x v t p)
   binds_if_x true x v t p = refl
   binds_if_x false x v t p = refl
 
-  binds_x : (d : Option DeclaredType) (x : List ℕ) (v : Value) (t : Option EntityType) (p : Point) → binds s me.handler d x v t (X p) ≡ XS (binds s me.handler d x v t p)
+  binds_x : (d : Option DeclaredType) (x : List ℕ) (v : Value) (t : Option EntityType) (p : Point) →
+      binds s me.handler d x v t (X p) ≡ XS (binds s me.handler d x v t p)
   binds_x d x v None p = refl
   binds_x d x v (Some t) p = binds_if_x (is_tested s me.handler (handler_named p.environment) v d t) x v t p
 
   -- ---- calls
 
-  enters_x : (x : List ℕ) (us : List Operand) (g : Option (Option EntityType)) (p : Point) → enters_unqualified me x us g (X p) ≡ XS (enters_unqualified me x us g p)
+  enters_x : (x : List ℕ) (us : List Operand) (g : Option (Option EntityType)) (p : Point) →
+      enters_unqualified me x us g (X p) ≡ XS (enters_unqualified me x us g p)
   enters_x x us None p = refl
   enters_x x us (Some g) p = refl
 
-  own_x : (x : List ℕ) (f : Option DeclaredFeature) (us : List Operand) (p : Point) → calls_own s me x f us (X p) ≡ XS (calls_own s me x f us p)
+  own_x : (x : List ℕ) (f : Option DeclaredFeature) (us : List Operand) (p : Point) → calls_own s me x f us (X p) ≡ XS
+      (calls_own s me x f us p)
   own_x x None us p = refl
   own_x x (Some f) us p = enters_x x us (given_by (signature_of s (current (place_in s p.text)) f).gives) p
 
-  unqualified_x : (x : List ℕ) (us : Option (List Operand × List Operand)) (p : Point) → calls_unqualified s me x us (X p) ≡ XS (calls_unqualified s me x us p)
+  unqualified_x : (x : List ℕ) (us : Option (List Operand × List Operand)) (p : Point) → calls_unqualified s me x us
+      (X p) ≡ XS (calls_unqualified s me x us p)
   unqualified_x x None p = refl
-  unqualified_x x (Some (us, vs)) p = own_x x (feature_named s (class.Declared p.text.class) x) us (record p { values = vs })
+  unqualified_x x (Some (us, vs)) p = own_x x (feature_named s (class.Declared p.text.class) x) us
+      (record p { values = vs })
 
-  kind_x : (r : Reference) (x : List ℕ) (us : List Operand) (g : Option EntityType) (o : Object) (k : FeatureKind) (p : Point) →
+  kind_x : (r : Reference) (x : List ℕ) (us : List Operand) (g : Option EntityType) (o : Object)
+      (k : FeatureKind) (p : Point) →
       calls_kind r x us g o k (X p) ≡ XS (calls_kind r x us g o k p)
   kind_x r x us (Some t) o (tree.Attribute d) p = attribute_x (binding_named x o.attributes) t p
   kind_x r x us None o (tree.Attribute d) p = refl
   kind_x r x us (Some t) o (tree.Routine c) p = refl
   kind_x r x us None o (tree.Routine c) p = refl
 
-  version_x : (r : Reference) (x : List ℕ) (us : List Operand) (g : Option EntityType) (o : Option Object) (f : Option DeclaredFeature) (p : Point) →
+  version_x : (r : Reference) (x : List ℕ) (us : List Operand) (g : Option EntityType) (o : Option Object)
+      (f : Option DeclaredFeature) (p : Point) →
       calls_version r x us g o f (X p) ≡ XS (calls_version r x us g o f p)
   version_x r x us g (Some o) (Some f) p = kind_x r x us g o f.feature.kind p
   version_x r x us g (Some o) None p = refl
   version_x r x us g None f p = refl
 
-  requests_x : (r : Reference) (t : Tag) (x : List ℕ) (us : List Operand) (g : Option EntityType) (b : Bool) (p : Point) →
+  requests_x : (r : Reference) (t : Tag) (x : List ℕ) (us : List Operand) (g : Option EntityType)
+      (b : Bool) (p : Point) →
       requests r t x us g b (X p) ≡ XS (requests r t x us g b p)
   requests_x r tag.Own x us g b p = refl
   requests_x r (tag.With y) x us g b p = refl
   requests_x r tag.Any x us g b p = refl
   requests_x r tag.None x us g b p = refl
 
-  object_x : (r : Reference) (t : EntityType) (x : List ℕ) (us : List Operand) (g : Signature) (gives : Option (Option EntityType)) (p : Point) →
+  object_x : (r : Reference) (t : EntityType) (x : List ℕ) (us : List Operand) (g : Signature)
+      (gives : Option (Option EntityType)) (p : Point) →
       calls_object s me r t x us g gives (X p) ≡ XS (calls_object s me r t x us g gives p)
   object_x r t x us g None p = refl
   object_x r t x us g (Some gives) p =
-      if_x (r.handler == me.handler) (calls_version r x us gives (object_numbered r.number p.objects) (version_of s r.class x) (X p))
+      if_x (r.handler == me.handler)
+      (calls_version r x us gives (object_numbered r.number p.objects) (version_of s r.class x) (X p))
       (requests r t.tag x us gives (passes_rights g.formals us) (X p))
-      (calls_version r x us gives (object_numbered r.number p.objects) (version_of s r.class x) p) (requests r t.tag x us gives (passes_rights g.formals us) p)
+      (calls_version r x us gives (object_numbered r.number p.objects) (version_of s r.class x) p)
+      (requests r t.tag x us gives (passes_rights g.formals us) p)
       (version_x r x us gives (object_numbered r.number p.objects) (version_of s r.class x) p)
       (requests_x r t.tag x us gives (passes_rights g.formals us) p)
 
@@ -185,22 +202,28 @@ module _ (s : System) (me : Reference) (os : List Operand) (ts : List Task) wher
   on_value_x x (Integer z) t f us p = refl
   on_value_x x (Boolean b) t f us p = refl
   on_value_x x (Attached r) t None us p = refl
-  on_value_x x (Attached r) t (Some f) us p = object_x r t x us (signature_of s t f) (given_by (signature_of s t f).gives) p
+  on_value_x x (Attached r) t (Some f) us p = object_x r t x us (signature_of s t f)
+      (given_by (signature_of s t f).gives) p
 
-  qualified_x : (x : List ℕ) (us : Option (List Operand × List Operand)) (p : Point) → calls_qualified s me x us (X p) ≡ XS (calls_qualified s me x us p)
+  qualified_x : (x : List ℕ) (us : Option (List Operand × List Operand)) (p : Point) →
+      calls_qualified s me x us (X p) ≡ XS (calls_qualified s me x us p)
   qualified_x x None p = refl
   qualified_x x (Some (us, [])) p = refl
-  qualified_x x (Some (us, v ∷ vs)) p = on_value_x x v.value v.type (feature_named s v.type.class x) us (record p { values = vs })
+  qualified_x x (Some (us, v ∷ vs)) p = on_value_x x v.value v.type (feature_named s v.type.class x) us
+      (record p { values = vs })
 
   -- ---- creations
 
-  made_x : (r : Reference) (t : EntityType) (call : Option (List ℕ)) (us : List Operand) (p : Point) → creates_object s r t call us (X p) ≡ XS (creates_object s r t call us p)
+  made_x : (r : Reference) (t : EntityType) (call : Option (List ℕ)) (us : List Operand) (p : Point) →
+      creates_object s r t call us (X p) ≡ XS (creates_object s r t call us p)
   made_x r t (Some x) us p = refl
   made_x r t None us p = if_x (meets_invariant s (fresh_object s r.class)) _ _ _ _ refl refl
 
-  here_x : (k : ℕ) (t : EntityType) (call : Option (List ℕ)) (us : List Operand) (p : Point) → creates_here s me k t call us (X p) ≡ XS (creates_here s me k t call us p)
+  here_x : (k : ℕ) (t : EntityType) (call : Option (List ℕ)) (us : List Operand) (p : Point) →
+      creates_here s me k t call us (X p) ≡ XS (creates_here s me k t call us p)
   here_x k t call us p = if_x (nat_lt (length p.objects) max_objects) _ _ _ _
-      (made_x (record { handler = me.handler; number = length p.objects + 1; class = k }) t call us (record p { objects = p.objects ++ fresh_object s k ∷ [] })) refl
+      (made_x (record { handler = me.handler; number = length p.objects + 1; class = k }) t call us
+      (record p { objects = p.objects ++ fresh_object s k ∷ [] })) refl
 
   creates_at_x : (call : Option (List ℕ)) (t : EntityType) (g : Tag) (c : ClassId) (us : List Operand) (p : Point) →
       creates_at s me call t g c us (X p) ≡ XS (creates_at s me call t g c us p)
@@ -208,17 +231,21 @@ module _ (s : System) (me : Reference) (os : List Operand) (ts : List Task) wher
   creates_at_x call t tag.Any (class.Declared k) us p = refl
   creates_at_x call t g c us p = refl
 
-  creates_as_x : (call : Option (List ℕ)) (t : Option EntityType) (us : List Operand) (p : Point) → creates_as s me call t us (X p) ≡ XS (creates_as s me call t us p)
+  creates_as_x : (call : Option (List ℕ)) (t : Option EntityType) (us : List Operand) (p : Point) →
+      creates_as s me call t us (X p) ≡ XS (creates_as s me call t us p)
   creates_as_x call None us p = refl
   creates_as_x call (Some t) us p = creates_at_x call t t.tag t.class us p
 
-  creates_x : (v : Variable) (call : Option (List ℕ)) (us : Option (List Operand × List Operand)) (p : Point) → creates s me v call us (X p) ≡ XS (creates s me v call us p)
+  creates_x : (v : Variable) (call : Option (List ℕ)) (us : Option (List Operand × List Operand)) (p : Point) →
+      creates s me v call us (X p) ≡ XS (creates s me v call us p)
   creates_x v call None p = refl
-  creates_x v call (Some (us, vs)) p = creates_as_x call (assignee_type (assigned_at s v p)) us (record p { tasks = AssignTo v ∷ p.tasks; values = vs })
+  creates_x v call (Some (us, vs)) p = creates_as_x call (assignee_type (assigned_at s v p)) us
+      (record p { tasks = AssignTo v ∷ p.tasks; values = vs })
 
   -- ---- expressions
 
-  result_x : (u : Option Operand) (t : Option (Option EntityType)) (p : Point) → reads_result u t (X p) ≡ XS (reads_result u t p)
+  result_x : (u : Option Operand) (t : Option (Option EntityType)) (p : Point) → reads_result u t (X p) ≡ XS
+      (reads_result u t p)
   result_x (Some u) (Some (Some t)) p = reads_as_x u.type u.value t p
   result_x u t p = refl
 
@@ -226,15 +253,19 @@ module _ (s : System) (me : Reference) (os : List Operand) (ts : List Task) wher
   reads_own_x None b p = refl
   reads_own_x (Some t) b p = attribute_x b t p
 
-  begins_kind_x : (x : List ℕ) (k : FeatureKind) (i : ℕ) (es : Exprs) (p : Point) → begins_kind s me x k i es (X p) ≡ XS (begins_kind s me x k i es p)
-  begins_kind_x x (tree.Attribute d) i es p = reads_own_x (given_type s (current (place_in s p.text)) d) (binding_named x (attributes_of me.number p.objects)) p
+  begins_kind_x : (x : List ℕ) (k : FeatureKind) (i : ℕ) (es : Exprs) (p : Point) → begins_kind s me x k i es (X p) ≡ XS
+      (begins_kind s me x k i es p)
+  begins_kind_x x (tree.Attribute d) i es p = reads_own_x (given_type s (current (place_in s p.text)) d)
+      (binding_named x (attributes_of me.number p.objects)) p
   begins_kind_x x (tree.Routine r) i es p = comes_x (evals i es ++ CallUnqualified x (count es) ∷ []) p
 
-  begins_feature_x : (x : List ℕ) (f : Option DeclaredFeature) (i : ℕ) (es : Exprs) (p : Point) → begins_feature s me x f i es (X p) ≡ XS (begins_feature s me x f i es p)
+  begins_feature_x : (x : List ℕ) (f : Option DeclaredFeature) (i : ℕ) (es : Exprs) (p : Point) →
+      begins_feature s me x f i es (X p) ≡ XS (begins_feature s me x f i es p)
   begins_feature_x x None i es p = refl
   begins_feature_x x (Some f) i es p = begins_kind_x x f.feature.kind i es p
 
-  begins_name_x : (x : List ℕ) (b : Option Binding) (i : ℕ) (es : Exprs) (p : Point) → begins_name s me x b i es (X p) ≡ XS (begins_name s me x b i es p)
+  begins_name_x : (x : List ℕ) (b : Option Binding) (i : ℕ) (es : Exprs) (p : Point) →
+      begins_name s me x b i es (X p) ≡ XS (begins_name s me x b i es p)
   begins_name_x x (Some b) i es p = reads_as_x b.type b.value b.type p
   begins_name_x x None i es p = begins_feature_x x (feature_named s (class.Declared p.text.class) x) i es p
 
@@ -245,7 +276,8 @@ module _ (s : System) (me : Reference) (os : List Operand) (ts : List Task) wher
   evaluate_x i (tree.Current q) p o = refl
   evaluate_x i (tree.Result q) p o = result_x p.result p.text.result p
   evaluate_x i (tree.Call q tree.no_target x es) p o = begins_name_x x.text (binding_named x.text p.environment) i es p
-  evaluate_x i (tree.Call q (tree.target a) x es) p o = comes_x (Eval i a ∷ evals (i + olds_in a) es ++ CallQualified x.text (count es) ∷ []) p
+  evaluate_x i (tree.Call q (tree.target a) x es) p o =
+      comes_x (Eval i a ∷ evals (i + olds_in a) es ++ CallQualified x.text (count es) ∷ []) p
   evaluate_x i (tree.Unary q unary.Old a) p o = cc
   evaluate_x i (tree.Unary q unary.Not a) p o = refl
   evaluate_x i (tree.Unary q unary.Plus a) p o = refl
@@ -267,7 +299,8 @@ module _ (s : System) (me : Reference) (os : List Operand) (ts : List Task) wher
   prints_x Void p = refl
   prints_x (Attached r) p = refl
 
-  other_x : (depth : ℕ) (bs : Branches) (other : Instrs) (p : Point) → chooses_other depth bs other (X p) ≡ XS (chooses_other depth bs other p)
+  other_x : (depth : ℕ) (bs : Branches) (other : Instrs) (p : Point) → chooses_other depth bs other (X p) ≡ XS
+      (chooses_other depth bs other p)
   other_x depth no_branches other p = refl
   other_x depth (branch_then e body bs) other p = refl
 
@@ -277,7 +310,8 @@ module _ (s : System) (me : Reference) (os : List Operand) (ts : List Task) wher
   chooses_x depth (Boolean false) body bs other p = other_x depth bs other (forgets depth p)
   chooses_x depth v body bs other p = refl
 
-  ends_loop_x : (v : Value) (e : tree.Expr) (body : Instrs) (p : Point) → ends_loop v e body (X p) ≡ XS (ends_loop v e body p)
+  ends_loop_x : (v : Value) (e : tree.Expr) (body : Instrs) (p : Point) → ends_loop v e body (X p) ≡ XS
+      (ends_loop v e body p)
   ends_loop_x (Boolean true) e body p = refl
   ends_loop_x (Boolean false) e body p = refl
   ends_loop_x v e body p = refl
@@ -287,11 +321,13 @@ module _ (s : System) (me : Reference) (os : List Operand) (ts : List Task) wher
   tests_x why (Boolean false) p = refl
   tests_x why v p = refl
 
-  opens_x : (xs : List Name) (body : Instrs) (us : Option (List Operand × List Operand)) (p : Point) → opens xs body us (X p) ≡ XS (opens xs body us p)
+  opens_x : (xs : List Name) (body : Instrs) (us : Option (List Operand × List Operand)) (p : Point) →
+      opens xs body us (X p) ≡ XS (opens xs body us p)
   opens_x xs body None p = refl
   opens_x xs body (Some (us, vs)) p = refl
 
-  routine_x : (b : Bool) (x : List ℕ) (es : Exprs) (p : Point) → begins_routine b x es (X p) ≡ XS (begins_routine b x es p)
+  routine_x : (b : Bool) (x : List ℕ) (es : Exprs) (p : Point) → begins_routine b x es (X p) ≡ XS
+      (begins_routine b x es p)
   routine_x true x no_exprs p = refl
   routine_x true x (expr_then e no_exprs) p = refl
   routine_x true x (expr_then e (expr_then d es)) p = refl
@@ -301,8 +337,11 @@ module _ (s : System) (me : Reference) (os : List Operand) (ts : List Task) wher
   begins_x (tree.Assign q x e) p = refl
   begins_x (tree.PrintText q text) p = refl
   begins_x (tree.CallRoutine q tree.no_target x es) p = routine_x (is_print x.text) x.text es p
-  begins_x (tree.CallRoutine q (tree.target a) x es) p = comes_x (Eval 0 a ∷ evals 0 es ++ CallQualified x.text (count es) ∷ []) p
-  begins_x (tree.Create q c) p = comes_x (evals 0 (actuals_of c.call) ++ CreateBy c.variable (procedure_of c.call) (count (actuals_of c.call)) ∷ []) p
+  begins_x (tree.CallRoutine q (tree.target a) x es) p =
+      comes_x (Eval 0 a ∷ evals 0 es ++ CallQualified x.text (count es) ∷ []) p
+  begins_x (tree.Create q c) p =
+      comes_x (evals 0 (actuals_of c.call) ++ CreateBy c.variable (procedure_of c.call)
+      (count (actuals_of c.call)) ∷ []) p
   begins_x (tree.If q e body bs other) p = refl
   begins_x (tree.Loop q initial e body) p = refl
   begins_x (tree.Check q ks) p = comes_x (checks ks) p
@@ -311,7 +350,8 @@ module _ (s : System) (me : Reference) (os : List Operand) (ts : List Task) wher
   -- ---- tasks
 
   -- one task, where p.tasks is what is left behind it
-  performs_x : (t : Task) (vs : List Operand) (p : Point) → IsOldless t → performs s me t vs (X p) ≡ XS (performs s me t vs p)
+  performs_x : (t : Task) (vs : List Operand) (p : Point) → IsOldless t → performs s me t vs (X p) ≡ XS
+      (performs s me t vs p)
   performs_x (Do no_instrs) vs p o = refl
   performs_x (Do (instr_then i is)) vs p o = begins_x i (record p { tasks = Do is ∷ p.tasks })
   performs_x (In text) vs p o = refl
@@ -339,19 +379,24 @@ module _ (s : System) (me : Reference) (os : List Operand) (ts : List Task) wher
   performs_x KeepOld vs p o = absurd o
   performs_x Ensured vs p o = absurd o
   performs_x (ApplyUnary op) (u ∷ vs) p o = unary_x op u.value (record p { values = vs })
-  performs_x (EvalRight op i right) (u ∷ vs) p o = right_x (decided_by op u.value) (is_short op) op i right u (record p { values = vs })
+  performs_x (EvalRight op i right) (u ∷ vs) p o = right_x (decided_by op u.value) (is_short op) op i right u
+      (record p { values = vs })
   performs_x (ApplyBinary op) (u ∷ vs) p o = applies_x op u.value vs (record p { values = vs })
   performs_x Conclude (u ∷ vs) p o = concludes_x u.value (record p { values = vs })
-  performs_x (Bind d x) (u ∷ vs) p o = binds_x d x u.value (test_type (place_in s p.text) d (Some u.type)) (record p { values = vs })
+  performs_x (Bind d x) (u ∷ vs) p o = binds_x d x u.value (test_type (place_in s p.text) d (Some u.type))
+      (record p { values = vs })
   performs_x (AssignTo x) (u ∷ vs) p o = assigns_x x (assigned_at s x p) u.value (record p { values = vs })
   performs_x Print (u ∷ vs) p o = prints_x u.value (record p { values = vs })
-  performs_x (Choose depth body bs other) (u ∷ vs) p o = chooses_x depth u.value body bs other (record p { values = vs })
+  performs_x (Choose depth body bs other) (u ∷ vs) p o = chooses_x depth u.value body bs other
+      (record p { values = vs })
   performs_x (EndLoop until body) (u ∷ vs) p o = ends_loop_x u.value until body (record p { values = vs })
   performs_x Checked (u ∷ vs) p o = tests_x cause.Check u.value (record p { values = vs })
 
-  step_at_x : (l : List Task) (t : Task) (rest : List Task) (p : Point) → l ≡ t ∷ rest → IsOldless t → step_at s me (l ++ ts) (X p) ≡ XS (step_at s me l p)
+  step_at_x : (l : List Task) (t : Task) (rest : List Task) (p : Point) → l ≡ t ∷ rest → IsOldless t →
+      step_at s me (l ++ ts) (X p) ≡ XS (step_at s me l p)
   step_at_x l t rest p e o =
-      subst (λ l. step_at s me (l ++ ts) (X p) ≡ XS (step_at s me l p)) (sym e) (performs_x t p.values (record p { tasks = rest }) o)
+      subst (λ l. step_at s me (l ++ ts) (X p) ≡ XS (step_at s me l p)) (sym e)
+      (performs_x t p.values (record p { tasks = rest }) o)
 
 pub step_extends : StepExtends
 step_extends s me os ts p t rest e o = step_at_x s me os ts p.tasks t rest p e o

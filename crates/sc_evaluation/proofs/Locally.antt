@@ -8,14 +8,19 @@ use Rattle.sc_model.specs.Values.{Operand, Reference, Value}
 use Rattle.sc_evaluation.specs.Evaluating.{Answers, attribute, routine, Reaches, begins, goes, tests, enters, requests, EndsTrue}
 use Rattle.sc_evaluation.specs.Laws.{AnswersAreLocal, AnswersLocally, AnswersMore, EndsTrueLocally, EndsTrueMore, EvaluationsAreLocal, EvaluationsMayAskMore, ReachesLocally, ReachesMore, Told}
 
-module _ (s : System) (M N : ℕ → Type 0) (O P : ℕ → List Object) (same : (k : ℕ) → M k → O k ≡ P k) (more : (k : ℕ) → M k → N k) where
+module _ (s : System) (M N : ℕ → Type 0) (O P : ℕ → List Object) (same : (k : ℕ) → M k → O k ≡ P k)
+    (more : (k : ℕ) → M k → N k) where
   mutual
-    answers_over : {r : Reference} {x : List ℕ} {us : List Operand} {v : Value} → Answers s M O r x us v → Answers s N P r x us v
+    answers_over : {r : Reference} {x : List ℕ} {us : List Operand} {v : Value} → Answers s M O r x us v →
+        Answers s N P r x us v
     answers_over (attribute {r} {o} m is_there f k b u) =
-        attribute (more r.handler m) (subst (λ (os : List Object). object_numbered r.number os ≡ Some o) (same r.handler m) is_there) f k b u
+        attribute (more r.handler m)
+        (subst (λ (os : List Object). object_numbered r.number os ≡ Some o) (same r.handler m) is_there) f k b u
     answers_over (routine {r} {o} {q} {bs} {p} m is_there f k of bound a e is u) =
-        routine (more r.handler m) (subst (λ (os : List Object). object_numbered r.number os ≡ Some o) (same r.handler m) is_there) f k of bound
-        (subst (λ (os : List Object). Reaches s N P r (body_point s q os bs) p) (same r.handler m) (reaches_over a)) e is u
+        routine (more r.handler m)
+        (subst (λ (os : List Object). object_numbered r.number os ≡ Some o) (same r.handler m) is_there) f k of bound
+        (subst (λ (os : List Object). Reaches s N P r (body_point s q os bs) p) (same r.handler m)
+        (reaches_over a)) e is u
 
     reaches_over : {me : Reference} {p q : Point} → Reaches s M O me p q → Reaches s N P me p q
     reaches_over begins = begins

@@ -55,7 +55,11 @@ right_none (x ∷ xs) ys e = absurd (omega (arith, e))
 
 evals_oldless : (i : ℕ) (es : Exprs) → HaveNoOld es → Each IsOldless (evals i es)
 evals_oldless i no_exprs o = tt
-evals_oldless i (expr_then e es) o = (left_none (olds_of e) (olds_of_each es) o, evals_oldless (i + olds_in e) es (right_none (olds_of e) (olds_of_each es) o))
+evals_oldless i (expr_then e es) o = (
+  left_none (olds_of e) (olds_of_each es) o,
+  evals_oldless (i + olds_in e) es
+      (right_none (olds_of e) (olds_of_each es) o),
+)
 
 heads_oldless : (ds : List Head) → Each HeadHasNoOld ds → Each IsOldless (head_evals ds)
 heads_oldless [] o = tt
@@ -66,7 +70,8 @@ checks_oldless [] o = tt
 checks_oldless (k ∷ ks) o = (o.0, (tt, checks_oldless ks o.1))
 
 -- these, one more, and the others
-behind_these : (us : List Task) (t : Task) (ts : List Task) → Each IsOldless us → IsOldless t → Each IsOldless ts → Each IsOldless ((us ++ t ∷ []) ++ ts)
+behind_these : (us : List Task) (t : Task) (ts : List Task) → Each IsOldless us → IsOldless t → Each IsOldless ts →
+    Each IsOldless ((us ++ t ∷ []) ++ ts)
 behind_these us t ts o a l = each_append IsOldless (us ++ t ∷ []) ts (each_append IsOldless us (t ∷ []) o (a, tt)) l
 
 module _ (s : System) (me : Reference) where
@@ -116,7 +121,8 @@ module _ (s : System) (me : Reference) where
   unary_l unary.Plus (Attached r) p l = tt
   unary_l unary.Old v p l = tt
 
-  integers_l : (o : Option ArithmeticOperator) (c : Option Comparison) (a b : ℤ) (p : Point) → Left p → Leaves (apply_to_integers o c a b p)
+  integers_l : (o : Option ArithmeticOperator) (c : Option Comparison) (a b : ℤ) (p : Point) → Left p →
+      Leaves (apply_to_integers o c a b p)
   integers_l (Some o) c a b p l = outcome_l (result_of o a b) p l
   integers_l None (Some c) a b p l = l
   integers_l None None a b p l = tt
@@ -138,7 +144,8 @@ module _ (s : System) (me : Reference) where
   applies_l op v [] p l = tt
   applies_l op v (u ∷ vs) p l = binary_l op u.value v (record p { values = vs }) l
 
-  right_l : (d : Option Bool) (short : Bool) (op : BinaryOperator) (i : ℕ) (e : tree.Expr) (u : Operand) (p : Point) → HasNoOld e → Left p →
+  right_l : (d : Option Bool) (short : Bool) (op : BinaryOperator) (i : ℕ) (e : tree.Expr) (u : Operand) (p : Point) →
+      HasNoOld e → Left p →
       Leaves (evals_right d short op i e u p)
   right_l (Some b) short op i e u p o l = l
   right_l None true op i e u p o l = (o, (tt, l))
@@ -154,89 +161,111 @@ module _ (s : System) (me : Reference) where
   binds_if_l true x v t p l = l
   binds_if_l false x v t p l = l
 
-  binds_l : (d : Option DeclaredType) (x : List ℕ) (v : Value) (t : Option EntityType) (p : Point) → Left p → Leaves (binds s me.handler d x v t p)
+  binds_l : (d : Option DeclaredType) (x : List ℕ) (v : Value) (t : Option EntityType) (p : Point) → Left p →
+      Leaves (binds s me.handler d x v t p)
   binds_l d x v None p l = tt
   binds_l d x v (Some t) p l = binds_if_l (is_tested s me.handler (handler_named p.environment) v d t) x v t p l
 
   -- ---- calls
 
-  enters_l : (x : List ℕ) (us : List Operand) (g : Option (Option EntityType)) (p : Point) → Left p → Leaves (enters_unqualified me x us g p)
+  enters_l : (x : List ℕ) (us : List Operand) (g : Option (Option EntityType)) (p : Point) → Left p →
+      Leaves (enters_unqualified me x us g p)
   enters_l x us None p l = tt
   enters_l x us (Some g) p l = l
 
-  own_l : (x : List ℕ) (f : Option DeclaredFeature) (us : List Operand) (p : Point) → Left p → Leaves (calls_own s me x f us p)
+  own_l : (x : List ℕ) (f : Option DeclaredFeature) (us : List Operand) (p : Point) → Left p →
+      Leaves (calls_own s me x f us p)
   own_l x None us p l = tt
   own_l x (Some f) us p l = enters_l x us (given_by (signature_of s (current (place_in s p.text)) f).gives) p l
 
-  unqualified_l : (x : List ℕ) (us : Option (List Operand × List Operand)) (p : Point) → Left p → Leaves (calls_unqualified s me x us p)
+  unqualified_l : (x : List ℕ) (us : Option (List Operand × List Operand)) (p : Point) → Left p →
+      Leaves (calls_unqualified s me x us p)
   unqualified_l x None p l = tt
-  unqualified_l x (Some (us, vs)) p l = own_l x (feature_named s (class.Declared p.text.class) x) us (record p { values = vs }) l
+  unqualified_l x (Some (us, vs)) p l = own_l x (feature_named s (class.Declared p.text.class) x) us
+      (record p { values = vs }) l
 
-  kind_l : (r : Reference) (x : List ℕ) (us : List Operand) (g : Option EntityType) (o : Object) (k : FeatureKind) (p : Point) → Left p →
+  kind_l : (r : Reference) (x : List ℕ) (us : List Operand) (g : Option EntityType) (o : Object) (k : FeatureKind)
+      (p : Point) → Left p →
       Leaves (calls_kind r x us g o k p)
   kind_l r x us (Some t) o (tree.Attribute d) p l = attribute_l (binding_named x o.attributes) t p l
   kind_l r x us None o (tree.Attribute d) p l = tt
   kind_l r x us (Some t) o (tree.Routine c) p l = l
   kind_l r x us None o (tree.Routine c) p l = l
 
-  version_l : (r : Reference) (x : List ℕ) (us : List Operand) (g : Option EntityType) (o : Option Object) (f : Option DeclaredFeature) (p : Point) → Left p →
+  version_l : (r : Reference) (x : List ℕ) (us : List Operand) (g : Option EntityType) (o : Option Object)
+      (f : Option DeclaredFeature) (p : Point) → Left p →
       Leaves (calls_version r x us g o f p)
   version_l r x us g (Some o) (Some f) p l = kind_l r x us g o f.feature.kind p l
   version_l r x us g (Some o) None p l = tt
   version_l r x us g None f p l = tt
 
-  requests_l : (r : Reference) (t : Tag) (x : List ℕ) (us : List Operand) (g : Option EntityType) (b : Bool) (p : Point) → Left p →
+  requests_l : (r : Reference) (t : Tag) (x : List ℕ) (us : List Operand) (g : Option EntityType) (b : Bool)
+      (p : Point) → Left p →
       Leaves (requests r t x us g b p)
   requests_l r tag.Own x us g b p l = tt
   requests_l r (tag.With y) x us g b p l = l
   requests_l r tag.Any x us g b p l = l
   requests_l r tag.None x us g b p l = l
 
-  object_l : (r : Reference) (t : EntityType) (x : List ℕ) (us : List Operand) (g : Signature) (gives : Option (Option EntityType)) (p : Point) → Left p →
+  object_l : (r : Reference) (t : EntityType) (x : List ℕ) (us : List Operand) (g : Signature)
+      (gives : Option (Option EntityType)) (p : Point) → Left p →
       Leaves (calls_object s me r t x us g gives p)
   object_l r t x us g None p l = tt
   object_l r t x us g (Some gives) p l =
-      if_l (r.handler == me.handler) (calls_version r x us gives (object_numbered r.number p.objects) (version_of s r.class x) p) (requests r t.tag x us gives (passes_rights g.formals us) p)
+      if_l (r.handler == me.handler)
+      (calls_version r x us gives (object_numbered r.number p.objects) (version_of s r.class x) p)
+      (requests r t.tag x us gives (passes_rights g.formals us) p)
       (version_l r x us gives (object_numbered r.number p.objects) (version_of s r.class x) p l)
       (requests_l r t.tag x us gives (passes_rights g.formals us) p l)
 
-  on_value_l : (x : List ℕ) (v : Value) (t : EntityType) (f : Option DeclaredFeature) (us : List Operand) (p : Point) → Left p →
+  on_value_l : (x : List ℕ) (v : Value) (t : EntityType) (f : Option DeclaredFeature) (us : List Operand)
+      (p : Point) → Left p →
       Leaves (calls_on s me x v t f us p)
   on_value_l x Void t f us p l = tt
   on_value_l x (Integer z) t f us p l = tt
   on_value_l x (Boolean b) t f us p l = tt
   on_value_l x (Attached r) t None us p l = tt
-  on_value_l x (Attached r) t (Some f) us p l = object_l r t x us (signature_of s t f) (given_by (signature_of s t f).gives) p l
+  on_value_l x (Attached r) t (Some f) us p l = object_l r t x us (signature_of s t f)
+      (given_by (signature_of s t f).gives) p l
 
-  qualified_l : (x : List ℕ) (us : Option (List Operand × List Operand)) (p : Point) → Left p → Leaves (calls_qualified s me x us p)
+  qualified_l : (x : List ℕ) (us : Option (List Operand × List Operand)) (p : Point) → Left p →
+      Leaves (calls_qualified s me x us p)
   qualified_l x None p l = tt
   qualified_l x (Some (us, [])) p l = tt
-  qualified_l x (Some (us, v ∷ vs)) p l = on_value_l x v.value v.type (feature_named s v.type.class x) us (record p { values = vs }) l
+  qualified_l x (Some (us, v ∷ vs)) p l = on_value_l x v.value v.type (feature_named s v.type.class x) us
+      (record p { values = vs }) l
 
   -- ---- creations
 
-  made_l : (r : Reference) (t : EntityType) (call : Option (List ℕ)) (us : List Operand) (p : Point) → Left p → Leaves (creates_object s r t call us p)
+  made_l : (r : Reference) (t : EntityType) (call : Option (List ℕ)) (us : List Operand) (p : Point) → Left p →
+      Leaves (creates_object s r t call us p)
   made_l r t (Some x) us p l = l
   made_l r t None us p l = if_l (meets_invariant s (fresh_object s r.class)) _ (fails cause.Invariant p) l tt
 
-  here_l : (k : ℕ) (t : EntityType) (call : Option (List ℕ)) (us : List Operand) (p : Point) → Left p → Leaves (creates_here s me k t call us p)
+  here_l : (k : ℕ) (t : EntityType) (call : Option (List ℕ)) (us : List Operand) (p : Point) → Left p →
+      Leaves (creates_here s me k t call us p)
   here_l k t call us p l = if_l (nat_lt (length p.objects) max_objects) _ (fails cause.TooManyObjects p)
-      (made_l (record { handler = me.handler; number = length p.objects + 1; class = k }) t call us (record p { objects = p.objects ++ fresh_object s k ∷ [] }) l) tt
+      (made_l (record { handler = me.handler; number = length p.objects + 1; class = k }) t call us
+      (record p { objects = p.objects ++ fresh_object s k ∷ [] }) l) tt
 
-  creates_at_l : (call : Option (List ℕ)) (t : EntityType) (g : Tag) (c : ClassId) (us : List Operand) (p : Point) → Left p →
+  creates_at_l : (call : Option (List ℕ)) (t : EntityType) (g : Tag) (c : ClassId) (us : List Operand)
+      (p : Point) → Left p →
       Leaves (creates_at s me call t g c us p)
   creates_at_l call t tag.Own (class.Declared k) us p l = here_l k t call us p l
   creates_at_l call t tag.Any (class.Declared k) us p l = l
   creates_at_l call t g c us p l = tt
 
-  creates_as_l : (call : Option (List ℕ)) (t : Option EntityType) (us : List Operand) (p : Point) → Left p → Leaves (creates_as s me call t us p)
+  creates_as_l : (call : Option (List ℕ)) (t : Option EntityType) (us : List Operand) (p : Point) → Left p →
+      Leaves (creates_as s me call t us p)
   creates_as_l call None us p l = tt
   creates_as_l call (Some t) us p l = creates_at_l call t t.tag t.class us p l
 
-  creates_l : (v : Variable) (call : Option (List ℕ)) (us : Option (List Operand × List Operand)) (p : Point) → Left p → Leaves (creates s me v call us p)
+  creates_l : (v : Variable) (call : Option (List ℕ)) (us : Option (List Operand × List Operand)) (p : Point) → Left p →
+      Leaves (creates s me v call us p)
   creates_l v call None p l = tt
   creates_l v call (Some (us, vs)) p l =
-      creates_as_l call (assignee_type (assigned_at s v p)) us (record p { tasks = AssignTo v ∷ p.tasks; values = vs }) (tt, l)
+      creates_as_l call (assignee_type (assigned_at s v p)) us
+      (record p { tasks = AssignTo v ∷ p.tasks; values = vs }) (tt, l)
 
   -- ---- expressions
 
@@ -248,15 +277,20 @@ module _ (s : System) (me : Reference) where
   reads_own_l None b p l = tt
   reads_own_l (Some t) b p l = attribute_l b t p l
 
-  begins_kind_l : (x : List ℕ) (k : FeatureKind) (i : ℕ) (es : Exprs) (p : Point) → HaveNoOld es → Left p → Leaves (begins_kind s me x k i es p)
-  begins_kind_l x (tree.Attribute d) i es p o l = reads_own_l (given_type s (current (place_in s p.text)) d) (binding_named x (attributes_of me.number p.objects)) p l
-  begins_kind_l x (tree.Routine r) i es p o l = behind_these (evals i es) (CallUnqualified x (count es)) p.tasks (evals_oldless i es o) tt l
+  begins_kind_l : (x : List ℕ) (k : FeatureKind) (i : ℕ) (es : Exprs) (p : Point) → HaveNoOld es → Left p →
+      Leaves (begins_kind s me x k i es p)
+  begins_kind_l x (tree.Attribute d) i es p o l = reads_own_l (given_type s (current (place_in s p.text)) d)
+      (binding_named x (attributes_of me.number p.objects)) p l
+  begins_kind_l x (tree.Routine r) i es p o l = behind_these (evals i es) (CallUnqualified x (count es)) p.tasks
+      (evals_oldless i es o) tt l
 
-  begins_feature_l : (x : List ℕ) (f : Option DeclaredFeature) (i : ℕ) (es : Exprs) (p : Point) → HaveNoOld es → Left p → Leaves (begins_feature s me x f i es p)
+  begins_feature_l : (x : List ℕ) (f : Option DeclaredFeature) (i : ℕ) (es : Exprs) (p : Point) → HaveNoOld es →
+      Left p → Leaves (begins_feature s me x f i es p)
   begins_feature_l x None i es p o l = tt
   begins_feature_l x (Some f) i es p o l = begins_kind_l x f.feature.kind i es p o l
 
-  begins_name_l : (x : List ℕ) (b : Option Binding) (i : ℕ) (es : Exprs) (p : Point) → HaveNoOld es → Left p → Leaves (begins_name s me x b i es p)
+  begins_name_l : (x : List ℕ) (b : Option Binding) (i : ℕ) (es : Exprs) (p : Point) → HaveNoOld es → Left p →
+      Leaves (begins_name s me x b i es p)
   begins_name_l x (Some b) i es p o l = reads_as_l b.type b.value b.type p l
   begins_name_l x None i es p o l = begins_feature_l x (feature_named s (class.Declared p.text.class) x) i es p o l
 
@@ -266,7 +300,8 @@ module _ (s : System) (me : Reference) where
   evaluate_l i (tree.Void q) p o l = l
   evaluate_l i (tree.Current q) p o l = l
   evaluate_l i (tree.Result q) p o l = result_l p.result p.text.result p l
-  evaluate_l i (tree.Call q tree.no_target x es) p o l = begins_name_l x.text (binding_named x.text p.environment) i es p o l
+  evaluate_l i (tree.Call q tree.no_target x es) p o l = begins_name_l x.text
+      (binding_named x.text p.environment) i es p o l
   evaluate_l i (tree.Call q (tree.target a) x es) p o l = (
     left_none (olds_of a) (olds_of_each es) o,
     behind_these (evals (i + olds_in a) es) (CallQualified x.text (count es)) p.tasks
@@ -276,7 +311,8 @@ module _ (s : System) (me : Reference) where
   evaluate_l i (tree.Unary q unary.Not a) p o l = (o, (tt, l))
   evaluate_l i (tree.Unary q unary.Plus a) p o l = (o, (tt, l))
   evaluate_l i (tree.Unary q unary.Minus a) p o l = (o, (tt, l))
-  evaluate_l i (tree.Binary q op a b) p o l = (left_none (olds_of a) (olds_of b) o, (right_none (olds_of a) (olds_of b) o, l))
+  evaluate_l i (tree.Binary q op a b) p o l =
+      (left_none (olds_of a) (olds_of b) o, (right_none (olds_of a) (olds_of b) o, l))
   evaluate_l i (tree.ObjectTest q d a x) p o l = (o, (tt, l))
 
   -- ---- instructions
@@ -293,17 +329,20 @@ module _ (s : System) (me : Reference) where
   prints_l Void p l = tt
   prints_l (Attached r) p l = tt
 
-  other_l : (depth : ℕ) (bs : Branches) (other : Instrs) (p : Point) → OldlessBranches bs → OldlessInstrs other → Left p → Leaves (chooses_other depth bs other p)
+  other_l : (depth : ℕ) (bs : Branches) (other : Instrs) (p : Point) → OldlessBranches bs → OldlessInstrs other →
+      Left p → Leaves (chooses_other depth bs other p)
   other_l depth no_branches other p o a l = (a, l)
   other_l depth (branch_then e body bs) other p o a l = (o.0, ((o.1.0, (o.1.1, a)), l))
 
-  chooses_l : (depth : ℕ) (v : Value) (body : Instrs) (bs : Branches) (other : Instrs) (p : Point) → OldlessInstrs body → OldlessBranches bs → OldlessInstrs other →
+  chooses_l : (depth : ℕ) (v : Value) (body : Instrs) (bs : Branches) (other : Instrs) (p : Point) →
+      OldlessInstrs body → OldlessBranches bs → OldlessInstrs other →
       Left p → Leaves (chooses depth v body bs other p)
   chooses_l depth (Boolean true) body bs other p o a b l = (o, (tt, l))
   chooses_l depth (Boolean false) body bs other p o a b l = other_l depth bs other (forgets depth p) a b l
   chooses_l depth v body bs other p o a b l = tt
 
-  ends_loop_l : (v : Value) (e : tree.Expr) (body : Instrs) (p : Point) → HasNoOld e → OldlessInstrs body → Left p → Leaves (ends_loop v e body p)
+  ends_loop_l : (v : Value) (e : tree.Expr) (body : Instrs) (p : Point) → HasNoOld e → OldlessInstrs body → Left p →
+      Leaves (ends_loop v e body p)
   ends_loop_l (Boolean true) e body p o a l = l
   ends_loop_l (Boolean false) e body p o a l = (a, ((o, a), l))
   ends_loop_l v e body p o a l = tt
@@ -313,15 +352,18 @@ module _ (s : System) (me : Reference) where
   tests_l why (Boolean false) p l = tt
   tests_l why v p l = tt
 
-  opens_l : (xs : List Name) (body : Instrs) (us : Option (List Operand × List Operand)) (p : Point) → OldlessInstrs body → Left p → Leaves (opens xs body us p)
+  opens_l : (xs : List Name) (body : Instrs) (us : Option (List Operand × List Operand)) (p : Point) →
+      OldlessInstrs body → Left p → Leaves (opens xs body us p)
   opens_l xs body None p o l = tt
   opens_l xs body (Some (us, vs)) p o l = (o, (tt, l))
 
-  routine_l : (b : Bool) (x : List ℕ) (es : Exprs) (p : Point) → HaveNoOld es → Left p → Leaves (begins_routine b x es p)
+  routine_l : (b : Bool) (x : List ℕ) (es : Exprs) (p : Point) → HaveNoOld es → Left p →
+      Leaves (begins_routine b x es p)
   routine_l true x no_exprs p o l = tt
   routine_l true x (expr_then e no_exprs) p o l = (left_none (olds_of e) [] o, (tt, l))
   routine_l true x (expr_then e (expr_then d es)) p o l = tt
-  routine_l false x es p o l = behind_these (evals 0 es) (CallUnqualified x (count es)) p.tasks (evals_oldless 0 es o) tt l
+  routine_l false x es p o l = behind_these (evals 0 es) (CallUnqualified x (count es)) p.tasks
+      (evals_oldless 0 es o) tt l
 
   called : (c : Option CreationCall) → CallHasNoOld c → HaveNoOld (actuals_of c)
   called None o = refl
@@ -334,7 +376,8 @@ module _ (s : System) (me : Reference) where
   begins_l (tree.CallRoutine q (tree.target a) x es) p o l =
       (o.0, behind_these (evals 0 es) (CallQualified x.text (count es)) p.tasks (evals_oldless 0 es o.1) tt l)
   begins_l (tree.Create q c) p o l =
-      behind_these (evals 0 (actuals_of c.call)) (CreateBy c.variable (procedure_of c.call) (count (actuals_of c.call))) p.tasks
+      behind_these (evals 0 (actuals_of c.call))
+      (CreateBy c.variable (procedure_of c.call) (count (actuals_of c.call))) p.tasks
       (evals_oldless 0 (actuals_of c.call) (called c.call o)) tt l
   begins_l (tree.If q e body bs other) p o l = (o.0, ((o.1.0, (o.1.1.0, o.1.1.1)), l))
   begins_l (tree.Loop q initial e body) p o l = (o.0, ((o.1.0, o.1.1), l))
@@ -363,13 +406,16 @@ module _ (s : System) (me : Reference) where
   performs_l KeepOld vs p o l = absurd o
   performs_l Ensured vs p o l = absurd o
   performs_l (ApplyUnary op) (u ∷ vs) p o l = unary_l op u.value (record p { values = vs }) l
-  performs_l (EvalRight op i right) (u ∷ vs) p o l = right_l (decided_by op u.value) (is_short op) op i right u (record p { values = vs }) o l
+  performs_l (EvalRight op i right) (u ∷ vs) p o l = right_l (decided_by op u.value) (is_short op) op i right u
+      (record p { values = vs }) o l
   performs_l (ApplyBinary op) (u ∷ vs) p o l = applies_l op u.value vs (record p { values = vs }) l
   performs_l Conclude (u ∷ vs) p o l = concludes_l u.value (record p { values = vs }) l
-  performs_l (Bind d x) (u ∷ vs) p o l = binds_l d x u.value (test_type (place_in s p.text) d (Some u.type)) (record p { values = vs }) l
+  performs_l (Bind d x) (u ∷ vs) p o l = binds_l d x u.value (test_type (place_in s p.text) d (Some u.type))
+      (record p { values = vs }) l
   performs_l (AssignTo x) (u ∷ vs) p o l = assigns_l x (assigned_at s x p) u.value (record p { values = vs }) l
   performs_l Print (u ∷ vs) p o l = prints_l u.value (record p { values = vs }) l
-  performs_l (Choose depth body bs other) (u ∷ vs) p o l = chooses_l depth u.value body bs other (record p { values = vs }) o.0 o.1.0 o.1.1 l
+  performs_l (Choose depth body bs other) (u ∷ vs) p o l = chooses_l depth u.value body bs other
+      (record p { values = vs }) o.0 o.1.0 o.1.1 l
   performs_l (EndLoop until body) (u ∷ vs) p o l = ends_loop_l u.value until body (record p { values = vs }) o.0 o.1 l
   performs_l Checked (u ∷ vs) p o l = tests_l cause.Check u.value (record p { values = vs }) l
   performs_l t [] p o l = tt

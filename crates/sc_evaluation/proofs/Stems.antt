@@ -33,13 +33,17 @@ pub record Stem (s : System) (r : Routine) : Type 0 where
   pub original : RoutineDeclaration
   pub has_body : IsDeclared s feature own
   pub has_contract : IsDeclared s origin original
-  pub is_made : routine_with s feature.feature.name.text feature.class (tree.Routine own) origin.class (tree.Routine original) ≡ Some r
+  pub is_made : routine_with s feature.feature.name.text feature.class (tree.Routine own) origin.class
+      (tree.Routine original) ≡ Some r
 
-module _ (s : System) (root : Root) (pure : RoutineName → Bool) (faultless : IsFaultless s root) (well : WellFormed s) (tells : IsPurity s pure) where
-  declared_there : (k : ℕ) (x : List ℕ) (f : DeclaredFeature) (routine : RoutineDeclaration) → StandsInText s k x f → f.feature.kind ≡ tree.Routine routine → IsDeclared s f routine
+module _ (s : System) (root : Root) (pure : RoutineName → Bool) (faultless : IsFaultless s root) (well : WellFormed s)
+    (tells : IsPurity s pure) where
+  declared_there : (k : ℕ) (x : List ℕ) (f : DeclaredFeature) (routine : RoutineDeclaration) → StandsInText s k x f →
+      f.feature.kind ≡ tree.Routine routine → IsDeclared s f routine
   declared_there k x f routine a m = record { class = a.class; is_class = a.is_class; declares = a.declares; kind = m }
 
-  of_feature : (k : ℕ) (x : List ℕ) (f : DeclaredFeature) (r : Routine) → version_of s k x ≡ Some f → routine_of s f ≡ Some r → Stem s r
+  of_feature : (k : ℕ) (x : List ℕ) (f : DeclaredFeature) (r : Routine) → version_of s k x ≡ Some f →
+      routine_of s f ≡ Some r → Stem s r
   of_feature k x f r e i = by_kind f.feature.kind refl
     where
       by_origin : (own : RoutineDeclaration) → f.feature.kind ≡ tree.Routine own → HasOrigin s k x f → Stem s r
@@ -48,27 +52,35 @@ module _ (s : System) (root : Root) (pure : RoutineName → Bool) (faultless : I
           ∙ sym (ap (routine_from s f) (origin_is s root faultless f ∙ h.is_origin)) ∙ i)
         where
           by : (n : FeatureKind) → h.origin.feature.kind ≡ n →
-              routine_with s f.feature.name.text f.class (tree.Routine own) h.origin.class h.origin.feature.kind ≡ Some r → Stem s r
+              routine_with s f.feature.name.text f.class (tree.Routine own) h.origin.class h.origin.feature.kind
+              ≡ Some r → Stem s r
           by (tree.Attribute d) n j =
-              let no : None ≡ Some r = sym (ap (λ n. routine_with s f.feature.name.text f.class (tree.Routine own) h.origin.class n) n) ∙ j in cc
+              let no : None ≡ Some r =
+              sym (ap (λ n. routine_with s f.feature.name.text f.class
+              (tree.Routine own) h.origin.class n) n) ∙ j in cc
           by (tree.Routine original) n j = record {
             feature = f;
             origin = h.origin;
             own = own;
             original = original;
             has_body = declared_there k x f own (found_stands s k x f e) m;
-            has_contract = declared_there h.origin.class x h.origin original (found_stands s h.origin.class x h.origin h.is_feature_there) n;
-            is_made = sym (ap (λ n. routine_with s f.feature.name.text f.class (tree.Routine own) h.origin.class n) n) ∙ j;
+            has_contract = declared_there h.origin.class x h.origin original
+                (found_stands s h.origin.class x h.origin h.is_feature_there) n;
+            is_made = sym (ap (λ n. routine_with s f.feature.name.text f.class
+                (tree.Routine own) h.origin.class n) n) ∙ j;
           }
 
-      none_made : (d : DeclaredType) (o : Option DeclaredFeature) → f.feature.kind ≡ tree.Attribute d → routine_from s f o ≡ Some r → ⊥
+      none_made : (d : DeclaredType) (o : Option DeclaredFeature) → f.feature.kind ≡ tree.Attribute d →
+          routine_from s f o ≡ Some r → ⊥
       none_made d None is i = cc
       none_made d (Some o) is i =
-          let no : None ≡ Some r = sym (ap (λ m. routine_with s f.feature.name.text f.class m o.class o.feature.kind) is) ∙ i in cc
+          let no : None ≡ Some r =
+          sym (ap (λ m. routine_with s f.feature.name.text f.class m o.class o.feature.kind) is) ∙ i in cc
 
       by_kind : (m : FeatureKind) → f.feature.kind ≡ m → Stem s r
       by_kind (tree.Attribute d) is = absurd (none_made d (origin_of s f) is i)
-      by_kind (tree.Routine own) is = by_origin own is (contracts_are_kept s root faultless (declared s pure tells well) k x f e own is).0
+      by_kind (tree.Routine own) is =
+          by_origin own is (contracts_are_kept s root faultless (declared s pure tells well) k x f e own is).0
 
   -- Each routine that an object of a class has of a name is made so.
   pub stem : (k : ℕ) (x : List ℕ) (r : Routine) → routine_named s k x ≡ Some r → Stem s r

@@ -25,6 +25,7 @@ use Rattle.sc_model.specs.Olds.{olds_in, olds_of, olds_of_each, olds_of_clauses}
 use Rattle.sc_model.specs.Routines.{Routine}
 use Rattle.sc_model.specs.Tasks.{ensures, keeps_olds, requires}
 use Rattle.sc_values.specs.Points.{Each}
+use Rattle.sc_values.proofs.Applying.{plain_operand}
 use Rattle.sc_values.proofs.Lists.{each_append}
 use Rattle.sc_evaluation.specs.Laws.{IsWithoutTests, TextsAreTestless}
 use Rattle.sc_evaluation.specs.Texts.{ClauseHasNoTest, HasNoTest, HaveNoTest, IsOfContract}
@@ -33,18 +34,14 @@ use Rattle.sc_evaluation.proofs.Stems.{IsDeclared, Stem, ensure_is, require_is, 
 
 -- ---- typed where no condition stands
 
-plain_operand : (op : BinaryOperator) → is_condition (operand_position op) ≡ false
-plain_operand binary.Equal = refl
-plain_operand binary.NotEqual = refl
-plain_operand op = refl
-
 not_joined : (q : Position) (op : BinaryOperator) → is_condition q ≡ false → shares_names q op ≡ true → ⊥
 not_joined Condition op e i = cc
 not_joined Plain op e i = cc
 not_joined Source op e i = cc
 
 mutual
-  no_test : {h : RoutineContext} {c : Context} {q : Position} {n : Entities} {e : Expr} {t : Typing} → is_condition q ≡ false → HasType h c q n e t → HasNoTest e
+  no_test : {h : RoutineContext} {c : Context} {q : Position} {n : Entities} {e : Expr} {t : Typing} →
+      is_condition q ≡ false → HasType h c q n e t → HasNoTest e
   no_test i typing.number = tt
   no_test i typing.truth = tt
   no_test i (typing.void e) = tt
@@ -58,7 +55,8 @@ mutual
   no_test {q} i (typing.and_then {op} j d g d' e) = absurd (not_joined q op i j)
   no_test i (typing.test e d) = cc
 
-  no_tests : {h : RoutineContext} {c : Context} {n : Entities} {es : Exprs} {ts : List Typing} → HasTypes h c n es ts → HaveNoTest es
+  no_tests : {h : RoutineContext} {c : Context} {n : Entities} {es : Exprs} {ts : List Typing} →
+      HasTypes h c n es ts → HaveNoTest es
   no_tests typing.none = tt
   no_tests (typing.more d ds) = (no_test refl d, no_tests ds)
 
@@ -72,21 +70,25 @@ mutual
   olds_testless (tree.Current q) o = tt
   olds_testless (tree.Result q) o = tt
   olds_testless (tree.Call q tree.no_target x es) o = each_testless es o
-  olds_testless (tree.Call q (tree.target a) x es) o = each_append HasNoTest (olds_of a) (olds_of_each es) (olds_testless a o.0) (each_testless es o.1)
+  olds_testless (tree.Call q (tree.target a) x es) o = each_append HasNoTest (olds_of a) (olds_of_each es)
+      (olds_testless a o.0) (each_testless es o.1)
   olds_testless (tree.Unary q unary.Old a) o = (o, tt)
   olds_testless (tree.Unary q unary.Not a) o = olds_testless a o
   olds_testless (tree.Unary q unary.Plus a) o = olds_testless a o
   olds_testless (tree.Unary q unary.Minus a) o = olds_testless a o
-  olds_testless (tree.Binary q op a b) o = each_append HasNoTest (olds_of a) (olds_of b) (olds_testless a o.0) (olds_testless b o.1)
+  olds_testless (tree.Binary q op a b) o = each_append HasNoTest (olds_of a) (olds_of b) (olds_testless a o.0)
+      (olds_testless b o.1)
   olds_testless (tree.ObjectTest q d a x) o = absurd o
 
   each_testless : (es : Exprs) → HaveNoTest es → Each HasNoTest (olds_of_each es)
   each_testless no_exprs o = tt
-  each_testless (expr_then e es) o = each_append HasNoTest (olds_of e) (olds_of_each es) (olds_testless e o.0) (each_testless es o.1)
+  each_testless (expr_then e es) o = each_append HasNoTest (olds_of e) (olds_of_each es) (olds_testless e o.0)
+      (each_testless es o.1)
 
 clauses_testless : (ks : List Clause) → Each ClauseHasNoTest ks → Each HasNoTest (olds_of_clauses ks)
 clauses_testless [] o = tt
-clauses_testless (k ∷ ks) o = each_append HasNoTest (olds_of k.condition) (olds_of_clauses ks) (olds_testless k.condition o.0) (clauses_testless ks o.1)
+clauses_testless (k ∷ ks) o = each_append HasNoTest (olds_of k.condition) (olds_of_clauses ks)
+    (olds_testless k.condition o.0) (clauses_testless ks o.1)
 
 -- ---- tasks of contracts
 
@@ -107,20 +109,24 @@ without_tests r o e = record {
   require = o;
   olds = clauses_testless r.ensure e;
   ensure = e;
-  before = each_append IsOfContract (requires r.require) (keeps_olds (olds_of_clauses r.ensure)) (requires_of_contract r.require o)
+  before = each_append IsOfContract (requires r.require) (keeps_olds (olds_of_clauses r.ensure))
+      (requires_of_contract r.require o)
       (keeps_of_contract (olds_of_clauses r.ensure) (clauses_testless r.ensure e));
   behind = ensures_of_contract 0 r.ensure e;
 }
 
 -- ---- routines of accepted systems
 
-module _ (s : System) (pure : RoutineName → Bool) (well : WellFormed s) (tells : IsPurity s pure) (f : DeclaredFeature) (routine : RoutineDeclaration)
+module _ (s : System) (pure : RoutineName → Bool) (well : WellFormed s) (tells : IsPurity s pure) (f : DeclaredFeature)
+    (routine : RoutineDeclaration)
     (d : IsDeclared s f routine) where
   abbrev judged : RoutineContext
   judged = context_of s pure f.class routine
 
-  clause_testless : (c : Context) (k : Clause) → Stands s pure judged (expression c Plain (formals_known s routine.formals) k.condition) → HasNoTest k.condition
-  clause_testless c k w = no_test refl (each_is_typed_lem s pure well tells judged c Plain (formals_known s routine.formals) k.condition w).2
+  clause_testless : (c : Context) (k : Clause) →
+      Stands s pure judged (expression c Plain (formals_known s routine.formals) k.condition) → HasNoTest k.condition
+  clause_testless c k w = no_test refl
+      (each_is_typed_lem s pure well tells judged c Plain (formals_known s routine.formals) k.condition w).2
 
   require_testless : Each ClauseHasNoTest routine.precondition
   require_testless = each_from ClauseHasNoTest routine.precondition
@@ -130,10 +136,13 @@ module _ (s : System) (pure : RoutineName → Bool) (well : WellFormed s) (tells
   ensure_testless = each_from ClauseHasNoTest routine.postcondition
       (λ k l. clause_testless context.Ensure k (stands_in (laws.postcondition d.is_class d.declares d.kind l) itself))
 
-texts_testless : (s : System) (pure : RoutineName → Bool) → WellFormed s → IsPurity s pure → (r : Routine) → Stem s r → IsWithoutTests r
+texts_testless : (s : System) (pure : RoutineName → Bool) → WellFormed s → IsPurity s pure → (r : Routine) → Stem s r →
+    IsWithoutTests r
 texts_testless s pure well tells r m = without_tests r
-    (subst (Each ClauseHasNoTest) (require_is s r m) (require_testless s pure well tells m.origin m.original m.has_contract))
-    (subst (Each ClauseHasNoTest) (ensure_is s r m) (ensure_testless s pure well tells m.origin m.original m.has_contract))
+    (subst (Each ClauseHasNoTest) (require_is s r m)
+    (require_testless s pure well tells m.origin m.original m.has_contract))
+    (subst (Each ClauseHasNoTest) (ensure_is s r m)
+    (ensure_testless s pure well tells m.origin m.original m.has_contract))
 
 pub texts_are_testless : TextsAreTestless
 texts_are_testless s root faultless well k x r e = by (purity_stands s)

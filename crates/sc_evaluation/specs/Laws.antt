@@ -24,34 +24,39 @@ EndsTrueHolds = (s : System) (w : World) (f : Frame) (k : Clause) (M : ℕ → T
     (clause_point (w.handlers f.current.handler).objects f.routine.contract f.environment f.result k) →
     Holds s w f k
 
--- An evaluation depends on the objects of those alone that it may ask.
+-- What a call gives depends on the objects of those handlers alone that may be asked.
 abbrev pub AnswersLocally : Type 1
 AnswersLocally = (s : System) (M : ℕ → Type 0) (O N : ℕ → List Object) → ((k : ℕ) → M k → O k ≡ N k) →
     (r : Reference) (x : List ℕ) (us : List Operand) (v : Value) → Answers s M O r x us v → Answers s M N r x us v
 
+-- So does where a text comes to.
 abbrev pub ReachesLocally : Type 1
 ReachesLocally = (s : System) (M : ℕ → Type 0) (O N : ℕ → List Object) → ((k : ℕ) → M k → O k ≡ N k) →
     (me : Reference) (p q : Point) → Reaches s M O me p q → Reaches s M N me p q
 
+-- So does the evaluation of a clause.
 abbrev pub EndsTrueLocally : Type 1
 EndsTrueLocally = (s : System) (M : ℕ → Type 0) (O N : ℕ → List Object) → ((k : ℕ) → M k → O k ≡ N k) →
     (me : Reference) (p : Point) → EndsTrue s M O me p → EndsTrue s M N me p
 
--- It stays one where more may be asked.
+-- A call gives the same where more handlers may be asked.
 abbrev pub AnswersMore : Type 1
 AnswersMore = (s : System) (M N : ℕ → Type 0) (O : ℕ → List Object) → ((k : ℕ) → M k → N k) →
     (r : Reference) (x : List ℕ) (us : List Operand) (v : Value) → Answers s M O r x us v → Answers s N O r x us v
 
+-- A text comes to the same.
 abbrev pub ReachesMore : Type 1
 ReachesMore = (s : System) (M N : ℕ → Type 0) (O : ℕ → List Object) → ((k : ℕ) → M k → N k) →
     (me : Reference) (p q : Point) → Reaches s M O me p q → Reaches s N O me p q
 
+-- An evaluation that ends with true still does.
 abbrev pub EndsTrueMore : Type 1
 EndsTrueMore = (s : System) (M N : ℕ → Type 0) (O : ℕ → List Object) → ((k : ℕ) → M k → N k) →
     (me : Reference) (p : Point) → EndsTrue s M O me p → EndsTrue s N O me p
 
 -- ---- evaluations that ask those for whom a test is true
 
+-- the handlers for which the test is true
 abbrev pub Told : (ℕ → Bool) → ℕ → Type 0
 Told may k = may k ≡ true
 
@@ -62,7 +67,7 @@ TrueEvaluationsHold = (s : System) (w : World) (f : Frame) (k : Clause) (may : �
     (clause_point (w.handlers f.current.handler).objects f.routine.contract f.environment f.result k) →
     Holds s w f k
 
--- What a call gives depends on the objects of those alone that may be asked.
+-- What a call gives depends on the objects of those handlers alone that may be asked.
 abbrev pub AnswersAreLocal : Type 0
 AnswersAreLocal = (s : System) (may : ℕ → Bool) (O N : ℕ → List Object) → ((k : ℕ) → may k ≡ true → O k ≡ N k) →
     (r : Reference) (x : List ℕ) (us : List Operand) (v : Value) → Answers s (Told may) O r x us v →
@@ -73,7 +78,7 @@ abbrev pub EvaluationsAreLocal : Type 0
 EvaluationsAreLocal = (s : System) (may : ℕ → Bool) (O N : ℕ → List Object) → ((k : ℕ) → may k ≡ true → O k ≡ N k) →
     (me : Reference) (p : Point) → EndsTrue s (Told may) O me p → EndsTrue s (Told may) N me p
 
--- It stays one where more may be asked.
+-- An evaluation that ends with true still does where more handlers may be asked.
 abbrev pub EvaluationsMayAskMore : Type 0
 EvaluationsMayAskMore = (s : System) (may more : ℕ → Bool) (O : ℕ → List Object) →
     ((k : ℕ) → may k ≡ true → more k ≡ true) →
@@ -84,14 +89,15 @@ EvaluationsMayAskMore = (s : System) (may more : ℕ → Bool) (O : ℕ → List
 -- A step of a task without `old` is the same whatever stands behind it, and whatever the `old`s are.
 abbrev pub StepExtends : Type 0
 StepExtends = (s : System) (me : Reference) (os : List Operand) (ts : List Task) (p : Point) (t : Task)
-    (rest : List Task) → p.tasks ≡ t ∷ rest → IsOldless t → step s me (extended os ts p) ≡ extended_step os ts (step s me p)
+    (rest : List Task) → p.tasks ≡ t ∷ rest → IsOldless t →
+    step s me (extended os ts p) ≡ extended_step os ts (step s me p)
 
 -- where a step comes to
 abbrev pub point_after : Step → Point
 point_after (Goes p) = p
 point_after (Does a p) = p
 
--- Tasks without `old` leave such tasks.
+-- A step of tasks without `old` leaves such tasks.
 abbrev pub StepOldless : Type 0
 StepOldless = (s : System) (me : Reference) (p : Point) → Each IsOldless p.tasks →
     Each IsOldless (point_after (step s me p)).tasks
@@ -101,6 +107,7 @@ pub record IsWithoutOld (r : Routine) : Type 0 where
   pub body : OldlessInstrs r.body
   pub require : (k : Clause) → Contains r.require k → HasNoOld k.condition
 
+-- So is each routine that is found by a name.
 abbrev pub TextsAreOldless : Type 0
 TextsAreOldless = WhereAccepted λ s root. (k : ℕ) (x : List ℕ) (r : Routine) → routine_named s k x ≡ Some r →
     IsWithoutOld r
@@ -141,6 +148,7 @@ pub record IsWithoutTests (r : Routine) : Type 0 where
   pub before : Each IsOfContract (requires r.require ++ keeps_olds (olds_of_clauses r.ensure))
   pub behind : Each IsOfContract (ensures 0 r.ensure)
 
+-- So is each routine that is found by a name.
 abbrev pub TextsAreTestless : Type 0
 TextsAreTestless = WhereAccepted λ s root. (k : ℕ) (x : List ℕ) (r : Routine) → routine_named s k x ≡ Some r →
     IsWithoutTests r

@@ -1,4 +1,4 @@
--- Texts and tasks in which no `old` stands, and those of contracts.
+-- Texts and tasks in which no `old` stands, and those of contracts, in which no object test stands.
 use Rattle.std.specs.Prelude.{◌≡◌, Option, Some, None, length}
 use Rattle.sc_tree.specs.Plain as tree
 use Rattle.sc_tree.specs.Plain.{Clause, CreationCall, Head, Expr, Exprs, no_exprs, expr_then, Instr, Instrs, no_instrs, instr_then, Branches, no_branches, branch_then}
@@ -12,20 +12,24 @@ use Rattle.sc_values.specs.Points.{Each}
 abbrev pub HasNoOld : Expr → Type 0
 HasNoOld e = olds_in e ≡ 0
 
+-- nor in these
 abbrev pub HaveNoOld : Exprs → Type 0
 HaveNoOld es = length (olds_of_each es) ≡ 0
 
+-- nor in the clause's condition
 abbrev pub ClauseHasNoOld : Clause → Type 0
 ClauseHasNoOld k = HasNoOld k.condition
 
+-- nor in the value that a separate block names
 abbrev pub HeadHasNoOld : Head → Type 0
 HeadHasNoOld d = HasNoOld d.value
 
--- the actuals of a creation procedure
+-- nor in the actuals of a creation procedure
 abbrev pub CallHasNoOld : Option CreationCall → Type 0
 CallHasNoOld None = Unit {0}
 CallHasNoOld (Some k) = HaveNoOld k.actuals
 
+-- no `old` stands in the instruction
 abbrev mutual
   pub OldlessInstr : Instr → Type 0
   OldlessInstr (tree.Assign q v e) = HasNoOld e
@@ -79,6 +83,7 @@ IsOldless (Leave depth) = Unit {0}
 
 -- ---- texts without object tests
 
+-- no object test stands in the expression
 abbrev mutual
   pub HasNoTest : Expr → Type 0
   HasNoTest (tree.Call q tree.no_target x es) = HaveNoTest es
@@ -92,6 +97,7 @@ abbrev mutual
   HaveNoTest no_exprs = Unit {0}
   HaveNoTest (expr_then e es) = HasNoTest e × HaveNoTest es
 
+-- nor in the clause's condition
 abbrev pub ClauseHasNoTest : Clause → Type 0
 ClauseHasNoTest k = HasNoTest k.condition
 

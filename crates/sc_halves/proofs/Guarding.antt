@@ -118,13 +118,14 @@ none_lies [] = refl
 none_lies (None ∷ xs) = none_lies xs
 none_lies (Some k ∷ xs) = none_lies xs
 
-no_wait : (xs : List (Option ℕ)) → verdict_of_false (clause_kind [] xs) ≡ verdict.Wait → ⊥
+-- a false clause that no reserved handler is among is refused
+pub no_wait : (xs : List (Option ℕ)) → verdict_of_false (clause_kind [] xs) ≡ verdict.Wait → ⊥
 no_wait xs e = refused (subst (λ (b : Bool). verdict_of_false (kind_where b) ≡ verdict.Wait) (none_lies xs) e)
   where
     refused : verdict.Refuse ≡ verdict.Wait → ⊥
     refused e = cc
 
-pure_waits_not : (f : Frame) (k : Clause) → f.reserved ≡ [] → verdict_on f k ≡ verdict.Wait → ⊥
+pub pure_waits_not : (f : Frame) (k : Clause) → f.reserved ≡ [] → verdict_on f k ≡ verdict.Wait → ⊥
 pure_waits_not f k none e =
     let xs = formals_among f.environment (names_in k.condition) in
     no_wait xs (subst (λ (ks : List ℕ). verdict_of_false (clause_kind ks xs) ≡ verdict.Wait) none e)

@@ -37,6 +37,7 @@ use Rattle.sc_halves.proofs.Calming.{moves_calm}
 use Rattle.sc_halves.proofs.Keeping.{entries_stay}
 use Rattle.sc_halves.proofs.Guarding.{reservers_on_started}
 use Rattle.sc_halves.proofs.Linking.{one_further}
+use Rattle.sc_halves.proofs.Guarding.{no_wait}
 use Rattle.sc_halves.proofs.Reaching.{reached_halves}
 use Rattle.sc_halves.proofs.Recalling.{Recalls, AllRecall, IsLeft, Turned, turn_turned}
 
@@ -48,18 +49,6 @@ abbrev Remember : machine.World → State → Type 0
 Remember w c = (k : ℕ) → KeepsEntry (c.handlers k) × AllRecall (c.handlers k).entry (w.handlers k).stack
 
 -- ---- an entry that waits
-
-none_lies : (xs : List (Option ℕ)) → list_any (lies_on_any []) xs ≡ false
-none_lies [] = refl
-none_lies (None ∷ xs) = none_lies xs
-none_lies (Some k ∷ xs) = none_lies xs
-
--- an entry that newly reserved nothing doesn't wait
-no_wait : (xs : List (Option ℕ)) → verdict_of_false (clause_kind [] xs) ≡ verdict.Wait → ⊥
-no_wait xs e = refused (subst (λ (b : Bool). verdict_of_false (kind_where b) ≡ verdict.Wait) (none_lies xs) e)
-  where
-    refused : verdict.Refuse ≡ verdict.Wait → ⊥
-    refused e = cc
 
 remembers : (s : System) (h : ℕ) (w : machine.World) (c : State) → Remember w c → RemembersEntry s h w c
 remembers s h w c r f below k p stack goes is waits = by (subst (AllRecall (c.handlers h).entry) stack (r h).1).0

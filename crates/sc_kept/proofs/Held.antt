@@ -45,8 +45,10 @@ module _ (t : World) (m : machine.World) (law : IsLawful t) (stands : Stands t m
       → (HasGrant x r.number (t.queue k) → x ≡ g) × (HasGrant x r.number (t.top k) → x ≡ g)
   granted_here r one waited k x = ⊎_elim
       (λ a. a.2 k x)
-      (λ (a : (v : Wait) × IsOpen v (t.handlers r.poster) × (v.number ≡ r.number) × (v.target ≡ g) × (v.passing ≡ _) × (v.asked ≡ r.asked)). (
-        (λ i. law.consistent.queue_grants k r.poster x a.0 a.1.0 (subst (λ n. HasGrant x n (t.queue k)) (sym a.2) i) ∙ a.3),
+      (λ (a : (v : Wait) × IsOpen v (t.handlers r.poster) × (v.number ≡ r.number) × (v.target ≡ g) × (v.passing ≡ _)
+      × (v.asked ≡ r.asked)). (
+        (λ i. law.consistent.queue_grants k r.poster x a.0 a.1.0
+            (subst (λ n. HasGrant x n (t.queue k)) (sym a.2) i) ∙ a.3),
         (λ i. law.consistent.top_grants k r.poster x a.0 a.1.0 (subst (λ n. HasGrant x n (t.top k)) (sym a.2) i) ∙ a.3),
       ))
       (law.consistent.clients g r one waited)
@@ -58,7 +60,8 @@ module _ (t : World) (m : machine.World) (law : IsLawful t) (stands : Stands t m
         (pair_one (standing (t.handlers g)) (requests_at (m.handlers g)) e.request q e.pair)
 
     was_passed : e.request.passed ≡ Some p
-    was_passed = (pair_is (standing (t.handlers g)) (requests_at (m.handlers g)) e.request q (paired_at t m law stands g) e.pair).passed ∙ passed
+    was_passed = (pair_is (standing (t.handlers g)) (requests_at (m.handlers g)) e.request q
+        (paired_at t m law stands g) e.pair).passed ∙ passed
 
     is_waited : e.request.waited ≡ true
     is_waited = by e.request.waited refl
@@ -75,7 +78,8 @@ module _ (t : World) (m : machine.World) (law : IsLawful t) (stands : Stands t m
         let n = e.request.number in
         let h = grant_of n (t.queue k) (returns_granted n o (t.queue k) l) in
         let mine = (granted_here e.request stands_here is_waited k h.0).0 h.1 in
-        first_holder g n (t.queue k) (lifo t Nobody g n e.older (λ lo i a. a) (still_lives t m law stands g e.request stands_here)
+        first_holder g n (t.queue k)
+        (lifo t Nobody g n e.older (λ lo i a. a) (still_lives t m law stands g e.request stands_here)
         (t.queue k) (law.consistent.queue_trails k) (subst (λ y. HasGrant y n (t.queue k)) mine h.1))
 
     top_first : (k : ℕ) (o : Option ℕ) → ReturnsTo e.request.number o (t.top k) → holder (t.top k) ≡ Some g
@@ -92,24 +96,29 @@ module _ (t : World) (m : machine.World) (law : IsLawful t) (stands : Stands t m
         let listed = law.returnable.listed g e.request p stands_here was_passed in
         record {
           queue = λ k o i. sym (queue_is t m law stands k) ∙ ⊎_elim
-              (λ l. queue_first k o (subst (λ x. IsListed e.request.number x (t.queue k)) i l)) (λ s. not_stuck s) (listed.queues k);
+              (λ l. queue_first k o (subst (λ x. IsListed e.request.number x (t.queue k)) i l)) (λ s. not_stuck s)
+              (listed.queues k);
           top = λ k o i. sym (top_is t m law stands k) ∙ ⊎_elim
-              (λ l. top_first k o (subst (λ x. IsListed e.request.number x (t.top k)) i l)) (λ s. not_stuck s) (listed.tops k);
+              (λ l. top_first k o (subst (λ x. IsListed e.request.number x (t.top k)) i l)) (λ s. not_stuck s)
+              (listed.tops k);
         }
 
-  pub listed_here : (q : machine.Request) (p : Passed) → MayEnd (m.handlers g) q → q.passed ≡ Some p → IsHere m.rights g p
+  pub listed_here : (q : machine.Request) (p : Passed) → MayEnd (m.handlers g) q → q.passed ≡ Some p →
+      IsHere m.rights g p
   listed_here q p may passed = passed_here q p (ending t m law stands g q may) passed
 
   -- ---- the creation of a handler, whose answer has come
 
-  granted_each : (w : World) (k : ℕ) (rs : List Reservation) → EachGranted w g rs → Contains (handlers_of rs) k → holder (w.queue k) ≡ Some g
+  granted_each : (w : World) (k : ℕ) (rs : List Reservation) → EachGranted w g rs → Contains (handlers_of rs) k →
+      holder (w.queue k) ≡ Some g
   granted_each w k [] is i = contains_none k i
   granted_each w k (r ∷ rs) is i = ⊎_elim
       (λ e. ap (λ j. holder (w.queue j)) (sym e) ∙ is.0)
       (λ later. granted_each w k rs is.1 later)
       (contains_cases r.handler (handlers_of rs) k i)
 
-  created_here : (k : ℕ) (v : Wait) (B : List Frame → Type 0) (gs : List Frame) → (t.handlers g).stack ≡ gs → (t.handlers g).failed ≡ false
+  created_here : (k : ℕ) (v : Wait) (B : List Frame → Type 0) (gs : List Frame) → (t.handlers g).stack ≡ gs →
+      (t.handlers g).failed ≡ false
       → answered (t.handlers g).answer ≡ true → waits_for gs ≡ Some v → IsCreation k B gs → holder (t.queue k) ≡ Some g
   created_here k v B [] at lives over waits is = absurd is
   created_here k v B (c ∷ gs) at lives over waits is =
@@ -117,20 +126,26 @@ module _ (t : World) (m : machine.World) (law : IsLawful t) (stands : Stands t m
       let law_u = steps_are_lawful t u law (Answers g v lives (ap waits_for at ∙ waits) over) in
       let here : u.handlers g ≡ record (t.handlers g) { stack = resumed (t.handlers g).stack; answer = None } =
       put-same g (record (t.handlers g) { stack = resumed (t.handlers g).stack; answer = None }) t.handlers in
-      let top : (u.handlers g).stack ≡ record c { waits = None } ∷ gs = ap (λ (x : Handler). x.stack) here ∙ ap resumed at in
+      let top : (u.handlers g).stack ≡ record c { waits = None } ∷ gs = ap (λ (x : Handler). x.stack) here
+      ∙ ap resumed at in
       granted_each u k c.reserved
       (reserved_while_it_runs u law_u g (record c { waits = None })
       (ap (λ (x : Handler). x.failed) here ∙ lives, ap waits_for top)
       (subst (RunsIn (record c { waits = None })) (sym top) (inl refl)))
       (subst (λ ks. Contains ks k) (sym is.1) (contains_first k []))
 
-  pub creation_here : (f : machine.Frame) (below : List machine.Frame) (k : ℕ) (gives : Option EntityType) (v : Option Value) → (m.handlers g).failure ≡ None
-      → (m.handlers g).stack ≡ f ∷ below → f.stage ≡ Awaits k gives true → (m.handlers g).answer ≡ Some (Reply v) → m.rights.queue k ≡ Some g
+  pub creation_here : (f : machine.Frame) (below : List machine.Frame) (k : ℕ) (gives : Option EntityType)
+      (v : Option Value) → (m.handlers g).failure ≡ None
+      → (m.handlers g).stack ≡ f ∷ below → f.stage ≡ Awaits k gives true → (m.handlers g).answer ≡ Some (Reply v) →
+      m.rights.queue k ≡ Some g
   creation_here f below k gives v alive at stage answer =
-      let st = subst (λ x. IsStaged x (place_of f below) (AreBlocks (NamesOf f.stage f) f.blocks (IsRoutine f (NeedsOf f.stage f) (IsStack below)))
+      let st = subst (λ x. IsStaged x (place_of f below)
+      (AreBlocks (NamesOf f.stage f) f.blocks (IsRoutine f (NeedsOf f.stage f) (IsStack below)))
       (t.handlers g).stack) stage (subst (λ s. IsStack s (t.handlers g).stack) at (stands.handlers g).stack) in
       sym (queue_is t m law stands k)
-      ∙ created_here k st.0.wait (AreBlocks (NamesOf f.stage f) f.blocks (IsRoutine f (NeedsOf f.stage f) (IsStack below))) (t.handlers g).stack refl
+      ∙ created_here k st.0.wait
+      (AreBlocks (NamesOf f.stage f) f.blocks (IsRoutine f (NeedsOf f.stage f) (IsStack below)))
+      (t.handlers g).stack refl
       (lives_there t m law stands g alive) (replies_same t m law stands g ∙ ap has_reply answer) st.0.waits st.1
 
   -- ---- what was reserved
@@ -139,11 +154,13 @@ module _ (t : World) (m : machine.World) (law : IsLawful t) (stands : Stands t m
   among_contains k [] e = true_false (sym e)
   among_contains k (j ∷ ks) e = by (j == k) refl e (λ i. among_contains k ks i)
     where
-      by : (b : Bool) → (j == k) ≡ b → (b || is_among k ks) ≡ true → (is_among k ks ≡ true → Contains ks k) → Contains (j ∷ ks) k
+      by : (b : Bool) → (j == k) ≡ b → (b || is_among k ks) ≡ true → (is_among k ks ≡ true → Contains ks k) →
+          Contains (j ∷ ks) k
       by true i e rest = subst (Contains (j ∷ ks)) (eqb-true j k i) (contains_first j ks)
       by false i e rest = contains_later j ks k (rest e)
 
-  pub reserved_here : (f : machine.Frame) (below : List machine.Frame) → (m.handlers g).failure ≡ None → (m.handlers g).stack ≡ f ∷ below → f.stage ≡ Runs
+  pub reserved_here : (f : machine.Frame) (below : List machine.Frame) → (m.handlers g).failure ≡ None →
+      (m.handlers g).stack ≡ f ∷ below → f.stage ≡ Runs
       → (ks : List ℕ) → Contains (f.reserved ∷ f.blocks) ks → (k : ℕ) → is_among k ks ≡ true → m.rights.queue k ≡ Some g
   reserved_here f below alive at stage ks i k e = machine_reserved_are_held t m law stands g k f below ks alive at
       (ap is_awaiting stage) i (among_contains k ks e)

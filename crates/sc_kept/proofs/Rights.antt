@@ -41,15 +41,13 @@ use Rattle.sc_laws.proofs.Rights.{not_some}
 use Rattle.sc_laws.proofs.Waits.{true_false}
 use Rattle.sc_laws.proofs.Machine.{contains_first, contains_later}
 use Rattle.sc_laws.proofs.links.Reached.{reached_stands}
+use Rattle.sc_values.proofs.Lists.{same_some}
 use Rattle.sc_values.specs.Fitting.{MayEnd, runs, next, called_back}
 use Rattle.sc_kept.specs.Laws.{IsUnused, RightsStay}
 use Rattle.sc_kept.proofs.Tops.{beyond_is_unused}
 use Rattle.sc_kept.proofs.Held.{IsHere, listed_here, creation_here, reserved_here}
 
 -- ---- rights alone
-
-some_same : {a b : ℕ} → Some a ≡ Some b → a ≡ b
-some_same e = cc
 
 -- every right of another handler than g stays, but perhaps that to push on g's waiting stack
 pub record Kept (g : ℕ) (r s : Rights) : Type 0 where
@@ -66,21 +64,24 @@ kept_again a b = record {
 }
 
 -- what is another's is not among what is g's
-not_among : (g : ℕ) (ks : List ℕ) (r : Rights) → ((k : ℕ) → is_among k ks ≡ true → r.queue k ≡ Some g) → (h k : ℕ) → g ≢ h → r.queue k ≡ Some h
+not_among : (g : ℕ) (ks : List ℕ) (r : Rights) → ((k : ℕ) → is_among k ks ≡ true → r.queue k ≡ Some g) → (h k : ℕ) →
+    g ≢ h → r.queue k ≡ Some h
     → is_among k ks ≡ false
 not_among g ks r here h k ne e = by (is_among k ks) refl
   where
     by : (b : Bool) → is_among k ks ≡ b → is_among k ks ≡ false
     by false i = i
-    by true i = absurd (ne (some_same (sym (here k i) ∙ e)))
+    by true i = absurd (ne (same_some (sym (here k i) ∙ e)))
 
-kept_released : (g : ℕ) (ks : List ℕ) (r : Rights) → ((k : ℕ) → is_among k ks ≡ true → r.queue k ≡ Some g) → Kept g r (rights.release ks r)
+kept_released : (g : ℕ) (ks : List ℕ) (r : Rights) → ((k : ℕ) → is_among k ks ≡ true → r.queue k ≡ Some g) →
+    Kept g r (rights.release ks r)
 kept_released g ks r here = record {
   queue = λ h k ne e. ap (λ (b : Bool). if b then None else r.queue k) (not_among g ks r here h k ne e) ∙ e;
   top = λ h k ne other e. e;
 }
 
-kept_reserved : (g : ℕ) (ks : List ℕ) (r : Rights) → ((k : ℕ) → is_among k ks ≡ true → r.queue k ≡ None) → Kept g r (rights.reserve g ks r)
+kept_reserved : (g : ℕ) (ks : List ℕ) (r : Rights) → ((k : ℕ) → is_among k ks ≡ true → r.queue k ≡ None) →
+    Kept g r (rights.reserve g ks r)
 kept_reserved g ks r free = record { queue = λ h k ne e. by h k e (is_among k ks) refl; top = λ h k ne other e. e }
   where
     by : (h k : ℕ) → r.queue k ≡ Some h → (b : Bool) → is_among k ks ≡ b → (if b then Some g else r.queue k) ≡ Some h
@@ -112,10 +113,11 @@ kept_returned g p r here = record {
     by : {x : Option (Option ℕ)} (l : Option (Option ℕ)) → x ≡ l → (h : ℕ) (o : Option ℕ) → g ≢ h → o ≡ Some h
         → ((b : Option ℕ) → x ≡ Some b → o ≡ Some g) → returned x o ≡ Some h
     by None i h o ne e is = ap (λ x. returned x o) i ∙ e
-    by (Some b) i h o ne e is = absurd (ne (some_same (sym (is b i) ∙ e)))
+    by (Some b) i h o ne e is = absurd (ne (same_some (sym (is b i) ∙ e)))
 
 -- what is listed is still the handler's, where others are released
-here_after : (g : ℕ) (ks : List ℕ) (r : Rights) (p : Passed) → IsHere r g p → (h k : ℕ) → g ≢ h → (rights.release ks r).queue k ≡ Some h → p.queue k ≡ None
+here_after : (g : ℕ) (ks : List ℕ) (r : Rights) (p : Passed) → IsHere r g p → (h k : ℕ) → g ≢ h →
+    (rights.release ks r).queue k ≡ Some h → p.queue k ≡ None
 here_after g ks r p here h k ne e = by (p.queue k) refl
   where
     before : (b : Bool) → is_among k ks ≡ b → (if b then None else r.queue k) ≡ Some h → r.queue k ≡ Some h
@@ -124,10 +126,11 @@ here_after g ks r p here h k ne e = by (p.queue k) refl
 
     by : (o : Option (Option ℕ)) → p.queue k ≡ o → p.queue k ≡ None
     by None i = i
-    by (Some b) i = absurd (ne (some_same (sym (here.queue k b i) ∙ before (is_among k ks) refl e)))
+    by (Some b) i = absurd (ne (same_some (sym (here.queue k b i) ∙ before (is_among k ks) refl e)))
 
 -- with a release before
-kept_released_returned : (g : ℕ) (ks : List ℕ) (p : Passed) (r : Rights) → ((k : ℕ) → is_among k ks ≡ true → r.queue k ≡ Some g) → IsHere r g p
+kept_released_returned : (g : ℕ) (ks : List ℕ) (p : Passed) (r : Rights) →
+    ((k : ℕ) → is_among k ks ≡ true → r.queue k ≡ Some g) → IsHere r g p
     → Kept g r (give_back p (rights.release ks r))
 kept_released_returned g ks p r mine here = record {
   queue = λ h k ne e. let i = (kept_released g ks r mine).queue h k ne e in
@@ -164,7 +167,8 @@ or_right false b e i = e
 module _ (g : ℕ) where
   -- ---- what changes rights
 
-  if_kept : (r : Rights) (b : Bool) (x y : World) → (b ≡ true → Kept g r x.rights) → (b ≡ false → Kept g r y.rights) → Kept g r (if b then x else y).rights
+  if_kept : (r : Rights) (b : Bool) (x y : World) → (b ≡ true → Kept g r x.rights) → (b ≡ false → Kept g r y.rights) →
+      Kept g r (if b then x else y).rights
   if_kept r true x y p q = p refl
   if_kept r false x y p q = q refl
 
@@ -182,24 +186,31 @@ module _ (g : ℕ) where
       answers true None v is = is
       answers false p v is = is
 
-  enters_kept : (s : System) (me : Reference) (r : Option Routine) (o : Origin) (below : List Frame) (taken : List Request) (vs : List Value)
+  enters_kept : (s : System) (me : Reference) (r : Option Routine) (o : Origin) (below : List Frame)
+      (taken : List Request) (vs : List Value)
       (w : World) → Kept g w.rights (enters s g me r o below taken vs w).rights
   enters_kept s me None o below taken vs w = kept_lost g w.rights
   enters_kept s me (Some r) o below taken vs w = by (formals_bound s r.text.formals 0 r.text.formals vs)
     where
       by : (bs : Option (List Binding)) → Kept g w.rights (enters_bound g me r o below taken bs w).rights
       by None = kept_lost g w.rights
-      by (Some bs) = if_kept w.rights (nat_lt (length below) max_frames) _ _ (λ e. kept_same g w.rights) (λ e. kept_lost g w.rights)
+      by (Some bs) = if_kept w.rights (nat_lt (length below) max_frames) _ _ (λ e. kept_same g w.rights)
+          (λ e. kept_lost g w.rights)
 
-  reserves_kept : (b : Bool) (ks : List ℕ) (mark : List Marked) (f : Frame) (below : List Frame) (w : World) → may_reserve ks mark w ≡ b
+  reserves_kept : (b : Bool) (ks : List ℕ) (mark : List Marked) (f : Frame) (below : List Frame) (w : World) →
+      may_reserve ks mark w ≡ b
       → Kept g w.rights (reserves_if b g ks f below w).rights
   reserves_kept false ks mark f below w may = kept_same g w.rights
-  reserves_kept true ks mark f below w may = if_kept w.rights (reserve_fails (standing_in w) w.rights ks) _ _ (λ e. kept_lost g w.rights)
+  reserves_kept true ks mark f below w may = if_kept w.rights (reserve_fails (standing_in w) w.rights ks) _ _
+      (λ e. kept_lost g w.rights)
       (λ e. kept_reserved g ks w.rights (λ k i. none_is (w.rights.queue k)
-      (and_right (reservations.is_idle (standing_in w k) && not (standing_in w k).has_requests) (is_none (w.rights.queue k))
+      (and_right (reservations.is_idle (standing_in w k) && not (standing_in w k).has_requests)
+      (is_none (w.rights.queue k))
       (all_among (λ j. may_be_reserved (standing_in w j) (w.rights.queue j)) ks k
-      (and_left (list_all (λ j. may_be_reserved (standing_in w j) (w.rights.queue j)) ks) (mark_allows (λ j. (standing_in w j).sessions) mark)
-      (or_right (reserve_fails (standing_in w) w.rights ks) (reservations.may_reserve (standing_in w) w.rights ks mark) may e)) i))))
+      (and_left (list_all (λ j. may_be_reserved (standing_in w j) (w.rights.queue j)) ks)
+      (mark_allows (λ j. (standing_in w j).sessions) mark)
+      (or_right (reserve_fails (standing_in w) w.rights ks)
+      (reservations.may_reserve (standing_in w) w.rights ks mark) may e)) i))))
 
   -- ---- requests and creations
 
@@ -207,22 +218,27 @@ module _ (g : ℕ) where
   passes_kept true j w = kept_passed g j w.rights
   passes_kept false j w = kept_same g w.rights
 
-  request_kept : (r : Reference) (x : List ℕ) (us : List Operand) (t : Option EntityType) (passing : Bool) (f : Frame) (below : List Frame)
+  request_kept : (r : Reference) (x : List ℕ) (us : List Operand) (t : Option EntityType) (passing : Bool) (f : Frame)
+      (below : List Frame)
       (w : World) → Kept g w.rights (request g r x us t passing f below w).rights
   request_kept r x us t passing f below w =
       if_kept w.rights (not (held w.rights g r.handler)) _ _ (λ e. kept_lost g w.rights)
       (λ e. if_kept w.rights (is_some (w.handlers r.handler).failure) _ _ (λ i. kept_lost g w.rights)
-      (λ i. if_kept w.rights (not (is_callback g r.handler w) && not (nat_lt (length (w.handlers r.handler).queue) max_queue)) _ _ (λ j. kept_lost g w.rights)
+      (λ i. if_kept w.rights (not (is_callback g r.handler w) && not
+      (nat_lt (length (w.handlers r.handler).queue) max_queue)) _ _ (λ j. kept_lost g w.rights)
       (λ j. asked passing)))
     where
-      asked : (b : Bool) → Kept g w.rights (asks g r x us t b (passing || is_some t || is_callback g r.handler w) f below w).rights
+      asked : (b : Bool) → Kept g w.rights
+          (asks g r x us t b (passing || is_some t || is_callback g r.handler w) f below w).rights
       asked true = kept_passed g r.handler w.rights
       asked false = kept_same g w.rights
 
   -- the new handler is nobody's before
-  created_kept : (class : ℕ) (procedure : Option (List ℕ)) (us : List Operand) (t : EntityType) (passing : Bool) (f : Frame) (below : List Frame)
+  created_kept : (class : ℕ) (procedure : Option (List ℕ)) (us : List Operand) (t : EntityType) (passing : Bool)
+      (f : Frame) (below : List Frame)
       (w : World) → w.rights.queue w.count ≡ None → w.rights.top w.count ≡ None
-      → Kept g w.rights (created g (record { handler = w.count; number = 1; class = class }) procedure us t passing f below w).rights
+      → Kept g w.rights (created g (record { handler = w.count; number = 1; class = class }) procedure us t passing f
+      below w).rights
   created_kept class procedure us t passing f below w queue top = by passing
     where
       new_kept : Kept g w.rights (record {
@@ -239,15 +255,19 @@ module _ (g : ℕ) where
       mine : (k : ℕ) → is_among k (w.count ∷ []) ≡ true → (if k == w.count then Some g else w.rights.queue k) ≡ Some g
       mine k e = one (w.count == k) refl e
         where
-          one : (b : Bool) → (w.count == k) ≡ b → (b || false) ≡ true → (if k == w.count then Some g else w.rights.queue k) ≡ Some g
-          one true i e = ap (λ (c : Bool). if c then Some g else w.rights.queue k) (eq-eqb k w.count (sym (eqb-true w.count k i)))
+          one : (b : Bool) → (w.count == k) ≡ b → (b || false) ≡ true →
+              (if k == w.count then Some g else w.rights.queue k) ≡ Some g
+          one true i e = ap (λ (c : Bool). if c then Some g else w.rights.queue k)
+              (eq-eqb k w.count (sym (eqb-true w.count k i)))
           one false i e = true_false (sym e)
 
-      by : (b : Bool) → Kept g w.rights (created g (record { handler = w.count; number = 1; class = class }) procedure us t b f below w).rights
+      by : (b : Bool) → Kept g w.rights
+          (created g (record { handler = w.count; number = 1; class = class }) procedure us t b f below w).rights
       by true = kept_again new_kept (kept_passed g w.count _)
       by false = kept_again new_kept (kept_released g (w.count ∷ []) _ mine)
 
-  creates_kept : (most class : ℕ) (procedure : Option (List ℕ)) (us : List Operand) (t : EntityType) (passing : Bool) (f : Frame) (below : List Frame)
+  creates_kept : (most class : ℕ) (procedure : Option (List ℕ)) (us : List Operand) (t : EntityType) (passing : Bool)
+      (f : Frame) (below : List Frame)
       (w : World) → w.rights.queue w.count ≡ None → w.rights.top w.count ≡ None
       → Kept g w.rights (creates_handler most g class procedure us t passing f below w).rights
   creates_kept most class procedure us t passing f below w queue top = if_kept w.rights (nat_lt w.count most) _ _
@@ -263,33 +283,43 @@ module _ (g : ℕ) where
   first_mine : (r : Rights) (f : Frame) → Own r f → (k : ℕ) → is_among k f.reserved ≡ true → r.queue k ≡ Some g
   first_mine r f own k e = own.reserved f.reserved (contains_first f.reserved f.blocks) k e
 
-  refuses_kept : (s : System) (q : Request) (f : Frame) (below : List Frame) (w : World) → f.origin ≡ Requested q → Own w.rights f
+  refuses_kept : (s : System) (q : Request) (f : Frame) (below : List Frame) (w : World) → f.origin ≡ Requested q →
+      Own w.rights f
       → Kept g w.rights (refuses s g q f below w).rights
-  refuses_kept s q f below w begun own = if_kept w.rights (is_creation q.errand && not (object_meets s (object_numbered f.current.number (w.handlers g).objects))) _ _
+  refuses_kept s q f below w begun own =
+      if_kept w.rights (is_creation q.errand && not
+      (object_meets s (object_numbered f.current.number (w.handlers g).objects))) _ _
       (λ e. kept_lost g w.rights)
       (λ e. finish_kept w.rights q Refused _ (λ i. kept_released g f.reserved w.rights (first_mine w.rights f own))
       (λ p i. kept_released_returned g f.reserved p w.rights (first_mine w.rights f own) (own.passed q p begun i)))
 
-  correctness_kept : (s : System) (o : Origin) (f : Frame) (below : List Frame) (w : World) → f.origin ≡ o → Own w.rights f
+  correctness_kept : (s : System) (o : Origin) (f : Frame) (below : List Frame) (w : World) → f.origin ≡ o →
+      Own w.rights f
       → Kept g w.rights (correctness_fails s g o f below w).rights
   correctness_kept s (Called c) f below w e own = kept_lost g w.rights
   correctness_kept s (Requested q) f below w e own = refuses_kept s q f below w e own
 
-  clause_kept : (v : Verdict) (s : System) (f : Frame) (below : List Frame) (w : World) → Own w.rights f → Kept g w.rights (false_clause v s g f below w).rights
+  clause_kept : (v : Verdict) (s : System) (f : Frame) (below : List Frame) (w : World) → Own w.rights f →
+      Kept g w.rights (false_clause v s g f below w).rights
   clause_kept verdict.Wait s f below w own = kept_released g f.reserved w.rights (first_mine w.rights f own)
   clause_kept verdict.Refuse s f below w own = correctness_kept s f.origin f below w refl own
   clause_kept verdict.Start s f below w own = kept_lost g w.rights
 
-  leaves_kept : (o : Origin) (f : Frame) (v : Option Value) (below : List Frame) (w : World) → f.origin ≡ o → Own w.rights f
+  leaves_kept : (o : Origin) (f : Frame) (v : Option Value) (below : List Frame) (w : World) → f.origin ≡ o →
+      Own w.rights f
       → Kept g w.rights (leaves_to g o f.reserved v below w).rights
   leaves_kept (Called c) f v below w e own = kept_released g f.reserved w.rights (first_mine w.rights f own)
-  leaves_kept (Requested q) f v below w e own = finish_kept w.rights q (Reply v) _ (λ i. kept_released g f.reserved w.rights (first_mine w.rights f own))
+  leaves_kept (Requested q) f v below w e own = finish_kept w.rights q (Reply v) _
+      (λ i. kept_released g f.reserved w.rights (first_mine w.rights f own))
       (λ p i. kept_released_returned g f.reserved p w.rights (first_mine w.rights f own) (own.passed q p e i))
 
-  exits_kept : (s : System) (f : Frame) (below : List Frame) (w : World) → Own w.rights f → Kept g w.rights (exits s g f below w).rights
+  exits_kept : (s : System) (f : Frame) (below : List Frame) (w : World) → Own w.rights f →
+      Kept g w.rights (exits s g f below w).rights
   exits_kept s f below w own = if_kept w.rights (is_unset f.result) _ _ (λ e. kept_lost g w.rights)
-      (λ e. if_kept w.rights (is_untested f.origin || object_meets s (object_numbered f.current.number (w.handlers g).objects)) _ _
-      (λ i. leaves_kept f.origin f (option_map (λ (u : Operand). u.value) f.result) below w refl own) (λ i. kept_lost g w.rights))
+      (λ e. if_kept w.rights (is_untested f.origin || object_meets s
+      (object_numbered f.current.number (w.handlers g).objects)) _ _
+      (λ i. leaves_kept f.origin f (option_map (λ (u : Operand). u.value) f.result) below w refl own)
+      (λ i. kept_lost g w.rights))
 
   block_kept : (kss : List (List ℕ)) (f : Frame) (below : List Frame) (w : World) → f.blocks ≡ kss → Own w.rights f
       → Kept g w.rights (leaves_block g kss f below w).rights
@@ -304,19 +334,26 @@ module _ (g : ℕ) where
   Given r q = (p : Passed) → q.passed ≡ Some p → IsHere r g p
 
   ends_kept : (q : Request) (a : Answer) (w : World) → Given w.rights q → Kept g w.rights (finish q a w).rights
-  ends_kept q a w given = finish_kept w.rights q a w (λ e. kept_same g w.rights) (λ p e. kept_returned g p w.rights (given p e))
+  ends_kept q a w given = finish_kept w.rights q a w (λ e. kept_same g w.rights)
+      (λ p e. kept_returned g p w.rights (given p e))
 
-  replies_kept : (q : Request) (t : Option EntityType) (b : Option Binding) (w : World) → Given w.rights q → Kept g w.rights (replies g q t b w).rights
-  replies_kept q (Some t) (Some b) w given = if_kept w.rights (is_unset_value b.value t) _ _ (λ e. kept_lost g w.rights) (λ e. ends_kept q (Reply (Some b.value)) w given)
+  replies_kept : (q : Request) (t : Option EntityType) (b : Option Binding) (w : World) → Given w.rights q →
+      Kept g w.rights (replies g q t b w).rights
+  replies_kept q (Some t) (Some b) w given = if_kept w.rights (is_unset_value b.value t) _ _ (λ e. kept_lost g w.rights)
+      (λ e. ends_kept q (Reply (Some b.value)) w given)
   replies_kept q (Some t) None w given = kept_lost g w.rights
   replies_kept q None b w given = kept_lost g w.rights
 
-  kind_kept : (s : System) (q : Request) (x : List ℕ) (below : List Frame) (o : Object) (f : DeclaredFeature) (c : FeatureKind) (w : World)
+  kind_kept : (s : System) (q : Request) (x : List ℕ) (below : List Frame) (o : Object) (f : DeclaredFeature)
+      (c : FeatureKind) (w : World)
       → Given w.rights q → Kept g w.rights (takes_kind s g q x below o f c w).rights
-  kind_kept s q x below o f (tree.Attribute d) w given = replies_kept q (declared_type s [] d) (binding_named x o.attributes) w given
-  kind_kept s q x below o f (tree.Routine c) w given = enters_kept s q.target (routine_of s f) (Requested q) below (q ∷ []) q.actuals w
+  kind_kept s q x below o f (tree.Attribute d) w given = replies_kept q (declared_type s [] d)
+      (binding_named x o.attributes) w given
+  kind_kept s q x below o f (tree.Routine c) w given = enters_kept s q.target (routine_of s f) (Requested q) below
+      (q ∷ []) q.actuals w
 
-  version_kept : (s : System) (q : Request) (x : List ℕ) (below : List Frame) (o : Option Object) (f : Option DeclaredFeature) (w : World)
+  version_kept : (s : System) (q : Request) (x : List ℕ) (below : List Frame) (o : Option Object)
+      (f : Option DeclaredFeature) (w : World)
       → Given w.rights q → Kept g w.rights (takes_version s g q x below o f w).rights
   version_kept s q x below (Some o) (Some f) w given = kind_kept s q x below o f f.feature.kind w given
   version_kept s q x below (Some o) None w given = kept_lost g w.rights
@@ -324,19 +361,25 @@ module _ (g : ℕ) where
 
   creation_kept : (s : System) (q : Request) (c : Option (List ℕ)) (below : List Frame) (w : World) → Given w.rights q
       → Kept g w.rights (takes_creation s g q c below w).rights
-  creation_kept s q (Some x) below w given = enters_kept s q.target (routine_named s q.target.class x) (Requested q) below (q ∷ []) q.actuals w
-  creation_kept s q None below w given = if_kept w.rights (meets_invariant s (fresh_object s q.target.class)) _ _ (λ e. ends_kept q (Reply None) w given)
+  creation_kept s q (Some x) below w given = enters_kept s q.target (routine_named s q.target.class x)
+      (Requested q) below (q ∷ []) q.actuals w
+  creation_kept s q None below w given = if_kept w.rights (meets_invariant s (fresh_object s q.target.class)) _ _
+      (λ e. ends_kept q (Reply None) w given)
       (λ e. kept_lost g w.rights)
 
-  errand_kept : (s : System) (q : Request) (e : Errand) (below : List Frame) (w : World) → Given w.rights q → Kept g w.rights (takes_errand s g q e below w).rights
+  errand_kept : (s : System) (q : Request) (e : Errand) (below : List Frame) (w : World) → Given w.rights q →
+      Kept g w.rights (takes_errand s g q e below w).rights
   errand_kept s q (Makes c) below w given = creation_kept s q c below
       (put g (record (w.handlers g) { objects = (w.handlers g).objects ++ fresh_object s q.target.class ∷ [] }) w) given
   errand_kept s q (Calls x) below w given = if_kept w.rights (q.target.handler == g) _ _
-      (λ e. version_kept s q x below (object_numbered q.target.number (w.handlers g).objects) (version_of s q.target.class x) w given)
+      (λ e. version_kept s q x below (object_numbered q.target.number (w.handlers g).objects)
+      (version_of s q.target.class x) w given)
       (λ e. kept_lost g w.rights)
 
-  takes_answer_kept : (a : Answer) (j : ℕ) (t : Option EntityType) (b : Bool) (f : Frame) (below : List Frame) (w : World)
-      → ((v : Option Value) → a ≡ Reply v → b ≡ true → w.rights.queue j ≡ Some g) → Kept g w.rights (takes_answer g a j t b f below w).rights
+  takes_answer_kept : (a : Answer) (j : ℕ) (t : Option EntityType) (b : Bool) (f : Frame)
+      (below : List Frame) (w : World)
+      → ((v : Option Value) → a ≡ Reply v → b ≡ true → w.rights.queue j ≡ Some g) →
+      Kept g w.rights (takes_answer g a j t b f below w).rights
   takes_answer_kept (Reply v) j t false f below w mine = kept_same g w.rights
   takes_answer_kept (Reply v) j t true f below w mine = kept_released g (j ∷ []) w.rights (λ k e. one k (j == k) refl e)
     where
@@ -348,16 +391,20 @@ module _ (g : ℕ) where
 
   -- ---- a turn
 
-  effect_kept : (most : ℕ) (s : System) (a : Act) (f : Frame) (below : List Frame) (w : World) → Own w.rights f → w.rights.queue w.count ≡ None
+  effect_kept : (most : ℕ) (s : System) (a : Act) (f : Frame) (below : List Frame) (w : World) → Own w.rights f →
+      w.rights.queue w.count ≡ None
       → w.rights.top w.count ≡ None → Kept g w.rights (effect most s g a f below w).rights
   effect_kept most s (Prints text) f below w own queue top = kept_same g w.rights
   effect_kept most s Tests f below w own queue top = kept_same g w.rights
   effect_kept most s Creates f below w own queue top = kept_same g w.rights
   effect_kept most s Starts f below w own queue top = kept_same g w.rights
-  effect_kept most s (CreatesHandler class procedure us t passing) f below w own queue top = creates_kept most class procedure us t passing f below w queue top
+  effect_kept most s (CreatesHandler class procedure us t passing) f below w own queue top =
+      creates_kept most class procedure us t passing f below w queue top
   effect_kept most s (Enters c me x us gives) f below w own queue top =
-      enters_kept s me (routine_named s me.class x) (Called c) (record f { stage = InCall gives } ∷ below) [] (values_of us) w
-  effect_kept most s (Requests r x us gives passing) f below w own queue top = request_kept r x us gives passing f below w
+      enters_kept s me (routine_named s me.class x) (Called c) (record f { stage = InCall gives } ∷ below) []
+      (values_of us) w
+  effect_kept most s (Requests r x us gives passing) f below w own queue top =
+      request_kept r x us gives passing f below w
   effect_kept most s (Refuses c) f below w own queue top = clause_kept (verdict_on f c) s f below w own
   effect_kept most s Opens f below w own queue top = kept_same g w.rights
   effect_kept most s Leaves f below w own queue top = block_kept f.blocks f below w refl own
@@ -369,9 +416,11 @@ record Facts (g : ℕ) (w : World) : Type 0 where
   alive : (w.handlers g).failure ≡ None
   unused : IsUnused w w.count
   given : (q : Request) (p : Passed) → MayEnd (w.handlers g) q → q.passed ≡ Some p → IsHere w.rights g p
-  reserved : (f : Frame) (below : List Frame) → (w.handlers g).stack ≡ f ∷ below → f.stage ≡ Runs → (ks : List ℕ) → Contains (f.reserved ∷ f.blocks) ks
+  reserved : (f : Frame) (below : List Frame) → (w.handlers g).stack ≡ f ∷ below → f.stage ≡ Runs → (ks : List ℕ) →
+      Contains (f.reserved ∷ f.blocks) ks
       → (k : ℕ) → is_among k ks ≡ true → w.rights.queue k ≡ Some g
-  created : (f : Frame) (below : List Frame) (k : ℕ) (t : Option EntityType) (v : Option Value) → (w.handlers g).stack ≡ f ∷ below
+  created : (f : Frame) (below : List Frame) (k : ℕ) (t : Option EntityType) (v : Option Value) →
+      (w.handlers g).stack ≡ f ∷ below
       → f.stage ≡ Awaits k t true → (w.handlers g).answer ≡ Some (Reply v) → w.rights.queue k ≡ Some g
 
 module _ (most : ℕ) (s : System) (g : ℕ) (w : World) (facts : Facts g w) where
@@ -385,10 +434,13 @@ module _ (most : ℕ) (s : System) (g : ℕ) (w : World) (facts : Facts g w) whe
         passed = λ q p e i. facts.given q p (runs at stage e) i;
       }) facts.unused.queue_right facts.unused.top_right
 
-  waits_kept : (c : Option Request) (a : Option Answer) (j : ℕ) (t : Option EntityType) (b : Bool) (f : Frame) (below : List Frame)
-      → (w.handlers g).stack ≡ f ∷ below → f.stage ≡ Awaits j t b → (w.handlers g).callback ≡ c → (w.handlers g).answer ≡ a
+  waits_kept : (c : Option Request) (a : Option Answer) (j : ℕ) (t : Option EntityType) (b : Bool) (f : Frame)
+      (below : List Frame)
+      → (w.handlers g).stack ≡ f ∷ below → f.stage ≡ Awaits j t b → (w.handlers g).callback ≡ c →
+      (w.handlers g).answer ≡ a
       → Kept g w.rights (waits s g c a j t b f below w).rights
-  waits_kept (Some q) a j t b f below at stage is answer = errand_kept g s q q.errand (f ∷ below) (put g (record (w.handlers g) { callback = None }) w)
+  waits_kept (Some q) a j t b f below at stage is answer = errand_kept g s q q.errand (f ∷ below)
+      (put g (record (w.handlers g) { callback = None }) w)
       (λ p e. facts.given q p (called_back at is) e)
   waits_kept None (Some a) j t b f below at stage is answer = takes_answer_kept g a j t b f below w
       (λ v e i. facts.created f below j t v at (stage ∙ ap (Awaits j t) i) (answer ∙ ap Some e))
@@ -397,14 +449,19 @@ module _ (most : ℕ) (s : System) (g : ℕ) (w : World) (facts : Facts g w) whe
   on_kept : (f : Frame) (below : List Frame) → (w.handlers g).stack ≡ f ∷ below → (x : Stage) → f.stage ≡ x
       → Kept g w.rights (goes_on most s g x f below w).rights
   on_kept f below at Runs stage = settles_kept f below at stage (moves s f.current (point_of f (w.handlers g).objects))
-  on_kept f below at Reserves stage = reserves_kept g (may_reserve (entry_needs g f w) f.mark w) (entry_needs g f w) f.mark _ below w refl
-  on_kept f below at ReservesBlock stage = reserves_kept g (may_reserve (block_needs g f w) [] w) (block_needs g f w) [] _ below w refl
+  on_kept f below at Reserves stage = reserves_kept g (may_reserve (entry_needs g f w) f.mark w)
+      (entry_needs g f w) f.mark _ below w refl
+  on_kept f below at ReservesBlock stage = reserves_kept g (may_reserve (block_needs g f w) [] w)
+      (block_needs g f w) [] _ below w refl
   on_kept f below at (InCall t) stage = kept_lost g w.rights
-  on_kept f below at (Awaits j t b) stage = waits_kept (w.handlers g).callback (w.handlers g).answer j t b f below at stage refl refl
+  on_kept f below at (Awaits j t b) stage = waits_kept (w.handlers g).callback (w.handlers g).answer j t b f below at
+      stage refl refl
 
-  next_kept : (rs : List Request) → (w.handlers g).stack ≡ [] → (w.handlers g).queue ≡ rs → Kept g w.rights (takes_next s g rs w).rights
+  next_kept : (rs : List Request) → (w.handlers g).stack ≡ [] → (w.handlers g).queue ≡ rs →
+      Kept g w.rights (takes_next s g rs w).rights
   next_kept [] empty at = kept_same g w.rights
-  next_kept (q ∷ rs) empty at = errand_kept g s q q.errand [] (put g (record (w.handlers g) { queue = rs }) w) (λ p e. facts.given q p (next empty at) e)
+  next_kept (q ∷ rs) empty at = errand_kept g s q q.errand [] (put g (record (w.handlers g) { queue = rs }) w)
+      (λ p e. facts.given q p (next empty at) e)
 
   with_kept : (st : List Frame) → (w.handlers g).stack ≡ st → Kept g w.rights (turn_with most s g None st w).rights
   with_kept [] at = next_kept (w.handlers g).queue at refl
@@ -412,7 +469,8 @@ module _ (most : ℕ) (s : System) (g : ℕ) (w : World) (facts : Facts g w) whe
 
 -- ---- the law
 
-facts_of : (most : ℕ) (s : System) (root : Root) (w : World) → IsReached most s root w → (g : ℕ) → (w.handlers g).failure ≡ None → Facts g w
+facts_of : (most : ℕ) (s : System) (root : Root) (w : World) → IsReached most s root w → (g : ℕ) →
+    (w.handlers g).failure ≡ None → Facts g w
 facts_of most s root w reached g alive =
     let r = reached_stands most s root w reached in
     record {
@@ -423,14 +481,17 @@ facts_of most s root w reached g alive =
       created = λ f below k t v at stage answer. creation_here r.0 w r.1 r.2 g f below k t v alive at stage answer;
     }
 
-turn_kept : (most : ℕ) (s : System) (root : Root) (w : World) → IsReached most s root w → (g : ℕ) → Kept g w.rights (turn most s g w).rights
+turn_kept : (most : ℕ) (s : System) (root : Root) (w : World) → IsReached most s root w → (g : ℕ) →
+    Kept g w.rights (turn most s g w).rights
 turn_kept most s root w reached g = by (nat_lt g w.count)
   where
-    lives : (o : Option Cause) → (w.handlers g).failure ≡ o → Kept g w.rights (turn_with most s g o (w.handlers g).stack w).rights
+    lives : (o : Option Cause) → (w.handlers g).failure ≡ o →
+        Kept g w.rights (turn_with most s g o (w.handlers g).stack w).rights
     lives (Some why) e = kept_same g w.rights
     lives None e = with_kept most s g w (facts_of most s root w reached g e) (w.handlers g).stack refl
 
-    by : (b : Bool) → Kept g w.rights (if b then turn_with most s g (w.handlers g).failure (w.handlers g).stack w else w).rights
+    by : (b : Bool) → Kept g w.rights
+        (if b then turn_with most s g (w.handlers g).failure (w.handlers g).stack w else w).rights
     by true = lives (w.handlers g).failure refl
     by false = kept_same g w.rights
 

@@ -14,6 +14,7 @@ use Rattle.sc_laws.specs.Consistent as consistent
 use Rattle.sc_laws.specs.Lawful.{IsLawful}
 use Rattle.sc_laws.specs.Stands.{NeedsOf, NamesOf, IsRequest, AreRequests, IsCallback, answer_of, IsRoutine, AreBlocks, Place, place_of, Awaited, IsStaged, IsStack, Stands}
 use Rattle.sc_laws.specs.Headline.{has_reply}
+use Rattle.sc_laws.proofs.Asking.{holder_first}
 use Rattle.sc_laws.proofs.Rights.{not_some}
 use Rattle.sc_laws.proofs.Waits.{true_false, some_wait}
 use Rattle.sc_laws.proofs.links.Reached.{reached_stands}
@@ -22,12 +23,15 @@ use Rattle.sc_kept.specs.Laws.{TopAwaits, IsAway, IdleHasNoTop, CalledBackWaits,
 -- ---- stacks
 
 -- whose answer the topmost awaits, for whom the world of rights says that it waits
-staged_top : (f : machine.Frame) (below : List machine.Frame) (B : List Frame → Type 0) (gs : List Frame) (v : Wait) → waits_for gs ≡ Some v
+staged_top : (f : machine.Frame) (below : List machine.Frame) (B : List Frame → Type 0) (gs : List Frame) (v : Wait) →
+    waits_for gs ≡ Some v
     → (x : machine.Stage) → f.stage ≡ x → IsStaged x (place_of f below) B gs → TopAwaits (f ∷ below) v.target
 staged_top f below B gs v waits x e is = by x e is
   where
-    same : (k : ℕ) (gives : Option EntityType) (c : Bool) → f.stage ≡ Awaits k gives c → Awaited k gives (place_of f below) gs → TopAwaits (f ∷ below) v.target
-    same k gives c e a = subst (TopAwaits (f ∷ below)) (sym a.target ∙ ap (λ (y : Wait). y.target) (some_wait a.wait v (sym a.waits ∙ waits)))
+    same : (k : ℕ) (gives : Option EntityType) (c : Bool) → f.stage ≡ Awaits k gives c →
+        Awaited k gives (place_of f below) gs → TopAwaits (f ∷ below) v.target
+    same k gives c e a = subst (TopAwaits (f ∷ below))
+        (sym a.target ∙ ap (λ (y : Wait). y.target) (some_wait a.wait v (sym a.waits ∙ waits)))
         (record { frame = f; below = below; gives = gives; is_creation = c; stack_is = refl; stage_is = e })
 
     by : (x : machine.Stage) → f.stage ≡ x → IsStaged x (place_of f below) B gs → TopAwaits (f ∷ below) v.target
@@ -38,23 +42,27 @@ staged_top f below B gs v waits x e is = by x e is
     by (Awaits k gives true) e is = same k gives true e is.0
     by (Awaits k gives false) e is = same k gives false e is.0
 
-pub top_awaits : (st : List machine.Frame) (gs : List Frame) (v : Wait) → waits_for gs ≡ Some v → IsStack st gs → TopAwaits st v.target
+pub top_awaits : (st : List machine.Frame) (gs : List Frame) (v : Wait) → waits_for gs ≡ Some v → IsStack st gs →
+    TopAwaits st v.target
 top_awaits [] [] v waits is = not_some v waits
 top_awaits [] (g ∷ gs) v waits is = absurd is
 top_awaits (f ∷ below) gs v waits is =
-    staged_top f below (AreBlocks (NamesOf f.stage f) f.blocks (IsRoutine f (NeedsOf f.stage f) (IsStack below))) gs v waits f.stage refl is
+    staged_top f below (AreBlocks (NamesOf f.stage f) f.blocks (IsRoutine f (NeedsOf f.stage f) (IsStack below))) gs v
+    waits f.stage refl is
 
 pub no_parts : (st : List machine.Frame) (gs : List Frame) → st ≡ [] → IsStack st gs → gs ≡ []
 no_parts [] [] e is = refl
 no_parts [] (g ∷ gs) e is = absurd is
 no_parts (f ∷ st) gs e is = cc
 
-blocks_none : {A : Type 0} (C : ℕ → List ℕ → Type 0) (kss : List (List ℕ)) (f : machine.Frame) (N : List ℕ → Type 0) (B : List Frame → Type 0)
+blocks_none : {A : Type 0} (C : ℕ → List ℕ → Type 0) (kss : List (List ℕ)) (f : machine.Frame) (N : List ℕ → Type 0)
+    (B : List Frame → Type 0)
     → AreBlocks C kss (IsRoutine f N B) [] → A
 blocks_none C [] f N B is = absurd is
 blocks_none C (ks ∷ kss) f N B is = absurd is
 
-staged_none : {A : Type 0} (x : machine.Stage) (at : Place) (C : ℕ → List ℕ → Type 0) (f : machine.Frame) (N : List ℕ → Type 0) (B : List Frame → Type 0)
+staged_none : {A : Type 0} (x : machine.Stage) (at : Place) (C : ℕ → List ℕ → Type 0) (f : machine.Frame)
+    (N : List ℕ → Type 0) (B : List Frame → Type 0)
     → IsStaged x at (AreBlocks C f.blocks (IsRoutine f N B)) [] → A
 staged_none Runs at C f N B is = blocks_none C f.blocks f N B is.1
 staged_none Reserves at C f N B is = blocks_none C f.blocks f N B is.1
@@ -69,7 +77,8 @@ no_frames (f ∷ st) is = staged_none f.stage (place_of f st) (NamesOf f.stage f
 
 -- ---- callbacks and answers
 
-pub there_callback : (o : Option Request) (q : machine.Request) → IsCallback o (Some q) → (r : Request) × (o ≡ Some r) × IsRequest r q
+pub there_callback : (o : Option Request) (q : machine.Request) → IsCallback o (Some q) → (r : Request) × (o ≡ Some r)
+    × IsRequest r q
 there_callback None q is = absurd is
 there_callback (Some r) q is = (r, refl, is)
 
@@ -97,13 +106,6 @@ no_failure (Some why) e = true_false (sym e)
 
 -- ---- rights
 
-first_of : (h : ℕ) (t : List Grant) → holder t ≡ Some h → (i : ℕ) × IsFirst h i t
-first_of h [] e = not_some h e
-first_of h (d ∷ t) e = (d.number, (some_number d.holder e, refl))
-  where
-    some_number : (x : ℕ) → Some x ≡ Some h → x ≡ h
-    some_number x e = cc
-
 -- who waits for nothing has lent its waiting stack to nobody
 based_none : (t : List Grant) → IsBased [] t → holder t ≡ None
 based_none [] is = refl
@@ -124,11 +126,14 @@ module _ (t : World) (m : machine.World) (law : IsLawful t) (stands : Stands t m
   replies_same h = ap answered (stands.handlers h).answer ∙ reply_same (m.handlers h).answer
 
   pub callback_none : (h : ℕ) → (t.handlers h).callback ≡ None → (m.handlers h).callback ≡ None
-  callback_none h e = no_callback (m.handlers h).callback (subst (λ o. IsCallback o (m.handlers h).callback) e (stands.handlers h).callback)
+  callback_none h e = no_callback (m.handlers h).callback
+      (subst (λ o. IsCallback o (m.handlers h).callback) e (stands.handlers h).callback)
 
   idle_no_top : (k : ℕ) → (m.handlers k).failure ≡ None → (m.handlers k).stack ≡ [] → m.rights.top k ≡ None
   idle_no_top k alive empty = sym (top_is k) ∙ based_none (t.top k)
-      (subst (λ fs. IsBased fs (t.top k)) (no_parts (m.handlers k).stack (t.handlers k).stack empty (stands.handlers k).stack) (law.consistent.based k (lives_there k alive)))
+      (subst (λ fs. IsBased fs (t.top k))
+      (no_parts (m.handlers k).stack (t.handlers k).stack empty (stands.handlers k).stack)
+      (law.consistent.based k (lives_there k alive)))
 
   is_away : (k : ℕ) → consistent.IsAway (t.handlers k) → IsAway (m.handlers k)
   is_away k a = record {
@@ -138,10 +143,11 @@ module _ (t : World) (m : machine.World) (law : IsLawful t) (stands : Stands t m
     no_reply = sym (replies_same k) ∙ a.unanswered;
   }
 
-  called_waits : (k h : ℕ) → m.rights.top k ≡ Some h → k ≢ h → (m.handlers k).failure ≡ None → (m.handlers h).failure ≡ None
+  called_waits : (k h : ℕ) → m.rights.top k ≡ Some h → k ≢ h → (m.handlers k).failure ≡ None →
+      (m.handlers h).failure ≡ None
       → (has_reply (m.handlers h).answer ≡ true) ⊎ (TopAwaits (m.handlers h).stack k → ⊥) → IsAway (m.handlers k)
   called_waits k h has ne lives alive other =
-      let first = first_of h (t.top k) (top_is k ∙ has) in
+      let first = holder_first h (t.top k) (top_is k ∙ has) in
       ⊎_elim (λ a. is_away k a)
       (λ o. ⊎_elim (λ asks. absurd (not_asks first.0 asks)) (λ f. true_false (sym f ∙ lives_there h alive)) o)
       (law.consistent.tops k h first.0 first.1 (λ e. ne (sym e)) (lives_there k lives))
@@ -153,9 +159,11 @@ module _ (t : World) (m : machine.World) (law : IsLawful t) (stands : Stands t m
           (top_awaits (m.handlers h).stack (t.handlers h).stack a.for a.waits (stands.handlers h).stack)))
           other
 
-  callback_meets : (k : ℕ) (r : machine.Request) → (m.handlers k).callback ≡ Some r → (j : ℕ) × TopAwaits (m.handlers k).stack j
+  callback_meets : (k : ℕ) (r : machine.Request) → (m.handlers k).callback ≡ Some r → (j : ℕ)
+      × TopAwaits (m.handlers k).stack j
   callback_meets k r e =
-      let c = there_callback (t.handlers k).callback r (subst (IsCallback (t.handlers k).callback) e (stands.handlers k).callback) in
+      let c = there_callback (t.handlers k).callback r
+      (subst (IsCallback (t.handlers k).callback) e (stands.handlers k).callback) in
       let p = (law.consistent.callbacks k c.0 c.1).1 in
       (p.0.target, top_awaits (m.handlers k).stack (t.handlers k).stack p.0 p.1 (stands.handlers k).stack)
 
@@ -163,9 +171,12 @@ module _ (t : World) (m : machine.World) (law : IsLawful t) (stands : Stands t m
       → (has_reply (m.handlers h).answer ≡ false) × ((m.handlers h).callback ≡ None)
   running_clear h alive quiet = by (waits_for (t.handlers h).stack) refl
     where
-      by : (o : Option Wait) → waits_for (t.handlers h).stack ≡ o → (has_reply (m.handlers h).answer ≡ false) × ((m.handlers h).callback ≡ None)
-      by None e = let c = law.consistent.clear h (lives_there h alive, e) in (sym (replies_same h) ∙ c.0, callback_none h c.1)
-      by (Some v) e = absurd (quiet v.target (top_awaits (m.handlers h).stack (t.handlers h).stack v e (stands.handlers h).stack))
+      by : (o : Option Wait) → waits_for (t.handlers h).stack ≡ o → (has_reply (m.handlers h).answer ≡ false)
+          × ((m.handlers h).callback ≡ None)
+      by None e = let c = law.consistent.clear h (lives_there h alive, e) in
+          (sym (replies_same h) ∙ c.0, callback_none h c.1)
+      by (Some v) e = absurd (quiet v.target
+          (top_awaits (m.handlers h).stack (t.handlers h).stack v e (stands.handlers h).stack))
 
   unused : (k : ℕ) → m.count ≤ k → IsUnused m k
   unused k le =
@@ -173,7 +184,8 @@ module _ (t : World) (m : machine.World) (law : IsLawful t) (stands : Stands t m
       let x = stands.handlers k in
       record {
         stack_is = no_frames (m.handlers k).stack (subst (IsStack (m.handlers k).stack) n.0.stack x.stack);
-        queue_is = no_requests (m.handlers k).queue (subst (λ rs. AreRequests rs (m.handlers k).queue) n.0.requests x.requests);
+        queue_is = no_requests (m.handlers k).queue
+            (subst (λ rs. AreRequests rs (m.handlers k).queue) n.0.requests x.requests);
         callback_is = callback_none k n.0.callback;
         answer_is = no_answer (m.handlers k).answer (sym n.0.answer ∙ x.answer);
         failure_is = no_failure (m.handlers k).failure (sym n.0.failed ∙ x.failed);
@@ -190,7 +202,8 @@ pub called_back_waits : CalledBackWaits
 called_back_waits most s root w reached = let r = reached_stands most s root w reached in called_waits r.0 w r.1 r.2
 
 pub callbacks_meet_waiters : CallbacksMeetWaiters
-callbacks_meet_waiters most s root w reached = let r = reached_stands most s root w reached in callback_meets r.0 w r.1 r.2
+callbacks_meet_waiters most s root w reached = let r = reached_stands most s root w reached in
+    callback_meets r.0 w r.1 r.2
 
 pub running_is_clear : RunningIsClear
 running_is_clear most s root w reached = let r = reached_stands most s root w reached in running_clear r.0 w r.1 r.2

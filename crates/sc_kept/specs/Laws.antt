@@ -1,4 +1,4 @@
--- What keeps a handler quiet that another one has asked: who may change what of it, in a turn of a third one.
+-- What keeps a handler quiet that another one has asked: who may change what of it in a turn of a third one.
 use Rattle.std.specs.Prelude.{ℕ, ◌≡◌, ◌≢◌, ◌<◌, ◌≤◌, ◌⊎◌, Bool, true, false, List, [], ◌∷◌, ◌++◌, Option, Some, None, is_some, Contains}
 use Rattle.std.specs.Option.{option_map}
 use Rattle.sc_tree.specs.Plain as tree
@@ -78,7 +78,7 @@ abbrev pub NoCallback : Type 0
 NoCallback = InEachReached (λ (w : World). (h k : ℕ) (q : Request) → (w.handlers h).failure ≡ None → IsUnlent w h k q
     → TopAwaits (w.handlers h).stack k × ((w.handlers h).callback ≡ None) × (has_reply (w.handlers h).answer ≡ false))
 
--- It waits for no other request that may end.
+-- Where it has no answer yet, it waits for no other request that may end.
 abbrev pub EndsTheOne : Type 0
 EndsTheOne = InEachReached (λ (w : World). (h k g : ℕ) (q r : Request) → (w.handlers h).failure ≡ None
     → (w.handlers h).answer ≡ None → IsUnlent w h k q
@@ -92,7 +92,7 @@ StandsOnce = InEachReached (λ (w : World). (h k : ℕ) (q r : Request) (before 
     → r.poster ≡ Some h → r.is_waited ≡ true → r.passed ≡ None
     → (Contains (before ++ behind) r → ⊥) × ((j : ℕ) → j ≢ k → Contains (requests_at (w.handlers j)) r → ⊥))
 
--- A handler that there isn't yet has nothing, and nobody has a right over it.
+-- The handler has nothing, and nobody has a right over it.
 pub record IsUnused (w : World) (k : ℕ) : Type 0 where
   pub stack_is : (w.handlers k).stack ≡ []
   pub queue_is : (w.handlers k).queue ≡ []
@@ -102,6 +102,7 @@ pub record IsUnused (w : World) (k : ℕ) : Type 0 where
   pub queue_right : w.rights.queue k ≡ None
   pub top_right : w.rights.top k ≡ None
 
+-- So is each handler that there isn't yet.
 abbrev pub BeyondIsUnused : Type 0
 BeyondIsUnused = InEachReached (λ (w : World). (k : ℕ) → w.count ≤ k → IsUnused w k)
 
@@ -132,6 +133,7 @@ pub record Stays (w : World) (g k : ℕ) (y : Handler) : Type 0 where
   pub queue_comes : QueueComes w g k y
   pub callback_comes : CallbackComes w g k y
 
+-- So do all others, in each turn.
 abbrev pub OthersStay : Type 0
 OthersStay = (most : ℕ) (s : System) (w : World) (g k : ℕ) → k < w.count → k ≢ g
     → Stays w g k ((turn most s g w).handlers k)
@@ -142,6 +144,7 @@ pub data OwnQueueMoves (x y : Handler) : Type 0 where
   takes : (r : Request) → x.stack ≡ [] → x.queue ≡ r ∷ y.queue → OwnQueueMoves x y
   falls : is_some y.failure ≡ true → OwnQueueMoves x y
 
+-- So it does in each turn.
 abbrev pub OwnQueueShrinks : Type 0
 OwnQueueShrinks = (most : ℕ) (s : System) (root : Root) (w : World) → IsReached most s root w → (g : ℕ)
     → OwnQueueMoves (w.handlers g) ((turn most s g w).handlers g)
@@ -188,7 +191,8 @@ pub record IsAttribute (s : System) (w : World) (g : ℕ) (r : Request) (v : Val
   pub is_set : is_unset_value binding.value type ≡ false
   pub value_is : binding.value ≡ v
 
--- how the answer of k comes in a turn of g
+-- How the answer of k comes in a turn of g: it stays; or g has failed, and k is told; or what k waits for ends: a
+-- routine exits, or is refused; an attribute has its value; or an object is made by no procedure.
 pub data AnswerComes (s : System) (w : World) (g k : ℕ) (after : World) : Type 0 where
   stays : (after.handlers k).answer ≡ (w.handlers k).answer
       → AnswerComes s w g k after
@@ -209,6 +213,7 @@ pub data AnswerComes (s : System) (w : World) (g k : ℕ) (after : World) : Type
       → (after.handlers k).answer ≡ heard (Reply None) (w.handlers k).failure (w.handlers k).answer
       → AnswerComes s w g k after
 
+-- So come the answers of all others, in each turn.
 abbrev pub AnswersCome : Type 0
 AnswersCome = (most : ℕ) (s : System) (w : World) (g k : ℕ) → k < w.count → k ≢ g
     → AnswerComes s w g k (turn most s g w)

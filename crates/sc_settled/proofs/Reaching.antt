@@ -30,7 +30,7 @@ further : (most : ℕ) (s : System) (root : Root) (h : ℕ) (w : World) → IsRe
 further most s root h w r = record { numbers = r.numbers ++ h ∷ []; run_is = run_append most s r.numbers (h ∷ []) (opening s root) ∙ ap (turn most s h) r.run_is }
 
 module _ (s : System) (root : Root) (pure : RoutineName → Bool) (faultless : IsFaultless s root) (well : WellFormed s) (tells : IsPurity s pure) (most : ℕ) where
-  abbrev IsGood : World → Type 0
+  abbrev pub IsGood : World → Type 0
   IsGood w = (k : ℕ) → Good s pure (w.handlers k)
 
   along : (hs : List ℕ) (w : World) → IsReached most s root w → WorldFits s pure w → IsGood w → IsGood (run most s hs w)
@@ -47,7 +47,7 @@ module _ (s : System) (root : Root) (pure : RoutineName → Bool) (faultless : I
       by true = λ n. empty_good s pure (root_request (option_map_or (λ k. k) (number_of s root.class) 0) root.procedure ∷ []) (inr (refl, (refl, (refl, tt))))
       by false = λ n. empty_good s pure [] (inl tt)
 
-  reached_good : (w : World) → IsReached most s root w → IsGood w
+  pub reached_good : (w : World) → IsReached most s root w → IsGood w
   reached_good w r = subst IsGood r.run_is
       (along r.numbers (opening s root) (record { numbers = []; run_is = refl }) (opening_fits s root pure faultless) opening_good)
 

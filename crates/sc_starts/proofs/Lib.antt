@@ -1,3 +1,4 @@
+pub mod Lists
 pub mod OthersAsked
 pub mod OthersFollow
 pub mod OthersLocal
@@ -21,7 +22,6 @@ pub mod PointsClauses
 pub mod PointsEntries
 pub mod PointsFunctions
 pub mod PointsKinds
-pub mod PointsLists
 pub mod PointsPure
 pub mod PointsReached
 pub mod PointsSteps

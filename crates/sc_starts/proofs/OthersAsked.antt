@@ -29,17 +29,20 @@ use Rattle.sc_values.specs.Fitting as fitting
 use Rattle.sc_values.specs.Points.{Each}
 use Rattle.sc_halves.specs.Calm.{name_of}
 use Rattle.sc_halves.specs.Clauses.{RunsPureIfRoutine}
+use Rattle.sc_halves.proofs.Linking.{one_further}
 use Rattle.sc_evaluation.specs.Evaluating.{Answers}
 use Rattle.sc_evaluation.specs.Laws.{AnswersLocally, EndsTrueLocally, ReachesLocally}
 use Rattle.sc_kept.specs.Laws.{AnswerComes, AnswersCome, BeyondIsUnused, CallbackComes, CallbacksMeetWaiters, CalledBackWaits, EndsTheOne, IsUnlent, MayAnswer, OthersStay, OwnQueueMoves, OwnQueueShrinks, QueueComes, RightsStay, Stays, StandsOnce, TopAwaits}
 use Rattle.sc_starts.specs.Following.{FollowsPure, FrameFollows, IsCalledPure, IsPending, IsQuiet, Own, PureAt, RequestStands, StackFollows, WorldFollows, bound_in, clause_request, objects_of}
 use Rattle.sc_starts.specs.Following as following
 use Rattle.sc_starts.specs.Points.{EntryFollows, PureAnswers, PureMoves}
-use Rattle.sc_starts.proofs.OthersQuiet.{StaysQuiet, false_is_true, one_holder, posts_to_there, pushes_there, quiet_stays}
+use Rattle.sc_starts.proofs.OthersQuiet.{StaysQuiet, one_holder, posts_to_there, pushes_there, quiet_stays}
 use Rattle.sc_starts.proofs.OthersRun.{Comes, On, fails_comes, on, over, settles_comes}
 use Rattle.sc_starts.proofs.OthersStack.{OnStack, Parts, not_empty, on_stack, parts, top_is_pure}
 use Rattle.sc_starts.proofs.OthersTake.{IsTypedAt, takes_comes, typed_at}
 use Rattle.sc_starts.proofs.OthersWorlds.{as_callback, began_on, begun_on, in_queue, on_stack_of, put_other, put_own}
+use Rattle.sc_starts.proofs.Lists.{false_is_true, first_of, rest_of, nothing_is_list}
+use Rattle.sc_starts.proofs.OwnMore.{stands_at}
 
 -- What is proved of rights and answers, of points and of evaluations.
 pub record Known : Type 1 where
@@ -65,29 +68,9 @@ reply_no_failure e = cc
 pub refusal_no_failure : {A : Type 0} → Refused ≡ Failed → A
 refusal_no_failure e = cc
 
-stack_is_none : {A : Type 0} {f : Frame} {fs : List Frame} → [] ≡ f ∷ fs → A
-stack_is_none e = cc
-
-queue_is_none : {A : Type 0} {q : Request} {qs : List Request} → [] ≡ q ∷ qs → A
-queue_is_none e = cc
-
-head_is : {p q : Request} {ps qs : List Request} → p ∷ ps ≡ q ∷ qs → p ≡ q
-head_is e = cc
-
-tail_is : {p q : Request} {ps qs : List Request} → p ∷ ps ≡ q ∷ qs → ps ≡ qs
-tail_is e = cc
-
 -- no reply comes to the handler
 abbrev pub IsToldNone : World → ℕ → Type 0
 IsToldNone v h = ((v.handlers h).answer ≡ Some Failed) ⊎ ((v.handlers h).answer ≡ Some Refused)
-
-one_more : (most : ℕ) (s : System) (hs : List ℕ) (h : ℕ) (w : World) → run most s (hs ++ h ∷ []) w ≡ turn most s h (run most s hs w)
-one_more most s [] h w = refl
-one_more most s (k ∷ hs) h w = one_more most s hs h (turn most s k w)
-
-one_further : (most : ℕ) (s : System) (root : Root) (h : ℕ) (w : World) → IsReached most s root w → IsReached most s root (turn most s h w)
-one_further most s root h w r =
-    record { numbers = r.numbers ++ h ∷ []; run_is = one_more most s r.numbers h (opening s root) ∙ ap (turn most s h) r.run_is }
 
 -- The frame on top of h awaits the answer to a clause's request.
 pub record Waiting (w : World) (h : ℕ) (o : Reference) : Type 0 where
@@ -112,14 +95,8 @@ module _ (known : Known) (s : System) (root : Root) (pure : RoutineName → Bool
   abbrev O : World → Type 0
   O v = Onward s pure w v h asked o x us
 
-  stands_there : RequestStands s pure w h asked o x us → Contains (requests_at (w.handlers o.handler)) asks
-  stands_there (following.queued qs e r n) = in_queue (w.handlers o.handler) asks (subst (λ (rs : List Request). Contains rs asks) (sym e) (Contains-push qs asks))
-  stands_there (following.called_back e r) = as_callback (w.handlers o.handler) asks e
-  stands_there (following.runs fs below c e i p b f r) =
-      on_stack_of (w.handlers o.handler) asks (subst (λ (st : List Frame). Contains (begun_on st) asks) (sym e) (began_on fs c below asks b))
-
   unlent : RequestStands s pure w h asked o x us → IsUnlent w h o.handler asks
-  unlent z = record { stands = stands_there z; poster_is = refl; is_waited = refl; passed_is = refl }
+  unlent z = record { stands = stands_at s pure w h asked o x us z; poster_is = refl; is_waited = refl; passed_is = refl }
 
   -- nobody else ends its request
   no_other_end : (g : ℕ) (r : Request) → (w.handlers h).answer ≡ None → RequestStands s pure w h asked o x us → MayAnswer w g h r → (g ≡ o.handler) × (r ≡ asks)
@@ -400,7 +377,7 @@ module _ (known : Known) (s : System) (root : Root) (pure : RoutineName → Bool
           first [] rest st i j = waits_on i st
           first (q ∷ rs) rest st i j =
               elsewhere (subst (λ (rs : List Request). Contains (rs ++ behind) r) (sym i)
-              (subst (λ (p : Request). Contains (q ∷ rs ++ behind) p) (head_is j) (contains_first q (rs ++ behind))))
+              (subst (λ (p : Request). Contains (q ∷ rs ++ behind) p) (first_of j) (contains_first q (rs ++ behind))))
 
           by : MayEnd (w.handlers o.handler) r → ⊥
           by (fitting.runs {f} {below = rest} st go i) = elsewhere (Contains-append_right qs behind r (Contains-append_right (to_list (w.handlers o.handler).callback)
@@ -427,7 +404,7 @@ module _ (known : Known) (s : System) (root : Root) (pure : RoutineName → Bool
 
           first : (rs rest : List Request) (r : Request) → (w.handlers o.handler).stack ≡ [] → qs ≡ rs → rs ++ asks ∷ [] ≡ r ∷ rest → (next.handlers o.handler).queue ≡ rest → O next
           first [] rest r st a j k = absurd (waits_on a st)
-          first (q ∷ rs) rest r st a j k = so rs (k ∙ sym (tail_is j))
+          first (q ∷ rs) rest r st a j k = so rs (k ∙ sym (rest_of j))
 
           by : OwnQueueMoves (w.handlers o.handler) (next.handlers o.handler) → O next
           by (OwnQueueMoves.stays j) = so qs (j ∙ queue_is)
@@ -451,8 +428,8 @@ module _ (known : Known) (s : System) (root : Root) (pure : RoutineName → Bool
             (st : List Frame) → (w.handlers o.handler).stack ≡ st → O next
         queued_by e [] i r n [] st = takes_queued
             (posts_to_there known.called_back_waits known.others_stay known.rights_stay known.beyond_is_unused most s root w reached o.handler h r) e st none i r
-        queued_by e [] i r n (t ∷ rest) st = queued_onward none z [] i r (λ a b. stack_is_none (sym b ∙ st)) n
-        queued_by e (q ∷ qs) i r n st j = queued_onward none z (q ∷ qs) i r (λ a b. queue_is_none (sym a)) n
+        queued_by e [] i r n (t ∷ rest) st = queued_onward none z [] i r (λ a b. nothing_is_list (sym b ∙ st)) n
+        queued_by e (q ∷ qs) i r n st j = queued_onward none z (q ∷ qs) i r (λ a b. nothing_is_list (sym a)) n
 
         there : RequestStands s pure w h asked o x us → (w.handlers o.handler).failure ≡ None → O next
         there (following.queued qs i r n) e = queued_by e qs i r n (w.handlers o.handler).stack refl

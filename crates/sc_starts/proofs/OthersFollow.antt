@@ -32,19 +32,14 @@ use Rattle.sc_starts.proofs.OthersAsked.{IsToldNone, Known, Onward, asked_onward
 use Rattle.sc_starts.proofs.OthersLocal.{clause_done_local, clauses_local, follows_local}
 use Rattle.sc_starts.proofs.PointsEntries.{pure_answers}
 use Rattle.sc_starts.proofs.PointsReached.{entry_follows, pure_moves}
-use Rattle.sc_starts.proofs.OthersQuiet.{StaysQuiet, false_is_true, quiet_stays}
+use Rattle.sc_starts.proofs.OthersQuiet.{StaysQuiet, quiet_stays}
+use Rattle.sc_starts.proofs.Lists.{first_of, false_is_true, some_is_none}
 
 -- ---- who waits on top
 
 -- the frame awaits an answer of k
 awaits_of : (f : Frame) (below st : List Frame) (k : ℕ) → st ≡ f ∷ below → TopAwaits st k → AwaitsOf f.stage k
-awaits_of f below st k e a = subst (λ (z : Stage). AwaitsOf z k) (sym (ap (λ (g : Frame). g.stage) (first_is (sym e ∙ a.stack_is)) ∙ a.stage_is)) refl
-  where
-    first_is : {g : Frame} {us : List Frame} → f ∷ below ≡ g ∷ us → f ≡ g
-    first_is i = cc
-
-nobody_above : {A : Type 0} {f : Frame} → Some f ≡ None → A
-nobody_above e = cc
+awaits_of f below st k e a = subst (λ (z : Stage). AwaitsOf z k) (sym (ap (λ (g : Frame). g.stage) (first_of (sym e ∙ a.stack_is)) ∙ a.stage_is)) refl
 
 -- a pure function awaits nobody
 pure_awaits_none : (s : System) (O : ℕ → List Object) (above : Option Frame) (f : Frame) (z : Stage) (k : ℕ) → FollowsPure s O above f z → AwaitsOf z k → ⊥
@@ -269,7 +264,7 @@ module _ (known : Known) (s : System) (root : Root) (pure : RoutineName → Bool
   -- below a frame
   top_below : (f : Frame) (below : List Frame) (above : Option Frame) → IsTop pure (w.handlers h).stack above (f ∷ below) → FrameFollows s pure w h above f →
       IsTop pure (w.handlers h).stack (Some f) below
-  top_below f below above top z = record { is_all = λ e. nobody_above e; or_none = λ i. inr (by (top.or_none (z.in_pure i.1).0) (z.in_pure i.1).1) }
+  top_below f below above top z = record { is_all = λ e. some_is_none e; or_none = λ i. inr (by (top.or_none (z.in_pure i.1).0) (z.in_pure i.1).1) }
     where
       by : ((w.handlers h).stack ≡ f ∷ below) ⊎ ((k : ℕ) → TopAwaits (w.handlers h).stack k → ⊥) → FollowsPure s (objects_of w) above f f.stage →
           (k : ℕ) → TopAwaits (w.handlers h).stack k → ⊥

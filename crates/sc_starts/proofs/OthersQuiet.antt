@@ -19,44 +19,25 @@ use Rattle.sc_model.specs.Takes.{takes_next}
 use Rattle.sc_model.specs.Turns.{turn, turn_with, goes_on, waits}
 use Rattle.sc_laws.specs.Headline.{has_reply}
 use Rattle.sc_kept.specs.Laws.{BeyondIsUnused, CalledBackWaits, IsAway, OthersStay, QueueComes, RightsStay, Stays, TopAwaits}
+use Rattle.sc_kept.proofs.Others.{ended_rests}
 use Rattle.sc_starts.specs.Following.{IsQuiet}
 use Rattle.sc_starts.specs.Following as following
-
-none_is_some : {A B : Type 0} {x : A} → None ≡ Some x → B
-none_is_some e = cc
-
-pub false_is_true : {B : Type 0} → false ≡ true → B
-false_is_true e = cc
-
-nothing_is_list : {A B : Type 0} {x : A} {xs : List A} → [] ≡ x ∷ xs → B
-nothing_is_list e = cc
+use Rattle.sc_starts.proofs.Lists.{nothing_is_list, none_is_some, false_is_true, first_of}
 
 pub one_holder : {x y : ℕ} {o : Option ℕ} → o ≡ Some x → o ≡ Some y → x ≡ y
 one_holder e f = cc
 
 -- ---- a failure
 
-ended_objects : (b : Bool) (x : Handler) → (session_ended b x).objects ≡ x.objects
-ended_objects true x = refl
-ended_objects false x = refl
-
-ended_failure : (b : Bool) (x : Handler) → (session_ended b x).failure ≡ x.failure
-ended_failure true x = refl
-ended_failure false x = refl
-
-ended_answer : (b : Bool) (x : Handler) → (session_ended b x).answer ≡ x.answer
-ended_answer true x = refl
-ended_answer false x = refl
-
 -- the handler that fails keeps its objects
 pub fallen_objects : (g : ℕ) (why : Cause) (taken : List Request) (v : World) → ((fails_with g why taken v).handlers g).objects ≡ (v.handlers g).objects
 fallen_objects g why taken v =
-    ended_objects (ends_session release_at.Failure && is_handler g (v.rights.queue g)) _
+    (ended_rests (ends_session release_at.Failure && is_handler g (v.rights.queue g)) _).objects
     ∙ ap (λ (b : Bool). (if b then fallen why (v.handlers g) else told (list_any (is_waited_by g) (taken ++ requests_at (v.handlers g))) (v.handlers g)).objects) (eq-eqb g g refl)
 
 pub fallen_failure : (g : ℕ) (why : Cause) (taken : List Request) (v : World) → ((fails_with g why taken v).handlers g).failure ≡ Some why
 fallen_failure g why taken v =
-    ended_failure (ends_session release_at.Failure && is_handler g (v.rights.queue g)) _
+    (ended_rests (ends_session release_at.Failure && is_handler g (v.rights.queue g)) _).failure
     ∙ ap (λ (b : Bool). (if b then fallen why (v.handlers g) else told (list_any (is_waited_by g) (taken ++ requests_at (v.handlers g))) (v.handlers g)).failure) (eq-eqb g g refl)
 
 -- ---- a turn
@@ -141,9 +122,6 @@ module _ (calls_back : CalledBackWaits) (others_stay : OthersStay) (rights_stay 
       waits_away f below e i (following.idle st qs r) = nothing_is_list (sym st ∙ i)
       waits_away f below e i (following.waiting r) = away r e
 
-      first_is : {f u : Frame} {fs us : List Frame} → f ∷ fs ≡ u ∷ us → f ≡ u
-      first_is e = cc
-
       takes : (f : Frame) (below : List Frame) (k : ℕ) (t : Option EntityType) (c : Bool) → (o : Option Answer) → (w.handlers g).answer ≡ o → has_reply o ≡ false →
           P (waits s g None o k t c f below w)
       takes f below k t c None e n = nothing
@@ -154,7 +132,7 @@ module _ (calls_back : CalledBackWaits) (others_stay : OthersStay) (rights_stay 
       goes : (f : Frame) (below : List Frame) → (w.handlers g).stack ≡ f ∷ below → IsAway (w.handlers g) → P (goes_on most s g f.stage f below w)
       goes f below i z =
           let a = z.awaits in
-          subst (λ (x : Stage). P (goes_on most s g x f below w)) (sym (ap (λ (u : Frame). u.stage) (first_is (sym i ∙ a.stack_is)) ∙ a.stage_is))
+          subst (λ (x : Stage). P (goes_on most s g x f below w)) (sym (ap (λ (u : Frame). u.stage) (first_of (sym i ∙ a.stack_is)) ∙ a.stage_is))
           (subst (λ (c : Option Request). P (waits s g c (w.handlers g).answer z.supplier a.gives a.is_creation f below w)) (sym z.no_callback)
           (takes f below z.supplier a.gives a.is_creation (w.handlers g).answer refl z.no_reply))
 

@@ -26,29 +26,13 @@ use Rattle.sc_model.specs.Steps.{Calling, Act, Prints, Tests, Creates, CreatesHa
 use Rattle.sc_model.specs.Turns.{effect, settles}
 use Rattle.sc_model.specs.Values.{Reference, Value, Operand, values_of}
 use Rattle.sc_halves.specs.Calm.{name_of}
+use Rattle.sc_halves.proofs.Guarding.{pure_waits_not}
 use Rattle.sc_evaluation.specs.Evaluating.{Answers}
 use Rattle.sc_starts.specs.Following.{Own, bound_in, clause_request, objects_of}
 use Rattle.sc_starts.specs.Points.{HasRun, KeepsActuals, PureActs, PureAnswers, PureSteps}
-use Rattle.sc_starts.proofs.OthersStack.{Ended, IsOf, OnStack, Parts, Replaces, above, called_leaves, handed_stands, named_is_pure, parts, requested_ends, top_replaced}
+use Rattle.sc_starts.proofs.OthersStack.{Ended, IsOf, OnStack, Parts, above, called_leaves, handed_stands, named_is_pure, parts, requested_ends, top_replaced}
 use Rattle.sc_starts.proofs.OthersWorlds.{Alike, began_on, begun_on, fails_told, on_stack_of, put_other, put_own, release_alike}
-
--- ---- an entry that reserved nothing doesn't wait
-
-none_lies : (xs : List (Option ℕ)) → list_any (lies_on_any []) xs ≡ false
-none_lies [] = refl
-none_lies (None ∷ xs) = none_lies xs
-none_lies (Some k ∷ xs) = none_lies xs
-
-no_wait : (xs : List (Option ℕ)) → verdict_of_false (clause_kind [] xs) ≡ verdict.Wait → ⊥
-no_wait xs e = refused (subst (λ (b : Bool). verdict_of_false (kind_where b) ≡ verdict.Wait) (none_lies xs) e)
-  where
-    refused : verdict.Refuse ≡ verdict.Wait → ⊥
-    refused e = cc
-
-waits_not : (f : Frame) (k : Clause) → f.reserved ≡ [] → verdict_on f k ≡ verdict.Wait → ⊥
-waits_not f k none e =
-    let xs = formals_among f.environment (names_in k.condition) in
-    no_wait xs (subst (λ (ks : List ℕ). verdict_of_false (clause_kind ks xs) ≡ verdict.Wait) none e)
+use Rattle.sc_starts.proofs.OwnKept.{IsAlike}
 
 -- ---- what comes of it
 
@@ -246,7 +230,7 @@ module _ (s : System) (pure : RoutineName → Bool) (g h : ℕ) (apart : h ≢ g
   -- ---- a turn of its topmost frame
 
   -- the frame at a point with the same actuals stands in its place
-  at_point : (t : Frame) (p : Point) → bound_in (frame_at t p) ≡ bound_in t → Replaces s pure asks o x us t (frame_at t p)
+  at_point : (t : Frame) (p : Point) → bound_in (frame_at t p) ≡ bound_in t → IsAlike t (frame_at t p)
   at_point t p e = record { current_is = refl; routine_is = refl; origin_is = refl; bound_is = e }
 
   module _ (pure_answers : PureAnswers) (t : Frame) (rest : List Frame) (mine : t.current.handler ≡ g) (before : On w) (at : (w.handlers g).stack ≡ t ∷ rest)
@@ -299,7 +283,7 @@ module _ (s : System) (pure : RoutineName → Bool) (g h : ℕ) (apart : h ≢ g
         (record { current_is = refl; routine_is = refl; origin_is = refl; bound_is = keeps.bound_are }) standing)
         (named_is_pure s pure y.class k z.3)
     act_comes most (Requests y k vs gives passing) p z = absurd z
-    act_comes most (Refuses k) p z = clause_comes (verdict_on (frame_at t p) k) (frame_at t p) rest (moved p) (waits_not (frame_at t p) k reserves_nothing) (moved_on p z) (moved_stands p z)
+    act_comes most (Refuses k) p z = clause_comes (verdict_on (frame_at t p) k) (frame_at t p) rest (moved p) (pure_waits_not (frame_at t p) k reserves_nothing) (moved_on p z) (moved_stands p z)
     act_comes most Opens p z = absurd z
     act_comes most Leaves p z = absurd z
     act_comes most Exits p z = exits_comes (frame_at t p) rest (moved p) z.1.0 (moved_on p z.2) (moved_stands p z.2) z.1.1 (gives_value p z.1.0 z.0 z.1.1 z.2)

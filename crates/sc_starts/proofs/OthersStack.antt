@@ -15,15 +15,8 @@ use Rattle.sc_model.specs.Values.{Reference, Value, Operand, values_of}
 use Rattle.sc_values.specs.Points.{Each}
 use Rattle.sc_halves.specs.Calm.{name_of}
 use Rattle.sc_starts.specs.Following.{IsCalledPure, IsFor, bound_in, is_called}
-
-no_true : {B : Type 0} → false ≡ true → B
-no_true e = cc
-
-first_of_two : {x y : Frame} {xs ys : List Frame} → x ∷ xs ≡ y ∷ ys → x ≡ y
-first_of_two e = cc
-
-rest_of_two : {x y : Frame} {xs ys : List Frame} → x ∷ xs ≡ y ∷ ys → xs ≡ ys
-rest_of_two e = cc
+use Rattle.sc_starts.proofs.Lists.{first_of, rest_of, false_is_true}
+use Rattle.sc_starts.proofs.OwnKept.{IsAlike, alike_for, alike_pure}
 
 same_request : {q r : Request} → Requested q ≡ Requested r → q ≡ r
 same_request e = cc
@@ -59,42 +52,28 @@ module _ (s : System) (pure : RoutineName → Bool) (q : Request) (o : Reference
 
   -- ---- its topmost frame
 
-  -- The frame stands in its place: it runs the same for the same.
-  pub record Replaces (f g : Frame) : Type 0 where
-    pub current_is : g.current ≡ f.current
-    pub routine_is : g.routine ≡ f.routine
-    pub origin_is : g.origin ≡ f.origin
-    pub bound_is : bound_in g ≡ bound_in f
-
-  replaced : (f g : Frame) → Replaces f g → IsOf f → IsOf g
+  replaced : (f g : Frame) → IsAlike f g → IsOf f → IsOf g
   replaced f g r i = record {
     is_pure = ap (λ (z : Routine). pure (name_of z)) r.routine_is ∙ i.is_pure;
     origin_is = r.origin_is ∙ i.origin_is;
-    is_for = record {
-      current_is = r.current_is ∙ i.is_for.current_is;
-      routine_is = i.is_for.routine_is ∙ ap Some (sym r.routine_is);
-      bound_is = ap (λ (z : Routine). formals_bound s z.text.formals 0 z.text.formals (values_of us)) r.routine_is ∙ i.is_for.bound_is ∙ ap Some (sym r.bound_is);
-    };
+    is_for = alike_for s o x (values_of us) f g r i.is_for;
   }
 
-  called_replaced : (f g : Frame) → Replaces f g → IsCalledPure pure f → IsCalledPure pure g
-  called_replaced f g r i = (ap is_called r.origin_is ∙ i.0, ap (λ (z : Routine). pure (name_of z)) r.routine_is ∙ i.1)
-
-  pub top_replaced : (below : List Frame) (f g : Frame) (fs : List Frame) → Replaces f g → OnStack below (f ∷ fs) → OnStack below (g ∷ fs)
+  pub top_replaced : (below : List Frame) (f g : Frame) (fs : List Frame) → IsAlike f g → OnStack below (f ∷ fs) → OnStack below (g ∷ fs)
   top_replaced below f g fs r z = by (f ∷ fs) z refl
     where
       by : (st : List Frame) → OnStack below st → st ≡ f ∷ fs → OnStack below (g ∷ fs)
-      by _ (is_it {c = u} i) e = subst (λ (us : List Frame). OnStack below (g ∷ us)) (rest_of_two e)
-          (is_it (replaced f g r (subst IsOf (first_of_two e) i)))
-      by _ (above {f = u} {fs = us} i more) e = above (called_replaced f g r (subst (IsCalledPure pure) (first_of_two e) i)) (subst (OnStack below) (rest_of_two e) more)
+      by _ (is_it {c = u} i) e = subst (λ (us : List Frame). OnStack below (g ∷ us)) (rest_of e)
+          (is_it (replaced f g r (subst IsOf (first_of e) i)))
+      by _ (above {f = u} {fs = us} i more) e = above (alike_pure pure f g r (subst (IsCalledPure pure) (first_of e) i)) (subst (OnStack below) (rest_of e) more)
 
   -- it is pure
   pub top_is_pure : (below : List Frame) (f : Frame) (fs : List Frame) → OnStack below (f ∷ fs) → pure (name_of f.routine) ≡ true
   top_is_pure below f fs z = by (f ∷ fs) z refl
     where
       by : (st : List Frame) → OnStack below st → st ≡ f ∷ fs → pure (name_of f.routine) ≡ true
-      by _ (is_it {c = u} i) e = subst (λ (g : Frame). pure (name_of g.routine) ≡ true) (first_of_two e) i.is_pure
-      by _ (above {f = u} {fs = us} i more) e = subst (λ (g : Frame). pure (name_of g.routine) ≡ true) (first_of_two e) i.1
+      by _ (is_it {c = u} i) e = subst (λ (g : Frame). pure (name_of g.routine) ≡ true) (first_of e) i.is_pure
+      by _ (above {f = u} {fs = us} i more) e = subst (λ (g : Frame). pure (name_of g.routine) ≡ true) (first_of e) i.1
 
   pub not_empty : (below : List Frame) → OnStack below [] → ⊥
   not_empty below z = by [] z refl
@@ -111,8 +90,8 @@ module _ (s : System) (pure : RoutineName → Bool) (q : Request) (o : Reference
       not_requested e = cc
 
       by : (st : List Frame) → OnStack below st → st ≡ f ∷ fs → OnStack below fs
-      by _ (is_it {c = u} i) e = not_requested (sym o_is ∙ sym (ap (λ (g : Frame). g.origin) (first_of_two e)) ∙ i.origin_is)
-      by _ (above {f = u} {fs = us} i more) e = subst (OnStack below) (rest_of_two e) more
+      by _ (is_it {c = u} i) e = not_requested (sym o_is ∙ sym (ap (λ (g : Frame). g.origin) (first_of e)) ∙ i.origin_is)
+      by _ (above {f = u} {fs = us} i more) e = subst (OnStack below) (rest_of e) more
 
   -- where a request began it, it is that of the request, on the others
   pub record Ended (below : List Frame) (f : Frame) (fs : List Frame) (r : Request) : Type 0 where
@@ -125,13 +104,13 @@ module _ (s : System) (pure : RoutineName → Bool) (q : Request) (o : Reference
     where
       by : (st : List Frame) → OnStack below st → st ≡ f ∷ fs → Ended below f fs r
       by _ (is_it {c = u} i) e =
-          let j : IsOf f = subst IsOf (first_of_two e) i in
-          record { is_of = j; rest_is = sym (rest_of_two e); request_is = same_request (sym o_is ∙ j.origin_is) }
+          let j : IsOf f = subst IsOf (first_of e) i in
+          record { is_of = j; rest_is = sym (rest_of e); request_is = same_request (sym o_is ∙ j.origin_is) }
       by _ (above {f = u} {fs = us} i more) e =
-          no_true (sym (ap is_called (ap (λ (g : Frame). g.origin) (first_of_two e) ∙ o_is)) ∙ i.0)
+          false_is_true (sym (ap is_called (ap (λ (g : Frame). g.origin) (first_of e) ∙ o_is)) ∙ i.0)
 
   -- a value that is handed to the topmost leaves it in its place
-  handed_replaces : (v : Option Value) (f : Frame) (st : Stage) → Replaces f (handed_at st v f)
+  handed_replaces : (v : Option Value) (f : Frame) (st : Stage) → IsAlike f (handed_at st v f)
   handed_replaces (Some v) f (InCall (Some t)) = record { current_is = refl; routine_is = refl; origin_is = refl; bound_is = refl }
   handed_replaces None f (InCall (Some t)) = record { current_is = refl; routine_is = refl; origin_is = refl; bound_is = refl }
   handed_replaces v f (InCall None) = record { current_is = refl; routine_is = refl; origin_is = refl; bound_is = refl }

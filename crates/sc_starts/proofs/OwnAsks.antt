@@ -17,9 +17,11 @@ use Rattle.sc_model.specs.Handlers.{Request, Answer, Reply, Failed, Refused, Awa
 use Rattle.sc_model.specs.Failures.{fail}
 use Rattle.sc_model.specs.Asking.{placed, send, is_callback, asks, request}
 use Rattle.sc_laws.proofs.links.Standing.{m_put-own, m_put-off}
+use Rattle.sc_values.proofs.Lists.{no_both}
 use Rattle.sc_halves.specs.Calm.{name_of}
 use Rattle.sc_halves.specs.Clauses.{RunsPureIfRoutine}
 use Rattle.sc_halves.specs.Entries.{HasStarted}
+use Rattle.sc_kept.proofs.Turned.{is_holder, not_true}
 use Rattle.sc_starts.specs.Following.{objects_of, MayAsk, bound_in, ClauseDone, IsQuiet, clause_request, RequestStands, IsPending, AwaitsOf, IsLost, AboveIsPure, InPrecondition, FrameFollows, StackFollows}
 use Rattle.sc_starts.specs.Following as following
 use Rattle.sc_starts.specs.Points.{InContract}
@@ -27,27 +29,15 @@ use Rattle.sc_starts.proofs.OwnWorlds.{IsNoReply, put_objects, quiet_stays}
 use Rattle.sc_starts.proofs.OwnKept.{AllPlain, plain_follows}
 use Rattle.sc_starts.proofs.OwnMoves.{Follow, moved_in, at_stage, either_follow, fails_follow, same_stack, moved_stack}
 
--- the holder is the handler
-holder_is : (h : ℕ) (o : Option ℕ) → is_handler h o ≡ true → o ≡ Some h
-holder_is h None e = cc
-holder_is h (Some k) e = ap (λ (j : ℕ). Some j) (eqb-true k h e)
-
-is_holder : (h : ℕ) (o : Option ℕ) → o ≡ Some h → is_handler h o ≡ true
-is_holder h o e = ap (is_handler h) e ∙ eq-eqb h h refl
+-- who holds it holds it
+holds_it : (h : ℕ) (o : Option ℕ) → o ≡ Some h → is_handler h o ≡ true
+holds_it h o e = ap (is_handler h) e ∙ eq-eqb h h refl
 
 -- one of the rights is the handler's, and the second isn't
 first_right : (a b c : Bool) → a ≡ false → (a || b || c) ≡ true → c ≡ false → b ≡ true
 first_right true b c e f g = cc
 first_right false true c e f g = refl
 first_right false false c e f g = let both : true ≡ false = sym f ∙ g in cc
-
-not_true : (b : Bool) → not b ≡ false → b ≡ true
-not_true true e = refl
-not_true false e = cc
-
-no_both : {A : Type 0} (b : Bool) → b ≡ true → b ≡ false → A
-no_both true e f = cc
-no_both false e f = cc
 
 -- there is no reply, or none has come
 answer_so : (a : Option Answer) → ((v : Option Value) → a ≡ Some (Reply v) → ⊥) → (a ≡ None) ⊎ IsNoReply a
@@ -142,17 +132,17 @@ module _ (s : System) (pure : RoutineName → Bool) (w : World) (h : ℕ) (f : F
   -- ---- where it stands
 
   called_back : is_handler h (w.rights.top K) ≡ true → Follow s pure h (V true)
-  called_back top = asks_follow true (following.called_back (ap (λ (y : Handler). y.callback) (target true)) (holder_is h (w.rights.top K) top))
+  called_back top = asks_follow true (following.called_back (ap (λ (y : Handler). y.callback) (target true)) (is_holder h (w.rights.top K) top))
 
   queued : held w.rights h K ≡ true → (w.handlers K).failure ≡ None → is_handler h (w.rights.top K) ≡ false → Follow s pure h (V false)
   queued holds stands top = asks_follow false (following.queued (w.handlers K).queue (ap (λ (y : Handler). y.queue) (target false))
-      (holder_is h (w.rights.queue K) (first_right (K == h) (is_handler h (w.rights.queue K)) (is_handler h (w.rights.top K)) (ne_eqb K h apart) holds top))
+      (is_holder h (w.rights.queue K) (first_right (K == h) (is_handler h (w.rights.queue K)) (is_handler h (w.rights.top K)) (ne_eqb K h apart) holds top))
       (λ m. by (quiet K m).1))
     where
       by : IsQuiet w h K → ((w.handlers K).queue ≡ []) × (((V false).handlers K).stack ≡ [])
-      by (following.failed e) = no_both (is_some (w.handlers K).failure) e (ap is_some stands)
+      by (following.failed e) = absurd (no_both (is_some (w.handlers K).failure) e (ap is_some stands))
       by (following.idle a b r) = (b, ap (λ (y : Handler). y.stack) (target false) ∙ a)
-      by (following.waiting e) = no_both (is_handler h (w.rights.top K)) (is_holder h (w.rights.top K) e) top
+      by (following.waiting e) = absurd (no_both (is_handler h (w.rights.top K)) (holds_it h (w.rights.top K) e) top)
 
   sent : held w.rights h K ≡ true → (w.handlers K).failure ≡ None → (c : Bool) → is_handler h (w.rights.top K) ≡ c → Follow s pure h (V c)
   sent holds stands true e = called_back e

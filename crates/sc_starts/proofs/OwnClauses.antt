@@ -42,24 +42,19 @@ use Rattle.sc_halves.specs.Calm.{name_of}
 use Rattle.sc_halves.specs.Entries.{HasStarted}
 use Rattle.sc_evaluation.specs.Evaluating.{Answers}
 use Rattle.sc_evaluation.specs.Laws.{AnswersMore, EndsTrueMore, ReachesMore, TextsAreTestless}
+use Rattle.sc_kept.proofs.Others.{ended_rests, ended_answer}
 use Rattle.sc_starts.specs.Following.{objects_of, MayAsk, Own, bound_in, between_point, behind_clause, ClausesAt, ClauseDone, IsQuiet, clause_request, RequestStands, IsPending, AwaitsOf, IsLost, AboveIsPure, StandsByStage, InPrecondition, FrameFollows, StackFollows}
 use Rattle.sc_starts.specs.Following as following
 use Rattle.sc_starts.specs.Points.{InContract, ClauseActs, ClauseSteps, ClauseMoves, GoesOn}
 use Rattle.sc_starts.proofs.PointsEntries.{clause_goes_on_answered, entry_is_between}
 use Rattle.sc_starts.proofs.OwnWorlds.{IsNoReply, IsSame, same_put}
 use Rattle.sc_starts.proofs.OwnKept.{AllPlain, not_awaited, plain_follows, plain_kept}
-use Rattle.sc_starts.proofs.OwnPlain.{stays, refuses_good}
+use Rattle.sc_starts.proofs.OwnPlain.{stays, refuses_good, reply_none}
 use Rattle.sc_starts.proofs.OwnEntries.{begins_or_starts, entry_follows_there}
 use Rattle.sc_starts.proofs.OwnMoves.{Follow, Ahead, moved_in, at_stage, either_follow, fails_follow, same_stack, moved_stack, enters_follow, entry_for, entry_pure, entered_so, calls_there}
 use Rattle.sc_starts.proofs.OwnAsks.{request_follows}
 use Rattle.sc_starts.proofs.OwnMore.{clause_done_more, stands_at}
-
-first_of : (f g : Frame) (a b : List Frame) → f ∷ a ≡ g ∷ b → f ≡ g
-first_of f g a b e = cc
-
-reply_none : (v : Option Value) (A : Type 0) → IsNoReply (Some (Reply v)) → A
-reply_none v A (inl e) = cc
-reply_none v A (inr e) = cc
+use Rattle.sc_starts.proofs.Lists.{first_of}
 
 module _ (testless : TextsAreTestless) (clauses_moved : ClauseMoves) (answers_more : AnswersMore) (reaches_more : ReachesMore) (ends_true_more : EndsTrueMore)
     (s : System) (root : Root) (pure : RoutineName → Bool) (faultless : IsFaultless s root) (well : WellFormed s) (tells : IsPurity s pure) (most : ℕ)
@@ -148,23 +143,11 @@ module _ (testless : TextsAreTestless) (clauses_moved : ClauseMoves) (answers_mo
       abbrev Ended : World
       Ended = release release_at.FalseWaitCondition f.reserved (with_stack h St w)
 
-      ended_objects : (b : Bool) (x : Handler) → (session_ended b x).objects ≡ x.objects
-      ended_objects true x = refl
-      ended_objects false x = refl
-
-      ended_stack : (b : Bool) (x : Handler) → (session_ended b x).stack ≡ x.stack
-      ended_stack true x = refl
-      ended_stack false x = refl
-
-      ended_answer : (b : Bool) (x : Handler) → (session_ended b x).answer ≡ x.answer
-      ended_answer true x = refl
-      ended_answer false x = refl
-
       abbrev Ends : ℕ → Bool
       Ends k = ends_session release_at.FalseWaitCondition && is_among k f.reserved
 
       objects_ended : objects_of Ended ≡ O
-      objects_ended = fun_ext (λ k. ended_objects (Ends k) ((with_stack h St w).handlers k)) ∙ (same_stack h St w).objects_are
+      objects_ended = fun_ext (λ k. (ended_rests (Ends k) ((with_stack h St w).handlers k)).objects) ∙ (same_stack h St w).objects_are
 
       bound_anew : bound_in Anew ≡ bound_in f
       bound_anew = ap (λ (bs : List Binding). take (length f.routine.text.formals) bs) (c.environment_is ∙ sym i.environment_is)
@@ -202,7 +185,7 @@ module _ (testless : TextsAreTestless) (clauses_moved : ClauseMoves) (answers_mo
           (inl (subst (StackFollows s pure Ended h None) (sym stack_is) (anew, rest_follows Ended (Some Anew) no_reply)))
         where
           stack_is : (Ended.handlers h).stack ≡ St
-          stack_is = ended_stack (Ends h) ((with_stack h St w).handlers h) ∙ ap (λ (x : Handler). x.stack) (m_put-own h (record (w.handlers h) { stack = St }) w)
+          stack_is = (ended_rests (Ends h) ((with_stack h St w).handlers h)).stack ∙ ap (λ (x : Handler). x.stack) (m_put-own h (record (w.handlers h) { stack = St }) w)
 
           no_reply : IsNoReply (w.handlers h).answer → IsNoReply (Ended.handlers h).answer
           no_reply n = subst IsNoReply (sym (ended_answer (Ends h) ((with_stack h St w).handlers h))) ((same_stack h St w).no_reply n)
@@ -225,7 +208,7 @@ module _ (testless : TextsAreTestless) (clauses_moved : ClauseMoves) (answers_mo
     never v e =
         let z : ReplyFits s w h v = replies v e in
         let waits : Runs ≡ Awaits z.supplier z.takes z.is_creation =
-        sym runs_now ∙ ap (λ (g : Frame). g.stage) (first_of f z.frame below z.below (sym at ∙ z.stack_is)) ∙ z.stage_is in
+        sym runs_now ∙ ap (λ (g : Frame). g.stage) (first_of (sym at ∙ z.stack_is)) ∙ z.stage_is in
         cc
 
     apart : (o : Reference) (x : List ℕ) (us : List Operand) (gives : Option EntityType) (passing : Bool) (p : Point) →

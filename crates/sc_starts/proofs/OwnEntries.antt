@@ -21,7 +21,7 @@ use Rattle.sc_model.specs.Entries.{entry, stage_with}
 use Rattle.sc_model.specs.Handlers.{Origin, Frame, World, point_of}
 use Rattle.sc_values.specs.Fitting.{FrameFits}
 use Rattle.sc_values.specs.Points.{Each}
-use Rattle.sc_values.proofs.Lists.{none_in}
+use Rattle.sc_values.proofs.Lists.{none_in, same_some}
 use Rattle.sc_halves.specs.Calm.{name_of}
 use Rattle.sc_halves.specs.Clauses.{RunsPure}
 use Rattle.sc_halves.specs.Entries.{HasStarted}
@@ -34,9 +34,6 @@ use Rattle.sc_starts.proofs.PointsEntries.{entry_follows, entry_is_between, take
 use Rattle.sc_starts.proofs.OwnKept.{plain_follows}
 use Rattle.sc_starts.proofs.OwnPlain.{IsCalm, IsEntry, plain, entered}
 
-same_routine : (q r : Routine) → Some q ≡ Some r → q ≡ r
-same_routine q r e = cc
-
 -- ---- a function that contracts may call reserves nothing as it is entered
 
 abbrev ReservesNothing : System → (RoutineName → Bool) → Routine → Type 0
@@ -45,7 +42,7 @@ ReservesNothing s pure r = pure (name_of r) ≡ true → (bs : List Binding) →
 module _ (s : System) (pure : RoutineName → Bool) (tells : IsPurity s pure) where
   of_kinds : (f : DeclaredFeature) (k : ℕ) (m o : FeatureKind) (r : Routine) → f.feature.kind ≡ m → purity.routine_named s (rules.routine_of f) ≡ Some f →
       routine_with s f.feature.name.text f.class m k o ≡ Some r → ReservesNothing s pure r
-  of_kinds f k (tree.Routine own) (tree.Routine original) r kind there e = subst (ReservesNothing s pure) (same_routine _ r e)
+  of_kinds f k (tree.Routine own) (tree.Routine original) r kind there e = subst (ReservesNothing s pure) (same_some e)
       (λ is bs b. pure_reserve_nothing s pure tells (rules.routine_of f) is f own there kind b.0 bs b.1)
   of_kinds f k (tree.Attribute d) o r kind there e = cc
   of_kinds f k (tree.Routine own) (tree.Attribute d) r kind there e = cc
@@ -69,7 +66,7 @@ module _ (s : System) (pure : RoutineName → Bool) (tells : IsPurity s pure) wh
 module _ (s : System) (pure : RoutineName → Bool) where
   named_so : (f : DeclaredFeature) (k : ℕ) (m o : FeatureKind) (r : Routine) → pure (rules.routine_of f) ≡ true →
       routine_with s f.feature.name.text f.class m k o ≡ Some r → pure (name_of r) ≡ true
-  named_so f k (tree.Routine own) (tree.Routine original) r is e = subst (λ (q : Routine). pure (name_of q) ≡ true) (same_routine _ r e) is
+  named_so f k (tree.Routine own) (tree.Routine original) r is e = subst (λ (q : Routine). pure (name_of q) ≡ true) (same_some e) is
   named_so f k (tree.Attribute d) o r is e = cc
   named_so f k (tree.Routine own) (tree.Attribute d) r is e = cc
 

@@ -33,6 +33,7 @@ use Rattle.sc_starts.proofs.OwnEntries.{calm_follows}
 use Rattle.sc_starts.proofs.OwnMoves.{Follow, fails_follow}
 use Rattle.sc_starts.proofs.OwnPure.{pure_follows}
 use Rattle.sc_starts.proofs.OwnClauses.{clause_follows}
+use Rattle.sc_starts.proofs.Lists.{some_is_none}
 
 module _ (s : System) (root : Root) (pure : RoutineName → Bool) (faultless : IsFaultless s root) (well : WellFormed s) (tells : IsPurity s pure) (most h : ℕ)
     (w : World) (reached : IsReached most s root w) (follows : WorldFollows s pure w) (here : h < w.count) where
@@ -83,12 +84,9 @@ module _ (s : System) (root : Root) (pure : RoutineName → Bool) (faultless : I
 
   -- ---- the turn
 
-  no_failure : (why : Cause) (A : Type 0) → Some why ≡ None → A
-  no_failure why A e = cc
-
   there : (why : Option Cause) (st : List Frame) → (w.handlers h).failure ≡ why → (w.handlers h).stack ≡ st → ((turn_with most s h why st w).handlers h).failure ≡ None →
       Follow s pure h (turn_with most s h why st w)
-  there (Some why) st e at lives = no_failure why (Follow s pure h w) (sym e ∙ lives)
+  there (Some why) st e at lives = some_is_none (sym e ∙ lives)
   there None [] e at lives = inr (next_good s pure h w (w.handlers h).queue at)
   there None (f ∷ below) e at lives = goes_follow e f below at
 

@@ -14,6 +14,7 @@ use Rattle.sc_halves.specs.Entries.{HasStarted}
 use Rattle.sc_starts.specs.Following.{objects_of, MayAsk, bound_in, between_point, ClausesAt, ClauseDone, PureAt, PureCalls, IsFor, AboveIsFor, FollowsPure, AwaitsOf, IsQuiet, is_called, IsCalledPure, StandsByStage, InPrecondition, IsLost, AboveIsPure, FrameFollows, StackFollows}
 use Rattle.sc_starts.specs.Following as following
 use Rattle.sc_starts.proofs.OwnWorlds.{IsNoReply, IsSame}
+use Rattle.sc_starts.proofs.Lists.{some_is_none}
 
 -- ---- frames that are alike
 
@@ -48,9 +49,6 @@ ByObjects s O h asked above g (InCall (Some t)) = (c : Calling) × (o : Referenc
     × (o.handler ≡ h) × IsFor s o x (values_of us) above
 ByObjects s O h asked above g stage = ⊥
 
-not_none : {A : Type 0} (f : Frame) → Some f ≡ None → A
-not_none f e = cc
-
 module _ (s : System) (pure : RoutineName → Bool) (w : World) (h : ℕ) (asked : List ℕ) (f g : Frame) where
   by_objects : (st : Stage) → StandsByStage s pure w h asked (Some f) g st → ByObjects s (objects_of w) h asked f g st
   by_objects Runs z = z
@@ -58,7 +56,7 @@ module _ (s : System) (pure : RoutineName → Bool) (w : World) (h : ℕ) (asked
   by_objects ReservesBlock z = absurd z
   by_objects (InCall (Some t)) z = z
   by_objects (InCall None) z = absurd z
-  by_objects (Awaits k (Some t) false) (o, x, us, done, at, other, none, runs, pending) = not_none f none
+  by_objects (Awaits k (Some t) false) (o, x, us, done, at, other, none, runs, pending) = some_is_none none
   by_objects (Awaits k (Some t) true) z = absurd z
   by_objects (Awaits k None c) z = absurd z
 

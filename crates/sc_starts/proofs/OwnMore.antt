@@ -17,6 +17,7 @@ use Rattle.sc_laws.proofs.Machine.{contains_first}
 use Rattle.sc_evaluation.specs.Laws.{ReachesMore, EndsTrueMore}
 use Rattle.sc_starts.specs.Following.{behind_clause, clause_of, Hold, HasDone, ClauseDone, clause_request, RequestStands}
 use Rattle.sc_starts.specs.Following as following
+use Rattle.sc_starts.proofs.OthersWorlds.{as_callback, began_on, begun_on, in_queue, on_stack_of}
 
 -- ---- more may be asked
 
@@ -43,21 +44,10 @@ module _ (reaches_more : ReachesMore) (ends_true_more : EndsTrueMore) (s : Syste
 
 -- ---- the request stands there
 
-abbrev begun_on : List Frame → List Request
-begun_on st = flat_map (λ (f : Frame). request_of f.origin) st
-
-began_on : (fs : List Frame) (c : Frame) (below : List Frame) (q : Request) → c.origin ≡ Requested q → Contains (begun_on (fs ++ c ∷ below)) q
-began_on [] c below q e = subst (λ (qs : List Request). Contains (qs ++ begun_on below) q) (sym (ap request_of e)) (contains_first q (begun_on below))
-began_on (f ∷ fs) c below q e = Contains-append_right (request_of f.origin) (begun_on (fs ++ c ∷ below)) q (began_on fs c below q e)
-
 pub stands_at : (s : System) (pure : RoutineName → Bool) (w : World) (h : ℕ) (asked : List ℕ) (o : Reference) (x : List ℕ) (us : List Operand) →
     RequestStands s pure w h asked o x us → Contains (requests_at (w.handlers o.handler)) (clause_request h o x us)
-stands_at s pure w h asked o x us (following.queued qs e r n) = Contains-append_left ((w.handlers o.handler).queue ++ to_list (w.handlers o.handler).callback) (begun_on (w.handlers o.handler).stack)
-    (clause_request h o x us) (Contains-append_left (w.handlers o.handler).queue (to_list (w.handlers o.handler).callback) (clause_request h o x us)
-    (subst (λ (rs : List Request). Contains rs (clause_request h o x us)) (sym e) (Contains-push qs (clause_request h o x us))))
-stands_at s pure w h asked o x us (following.called_back e r) = Contains-append_left ((w.handlers o.handler).queue ++ to_list (w.handlers o.handler).callback) (begun_on (w.handlers o.handler).stack)
-    (clause_request h o x us) (Contains-append_right (w.handlers o.handler).queue (to_list (w.handlers o.handler).callback) (clause_request h o x us)
-    (subst (λ (c : Option Request). Contains (to_list c) (clause_request h o x us)) (sym e) (contains_first (clause_request h o x us) [])))
-stands_at s pure w h asked o x us (following.runs fs below c e i p b f r) =
-    Contains-append_right ((w.handlers o.handler).queue ++ to_list (w.handlers o.handler).callback) (begun_on (w.handlers o.handler).stack) (clause_request h o x us)
+stands_at s pure w h asked o x us (following.queued qs e r n) = in_queue (w.handlers o.handler) (clause_request h o x us)
+    (subst (λ (rs : List Request). Contains rs (clause_request h o x us)) (sym e) (Contains-push qs (clause_request h o x us)))
+stands_at s pure w h asked o x us (following.called_back e r) = as_callback (w.handlers o.handler) (clause_request h o x us) e
+stands_at s pure w h asked o x us (following.runs fs below c e i p b f r) = on_stack_of (w.handlers o.handler) (clause_request h o x us)
     (subst (λ (st : List Frame). Contains (begun_on st) (clause_request h o x us)) (sym e) (began_on fs c below (clause_request h o x us) b))

@@ -38,24 +38,6 @@ use Rattle.sc_starts.proofs.OwnKept.{not_awaited}
 use Rattle.sc_starts.proofs.OwnPlain.{IsCalm, IsEntry, fails_good}
 use Rattle.sc_starts.proofs.OwnEntries.{runs_pure}
 
--- ---- an entry that reserved nothing doesn't wait
-
-none_lies : (xs : List (Option ℕ)) → list_any (lies_on_any []) xs ≡ false
-none_lies [] = refl
-none_lies (None ∷ xs) = none_lies xs
-none_lies (Some k ∷ xs) = none_lies xs
-
-no_wait : (xs : List (Option ℕ)) → verdict_of_false (clause_kind [] xs) ≡ verdict.Wait → ⊥
-no_wait xs e = refused (subst (λ (b : Bool). verdict_of_false (kind_where b) ≡ verdict.Wait) (none_lies xs) e)
-  where
-    refused : verdict.Refuse ≡ verdict.Wait → ⊥
-    refused e = cc
-
-pub waits_not : (f : Frame) (k : Clause) → f.reserved ≡ [] → verdict_on f k ≡ verdict.Wait → ⊥
-waits_not f k none e =
-    let xs = formals_among f.environment (names_in k.condition) in
-    no_wait xs (subst (λ (ks : List ℕ). verdict_of_false (clause_kind ks xs) ≡ verdict.Wait) none e)
-
 -- ---- what is left
 
 module _ (s : System) (pure : RoutineName → Bool) (h : ℕ) where

@@ -68,7 +68,7 @@ runs_started : (pure : RoutineName → Bool) (a : Option Answer) (f : Frame) →
 runs_started pure a f e (inl i, p) = i
 runs_started pure a f e (inr i, p) = let both : true ≡ false = sym i.0 ∙ e in cc
 
-reply_none : (v : Option Value) (A : Type 0) → IsNoReply (Some (Reply v)) → A
+pub reply_none : (v : Option Value) (A : Type 0) → IsNoReply (Some (Reply v)) → A
 reply_none v A (inl e) = cc
 reply_none v A (inr e) = cc
 

@@ -34,6 +34,7 @@ use Rattle.sc_values.specs.Fitting as fitting
 use Rattle.sc_values.specs.Points.{Each}
 use Rattle.sc_halves.specs.Calm.{name_of}
 use Rattle.sc_halves.specs.Entries.{HasStarted}
+use Rattle.sc_halves.proofs.Guarding.{pure_waits_not}
 use Rattle.sc_evaluation.specs.Evaluating.{Answers}
 use Rattle.sc_evaluation.specs.Laws.{AnswersMore, TextsAreTestless}
 use Rattle.sc_starts.specs.Following.{objects_of, MayAsk, Own, AreBound, bound_in, PureAt, PureCalls, ClausesAt, IsFor, AboveIsFor, FollowsPure, is_called, IsCalledPure, IsLost, AboveIsPure, StandsByStage, InPrecondition, FrameFollows, StackFollows}
@@ -43,12 +44,10 @@ use Rattle.sc_starts.proofs.OwnWorlds.{IsNoReply, none_released}
 use Rattle.sc_starts.proofs.OwnKept.{IsAlike, AllPlain, below_kept, not_awaited, plain_below, plain_kept}
 use Rattle.sc_starts.proofs.OwnPlain.{plain, finish_good, release_good, stack_good, refuses_good}
 use Rattle.sc_starts.proofs.OwnEntries.{entry_follows_there}
-use Rattle.sc_starts.proofs.OwnMoves.{Follow, Before, moved_in, at_stage, either_follow, fails_follow, stack_follows, same_stack, stands_before, moved_stack, moved_alone, enters_follow, entry_for, entry_pure, entered_so, calls_there, waits_not}
+use Rattle.sc_starts.proofs.OwnMoves.{Follow, Before, moved_in, at_stage, either_follow, fails_follow, stack_follows, same_stack, stands_before, moved_stack, moved_alone, enters_follow, entry_for, entry_pure, entered_so, calls_there}
+use Rattle.sc_starts.proofs.Lists.{first_of}
 
 -- ---- the frame below a routine that its own handler called
-
-first_of : (f g : Frame) (a b : List Frame) → f ∷ a ≡ g ∷ b → f ≡ g
-first_of f g a b e = cc
 
 not_called : (c : Calling) (r : Request) (A : Type 0) → Called c ≡ Requested r → A
 not_called c r A e = cc
@@ -62,11 +61,11 @@ not_requested f pure r e (called, is) = by f.origin e called
 
 pub in_call : (s : System) (h : ℕ) (f g : Frame) (more : List Frame) (c : Calling) → f.origin ≡ Called c → Linked s h (f ∷ g ∷ more) →
     (t : Option EntityType) × (g.stage ≡ InCall t)
-in_call s h f g more c called linked = by f (g ∷ more) refl refl linked
+in_call s h f g more c origin_is linked = by f (g ∷ more) refl refl linked
   where
     by : (f' : Frame) (st : List Frame) → f' ≡ f → st ≡ g ∷ more → Linked s h (f' ∷ st) → (t : Option EntityType) × (g.stage ≡ InCall t)
-    by f' st i j (fitting.alone {r = q} is gives rest) = not_called c q _ (sym called ∙ ap (λ (k : Frame). k.origin) (sym i) ∙ is)
-    by f' _ i j (fitting.called {g = k} {below = rest} {t} is calls gives linked) = (t, ap (λ (k : Frame). k.stage) (sym (first_of k g rest more j)) ∙ calls)
+    by f' st i j (fitting.alone {r = q} is gives rest) = not_called c q _ (sym origin_is ∙ ap (λ (k : Frame). k.origin) (sym i) ∙ is)
+    by f' _ i j (fitting.called {g = k} {below = rest} {t} is calls gives linked) = (t, ap (λ (k : Frame). k.stage) (sym (first_of j)) ∙ calls)
 
 module _ (testless : TextsAreTestless) (clauses_moved : ClauseMoves) (pures_moved : PureMoves) (answers_more : AnswersMore)
     (s : System) (root : Root) (pure : RoutineName → Bool) (faultless : IsFaultless s root) (well : WellFormed s) (tells : IsPurity s pure) (most : ℕ)
@@ -275,8 +274,8 @@ module _ (testless : TextsAreTestless) (clauses_moved : ClauseMoves) (pures_move
 
     returned : (c : Calling) → f.origin ≡ Called c → (st : List Frame) → StackFollows s pure w h (Some f) st → Each (FrameFits s pure w h) st → Linked s h (f ∷ st) →
         Follow s pure h (with_stack h (handed (Some v) st) w)
-    returned c called [] on there_fits linked = stack_follows s pure h [] w tt
-    returned c called (g ∷ more) on there_fits linked = let j = in_call s h f g more c called linked in handed_on g more on there_fits.0.is_own j.0 j.1
+    returned c origin_is [] on there_fits linked = stack_follows s pure h [] w tt
+    returned c origin_is (g ∷ more) on there_fits linked = let j = in_call s h f g more c origin_is linked in handed_on g more on there_fits.0.is_own j.0 j.1
 
   -- below a frame that a request began none evaluates
   below_plain : (r : Request) → f.origin ≡ Requested r → (p : Point) → AllPlain pure ((moved_in w h f below p).handlers h).answer below
@@ -322,7 +321,7 @@ module _ (testless : TextsAreTestless) (clauses_moved : ClauseMoves) (pures_move
       correctness (Requested r) e = inr (refuses_good s pure h r (frame_at f p) below (moved_in w h f below p) (below_plain r e p))
 
       by : (d : Verdict) → verdict_on (frame_at f p) k ≡ d → Follow s pure h (false_clause d s h (frame_at f p) below (moved_in w h f below p))
-      by verdict.Wait e = absurd (waits_not (frame_at f p) k (z.reserves_nothing is) e)
+      by verdict.Wait e = absurd (pure_waits_not (frame_at f p) k (z.reserves_nothing is) e)
       by verdict.Refuse e = correctness f.origin refl
       by verdict.Start e = fails_follow s pure h cause.BadCode [] (moved_in w h f below p)
 

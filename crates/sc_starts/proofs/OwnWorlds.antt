@@ -17,6 +17,7 @@ use Rattle.sc_model.specs.Answers.{heard, answered, answer_to, return_rights, fi
 use Rattle.sc_model.specs.Failures.{requests_at, is_waited_by, told, fallen, fails_with}
 use Rattle.sc_model.specs.Asking.{passes, placed, send, with_handler}
 use Rattle.sc_laws.proofs.links.Standing.{m_put-own, m_put-off}
+use Rattle.sc_kept.proofs.Others.{ended_rests}
 use Rattle.sc_starts.specs.Following.{IsQuiet, objects_of}
 use Rattle.sc_starts.specs.Following as following
 
@@ -117,14 +118,10 @@ like_new h j g v i = record {
 
 -- nothing is left of the stack of a handler that fails
 pub fallen_stack : (h : ℕ) (why : Cause) (taken : List Request) (v : World) → ((fails_with h why taken v).handlers h).stack ≡ []
-fallen_stack h why taken v = ended (ends_session release_at.Failure && is_handler h (v.rights.queue h))
-    (if h == h then fallen why (v.handlers h) else told (list_any (is_waited_by h) (taken ++ requests_at (v.handlers h))) (v.handlers h))
+fallen_stack h why taken v = (ended_rests (ends_session release_at.Failure && is_handler h (v.rights.queue h))
+    (if h == h then fallen why (v.handlers h) else told (list_any (is_waited_by h) (taken ++ requests_at (v.handlers h))) (v.handlers h))).stack
     ∙ ap (λ (b : Bool). (if b then fallen why (v.handlers h) else told (list_any (is_waited_by h) (taken ++ requests_at (v.handlers h))) (v.handlers h)).stack)
     (eq-eqb h h refl)
-  where
-    ended : (b : Bool) (x : Handler) → (session_ended b x).stack ≡ x.stack
-    ended true x = refl
-    ended false x = refl
 
 -- ---- the handler is another, with the same objects
 

@@ -1,6 +1,7 @@
 -- The body of a routine leaves its actuals as they are: they stay the first names that are known.
 use Rattle.std.proofs.Common.{ℕ, suc, ◌+◌, ◌≡◌, Bool, true, false, List, [], ◌∷◌, ◌++◌, Option, Some, None, refl, sym, ap, subst, ◌∙◌, arith}
 use Rattle.std.specs.Prelude.{length, take, map, bytes_eq, cond, nat_lt, slice_get}
+use Rattle.std.proofs.lemmas.List.{append_assoc}
 use Rattle.sc_tree.specs.declared.expression.UnaryOperator.TheVariants as unary
 use Rattle.sc_tree.specs.declared.expression.BinaryOperator.{BinaryOperator}
 use Rattle.sc_tree.specs.Plain as tree
@@ -39,7 +40,6 @@ use Rattle.sc_evaluation.specs.Evaluating.{Reaches, begins as at_first, goes, te
 use Rattle.sc_evaluation.specs.Laws.{StaysInContract, StepOfContract, StepsInContract}
 use Rattle.sc_evaluation.specs.Texts.{IsOfContract}
 use Rattle.sc_starts.specs.Following.{AreBound}
-use Rattle.sc_starts.proofs.PointsLists.{append_assoc}
 
 -- ---- the actuals are formals
 

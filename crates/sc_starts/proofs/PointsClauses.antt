@@ -2,6 +2,7 @@
 use Rattle.std.proofs.Common.{ℕ, zero, suc, ◌≡◌, Bool, true, false, List, [], ◌∷◌, ◌++◌, Option, Some, refl, sym, ap, subst, ◌∙◌}
 use Rattle.std.specs.Prelude.{Contains}
 use Rattle.std.proofs.lemmas.List.Elements.{Contains-append_right}
+use Rattle.std.proofs.lemmas.List.{append_assoc, append-nil}
 use Rattle.sc_tree.specs.Plain.{System, Clause}
 use Rattle.sc_class.specs.ClassNames.{Root}
 use Rattle.sc_class.specs.Faults.ClassRules.{IsFaultless}
@@ -35,7 +36,6 @@ use Rattle.sc_evaluation.specs.Texts.{ClauseHasNoOld, ClauseHasNoTest}
 use Rattle.sc_starts.specs.Following.{ClausesAt, HasDone, Hold, IsAt, behind_clause, between_point, body_tasks, clause_of}
 use Rattle.sc_starts.specs.Following as at
 use Rattle.sc_starts.specs.Points.{ClauseSteps, InContract}
-use Rattle.sc_starts.proofs.PointsLists.{append_assoc, append_nil}
 use Rattle.sc_starts.proofs.PointsSteps.{Stepped, Unchanged, step_within, steps_on, unchanged}
 
 -- where one value lies it is the last
@@ -104,7 +104,7 @@ module _ (extends : StepExtends) (leaves : StepOldless) (contract : StepOfContra
 
   between_so : (done ks : List Clause) → r.require ≡ done ++ ks → Hold s M O me r bs done →
       So (step s me (between_point O me r bs ks))
-  between_so done [] e holds = (subst (λ (qs : List Clause). Hold s M O me r bs qs) (sym (e ∙ append_nil done)) holds, rest_started r, refl)
+  between_so done [] e holds = (subst (λ (qs : List Clause). Hold s M O me r bs qs) (sym (e ∙ append-nil done)) holds, rest_started r, refl)
   between_so done (k ∷ ks) e holds = (
     at.inside done ks k e holds refl (record { at = clause_of O me r bs k; reaches = begins; stands = refl; oldless = (oldless_clause done ks k e, tt) }),
     record { objects_are = refl; text_is = refl; environment_is = refl; result_is = refl; olds_are = refl },

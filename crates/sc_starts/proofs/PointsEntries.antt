@@ -20,15 +20,12 @@ use Rattle.sc_settled.proofs.Modes.{IsVersionOf, routine_found}
 use Rattle.sc_settled.proofs.Purely.{is_routine}
 use Rattle.sc_evaluation.specs.Evaluating.{Answers, routine, enters, requests}
 use Rattle.sc_evaluation.specs.Laws.{TextsAreTestless}
+use Rattle.sc_evaluation.proofs.Holding.{given}
 use Rattle.sc_starts.specs.Following.{AreBound, ClausesAt, ClauseDone, HasDone, IsAt, Own, PureAt, PureCalls, behind_clause, between_point, body_tasks, bound_in, start_of}
 use Rattle.sc_starts.specs.Following as at
 use Rattle.sc_starts.specs.Points.{ClauseGoesOn, ClauseGoesOnAnswered, EntryFollows, EntryIsBetween, PureAnswers, PureCallsMore, PureGoesOn}
 
 -- ---- calls that give a value
-
--- a value that comes onto those of the point
-abbrev given : Value → EntityType → Point → Point
-given v t p = record p { values = operand v t ∷ p.values }
 
 module _ (s : System) (M : ℕ → Type 0) (O : ℕ → List Object) (me : Reference) (start : Point) (ts : List Task) where
   -- what a call has given takes the evaluation on

@@ -27,12 +27,11 @@ use Rattle.sc_values.specs.Steps.{EntryFits, GivesFit, KindFits, StandsSo, a_rou
 use Rattle.sc_values.specs.Typed.{IsTyped, Known}
 use Rattle.sc_values.specs.Typed as typed
 use Rattle.sc_values.proofs.Lists.{same_some}
+use Rattle.sc_values.proofs.Stacks.{no_operands}
 use Rattle.sc_halves.specs.Calm.{name_of}
 use Rattle.sc_halves.specs.Clauses.{RunsPure}
 use Rattle.sc_settled.proofs.Modes.{IsVersionOf, routine_found}
-
-no : {A : Type 0} → false ≡ true → A
-no e = cc
+use Rattle.sc_starts.proofs.Lists.{false_is_true}
 
 module _ (s : System) (pure : RoutineName → Bool) (tells : IsPurity s pure) where
   -- the declaration of a pure function
@@ -60,7 +59,7 @@ module _ (s : System) (pure : RoutineName → Bool) (tells : IsPurity s pure) wh
   given_so : (me : ℕ) (of : Reserved → Option ℕ) (k : ℕ) (d : Option DeclaredType) (g : Option EntityType) →
       GivesFit s me of k d g → is_some d ≡ true →
       (t : EntityType) × (g ≡ Some t)
-  given_so me of k None g f e = no e
+  given_so me of k None g f e = false_is_true e
   given_so me of k (Some d) (Some t) f e = (t, refl)
   given_so me of k (Some d) None f e = absurd f
 
@@ -72,7 +71,7 @@ module _ (s : System) (pure : RoutineName → Bool) (tells : IsPurity s pure) wh
       by : (m : FeatureKind) → KindFits s me of o.handler us g m → is_pure_candidate m ≡ true →
           (t : EntityType) × (g ≡ Some t)
       by _ (a_routine {version} fits f) e = given_so me of o.handler version.result_type g f (gives_result version e)
-      by _ (an_attribute none f) e = no e
+      by _ (an_attribute none f) e = false_is_true e
 
   -- ---- the Result
 
@@ -80,13 +79,13 @@ module _ (s : System) (pure : RoutineName → Bool) (tells : IsPurity s pure) wh
     declared_result : (m n : FeatureKind) (y : List ℕ) (i j : ℕ) → is_pure_candidate m ≡ true →
         routine_with s y i m j n ≡ Some r →
         (t : Option EntityType) × (r.text.result ≡ Some t)
-    declared_result (tree.Attribute d) n y i j e w = no e
+    declared_result (tree.Attribute d) n y i j e w = false_is_true e
     declared_result (tree.Routine own) (tree.Attribute d) y i j e w = cc
     declared_result (tree.Routine own) (tree.Routine original) y i j e w = by own.result_type refl (gives_result own e)
       where
         by : (d : Option DeclaredType) → own.result_type ≡ d → is_some d ≡ true →
             (t : Option EntityType) × (r.text.result ≡ Some t)
-        by None l e = no e
+        by None l e = false_is_true e
         by (Some d) l e = (
           declared_type s [] d,
           sym (ap (λ (q : Routine). q.text.result) (same_some w)) ∙ ap (option_map (declared_type s [])) l,
@@ -114,10 +113,6 @@ module _ (s : System) (pure : RoutineName → Bool) (tells : IsPurity s pure) wh
 
 -- ---- where a text begins
 
-none_of_types : (us : List Operand) → types_of us ≡ [] → us ≡ []
-none_of_types [] e = refl
-none_of_types (u ∷ us) e = cc
-
 -- no value lies there
 pub none_at_text : (s : System) (pure : RoutineName → Bool) (r : Routine) (me : Reference) (p : Point) (u : Text) (k : List Task) → StandsSo s pure r me [] p →
     p.tasks ≡ In u ∷ k → p.values ≡ []
@@ -128,6 +123,6 @@ none_at_text s pure r me p u k f e = by f.0.known f.0.agrees (subst (λ ts. IsTy
     none_typed t n os _ (typed.in_text a d) = refl
 
     by : (x : Known) → Agrees p [] x → IsTyped s pure r (In u ∷ k) x → p.values ≡ []
-    by _ point.here d = none_of_types p.values (none_typed _ _ _ _ d)
+    by _ point.here d = no_operands p.values (none_typed _ _ _ _ d)
     by _ (point.held a b c) d = elim d [ ]
     by _ (point.denied a b c) d = elim d [ ]

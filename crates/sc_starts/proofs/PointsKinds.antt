@@ -1,5 +1,6 @@
 -- What a step of a task without `old` is not: the start of a body, a refusal, or the exit.
 use Rattle.std.proofs.Common.{ℕ, ◌≡◌, List, [], ◌∷◌, ◌++◌, Option, Some, None, refl, ap, subst, ◌∙◌, inr}
+use Rattle.std.proofs.lemmas.List.{append-nil}
 use Rattle.sc_tree.specs.Plain as tree
 use Rattle.sc_tree.specs.Plain.{System, Clause, CreationCall, Head, Variable, Named, ResultVariable, Expr, Exprs, no_exprs, expr_then, Instr, Instrs, no_instrs, instr_then, Branches, no_branches, branch_then}
 use Rattle.sc_model.specs.Moves.{first_visible, moves, step, then_go}
@@ -11,68 +12,10 @@ use Rattle.sc_values.specs.Points.{Each}
 use Rattle.sc_settled.proofs.Tasks.{Behind, OfTask, OfTasks, class_behind}
 use Rattle.sc_settled.proofs.Texts.{OfExpr, OfExprs, OfCall, OfClauses, OfHeads, OfVariable, OfInstr, OfInstrs, OfBranches}
 use Rattle.sc_settled.proofs.Walking.{MayAssign, SteppedSo, moves_so}
+use Rattle.sc_settled.proofs.Modes.{Any, any_branches, any_expr, any_instrs, any_variable}
 use Rattle.sc_evaluation.specs.Evaluating.{extended, extended_step}
 use Rattle.sc_evaluation.specs.Laws.{StepExtends}
 use Rattle.sc_evaluation.specs.Texts.{IsOldless}
-use Rattle.sc_starts.proofs.PointsLists.{append_nil}
-
--- ---- any text
-
-abbrev Any : List ℕ → Type 0
-Any x = Unit {0}
-
-mutual
-  any_expr : (e : Expr) → OfExpr Any e
-  any_expr (tree.Call q tree.no_target x es) = (tt, any_exprs es)
-  any_expr (tree.Call q (tree.target a) x es) = (any_expr a, any_exprs es)
-  any_expr (tree.Unary q op a) = any_expr a
-  any_expr (tree.Binary q op a b) = (any_expr a, any_expr b)
-  any_expr (tree.ObjectTest q d a x) = any_expr a
-  any_expr (tree.Integer q z) = tt
-  any_expr (tree.Boolean q b) = tt
-  any_expr (tree.Void q) = tt
-  any_expr (tree.Current q) = tt
-  any_expr (tree.Result q) = tt
-
-  any_exprs : (es : Exprs) → OfExprs Any es
-  any_exprs no_exprs = tt
-  any_exprs (expr_then e es) = (any_expr e, any_exprs es)
-
-any_clauses : (ks : List Clause) → OfClauses Any ks
-any_clauses [] = tt
-any_clauses (k ∷ ks) = (any_expr k.condition, any_clauses ks)
-
-any_heads : (ds : List Head) → OfHeads Any ds
-any_heads [] = tt
-any_heads (d ∷ ds) = (any_expr d.value, any_heads ds)
-
-any_call : (k : Option CreationCall) → OfCall Any k
-any_call None = tt
-any_call (Some k) = any_exprs k.actuals
-
-any_variable : (v : Variable) → OfVariable Any v
-any_variable (Named x) = tt
-any_variable (ResultVariable q) = tt
-
-mutual
-  any_instr : (i : Instr) → OfInstr Any Any (Unit {0}) i
-  any_instr (tree.Assign q v e) = (any_variable v, any_expr e)
-  any_instr (tree.PrintText q text) = tt
-  any_instr (tree.CallRoutine q tree.no_target x es) = (tt, (tt, any_exprs es))
-  any_instr (tree.CallRoutine q (tree.target a) x es) = (tt, (any_expr a, any_exprs es))
-  any_instr (tree.Create q c) = (tt, (any_variable c.variable, any_call c.call))
-  any_instr (tree.If q e body bs other) = (any_expr e, (any_instrs body, (any_branches bs, any_instrs other)))
-  any_instr (tree.Loop q initial e body) = (any_instrs initial, (any_expr e, any_instrs body))
-  any_instr (tree.Check q ks) = any_clauses ks
-  any_instr (tree.Block q ds body) = (tt, (any_heads ds, any_instrs body))
-
-  any_instrs : (is : Instrs) → OfInstrs Any Any (Unit {0}) is
-  any_instrs no_instrs = tt
-  any_instrs (instr_then i is) = (any_instr i, any_instrs is)
-
-  any_branches : (bs : Branches) → OfBranches Any Any (Unit {0}) bs
-  any_branches no_branches = tt
-  any_branches (branch_then e body bs) = (any_expr e, (any_instrs body, any_branches bs))
 
 -- ---- any tasks
 
@@ -142,7 +85,7 @@ module _ (extends : StepExtends) (s : System) (me : Reference) (p : Point) (t : 
 
   starts_none : NoneStarts (moves s me p)
   starts_none = moves_so s me (λ k. Any) (λ k. Any) (Unit {0}) ⊥ (Unit {0}) (λ ts. ⊥) (λ os. Unit {0}) (any_objects s me) p tt
-      (subst (λ ts. OfTasks (λ k. Any) (λ k. Any) (Unit {0}) ⊥ (Unit {0}) (λ ts. ⊥) p.text.class ts) (append_nil p.tasks)
+      (subst (λ ts. OfTasks (λ k. Any) (λ k. Any) (Unit {0}) ⊥ (Unit {0}) (λ ts. ⊥) p.text.class ts) (append-nil p.tasks)
       (any_tasks ⊥ (Unit {0}) (λ ts. ⊥) p.tasks [] o (λ k. tt) p.text.class))
 
   -- a clause stands behind it

@@ -1,6 +1,7 @@
 -- What a turn makes of a pure function, beside the evaluation of its body.
 use Rattle.std.proofs.Common.{ℕ, zero, suc, ◌≡◌, Bool, true, List, [], ◌∷◌, ◌++◌, Option, Some, refl, sym, ap, subst, ◌∙◌}
 use Rattle.std.specs.Prelude.{length, take}
+use Rattle.std.proofs.lemmas.List.{append-nil}
 use Rattle.sc_tree.specs.Plain.{System}
 use Rattle.sc_class.specs.ClassNames.{Root}
 use Rattle.sc_class.specs.Faults.ClassRules.{IsFaultless}
@@ -36,7 +37,6 @@ use Rattle.sc_starts.specs.Points.{HasRun, IsThisCall, PureSteps}
 use Rattle.sc_starts.proofs.PointsBound.{Has, Left, after_firm, bound_formals, reaches_firm, take_these}
 use Rattle.sc_starts.proofs.PointsEntries.{bound_length, takes_bound}
 use Rattle.sc_starts.proofs.PointsFunctions.{gives_value, none_at_text, result_there}
-use Rattle.sc_starts.proofs.PointsLists.{append_nil}
 use Rattle.sc_starts.proofs.PointsSteps.{Stepped, step_within}
 
 -- ---- objects
@@ -127,7 +127,7 @@ module _ (extends : StepExtends) (leaves : StepOldless) (contract : StepOfContra
       ∙ subst (λ (n : ℕ). take n (bs ++ more) ≡ bs) (bound_length s r.text.formals 0 r.text.formals bound.0 bs bound.1) (take_these bs more)
 
   first_names : Known bs × Deep (start_of s O me r bs).tasks
-  first_names = (([], sym (append_nil bs)), (tt, (tt, tt)))
+  first_names = (([], sym (append-nil bs)), (tt, (tt, tt)))
 
   reached_names : (e : Point) → Runs e →
       Known e.environment × Deep e.tasks
@@ -228,10 +228,10 @@ module _ (extends : StepExtends) (leaves : StepOldless) (contract : StepOfContra
   behind_so : (e : Point) → Runs e → e.tasks ≡ [] → (t : Task) (ts : List Task) (p : Point) → p.tasks ≡ t ∷ ts →
       p.result ≡ e.result → Each IsOfContract (t ∷ ts) → IsBound p →
       So (step s me p)
-  behind_so e v n t ts p i u o b = by (step s me p) (contract s me t ts [] p (i ∙ ap (λ us. t ∷ us) (sym (append_nil ts))) o.0 o.1)
+  behind_so e v n t ts p i u o b = by (step s me p) (contract s me t ts [] p (i ∙ ap (λ us. t ∷ us) (sym (append-nil ts))) o.0 o.1)
     where
       left : (q : Point) (y : StaysInContract [] p q) → Each IsOfContract q.tasks
-      left q y = subst (Each IsOfContract) (sym (y.tasks_are ∙ append_nil y.tasks)) y.of_contract
+      left q y = subst (Each IsOfContract) (sym (y.tasks_are ∙ append-nil y.tasks)) y.of_contract
 
       stays_bound : (q : Point) → StaysInContract [] p q → IsBound q
       stays_bound q y = ap (take (length r.text.formals)) y.environment_is ∙ b

@@ -31,6 +31,7 @@ use Rattle.sc_halves.proofs.Unstarted.{each_stands}
 use Rattle.sc_settled.proofs.Modes.{RunsPure, StandsAs}
 use Rattle.sc_settled.proofs.Running.{turn_all}
 use Rattle.sc_settled.proofs.Stacks.{Good, Stands, empty_good}
+use Rattle.sc_settled.proofs.Reaching.{reached_good}
 use Rattle.sc_evaluation.proofs.Bodies.{texts_are_oldless}
 use Rattle.sc_evaluation.proofs.Contracts.{step_of_contract}
 use Rattle.sc_evaluation.proofs.Extending.{step_extends}
@@ -42,9 +43,7 @@ use Rattle.sc_starts.specs.Points.{ClauseMoves, EntryFollows, GoesOn, PureMoves}
 use Rattle.sc_starts.proofs.PointsClauses.{clauses_move}
 use Rattle.sc_starts.proofs.PointsEntries as entries
 use Rattle.sc_starts.proofs.PointsPure.{functions_move}
-
-no : {A : Type 0} → false ≡ true → A
-no e = cc
+use Rattle.sc_starts.proofs.Lists.{false_is_true}
 
 -- ---- a routine that has started stands in no clause
 
@@ -54,33 +53,13 @@ started_behind (x ∷ xs) ys is = started_behind xs ys is.1
 
 pub not_started : (s : System) (M : ℕ → Type 0) (O : ℕ → List Object) (me : Reference) (r : Routine) (bs : List Binding) (p : Point) → ClausesAt s M O me r bs p →
     HasStarted p.tasks → ⊥
-not_started s M O me r bs p (at.between done ks e holds i) is = no (sym (subst (λ (p : Point). HasStarted p.tasks) i is).0)
+not_started s M O me r bs p (at.between done ks e holds i) is = false_is_true (sym (subst (λ (p : Point). HasStarted p.tasks) i is).0)
 not_started s M O me r bs p (at.inside done ks k e holds none a) is =
-    no (sym (started_behind a.at.tasks (Required k ∷ behind_clause r ks) (subst (λ (p : Point). HasStarted p.tasks) a.stands is)).0)
+    false_is_true (sym (started_behind a.at.tasks (Required k ∷ behind_clause r ks) (subst (λ (p : Point). HasStarted p.tasks) a.stands is)).0)
 
 -- ---- how routines stand in their runs
 
 module _ (s : System) (root : Root) (pure : RoutineName → Bool) (faultless : IsFaultless s root) (well : WellFormed s) (tells : IsPurity s pure) (most : ℕ) where
-  abbrev IsGood : World → Type 0
-  IsGood w = (k : ℕ) → Good s pure (w.handlers k)
-
-  along : (hs : List ℕ) (w : World) → IsReached most s root w → IsGood w → IsGood (run most s hs w)
-  along [] w r good = good
-  along (h ∷ hs) w r good = along hs (turn most s h w) (one_further most s root h w r)
-      (turn_all s root pure faultless well tells most h w (reached_fits s root pure faultless well tells most w r) good)
-
-  opening_good : IsGood (opening s root)
-  opening_good k = by (nat_lt k 1)
-    where
-      by : (b : Bool) → Good s pure
-          (if b then record new_handler { queue = root_request (option_map_or (λ k. k) (number_of s root.class) 0) root.procedure ∷ [] } else new_handler)
-      by true = λ n. empty_good s pure (root_request (option_map_or (λ k. k) (number_of s root.class) 0) root.procedure ∷ []) (inr (refl, (refl, (refl, tt))))
-      by false = λ n. empty_good s pure [] (inl tt)
-
-  -- So it is of each handler that is reached.
-  pub reached_good : (w : World) → IsReached most s root w → IsGood w
-  reached_good w r = subst IsGood r.run_is (along r.numbers (opening s root) (record { numbers = []; run_is = refl }) opening_good)
-
   -- ---- the topmost frame
 
   module _ (w : World) (reached : IsReached most s root w) (h : ℕ) (f : Frame) (below : List Frame) (g : GoesOn w h f below) where
@@ -119,11 +98,11 @@ module _ (s : System) (root : Root) (pure : RoutineName → Bool) (faultless : I
 
     -- what is left of it calls what is pure
     left_pure : pure (name_of f.routine) ≡ true → RunsPure s pure f.text.class f.tasks
-    left_pure is = by (subst (Each (Stands s pure)) g.stack_is (reached_good w reached h g.lives).stand).0
+    left_pure is = by (subst (Each (Stands s pure)) g.stack_is (reached_good s root pure faultless well tells most w reached h g.lives).stand).0
       where
         by : StandsAs s pure f.routine f.text.class f.tasks → RunsPure s pure f.text.class f.tasks
         by (inl l) = l.1
-        by (inr l) = no (sym l.0 ∙ is)
+        by (inr l) = false_is_true (sym l.0 ∙ is)
 
 pub clause_moves : ClauseMoves
 clause_moves s root pure faultless well tells most w reached h f below g M bs a =

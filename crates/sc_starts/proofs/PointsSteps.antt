@@ -1,5 +1,6 @@
 -- What a step makes of a point within a text, beside the evaluation of that text.
 use Rattle.std.proofs.Common.{ℕ, ◌≡◌, List, [], ◌∷◌, Some, refl, sym, ap, subst, ◌∙◌}
+use Rattle.std.proofs.lemmas.List.{append-nil}
 use Rattle.sc_tree.specs.Plain.{System}
 use Rattle.sc_model.specs.Moves.{step, step_at}
 use Rattle.sc_model.specs.Objects.{Object}
@@ -11,7 +12,6 @@ use Rattle.sc_evaluation.specs.Evaluating.{Reaches, extended, extended_step, goe
 use Rattle.sc_evaluation.specs.Laws.{StepExtends, StepOfContract, StepOldless, StaysInContract, StepsInContract, point_after}
 use Rattle.sc_evaluation.specs.Texts.{IsOfContract, IsOldless}
 use Rattle.sc_starts.specs.Following.{HasDone, IsAt}
-use Rattle.sc_starts.proofs.PointsLists.{append_nil}
 use Rattle.sc_starts.proofs.PointsKinds.{IsWithin, step_is_within}
 
 -- ---- within a text
@@ -66,7 +66,7 @@ pub record Unchanged (p q : Point) : Type 0 where
 module _ (contract : StepOfContract) (s : System) (M : ℕ → Type 0) (O : ℕ → List Object) (me : Reference) where
   further : (p q r : Point) → Unchanged p q → StaysInContract [] q r → Unchanged p r
   further p q r u y = record {
-    of_contract = subst (Each IsOfContract) (sym (y.tasks_are ∙ append_nil y.tasks)) y.of_contract;
+    of_contract = subst (Each IsOfContract) (sym (y.tasks_are ∙ append-nil y.tasks)) y.of_contract;
     environment_is = y.environment_is ∙ u.environment_is;
     result_is = y.result_is ∙ u.result_is;
     objects_are = y.objects_are ∙ u.objects_are;
@@ -81,7 +81,7 @@ module _ (contract : StepOfContract) (s : System) (M : ℕ → Type 0) (O : ℕ 
       by [] i = absurd (some (sym e ∙ ap (λ ts. step_at s me ts q) i))
       by (t ∷ ts) i =
           let o : Each IsOfContract (t ∷ ts) = subst (Each IsOfContract) i o in
-          subst (StepsInContract [] q) e (contract s me t ts [] q (i ∙ ap (λ us. t ∷ us) (sym (append_nil ts))) o.0 o.1)
+          subst (StepsInContract [] q) e (contract s me t ts [] q (i ∙ ap (λ us. t ∷ us) (sym (append-nil ts))) o.0 o.1)
 
   -- So it is of all that such an evaluation reaches.
   pub unchanged : (p q : Point) → Each IsOfContract p.tasks → Reaches s M O me p q → Unchanged p q

@@ -5,6 +5,7 @@ use Rattle.sc_model.specs.Values.{Reference}
 use Rattle.sc_model.specs.Tasks.{Task, Do, In, Declare, Forget, Eval, ApplyUnary, EvalRight, ApplyBinary, Conclude, Bind, CallUnqualified, CallQualified, AssignTo, Print, Choose, Repeat, EndLoop, Checked, Require, Required, KeepOld, Ensured, CreateBy, Open, Leave}
 use Rattle.sc_model.specs.Steps.{Point, Starts, Does}
 use Rattle.sc_model.specs.Moves.{moves}
+use Rattle.sc_laws.proofs.Waits.{true_false}
 use Rattle.sc_halves.specs.Entries.{HasStarted}
 use Rattle.sc_settled.proofs.Modes.{Any, any_branches, any_expr, any_instrs, any_variable}
 use Rattle.sc_settled.proofs.Tasks.{OfTasks}
@@ -13,9 +14,6 @@ use Rattle.sc_settled.proofs.Walking.{SteppedSo, moves_so}
 -- any tasks, but no clause of a precondition
 abbrev IsLeft : ℕ → List Task → Type 0
 IsLeft k ts = OfTasks (λ k. Any) (λ k. Any) (Unit {0}) ⊥ (Unit {0}) (λ ts. ⊥) k ts
-
-no : {A : Type 0} → true ≡ false → A
-no e = cc
 
 started_left : (k : ℕ) (ts : List Task) → HasStarted ts → IsLeft k ts
 started_left k [] h = tt
@@ -38,8 +36,8 @@ started_left k (Choose depth body bs other ∷ ts) h =
 started_left k (Repeat e body ∷ ts) h = ((any_expr e, any_instrs body), started_left k ts h.1)
 started_left k (EndLoop e body ∷ ts) h = ((any_expr e, any_instrs body), started_left k ts h.1)
 started_left k (Checked ∷ ts) h = (tt, started_left k ts h.1)
-started_left k (Require ks ∷ ts) h = no h.0
-started_left k (Required q ∷ ts) h = no h.0
+started_left k (Require ks ∷ ts) h = true_false h.0
+started_left k (Required q ∷ ts) h = true_false h.0
 started_left k (KeepOld ∷ ts) h = (tt, started_left k ts h.1)
 started_left k (Ensured ∷ ts) h = (tt, started_left k ts h.1)
 started_left k (CreateBy v x n ∷ ts) h = ((tt, any_variable v), started_left k ts h.1)

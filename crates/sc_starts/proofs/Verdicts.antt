@@ -32,18 +32,15 @@ use Rattle.sc_starts.specs.Starting.{BodiesStartWhereTheyHold, IsVerdict}
 use Rattle.sc_starts.specs.Turns.{OwnFollows, OthersFollow}
 use Rattle.sc_starts.proofs.Reaching.{reached_follows}
 use Rattle.sc_starts.proofs.Unstarting.{starts_once}
+use Rattle.sc_starts.proofs.OwnMoves.{moved_in}
 
 not_awaiting : (stage : Stage) → stage ≡ Runs → is_awaiting stage ≡ true → ⊥
 not_awaiting stage e i = cc
 
 -- ---- the turn
 
--- what it leaves
-abbrev verdict_world : World → ℕ → Frame → List Frame → Point → World
-verdict_world w h f below p = put h (record (w.handlers h) { objects = p.objects; stack = frame_at f p ∷ below }) w
-
 verdict_turn : (s : System) (most : ℕ) (w : World) (h : ℕ) (f : Frame) (below : List Frame) (p : Point) → IsVerdict s w h f below p →
-    turn most s h w ≡ verdict_world w h f below p
+    turn most s h w ≡ moved_in w h f below p
 verdict_turn s most w h f below p v =
     ap (λ (b : Bool). if b then turn_with most s h (w.handlers h).failure (w.handlers h).stack w else w) (lt-ltb h w.count v.is_there)
     ∙ ap (λ why. turn_with most s h why (w.handlers h).stack w) v.lives
@@ -53,7 +50,7 @@ verdict_turn s most w h f below p v =
 
 module _ (w : World) (h : ℕ) (f : Frame) (below : List Frame) (p : Point) (same : p.objects ≡ (w.handlers h).objects) where
   -- no objects change
-  objects_stay : (k : ℕ) → objects_of w k ≡ objects_of (verdict_world w h f below p) k
+  objects_stay : (k : ℕ) → objects_of w k ≡ objects_of (moved_in w h f below p) k
   objects_stay k = by (k == h) refl
     where
       by : (b : Bool) → (k == h) ≡ b →
@@ -93,10 +90,10 @@ module _ (clause_moves : ClauseMoves) (s : System) (root : Root) (pure : Routine
       by (inr (inr i)) = starts_so i.1.asked i.1.stands
 
   each_holds : HasStartedSo → f.current.handler ≡ h → (k : Clause) → Contains f.routine.require k →
-      Holds s (verdict_world w h f below p) (frame_at f p) k
+      Holds s (moved_in w h f below p) (frame_at f p) k
   each_holds so own k among =
       let O : ℕ → List Object = objects_of w in
-      let y : World = verdict_world w h f below p in
+      let y : World = moved_in w h f below p in
       let same : p.objects ≡ (w.handlers h).objects = ap (λ (q : Point). q.objects) so.point_is ∙ ap O own in
       let stay = objects_stay w h f below p same in
       let ends : EndsTrue s so.asked (objects_of y) f.current (clause_of O f.current f.routine (bound_in f) k) =

@@ -1,4 +1,5 @@
--- How frames that evaluate clauses of a precondition, and pure functions, stand beside the evaluation by the definition.
+-- How frames that evaluate clauses of a precondition, and frames of pure functions, stand beside the evaluation by the
+-- definition.
 use Rattle.std.specs.Prelude.{ℕ, ◌≡◌, ◌≢◌, ◌<◌, ◌⊎◌, Bool, true, false, List, [], ◌∷◌, ◌++◌, Option, Some, None, is_some, length, take, Contains}
 use Rattle.sc_tree.specs.Plain.{System, Clause}
 use Rattle.sc_proctype.specs.declared.entity_type.EntityType.{EntityType}
@@ -22,12 +23,12 @@ use Rattle.sc_halves.specs.Clauses.{RunsPureIfRoutine}
 use Rattle.sc_evaluation.specs.Evaluating.{Answers, Reaches, EndsTrue, clause_point, extended}
 use Rattle.sc_evaluation.specs.Texts.{IsOldless, IsOfContract}
 
--- ---- short words
+-- ---- objects, handlers that may be asked, and actuals
 
 abbrev pub objects_of : World → ℕ → List Object
 objects_of w k = (w.handlers k).objects
 
--- the handlers that an evaluation on this one may ask: itself and these
+-- the handlers whose objects an evaluation on this one may ask: itself and these
 abbrev pub MayAsk : ℕ → List ℕ → ℕ → Type 0
 MayAsk h asked k = (k ≡ h) ⊎ Contains asked k
 
@@ -53,7 +54,7 @@ behind_body r = Forget (length r.text.formals) ∷ In r.contract ∷ ensures 0 r
 abbrev pub body_tasks : Routine → List Task
 body_tasks r = In r.text ∷ Declare r.locals ∷ Do r.body ∷ behind_body r
 
--- behind some clauses of its precondition: these clauses, the `old`s, the body
+-- before these clauses of its precondition: they, the `old`s and the body
 abbrev pub behind_clause : Routine → List Clause → List Task
 behind_clause r ks = Require ks ∷ keeps_olds (olds_of_clauses r.ensure) ++ body_tasks r
 
@@ -83,31 +84,33 @@ abbrev pub start_of : System → (ℕ → List Object) → Reference → Routine
 start_of s O me r bs = body_point s r (O me.handler) bs
 
 -- It stands in its precondition or its `old`s, in its body, or behind it.
-pub data PureAt (s : System) (O : ℕ → List Object) (me : Reference) (r : Routine) (bs : List Binding) (p : Point) : Type 0 where
+pub data PureAt (s : System) (O : ℕ → List Object) (me : Reference) (r : Routine) (bs : List Binding) (p : Point) :
+    Type 0 where
   before : (ts : List Task) → p.tasks ≡ ts ++ body_tasks r → Each IsOfContract ts → p.environment ≡ bs →
       p.result ≡ result_of r.text.result → PureAt s O me r bs p
   during : IsAt s (Own me.handler) O me (start_of s O me r bs) (behind_body r) p → PureAt s O me r bs p
-  behind : {e : Point} → Reaches s (Own me.handler) O me (start_of s O me r bs) e → e.tasks ≡ [] → p.result ≡ e.result →
-      Each IsOfContract p.tasks → PureAt s O me r bs p
+  behind : {e : Point} → Reaches s (Own me.handler) O me (start_of s O me r bs) e → e.tasks ≡ [] →
+      p.result ≡ e.result → Each IsOfContract p.tasks → PureAt s O me r bs p
 
--- The same, where it has made a call on its handler. `For` says of object, name and actuals what is so where the call stands in the body.
-pub data PureCalls (s : System) (O : ℕ → List Object) (me : Reference) (r : Routine) (bs : List Binding) (t : EntityType)
-    (For : Reference → List ℕ → List Operand → Type 0) (p : Point) : Type 0 where
+-- The same, where it has made a call on its handler. `For` says of object, name and actuals what is so where the call
+-- stands in the body.
+pub data PureCalls (s : System) (O : ℕ → List Object) (me : Reference) (r : Routine) (bs : List Binding)
+    (t : EntityType) (For : Reference → List ℕ → List Operand → Type 0) (p : Point) : Type 0 where
   before : (ts : List Task) → p.tasks ≡ ts ++ body_tasks r → Each IsOfContract ts → p.environment ≡ bs →
       p.result ≡ result_of r.text.result → PureCalls s O me r bs t For p
   during : {c : Calling} {o : Reference} {x : List ℕ} {us : List Operand} → o.handler ≡ me.handler →
-      HasDone s (Own me.handler) O me (start_of s O me r bs) (behind_body r) (Enters c o x us (Some t)) p → For o x us →
-      PureCalls s O me r bs t For p
-  behind : {e : Point} → Reaches s (Own me.handler) O me (start_of s O me r bs) e → e.tasks ≡ [] → p.result ≡ e.result →
-      Each IsOfContract p.tasks → PureCalls s O me r bs t For p
+      HasDone s (Own me.handler) O me (start_of s O me r bs) (behind_body r) (Enters c o x us (Some t)) p →
+      For o x us → PureCalls s O me r bs t For p
+  behind : {e : Point} → Reaches s (Own me.handler) O me (start_of s O me r bs) e → e.tasks ≡ [] →
+      p.result ≡ e.result → Each IsOfContract p.tasks → PureCalls s O me r bs t For p
 
 -- ---- points: a precondition
 
--- the clause of the routine before its evaluation, where names stand for these
+-- the clause of the routine before its evaluation, where these are the actuals
 abbrev pub clause_of : (ℕ → List Object) → Reference → Routine → List Binding → Clause → Point
 clause_of O me r bs k = clause_point (O me.handler) r.contract bs (result_of r.text.result) k
 
--- between clauses
+-- between clauses, where these are left
 abbrev pub between_point : (ℕ → List Object) → Reference → Routine → List Binding → List Clause → Point
 between_point O me r bs ks = record {
   objects = O me.handler;
@@ -120,20 +123,21 @@ between_point O me r bs ks = record {
 }
 
 -- these clauses hold
-abbrev pub Hold : System → (ℕ → Type 0) → (ℕ → List Object) → Reference → Routine → List Binding → List Clause → Type 0
+abbrev pub Hold : System → (ℕ → Type 0) → (ℕ → List Object) → Reference → Routine → List Binding → List Clause →
+    Type 0
 Hold s M O me r bs ks = Each (λ (k : Clause). EndsTrue s M O me (clause_of O me r bs k)) ks
 
 -- Some clauses hold; it stands before the others, or inside the next one.
-pub data ClausesAt (s : System) (M : ℕ → Type 0) (O : ℕ → List Object) (me : Reference) (r : Routine) (bs : List Binding)
-    (p : Point) : Type 0 where
-  between : (done ks : List Clause) → r.require ≡ done ++ ks → Hold s M O me r bs done → p ≡ between_point O me r bs ks →
-      ClausesAt s M O me r bs p
+pub data ClausesAt (s : System) (M : ℕ → Type 0) (O : ℕ → List Object) (me : Reference) (r : Routine)
+    (bs : List Binding) (p : Point) : Type 0 where
+  between : (done ks : List Clause) → r.require ≡ done ++ ks → Hold s M O me r bs done →
+      p ≡ between_point O me r bs ks → ClausesAt s M O me r bs p
   inside : (done ks : List Clause) (k : Clause) → r.require ≡ done ++ k ∷ ks → Hold s M O me r bs done → p.olds ≡ [] →
       IsAt s M O me (clause_of O me r bs k) (Required k ∷ behind_clause r ks) p → ClausesAt s M O me r bs p
 
 -- Inside a clause it has done this, a call or a request.
-pub data ClauseDone (s : System) (M : ℕ → Type 0) (O : ℕ → List Object) (me : Reference) (r : Routine) (bs : List Binding)
-    (a : Act) (p : Point) : Type 0 where
+pub data ClauseDone (s : System) (M : ℕ → Type 0) (O : ℕ → List Object) (me : Reference) (r : Routine)
+    (bs : List Binding) (a : Act) (p : Point) : Type 0 where
   inside : (done ks : List Clause) (k : Clause) → r.require ≡ done ++ k ∷ ks → Hold s M O me r bs done → p.olds ≡ [] →
       HasDone s M O me (clause_of O me r bs k) (Required k ∷ behind_clause r ks) a p → ClauseDone s M O me r bs a p
 
@@ -150,7 +154,7 @@ abbrev pub AboveIsFor : System → Option Frame → Reference → List ℕ → L
 AboveIsFor s None o x us = ⊥
 AboveIsFor s (Some c) o x us = IsFor s o x (values_of us) c
 
--- a pure function's frame, below this one
+-- how a pure function's frame in this stage, below this one, stands beside its evaluation
 abbrev pub FollowsPure : System → (ℕ → List Object) → Option Frame → Frame → Stage → Type 0
 FollowsPure s O above f Runs = PureAt s O f.current f.routine (bound_in f) (point_of f (O f.current.handler))
 FollowsPure s O above f (InCall (Some t)) =
@@ -159,8 +163,8 @@ FollowsPure s O above f stage = ⊥
 
 -- ---- other handlers
 
--- Nothing of the handler k changes as long as h asks nothing of it: it has failed, or has nothing to do and h alone may post to
--- it, or waits and h alone may call it back.
+-- Nothing of the handler k changes as long as h asks nothing of it: it has failed, or has nothing to do and h alone may
+-- post to it, or waits and h alone may call it back.
 pub data IsQuiet (w : World) (h k : ℕ) : Type 0 where
   failed : is_some (w.handlers k).failure ≡ true → IsQuiet w h k
   idle : (w.handlers k).stack ≡ [] → (w.handlers k).queue ≡ [] → w.rights.queue k ≡ Some h → IsQuiet w h k
@@ -179,47 +183,60 @@ abbrev pub clause_request : ℕ → Reference → List ℕ → List Operand → 
 clause_request h o x us =
     record { poster = Some h; target = o; errand = Calls x; actuals = values_of us; is_waited = true; passed = None }
 
--- The request of h for a clause stands at its target; until it ends nothing else happens there, where the target was asked before.
-pub data RequestStands (s : System) (pure : RoutineName → Bool) (w : World) (h : ℕ) (asked : List ℕ) (o : Reference) (x : List ℕ)
-    (us : List Operand) : Type 0 where
-  queued : (qs : List Request) → (w.handlers o.handler).queue ≡ qs ++ clause_request h o x us ∷ [] → w.rights.queue o.handler ≡ Some h →
-      (Contains asked o.handler → (qs ≡ []) × ((w.handlers o.handler).stack ≡ [])) → RequestStands s pure w h asked o x us
+-- The request of h for a clause stands at its target; until it ends nothing else happens there, where the target was
+-- asked before.
+pub data RequestStands (s : System) (pure : RoutineName → Bool) (w : World) (h : ℕ) (asked : List ℕ) (o : Reference)
+    (x : List ℕ) (us : List Operand) : Type 0 where
+  queued : (qs : List Request) → (w.handlers o.handler).queue ≡ qs ++ clause_request h o x us ∷ [] →
+      w.rights.queue o.handler ≡ Some h →
+      (Contains asked o.handler → (qs ≡ []) × ((w.handlers o.handler).stack ≡ [])) →
+      RequestStands s pure w h asked o x us
   called_back : (w.handlers o.handler).callback ≡ Some (clause_request h o x us) → w.rights.top o.handler ≡ Some h →
       RequestStands s pure w h asked o x us
-  runs : (fs below : List Frame) (c : Frame) → (w.handlers o.handler).stack ≡ fs ++ c ∷ below → Each (IsCalledPure pure) fs →
-      pure (name_of c.routine) ≡ true → c.origin ≡ Requested (clause_request h o x us) → IsFor s o x (values_of us) c →
-      ((below ≡ []) × ((w.handlers o.handler).queue ≡ []) × (w.rights.queue o.handler ≡ Some h)) ⊎ (w.rights.top o.handler ≡ Some h) →
+  runs : (fs below : List Frame) (c : Frame) → (w.handlers o.handler).stack ≡ fs ++ c ∷ below →
+      Each (IsCalledPure pure) fs → pure (name_of c.routine) ≡ true →
+      c.origin ≡ Requested (clause_request h o x us) → IsFor s o x (values_of us) c →
+      ((below ≡ []) × ((w.handlers o.handler).queue ≡ []) × (w.rights.queue o.handler ≡ Some h))
+      ⊎ (w.rights.top o.handler ≡ Some h) →
       RequestStands s pure w h asked o x us
 
--- what is so of what a frame of h has asked, and waits for, where nothing has failed
-pub data IsPending (s : System) (pure : RoutineName → Bool) (w : World) (h : ℕ) (asked : List ℕ) (o : Reference) (x : List ℕ)
-    (us : List Operand) : Type 0 where
+-- What a frame of h has asked, and waits for, where nothing has failed: its request stands, or the value has come.
+pub data IsPending (s : System) (pure : RoutineName → Bool) (w : World) (h : ℕ) (asked : List ℕ) (o : Reference)
+    (x : List ℕ) (us : List Operand) : Type 0 where
   stands : (w.handlers h).answer ≡ None → RequestStands s pure w h asked o x us → IsPending s pure w h asked o x us
-  replied : {v : Value} → (w.handlers h).answer ≡ Some (Reply (Some v)) → Answers s (Own o.handler) (objects_of w) o x us v →
-      IsQuiet w h o.handler → IsPending s pure w h asked o x us
+  replied : {v : Value} → (w.handlers h).answer ≡ Some (Reply (Some v)) →
+      Answers s (Own o.handler) (objects_of w) o x us v → IsQuiet w h o.handler → IsPending s pure w h asked o x us
 
 -- ---- a routine in its precondition
 
--- by its stage
+-- how it stands beside the evaluation of its clauses, by its stage, where it has asked these handlers
 abbrev pub StandsByStage : System → (RoutineName → Bool) → World → ℕ → List ℕ → Option Frame → Frame → Stage → Type 0
 StandsByStage s pure w h asked above f Runs =
     ClausesAt s (MayAsk h asked) (objects_of w) f.current f.routine (bound_in f) (point_of f (w.handlers h).objects)
 StandsByStage s pure w h asked above f Reserves =
-    (asked ≡ []) × (point_of f (w.handlers h).objects ≡ between_point (objects_of w) f.current f.routine (bound_in f) f.routine.require)
-StandsByStage s pure w h asked above f (InCall (Some t)) = (c : Calling) × (o : Reference) × (x : List ℕ) × (us : List Operand) ×
-    ClauseDone s (MayAsk h asked) (objects_of w) f.current f.routine (bound_in f) (Enters c o x us (Some t)) (point_of f (w.handlers h).objects)
+    (asked ≡ []) × (point_of f (w.handlers h).objects
+    ≡ between_point (objects_of w) f.current f.routine (bound_in f) f.routine.require)
+StandsByStage s pure w h asked above f (InCall (Some t)) =
+    (c : Calling) × (o : Reference) × (x : List ℕ) × (us : List Operand)
+    × ClauseDone s (MayAsk h asked) (objects_of w) f.current f.routine (bound_in f) (Enters c o x us (Some t))
+    (point_of f (w.handlers h).objects)
     × (o.handler ≡ h) × AboveIsFor s above o x us
-StandsByStage s pure w h asked above f (Awaits k (Some t) false) = (o : Reference) × (x : List ℕ) × (us : List Operand) ×
-    ClauseDone s (MayAsk h asked) (objects_of w) f.current f.routine (bound_in f) (Requests o x us (Some t) false) (point_of f (w.handlers h).objects)
+StandsByStage s pure w h asked above f (Awaits k (Some t) false) =
+    (o : Reference) × (x : List ℕ) × (us : List Operand)
+    × ClauseDone s (MayAsk h asked) (objects_of w) f.current f.routine (bound_in f) (Requests o x us (Some t) false)
+    (point_of f (w.handlers h).objects)
     × (o.handler ≡ k) × (k ≢ h) × (above ≡ None) × RunsPureIfRoutine s pure o x × IsPending s pure w h asked o x us
 StandsByStage s pure w h asked above f stage = ⊥
 
--- the frame waits for k
+-- a frame in this stage waits for k
 abbrev pub AwaitsOf : Stage → ℕ → Type 0
 AwaitsOf (Awaits j gives is_creation) k = j ≡ k
 AwaitsOf stage k = ⊥
 
-pub record InPrecondition (s : System) (pure : RoutineName → Bool) (w : World) (h : ℕ) (above : Option Frame) (f : Frame) : Type 0 where
+-- The routine stands in its precondition. The handlers that it has asked are others and quiet, but the one that it
+-- waits for; and nothing is bound in it but its actuals.
+pub record InPrecondition (s : System) (pure : RoutineName → Bool) (w : World) (h : ℕ) (above : Option Frame)
+    (f : Frame) : Type 0 where
   pub asked : List ℕ
   pub quiet : (k : ℕ) → Contains asked k → (k ≢ h) × (IsQuiet w h k ⊎ AwaitsOf f.stage k)
   pub environment_is : f.environment ≡ bound_in f
@@ -227,7 +244,8 @@ pub record InPrecondition (s : System) (pure : RoutineName → Bool) (w : World)
 
 -- The frame waits for an answer, and what has come is no reply: its handler fails with its next turn.
 abbrev pub IsLost : World → ℕ → Frame → Type 0
-IsLost w h f = (is_awaiting f.stage ≡ true) × (((w.handlers h).answer ≡ Some Failed) ⊎ ((w.handlers h).answer ≡ Some Refused))
+IsLost w h f =
+    (is_awaiting f.stage ≡ true) × (((w.handlers h).answer ≡ Some Failed) ⊎ ((w.handlers h).answer ≡ Some Refused))
 
 -- ---- stacks and worlds
 
@@ -236,15 +254,23 @@ abbrev pub AboveIsPure : (RoutineName → Bool) → Option Frame → Type 0
 AboveIsPure pure None = Unit {0}
 AboveIsPure pure (Some g) = IsCalledPure pure g
 
-pub record FrameFollows (s : System) (pure : RoutineName → Bool) (w : World) (h : ℕ) (above : Option Frame) (f : Frame) : Type 0 where
-  pub in_precondition : HasStarted f.tasks ⊎ (IsLost w h f ⊎ (AboveIsPure pure above × InPrecondition s pure w h above f))
-  pub in_pure : pure (name_of f.routine) ≡ true → AboveIsPure pure above × FollowsPure s (objects_of w) above f f.stage
+-- The frame follows the evaluation by the definition: its body has started, or it is lost, or it stands in its
+-- precondition; and where it runs a pure function, it stands beside that function's evaluation.
+pub record FrameFollows (s : System) (pure : RoutineName → Bool) (w : World) (h : ℕ) (above : Option Frame)
+    (f : Frame) : Type 0 where
+  pub in_precondition : HasStarted f.tasks
+      ⊎ (IsLost w h f ⊎ (AboveIsPure pure above × InPrecondition s pure w h above f))
+  pub in_pure : pure (name_of f.routine) ≡ true →
+      AboveIsPure pure above × FollowsPure s (objects_of w) above f f.stage
   pub is_bound : pure (name_of f.routine) ≡ true → AreBound s f.routine (bound_in f)
   pub reserves_nothing : pure (name_of f.routine) ≡ true → f.reserved ≡ []
 
+-- So does each frame of the stack, below this one.
 abbrev pub StackFollows : System → (RoutineName → Bool) → World → ℕ → Option Frame → List Frame → Type 0
 StackFollows s pure w h above [] = Unit {0}
 StackFollows s pure w h above (f ∷ below) = FrameFollows s pure w h above f × StackFollows s pure w h (Some f) below
 
+-- So does each frame of each handler that hasn't failed.
 abbrev pub WorldFollows : System → (RoutineName → Bool) → World → Type 0
-WorldFollows s pure w = (h : ℕ) → h < w.count → (w.handlers h).failure ≡ None → StackFollows s pure w h None (w.handlers h).stack
+WorldFollows s pure w = (h : ℕ) → h < w.count → (w.handlers h).failure ≡ None →
+    StackFollows s pure w h None (w.handlers h).stack

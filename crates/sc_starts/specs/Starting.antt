@@ -24,4 +24,5 @@ StartsWhereTheyHold s most w = (h : ℕ) (f : Frame) (below : List Frame) (p : P
 
 -- So it is in each state that an accepted system reaches.
 abbrev pub BodiesStartWhereTheyHold : Type 0
-BodiesStartWhereTheyHold = WhereAccepted λ s root. (most : ℕ) (w : World) → IsReached most s root w → StartsWhereTheyHold s most w
+BodiesStartWhereTheyHold = WhereAccepted λ s root. (most : ℕ) (w : World) → IsReached most s root w →
+    StartsWhereTheyHold s most w

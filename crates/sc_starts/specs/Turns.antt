@@ -13,14 +13,15 @@ use Rattle.sc_starts.specs.Following.{StackFollows, WorldFollows}
 
 -- After its own turn each frame of a handler follows again, unless the handler has failed.
 abbrev pub OwnFollows : Type 0
-OwnFollows = (s : System) (root : Root) (pure : RoutineName → Bool) → IsFaultless s root → WellFormed s → IsPurity s pure →
-    (most h : ℕ) (w : World) → IsReached most s root w → WorldFollows s pure w → h < w.count →
+OwnFollows = (s : System) (root : Root) (pure : RoutineName → Bool) → IsFaultless s root → WellFormed s →
+    IsPurity s pure → (most h : ℕ) (w : World) → IsReached most s root w → WorldFollows s pure w → h < w.count →
     ((turn most s h w).handlers h).failure ≡ None →
     StackFollows s pure (turn most s h w) h None ((turn most s h w).handlers h).stack
 
--- After the turn of another handler they do too.
+-- After the turn of another handler they do so too.
 abbrev pub OthersFollow : Type 0
-OthersFollow = (s : System) (root : Root) (pure : RoutineName → Bool) → IsFaultless s root → WellFormed s → IsPurity s pure →
-    (most g h : ℕ) (w : World) → IsReached most s root w → WorldFollows s pure w → h < w.count → h ≢ g →
+OthersFollow = (s : System) (root : Root) (pure : RoutineName → Bool) → IsFaultless s root → WellFormed s →
+    IsPurity s pure → (most g h : ℕ) (w : World) → IsReached most s root w → WorldFollows s pure w → h < w.count →
+    h ≢ g →
     ((turn most s g w).handlers h).failure ≡ None →
     StackFollows s pure (turn most s g w) h None ((turn most s g w).handlers h).stack
