@@ -39,10 +39,13 @@ use Rattle.sc_starts.proofs.Lists.{first_of, false_is_true, some_is_none}
 
 -- the frame awaits an answer of k
 awaits_of : (f : Frame) (below st : List Frame) (k : ℕ) → st ≡ f ∷ below → TopAwaits st k → AwaitsOf f.stage k
-awaits_of f below st k e a = subst (λ (z : Stage). AwaitsOf z k) (sym (ap (λ (g : Frame). g.stage) (first_of (sym e ∙ a.stack_is)) ∙ a.stage_is)) refl
+awaits_of f below st k e a =
+    subst (λ (z : Stage). AwaitsOf z k)
+    (sym (ap (λ (g : Frame). g.stage) (first_of (sym e ∙ a.stack_is)) ∙ a.stage_is)) refl
 
 -- a pure function awaits nobody
-pure_awaits_none : (s : System) (O : ℕ → List Object) (above : Option Frame) (f : Frame) (z : Stage) (k : ℕ) → FollowsPure s O above f z → AwaitsOf z k → ⊥
+pure_awaits_none : (s : System) (O : ℕ → List Object) (above : Option Frame) (f : Frame) (z : Stage) (k : ℕ) →
+    FollowsPure s O above f z → AwaitsOf z k → ⊥
 pure_awaits_none s O above f Runs k i a = a
 pure_awaits_none s O above f Reserves k i a = a
 pure_awaits_none s O above f ReservesBlock k i a = a
@@ -61,13 +64,16 @@ awaits_or_not k Reserves = inr (λ e. e)
 awaits_or_not k ReservesBlock = inr (λ e. e)
 awaits_or_not k (InCall t) = inr (λ e. e)
 
--- Frames with none above them are the whole stack; below a pure function they are not, and then nobody is awaited on top.
+-- Frames with none above them are the whole stack; below a pure function they are not, and then nobody is awaited on
+-- top.
 record IsTop (pure : RoutineName → Bool) (st : List Frame) (above : Option Frame) (rest : List Frame) : Type 0 where
   is_all : above ≡ None → st ≡ rest
   or_none : AboveIsPure pure above → (st ≡ rest) ⊎ ((k : ℕ) → TopAwaits st k → ⊥)
 
-module _ (known : Known) (s : System) (root : Root) (pure : RoutineName → Bool) (faultless : IsFaultless s root) (well : WellFormed s) (tells : IsPurity s pure)
-    (most : ℕ) (w : World) (reached : IsReached most s root w) (fits : WorldFits s pure w) (follows : WorldFollows s pure w)
+module _ (known : Known) (s : System) (root : Root) (pure : RoutineName → Bool) (faultless : IsFaultless s root)
+    (well : WellFormed s) (tells : IsPurity s pure)
+    (most : ℕ) (w : World) (reached : IsReached most s root w) (fits : WorldFits s pure w)
+    (follows : WorldFollows s pure w)
     (g h : ℕ) (here : h < w.count) (lives : (w.handlers h).failure ≡ None) (apart : h ≢ g) where
   abbrev after : World
   after = turn most s g w
@@ -86,10 +92,12 @@ module _ (known : Known) (s : System) (root : Root) (pure : RoutineName → Bool
   hears_so a Failed n = absurd (n refl)
   hears_so a Refused n = ap (λ (c : Option Cause). heard Refused c (Some a)) lives
 
-  keeps_answer : (a : Answer) → (w.handlers h).answer ≡ Some a → ((after.handlers h).answer ≡ Some a) ⊎ ((after.handlers h).answer ≡ Some Failed)
+  keeps_answer : (a : Answer) → (w.handlers h).answer ≡ Some a → ((after.handlers h).answer ≡ Some a)
+      ⊎ ((after.handlers h).answer ≡ Some Failed)
   keeps_answer a e = by (known.answers_come most s w g h here apart)
     where
-      old : {b : Answer} → (b ≡ Failed → ⊥) → (after.handlers h).answer ≡ heard b (w.handlers h).failure (w.handlers h).answer → (after.handlers h).answer ≡ Some a
+      old : {b : Answer} → (b ≡ Failed → ⊥) → (after.handlers h).answer ≡ heard b (w.handlers h).failure
+          (w.handlers h).answer → (after.handlers h).answer ≡ Some a
       old {b} n i = i ∙ ap (heard b (w.handlers h).failure) e ∙ hears_so a b n
 
       by : AnswerComes s w g h after → ((after.handlers h).answer ≡ Some a) ⊎ ((after.handlers h).answer ≡ Some Failed)
@@ -114,7 +122,8 @@ module _ (known : Known) (s : System) (root : Root) (pure : RoutineName → Bool
 
   -- ---- a frame of h
 
-  module _ (f : Frame) (below : List Frame) (above : Option Frame) (mine : f.current.handler ≡ h) (top : IsTop pure (w.handlers h).stack above (f ∷ below))
+  module _ (f : Frame) (below : List Frame) (above : Option Frame) (mine : f.current.handler ≡ h)
+      (top : IsTop pure (w.handlers h).stack above (f ∷ below))
       (above_is : AboveIsPure pure above) where
     current_same : objects_of w f.current.handler ≡ objects_of after f.current.handler
     current_same = subst (λ (k : ℕ). objects_of w k ≡ objects_of after k) (sym mine) own_same
@@ -125,11 +134,13 @@ module _ (known : Known) (s : System) (root : Root) (pure : RoutineName → Bool
     awaited_here : (k : ℕ) → AwaitsOf f.stage k ⊎ (TopAwaits (w.handlers h).stack k → ⊥)
     awaited_here k = by (top.or_none above_is)
       where
-        at : (w.handlers h).stack ≡ f ∷ below → AwaitsOf f.stage k ⊎ (AwaitsOf f.stage k → ⊥) → AwaitsOf f.stage k ⊎ (TopAwaits (w.handlers h).stack k → ⊥)
+        at : (w.handlers h).stack ≡ f ∷ below → AwaitsOf f.stage k ⊎ (AwaitsOf f.stage k → ⊥) → AwaitsOf f.stage k
+            ⊎ (TopAwaits (w.handlers h).stack k → ⊥)
         at i (inl z) = inl z
         at i (inr n) = inr (λ a. n (awaits_of f below (w.handlers h).stack k i a))
 
-        by : ((w.handlers h).stack ≡ f ∷ below) ⊎ ((k : ℕ) → TopAwaits (w.handlers h).stack k → ⊥) → AwaitsOf f.stage k ⊎ (TopAwaits (w.handlers h).stack k → ⊥)
+        by : ((w.handlers h).stack ≡ f ∷ below) ⊎ ((k : ℕ) → TopAwaits (w.handlers h).stack k → ⊥) → AwaitsOf f.stage k
+            ⊎ (TopAwaits (w.handlers h).stack k → ⊥)
         by (inr n) = inr (n k)
         by (inl i) = at i (awaits_or_not k f.stage)
 
@@ -138,7 +149,8 @@ module _ (known : Known) (s : System) (root : Root) (pure : RoutineName → Bool
       where
         by : AwaitsOf f.stage k ⊎ (TopAwaits (w.handlers h).stack k → ⊥) → AwaitsOf f.stage k ⊎ StaysQuiet w after h k
         by (inl a) = inl a
-        by (inr n) = inr (quiet_stays known.called_back_waits known.others_stay known.rights_stay known.beyond_is_unused most s root w reached g h apart lives k (inr n) q)
+        by (inr n) = inr (quiet_stays known.called_back_waits known.others_stay known.rights_stay known.beyond_is_unused
+            most s root w reached g h apart lives k (inr n) q)
 
     module _ (z : InPrecondition s pure w h above f) where
       asked_quiet : (k : ℕ) → Contains z.asked k → (k ≢ h) × (IsQuiet after h k ⊎ AwaitsOf f.stage k)
@@ -153,7 +165,8 @@ module _ (known : Known) (s : System) (root : Root) (pure : RoutineName → Bool
           by (inr a) = inr a
 
       -- the objects of all that it has asked stay, if those of whom it awaits do
-      asked_same : ((k : ℕ) → AwaitsOf f.stage k → Contains z.asked k → objects_of w k ≡ objects_of after k) → (k : ℕ) → MayAsk h z.asked k →
+      asked_same : ((k : ℕ) → AwaitsOf f.stage k → Contains z.asked k → objects_of w k ≡ objects_of after k) → (k : ℕ) →
+          MayAsk h z.asked k →
           objects_of w k ≡ objects_of after k
       asked_same awaited k (inl e) = subst (λ (k : ℕ). objects_of w k ≡ objects_of after k) (sym e) own_same
       asked_same awaited k (inr i) = by (z.quiet k i).1
@@ -167,7 +180,8 @@ module _ (known : Known) (s : System) (root : Root) (pure : RoutineName → Bool
           by (inr a) = awaited k a i
 
       -- it awaits nobody
-      none_awaited : (st : Stage) → f.stage ≡ st → ((k : ℕ) → AwaitsOf st k → ⊥) → (k : ℕ) → AwaitsOf f.stage k → Contains z.asked k → objects_of w k ≡ objects_of after k
+      none_awaited : (st : Stage) → f.stage ≡ st → ((k : ℕ) → AwaitsOf st k → ⊥) → (k : ℕ) → AwaitsOf f.stage k →
+          Contains z.asked k → objects_of w k ≡ objects_of after k
       none_awaited st e n k a i = absurd (n k (subst (λ (x : Stage). AwaitsOf x k) e a))
 
       again : StandsByStage s pure after h z.asked above f f.stage → InPrecondition s pure after h above f
@@ -177,40 +191,59 @@ module _ (known : Known) (s : System) (root : Root) (pure : RoutineName → Bool
       Next = IsLost after h f ⊎ InPrecondition s pure after h above f
 
       -- with the same objects
-      at_objects : (P : Point → Type 0) → P (point_of f (w.handlers h).objects) → P (point_of f (after.handlers h).objects)
+      at_objects : (P : Point → Type 0) → P (point_of f (w.handlers h).objects) →
+          P (point_of f (after.handlers h).objects)
       at_objects P i = subst (λ (os : List Object). P (point_of f os)) own_same i
 
       by_stage : (st : Stage) → f.stage ≡ st → StandsByStage s pure w h z.asked above f st → Next
       by_stage Runs e i = inr (again (subst (StandsByStage s pure after h z.asked above f) (sym e)
           (at_objects (ClausesAt s (MayAsk h z.asked) (objects_of after) f.current f.routine (bound_in f))
-          (clauses_local known.reaches_locally known.ends_true_locally s (MayAsk h z.asked) (objects_of w) (objects_of after)
-          (asked_same (none_awaited Runs e (λ k a. a))) f.current current_same f.routine (bound_in f) (point_of f (w.handlers h).objects) i))))
+          (clauses_local known.reaches_locally known.ends_true_locally s (MayAsk h z.asked) (objects_of w)
+          (objects_of after)
+          (asked_same (none_awaited Runs e (λ k a. a))) f.current current_same f.routine (bound_in f)
+          (point_of f (w.handlers h).objects) i))))
       by_stage Reserves e i = inr (again (subst (StandsByStage s pure after h z.asked above f) (sym e) (
         i.0,
-        at_objects (λ (p : Point). p ≡ between_point (objects_of after) f.current f.routine (bound_in f) f.routine.require)
-            (i.1 ∙ ap (λ (os : List Object). record (between_point (objects_of w) f.current f.routine (bound_in f) f.routine.require) { objects = os }) current_same),
+        at_objects (λ (p : Point). p ≡ between_point (objects_of after) f.current f.routine
+            (bound_in f) f.routine.require)
+            (i.1 ∙ ap (λ (os : List Object).
+            record (between_point (objects_of w) f.current f.routine (bound_in f) f.routine.require) {
+              objects = os;
+            }) current_same),
       )))
       by_stage ReservesBlock e i = absurd i
       by_stage (InCall None) e i = absurd i
-      by_stage (InCall (Some t)) e (c, o, x, us, done, same, above_for) = inr (again (subst (StandsByStage s pure after h z.asked above f) (sym e) (
-        c,
-        o,
-        x,
-        us,
-        at_objects (ClauseDone s (MayAsk h z.asked) (objects_of after) f.current f.routine (bound_in f) (Enters c o x us (Some t)))
-            (clause_done_local known.reaches_locally known.ends_true_locally s (MayAsk h z.asked) (objects_of w) (objects_of after)
-            (asked_same (none_awaited (InCall (Some t)) e (λ k a. a))) f.current current_same f.routine (bound_in f) (Enters c o x us (Some t))
-            (point_of f (w.handlers h).objects) done),
-        same,
-        above_for,
-      )))
+      by_stage (InCall (Some t)) e (c, o, x, us, done, same, above_for) =
+          inr (again (subst (StandsByStage s pure after h z.asked above f) (sym e) (
+            c,
+            o,
+            x,
+            us,
+            at_objects (ClauseDone s (MayAsk h z.asked) (objects_of after) f.current f.routine (bound_in f)
+                (Enters c o x us (Some t)))
+                (clause_done_local known.reaches_locally known.ends_true_locally s (MayAsk h z.asked) (objects_of w)
+                (objects_of after)
+                (asked_same (none_awaited (InCall (Some t)) e (λ k a. a))) f.current current_same f.routine (bound_in f)
+                (Enters c o x us (Some t))
+                (point_of f (w.handlers h).objects) done),
+            same,
+            above_for,
+          )))
       by_stage (Awaits k None c) e i = absurd i
       by_stage (Awaits k (Some t) true) e i = absurd i
       by_stage (Awaits k (Some t) false) e (o, x, us, done, same, not_own, alone, runs_pure, pending) = by onward
         where
           onward : Onward s pure w after h z.asked o x us
-          onward = asked_onward known s root pure faultless well tells most w reached fits follows h here lives z.asked o x us
-              (record { frame = f; below = below; gives = Some t; stack_is = top.is_all alone; stage_is = e ∙ ap (λ (j : ℕ). Awaits j (Some t) false) (sym same) })
+          onward = asked_onward known s root pure faultless well tells most w reached fits follows h here lives
+              z.asked o x us
+              (record {
+                frame = f;
+                below = below;
+                gives = Some t;
+                stack_is = top.is_all alone;
+                stage_is = e
+                    ∙ ap (λ (j : ℕ). Awaits j (Some t) false) (sym same);
+              })
               g apart runs_pure pending
 
           by : Onward s pure w after h z.asked o x us → Next
@@ -219,12 +252,16 @@ module _ (known : Known) (s : System) (root : Root) (pure : RoutineName → Bool
             o,
             x,
             us,
-            at_objects (ClauseDone s (MayAsk h z.asked) (objects_of after) f.current f.routine (bound_in f) (Requests o x us (Some t) false))
-                (clause_done_local known.reaches_locally known.ends_true_locally s (MayAsk h z.asked) (objects_of w) (objects_of after)
+            at_objects (ClauseDone s (MayAsk h z.asked) (objects_of after) f.current f.routine (bound_in f)
+                (Requests o x us (Some t) false))
+                (clause_done_local known.reaches_locally known.ends_true_locally s (MayAsk h z.asked) (objects_of w)
+                (objects_of after)
                 (asked_same (λ j a i.
                 let is_o : o.handler ≡ j = same ∙ subst (λ (x : Stage). AwaitsOf x j) e a in
-                subst (λ (j : ℕ). objects_of w j ≡ objects_of after j) is_o (sym (objects (subst (Contains z.asked) (sym is_o) i)))))
-                f.current current_same f.routine (bound_in f) (Requests o x us (Some t) false) (point_of f (w.handlers h).objects) done),
+                subst (λ (j : ℕ). objects_of w j ≡ objects_of after j) is_o
+                (sym (objects (subst (Contains z.asked) (sym is_o) i)))))
+                f.current current_same f.routine (bound_in f) (Requests o x us (Some t) false)
+                (point_of f (w.handlers h).objects) done),
             same,
             not_own,
             alone,
@@ -237,7 +274,8 @@ module _ (known : Known) (s : System) (root : Root) (pure : RoutineName → Bool
 
   -- ---- the stack of h
 
-  frame_on : (f : Frame) (below : List Frame) (above : Option Frame) → f.current.handler ≡ h → IsTop pure (w.handlers h).stack above (f ∷ below) →
+  frame_on : (f : Frame) (below : List Frame) (above : Option Frame) → f.current.handler ≡ h →
+      IsTop pure (w.handlers h).stack above (f ∷ below) →
       FrameFollows s pure w h above f → FrameFollows s pure after h above f
   frame_on f below above mine top z = record {
     in_precondition = by z.in_precondition;
@@ -262,16 +300,21 @@ module _ (known : Known) (s : System) (root : Root) (pure : RoutineName → Bool
       by (inr (inr i)) = next i.0 (precondition_next f below above mine top i.0 i.1)
 
   -- below a frame
-  top_below : (f : Frame) (below : List Frame) (above : Option Frame) → IsTop pure (w.handlers h).stack above (f ∷ below) → FrameFollows s pure w h above f →
+  top_below : (f : Frame) (below : List Frame) (above : Option Frame) →
+      IsTop pure (w.handlers h).stack above (f ∷ below) → FrameFollows s pure w h above f →
       IsTop pure (w.handlers h).stack (Some f) below
-  top_below f below above top z = record { is_all = λ e. some_is_none e; or_none = λ i. inr (by (top.or_none (z.in_pure i.1).0) (z.in_pure i.1).1) }
+  top_below f below above top z =
+      record { is_all = λ e. some_is_none e; or_none = λ i. inr (by (top.or_none (z.in_pure i.1).0) (z.in_pure i.1).1) }
     where
-      by : ((w.handlers h).stack ≡ f ∷ below) ⊎ ((k : ℕ) → TopAwaits (w.handlers h).stack k → ⊥) → FollowsPure s (objects_of w) above f f.stage →
+      by : ((w.handlers h).stack ≡ f ∷ below) ⊎ ((k : ℕ) → TopAwaits (w.handlers h).stack k → ⊥) →
+          FollowsPure s (objects_of w) above f f.stage →
           (k : ℕ) → TopAwaits (w.handlers h).stack k → ⊥
-      by (inl e) p k a = pure_awaits_none s (objects_of w) above f f.stage k p (awaits_of f below (w.handlers h).stack k e a)
+      by (inl e) p k a = pure_awaits_none s (objects_of w) above f f.stage k p
+          (awaits_of f below (w.handlers h).stack k e a)
       by (inr n) p k a = n k a
 
-  stack_on : (st : List Frame) (above : Option Frame) → Each (FrameFits s pure w h) st → IsTop pure (w.handlers h).stack above st → StackFollows s pure w h above st →
+  stack_on : (st : List Frame) (above : Option Frame) → Each (FrameFits s pure w h) st →
+      IsTop pure (w.handlers h).stack above st → StackFollows s pure w h above st →
       StackFollows s pure after h above st
   stack_on [] above fit top z = tt
   stack_on (f ∷ below) above fit top z =
@@ -279,7 +322,8 @@ module _ (known : Known) (s : System) (root : Root) (pure : RoutineName → Bool
 
   pub stack_follows : StackFollows s pure after h None (after.handlers h).stack
   stack_follows = subst (StackFollows s pure after h None) (sym stay.stack_stays)
-      (stack_on (w.handlers h).stack None (fits h here).frames_fit (record { is_all = λ e. refl; or_none = λ i. inl refl }) (follows h here lives))
+      (stack_on (w.handlers h).stack None (fits h here).frames_fit
+      (record { is_all = λ e. refl; or_none = λ i. inl refl }) (follows h here lives))
 
 -- ---- all of it
 
@@ -304,5 +348,6 @@ known_laws = record {
 
 pub others_follow : OthersFollow
 others_follow s root pure faultless well tells most g h w reached follows here apart lives =
-    stack_follows known_laws s root pure faultless well tells most w reached (reached_fits s root pure faultless well tells most w reached) follows g h here
+    stack_follows known_laws s root pure faultless well tells most w reached
+    (reached_fits s root pure faultless well tells most w reached) follows g h here
     (sym (others_stay most s w g h here apart).failure_stays ∙ lives) apart

@@ -1,4 +1,5 @@
--- Where a frame stands beside an evaluation over the objects of some handlers, it stands so over the same objects of them.
+-- Where a frame stands beside an evaluation over the objects of some handlers, it stands so over the same objects of
+-- them.
 use Rattle.std.proofs.Common.{ℕ, ◌≡◌, List, [], ◌∷◌, Option, Some, None, sym, subst}
 use Rattle.sc_tree.specs.Plain.{System, Clause}
 use Rattle.sc_proctype.specs.declared.entity_type.EntityType.{EntityType}
@@ -26,7 +27,8 @@ module _ (reaches_locally : ReachesLocally) (ends_locally : EndsTrueLocally) (s 
       oldless = z.oldless;
     }
 
-    done_local : (start : Point) (ts : List Task) (a : Act) (p : Point) → HasDone s M O me start ts a p → HasDone s M N me start ts a p
+    done_local : (start : Point) (ts : List Task) (a : Act) (p : Point) → HasDone s M O me start ts a p →
+        HasDone s M N me start ts a p
     done_local start ts a p z = record {
       before = z.before;
       after = z.after;
@@ -57,12 +59,14 @@ module _ (reaches_locally : ReachesLocally) (ends_locally : EndsTrueLocally) (s 
             values = [];
           }) here i)
       clauses_local p (ClausesAt.inside done ks k e h i a) = ClausesAt.inside done ks k e (holds_local done h) i
-          (subst (λ (os : List Object). IsAt s M N me (clause_point os r.contract bs (result_of r.text.result) k) (Required k ∷ behind_clause r ks) p) here
+          (subst (λ (os : List Object). IsAt s M N me (clause_point os r.contract bs (result_of r.text.result) k)
+          (Required k ∷ behind_clause r ks) p) here
           (at_local (clause_of O me r bs k) (Required k ∷ behind_clause r ks) p a))
 
       pub clause_done_local : (a : Act) (p : Point) → ClauseDone s M O me r bs a p → ClauseDone s M N me r bs a p
       clause_done_local a p (ClauseDone.inside done ks k e h i d) = ClauseDone.inside done ks k e (holds_local done h) i
-          (subst (λ (os : List Object). HasDone s M N me (clause_point os r.contract bs (result_of r.text.result) k) (Required k ∷ behind_clause r ks) a p) here
+          (subst (λ (os : List Object). HasDone s M N me (clause_point os r.contract bs (result_of r.text.result) k)
+          (Required k ∷ behind_clause r ks) a p) here
           (done_local (clause_of O me r bs k) (Required k ∷ behind_clause r ks) a p d))
 
   -- ---- pure functions
@@ -71,9 +75,11 @@ module _ (reaches_locally : ReachesLocally) (ends_locally : EndsTrueLocally) (s 
     own : (k : ℕ) → Own me.handler k → O k ≡ N k
     own k e = subst (λ (j : ℕ). O j ≡ N j) (sym e) here
 
-    during_local : (r : Routine) (bs : List Binding) (p : Point) → IsAt s (Own me.handler) O me (start_of s O me r bs) (behind_body r) p →
+    during_local : (r : Routine) (bs : List Binding) (p : Point) →
+        IsAt s (Own me.handler) O me (start_of s O me r bs) (behind_body r) p →
         IsAt s (Own me.handler) N me (start_of s N me r bs) (behind_body r) p
-    during_local r bs p z = subst (λ (os : List Object). IsAt s (Own me.handler) N me (body_point s r os bs) (behind_body r) p) here
+    during_local r bs p z = subst
+        (λ (os : List Object). IsAt s (Own me.handler) N me (body_point s r os bs) (behind_body r) p) here
         (at_local (Own me.handler) O N own me (start_of s O me r bs) (behind_body r) p z)
 
     pub pure_local : (r : Routine) (bs : List Binding) (p : Point) → PureAt s O me r bs p → PureAt s N me r bs p
@@ -83,24 +89,31 @@ module _ (reaches_locally : ReachesLocally) (ends_locally : EndsTrueLocally) (s 
         (subst (λ (os : List Object). Reaches s (Own me.handler) N me (body_point s r os bs) e) here
         (reaches_locally s (Own me.handler) O N own me (start_of s O me r bs) e z)) a b c
 
-    pub calls_local : (r : Routine) (bs : List Binding) (t : EntityType) (For : Reference → List ℕ → List Operand → Type 0) (p : Point) →
+    pub calls_local : (r : Routine) (bs : List Binding) (t : EntityType)
+        (For : Reference → List ℕ → List Operand → Type 0) (p : Point) →
         PureCalls s O me r bs t For p → PureCalls s N me r bs t For p
     calls_local r bs t For p (PureCalls.before ts a b c d) = PureCalls.before ts a b c d
     calls_local r bs t For p (PureCalls.during {c} {o} {x} {us} i z j) = PureCalls.during i
-        (subst (λ (os : List Object). HasDone s (Own me.handler) N me (body_point s r os bs) (behind_body r) (Enters c o x us (Some t)) p) here
-        (done_local (Own me.handler) O N own me (start_of s O me r bs) (behind_body r) (Enters c o x us (Some t)) p z)) j
+        (subst (λ (os : List Object). HasDone s (Own me.handler) N me (body_point s r os bs) (behind_body r)
+        (Enters c o x us (Some t)) p) here
+        (done_local (Own me.handler) O N own me (start_of s O me r bs) (behind_body r)
+        (Enters c o x us (Some t)) p z)) j
     calls_local r bs t For p (PureCalls.behind {e} z a b c) = PureCalls.behind
         (subst (λ (os : List Object). Reaches s (Own me.handler) N me (body_point s r os bs) e) here
         (reaches_locally s (Own me.handler) O N own me (start_of s O me r bs) e z)) a b c
 
   -- So does the frame of a pure function, whose handler's objects are the same.
-  pub follows_local : (O N : ℕ → List Object) (above : Option Frame) (f : Frame) → O f.current.handler ≡ N f.current.handler → (st : Stage) →
+  pub follows_local : (O N : ℕ → List Object) (above : Option Frame) (f : Frame) →
+      O f.current.handler ≡ N f.current.handler → (st : Stage) →
       FollowsPure s O above f st → FollowsPure s N above f st
-  follows_local O N above f here Runs z = subst (λ (os : List Object). PureAt s N f.current f.routine (bound_in f) (point_of f os)) here
+  follows_local O N above f here Runs z =
+      subst (λ (os : List Object). PureAt s N f.current f.routine (bound_in f) (point_of f os)) here
       (pure_local O N f.current here f.routine (bound_in f) (point_of f (O f.current.handler)) z)
   follows_local O N above f here (InCall (Some t)) z =
-      subst (λ (os : List Object). PureCalls s N f.current f.routine (bound_in f) t (AboveIsFor s above) (point_of f os)) here
-      (calls_local O N f.current here f.routine (bound_in f) t (AboveIsFor s above) (point_of f (O f.current.handler)) z)
+      subst (λ (os : List Object). PureCalls s N f.current f.routine (bound_in f) t (AboveIsFor s above)
+      (point_of f os)) here
+      (calls_local O N f.current here f.routine (bound_in f) t (AboveIsFor s above)
+      (point_of f (O f.current.handler)) z)
   follows_local O N above f here (InCall None) z = z
   follows_local O N above f here Reserves z = z
   follows_local O N above f here ReservesBlock z = z

@@ -12,9 +12,8 @@ use Rattle.sc_waitcond.specs.declared.session.Release.TheVariants as release_at
 use Rattle.sc_model.specs.declared.cause.Cause.{Cause}
 use Rattle.sc_model.specs.declared.cause.Cause.TheVariants as cause
 use Rattle.sc_model.specs.Failures.{fails_with, fallen, is_waited_by, requests_at, told}
-use Rattle.sc_model.specs.Handlers.{Request, Answer, Reply, Failed, Refused, Stage, Frame, Handler, World}
+use Rattle.sc_model.specs.Handlers.{Request, Answer, Reply, Failed, Refused, Stage, Frame, World}
 use Rattle.sc_model.specs.Runs.{IsReached}
-use Rattle.sc_model.specs.Sessions.{session_ended}
 use Rattle.sc_model.specs.Takes.{takes_next}
 use Rattle.sc_model.specs.Turns.{turn, turn_with, goes_on, waits}
 use Rattle.sc_laws.specs.Headline.{has_reply}
@@ -30,15 +29,19 @@ one_holder e f = cc
 -- ---- a failure
 
 -- the handler that fails keeps its objects
-pub fallen_objects : (g : ℕ) (why : Cause) (taken : List Request) (v : World) → ((fails_with g why taken v).handlers g).objects ≡ (v.handlers g).objects
+pub fallen_objects : (g : ℕ) (why : Cause) (taken : List Request) (v : World) →
+    ((fails_with g why taken v).handlers g).objects ≡ (v.handlers g).objects
 fallen_objects g why taken v =
     (ended_rests (ends_session release_at.Failure && is_handler g (v.rights.queue g)) _).objects
-    ∙ ap (λ (b : Bool). (if b then fallen why (v.handlers g) else told (list_any (is_waited_by g) (taken ++ requests_at (v.handlers g))) (v.handlers g)).objects) (eq-eqb g g refl)
+    ∙ ap (λ (b : Bool). (if b then fallen why (v.handlers g) else told
+    (list_any (is_waited_by g) (taken ++ requests_at (v.handlers g))) (v.handlers g)).objects) (eq-eqb g g refl)
 
-pub fallen_failure : (g : ℕ) (why : Cause) (taken : List Request) (v : World) → ((fails_with g why taken v).handlers g).failure ≡ Some why
+pub fallen_failure : (g : ℕ) (why : Cause) (taken : List Request) (v : World) →
+    ((fails_with g why taken v).handlers g).failure ≡ Some why
 fallen_failure g why taken v =
     (ended_rests (ends_session release_at.Failure && is_handler g (v.rights.queue g)) _).failure
-    ∙ ap (λ (b : Bool). (if b then fallen why (v.handlers g) else told (list_any (is_waited_by g) (taken ++ requests_at (v.handlers g))) (v.handlers g)).failure) (eq-eqb g g refl)
+    ∙ ap (λ (b : Bool). (if b then fallen why (v.handlers g) else told
+    (list_any (is_waited_by g) (taken ++ requests_at (v.handlers g))) (v.handlers g)).failure) (eq-eqb g g refl)
 
 -- ---- a turn
 
@@ -55,7 +58,8 @@ module _ (calls_back : CalledBackWaits) (others_stay : OthersStay) (rights_stay 
     where
       by : (b : Bool) → nat_lt k w.count ≡ b → k < w.count
       by true l = ltb-true k w.count l
-      by false l = false_is_true (sym (ap is_some (beyond most s root w reached k (ltb-false k w.count l)).failure_is) ∙ e)
+      by false l = false_is_true
+          (sym (ap is_some (beyond most s root w reached k (ltb-false k w.count l)).failure_is) ∙ e)
 
   -- so is whoever is held
   pub posts_to_there : (k h : ℕ) → w.rights.queue k ≡ Some h → k < w.count
@@ -90,7 +94,8 @@ module _ (calls_back : CalledBackWaits) (others_stay : OthersStay) (rights_stay 
 
         by : IsQuiet w h k → IsQuiet (turn most s g w) h k
         by (following.failed e) = following.failed (ap is_some stay.failure_stays ∙ e)
-        by (following.idle st qs r) = following.idle (stay.stack_stays ∙ st) (queue stay.queue_comes) ((rights_stay most s root w reached g h k back).0 r)
+        by (following.idle st qs r) = following.idle (stay.stack_stays ∙ st) (queue stay.queue_comes)
+            ((rights_stay most s root w reached g h k back).0 r)
           where
             queue : QueueComes w g k ((turn most s g w).handlers k) → ((turn most s g w).handlers k).queue ≡ []
             queue (QueueComes.stays e) = e ∙ qs
@@ -98,7 +103,8 @@ module _ (calls_back : CalledBackWaits) (others_stay : OthersStay) (rights_stay 
         by (following.waiting r) = following.waiting ((rights_stay most s root w reached g h k back).1 n r)
 
     -- in its own turn it does nothing, or it fails as it is told that whoever it waits for has failed
-    module _ (lives : (w.handlers h).failure ≡ None) (waits_not : (has_reply (w.handlers h).answer ≡ true) ⊎ (TopAwaits (w.handlers h).stack g → ⊥))
+    module _ (lives : (w.handlers h).failure ≡ None)
+        (waits_not : (has_reply (w.handlers h).answer ≡ true) ⊎ (TopAwaits (w.handlers h).stack g → ⊥))
         (q : IsQuiet w h g) where
       abbrev P : World → Type 0
       P v = StaysQuiet w v h g
@@ -107,7 +113,10 @@ module _ (calls_back : CalledBackWaits) (others_stay : OthersStay) (rights_stay 
       nothing = record { objects_stay = refl; quiet = q }
 
       fails : (why : Cause) → P (fails_with g why [] w)
-      fails why = record { objects_stay = fallen_objects g why [] w; quiet = following.failed (ap is_some (fallen_failure g why [] w)) }
+      fails why = record {
+        objects_stay = fallen_objects g why [] w;
+        quiet = following.failed (ap is_some (fallen_failure g why [] w));
+      }
 
       away : w.rights.top g ≡ Some h → (w.handlers g).failure ≡ None → IsAway (w.handlers g)
       away r e = calls_back most s root w reached g h r (λ i. apart (sym i)) e lives waits_not
@@ -117,26 +126,32 @@ module _ (calls_back : CalledBackWaits) (others_stay : OthersStay) (rights_stay 
       queue_is e i (following.idle st qs r) = qs
       queue_is e i (following.waiting r) = nothing_is_list (sym i ∙ (away r e).awaits.stack_is)
 
-      waits_away : (f : Frame) (below : List Frame) → (w.handlers g).failure ≡ None → (w.handlers g).stack ≡ f ∷ below → IsQuiet w h g → IsAway (w.handlers g)
+      waits_away : (f : Frame) (below : List Frame) → (w.handlers g).failure ≡ None → (w.handlers g).stack ≡ f ∷ below →
+          IsQuiet w h g → IsAway (w.handlers g)
       waits_away f below e i (following.failed u) = false_is_true (sym (ap is_some e) ∙ u)
       waits_away f below e i (following.idle st qs r) = nothing_is_list (sym st ∙ i)
       waits_away f below e i (following.waiting r) = away r e
 
-      takes : (f : Frame) (below : List Frame) (k : ℕ) (t : Option EntityType) (c : Bool) → (o : Option Answer) → (w.handlers g).answer ≡ o → has_reply o ≡ false →
+      takes : (f : Frame) (below : List Frame) (k : ℕ) (t : Option EntityType) (c : Bool) → (o : Option Answer) →
+          (w.handlers g).answer ≡ o → has_reply o ≡ false →
           P (waits s g None o k t c f below w)
       takes f below k t c None e n = nothing
       takes f below k t c (Some (Reply v)) e n = false_is_true (sym n)
       takes f below k t c (Some Failed) e n = fails cause.SupplierFailed
       takes f below k t c (Some Refused) e n = false_is_true (sym n)
 
-      goes : (f : Frame) (below : List Frame) → (w.handlers g).stack ≡ f ∷ below → IsAway (w.handlers g) → P (goes_on most s g f.stage f below w)
+      goes : (f : Frame) (below : List Frame) → (w.handlers g).stack ≡ f ∷ below → IsAway (w.handlers g) →
+          P (goes_on most s g f.stage f below w)
       goes f below i z =
           let a = z.awaits in
-          subst (λ (x : Stage). P (goes_on most s g x f below w)) (sym (ap (λ (u : Frame). u.stage) (first_of (sym i ∙ a.stack_is)) ∙ a.stage_is))
-          (subst (λ (c : Option Request). P (waits s g c (w.handlers g).answer z.supplier a.gives a.is_creation f below w)) (sym z.no_callback)
+          subst (λ (x : Stage). P (goes_on most s g x f below w))
+          (sym (ap (λ (u : Frame). u.stage) (first_of (sym i ∙ a.stack_is)) ∙ a.stage_is))
+          (subst (λ (c : Option Request). P
+          (waits s g c (w.handlers g).answer z.supplier a.gives a.is_creation f below w)) (sym z.no_callback)
           (takes f below z.supplier a.gives a.is_creation (w.handlers g).answer refl z.no_reply))
 
-      with_turn : (o : Option Cause) (st : List Frame) → (w.handlers g).failure ≡ o → (w.handlers g).stack ≡ st → P (turn_with most s g o st w)
+      with_turn : (o : Option Cause) (st : List Frame) → (w.handlers g).failure ≡ o → (w.handlers g).stack ≡ st →
+          P (turn_with most s g o st w)
       with_turn (Some why) st e i = nothing
       with_turn None [] e i = subst (λ (qs : List Request). P (takes_next s g qs w)) (sym (queue_is e i q)) nothing
       with_turn None (f ∷ below) e i = goes f below i (waits_away f below e i q)
@@ -148,7 +163,8 @@ module _ (calls_back : CalledBackWaits) (others_stay : OthersStay) (rights_stay 
           by true = with_turn (w.handlers g).failure (w.handlers g).stack refl refl
           by false = nothing
 
-    pub quiet_stays : (w.handlers h).failure ≡ None → (k : ℕ) → (has_reply (w.handlers h).answer ≡ true) ⊎ (TopAwaits (w.handlers h).stack k → ⊥) → IsQuiet w h k →
+    pub quiet_stays : (w.handlers h).failure ≡ None → (k : ℕ) → (has_reply (w.handlers h).answer ≡ true)
+        ⊎ (TopAwaits (w.handlers h).stack k → ⊥) → IsQuiet w h k →
         StaysQuiet w (turn most s g w) h k
     quiet_stays lives k n q = by (k == g) refl
       where
@@ -156,5 +172,7 @@ module _ (calls_back : CalledBackWaits) (others_stay : OthersStay) (rights_stay 
         by true e =
             let i : g ≡ k = sym (eqb-true k g e) in
             subst (StaysQuiet w (turn most s g w) h) i
-            (quiet_in_turn lives (subst (λ (j : ℕ). (has_reply (w.handlers h).answer ≡ true) ⊎ (TopAwaits (w.handlers h).stack j → ⊥)) (sym i) n) (subst (IsQuiet w h) (sym i) q))
+            (quiet_in_turn lives (subst
+            (λ (j : ℕ). (has_reply (w.handlers h).answer ≡ true) ⊎ (TopAwaits (w.handlers h).stack j → ⊥)) (sym i) n)
+            (subst (IsQuiet w h) (sym i) q))
         by false e = quiet_beside k (λ i. false_is_true (sym e ∙ eq-eqb k g i)) q

@@ -1,11 +1,10 @@
--- What a turn makes of a clause's request while it runs: it runs on, or its poster is answered, or is told that it won't be.
+-- What a turn makes of a clause's request while it runs: it runs on, or its poster is answered, or is told that it
+-- won't be.
 use Rattle.std.proofs.Common.{ℕ, ◌≡◌, ◌≢◌, ◌⊎◌, ◌||◌, Bool, true, false, List, [], ◌∷◌, Option, Some, None, refl, sym, ap, subst, ◌∙◌, inl, inr}
 use Rattle.std.specs.Prelude.{Contains, if◌then◌else◌, length, nat_lt}
-use Rattle.std.specs.List.{list_any}
 use Rattle.std.specs.Option.{option_map}
-use Rattle.sc_tree.specs.Plain.{System, Clause}
+use Rattle.sc_tree.specs.Plain.{System}
 use Rattle.sc_rules.specs.Names.{RoutineName}
-use Rattle.sc_waitcond.specs.Conditions.{clause_kind, kind_where, lies_on_any, verdict_of_false}
 use Rattle.sc_waitcond.specs.declared.condition.Verdict.{Verdict}
 use Rattle.sc_waitcond.specs.declared.condition.Verdict.TheVariants as verdict
 use Rattle.sc_waitcond.specs.declared.session.Release.TheVariants as release_at
@@ -19,7 +18,7 @@ use Rattle.sc_model.specs.Failures.{fails_with, requests_at}
 use Rattle.sc_model.specs.Handlers.{Request, Answer, Reply, Failed, Refused, Origin, Called, Requested, InCall, Frame, Handler, World, frame_at, put, with_stack}
 use Rattle.sc_model.specs.Limits.{max_frames}
 use Rattle.sc_model.specs.Objects.{Object, object_numbered}
-use Rattle.sc_model.specs.Preconditions.{correctness_fails, counted_refusal, false_clause, formals_among, names_in, object_meets, refuses, verdict_on}
+use Rattle.sc_model.specs.Preconditions.{correctness_fails, counted_refusal, false_clause, object_meets, refuses, verdict_on}
 use Rattle.sc_model.specs.Routines.{Routine, routine_named}
 use Rattle.sc_model.specs.Sessions.{release}
 use Rattle.sc_model.specs.Steps.{Calling, Act, Prints, Tests, Creates, CreatesHandler, Enters, Requests, Starts, Refuses, Opens, Leaves, Exits, Fails, Step, Goes, Does, Point}
@@ -36,7 +35,8 @@ use Rattle.sc_starts.proofs.OwnKept.{IsAlike}
 
 -- ---- what comes of it
 
-module _ (s : System) (pure : RoutineName → Bool) (g h : ℕ) (apart : h ≢ g) (o : Reference) (x : List ℕ) (us : List Operand) (below : List Frame) (w : World) where
+module _ (s : System) (pure : RoutineName → Bool) (g h : ℕ) (apart : h ≢ g) (o : Reference) (x : List ℕ)
+    (us : List Operand) (below : List Frame) (w : World) where
   abbrev asks : Request
   asks = clause_request h o x us
 
@@ -90,10 +90,13 @@ module _ (s : System) (pure : RoutineName → Bool) (g h : ℕ) (apart : h ≢ g
   stands_there : (st : List Frame) → Runs' st → Contains (begun_on st) asks
   stands_there st z =
       let p : Parts s pure asks o x us below st = parts s pure asks o x us below st z in
-      subst (λ (fs : List Frame). Contains (begun_on fs) asks) (sym p.stack_is) (began_on p.fs p.frame below asks p.is_of.origin_is)
+      subst (λ (fs : List Frame). Contains (begun_on fs) asks) (sym p.stack_is)
+      (began_on p.fs p.frame below asks p.is_of.origin_is)
 
   pub fails_comes : (why : Cause) (v : World) → On v → Comes (fails_with g why [] v)
-  fails_comes why v z = lost (inl (fails_told g h apart why [] v asks (on_stack_of (v.handlers g) asks (stands_there (v.handlers g).stack z.stack_is)) refl refl z.failure_is))
+  fails_comes why v z = lost
+      (inl (fails_told g h apart why [] v asks
+      (on_stack_of (v.handlers g) asks (stands_there (v.handlers g).stack z.stack_is)) refl refl z.failure_is))
 
   stack_on : (st : List Frame) (v : World) → On v → Runs' st → On (with_stack g st v)
   stack_on st v z is =
@@ -110,7 +113,8 @@ module _ (s : System) (pure : RoutineName → Bool) (g h : ℕ) (apart : h ≢ g
       }
 
   -- a routine that contracts may call is entered
-  enters_comes : (p : Reference) (r : Option Routine) (c : Calling) (st : List Frame) (vs : List Value) (v : World) → On v → Runs' st →
+  enters_comes : (p : Reference) (r : Option Routine) (c : Calling) (st : List Frame) (vs : List Value) (v : World) →
+      On v → Runs' st →
       ((z : Routine) → r ≡ Some z → pure (name_of z) ≡ true) → Comes (enters s g p r (Called c) st [] vs v)
   enters_comes p None c st vs v z is tells = fails_comes cause.BadCode v z
   enters_comes p (Some r) c st vs v z is tells = bound (formals_bound s r.text.formals 0 r.text.formals vs)
@@ -118,7 +122,8 @@ module _ (s : System) (pure : RoutineName → Bool) (g h : ℕ) (apart : h ≢ g
       bound : (b : Option (List Binding)) → Comes (enters_bound g p r (Called c) st [] b v)
       bound None = fails_comes cause.BadCode v z
       bound (Some bs) = either (nat_lt (length st) max_frames) _ _
-          (λ e. on (stack_on (entry p r (Called c) bs ∷ st) v z (above (refl, tells r refl) is))) (λ e. fails_comes cause.StackFull v z)
+          (λ e. on (stack_on (entry p r (Called c) bs ∷ st) v z (above (refl, tells r refl) is)))
+          (λ e. fails_comes cause.StackFull v z)
 
   -- ---- its end
 
@@ -156,9 +161,11 @@ module _ (s : System) (pure : RoutineName → Bool) (g h : ℕ) (apart : h ≢ g
   finish_hears a v z = ap (λ (k : Handler). k.answer) (put_own h g back (answered a (v.handlers h)) v)
       ∙ heard_so a (v.handlers h).failure (v.handlers h).answer z.failure_is z.answer_is
 
-  pub finish_over : (value : Value) (v : World) → Left v → Answers s (Own o.handler) (objects_of w) o x us value → Over (finish asks (Reply (Some value)) v)
+  pub finish_over : (value : Value) (v : World) → Left v → Answers s (Own o.handler) (objects_of w) o x us value →
+      Over (finish asks (Reply (Some value)) v)
   finish_over value v z answers =
-      let other : (finish asks (Reply (Some value)) v).handlers g ≡ v.handlers g = put_other h g back (answered (Reply (Some value)) (v.handlers h)) v in
+      let other : (finish asks (Reply (Some value)) v).handlers g ≡ v.handlers g =
+      put_other h g back (answered (Reply (Some value)) (v.handlers h)) v in
       record {
         value = value;
         stack_is = ap (λ (k : Handler). k.stack) other ∙ z.stack_is;
@@ -170,7 +177,8 @@ module _ (s : System) (pure : RoutineName → Bool) (g h : ℕ) (apart : h ≢ g
       }
 
   -- g goes on with what stands below
-  put_left : (y : Handler) (v : World) → On v → y.stack ≡ below → y.objects ≡ (v.handlers g).objects → y.queue ≡ (v.handlers g).queue → Left (put g y v)
+  put_left : (y : Handler) (v : World) → On v → y.stack ≡ below → y.objects ≡ (v.handlers g).objects →
+      y.queue ≡ (v.handlers g).queue → Left (put g y v)
   put_left y v z i j k =
       let own : (put g y v).handlers g ≡ y = put_own g h apart y v in
       let other : (put g y v).handlers h ≡ v.handlers h = put_other g h apart y v in
@@ -187,42 +195,57 @@ module _ (s : System) (pure : RoutineName → Bool) (g h : ℕ) (apart : h ≢ g
   value_of u = option_map (λ (u : Operand). u.value) u
 
   abbrev Gives : Frame → Operand → Type 0
-  Gives f u = IsOf s pure asks o x us f → is_unset_value u.value u.type ≡ false → Answers s (Own o.handler) (objects_of w) o x us u.value
+  Gives f u = IsOf s pure asks o x us f → is_unset_value u.value u.type ≡ false →
+      Answers s (Own o.handler) (objects_of w) o x us u.value
 
-  leaves_comes : (c : Origin) (f : Frame) (rest : List Frame) (v : World) (u : Operand) → On v → Runs' (f ∷ rest) → f.origin ≡ c → is_unset_value u.value u.type ≡ false →
+  leaves_comes : (c : Origin) (f : Frame) (rest : List Frame) (v : World) (u : Operand) → On v → Runs' (f ∷ rest) →
+      f.origin ≡ c → is_unset_value u.value u.type ≡ false →
       Gives f u → Comes (leaves_to g c f.reserved (Some u.value) rest v)
   leaves_comes (Called c) f rest v u z is o_is set gives =
-      on (alike_on _ _ (release_alike g h apart release_at.Exit f.reserved (with_stack g (handed (Some u.value) rest) v))
-      (stack_on (handed (Some u.value) rest) v z (handed_stands s pure asks o x us below (Some u.value) rest (called_leaves s pure asks o x us below f rest c o_is is))))
+      on (alike_on _ _ (release_alike g h apart release_at.Exit f.reserved
+      (with_stack g (handed (Some u.value) rest) v))
+      (stack_on (handed (Some u.value) rest) v z
+      (handed_stands s pure asks o x us below (Some u.value) rest
+      (called_leaves s pure asks o x us below f rest c o_is is))))
   leaves_comes (Requested r) f rest v u z is o_is set gives =
       let end : Ended s pure asks o x us below f rest r = requested_ends s pure asks o x us below f rest r o_is is in
-      let left : Left (with_stack g rest v) = put_left (record (v.handlers g) { stack = rest }) v z end.rest_is refl refl in
-      subst (λ (r : Request). Comes (finish r (Reply (Some u.value)) (release release_at.Exit f.reserved (with_stack g rest v)))) (sym end.request_is)
-      (over (finish_over u.value _ (alike_left _ _ (release_alike g h apart release_at.Exit f.reserved (with_stack g rest v)) left) (gives end.is_of set)))
+      let left : Left (with_stack g rest v) =
+      put_left (record (v.handlers g) { stack = rest }) v z end.rest_is refl refl in
+      subst (λ (r : Request). Comes
+      (finish r (Reply (Some u.value)) (release release_at.Exit f.reserved (with_stack g rest v)))) (sym end.request_is)
+      (over (finish_over u.value _
+      (alike_left _ _ (release_alike g h apart release_at.Exit f.reserved (with_stack g rest v)) left)
+      (gives end.is_of set)))
 
-  exits_comes : (f : Frame) (rest : List Frame) (v : World) (u : Operand) → On v → Runs' (f ∷ rest) → f.result ≡ Some u → Gives f u → Comes (exits s g f rest v)
+  exits_comes : (f : Frame) (rest : List Frame) (v : World) (u : Operand) → On v → Runs' (f ∷ rest) →
+      f.result ≡ Some u → Gives f u → Comes (exits s g f rest v)
   exits_comes f rest v u z is r_is gives = either (is_unset f.result) _ _ (λ e. fails_comes cause.UnsetEntity v z)
-      (λ e. either (is_untested f.origin || object_meets s (object_numbered f.current.number (v.handlers g).objects)) _ _
+      (λ e. either (is_untested f.origin || object_meets s
+      (object_numbered f.current.number (v.handlers g).objects)) _ _
       (λ i. subst (λ (r : Option Operand). Comes (leaves_to g f.origin f.reserved (value_of r) rest v)) (sym r_is)
       (leaves_comes f.origin f rest v u z is refl (ap is_unset (sym r_is) ∙ e) gives))
       (λ i. fails_comes cause.Invariant v z))
 
   -- ---- its refusal
 
-  counted : (b : Bool) (y : Handler) → ((counted_refusal b y).stack ≡ y.stack) × ((counted_refusal b y).objects ≡ y.objects) × ((counted_refusal b y).queue ≡ y.queue)
+  counted : (b : Bool) (y : Handler) → ((counted_refusal b y).stack ≡ y.stack)
+      × ((counted_refusal b y).objects ≡ y.objects) × ((counted_refusal b y).queue ≡ y.queue)
   counted true y = (refl, refl, refl)
   counted false y = (refl, refl, refl)
 
-  refuses_comes : (c : Origin) (f : Frame) (rest : List Frame) (v : World) → On v → Runs' (f ∷ rest) → f.origin ≡ c → Comes (correctness_fails s g c f rest v)
+  refuses_comes : (c : Origin) (f : Frame) (rest : List Frame) (v : World) → On v → Runs' (f ∷ rest) → f.origin ≡ c →
+      Comes (correctness_fails s g c f rest v)
   refuses_comes (Called c) f rest v z is o_is = fails_comes cause.Precondition v z
   refuses_comes (Requested r) f rest v z is o_is =
       let end : Ended s pure asks o x us below f rest r = requested_ends s pure asks o x us below f rest r o_is is in
       let y : Handler = counted_refusal true (record (v.handlers g) { stack = rest }) in
       let left : Left (put g y v) = put_left y v z end.rest_is refl refl in
       subst (λ (r : Request). Comes (refuses s g r f rest v)) (sym end.request_is)
-      (lost (inr (finish_hears Refused _ (alike_left _ _ (release_alike g h apart release_at.Refusal f.reserved (put g y v)) left))))
+      (lost (inr (finish_hears Refused _
+      (alike_left _ _ (release_alike g h apart release_at.Refusal f.reserved (put g y v)) left))))
 
-  clause_comes : (d : Verdict) (f : Frame) (rest : List Frame) (v : World) → (d ≡ verdict.Wait → ⊥) → On v → Runs' (f ∷ rest) → Comes (false_clause d s g f rest v)
+  clause_comes : (d : Verdict) (f : Frame) (rest : List Frame) (v : World) → (d ≡ verdict.Wait → ⊥) → On v →
+      Runs' (f ∷ rest) → Comes (false_clause d s g f rest v)
   clause_comes verdict.Wait f rest v n z is = absurd (n refl)
   clause_comes verdict.Refuse f rest v n z is = refuses_comes f.origin f rest v z is refl
   clause_comes verdict.Start f rest v n z is = fails_comes cause.BadCode v z
@@ -233,8 +256,10 @@ module _ (s : System) (pure : RoutineName → Bool) (g h : ℕ) (apart : h ≢ g
   at_point : (t : Frame) (p : Point) → bound_in (frame_at t p) ≡ bound_in t → IsAlike t (frame_at t p)
   at_point t p e = record { current_is = refl; routine_is = refl; origin_is = refl; bound_is = e }
 
-  module _ (pure_answers : PureAnswers) (t : Frame) (rest : List Frame) (mine : t.current.handler ≡ g) (before : On w) (at : (w.handlers g).stack ≡ t ∷ rest)
-      (reserves_nothing : t.reserved ≡ []) (there : (b : Object) × (object_numbered t.current.number (w.handlers g).objects ≡ Some b)) where
+  module _ (pure_answers : PureAnswers) (t : Frame) (rest : List Frame) (mine : t.current.handler ≡ g) (before : On w)
+      (at : (w.handlers g).stack ≡ t ∷ rest)
+      (reserves_nothing : t.reserved ≡ [])
+      (there : (b : Object) × (object_numbered t.current.number (w.handlers g).objects ≡ Some b)) where
     standing : Runs' (t ∷ rest)
     standing = subst Runs' at before.stack_is
 
@@ -242,7 +267,8 @@ module _ (s : System) (pure : RoutineName → Bool) (g h : ℕ) (apart : h ≢ g
     moved p = put g (record (w.handlers g) { objects = p.objects; stack = frame_at t p ∷ rest }) w
 
     -- at the point it runs on
-    moved_stands : (p : Point) → KeepsActuals (objects_of w) t.current t.routine (bound_in t) p → Runs' (frame_at t p ∷ rest)
+    moved_stands : (p : Point) → KeepsActuals (objects_of w) t.current t.routine (bound_in t) p →
+        Runs' (frame_at t p ∷ rest)
     moved_stands p k = top_replaced s pure asks o x us below t (frame_at t p) rest (at_point t p k.bound_are) standing
 
     moved_on : (p : Point) → KeepsActuals (objects_of w) t.current t.routine (bound_in t) p → On (moved p)
@@ -260,7 +286,8 @@ module _ (s : System) (pure : RoutineName → Bool) (g h : ℕ) (apart : h ≢ g
         }
 
     -- its value is what the request asks for
-    gives_value : (p : Point) (u : Operand) → HasRun s (objects_of w) t.current t.routine (bound_in t) p → p.result ≡ Some u →
+    gives_value : (p : Point) (u : Operand) → HasRun s (objects_of w) t.current t.routine (bound_in t) p →
+        p.result ≡ Some u →
         KeepsActuals (objects_of w) t.current t.routine (bound_in t) p → Gives (frame_at t p) u
     gives_value p u ran r_is k i set =
         let c_is : t.current ≡ o = i.is_for.current_is in
@@ -270,7 +297,8 @@ module _ (s : System) (pure : RoutineName → Bool) (g h : ℕ) (apart : h ≢ g
         (ap (λ (j : ℕ). object_numbered t.current.number (objects_of w j)) mine ∙ there.1)
         (i.is_for.bound_is ∙ ap Some k.bound_are) ran r_is set)
 
-    act_comes : (most : ℕ) (a : Act) (p : Point) → PureActs s pure (objects_of w) t.current t.routine (bound_in t) a p → Comes (effect most s g a (frame_at t p) rest (moved p))
+    act_comes : (most : ℕ) (a : Act) (p : Point) → PureActs s pure (objects_of w) t.current t.routine (bound_in t) a p →
+        Comes (effect most s g a (frame_at t p) rest (moved p))
     act_comes most (Prints text) p z = absurd z
     act_comes most Tests p z = on (moved_on p z.1)
     act_comes most Creates p z = absurd z
@@ -278,21 +306,26 @@ module _ (s : System) (pure : RoutineName → Bool) (g h : ℕ) (apart : h ≢ g
     act_comes most (CreatesHandler class procedure vs u passing) p z = absurd z
     act_comes most (Enters c y k vs gives) p z =
         let keeps : KeepsActuals (objects_of w) t.current t.routine (bound_in t) p = z.5 in
-        enters_comes y (routine_named s y.class k) c (record (frame_at t p) { stage = InCall gives } ∷ rest) (values_of vs) (moved p) (moved_on p keeps)
+        enters_comes y (routine_named s y.class k) c (record (frame_at t p) { stage = InCall gives } ∷ rest)
+        (values_of vs) (moved p) (moved_on p keeps)
         (top_replaced s pure asks o x us below t (record (frame_at t p) { stage = InCall gives }) rest
         (record { current_is = refl; routine_is = refl; origin_is = refl; bound_is = keeps.bound_are }) standing)
         (named_is_pure s pure y.class k z.3)
     act_comes most (Requests y k vs gives passing) p z = absurd z
-    act_comes most (Refuses k) p z = clause_comes (verdict_on (frame_at t p) k) (frame_at t p) rest (moved p) (pure_waits_not (frame_at t p) k reserves_nothing) (moved_on p z) (moved_stands p z)
+    act_comes most (Refuses k) p z = clause_comes (verdict_on (frame_at t p) k) (frame_at t p) rest (moved p)
+        (pure_waits_not (frame_at t p) k reserves_nothing) (moved_on p z) (moved_stands p z)
     act_comes most Opens p z = absurd z
     act_comes most Leaves p z = absurd z
-    act_comes most Exits p z = exits_comes (frame_at t p) rest (moved p) z.1.0 (moved_on p z.2) (moved_stands p z.2) z.1.1 (gives_value p z.1.0 z.0 z.1.1 z.2)
+    act_comes most Exits p z = exits_comes (frame_at t p) rest (moved p) z.1.0 (moved_on p z.2)
+        (moved_stands p z.2) z.1.1 (gives_value p z.1.0 z.0 z.1.1 z.2)
     act_comes most (Fails why) p z =
         let y : Handler = record (w.handlers g) { objects = p.objects; stack = frame_at t p ∷ rest } in
         lost (inl (fails_told g h apart why [] (moved p) asks
-        (subst (λ (k : Handler). Contains (requests_at k) asks) (sym (put_own g h apart y w)) (on_stack_of y asks (stands_there (t ∷ rest) standing))) refl refl
+        (subst (λ (k : Handler). Contains (requests_at k) asks) (sym (put_own g h apart y w))
+        (on_stack_of y asks (stands_there (t ∷ rest) standing))) refl refl
         (ap (λ (k : Handler). k.failure) (put_other g h apart y w) ∙ before.failure_is)))
 
-    pub settles_comes : (most : ℕ) (st : Step) → PureSteps s pure (objects_of w) t.current t.routine (bound_in t) st → Comes (settles most s g st t rest w)
+    pub settles_comes : (most : ℕ) (st : Step) → PureSteps s pure (objects_of w) t.current t.routine (bound_in t) st →
+        Comes (settles most s g st t rest w)
     settles_comes most (Goes p) z = on before
     settles_comes most (Does a p) z = act_comes most a p z

@@ -22,10 +22,12 @@ abbrev pub begun_on : List Frame → List Request
 begun_on st = flat_map (λ (f : Frame). request_of f.origin) st
 
 pub in_queue : (x : Handler) (q : Request) → Contains x.queue q → Contains (requests_at x) q
-in_queue x q i = Contains-append_left (x.queue ++ to_list x.callback) (begun_on x.stack) q (Contains-append_left x.queue (to_list x.callback) q i)
+in_queue x q i = Contains-append_left (x.queue ++ to_list x.callback) (begun_on x.stack) q
+    (Contains-append_left x.queue (to_list x.callback) q i)
 
 pub as_callback : (x : Handler) (q : Request) → x.callback ≡ Some q → Contains (requests_at x) q
-as_callback x q e = Contains-append_left (x.queue ++ to_list x.callback) (begun_on x.stack) q (Contains-append_right x.queue (to_list x.callback) q
+as_callback x q e = Contains-append_left (x.queue ++ to_list x.callback) (begun_on x.stack) q
+    (Contains-append_right x.queue (to_list x.callback) q
     (subst (λ (c : Option Request). Contains (to_list c) q) (sym e) (contains_first q [])))
 
 pub on_stack_of : (x : Handler) (q : Request) → Contains (begun_on x.stack) q → Contains (requests_at x) q
@@ -44,7 +46,8 @@ pub began_on : (fs : List Frame) (c : Frame) (below : List Frame) (q : Request) 
 began_on [] c below q e = began c below q e
 began_on (f ∷ fs) c below q e = lower f (fs ++ c ∷ below) q (began_on fs c below q e)
 
-any_is : (test : Request → Bool) (qs : List Request) (q : Request) → Contains qs q → test q ≡ true → list_any test qs ≡ true
+any_is : (test : Request → Bool) (qs : List Request) (q : Request) → Contains qs q → test q ≡ true →
+    list_any test qs ≡ true
 any_is test [] q i e = contains_none q i
 any_is test (r ∷ qs) q i e = by (contains_cases r qs q i) (λ j. any_is test qs q j e)
   where
@@ -72,7 +75,8 @@ module _ (g h : ℕ) (apart : h ≢ g) where
   pub put_other : (y : Handler) (v : World) → (put g y v).handlers h ≡ v.handlers h
   put_other y v = ap (λ (b : Bool). if b then y else v.handlers h) differs
 
-  -- What stays of both: of g the stack, the objects, the queue, and who may push on its stack; of h the answer, and whether it has failed.
+  -- What stays of both: of g the stack, the objects, the queue, and who may push on its stack; of h the answer, and
+  -- whether it has failed.
   pub record Alike (v u : World) : Type 0 where
     pub stack_is : (u.handlers g).stack ≡ (v.handlers g).stack
     pub objects_are : (u.handlers g).objects ≡ (v.handlers g).objects
@@ -81,7 +85,8 @@ module _ (g h : ℕ) (apart : h ≢ g) where
     pub answer_is : (u.handlers h).answer ≡ (v.handlers h).answer
     pub failure_is : (u.handlers h).failure ≡ (v.handlers h).failure
 
-  ended : {A : Type 0} (F : Handler → A) → ((x : Handler) → F (session_ended true x) ≡ F x) → (b : Bool) (x : Handler) → F (session_ended b x) ≡ F x
+  ended : {A : Type 0} (F : Handler → A) → ((x : Handler) → F (session_ended true x) ≡ F x) → (b : Bool) (x : Handler) →
+      F (session_ended b x) ≡ F x
   ended F e true x = e x
   ended F e false x = refl
 
@@ -101,13 +106,16 @@ module _ (g h : ℕ) (apart : h ≢ g) where
   told_hears x e = ap (λ (c : Option Cause). heard Failed c x.answer) e
 
   -- whoever waits for a request at the handler that fails, or for one that it takes, is told
-  pub fails_told : (why : Cause) (taken : List Request) (v : World) (q : Request) → Contains (taken ++ requests_at (v.handlers g)) q → q.poster ≡ Some h →
+  pub fails_told : (why : Cause) (taken : List Request) (v : World) (q : Request) →
+      Contains (taken ++ requests_at (v.handlers g)) q → q.poster ≡ Some h →
       q.is_waited ≡ true → (v.handlers h).failure ≡ None → ((fails_with g why taken v).handlers h).answer ≡ Some Failed
   fails_told why taken v q i posted waited lives =
       let hears : Bool = list_any (is_waited_by h) (taken ++ requests_at (v.handlers g)) in
-      ended (λ (x : Handler). x.answer) (λ x. refl) (ends_session release_at.Failure && is_handler g (v.rights.queue h)) (if h == g then fallen why (v.handlers h) else told hears (v.handlers h))
+      ended (λ (x : Handler). x.answer) (λ x. refl) (ends_session release_at.Failure && is_handler g (v.rights.queue h))
+      (if h == g then fallen why (v.handlers h) else told hears (v.handlers h))
       ∙ ap (λ (b : Bool). (if b then fallen why (v.handlers h) else told hears (v.handlers h)).answer) differs
-      ∙ ap (λ (b : Bool). (told b (v.handlers h)).answer) (any_is (is_waited_by h) (taken ++ requests_at (v.handlers g)) q i is_so)
+      ∙ ap (λ (b : Bool). (told b (v.handlers h)).answer)
+      (any_is (is_waited_by h) (taken ++ requests_at (v.handlers g)) q i is_so)
       ∙ told_hears (v.handlers h) lives
     where
       is_so : is_waited_by h q ≡ true

@@ -35,14 +35,16 @@ use Rattle.sc_starts.proofs.OwnPure.{pure_follows}
 use Rattle.sc_starts.proofs.OwnClauses.{clause_follows}
 use Rattle.sc_starts.proofs.Lists.{some_is_none}
 
-module _ (s : System) (root : Root) (pure : RoutineName → Bool) (faultless : IsFaultless s root) (well : WellFormed s) (tells : IsPurity s pure) (most h : ℕ)
+module _ (s : System) (root : Root) (pure : RoutineName → Bool) (faultless : IsFaultless s root) (well : WellFormed s)
+    (tells : IsPurity s pure) (most h : ℕ)
     (w : World) (reached : IsReached most s root w) (follows : WorldFollows s pure w) (here : h < w.count) where
   fits : HandlerFits s pure w h
   fits = reached_fits s root pure faultless well tells most w reached h here
 
   -- ---- the topmost frame goes on
 
-  module _ (lives : (w.handlers h).failure ≡ None) (f : Frame) (below : List Frame) (at : (w.handlers h).stack ≡ f ∷ below) where
+  module _ (lives : (w.handlers h).failure ≡ None) (f : Frame) (below : List Frame)
+      (at : (w.handlers h).stack ≡ f ∷ below) where
     stack_follows : StackFollows s pure w h None (f ∷ below)
     stack_follows = subst (StackFollows s pure w h None) at (follows h here lives)
 
@@ -53,9 +55,12 @@ module _ (s : System) (root : Root) (pure : RoutineName → Bool) (faultless : I
     linked = subst (Linked s h) at fits.frames_are_linked
 
     -- a function that contracts may call runs, or is in a call
-    as_pure : pure (name_of f.routine) ≡ true → (st : Stage) → f.stage ≡ st → FollowsPure s (objects_of w) None f st → Follow s pure h (goes_on most s h st f below w)
-    as_pure is Runs e z = pure_follows texts_are_testless clause_moves pure_moves answers_more s root pure faultless well tells most w reached h f below
-        (record { is_there = here; lives = lives; stack_is = at; runs = e }) stack_follows.0 stack_follows.1 stack_fits linked is
+    as_pure : pure (name_of f.routine) ≡ true → (st : Stage) → f.stage ≡ st → FollowsPure s (objects_of w) None f st →
+        Follow s pure h (goes_on most s h st f below w)
+    as_pure is Runs e z = pure_follows texts_are_testless clause_moves pure_moves answers_more s root pure faultless
+        well tells most w reached h f below
+        (record { is_there = here; lives = lives; stack_is = at; runs = e }) stack_follows.0 stack_follows.1
+        stack_fits linked is
     as_pure is Reserves e z = absurd z
     as_pure is ReservesBlock e z = absurd z
     as_pure is (InCall gives) e z = fails_follow s pure h cause.BadCode [] w
@@ -65,15 +70,21 @@ module _ (s : System) (root : Root) (pure : RoutineName → Bool) (faultless : I
       rest : AllPlain pure (w.handlers h).answer below
       rest = plain_below s pure w h f below stack_follows.1 (λ c. impure c.1)
 
-      alone : (k : ℕ) (q : Request) → Contains (requests_at (w.handlers k)) q → q.poster ≡ Some h → q.is_waited ≡ true → q.passed ≡ None →
+      alone : (k : ℕ) (q : Request) → Contains (requests_at (w.handlers k)) q → q.poster ≡ Some h → q.is_waited ≡ true →
+          q.passed ≡ None →
           (w.handlers h).callback ≡ None
-      alone k q c p i n = (no_callback_there most s root w reached h k q lives (record { stands = c; poster_is = p; is_waited = i; passed_is = n })).1
+      alone k q c p i n = (no_callback_there most s root w reached h k q lives
+          (record { stands = c; poster_is = p; is_waited = i; passed_is = n })).1
 
-      by_place : HasStarted f.tasks ⊎ (IsLost w h f ⊎ (AboveIsPure pure None × InPrecondition s pure w h None f)) → Follow s pure h (goes_on most s h f.stage f below w)
+      by_place : HasStarted f.tasks ⊎ (IsLost w h f ⊎ (AboveIsPure pure None × InPrecondition s pure w h None f)) →
+          Follow s pure h (goes_on most s h f.stage f below w)
       by_place (inl i) = inr (goes_good s pure h w f below at (inl i, impure) rest most f.stage here refl)
       by_place (inr (inl i)) = inr (goes_good s pure h w f below at (inr i, impure) rest most f.stage here refl)
-      by_place (inr (inr (p, i))) = clause_follows texts_are_testless clause_moves answers_more reaches_more ends_true_more s root pure faultless well tells most w reached h here lives
-          f below at i stack_fits.0.is_own rest impure fits.answer_fits alone (λ r v. callbacks_stand_alone s root most w reached h r v here) f.stage refl
+      by_place (inr (inr (p, i))) =
+          clause_follows texts_are_testless clause_moves answers_more reaches_more ends_true_more s root pure faultless
+          well tells most w reached h here lives
+          f below at i stack_fits.0.is_own rest impure fits.answer_fits alone
+          (λ r v. callbacks_stand_alone s root most w reached h r v here) f.stage refl
 
     goes_follow : Follow s pure h (goes_on most s h f.stage f below w)
     goes_follow = by (pure (name_of f.routine)) refl
@@ -84,7 +95,8 @@ module _ (s : System) (root : Root) (pure : RoutineName → Bool) (faultless : I
 
   -- ---- the turn
 
-  there : (why : Option Cause) (st : List Frame) → (w.handlers h).failure ≡ why → (w.handlers h).stack ≡ st → ((turn_with most s h why st w).handlers h).failure ≡ None →
+  there : (why : Option Cause) (st : List Frame) → (w.handlers h).failure ≡ why → (w.handlers h).stack ≡ st →
+      ((turn_with most s h why st w).handlers h).failure ≡ None →
       Follow s pure h (turn_with most s h why st w)
   there (Some why) st e at lives = some_is_none (sym e ∙ lives)
   there None [] e at lives = inr (next_good s pure h w (w.handlers h).queue at)
@@ -94,7 +106,8 @@ module _ (s : System) (root : Root) (pure : RoutineName → Bool) (faultless : I
   V = turn most s h w
 
   turn_is : V ≡ turn_with most s h (w.handlers h).failure (w.handlers h).stack w
-  turn_is = ap (λ (b : Bool). if b then turn_with most s h (w.handlers h).failure (w.handlers h).stack w else w) (lt-ltb h w.count here)
+  turn_is = ap (λ (b : Bool). if b then turn_with most s h (w.handlers h).failure (w.handlers h).stack w else w)
+      (lt-ltb h w.count here)
 
   turned : (V.handlers h).failure ≡ None → Follow s pure h V
   turned lives = subst (Follow s pure h) (sym turn_is) (there (w.handlers h).failure (w.handlers h).stack refl refl
@@ -106,8 +119,10 @@ module _ (s : System) (root : Root) (pure : RoutineName → Bool) (faultless : I
   own : Follow s pure h V → StackFollows s pure V h None (V.handlers h).stack
   own (inl z) = z
   own (inr calm) = calm_follows texts_are_testless s root pure faultless well tells V h (V.handlers h).stack
-      (reached_fits s root pure faultless well tells most V (one_further most s root h w reached) h still_here).frames_fit calm
+      (reached_fits s root pure faultless well tells most V
+      (one_further most s root h w reached) h still_here).frames_fit calm
 
 pub own_follows : OwnFollows
 own_follows s root pure faultless well tells most h w reached follows here lives =
-    own s root pure faultless well tells most h w reached follows here (turned s root pure faultless well tells most h w reached follows here lives)
+    own s root pure faultless well tells most h w reached follows here
+    (turned s root pure faultless well tells most h w reached follows here lives)

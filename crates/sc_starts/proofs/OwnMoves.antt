@@ -1,16 +1,14 @@
--- What the topmost frame of a handler that evaluates leaves of its stack, whether it runs a pure function or stands in its precondition.
+-- What the topmost frame of a handler that evaluates leaves of its stack, whether it runs a pure function or stands in
+-- its precondition.
 use Rattle.std.proofs.Common.{ℕ, ◌≡◌, ◌≢◌, ◌⊎◌, Bool, true, false, List, [], ◌∷◌, Option, Some, None, refl, sym, ap, subst, ◌∙◌, inl, inr}
 use Rattle.std.specs.Prelude.{if◌then◌else◌, Contains, length, nat_lt, take}
-use Rattle.std.specs.List.{list_any}
-use Rattle.sc_tree.specs.Plain.{System, Clause}
+use Rattle.sc_tree.specs.Plain.{System}
 use Rattle.sc_class.specs.ClassNames.{Root}
 use Rattle.sc_class.specs.Faults.ClassRules.{IsFaultless}
 use Rattle.sc_proctype.specs.declared.entity_type.EntityType.{EntityType}
 use Rattle.sc_rules.specs.Names.{RoutineName}
 use Rattle.sc_rules.specs.Purity.{IsPurity}
 use Rattle.sc_rules.specs.SystemRules.{WellFormed}
-use Rattle.sc_waitcond.specs.Conditions.{clause_kind, kind_where, lies_on_any, verdict_of_false}
-use Rattle.sc_waitcond.specs.declared.condition.Verdict.TheVariants as verdict
 use Rattle.sc_model.specs.declared.cause.Cause.{Cause}
 use Rattle.sc_model.specs.declared.cause.Cause.TheVariants as cause
 use Rattle.sc_model.specs.Limits.{max_frames}
@@ -23,7 +21,6 @@ use Rattle.sc_model.specs.Moves.{moves}
 use Rattle.sc_model.specs.Handlers.{Request, Called, Stage, InCall, Frame, Handler, World, point_of, frame_at, put, with_stack}
 use Rattle.sc_model.specs.Failures.{fails_with}
 use Rattle.sc_model.specs.Entries.{entry, enters_bound, enters}
-use Rattle.sc_model.specs.Preconditions.{formals_among, names_in, verdict_on}
 use Rattle.sc_model.specs.Runs.{IsReached}
 use Rattle.sc_laws.specs.Headline.{is_awaiting}
 use Rattle.sc_laws.proofs.links.Standing.{m_put-own}
@@ -43,7 +40,8 @@ use Rattle.sc_starts.proofs.OwnEntries.{runs_pure}
 module _ (s : System) (pure : RoutineName → Bool) (h : ℕ) where
   -- The frames follow, or none evaluates but one that is entered.
   abbrev pub Follow : World → Type 0
-  Follow v = StackFollows s pure v h None (v.handlers h).stack ⊎ IsCalm s pure (v.handlers h).answer (v.handlers h).stack
+  Follow v = StackFollows s pure v h None (v.handlers h).stack
+      ⊎ IsCalm s pure (v.handlers h).answer (v.handlers h).stack
 
   pub either_follow : (b : Bool) (x y : World) → Follow x → Follow y → Follow (if b then x else y)
   either_follow true x y t u = t
@@ -52,9 +50,11 @@ module _ (s : System) (pure : RoutineName → Bool) (h : ℕ) where
   pub fails_follow : (why : Cause) (taken : List Request) (v : World) → Follow (fails_with h why taken v)
   fails_follow why taken v = inr (fails_good s pure h why taken v)
 
-  pub stack_follows : (st : List Frame) (w : World) → StackFollows s pure (with_stack h st w) h None st → Follow (with_stack h st w)
+  pub stack_follows : (st : List Frame) (w : World) → StackFollows s pure (with_stack h st w) h None st →
+      Follow (with_stack h st w)
   stack_follows st w z =
-      inl (subst (λ (x : Handler). StackFollows s pure (with_stack h st w) h None x.stack) (sym (m_put-own h (record (w.handlers h) { stack = st }) w)) z)
+      inl (subst (λ (x : Handler). StackFollows s pure (with_stack h st w) h None x.stack)
+      (sym (m_put-own h (record (w.handlers h) { stack = st }) w)) z)
 
 -- another stack of the handler changes nothing that frames rest on
 pub same_stack : (h : ℕ) (st : List Frame) (w : World) → IsSame h w (with_stack h st w)
@@ -65,14 +65,17 @@ same_stack h st w = same_put h (record (w.handlers h) { stack = st }) w refl (λ
 module _ (s : System) (pure : RoutineName → Bool) (w : World) (h : ℕ) (f : Frame) where
   -- It has started, or stands in its precondition, where it has asked these.
   abbrev pub Before : Step → Type 0
-  Before st = RefusesNone st ⊎ ((asked : List ℕ) × ((k : ℕ) → Contains asked k → (k ≢ h) × IsQuiet w h k) × (f.environment ≡ bound_in f)
+  Before st = RefusesNone st
+      ⊎ ((asked : List ℕ) × ((k : ℕ) → Contains asked k → (k ≢ h) × IsQuiet w h k) × (f.environment ≡ bound_in f)
       × ClauseSteps s pure (MayAsk h asked) (objects_of w) f.current f.routine (bound_in f) st)
 
   abbrev pub Ahead : Step
   Ahead = moves s f.current (point_of f (w.handlers h).objects)
 
-module _ (s : System) (root : Root) (pure : RoutineName → Bool) (faultless : IsFaultless s root) (well : WellFormed s) (tells : IsPurity s pure) (most : ℕ) where
-  pub stands_before : ClauseMoves → (w : World) → IsReached most s root w → (h : ℕ) (f : Frame) (below : List Frame) → GoesOn w h f below →
+module _ (s : System) (root : Root) (pure : RoutineName → Bool) (faultless : IsFaultless s root) (well : WellFormed s)
+    (tells : IsPurity s pure) (most : ℕ) where
+  pub stands_before : ClauseMoves → (w : World) → IsReached most s root w → (h : ℕ) (f : Frame) (below : List Frame) →
+      GoesOn w h f below →
       FrameFollows s pure w h None f → Before s pure w h f (Ahead s pure w h f)
   stands_before moved w reached h f below g z = by z.in_precondition
     where
@@ -82,7 +85,8 @@ module _ (s : System) (root : Root) (pure : RoutineName → Bool) (faultless : I
       lost : is_awaiting f.stage ≡ true → ⊥
       lost e = let both : true ≡ false = sym e ∙ running in cc
 
-      by : HasStarted f.tasks ⊎ (IsLost w h f ⊎ (AboveIsPure pure None × InPrecondition s pure w h None f)) → Before s pure w h f (Ahead s pure w h f)
+      by : HasStarted f.tasks ⊎ (IsLost w h f ⊎ (AboveIsPure pure None × InPrecondition s pure w h None f)) →
+          Before s pure w h f (Ahead s pure w h f)
       by (inl i) = inl (moves_calm s f.current (point_of f (w.handlers h).objects) i)
       by (inr (inl i)) = absurd (lost i.0)
       by (inr (inr (p, i))) = inr (
@@ -103,7 +107,8 @@ at_stage f p g = record (frame_at f p) { stage = g }
 abbrev pub moved_in : World → ℕ → Frame → List Frame → Point → World
 moved_in w h f below p = put h (record (w.handlers h) { objects = p.objects; stack = frame_at f p ∷ below }) w
 
-module _ (s : System) (pure : RoutineName → Bool) (w : World) (h : ℕ) (f : Frame) (below : List Frame) (p : Point) (same : p.objects ≡ (w.handlers h).objects) where
+module _ (s : System) (pure : RoutineName → Bool) (w : World) (h : ℕ) (f : Frame) (below : List Frame) (p : Point)
+    (same : p.objects ≡ (w.handlers h).objects) where
   abbrev Moved : World
   Moved = moved_in w h f below p
 
@@ -114,38 +119,48 @@ module _ (s : System) (pure : RoutineName → Bool) (w : World) (h : ℕ) (f : F
   moved_alone = stack_once h p.objects (frame_at f p ∷ below) w same
 
   pub enters_follow : (o : Reference) (x : List ℕ) (c : Calling) (us : List Operand) (gives : Option EntityType) →
-      ((r : Routine) (bs : List Binding) → routine_named s o.class x ≡ Some r → formals_bound s r.text.formals 0 r.text.formals (values_of us) ≡ Some bs →
-      StackFollows s pure (with_stack h (entry o r (Called c) bs ∷ at_stage f p (InCall gives) ∷ below) w) h None (entry o r (Called c) bs ∷ at_stage f p (InCall gives) ∷ below)) →
-      Follow s pure h (enters s h o (routine_named s o.class x) (Called c) (at_stage f p (InCall gives) ∷ below) [] (values_of us) Moved)
+      ((r : Routine) (bs : List Binding) → routine_named s o.class x ≡ Some r →
+      formals_bound s r.text.formals 0 r.text.formals (values_of us) ≡ Some bs →
+      StackFollows s pure (with_stack h (entry o r (Called c) bs ∷ at_stage f p (InCall gives) ∷ below) w) h None
+      (entry o r (Called c) bs ∷ at_stage f p (InCall gives) ∷ below)) →
+      Follow s pure h (enters s h o (routine_named s o.class x) (Called c) (at_stage f p (InCall gives) ∷ below) []
+      (values_of us) Moved)
   enters_follow o x c us gives follow = by (routine_named s o.class x) refl
     where
-      bound : (r : Routine) → routine_named s o.class x ≡ Some r → (b : Option (List Binding)) → formals_bound s r.text.formals 0 r.text.formals (values_of us) ≡ b →
+      bound : (r : Routine) → routine_named s o.class x ≡ Some r → (b : Option (List Binding)) →
+          formals_bound s r.text.formals 0 r.text.formals (values_of us) ≡ b →
           Follow s pure h (enters_bound h o r (Called c) (at_stage f p (InCall gives) ∷ below) [] b Moved)
       bound r e None i = fails_follow s pure h cause.BadCode [] Moved
       bound r e (Some bs) i = either_follow s pure h (nat_lt (length (at_stage f p (InCall gives) ∷ below)) max_frames)
-          (with_stack h (entry o r (Called c) bs ∷ at_stage f p (InCall gives) ∷ below) Moved) (fails_with h cause.StackFull [] Moved)
+          (with_stack h (entry o r (Called c) bs ∷ at_stage f p (InCall gives) ∷ below) Moved)
+          (fails_with h cause.StackFull [] Moved)
           (subst (Follow s pure h) (sym (moved_stack (entry o r (Called c) bs ∷ at_stage f p (InCall gives) ∷ below)))
           (stack_follows s pure h (entry o r (Called c) bs ∷ at_stage f p (InCall gives) ∷ below) w (follow r bs e i)))
           (fails_follow s pure h cause.StackFull [] Moved)
 
-      by : (r : Option Routine) → routine_named s o.class x ≡ r → Follow s pure h (enters s h o r (Called c) (at_stage f p (InCall gives) ∷ below) [] (values_of us) Moved)
+      by : (r : Option Routine) → routine_named s o.class x ≡ r →
+          Follow s pure h (enters s h o r (Called c) (at_stage f p (InCall gives) ∷ below) [] (values_of us) Moved)
       by None e = fails_follow s pure h cause.BadCode [] Moved
       by (Some r) e = bound r e (formals_bound s r.text.formals 0 r.text.formals (values_of us)) refl
 
   -- the frame that is entered is for this call
-  pub entry_for : (o : Reference) (x : List ℕ) (c : Calling) (us : List Operand) (r : Routine) (bs : List Binding) → routine_named s o.class x ≡ Some r →
-      formals_bound s r.text.formals 0 r.text.formals (values_of us) ≡ Some bs → IsFor s o x (values_of us) (entry o r (Called c) bs)
+  pub entry_for : (o : Reference) (x : List ℕ) (c : Calling) (us : List Operand) (r : Routine) (bs : List Binding) →
+      routine_named s o.class x ≡ Some r →
+      formals_bound s r.text.formals 0 r.text.formals (values_of us) ≡ Some bs →
+      IsFor s o x (values_of us) (entry o r (Called c) bs)
   entry_for o x c us r bs e i = record {
     current_is = refl;
     routine_is = e;
     bound_is = i ∙ ap (λ (cs : List Binding). Some cs) (sym (takes_bound s r bs (values_of us, i)));
   }
 
-  pub entry_pure : (o : Reference) (x : List ℕ) (c : Calling) (r : Routine) (bs : List Binding) → routine_named s o.class x ≡ Some r → RunsPure s pure o x →
+  pub entry_pure : (o : Reference) (x : List ℕ) (c : Calling) (r : Routine) (bs : List Binding) →
+      routine_named s o.class x ≡ Some r → RunsPure s pure o x →
       IsCalledPure pure (entry o r (Called c) bs)
   entry_pure o x c r bs e runs = (refl, runs_pure s pure o x r runs e)
 
-  pub entered_so : (o : Reference) (x : List ℕ) (c : Calling) (us : List Operand) (r : Routine) (bs : List Binding) → routine_named s o.class x ≡ Some r →
+  pub entered_so : (o : Reference) (x : List ℕ) (c : Calling) (us : List Operand) (r : Routine) (bs : List Binding) →
+      routine_named s o.class x ≡ Some r →
       formals_bound s r.text.formals 0 r.text.formals (values_of us) ≡ Some bs → IsEntry s (entry o r (Called c) bs)
   entered_so o x c us r bs e i = record {
     current = o;
@@ -166,21 +181,29 @@ module _ (s : System) (pure : RoutineName → Bool) (w : World) (h : ℕ) (f : F
     U = with_stack h st w
 
     pub point_there : (z : Stage) → point_of (at_stage f p z) (U.handlers h).objects ≡ p
-    point_there z = ap (λ (os : List Object). record p { objects = os }) (ap (λ (x : Handler). x.objects) (m_put-own h (record (w.handlers h) { stack = st }) w) ∙ sym same)
+    point_there z = ap (λ (os : List Object). record p { objects = os })
+        (ap (λ (x : Handler). x.objects) (m_put-own h (record (w.handlers h) { stack = st }) w) ∙ sym same)
 
-    pub bound_there : p.environment ≡ bound_in f → f.environment ≡ bound_in f → (z : Stage) → bound_in (at_stage f p z) ≡ bound_in f
+    pub bound_there : p.environment ≡ bound_in f → f.environment ≡ bound_in f → (z : Stage) →
+        bound_in (at_stage f p z) ≡ bound_in f
     bound_there e i z = ap (λ (bs : List Binding). take (length f.routine.text.formals) bs) (e ∙ sym i)
 
     pub done_there : (M : ℕ → Type 0) (a : Act) (z : Stage) → p.environment ≡ bound_in f → f.environment ≡ bound_in f →
         ClauseDone s M (objects_of w) f.current f.routine (bound_in f) a p →
-        ClauseDone s M (objects_of U) f.current f.routine (bound_in (at_stage f p z)) a (point_of (at_stage f p z) (U.handlers h).objects)
-    done_there M a z e i d = subst (ClauseDone s M (objects_of U) f.current f.routine (bound_in (at_stage f p z)) a) (sym (point_there z))
-        (subst (λ (bs : List Binding). ClauseDone s M (objects_of U) f.current f.routine bs a p) (sym (bound_there e i z))
-        (subst (λ (O : ℕ → List Object). ClauseDone s M O f.current f.routine (bound_in f) a p) (sym (same_stack h st w).objects_are) d))
+        ClauseDone s M (objects_of U) f.current f.routine (bound_in (at_stage f p z)) a
+        (point_of (at_stage f p z) (U.handlers h).objects)
+    done_there M a z e i d = subst (ClauseDone s M (objects_of U) f.current f.routine (bound_in (at_stage f p z)) a)
+        (sym (point_there z))
+        (subst (λ (bs : List Binding). ClauseDone s M (objects_of U) f.current f.routine bs a p)
+        (sym (bound_there e i z))
+        (subst (λ (O : ℕ → List Object). ClauseDone s M O f.current f.routine (bound_in f) a p)
+        (sym (same_stack h st w).objects_are) d))
 
-    pub calls_there : (above : Frame) (o : Reference) (x : List ℕ) (c : Calling) (us : List Operand) (gives : Option EntityType) → IsCalledPure pure above →
+    pub calls_there : (above : Frame) (o : Reference) (x : List ℕ) (c : Calling) (us : List Operand)
+        (gives : Option EntityType) → IsCalledPure pure above →
         IsFor s o x (values_of us) above → Before s pure w h f (Does (Enters c o x us gives) p) →
-        HasStarted p.tasks ⊎ (IsLost U h (at_stage f p (InCall gives)) ⊎ (AboveIsPure pure (Some above) × InPrecondition s pure U h (Some above) (at_stage f p (InCall gives))))
+        HasStarted p.tasks ⊎ (IsLost U h (at_stage f p (InCall gives))
+        ⊎ (AboveIsPure pure (Some above) × InPrecondition s pure U h (Some above) (at_stage f p (InCall gives))))
     calls_there above o x c us gives is for (inl i) = inl i
     calls_there above o x c us gives is for (inr (asked, quiet, env, (t, e, at, runs, done, there))) = inr (inr (
       is,
@@ -188,7 +211,16 @@ module _ (s : System) (pure : RoutineName → Bool) (w : World) (h : ℕ) (f : F
         asked = asked;
         quiet = λ k i. let q = quiet k i in (q.0, inl ((same_stack h st w).quiet k q.0 q.1));
         environment_is = there.environment_is ∙ sym (bound_there there.environment_is env (InCall gives));
-        stands = subst (λ (g : Option EntityType). StandsByStage s pure U h asked (Some above) (at_stage f p (InCall gives)) (InCall g)) (sym e)
-            (c, o, x, us, done_there (MayAsk h asked) (Enters c o x us (Some t)) (InCall gives) there.environment_is env done, at ∙ own, for);
+        stands = subst (λ (g : Option EntityType). StandsByStage s pure U h asked (Some above)
+            (at_stage f p (InCall gives)) (InCall g)) (sym e) (
+              c,
+              o,
+              x,
+              us,
+              done_there (MayAsk h asked) (Enters c o x us (Some t))
+                  (InCall gives) there.environment_is env done,
+              at ∙ own,
+              for,
+            );
       },
     ))

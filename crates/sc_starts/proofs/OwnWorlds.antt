@@ -40,9 +40,11 @@ heard_refused Failed None = inl refl
 heard_refused Refused None = inr refl
 
 -- what is heard changes nothing of that
-pub heard_no_reply : (a : Answer) (why : Option Cause) (old : Option Answer) → IsNoReply old → IsNoReply (heard a why old)
+pub heard_no_reply : (a : Answer) (why : Option Cause) (old : Option Answer) → IsNoReply old →
+    IsNoReply (heard a why old)
 heard_no_reply a why old (inl e) = subst (λ (o : Option Answer). IsNoReply (heard a why o)) (sym e) (heard_failed a why)
-heard_no_reply a why old (inr e) = subst (λ (o : Option Answer). IsNoReply (heard a why o)) (sym e) (heard_refused a why)
+heard_no_reply a why old (inr e) = subst (λ (o : Option Answer). IsNoReply (heard a why o)) (sym e)
+    (heard_refused a why)
 
 -- ---- the same stack, and the same answer or one that is no reply
 
@@ -50,13 +52,15 @@ pub record IsLike (h : ℕ) (v u : World) : Type 0 where
   pub stack_is : (u.handlers h).stack ≡ (v.handlers h).stack
   pub no_reply : IsNoReply (v.handlers h).answer → IsNoReply (u.handlers h).answer
 
-pub like_put : (h j : ℕ) (x : Handler) (v : World) → x.stack ≡ (v.handlers j).stack → (IsNoReply (v.handlers j).answer → IsNoReply x.answer) →
+pub like_put : (h j : ℕ) (x : Handler) (v : World) → x.stack ≡ (v.handlers j).stack →
+    (IsNoReply (v.handlers j).answer → IsNoReply x.answer) →
     IsLike h v (put j x v)
 like_put h j x v e n = by (h == j) refl
   where
     by : (b : Bool) → (h == j) ≡ b → IsLike h v (record v { handlers = λ k. if k == j then x else v.handlers k })
     by true i = let m : h ≡ j = eqb-true h j i in record {
-      stack_is = ap (λ (b : Bool). (if b then x else v.handlers h).stack) i ∙ e ∙ ap (λ (k : ℕ). (v.handlers k).stack) (sym m);
+      stack_is = ap (λ (b : Bool). (if b then x else v.handlers h).stack) i ∙ e
+          ∙ ap (λ (k : ℕ). (v.handlers k).stack) (sym m);
       no_reply = λ z. subst (λ (b : Bool). IsNoReply (if b then x else v.handlers h).answer) (sym i)
           (n (subst (λ (k : ℕ). IsNoReply (v.handlers k).answer) m z));
     }
@@ -69,7 +73,11 @@ pub like_again : (h : ℕ) (w v u : World) → IsLike h w v → IsLike h v u →
 like_again h w v u a b = record { stack_is = b.stack_is ∙ a.stack_is; no_reply = λ z. b.no_reply (a.no_reply z) }
 
 pub like_release : (h : ℕ) (how : Release) (ks : List ℕ) (v : World) → IsLike h v (release how ks v)
-like_release h how ks v = record { stack_is = stack (ends_session how && is_among h ks); no_reply = answer (ends_session how && is_among h ks) }
+like_release h how ks v =
+    record {
+      stack_is = stack (ends_session how && is_among h ks);
+      no_reply = answer (ends_session how && is_among h ks);
+    }
   where
     stack : (b : Bool) → (session_ended b (v.handlers h)).stack ≡ (v.handlers h).stack
     stack true = refl
@@ -84,7 +92,8 @@ like_return h None v = record { stack_is = refl; no_reply = λ z. z }
 like_return h (Some p) v = record { stack_is = refl; no_reply = λ z. z }
 
 like_answer : (h : ℕ) (b : Bool) (p : Option ℕ) (a : Answer) (v : World) → IsLike h v (answer_to b p a v)
-like_answer h true (Some p) a v = like_put h p (answered a (v.handlers p)) v refl (heard_no_reply a (v.handlers p).failure (v.handlers p).answer)
+like_answer h true (Some p) a v = like_put h p (answered a (v.handlers p)) v refl
+    (heard_no_reply a (v.handlers p).failure (v.handlers p).answer)
 like_answer h true None a v = record { stack_is = refl; no_reply = λ z. z }
 like_answer h false p a v = record { stack_is = refl; no_reply = λ z. z }
 
@@ -117,24 +126,31 @@ like_new h j g v i = record {
 -- ---- failures
 
 -- nothing is left of the stack of a handler that fails
-pub fallen_stack : (h : ℕ) (why : Cause) (taken : List Request) (v : World) → ((fails_with h why taken v).handlers h).stack ≡ []
+pub fallen_stack : (h : ℕ) (why : Cause) (taken : List Request) (v : World) →
+    ((fails_with h why taken v).handlers h).stack ≡ []
 fallen_stack h why taken v = (ended_rests (ends_session release_at.Failure && is_handler h (v.rights.queue h))
-    (if h == h then fallen why (v.handlers h) else told (list_any (is_waited_by h) (taken ++ requests_at (v.handlers h))) (v.handlers h))).stack
-    ∙ ap (λ (b : Bool). (if b then fallen why (v.handlers h) else told (list_any (is_waited_by h) (taken ++ requests_at (v.handlers h))) (v.handlers h)).stack)
+    (if h == h then fallen why (v.handlers h) else told
+    (list_any (is_waited_by h) (taken ++ requests_at (v.handlers h))) (v.handlers h))).stack
+    ∙ ap (λ (b : Bool). (if b then fallen why (v.handlers h) else told
+    (list_any (is_waited_by h) (taken ++ requests_at (v.handlers h))) (v.handlers h)).stack)
     (eq-eqb h h refl)
 
 -- ---- the handler is another, with the same objects
 
-pub put_objects : (h : ℕ) (x : Handler) (w : World) → x.objects ≡ (w.handlers h).objects → objects_of (put h x w) ≡ objects_of w
+pub put_objects : (h : ℕ) (x : Handler) (w : World) → x.objects ≡ (w.handlers h).objects →
+    objects_of (put h x w) ≡ objects_of w
 put_objects h x w e = fun_ext (λ k. by k (k == h) refl)
   where
     by : (k : ℕ) (b : Bool) → (k == h) ≡ b → (if b then x else w.handlers k).objects ≡ (w.handlers k).objects
     by k true i = e ∙ ap (λ (j : ℕ). (w.handlers j).objects) (sym (eqb-true k h i))
     by k false i = refl
 
-pub quiet_stays : (w v : World) (h k : ℕ) → v.handlers k ≡ w.handlers k → v.rights ≡ w.rights → IsQuiet w h k → IsQuiet v h k
-quiet_stays w v h k e r (following.failed f) = following.failed (subst (λ (x : Handler). is_some x.failure ≡ true) (sym e) f)
-quiet_stays w v h k e r (following.idle a b c) = following.idle (ap (λ (x : Handler). x.stack) e ∙ a) (ap (λ (x : Handler). x.queue) e ∙ b)
+pub quiet_stays : (w v : World) (h k : ℕ) → v.handlers k ≡ w.handlers k → v.rights ≡ w.rights →
+    IsQuiet w h k → IsQuiet v h k
+quiet_stays w v h k e r (following.failed f) =
+    following.failed (subst (λ (x : Handler). is_some x.failure ≡ true) (sym e) f)
+quiet_stays w v h k e r (following.idle a b c) = following.idle (ap (λ (x : Handler). x.stack) e ∙ a)
+    (ap (λ (x : Handler). x.queue) e ∙ b)
     (ap (λ (x : Rights). x.queue k) r ∙ c)
 quiet_stays w v h k e r (following.waiting c) = following.waiting (ap (λ (x : Rights). x.top k) r ∙ c)
 
@@ -144,7 +160,8 @@ pub record IsSame (h : ℕ) (w v : World) : Type 0 where
   pub no_reply : IsNoReply (w.handlers h).answer → IsNoReply (v.handlers h).answer
   pub quiet : (k : ℕ) → k ≢ h → IsQuiet w h k → IsQuiet v h k
 
-pub same_put : (h : ℕ) (x : Handler) (w : World) → x.objects ≡ (w.handlers h).objects → (IsNoReply (w.handlers h).answer → IsNoReply x.answer) →
+pub same_put : (h : ℕ) (x : Handler) (w : World) → x.objects ≡ (w.handlers h).objects →
+    (IsNoReply (w.handlers h).answer → IsNoReply x.answer) →
     IsSame h w (put h x w)
 same_put h x w e n = record {
   objects_are = put_objects h x w e;
@@ -157,8 +174,10 @@ pub stack_again : (h : ℕ) (os : List Object) (old st : List Frame) (w : World)
     with_stack h st (put h (record (w.handlers h) { objects = os; stack = old }) w) ≡ with_stack h st w
 stack_again h os old st w e = λ i. record w { handlers = fun_ext (λ k. by k (k == h)) i }
   where
-    own : (put h (record (w.handlers h) { objects = os; stack = old }) w).handlers h ≡ record (w.handlers h) { stack = old }
-    own = m_put-own h (record (w.handlers h) { objects = os; stack = old }) w ∙ ap (λ (os : List Object). record (w.handlers h) { objects = os; stack = old }) e
+    own : (put h (record (w.handlers h) { objects = os; stack = old }) w).handlers h
+        ≡ record (w.handlers h) { stack = old }
+    own = m_put-own h (record (w.handlers h) { objects = os; stack = old }) w
+        ∙ ap (λ (os : List Object). record (w.handlers h) { objects = os; stack = old }) e
 
     by : (k : ℕ) (b : Bool) →
         (if b then record ((put h (record (w.handlers h) { objects = os; stack = old }) w).handlers h) { stack = st }

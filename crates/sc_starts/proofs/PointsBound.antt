@@ -46,12 +46,14 @@ use Rattle.sc_starts.specs.Following.{AreBound}
 abbrev pub AreFormals : List Binding → Type 0
 AreFormals bs = Each (λ (b : Binding). is_formal b.role ≡ true) bs
 
-formals_are : (s : System) (all : List Declaration) (i : ℕ) (ds : List Declaration) (vs : List Value) (bs : List Binding) → formals_bound s all i ds vs ≡ Some bs → AreFormals bs
+formals_are : (s : System) (all : List Declaration) (i : ℕ) (ds : List Declaration) (vs : List Value)
+    (bs : List Binding) → formals_bound s all i ds vs ≡ Some bs → AreFormals bs
 formals_are s all i [] [] bs e = let none : [] ≡ bs = cc in subst AreFormals none tt
 formals_are s all i [] (v ∷ vs) bs e = cc
 formals_are s all i (d ∷ ds) [] bs e = cc
 formals_are s all i (d ∷ ds) (v ∷ vs) bs e =
-    by (declared_type s all d.declared_type) (formals_bound s all (i + 1) ds vs) (λ cs j. formals_are s all (i + 1) ds vs cs j) e
+    by (declared_type s all d.declared_type) (formals_bound s all (i + 1) ds vs)
+    (λ cs j. formals_are s all (i + 1) ds vs cs j) e
   where
     by : (o : Option EntityType) (rest : Option (List Binding)) →
         ((cs : List Binding) → rest ≡ Some cs → AreFormals cs) →
@@ -59,7 +61,8 @@ formals_are s all i (d ∷ ds) (v ∷ vs) bs e =
     by None rest others e = cc
     by (Some t) None others e = cc
     by (Some t) (Some cs) others e =
-        let same : bind d.name.text (reserved i t) role.Formal v ∷ cs ≡ bs = cc in subst AreFormals same (refl, others cs refl)
+        let same : bind d.name.text (reserved i t) role.Formal v ∷ cs ≡ bs = cc in
+        subst AreFormals same (refl, others cs refl)
 
 pub bound_formals : (s : System) (r : Routine) (bs : List Binding) → AreBound s r bs → AreFormals bs
 bound_formals s r bs (vs, e) = formals_are s r.text.formals 0 r.text.formals vs bs e
@@ -67,7 +70,8 @@ bound_formals s r bs (vs, e) = formals_are s r.text.formals 0 r.text.formals vs 
 -- so many, and more, are taken of two lists
 take_past : {A : Type 0} (xs ys : List A) (m : ℕ) → take (length xs + m) (xs ++ ys) ≡ xs ++ take m ys
 take_past [] ys m = ap (λ (n : ℕ). take n ys) (let e : 0 + m ≡ m = omega arith in e)
-take_past (x ∷ xs) ys m = ap (λ (n : ℕ). take n (x ∷ xs ++ ys)) (let e : suc (length xs) + m ≡ suc (length xs + m) = omega arith in e)
+take_past (x ∷ xs) ys m =
+    ap (λ (n : ℕ). take n (x ∷ xs ++ ys)) (let e : suc (length xs) + m ≡ suc (length xs + m) = omega arith in e)
     ∙ ap (λ zs. x ∷ zs) (take_past xs ys m)
 
 pub take_these : {A : Type 0} (xs ys : List A) → take (length xs) (xs ++ ys) ≡ xs
@@ -76,7 +80,8 @@ take_these (x ∷ xs) ys = ap (λ zs. x ∷ zs) (take_these xs ys)
 
 length_past : {A : Type 0} (xs ys : List A) → length (xs ++ ys) ≡ length xs + length ys
 length_past [] ys = let e : length ys ≡ 0 + length ys = omega arith in e
-length_past (x ∷ xs) ys = ap suc (length_past xs ys) ∙ (let e : suc (length xs + length ys) ≡ suc (length xs) + length ys = omega arith in e)
+length_past (x ∷ xs) ys = ap suc (length_past xs ys)
+    ∙ (let e : suc (length xs + length ys) ≡ suc (length xs) + length ys = omega arith in e)
 
 -- a formal is no local
 formal_not_local : (r : Role) → is_formal r ≡ true → is_local r ≡ true → ⊥
@@ -93,11 +98,14 @@ assigned_behind x v e [] more f i l = (assigned_to x v more, refl)
 assigned_behind x v e (b ∷ cs) more f i l = by (bytes_eq b.name x) refl (λ i. assigned_behind x v e cs more f.1 i l) i
   where
     by : (c : Bool) → bytes_eq b.name x ≡ c →
-        (entity_named x (scope_of (cs ++ more)) ≡ Some e → (ms : List Binding) × (assigned_to x v (cs ++ more) ≡ cs ++ ms)) →
+        (entity_named x (scope_of (cs ++ more)) ≡ Some e → (ms : List Binding)
+        × (assigned_to x v (cs ++ more) ≡ cs ++ ms)) →
         cond c (Some (known_of b)) (entity_named x (scope_of (cs ++ more))) ≡ Some e →
-        (ms : List Binding) × (cond c (record b { value = v } ∷ cs ++ more) (b ∷ assigned_to x v (cs ++ more)) ≡ b ∷ cs ++ ms)
+        (ms : List Binding) × (cond c (record b { value = v } ∷ cs ++ more) (b ∷ assigned_to x v (cs ++ more))
+        ≡ b ∷ cs ++ ms)
     by true j others i =
-        let same : known_of b ≡ e = cc in absurd (formal_not_local b.role f.0 (ap (λ (e : Entity). is_local e.role) same ∙ l))
+        let same : known_of b ≡ e = cc in
+        absurd (formal_not_local b.role f.0 (ap (λ (e : Entity). is_local e.role) same ∙ l))
     by false j others i = let z = others i in (z.0, ap (λ ms. b ∷ ms) z.1)
 
 -- ---- steps
@@ -128,7 +136,8 @@ module _ (contract : StepOfContract) (s : System) (me : Reference) (bs : List Bi
   longer cs ds (more, e) = (more ++ ds, ap (λ cs. cs ++ ds) e ∙ append_assoc bs more ds)
 
   shorter : (cs : List Binding) (d : ℕ) → Has cs → (m : ℕ) × (d ≡ length bs + m) → Has (take d cs)
-  shorter cs d (more, e) (m, i) = (take m more, ap (take d) e ∙ ap (λ (d : ℕ). take d (bs ++ more)) i ∙ take_past bs more m)
+  shorter cs d (more, e) (m, i) =
+      (take m more, ap (take d) e ∙ ap (λ (d : ℕ). take d (bs ++ more)) i ∙ take_past bs more m)
 
   -- ---- tasks that constructs set out
 
@@ -171,7 +180,8 @@ module _ (contract : StepOfContract) (s : System) (me : Reference) (bs : List Bi
   attribute_firm None t p h l = tt
   attribute_firm (Some b) t p h l = reads_firm t b.value t p h l
 
-  right_firm : (d : Option Bool) (short : Bool) (op : BinaryOperator) (i : ℕ) (e : tree.Expr) (u : Operand) (p : Point) → Has p.environment → Left p.tasks →
+  right_firm : (d : Option Bool) (short : Bool) (op : BinaryOperator) (i : ℕ) (e : tree.Expr) (u : Operand)
+      (p : Point) → Has p.environment → Left p.tasks →
       Firm (evals_right d short op i e u p)
   right_firm (Some b) short op i e u p h l = (h, l)
   right_firm None true op i e u p h l = (h, (tt, (tt, l)))
@@ -204,7 +214,8 @@ module _ (contract : StepOfContract) (s : System) (me : Reference) (bs : List Bi
 
   kind_firm : (x : List ℕ) (k : FeatureKind) (i : ℕ) (es : Exprs) (p : Point) → Has p.environment → Left p.tasks →
       Firm (begins_kind s me x k i es p)
-  kind_firm x (tree.Attribute d) i es p h l = own_firm (given_type s (current (place_in s p.text)) d) (binding_named x (attributes_of me.number p.objects)) p h l
+  kind_firm x (tree.Attribute d) i es p h l = own_firm (given_type s (current (place_in s p.text)) d)
+      (binding_named x (attributes_of me.number p.objects)) p h l
   kind_firm x (tree.Routine r) i es p h l = (h, actuals_left i es (CallUnqualified x (count es)) p.tasks (tt, l))
 
   feature_firm : (x : List ℕ) (f : Option DeclaredFeature) (i : ℕ) (es : Exprs) (p : Point) → Has p.environment →
@@ -223,8 +234,10 @@ module _ (contract : StepOfContract) (s : System) (me : Reference) (bs : List Bi
   evaluate_firm i (tree.Void q) p h l = (h, l)
   evaluate_firm i (tree.Current q) p h l = (h, l)
   evaluate_firm i (tree.Result q) p h l = result_firm p.result p.text.result p h l
-  evaluate_firm i (tree.Call q tree.no_target x es) p h l = name_firm x.text (binding_named x.text p.environment) i es p h l
-  evaluate_firm i (tree.Call q (tree.target a) x es) p h l = (h, (tt, actuals_left (i + olds_in a) es (CallQualified x.text (count es)) p.tasks (tt, l)))
+  evaluate_firm i (tree.Call q tree.no_target x es) p h l =
+      name_firm x.text (binding_named x.text p.environment) i es p h l
+  evaluate_firm i (tree.Call q (tree.target a) x es) p h l =
+      (h, (tt, actuals_left (i + olds_in a) es (CallQualified x.text (count es)) p.tasks (tt, l)))
   evaluate_firm i (tree.Unary q unary.Old a) p h l = found_firm (slice_get p.olds i) p h l
   evaluate_firm i (tree.Unary q unary.Not a) p h l = (h, (tt, (tt, l)))
   evaluate_firm i (tree.Unary q unary.Plus a) p h l = (h, (tt, (tt, l)))
@@ -241,7 +254,8 @@ module _ (contract : StepOfContract) (s : System) (me : Reference) (bs : List Bi
     where
       by : (b : Bool) → is_local e.role ≡ b → Firm (assigns me (Named x) (cond b (to_local e.type) unassignable) v p)
       by true k =
-          let z = assigned_behind x.text v e bs more formal (ap (λ cs. entity_named x.text (scope_of cs)) (sym j) ∙ i) k in
+          let z = assigned_behind x.text v e bs more formal
+          (ap (λ cs. entity_named x.text (scope_of cs)) (sym j) ∙ i) k in
           ((z.0, ap (assigned_to x.text v) j ∙ z.1), l)
       by false k = tt
   to_local_firm x v None p i h l = by (is_print x.text)
@@ -256,7 +270,9 @@ module _ (contract : StepOfContract) (s : System) (me : Reference) (bs : List Bi
       of_feature (Some f) = of_kind f.feature.kind
 
       by : (b : Bool) →
-          Firm (assigns me (Named x) (cond b unassignable (assignee_of_feature (place_in s p.text) (feature_named s (class.Declared p.text.class) x.text))) v p)
+          Firm (assigns me (Named x)
+          (cond b unassignable (assignee_of_feature (place_in s p.text)
+          (feature_named s (class.Declared p.text.class) x.text))) v p)
       by true = tt
       by false = of_feature (feature_named s (class.Declared p.text.class) x.text)
 
@@ -285,7 +301,8 @@ module _ (contract : StepOfContract) (s : System) (me : Reference) (bs : List Bi
       (m : ℕ) × (d ≡ length bs + m) → Has p.environment → Left p.tasks →
       Firm (chooses d v body cs other p)
   chooses_firm d (Boolean true) body cs other p i h l = (h, (tt, (i, l)))
-  chooses_firm d (Boolean false) body cs other p i h l = other_firm d cs other (forgets d p) i (shorter p.environment d h i) l
+  chooses_firm d (Boolean false) body cs other p i h l =
+      other_firm d cs other (forgets d p) i (shorter p.environment d h i) l
   chooses_firm d (Integer z) body cs other p i h l = tt
   chooses_firm d Void body cs other p i h l = tt
   chooses_firm d (Attached r) body cs other p i h l = tt
@@ -325,13 +342,18 @@ module _ (contract : StepOfContract) (s : System) (me : Reference) (bs : List Bi
   begins_firm (tree.Assign q x e) p h l = (h, (tt, (tt, l)))
   begins_firm (tree.PrintText q text) p h l = tt
   begins_firm (tree.CallRoutine q tree.no_target x es) p h l = routine_firm (is_print x.text) x.text es p h l
-  begins_firm (tree.CallRoutine q (tree.target a) x es) p h l = (h, (tt, actuals_left 0 es (CallQualified x.text (count es)) p.tasks (tt, l)))
-  begins_firm (tree.Create q c) p h l =
-      (h, actuals_left 0 (actuals_of c.call) (CreateBy c.variable (procedure_of c.call) (count (actuals_of c.call))) p.tasks (tt, l))
+  begins_firm (tree.CallRoutine q (tree.target a) x es) p h l =
+      (h, (tt, actuals_left 0 es (CallQualified x.text (count es)) p.tasks (tt, l)))
+  begins_firm (tree.Create q c) p h l = (
+    h,
+    actuals_left 0 (actuals_of c.call) (CreateBy c.variable (procedure_of c.call) (count (actuals_of c.call)))
+        p.tasks (tt, l),
+  )
   begins_firm (tree.If q e body cs other) p h l = (h, (tt, (depth p.environment h, l)))
   begins_firm (tree.Loop q initial e body) p h l = (h, (tt, (tt, l)))
   begins_firm (tree.Check q ks) p h l = (h, checks_left ks p.tasks l)
-  begins_firm (tree.Block q ds body) p h l = (h, heads_left ds (Open (map (λ (d : Head). d.name) ds) body) p.tasks (tt, l))
+  begins_firm (tree.Block q ds body) p h l =
+      (h, heads_left ds (Open (map (λ (d : Head). d.name) ds) body) p.tasks (tt, l))
 
   -- ---- creations
 
@@ -343,8 +365,10 @@ module _ (contract : StepOfContract) (s : System) (me : Reference) (bs : List Bi
   creates_firm : (call : Option (List ℕ)) (t : EntityType) (g : Tag) (c : ClassId) (us : List Operand) (p : Point) →
       Has p.environment → Left p.tasks →
       Firm (creates_at s me call t g c us p)
-  creates_firm call t tag.Own (class.Declared k) us p h l = if_firm (nat_lt (length p.objects) max_objects) _ (fails cause.TooManyObjects p)
-      (made_firm (record { handler = me.handler; number = length p.objects + 1; class = k }) t call us (record p { objects = p.objects ++ fresh_object s k ∷ [] }) h l) tt
+  creates_firm call t tag.Own (class.Declared k) us p h l = if_firm (nat_lt (length p.objects) max_objects) _
+      (fails cause.TooManyObjects p)
+      (made_firm (record { handler = me.handler; number = length p.objects + 1; class = k }) t call us
+      (record p { objects = p.objects ++ fresh_object s k ∷ [] }) h l) tt
   creates_firm call t tag.Any (class.Declared k) us p h l = tt
   creates_firm call t tag.Own class.Any us p h l = tt
   creates_firm call t tag.Own class.None us p h l = tt
@@ -366,18 +390,24 @@ module _ (contract : StepOfContract) (s : System) (me : Reference) (bs : List Bi
       Has p.environment → Left p.tasks → Firm (creates s me v call us p)
   create_firm v call None p h l = tt
   create_firm v call (Some (us, vs)) p h l =
-      creates_as_firm call (assignee_type (assigned_at s v p)) us (record p { tasks = AssignTo v ∷ p.tasks; values = vs }) h (tt, l)
+      creates_as_firm call (assignee_type (assigned_at s v p)) us
+      (record p { tasks = AssignTo v ∷ p.tasks; values = vs }) h (tt, l)
 
   -- ---- tasks
 
   -- a contract's task, where p.tasks is what is left behind it
   of_contract : (t : Task) (p : Point) → IsOfContract t → Has p.environment → Left p.tasks →
       Firm (performs s me t p.values p)
-  of_contract t p o h l = by (performs s me t p.values p) (contract s me t [] p.tasks (record p { tasks = t ∷ p.tasks }) refl o tt)
+  of_contract t p o h l = by (performs s me t p.values p)
+      (contract s me t [] p.tasks (record p { tasks = t ∷ p.tasks }) refl o tt)
     where
       stays : (q : Point) → StaysInContract p.tasks (record p { tasks = t ∷ p.tasks }) q →
           Has q.environment × Left q.tasks
-      stays q y = (subst Has (sym y.environment_is) h, subst Left (sym y.tasks_are) (contract_left y.tasks p.tasks y.of_contract l))
+      stays q y = (
+        subst Has (sym y.environment_is) h,
+        subst Left (sym y.tasks_are)
+            (contract_left y.tasks p.tasks y.of_contract l),
+      )
 
       by : (x : Step) → StepsInContract p.tasks (record p { tasks = t ∷ p.tasks }) x → Firm x
       by (Goes q) y = stays q y
@@ -402,18 +432,24 @@ module _ (contract : StepOfContract) (s : System) (me : Reference) (bs : List Bi
   performs_firm (Declare locals) vs p e o h l = (longer p.environment (locals_bound s p.text.formals locals) h, l)
   performs_firm (Forget d) vs p e o h l = (shorter p.environment d h o, l)
   performs_firm (Eval i a) vs p e o h l = evaluate_firm i a p h l
-  performs_firm (CallUnqualified x n) vs p e o h l = subst (λ vs. Firm (performs s me (CallUnqualified x n) vs p)) e (of_contract (CallUnqualified x n) p tt h l)
-  performs_firm (CallQualified x n) vs p e o h l = subst (λ vs. Firm (performs s me (CallQualified x n) vs p)) e (of_contract (CallQualified x n) p tt h l)
+  performs_firm (CallUnqualified x n) vs p e o h l = subst (λ vs. Firm (performs s me (CallUnqualified x n) vs p)) e
+      (of_contract (CallUnqualified x n) p tt h l)
+  performs_firm (CallQualified x n) vs p e o h l = subst (λ vs. Firm (performs s me (CallQualified x n) vs p)) e
+      (of_contract (CallQualified x n) p tt h l)
   performs_firm (Repeat until body) vs p e o h l = (h, (tt, (tt, l)))
   performs_firm (Require []) vs p e o h l = tt
   performs_firm (Require (k ∷ ks)) vs p e o h l = (h, (tt, (tt, (tt, l))))
   performs_firm (CreateBy x k n) vs p e o h l = create_firm x k (popped n [] vs) p h l
   performs_firm (Open xs body) vs p e o h l = opens_firm xs body (popped (length xs) [] vs) p
   performs_firm (Leave d) vs p e o h l = tt
-  performs_firm (ApplyUnary op) vs p e o h l = subst (λ vs. Firm (performs s me (ApplyUnary op) vs p)) e (of_contract (ApplyUnary op) p tt h l)
-  performs_firm (ApplyBinary op) vs p e o h l = subst (λ vs. Firm (performs s me (ApplyBinary op) vs p)) e (of_contract (ApplyBinary op) p tt h l)
-  performs_firm Conclude vs p e o h l = subst (λ vs. Firm (performs s me Conclude vs p)) e (of_contract Conclude p tt h l)
-  performs_firm (Required k) vs p e o h l = subst (λ vs. Firm (performs s me (Required k) vs p)) e (of_contract (Required k) p tt h l)
+  performs_firm (ApplyUnary op) vs p e o h l = subst (λ vs. Firm (performs s me (ApplyUnary op) vs p)) e
+      (of_contract (ApplyUnary op) p tt h l)
+  performs_firm (ApplyBinary op) vs p e o h l = subst (λ vs. Firm (performs s me (ApplyBinary op) vs p)) e
+      (of_contract (ApplyBinary op) p tt h l)
+  performs_firm Conclude vs p e o h l = subst (λ vs. Firm (performs s me Conclude vs p)) e
+      (of_contract Conclude p tt h l)
+  performs_firm (Required k) vs p e o h l = subst (λ vs. Firm (performs s me (Required k) vs p)) e
+      (of_contract (Required k) p tt h l)
   performs_firm KeepOld vs p e o h l = subst (λ vs. Firm (performs s me KeepOld vs p)) e (of_contract KeepOld p tt h l)
   performs_firm Ensured vs p e o h l = subst (λ vs. Firm (performs s me Ensured vs p)) e (of_contract Ensured p tt h l)
   performs_firm (EvalRight op i right) [] p e o h l = tt
@@ -423,12 +459,16 @@ module _ (contract : StepOfContract) (s : System) (me : Reference) (bs : List Bi
   performs_firm (Choose d body cs other) [] p e o h l = tt
   performs_firm (EndLoop until body) [] p e o h l = tt
   performs_firm Checked [] p e o h l = tt
-  performs_firm (EvalRight op i right) (u ∷ vs) p e o h l = right_firm (decided_by op u.value) (is_short op) op i right u (record p { values = vs }) h l
-  performs_firm (Bind d x) (u ∷ vs) p e o h l = binds_firm d x u.value (test_type (place_in s p.text) d (Some u.type)) (record p { values = vs }) h l
+  performs_firm (EvalRight op i right) (u ∷ vs) p e o h l =
+      right_firm (decided_by op u.value) (is_short op) op i right u (record p { values = vs }) h l
+  performs_firm (Bind d x) (u ∷ vs) p e o h l = binds_firm d x u.value (test_type (place_in s p.text) d (Some u.type))
+      (record p { values = vs }) h l
   performs_firm (AssignTo x) (u ∷ vs) p e o h l = assigns_firm x u.value (record p { values = vs }) h l
   performs_firm Print (u ∷ vs) p e o h l = prints_firm u.value (record p { values = vs })
-  performs_firm (Choose d body cs other) (u ∷ vs) p e o h l = chooses_firm d u.value body cs other (record p { values = vs }) o h l
-  performs_firm (EndLoop until body) (u ∷ vs) p e o h l = ends_loop_firm u.value until body (record p { values = vs }) h l
+  performs_firm (Choose d body cs other) (u ∷ vs) p e o h l =
+      chooses_firm d u.value body cs other (record p { values = vs }) o h l
+  performs_firm (EndLoop until body) (u ∷ vs) p e o h l =
+      ends_loop_firm u.value until body (record p { values = vs }) h l
   performs_firm Checked (u ∷ vs) p e o h l = tests_firm cause.Check u.value (record p { values = vs }) h l
 
   step_firm : (p : Point) → Has p.environment → Left p.tasks → Firm (step s me p)
@@ -436,7 +476,8 @@ module _ (contract : StepOfContract) (s : System) (me : Reference) (bs : List Bi
     where
       by : (ts : List Task) → p.tasks ≡ ts → Firm (step_at s me ts p)
       by [] e = tt
-      by (t ∷ rest) e = let l : Left (t ∷ rest) = subst Left e l in performs_firm t p.values (record p { tasks = rest }) refl l.0 h l.1
+      by (t ∷ rest) e = let l : Left (t ∷ rest) = subst Left e l in
+          performs_firm t p.values (record p { tasks = rest }) refl l.0 h l.1
 
   -- ---- evaluations
 

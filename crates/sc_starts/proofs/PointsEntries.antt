@@ -1,4 +1,5 @@
--- Where routines begin beside an evaluation by the definition, how the values of calls take them on, and what functions answer.
+-- Where routines begin beside an evaluation by the definition, how the values of calls take them on, and what functions
+-- answer.
 use Rattle.std.proofs.Common.{ℕ, suc, ◌+◌, ◌≡◌, Bool, true, List, [], ◌∷◌, ◌++◌, Option, Some, None, refl, sym, ap, subst, ◌∙◌}
 use Rattle.std.specs.Prelude.{length, take}
 use Rattle.sc_tree.specs.Plain as tree
@@ -15,7 +16,7 @@ use Rattle.sc_model.specs.Olds.{olds_of_clauses}
 use Rattle.sc_model.specs.Routines.{Routine}
 use Rattle.sc_model.specs.Steps.{Calling, Point, Enters, Requests}
 use Rattle.sc_model.specs.Tasks.{Task, requires, keeps_olds}
-use Rattle.sc_model.specs.Values.{Reference, Value, Operand, operand}
+use Rattle.sc_model.specs.Values.{Reference, Value, Operand}
 use Rattle.sc_settled.proofs.Modes.{IsVersionOf, routine_found}
 use Rattle.sc_settled.proofs.Purely.{is_routine}
 use Rattle.sc_evaluation.specs.Evaluating.{Answers, routine, enters, requests}
@@ -29,8 +30,10 @@ use Rattle.sc_starts.specs.Points.{ClauseGoesOn, ClauseGoesOnAnswered, EntryFoll
 
 module _ (s : System) (M : ℕ → Type 0) (O : ℕ → List Object) (me : Reference) (start : Point) (ts : List Task) where
   -- what a call has given takes the evaluation on
-  pub entered_on : (p : Point) (c : Calling) (o : Reference) (x : List ℕ) (us : List Operand) (t : EntityType) (v : Value) →
-      HasDone s M O me start ts (Enters c o x us (Some t)) p → Answers s M O o x us v → IsAt s M O me start ts (given v t p)
+  pub entered_on : (p : Point) (c : Calling) (o : Reference) (x : List ℕ) (us : List Operand)
+      (t : EntityType) (v : Value) →
+      HasDone s M O me start ts (Enters c o x us (Some t)) p → Answers s M O o x us v →
+      IsAt s M O me start ts (given v t p)
   entered_on p c o x us t v d a = record {
     at = given v t d.after;
     reaches = enters d.reaches d.step_is a;
@@ -38,8 +41,10 @@ module _ (s : System) (M : ℕ → Type 0) (O : ℕ → List Object) (me : Refer
     oldless = d.oldless;
   }
 
-  pub requested_on : (p : Point) (o : Reference) (x : List ℕ) (us : List Operand) (t : EntityType) (passing : Bool) (v : Value) →
-      HasDone s M O me start ts (Requests o x us (Some t) passing) p → Answers s M O o x us v → IsAt s M O me start ts (given v t p)
+  pub requested_on : (p : Point) (o : Reference) (x : List ℕ) (us : List Operand) (t : EntityType)
+      (passing : Bool) (v : Value) →
+      HasDone s M O me start ts (Requests o x us (Some t) passing) p → Answers s M O o x us v →
+      IsAt s M O me start ts (given v t p)
   requested_on p o x us t passing v d a = record {
     at = given v t d.after;
     reaches = requests d.reaches d.step_is a;
@@ -56,15 +61,19 @@ clause_goes_on_answered s M O me r bs p o x us t passing v (at.inside done ks k 
     at.inside done ks k e holds none (requested_on s M O me _ _ p o x us t passing v d a)
 
 pub pure_calls_more : PureCallsMore
-pure_calls_more s O me r bs p t For Such more (at.before ts e of_contract names result) = at.before ts e of_contract names result
+pure_calls_more s O me r bs p t For Such more (at.before ts e of_contract names result) =
+    at.before ts e of_contract names result
 pure_calls_more s O me r bs p t For Such more (at.during {c} {o} {x} {us} own d for) = at.during own d (more o x us for)
-pure_calls_more s O me r bs p t For Such more (at.behind reaches none result of_contract) = at.behind reaches none result of_contract
+pure_calls_more s O me r bs p t For Such more (at.behind reaches none result of_contract) =
+    at.behind reaches none result of_contract
 
 pub pure_goes_on : PureGoesOn
-pure_goes_on s O me r bs p t For v (at.before ts e of_contract names result) answers = at.before ts e of_contract names result
+pure_goes_on s O me r bs p t For v (at.before ts e of_contract names result) answers =
+    at.before ts e of_contract names result
 pure_goes_on s O me r bs p t For v (at.during {c} {o} {x} {us} own d for) answers =
     at.during (entered_on s (Own me.handler) O me _ _ p c o x us t v d (answers o x us for))
-pure_goes_on s O me r bs p t For v (at.behind reaches none result of_contract) answers = at.behind reaches none result of_contract
+pure_goes_on s O me r bs p t For v (at.behind reaches none result of_contract) answers =
+    at.behind reaches none result of_contract
 
 -- ---- answers
 
@@ -78,18 +87,21 @@ pure_answers s O o x us r bs b p u named there bound run result set = by (routin
     by : IsVersionOf s o.class x r → Answers s (Own o.handler) O o x us u.value
     by v =
         let kind = is_a_routine v.feature.feature.kind v.is_one in
-        routine refl there v.is_version kind.1 v.is_routine_of bound run.reaches run.tasks_are (sym run.result_is ∙ result) set
+        routine refl there v.is_version kind.1 v.is_routine_of bound run.reaches run.tasks_are
+        (sym run.result_is ∙ result) set
 
 -- ---- entries
 
 -- there are as many as formals
-pub bound_length : (s : System) (all : List Declaration) (i : ℕ) (ds : List Declaration) (vs : List Value) (bs : List Binding) →
+pub bound_length : (s : System) (all : List Declaration) (i : ℕ) (ds : List Declaration) (vs : List Value)
+    (bs : List Binding) →
     formals_bound s all i ds vs ≡ Some bs → length bs ≡ length ds
 bound_length s all i [] [] bs e = let none : [] ≡ bs = cc in ap length (sym none)
 bound_length s all i [] (v ∷ vs) bs e = cc
 bound_length s all i (d ∷ ds) [] bs e = cc
 bound_length s all i (d ∷ ds) (v ∷ vs) bs e =
-    by (declared_type s all d.declared_type) (formals_bound s all (i + 1) ds vs) (λ cs j. bound_length s all (i + 1) ds vs cs j) e
+    by (declared_type s all d.declared_type) (formals_bound s all (i + 1) ds vs)
+    (λ cs j. bound_length s all (i + 1) ds vs cs j) e
   where
     by : (o : Option EntityType) (rest : Option (List Binding)) →
         ((cs : List Binding) → rest ≡ Some cs → length cs ≡ length ds) →
@@ -97,7 +109,8 @@ bound_length s all i (d ∷ ds) (v ∷ vs) bs e =
     by None rest others e = cc
     by (Some t) None others e = cc
     by (Some t) (Some cs) others e =
-        let same : bind d.name.text (reserved i t) role.Formal v ∷ cs ≡ bs = cc in ap length (sym same) ∙ ap suc (others cs refl)
+        let same : bind d.name.text (reserved i t) role.Formal v ∷ cs ≡ bs = cc in ap length (sym same)
+        ∙ ap suc (others cs refl)
 
 pub take_all : {A : Type 0} (xs : List A) → take (length xs) xs ≡ xs
 take_all [] = refl
@@ -123,4 +136,5 @@ entry_is_between O me r bs o some = by r.require refl
         point_of (entry me r o bs) (O me.handler) ≡ between_point O me r bs r.require
     by [] e = absurd (some e)
     by (k ∷ ks) e = ap (λ (ts : List Task). record (between_point O me r bs r.require) { tasks = ts })
-        (ap (λ (ks : List Clause). (requires ks ++ keeps_olds (olds_of_clauses r.ensure)) ++ body_tasks r) e ∙ ap (λ (ks : List Clause). behind_clause r ks) (sym e))
+        (ap (λ (ks : List Clause). (requires ks ++ keeps_olds (olds_of_clauses r.ensure)) ++ body_tasks r) e
+        ∙ ap (λ (ks : List Clause). behind_clause r ks) (sym e))

@@ -43,11 +43,13 @@ module _ (s : System) (pure : RoutineName → Bool) (tells : IsPurity s pure) wh
       stands = found_stands s k x f e
 
       there : purity.routine_named s (rules.routine_of f) ≡ Some f
-      there = subst (λ (y : List ℕ). named_among y (declared_features s f.class) ≡ Some f) (sym stands.is_named) stands.is_declared
+      there = subst (λ (y : List ℕ). named_among y (declared_features s f.class) ≡ Some f)
+          (sym stands.is_named) stands.is_declared
 
       by : (b : Bool) → is_pure_candidate f.feature.kind ≡ b → b ≡ true
       by true i = refl
-      by false i = absurd ((pure_is_closed s pure tells (rules.routine_of f) is).0 (no_candidate (ap is_pure_candidate_if_any there ∙ i)))
+      by false i = absurd ((pure_is_closed s pure tells (rules.routine_of f) is).0
+          (no_candidate (ap is_pure_candidate_if_any there ∙ i)))
 
   -- a routine that may be pure is a function
   gives_result : (c : tree.RoutineDeclaration) → is_pure_candidate (tree.Routine c) ≡ true →
@@ -63,7 +65,8 @@ module _ (s : System) (pure : RoutineName → Bool) (tells : IsPurity s pure) wh
   given_so me of k (Some d) (Some t) f e = (t, refl)
   given_so me of k (Some d) None f e = absurd f
 
-  pub gives_value : (me : ℕ) (of : Reserved → Option ℕ) (o : Reference) (x : List ℕ) (us : List Operand) (g : Option EntityType) → EntryFits s me of o x us g →
+  pub gives_value : (me : ℕ) (of : Reserved → Option ℕ) (o : Reference) (x : List ℕ) (us : List Operand)
+      (g : Option EntityType) → EntryFits s me of o x us g →
       RunsPure s pure o x → (t : EntityType) × (g ≡ Some t)
   gives_value me of o x us g (c, is) runs =
       by c.version.feature.kind c.fits (candidate o.class x c.version c.is_version (runs c.version c.is_version))
@@ -75,7 +78,8 @@ module _ (s : System) (pure : RoutineName → Bool) (tells : IsPurity s pure) wh
 
   -- ---- the Result
 
-  module _ (k : ℕ) (x : List ℕ) (r : Routine) (named : routine_named s k x ≡ Some r) (is : pure (name_of r) ≡ true) where
+  module _ (k : ℕ) (x : List ℕ) (r : Routine) (named : routine_named s k x ≡ Some r)
+      (is : pure (name_of r) ≡ true) where
     declared_result : (m n : FeatureKind) (y : List ℕ) (i j : ℕ) → is_pure_candidate m ≡ true →
         routine_with s y i m j n ≡ Some r →
         (t : Option EntityType) × (r.text.result ≡ Some t)
@@ -100,7 +104,8 @@ module _ (s : System) (pure : RoutineName → Bool) (tells : IsPurity s pure) wh
             by : (o : Option DeclaredFeature) → routine_from s v.feature o ≡ Some r →
                 (t : Option EntityType) × (r.text.result ≡ Some t)
             by None e = cc
-            by (Some o) e = declared_result v.feature.feature.kind o.feature.kind v.feature.feature.name.text v.feature.class o.class
+            by (Some o) e = declared_result v.feature.feature.kind o.feature.kind v.feature.feature.name.text
+                v.feature.class o.class
                 (candidate k x v.feature v.is_version (subst (λ (f : RoutineName). pure f ≡ true) v.has_name is)) e
 
     pub result_there : (h : ℕ) (u : Option Operand) → ResultFits s h r.text.result u → (v : Operand) × (u ≡ Some v)
@@ -114,9 +119,11 @@ module _ (s : System) (pure : RoutineName → Bool) (tells : IsPurity s pure) wh
 -- ---- where a text begins
 
 -- no value lies there
-pub none_at_text : (s : System) (pure : RoutineName → Bool) (r : Routine) (me : Reference) (p : Point) (u : Text) (k : List Task) → StandsSo s pure r me [] p →
+pub none_at_text : (s : System) (pure : RoutineName → Bool) (r : Routine) (me : Reference) (p : Point) (u : Text)
+    (k : List Task) → StandsSo s pure r me [] p →
     p.tasks ≡ In u ∷ k → p.values ≡ []
-none_at_text s pure r me p u k f e = by f.0.known f.0.agrees (subst (λ ts. IsTyped s pure r ts f.0.known) e f.0.is_typed)
+none_at_text s pure r me p u k f e =
+    by f.0.known f.0.agrees (subst (λ ts. IsTyped s pure r ts f.0.known) e f.0.is_typed)
   where
     none_typed : (t : Text) (n : rules.Entities) (os vs : List EntityType) →
         IsTyped s pure r (In u ∷ k) (typed.at t n os vs) → vs ≡ []

@@ -1,8 +1,7 @@
 -- What a step of a task without `old` is not: the start of a body, a refusal, or the exit.
-use Rattle.std.proofs.Common.{ℕ, ◌≡◌, List, [], ◌∷◌, ◌++◌, Option, Some, None, refl, ap, subst, ◌∙◌, inr}
+use Rattle.std.proofs.Common.{ℕ, ◌≡◌, List, [], ◌∷◌, ◌++◌, refl, ap, subst, ◌∙◌, inr}
 use Rattle.std.proofs.lemmas.List.{append-nil}
-use Rattle.sc_tree.specs.Plain as tree
-use Rattle.sc_tree.specs.Plain.{System, Clause, CreationCall, Head, Variable, Named, ResultVariable, Expr, Exprs, no_exprs, expr_then, Instr, Instrs, no_instrs, instr_then, Branches, no_branches, branch_then}
+use Rattle.sc_tree.specs.Plain.{System}
 use Rattle.sc_model.specs.Moves.{first_visible, moves, step, then_go}
 use Rattle.sc_model.specs.Sizes.{size}
 use Rattle.sc_model.specs.Steps.{Starts, Refuses, Exits, Point, Step, Goes, Does}
@@ -10,7 +9,6 @@ use Rattle.sc_model.specs.Tasks.{Task, Do, In, Declare, Forget, Eval, ApplyUnary
 use Rattle.sc_model.specs.Values.{Reference}
 use Rattle.sc_values.specs.Points.{Each}
 use Rattle.sc_settled.proofs.Tasks.{Behind, OfTask, OfTasks, class_behind}
-use Rattle.sc_settled.proofs.Texts.{OfExpr, OfExprs, OfCall, OfClauses, OfHeads, OfVariable, OfInstr, OfInstrs, OfBranches}
 use Rattle.sc_settled.proofs.Walking.{MayAssign, SteppedSo, moves_so}
 use Rattle.sc_settled.proofs.Modes.{Any, any_branches, any_expr, any_instrs, any_variable}
 use Rattle.sc_evaluation.specs.Evaluating.{extended, extended_step}
@@ -58,8 +56,11 @@ module _ (K : Type 0) where
     any_tasks : (ts rest : List Task) → Each IsOldless ts → ((k : ℕ) → AnyTasks k rest) → (k : ℕ) →
         AnyTasks k (ts ++ rest)
     any_tasks [] rest o l k = l k
-    any_tasks (t ∷ ts) rest o l k =
-        (any_task t o.0, behind_any t (ts ++ rest) (AnyTasks (class_behind k t) (ts ++ rest)) o.0 (any_tasks ts rest o.1 l (class_behind k t)))
+    any_tasks (t ∷ ts) rest o l k = (
+      any_task t o.0,
+      behind_any t (ts ++ rest) (AnyTasks (class_behind k t) (ts ++ rest)) o.0
+          (any_tasks ts rest o.1 l (class_behind k t)),
+    )
 
 -- ---- steps
 
@@ -73,19 +74,24 @@ IsWithin (Does (Refuses k) q) = ⊥
 IsWithin (Does Exits q) = ⊥
 IsWithin st = Unit {0}
 
-module _ (extends : StepExtends) (s : System) (me : Reference) (p : Point) (t : Task) (rest : List Task) (e : p.tasks ≡ t ∷ rest) (o : Each IsOldless p.tasks) where
+module _ (extends : StepExtends) (s : System) (me : Reference) (p : Point) (t : Task) (rest : List Task)
+    (e : p.tasks ≡ t ∷ rest) (o : Each IsOldless p.tasks) where
   -- no body starts, and nothing is refused
   abbrev NoneStarts : Step → Type 0
-  NoneStarts x = SteppedSo s me (λ k. Any) (λ k. Any) (Unit {0}) ⊥ (Unit {0}) (λ ts. ⊥) (λ os. Unit {0}) (any_objects s me) x
+  NoneStarts x = SteppedSo s me (λ k. Any) (λ k. Any) (Unit {0}) ⊥ (Unit {0}) (λ ts. ⊥) (λ os. Unit {0})
+      (any_objects s me) x
 
   -- nothing exits
   abbrev NoneExits : Step → Type 0
   NoneExits x =
-      SteppedSo s me (λ k. Any) (λ k. Any) (Unit {0}) (Unit {0}) ⊥ (λ ts. Unit {0}) (λ os. Unit {0}) (any_objects s me) x
+      SteppedSo s me (λ k. Any) (λ k. Any) (Unit {0}) (Unit {0}) ⊥ (λ ts. Unit {0}) (λ os. Unit {0})
+      (any_objects s me) x
 
   starts_none : NoneStarts (moves s me p)
-  starts_none = moves_so s me (λ k. Any) (λ k. Any) (Unit {0}) ⊥ (Unit {0}) (λ ts. ⊥) (λ os. Unit {0}) (any_objects s me) p tt
-      (subst (λ ts. OfTasks (λ k. Any) (λ k. Any) (Unit {0}) ⊥ (Unit {0}) (λ ts. ⊥) p.text.class ts) (append-nil p.tasks)
+  starts_none = moves_so s me (λ k. Any) (λ k. Any) (Unit {0}) ⊥ (Unit {0}) (λ ts. ⊥) (λ os. Unit {0})
+      (any_objects s me) p tt
+      (subst (λ ts. OfTasks (λ k. Any) (λ k. Any) (Unit {0}) ⊥ (Unit {0}) (λ ts. ⊥) p.text.class ts)
+      (append-nil p.tasks)
       (any_tasks ⊥ (Unit {0}) (λ ts. ⊥) p.tasks [] o (λ k. tt) p.text.class))
 
   -- a clause stands behind it
@@ -93,7 +99,8 @@ module _ (extends : StepExtends) (s : System) (me : Reference) (p : Point) (t : 
   Longer = extended p.olds (Require [] ∷ []) p
 
   exits_never : NoneExits (moves s me Longer)
-  exits_never = moves_so s me (λ k. Any) (λ k. Any) (Unit {0}) (Unit {0}) ⊥ (λ ts. Unit {0}) (λ os. Unit {0}) (any_objects s me) Longer tt
+  exits_never = moves_so s me (λ k. Any) (λ k. Any) (Unit {0}) (Unit {0}) ⊥ (λ ts. Unit {0}) (λ os. Unit {0})
+      (any_objects s me) Longer tt
       (any_tasks (Unit {0}) ⊥ (λ ts. Unit {0}) p.tasks (Require [] ∷ []) o (λ k. ((tt, tt), inr tt)) p.text.class)
 
   pub step_is_within : IsWithin (step s me p)
@@ -109,7 +116,8 @@ module _ (extends : StepExtends) (s : System) (me : Reference) (p : Point) (t : 
           (then_go (extended_step p.olds (Require [] ∷ []) x) (first_visible (size Longer.tasks) s me))
       longer x i = subst (λ x. NoneExits
           (then_go x (first_visible (size Longer.tasks) s me)))
-          (extends s me p.olds (Require [] ∷ []) p t rest e (subst (Each IsOldless) e o).0 ∙ ap (extended_step p.olds (Require [] ∷ [])) i) exits_never
+          (extends s me p.olds (Require [] ∷ []) p t rest e (subst (Each IsOldless) e o).0
+          ∙ ap (extended_step p.olds (Require [] ∷ [])) i) exits_never
 
       by : (x : Step) → step s me p ≡ x → IsWithin x
       by (Does Starts q) i = (first (Does Starts q) i).0

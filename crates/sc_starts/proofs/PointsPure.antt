@@ -53,7 +53,8 @@ module _ (s : System) (pure : RoutineName → Bool) (me : Reference) (os : List 
   assigns_none k x g d v objects a e i o = absurd (a g d e i)
 
   keeps_so : (x : Step) →
-      SteppedSo s me (CallsPure s pure) (AssignsNone s) ⊥ (Unit {0}) (Unit {0}) (λ ts. ⊥) (λ to. to ≡ os) assigns_none x → Keep os x
+      SteppedSo s me (CallsPure s pure) (AssignsNone s) ⊥ (Unit {0}) (Unit {0}) (λ ts. ⊥)
+      (λ to. to ≡ os) assigns_none x → Keep os x
   keeps_so (Goes q) h = h.0
   keeps_so (Does (Enters Unqualified o x us g) q) h = h.0
   keeps_so (Does (Enters Qualified o x us g) q) h = h.0
@@ -73,13 +74,17 @@ module _ (s : System) (pure : RoutineName → Bool) (me : Reference) (os : List 
   -- A pure function leaves them as they are.
   moves_keep : (p : Point) → p.objects ≡ os → IsLeftPure s pure p.text.class p.tasks → Keep os (moves s me p)
   moves_keep p e l = keeps_so (moves s me p)
-      (moves_so s me (CallsPure s pure) (AssignsNone s) ⊥ (Unit {0}) (Unit {0}) (λ ts. ⊥) (λ to. to ≡ os) assigns_none p e l)
+      (moves_so s me (CallsPure s pure) (AssignsNone s) ⊥ (Unit {0}) (Unit {0}) (λ ts. ⊥)
+      (λ to. to ≡ os) assigns_none p e l)
 
 -- ---- a step
 
-module _ (extends : StepExtends) (leaves : StepOldless) (contract : StepOfContract) (no_olds : TextsAreOldless) (no_tests : TextsAreTestless)
-    (s : System) (root : Root) (pure : RoutineName → Bool) (faultless : IsFaultless s root) (well : WellFormed s) (tells : IsPurity s pure)
-    (r : Routine) (me : Reference) (named : routine_named s me.class r.name ≡ Some r) (is : pure (name_of r) ≡ true) (O : ℕ → List Object)
+module _ (extends : StepExtends) (leaves : StepOldless) (contract : StepOfContract) (no_olds : TextsAreOldless)
+    (no_tests : TextsAreTestless)
+    (s : System) (root : Root) (pure : RoutineName → Bool) (faultless : IsFaultless s root) (well : WellFormed s)
+    (tells : IsPurity s pure)
+    (r : Routine) (me : Reference) (named : routine_named s me.class r.name ≡ Some r) (is : pure (name_of r) ≡ true)
+    (O : ℕ → List Object)
     (bs : List Binding) (bound : AreBound s r bs) where
   abbrev Runs : Point → Type 0
   Runs e = Reaches s (Own me.handler) O me (start_of s O me r bs) e
@@ -109,7 +114,8 @@ module _ (extends : StepExtends) (leaves : StepOldless) (contract : StepOfContra
 
   abbrev So : Step → Type 0
   So (Goes q) = Here q
-  So (Does (Enters c o x us g) q) = ((t : EntityType) → g ≡ Some t → PureCalls s O me r bs t (IsThisCall o x us) q) × IsBound q
+  So (Does (Enters c o x us g) q) =
+      ((t : EntityType) → g ≡ Some t → PureCalls s O me r bs t (IsThisCall o x us) q) × IsBound q
   So (Does Tests q) = Here q
   So (Does Starts q) = Here q
   So (Does Exits q) = HasRun s O me r bs q × IsBound q
@@ -124,17 +130,20 @@ module _ (extends : StepExtends) (leaves : StepOldless) (contract : StepOfContra
   has_bound : (q : Point) → Known q.environment → IsBound q
   has_bound q (more, e) =
       ap (take (length r.text.formals)) e
-      ∙ subst (λ (n : ℕ). take n (bs ++ more) ≡ bs) (bound_length s r.text.formals 0 r.text.formals bound.0 bs bound.1) (take_these bs more)
+      ∙ subst (λ (n : ℕ). take n (bs ++ more) ≡ bs) (bound_length s r.text.formals 0 r.text.formals bound.0 bs bound.1)
+      (take_these bs more)
 
   first_names : Known bs × Deep (start_of s O me r bs).tasks
   first_names = (([], sym (append-nil bs)), (tt, (tt, tt)))
 
   reached_names : (e : Point) → Runs e →
       Known e.environment × Deep e.tasks
-  reached_names e v = reaches_firm contract s me bs (bound_formals s r bs bound) (Own me.handler) O (start_of s O me r bs) e first_names v
+  reached_names e v = reaches_firm contract s me bs (bound_formals s r bs bound) (Own me.handler) O
+      (start_of s O me r bs) e first_names v
 
   bound_during : (p : Point) → Inside p → IsBound p
-  bound_during p a = ap (λ (p : Point). take (length r.text.formals) p.environment) a.stands ∙ has_bound a.at (reached_names a.at a.reaches).0
+  bound_during p a = ap (λ (p : Point). take (length r.text.formals) p.environment) a.stands
+      ∙ has_bound a.at (reached_names a.at a.reaches).0
 
   here_bound : (p : Point) → Here p → IsBound p
   here_bound p (before ts e o i u j) = same_bound p i
@@ -153,8 +162,11 @@ module _ (extends : StepExtends) (leaves : StepOldless) (contract : StepOfContra
 
       by : (x : Step) → StepsInContract (body_tasks r) p x → So x
       by (Goes q) y = stays q y
-      by (Does (Enters c a x us g) q) y =
-          (λ t l. at.before y.tasks y.tasks_are y.of_contract (y.environment_is ∙ i) (y.result_is ∙ u), same_bound q (y.environment_is ∙ i))
+      by (Does (Enters c a x us g) q) y = (
+        λ t l. at.before y.tasks y.tasks_are y.of_contract (y.environment_is ∙ i) (y.result_is ∙ u),
+        same_bound q
+            (y.environment_is ∙ i),
+      )
       by (Does (Requests a x us g passes) q) y = tt
       by (Does Starts q) y = stays q y
       by (Does (Refuses k) q) y = same_bound q (y.environment_is ∙ i)
@@ -168,7 +180,15 @@ module _ (extends : StepExtends) (leaves : StepOldless) (contract : StepOfContra
       by (Does Exits q) y = absurd y
 
   abbrev begun : List Operand → List Object → List Binding → Option Operand → List Operand → Point
-  begun olds os cs u vs = record { objects = os; text = r.text; environment = cs; result = u; olds = olds; tasks = Declare r.locals ∷ Do r.body ∷ behind_body r; values = vs }
+  begun olds os cs u vs = record {
+    objects = os;
+    text = r.text;
+    environment = cs;
+    result = u;
+    olds = olds;
+    tasks = Declare r.locals ∷ Do r.body ∷ behind_body r;
+    values = vs;
+  }
 
   -- the body begins
   begins_so : (p : Point) → p.tasks ≡ body_tasks r → p.environment ≡ bs → p.result ≡ result_of r.text.result →
@@ -200,7 +220,8 @@ module _ (extends : StepExtends) (leaves : StepOldless) (contract : StepOfContra
       by own d = (
         λ t i. at.during own (subst (λ g. Done (Enters c o x us g) q) i d) (refl, refl, refl),
         ap (λ (p : Point). take (length r.text.formals) p.environment) d.stands
-            ∙ has_bound d.after (after_firm contract s me bs (bound_formals s r bs bound) (Own me.handler) O d.before (reached_names d.before d.reaches)
+            ∙ has_bound d.after (after_firm contract s me bs (bound_formals s r bs bound) (Own me.handler) O d.before
+            (reached_names d.before d.reaches)
             (Does (Enters c o x us g) d.after) d.step_is).0,
       )
   within_so p os (Does Starts q) y f = absurd y
@@ -220,7 +241,8 @@ module _ (extends : StepExtends) (leaves : StepOldless) (contract : StepOfContra
   ends_so p a e =
       let tasks : p.tasks ≡ behind_body r = ap (λ (p : Point). p.tasks) a.stands ∙ ap (λ us. us ++ behind_body r) e in
       subst (λ ts. So (step_at s me ts p)) (sym tasks)
-      (behind a.reaches e (ap (λ (p : Point). p.result) a.stands) (tt, (no_tests s root faultless well me.class r.name r named).behind)
+      (behind a.reaches e (ap (λ (p : Point). p.result) a.stands)
+      (tt, (no_tests s root faultless well me.class r.name r named).behind)
       (ap (take (length r.text.formals)) (bound_during p a) ∙ takes_bound s r bs bound))
 
   -- ---- behind it
@@ -228,7 +250,8 @@ module _ (extends : StepExtends) (leaves : StepOldless) (contract : StepOfContra
   behind_so : (e : Point) → Runs e → e.tasks ≡ [] → (t : Task) (ts : List Task) (p : Point) → p.tasks ≡ t ∷ ts →
       p.result ≡ e.result → Each IsOfContract (t ∷ ts) → IsBound p →
       So (step s me p)
-  behind_so e v n t ts p i u o b = by (step s me p) (contract s me t ts [] p (i ∙ ap (λ us. t ∷ us) (sym (append-nil ts))) o.0 o.1)
+  behind_so e v n t ts p i u o b =
+      by (step s me p) (contract s me t ts [] p (i ∙ ap (λ us. t ∷ us) (sym (append-nil ts))) o.0 o.1)
     where
       left : (q : Point) (y : StaysInContract [] p q) → Each IsOfContract q.tasks
       left q y = subst (Each IsOfContract) (sym (y.tasks_are ∙ append-nil y.tasks)) y.of_contract
@@ -257,7 +280,8 @@ module _ (extends : StepExtends) (leaves : StepOldless) (contract : StepOfContra
   -- ---- any step
 
   step_so : (p : Point) → Here p → StandsSo s pure r me [] p → StepFits s pure r me (step s me p) → So (step s me p)
-  step_so p (before [] e o i u j) f fits = begins_so p e i u j (none_at_text s pure r me p r.text (Declare r.locals ∷ Do r.body ∷ behind_body r) f e)
+  step_so p (before [] e o i u j) f fits =
+      begins_so p e i u j (none_at_text s pure r me p r.text (Declare r.locals ∷ Do r.body ∷ behind_body r) f e)
   step_so p (before (t ∷ ts) e o i u j) f fits = before_so t ts p e o i u j
   step_so p (during a) f fits = by a.at.tasks refl
     where
@@ -268,7 +292,8 @@ module _ (extends : StepExtends) (leaves : StepOldless) (contract : StepOfContra
   step_so p (behind {e} v n u o b) f fits = by p.tasks refl
     where
       by : (ts : List Task) → p.tasks ≡ ts → So (step s me p)
-      by [] i = subst (λ ts. So (step_at s me ts p)) (sym i) (record { end = e; reaches = v; tasks_are = n; result_is = u }, b)
+      by [] i = subst (λ ts. So (step_at s me ts p)) (sym i)
+          (record { end = e; reaches = v; tasks_are = n; result_is = u }, b)
       by (t ∷ ts) i = behind_so e v n t ts p i u (subst (Each IsOfContract) i o) b
 
   -- ---- a turn
@@ -284,7 +309,8 @@ module _ (extends : StepExtends) (leaves : StepOldless) (contract : StepOfContra
         fits = step_fits s pure r me (is_run s root pure faultless well tells r me named) p f
             (still_there s pure tells r me (is_run s root pure faultless well tells r me named) [] objects there p h)
 
-        stays : StepStays (IsThereIfOwn me.handler objects) me (own_values me.handler objects me there) objects (step s me p)
+        stays : StepStays (IsThereIfOwn me.handler objects) me
+            (own_values me.handler objects me there) objects (step s me p)
         stays = step_stays (IsThereIfOwn me.handler objects) me (own_values me.handler objects me there) objects s p h
 
         by : (x : Step) →
@@ -316,8 +342,11 @@ module _ (extends : StepExtends) (leaves : StepOldless) (contract : StepOfContra
       by (t, i) = (t, i, f.0, calm, y.0 t i, record { objects_are = k; bound_are = y.1 })
   steps_so (Does Tests q) y f calm k = (there q y, record { objects_are = k; bound_are = here_bound q y })
   steps_so (Does Starts q) y f calm k = (there q y, record { objects_are = k; bound_are = here_bound q y })
-  steps_so (Does Exits q) y f calm k =
-      (y.0, result_there s pure tells me.class r.name r named is me.handler q.result f.0.result_fits, record { objects_are = k; bound_are = y.1 })
+  steps_so (Does Exits q) y f calm k = (
+    y.0,
+    result_there s pure tells me.class r.name r named is me.handler q.result f.0.result_fits,
+    record { objects_are = k; bound_are = y.1 },
+  )
   steps_so (Does (Refuses c) q) y f calm k = record { objects_are = k; bound_are = y }
   steps_so (Does (Fails why) q) y f calm k = tt
   steps_so (Does (Prints text) q) y f calm k = absurd calm
@@ -330,7 +359,9 @@ module _ (extends : StepExtends) (leaves : StepOldless) (contract : StepOfContra
   -- So does its next turn.
   pub functions_move : (p : Point) → PureAt s O me r bs p → p.objects ≡ O me.handler → IsBound p →
       StandsSo s pure r me [] p → ValuesDo (IsThereIfOwn me.handler p.objects) p →
-      IsLeftPure s pure p.text.class p.tasks → CalmStep s pure (moves s me p) → PureSteps s pure O me r bs (moves s me p)
+      IsLeftPure s pure p.text.class p.tasks → CalmStep s pure (moves s me p) →
+      PureSteps s pure O me r bs (moves s me p)
   functions_move p a j b f h l calm =
-      let z = within p.objects f.1.current (suc (size p.tasks)) p (here p a j b) f (record { values = h; there = λ o z. z }) in
+      let z = within p.objects f.1.current (suc (size p.tasks)) p (here p a j b) f
+      (record { values = h; there = λ o z. z }) in
       steps_so (moves s me p) z.0 z.1 calm (moves_keep s pure me (O me.handler) p j l)

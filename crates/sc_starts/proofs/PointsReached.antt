@@ -1,22 +1,19 @@
 -- What a turn makes of the topmost frame of a state that is reached, beside the evaluation by the definition.
-use Rattle.std.proofs.Common.{ℕ, ◌≡◌, Bool, true, false, List, [], ◌∷◌, ◌++◌, refl, sym, ap, subst, ◌∙◌, inl, inr}
-use Rattle.std.specs.Prelude.{if◌then◌else◌, nat_lt}
-use Rattle.std.specs.Option.{option_map_or}
+use Rattle.std.proofs.Common.{ℕ, ◌≡◌, Bool, true, List, [], ◌∷◌, ◌++◌, refl, sym, ap, subst, ◌∙◌, inl, inr}
 use Rattle.sc_tree.specs.Plain.{System}
-use Rattle.sc_class.specs.ClassNames.{Root, number_of}
+use Rattle.sc_class.specs.ClassNames.{Root}
 use Rattle.sc_class.specs.Faults.ClassRules.{IsFaultless}
 use Rattle.sc_proctype.specs.declared.entity_type.EntityType.{EntityType}
 use Rattle.sc_rules.specs.Names.{RoutineName, formals_known}
 use Rattle.sc_rules.specs.Purity.{IsPurity}
 use Rattle.sc_rules.specs.SystemRules.{WellFormed}
 use Rattle.sc_model.specs.Environments.{Binding}
-use Rattle.sc_model.specs.Handlers.{Frame, Stage, World, new_handler, point_of}
+use Rattle.sc_model.specs.Handlers.{Frame, Stage, World, point_of}
 use Rattle.sc_model.specs.Objects.{Object}
 use Rattle.sc_model.specs.Routines.{Routine}
-use Rattle.sc_model.specs.Runs.{IsReached, opening, root_request, run}
+use Rattle.sc_model.specs.Runs.{IsReached}
 use Rattle.sc_model.specs.Steps.{Point}
 use Rattle.sc_model.specs.Tasks.{Task, Required}
-use Rattle.sc_model.specs.Turns.{turn}
 use Rattle.sc_model.specs.Values.{Reference}
 use Rattle.sc_values.specs.Fitting.{FrameFits, WorldFits, coming_to}
 use Rattle.sc_values.specs.Points.{Each, PointFits}
@@ -25,12 +22,11 @@ use Rattle.sc_values.proofs.Frames.{store_fits, values_there}
 use Rattle.sc_halves.specs.Calm.{name_of}
 use Rattle.sc_halves.specs.Clauses.{HasStartedOrStands, StandsInClauses}
 use Rattle.sc_halves.specs.Entries.{HasStarted}
-use Rattle.sc_halves.proofs.Linking.{one_further, reached_fits}
+use Rattle.sc_halves.proofs.Linking.{reached_fits}
 use Rattle.sc_halves.proofs.Purely.{each_pure_is_calm}
 use Rattle.sc_halves.proofs.Unstarted.{each_stands}
 use Rattle.sc_settled.proofs.Modes.{RunsPure, StandsAs}
-use Rattle.sc_settled.proofs.Running.{turn_all}
-use Rattle.sc_settled.proofs.Stacks.{Good, Stands, empty_good}
+use Rattle.sc_settled.proofs.Stacks.{Stands}
 use Rattle.sc_settled.proofs.Reaching.{reached_good}
 use Rattle.sc_evaluation.proofs.Bodies.{texts_are_oldless}
 use Rattle.sc_evaluation.proofs.Contracts.{step_of_contract}
@@ -51,18 +47,23 @@ started_behind : (xs ys : List Task) → HasStarted (xs ++ ys) → HasStarted ys
 started_behind [] ys is = is
 started_behind (x ∷ xs) ys is = started_behind xs ys is.1
 
-pub not_started : (s : System) (M : ℕ → Type 0) (O : ℕ → List Object) (me : Reference) (r : Routine) (bs : List Binding) (p : Point) → ClausesAt s M O me r bs p →
+pub not_started : (s : System) (M : ℕ → Type 0) (O : ℕ → List Object) (me : Reference) (r : Routine) (bs : List Binding)
+    (p : Point) → ClausesAt s M O me r bs p →
     HasStarted p.tasks → ⊥
-not_started s M O me r bs p (at.between done ks e holds i) is = false_is_true (sym (subst (λ (p : Point). HasStarted p.tasks) i is).0)
+not_started s M O me r bs p (at.between done ks e holds i) is =
+    false_is_true (sym (subst (λ (p : Point). HasStarted p.tasks) i is).0)
 not_started s M O me r bs p (at.inside done ks k e holds none a) is =
-    false_is_true (sym (started_behind a.at.tasks (Required k ∷ behind_clause r ks) (subst (λ (p : Point). HasStarted p.tasks) a.stands is)).0)
+    false_is_true (sym (started_behind a.at.tasks (Required k ∷ behind_clause r ks)
+    (subst (λ (p : Point). HasStarted p.tasks) a.stands is)).0)
 
 -- ---- how routines stand in their runs
 
-module _ (s : System) (root : Root) (pure : RoutineName → Bool) (faultless : IsFaultless s root) (well : WellFormed s) (tells : IsPurity s pure) (most : ℕ) where
+module _ (s : System) (root : Root) (pure : RoutineName → Bool) (faultless : IsFaultless s root) (well : WellFormed s)
+    (tells : IsPurity s pure) (most : ℕ) where
   -- ---- the topmost frame
 
-  module _ (w : World) (reached : IsReached most s root w) (h : ℕ) (f : Frame) (below : List Frame) (g : GoesOn w h f below) where
+  module _ (w : World) (reached : IsReached most s root w) (h : ℕ) (f : Frame) (below : List Frame)
+      (g : GoesOn w h f below) where
     abbrev Here : Point
     Here = point_of f (w.handlers h).objects
 
@@ -88,7 +89,8 @@ module _ (s : System) (root : Root) (pure : RoutineName → Bool) (faultless : I
 
     -- it stands in its clauses
     in_clauses : (HasStarted f.tasks → ⊥) → InClauses [] Here
-    in_clauses not = by (subst (Each (HasStartedOrStands s pure)) g.stack_is (each_stands s root pure faultless well tells most w reached h g.is_there)).0
+    in_clauses not = by (subst (Each (HasStartedOrStands s pure)) g.stack_is
+        (each_stands s root pure faultless well tells most w reached h g.is_there)).0
       where
         by : HasStartedOrStands s pure f → InClauses [] Here
         by (inl is) = absurd (not is)
@@ -98,7 +100,8 @@ module _ (s : System) (root : Root) (pure : RoutineName → Bool) (faultless : I
 
     -- what is left of it calls what is pure
     left_pure : pure (name_of f.routine) ≡ true → RunsPure s pure f.text.class f.tasks
-    left_pure is = by (subst (Each (Stands s pure)) g.stack_is (reached_good s root pure faultless well tells most w reached h g.lives).stand).0
+    left_pure is = by (subst (Each (Stands s pure)) g.stack_is
+        (reached_good s root pure faultless well tells most w reached h g.lives).stand).0
       where
         by : StandsAs s pure f.routine f.text.class f.tasks → RunsPure s pure f.text.class f.tasks
         by (inl l) = l.1
@@ -106,18 +109,24 @@ module _ (s : System) (root : Root) (pure : RoutineName → Bool) (faultless : I
 
 pub clause_moves : ClauseMoves
 clause_moves s root pure faultless well tells most w reached h f below g M bs a =
-    clauses_move step_extends step_oldless step_of_contract texts_are_oldless texts_are_testless s root pure faultless well tells f.routine f.current
-    (frame s root pure faultless well tells most w reached h f below g).is_version (formals_known s f.routine.text.formals) M (objects_of w) bs
-    (point_of f (w.handlers h).objects) a (stands_so s root pure faultless well tells most w reached h f below g) (values_do s root pure faultless well tells most w reached h f below g)
+    clauses_move step_extends step_oldless step_of_contract texts_are_oldless texts_are_testless s root pure faultless
+    well tells f.routine f.current
+    (frame s root pure faultless well tells most w reached h f below g).is_version
+    (formals_known s f.routine.text.formals) M (objects_of w) bs
+    (point_of f (w.handlers h).objects) a (stands_so s root pure faultless well tells most w reached h f below g)
+    (values_do s root pure faultless well tells most w reached h f below g)
     (in_clauses s root pure faultless well tells most w reached h f below g
     (not_started s M (objects_of w) f.current f.routine bs (point_of f (w.handlers h).objects) a))
 
 pub pure_moves : PureMoves
 pure_moves s root pure faultless well tells most w reached h f below g is bound a =
-    functions_move step_extends step_oldless step_of_contract texts_are_oldless texts_are_testless s root pure faultless well tells f.routine f.current
+    functions_move step_extends step_oldless step_of_contract texts_are_oldless texts_are_testless s root pure faultless
+    well tells f.routine f.current
     (frame s root pure faultless well tells most w reached h f below g).is_version is (objects_of w) (bound_in f) bound
-    (point_of f (w.handlers h).objects) a (ap (objects_of w) (sym (frame s root pure faultless well tells most w reached h f below g).is_own)) refl
-    (stands_so s root pure faultless well tells most w reached h f below g) (values_do s root pure faultless well tells most w reached h f below g)
+    (point_of f (w.handlers h).objects) a
+    (ap (objects_of w) (sym (frame s root pure faultless well tells most w reached h f below g).is_own)) refl
+    (stands_so s root pure faultless well tells most w reached h f below g)
+    (values_do s root pure faultless well tells most w reached h f below g)
     (left_pure s root pure faultless well tells most w reached h f below g is)
     (each_pure_is_calm s root pure faultless well tells most w reached h g.is_there f below g.stack_is g.runs is)
 

@@ -16,7 +16,8 @@ use Rattle.sc_starts.proofs.PointsKinds.{IsWithin, step_is_within}
 
 -- ---- within a text
 
-module _ (extends : StepExtends) (leaves : StepOldless) (s : System) (M : ℕ → Type 0) (O : ℕ → List Object) (me : Reference) (start : Point) (ts : List Task) where
+module _ (extends : StepExtends) (leaves : StepOldless) (s : System) (M : ℕ → Type 0) (O : ℕ → List Object)
+    (me : Reference) (start : Point) (ts : List Task) where
   -- The step goes on in the text, or has done what is seen; the `old`s are these.
   abbrev pub Stepped : List Operand → Step → Type 0
   Stepped os (Goes q) = IsAt s M O me start ts q × (q.olds ≡ os)
@@ -35,24 +36,29 @@ module _ (extends : StepExtends) (leaves : StepOldless) (s : System) (M : ℕ �
       step s me before ≡ x → IsWithin x → Each IsOldless (point_after x).tasks →
       Stepped os (extended_step os ts x)
   extended_so os before r (Goes q) e w o = (record { at = q; reaches = goes r e; stands = refl; oldless = o }, refl)
-  extended_so os before r (Does Tests q) e w o = (record { at = q; reaches = tests r e; stands = refl; oldless = o }, refl)
+  extended_so os before r (Does Tests q) e w o =
+      (record { at = q; reaches = tests r e; stands = refl; oldless = o }, refl)
   extended_so os before r (Does (Fails why) q) e w o = tt
   extended_so os before r (Does Starts q) e w o = w
   extended_so os before r (Does (Refuses k) q) e w o = w
   extended_so os before r (Does Exits q) e w o = w
   extended_so os before r (Does (Prints text) q) e w o = (did os before r (Prints text) q e o, refl)
   extended_so os before r (Does Creates q) e w o = (did os before r Creates q e o, refl)
-  extended_so os before r (Does (CreatesHandler k x us t passes) q) e w o = (did os before r (CreatesHandler k x us t passes) q e o, refl)
+  extended_so os before r (Does (CreatesHandler k x us t passes) q) e w o =
+      (did os before r (CreatesHandler k x us t passes) q e o, refl)
   extended_so os before r (Does (Enters c a x us g) q) e w o = (did os before r (Enters c a x us g) q e o, refl)
-  extended_so os before r (Does (Requests a x us g passes) q) e w o = (did os before r (Requests a x us g passes) q e o, refl)
+  extended_so os before r (Does (Requests a x us g passes) q) e w o =
+      (did os before r (Requests a x us g passes) q e o, refl)
   extended_so os before r (Does Opens q) e w o = (did os before r Opens q e o, refl)
   extended_so os before r (Does Leaves q) e w o = (did os before r Leaves q e o, refl)
 
   pub step_within : (p : Point) (a : IsAt s M O me start ts p) (t : Task) (rest : List Task) → a.at.tasks ≡ t ∷ rest →
       Stepped p.olds (step s me p)
   step_within p a t rest e =
-      subst (Stepped p.olds) (sym (ap (step s me) a.stands ∙ extends s me p.olds ts a.at t rest e (subst (Each IsOldless) e a.oldless).0))
-      (extended_so p.olds a.at a.reaches (step s me a.at) refl (step_is_within extends s me a.at t rest e a.oldless) (leaves s me a.at a.oldless))
+      subst (Stepped p.olds) (sym
+      (ap (step s me) a.stands ∙ extends s me p.olds ts a.at t rest e (subst (Each IsOldless) e a.oldless).0))
+      (extended_so p.olds a.at a.reaches (step s me a.at) refl (step_is_within extends s me a.at t rest e a.oldless)
+      (leaves s me a.at a.oldless))
 
 -- ---- contracts
 
@@ -93,8 +99,18 @@ module _ (contract : StepOfContract) (s : System) (M : ℕ → Type 0) (O : ℕ 
   unchanged p _ o (enters {o = a} {q} {r} {c} {x} {us} {t} {v} before e answers) =
       let u = unchanged p q o before in
       let y = further p q r u (steps_on q u.of_contract (Does (Enters c a x us (Some t)) r) e (λ n. cc)) in
-      record { of_contract = y.of_contract; environment_is = y.environment_is; result_is = y.result_is; objects_are = y.objects_are }
+      record {
+        of_contract = y.of_contract;
+        environment_is = y.environment_is;
+        result_is = y.result_is;
+        objects_are = y.objects_are;
+      }
   unchanged p _ o (requests {o = a} {q} {r} {x} {us} {t} {passing} {v} before e answers) =
       let u = unchanged p q o before in
       let y = further p q r u (steps_on q u.of_contract (Does (Requests a x us (Some t) passing) r) e (λ n. cc)) in
-      record { of_contract = y.of_contract; environment_is = y.environment_is; result_is = y.result_is; objects_are = y.objects_are }
+      record {
+        of_contract = y.of_contract;
+        environment_is = y.environment_is;
+        result_is = y.result_is;
+        objects_are = y.objects_are;
+      }

@@ -18,7 +18,8 @@ use Rattle.sc_kept.specs.Laws.{NewIsIdle}
 use Rattle.sc_starts.specs.Following.{StackFollows, WorldFollows}
 use Rattle.sc_starts.specs.Turns.{OwnFollows, OthersFollow}
 
-module _ (own : OwnFollows) (others : OthersFollow) (new_is_idle : NewIsIdle) (s : System) (root : Root) (pure : RoutineName → Bool)
+module _ (own : OwnFollows) (others : OthersFollow) (new_is_idle : NewIsIdle) (s : System) (root : Root)
+    (pure : RoutineName → Bool)
     (faultless : IsFaultless s root) (well : WellFormed s) (tells : IsPurity s pure) (most : ℕ) where
   no_frames : (w : World) (h : ℕ) (stack : List Frame) → stack ≡ [] → StackFollows s pure w h None stack
   no_frames w h [] e = tt
@@ -28,16 +29,20 @@ module _ (own : OwnFollows) (others : OthersFollow) (new_is_idle : NewIsIdle) (s
   turned g w reached follows h here lives = by (same_or_not h g)
     where
       -- the handler of the turn: where there is none nothing changes
-      same : h ≡ g → (b : Bool) → nat_lt h w.count ≡ b → StackFollows s pure (turn most s g w) h None ((turn most s g w).handlers h).stack
-      same e true l = subst (λ (j : ℕ). ((turn most s j w).handlers h).failure ≡ None → StackFollows s pure (turn most s j w) h None ((turn most s j w).handlers h).stack) e
+      same : h ≡ g → (b : Bool) → nat_lt h w.count ≡ b →
+          StackFollows s pure (turn most s g w) h None ((turn most s g w).handlers h).stack
+      same e true l = subst (λ (j : ℕ). ((turn most s j w).handlers h).failure ≡ None →
+          StackFollows s pure (turn most s j w) h None ((turn most s j w).handlers h).stack) e
           (own s root pure faultless well tells most h w reached follows (ltb-true h w.count l)) lives
       same e false l =
           let still : turn most s g w ≡ w = ap (λ (j : ℕ). turn most s j w) (sym e)
           ∙ ap (λ (b : Bool). if b then turn_with most s h (w.handlers h).failure (w.handlers h).stack w else w) l in
-          subst (λ (x : World). h < x.count → (x.handlers h).failure ≡ None → StackFollows s pure x h None (x.handlers h).stack) (sym still)
+          subst (λ (x : World). h < x.count → (x.handlers h).failure ≡ None →
+          StackFollows s pure x h None (x.handlers h).stack) (sym still)
           (follows h) here lives
 
-      other : h ≢ g → (b : Bool) → nat_lt h w.count ≡ b → StackFollows s pure (turn most s g w) h None ((turn most s g w).handlers h).stack
+      other : h ≢ g → (b : Bool) → nat_lt h w.count ≡ b →
+          StackFollows s pure (turn most s g w) h None ((turn most s g w).handlers h).stack
       other n true l = others s root pure faultless well tells most g h w reached follows (ltb-true h w.count l) n lives
       other n false l = no_frames (turn most s g w) h ((turn most s g w).handlers h).stack
           (new_is_idle most s root w reached g h (ltb-false h w.count l) n)
@@ -46,9 +51,11 @@ module _ (own : OwnFollows) (others : OthersFollow) (new_is_idle : NewIsIdle) (s
       by (inl e) = same e (nat_lt h w.count) refl
       by (inr n) = other n (nat_lt h w.count) refl
 
-  along : (hs : List ℕ) (w : World) → IsReached most s root w → WorldFollows s pure w → WorldFollows s pure (run most s hs w)
+  along : (hs : List ℕ) (w : World) → IsReached most s root w → WorldFollows s pure w →
+      WorldFollows s pure (run most s hs w)
   along [] w reached follows = follows
-  along (h ∷ hs) w reached follows = along hs (turn most s h w) (one_further most s root h w reached) (turned h w reached follows)
+  along (h ∷ hs) w reached follows = along hs (turn most s h w) (one_further most s root h w reached)
+      (turned h w reached follows)
 
   opens : WorldFollows s pure (opening s root)
   opens h here lives = by (nat_lt h 1)
@@ -56,7 +63,8 @@ module _ (own : OwnFollows) (others : OthersFollow) (new_is_idle : NewIsIdle) (s
       first : List Request
       first = root_request (option_map_or (λ k. k) (number_of s root.class) 0) root.procedure ∷ []
 
-      by : (b : Bool) → StackFollows s pure (opening s root) h None (if b then record new_handler { queue = first } else new_handler).stack
+      by : (b : Bool) → StackFollows s pure (opening s root) h None
+          (if b then record new_handler { queue = first } else new_handler).stack
       by true = tt
       by false = tt
 

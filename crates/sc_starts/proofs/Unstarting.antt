@@ -1,5 +1,5 @@
 -- A routine that has started doesn't start again.
-use Rattle.std.proofs.Common.{ℕ, ◌≡◌, true, false, List, [], ◌∷◌, subst}
+use Rattle.std.proofs.Common.{ℕ, ◌≡◌, List, [], ◌∷◌, subst}
 use Rattle.sc_tree.specs.Plain.{System}
 use Rattle.sc_model.specs.Values.{Reference}
 use Rattle.sc_model.specs.Tasks.{Task, Do, In, Declare, Forget, Eval, ApplyUnary, EvalRight, ApplyBinary, Conclude, Bind, CallUnqualified, CallQualified, AssignTo, Print, Choose, Repeat, EndLoop, Checked, Require, Required, KeepOld, Ensured, CreateBy, Open, Leave}
@@ -47,6 +47,8 @@ started_left k (Leave depth ∷ ts) h = (tt, started_left k ts h.1)
 -- Where no clause of its precondition is left, its next turn doesn't start it.
 pub starts_once : (s : System) (me : Reference) (p q : Point) → HasStarted p.tasks → moves s me p ≡ Does Starts q → ⊥
 starts_once s me p q h e =
-    (subst (SteppedSo s me (λ k. Any) (λ k. Any) (Unit {0}) ⊥ (Unit {0}) (λ ts. ⊥) (λ objects. Unit {0}) (λ k x f d v objects a i j o. tt)) e
-    (moves_so s me (λ k. Any) (λ k. Any) (Unit {0}) ⊥ (Unit {0}) (λ ts. ⊥) (λ objects. Unit {0}) (λ k x f d v objects a i j o. tt) p tt
+    (subst (SteppedSo s me (λ k. Any) (λ k. Any) (Unit {0}) ⊥ (Unit {0}) (λ ts. ⊥) (λ objects. Unit {0})
+    (λ k x f d v objects a i j o. tt)) e
+    (moves_so s me (λ k. Any) (λ k. Any) (Unit {0}) ⊥ (Unit {0}) (λ ts. ⊥) (λ objects. Unit {0})
+    (λ k x f d v objects a i j o. tt) p tt
     (started_left p.text.class p.tasks h))).0
