@@ -158,8 +158,7 @@ module _ (s : System) (w : World) where
       start os = record (point_of f (O f.current.handler)) {
         text = f.routine.contract;
         olds = os;
-        tasks =
-            Eval 0 k.condition ∷ [];
+        tasks = Eval 0 k.condition ∷ [];
         values = [];
       }
 

@@ -2,12 +2,11 @@
 use Rattle.std.proofs.Common.{◌≡◌, ◌+◌, ℕ, Bool, true, false, List, [], ◌∷◌, refl, subst}
 use Rattle.sc_tree.specs.declared.expression.UnaryOperator.TheVariants as unary
 use Rattle.sc_tree.specs.declared.expression.BinaryOperator.{BinaryOperator}
-use Rattle.sc_tree.specs.declared.expression.BinaryOperator.TheVariants as binary
 use Rattle.sc_tree.specs.Plain as tree
 use Rattle.sc_tree.specs.Plain.{Clause, Expr, Exprs, RoutineDeclaration, System, expr_then, no_exprs}
 use Rattle.sc_class.specs.Tables.Features.{DeclaredFeature}
 use Rattle.sc_rules.specs.Names.{Entities, RoutineContext, RoutineName, context_of, formals_known}
-use Rattle.sc_rules.specs.Positions.{is_condition, operand_position, shares_names}
+use Rattle.sc_rules.specs.Positions.{is_condition, shares_names}
 use Rattle.sc_rules.specs.Purity.{IsPurity}
 use Rattle.sc_rules.specs.Sites.{expression, itself}
 use Rattle.sc_rules.specs.SystemLaws as laws

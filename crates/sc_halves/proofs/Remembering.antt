@@ -2,13 +2,12 @@
 use Rattle.std.proofs.Common.{ℕ, ◌≡◌, ◌⊎◌, ◌<◌, ◌==◌, Bool, true, false, List, [], ◌∷◌, Option, Some, None, Contains, refl, sym, ap, subst, ◌∙◌, inl, inr, arith}
 use Rattle.std.proofs.lemmas.Bool.{eqb-true, ltb-true}
 use Rattle.std.specs.Prelude.{if◌then◌else◌, nat_lt}
-use Rattle.std.specs.List.{list_any}
 use Rattle.std.specs.Option.{option_map_or}
 use Rattle.sc_tree.specs.Plain.{System}
 use Rattle.sc_class.specs.ClassNames.{Root, number_of}
 use Rattle.sc_class.specs.Faults.ClassRules.{IsFaultless}
 use Rattle.sc_rules.specs.SystemRules.{WellFormed}
-use Rattle.sc_waitcond.specs.Conditions.{lies_on_any, kind_where, clause_kind, verdict_of_false}
+use Rattle.sc_waitcond.specs.Conditions.{clause_kind, verdict_of_false}
 use Rattle.sc_waitcond.specs.declared.condition.Verdict.TheVariants as verdict
 use Rattle.sc_waitcond.specs.declared.mark.Marked.{Marked}
 use Rattle.sc_model.specs.Environments.{separate_formals}

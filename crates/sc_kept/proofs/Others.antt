@@ -110,8 +110,7 @@ module _ (g k : ℕ) (ne : k ≢ g) where
   still w = record {
     rests = rests_same (w.handlers k) (w.handlers k) refl;
     answer = refl;
-    count =
-        omega arith;
+    count = omega arith;
     own = refl;
   }
 
@@ -146,8 +145,7 @@ module _ (g k : ℕ) (ne : k ≢ g) where
   reserve_same ks w = record {
     rests = rests_same (w.handlers k) (w.handlers k) refl;
     answer = refl;
-    count =
-        omega arith;
+    count = omega arith;
     own = refl;
   }
 

@@ -186,8 +186,9 @@ apart n (r ∷ rs) (y ∷ before) behind q numbered is =
 
 -- ---- those of a stack
 
-abbrev pub stacked : List machine.Frame → List machine.Request
-stacked st = flat_map (λ (f : machine.Frame). request_of f.origin) st
+-- the requests that began the frames of a stack
+abbrev pub begun_on : List machine.Frame → List machine.Request
+begun_on st = flat_map (λ (f : machine.Frame). request_of f.origin) st
 
 abbrev pub begun_in : List Frame → List Request
 begun_in gs = and_begun gs []
@@ -202,21 +203,21 @@ origin_requests (Some r) (Requested q) rs qs is rest = (is, rest)
 
 blocks_requests : (C : ℕ → List ℕ → Type 0) (kss : List (List ℕ)) (f : machine.Frame) (N : List ℕ → Type 0)
     (st : List machine.Frame)
-    (below : (gs : List Frame) → IsStack st gs → AreRequests (begun_in gs) (stacked st)) (gs : List Frame)
-    → AreBlocks C kss (IsRoutine f N (IsStack st)) gs → AreRequests (begun_in gs) (request_of f.origin ++ stacked st)
+    (below : (gs : List Frame) → IsStack st gs → AreRequests (begun_in gs) (begun_on st)) (gs : List Frame)
+    → AreBlocks C kss (IsRoutine f N (IsStack st)) gs → AreRequests (begun_in gs) (request_of f.origin ++ begun_on st)
 blocks_requests C [] f N st below [] is = absurd is
-blocks_requests C [] f N st below (g ∷ gs) is = origin_requests g.origin f.origin (begun_in gs) (stacked st) is.0
+blocks_requests C [] f N st below (g ∷ gs) is = origin_requests g.origin f.origin (begun_in gs) (begun_on st) is.0
     (below gs is.2)
 blocks_requests C (ks ∷ kss) f N st below [] is = absurd is
 blocks_requests C (ks ∷ kss) f N st below (g ∷ gs) is =
-    subst (λ o. AreRequests (and_this o (begun_in gs)) (request_of f.origin ++ stacked st)) (sym is.0)
+    subst (λ o. AreRequests (and_this o (begun_in gs)) (request_of f.origin ++ begun_on st)) (sym is.0)
     (blocks_requests (λ i. C (suc i)) kss f N st below gs is.3)
 
 staged_requests : (x : machine.Stage) (at : Place) (C : ℕ → List ℕ → Type 0) (f : machine.Frame) (N : List ℕ → Type 0)
     (st : List machine.Frame)
-    (below : (gs : List Frame) → IsStack st gs → AreRequests (begun_in gs) (stacked st)) (gs : List Frame)
+    (below : (gs : List Frame) → IsStack st gs → AreRequests (begun_in gs) (begun_on st)) (gs : List Frame)
     → IsStaged x at (AreBlocks C f.blocks (IsRoutine f N (IsStack st))) gs →
-    AreRequests (begun_in gs) (request_of f.origin ++ stacked st)
+    AreRequests (begun_in gs) (request_of f.origin ++ begun_on st)
 staged_requests Runs at C f N st below gs is = blocks_requests C f.blocks f N st below gs is.1
 staged_requests Reserves at C f N st below gs is = blocks_requests C f.blocks f N st below gs is.1
 staged_requests ReservesBlock at C f N st below gs is = blocks_requests C f.blocks f N st below gs is.1
@@ -224,10 +225,10 @@ staged_requests (InCall gives) at C f N st below gs is = blocks_requests C f.blo
 staged_requests (Awaits k gives false) at C f N st below gs is = blocks_requests C f.blocks f N st below gs is.1
 staged_requests (Awaits k gives true) at C f N st below [] is = absurd is.1
 staged_requests (Awaits k gives true) at C f N st below (g ∷ gs) is =
-    subst (λ o. AreRequests (and_this o (begun_in gs)) (request_of f.origin ++ stacked st)) (sym is.1.0)
+    subst (λ o. AreRequests (and_this o (begun_in gs)) (request_of f.origin ++ begun_on st)) (sym is.1.0)
     (blocks_requests C f.blocks f N st below gs is.1.3)
 
-stack_requests : (st : List machine.Frame) (gs : List Frame) → IsStack st gs → AreRequests (begun_in gs) (stacked st)
+stack_requests : (st : List machine.Frame) (gs : List Frame) → IsStack st gs → AreRequests (begun_in gs) (begun_on st)
 stack_requests [] [] is = tt
 stack_requests [] (g ∷ gs) is = absurd is
 stack_requests (f ∷ st) gs is = staged_requests f.stage (place_of f st) (NamesOf f.stage f) f (NeedsOf f.stage f) st
@@ -252,7 +253,7 @@ callback_requests (Some r) (Some q) is = (is, tt)
 
 pub standing_is : (g : Handler) (x : machine.Handler) → IsHandler g x → AreRequests (standing g) (requests_at x)
 standing_is g x is = both (g.requests ++ this_if g.callback) (begun_in g.stack) (x.queue ++ to_list x.callback)
-    (stacked x.stack)
+    (begun_on x.stack)
     (both g.requests (this_if g.callback) x.queue (to_list x.callback) is.requests
     (callback_requests g.callback x.callback is.callback))
     (stack_requests x.stack g.stack is.stack)

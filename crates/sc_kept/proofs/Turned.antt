@@ -366,8 +366,7 @@ module _ (most : ℕ) (s : System) (w : World) (g k : ℕ) (within : k ≢ w.cou
         stack_is = at;
         stage_is = stage;
         origin_is = i;
-        does =
-            does ∙ ap (λ b. Does b p) e;
+        does = does ∙ ap (λ b. Does b p) e;
       })))
 
   comes : {u : World} (Q : Type 0) → Comes g k ne (Because s w g) w u → Turned g k ne (Because s w g) Q w u
@@ -465,8 +464,7 @@ module _ (most : ℕ) (s : System) (w : World) (g k : ℕ) (within : k ≢ w.cou
   answer_done v (ended waited poster (by_exit x) e) =
       laws.AnswerComes.exits (record {
         may_end = runs x.stack_is x.stage_is x.origin_is;
-        is_waited =
-            waited;
+        is_waited = waited;
         poster_is = poster;
       }) x e
   answer_done v (ended waited poster (by_refusal x) e) =

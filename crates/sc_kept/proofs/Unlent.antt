@@ -18,7 +18,7 @@ use Rattle.sc_laws.proofs.Replies.{top_or_below}
 use Rattle.sc_laws.proofs.links.Reached.{reached_stands}
 use Rattle.sc_values.specs.Fitting.{MayEnd, runs, next, called_back}
 use Rattle.sc_kept.specs.Laws.{TopAwaits, IsUnlent, NoCallback, EndsTheOne, StandsOnce}
-use Rattle.sc_kept.proofs.Standing.{PairAt, pair_one, pair_is, pair_same, pair_before, pair_behind, pair_of, apart, begun_in, stacked, this_if, standing, callback_requests, both, standing_is, standing_one, standing_numbered, blocks_begin}
+use Rattle.sc_kept.proofs.Standing.{PairAt, pair_one, pair_is, pair_same, pair_before, pair_behind, pair_of, apart, begun_in, begun_on, this_if, standing, callback_requests, both, standing_is, standing_one, standing_numbered, blocks_begin}
 use Rattle.sc_kept.proofs.Tops.{top_awaits, no_parts, there_callback, lives_there, replies_same, callback_none}
 
 -- ---- in the world of rights
@@ -200,7 +200,7 @@ module _ (t : World) (m : machine.World) (law : IsLawful t) (stands : Stands t m
       → PairAt (standing (t.handlers g)) (requests_at (m.handlers g)) a q
   in_queue g a q p = pair_before ((t.handlers g).requests ++ this_if (t.handlers g).callback)
       (begun_in (t.handlers g).stack)
-      ((m.handlers g).queue ++ to_list (m.handlers g).callback) (stacked (m.handlers g).stack) a q
+      ((m.handlers g).queue ++ to_list (m.handlers g).callback) (begun_on (m.handlers g).stack) a q
       (pair_before (t.handlers g).requests (this_if (t.handlers g).callback) (m.handlers g).queue
       (to_list (m.handlers g).callback) a q p)
 
@@ -209,16 +209,16 @@ module _ (t : World) (m : machine.World) (law : IsLawful t) (stands : Stands t m
       → PairAt (standing (t.handlers g)) (requests_at (m.handlers g)) a q
   as_callback g a q p = pair_before ((t.handlers g).requests ++ this_if (t.handlers g).callback)
       (begun_in (t.handlers g).stack)
-      ((m.handlers g).queue ++ to_list (m.handlers g).callback) (stacked (m.handlers g).stack) a q
+      ((m.handlers g).queue ++ to_list (m.handlers g).callback) (begun_on (m.handlers g).stack) a q
       (pair_behind (t.handlers g).requests (this_if (t.handlers g).callback) (m.handlers g).queue
       (to_list (m.handlers g).callback) a q (stands.handlers g).requests p)
 
   on_stack : (g : ℕ) (a : Request) (q : machine.Request) → PairAt (begun_in (t.handlers g).stack)
-      (stacked (m.handlers g).stack) a q
+      (begun_on (m.handlers g).stack) a q
       → PairAt (standing (t.handlers g)) (requests_at (m.handlers g)) a q
   on_stack g a q p = pair_behind ((t.handlers g).requests ++ this_if (t.handlers g).callback)
       (begun_in (t.handlers g).stack)
-      ((m.handlers g).queue ++ to_list (m.handlers g).callback) (stacked (m.handlers g).stack) a q
+      ((m.handlers g).queue ++ to_list (m.handlers g).callback) (begun_on (m.handlers g).stack) a q
       (front g) p
     where
       front : (g : ℕ) → AreRequests ((t.handlers g).requests ++ this_if (t.handlers g).callback)
@@ -234,11 +234,11 @@ module _ (t : World) (m : machine.World) (law : IsLawful t) (stands : Stands t m
       (t.handlers g).stack) stage (subst (λ s. IsStack s (t.handlers g).stack) at (stands.handlers g).stack) in
       let b = blocks_begin (NamesOf f.stage f) f.blocks f (NeedsOf f.stage f) (IsStack below) r
       (t.handlers g).stack begun st.0 (law.consistent.ordered g) st.1 in
-      let is : stacked (m.handlers g).stack ≡ r ∷ stacked below = ap stacked at
-      ∙ ap (λ o. request_of o ++ stacked below) begun in
+      let is : begun_on (m.handlers g).stack ≡ r ∷ begun_on below = ap begun_on at
+      ∙ ap (λ o. request_of o ++ begun_on below) begun in
       record {
         request = b.request;
-        pair = on_stack g b.request r (subst (λ rs. PairAt rs (stacked (m.handlers g).stack) b.request r) (sym b.is)
+        pair = on_stack g b.request r (subst (λ rs. PairAt rs (begun_on (m.handlers g).stack) b.request r) (sym b.is)
             (subst (λ qs. PairAt (b.request ∷ b.others) qs b.request r) (sym is) (inl (refl, refl))));
         older = b.older;
         passes = λ k lo hi a. not_some a.for (sym st.0 ∙ a.waits);
@@ -290,8 +290,7 @@ module _ (t : World) (m : machine.World) (law : IsLawful t) (stands : Stands t m
         stands = one;
         waited = is.waited ∙ waited;
         lives = still_lives g e.request one;
-        older =
-            e.older;
+        older = e.older;
         passes = e.passes;
       })
       (ap (λ y. (t.handlers y).failed) mine ∙ lives_there t m law stands h alive)

@@ -10,9 +10,6 @@ rest_of e = cc
 pub nothing_is_list : {A B : Type 0} {x : A} {xs : List A} → [] ≡ x ∷ xs → B
 nothing_is_list e = cc
 
-pub none_is_some : {A B : Type 0} {x : A} → None ≡ Some x → B
-none_is_some e = cc
-
 pub false_is_true : {B : Type 0} → false ≡ true → B
 false_is_true e = cc
 

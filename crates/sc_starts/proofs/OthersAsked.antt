@@ -33,6 +33,7 @@ use Rattle.sc_halves.proofs.Linking.{one_further}
 use Rattle.sc_evaluation.specs.Evaluating.{Answers}
 use Rattle.sc_evaluation.specs.Laws.{AnswersLocally, EndsTrueLocally, ReachesLocally}
 use Rattle.sc_kept.specs.Laws.{AnswerComes, AnswersCome, BeyondIsUnused, CallbackComes, CallbacksMeetWaiters, CalledBackWaits, EndsTheOne, IsUnlent, MayAnswer, OthersStay, OwnQueueMoves, OwnQueueShrinks, QueueComes, RightsStay, Stays, StandsOnce, TopAwaits}
+use Rattle.sc_kept.proofs.Standing.{begun_on}
 use Rattle.sc_starts.specs.Following.{FollowsPure, FrameFollows, IsCalledPure, IsPending, IsQuiet, Own, PureAt, RequestStands, StackFollows, WorldFollows, bound_in, clause_request, objects_of}
 use Rattle.sc_starts.specs.Following as following
 use Rattle.sc_starts.specs.Points.{EntryFollows, PureAnswers, PureMoves}
@@ -40,7 +41,7 @@ use Rattle.sc_starts.proofs.OthersQuiet.{StaysQuiet, one_holder, posts_to_there,
 use Rattle.sc_starts.proofs.OthersRun.{Comes, On, fails_comes, on, over, settles_comes}
 use Rattle.sc_starts.proofs.OthersStack.{OnStack, Parts, not_empty, on_stack, parts, top_is_pure}
 use Rattle.sc_starts.proofs.OthersTake.{IsTypedAt, takes_comes, typed_at}
-use Rattle.sc_starts.proofs.OthersWorlds.{as_callback, began_on, begun_on, in_queue, put_other, put_own}
+use Rattle.sc_starts.proofs.OthersWorlds.{as_callback, began_on, in_queue, put_other, put_own}
 use Rattle.sc_starts.proofs.Lists.{false_is_true, first_of, rest_of, nothing_is_list}
 use Rattle.sc_starts.proofs.OwnMore.{stands_at}
 

@@ -17,11 +17,12 @@ use Rattle.sc_model.specs.Runs.{IsReached}
 use Rattle.sc_model.specs.Takes.{takes_next}
 use Rattle.sc_model.specs.Turns.{turn, turn_with, goes_on, waits}
 use Rattle.sc_laws.specs.Headline.{has_reply}
-use Rattle.sc_kept.specs.Laws.{BeyondIsUnused, CalledBackWaits, IsAway, OthersStay, QueueComes, RightsStay, Stays, TopAwaits}
+use Rattle.sc_laws.proofs.Rights.{not_some}
+use Rattle.sc_kept.specs.Laws.{BeyondIsUnused, CalledBackWaits, IsAway, OthersStay, QueueComes, RightsStay, Stays, TopAwaits, IsUnused}
 use Rattle.sc_kept.proofs.Others.{ended_rests}
 use Rattle.sc_starts.specs.Following.{IsQuiet}
 use Rattle.sc_starts.specs.Following as following
-use Rattle.sc_starts.proofs.Lists.{nothing_is_list, none_is_some, false_is_true, first_of}
+use Rattle.sc_starts.proofs.Lists.{nothing_is_list, false_is_true, first_of}
 
 pub one_holder : {x y : ℕ} {o : Option ℕ} → o ≡ Some x → o ≡ Some y → x ≡ y
 one_holder e f = cc
@@ -52,29 +53,23 @@ pub record StaysQuiet (w v : World) (h k : ℕ) : Type 0 where
 
 module _ (calls_back : CalledBackWaits) (others_stay : OthersStay) (rights_stay : RightsStay) (beyond : BeyondIsUnused)
     (most : ℕ) (s : System) (root : Root) (w : World) (reached : IsReached most s root w) where
-  -- whoever has failed is there
-  pub failed_is_there : (k : ℕ) → is_some (w.handlers k).failure ≡ true → k < w.count
-  failed_is_there k e = by (nat_lt k w.count) refl
+  -- A handler that has something is there.
+  used_is_there : (k : ℕ) → (IsUnused w k → ⊥) → k < w.count
+  used_is_there k used = by (nat_lt k w.count) refl
     where
       by : (b : Bool) → nat_lt k w.count ≡ b → k < w.count
       by true l = ltb-true k w.count l
-      by false l = false_is_true
-          (sym (ap is_some (beyond most s root w reached k (ltb-false k w.count l)).failure_is) ∙ e)
+      by false l = absurd (used (beyond most s root w reached k (ltb-false k w.count l)))
 
-  -- so is whoever is held
+  -- So is one that has failed, and one over which somebody has a right.
+  pub failed_is_there : (k : ℕ) → is_some (w.handlers k).failure ≡ true → k < w.count
+  failed_is_there k e = used_is_there k (λ u. false_is_true (sym (ap is_some u.failure_is) ∙ e))
+
   pub posts_to_there : (k h : ℕ) → w.rights.queue k ≡ Some h → k < w.count
-  posts_to_there k h e = by (nat_lt k w.count) refl
-    where
-      by : (b : Bool) → nat_lt k w.count ≡ b → k < w.count
-      by true l = ltb-true k w.count l
-      by false l = none_is_some (sym (beyond most s root w reached k (ltb-false k w.count l)).queue_right ∙ e)
+  posts_to_there k h e = used_is_there k (λ u. not_some h (sym u.queue_right ∙ e))
 
   pub pushes_there : (k h : ℕ) → w.rights.top k ≡ Some h → k < w.count
-  pushes_there k h e = by (nat_lt k w.count) refl
-    where
-      by : (b : Bool) → nat_lt k w.count ≡ b → k < w.count
-      by true l = ltb-true k w.count l
-      by false l = none_is_some (sym (beyond most s root w reached k (ltb-false k w.count l)).top_right ∙ e)
+  pushes_there k h e = used_is_there k (λ u. not_some h (sym u.top_right ∙ e))
 
   pub quiet_is_there : (h k : ℕ) → IsQuiet w h k → k < w.count
   quiet_is_there h k (following.failed e) = failed_is_there k e

@@ -27,10 +27,11 @@ use Rattle.sc_model.specs.Values.{Reference, Value, Operand, values_of}
 use Rattle.sc_halves.specs.Calm.{name_of}
 use Rattle.sc_halves.proofs.Guarding.{pure_waits_not}
 use Rattle.sc_evaluation.specs.Evaluating.{Answers}
+use Rattle.sc_kept.proofs.Standing.{begun_on}
 use Rattle.sc_starts.specs.Following.{Own, bound_in, clause_request, objects_of}
 use Rattle.sc_starts.specs.Points.{HasRun, KeepsActuals, PureActs, PureAnswers, PureSteps}
 use Rattle.sc_starts.proofs.OthersStack.{Ended, IsOf, OnStack, Parts, above, called_leaves, handed_stands, named_is_pure, parts, requested_ends, top_replaced}
-use Rattle.sc_starts.proofs.OthersWorlds.{Alike, began_on, begun_on, fails_told, on_stack_of, put_other, put_own, release_alike}
+use Rattle.sc_starts.proofs.OthersWorlds.{Alike, began_on, fails_told, on_stack_of, put_other, put_own, release_alike}
 use Rattle.sc_starts.proofs.OwnKept.{IsAlike}
 
 -- ---- what comes of it

@@ -3,7 +3,7 @@ use Rattle.std.proofs.Common.{ℕ, ◌≡◌, ◌≢◌, ◌⊎◌, ◌==◌, Bo
 use Rattle.std.proofs.lemmas.Bool.{eq-eqb, eqb-true}
 use Rattle.std.proofs.lemmas.List.Elements.{Contains-append_left, Contains-append_right}
 use Rattle.std.specs.Prelude.{◌&&◌, ◌||◌, if◌then◌else◌, Contains}
-use Rattle.std.specs.List.{list_any, flat_map}
+use Rattle.std.specs.List.{list_any}
 use Rattle.sc_lockpass.specs.Rights.{is_among, is_handler}
 use Rattle.sc_waitcond.specs.Reservations.{ends_session}
 use Rattle.sc_waitcond.specs.declared.session.Release.{Release}
@@ -14,12 +14,9 @@ use Rattle.sc_model.specs.Failures.{fails_with, fallen, is_waited_by, request_of
 use Rattle.sc_model.specs.Handlers.{Request, Failed, Requested, Frame, Handler, World, put}
 use Rattle.sc_model.specs.Sessions.{release, session_ended}
 use Rattle.sc_laws.proofs.Machine.{contains_cases, contains_first, contains_none}
+use Rattle.sc_kept.proofs.Standing.{begun_on}
 
 -- ---- requests at a handler
-
--- the requests that began the frames of a stack
-abbrev pub begun_on : List Frame → List Request
-begun_on st = flat_map (λ (f : Frame). request_of f.origin) st
 
 pub in_queue : (x : Handler) (q : Request) → Contains x.queue q → Contains (requests_at x) q
 in_queue x q i = Contains-append_left (x.queue ++ to_list x.callback) (begun_on x.stack) q

@@ -14,9 +14,10 @@ use Rattle.sc_model.specs.Steps.{Act, Point}
 use Rattle.sc_model.specs.Tasks.{Task, Required}
 use Rattle.sc_model.specs.Values.{Reference, Operand}
 use Rattle.sc_evaluation.specs.Laws.{ReachesMore, EndsTrueMore}
+use Rattle.sc_kept.proofs.Standing.{begun_on}
 use Rattle.sc_starts.specs.Following.{behind_clause, clause_of, Hold, HasDone, ClauseDone, clause_request, RequestStands}
 use Rattle.sc_starts.specs.Following as following
-use Rattle.sc_starts.proofs.OthersWorlds.{as_callback, began_on, begun_on, in_queue, on_stack_of}
+use Rattle.sc_starts.proofs.OthersWorlds.{as_callback, began_on, in_queue, on_stack_of}
 
 -- ---- more may be asked
 
