@@ -29,7 +29,7 @@ abbrev pub AnswersLocally : Type 1
 AnswersLocally = (s : System) (M : ℕ → Type 0) (O N : ℕ → List Object) → ((k : ℕ) → M k → O k ≡ N k) →
     (r : Reference) (x : List ℕ) (us : List Operand) (v : Value) → Answers s M O r x us v → Answers s M N r x us v
 
--- So does where a text comes to.
+-- So does the point that a text comes to.
 abbrev pub ReachesLocally : Type 1
 ReachesLocally = (s : System) (M : ℕ → Type 0) (O N : ℕ → List Object) → ((k : ℕ) → M k → O k ≡ N k) →
     (me : Reference) (p q : Point) → Reaches s M O me p q → Reaches s M N me p q
@@ -44,7 +44,7 @@ abbrev pub AnswersMore : Type 1
 AnswersMore = (s : System) (M N : ℕ → Type 0) (O : ℕ → List Object) → ((k : ℕ) → M k → N k) →
     (r : Reference) (x : List ℕ) (us : List Operand) (v : Value) → Answers s M O r x us v → Answers s N O r x us v
 
--- A text comes to the same.
+-- A text comes to the same point.
 abbrev pub ReachesMore : Type 1
 ReachesMore = (s : System) (M N : ℕ → Type 0) (O : ℕ → List Object) → ((k : ℕ) → M k → N k) →
     (me : Reference) (p q : Point) → Reaches s M O me p q → Reaches s N O me p q

@@ -20,7 +20,7 @@ HaveNoOld es = length (olds_of_each es) ≡ 0
 abbrev pub ClauseHasNoOld : Clause → Type 0
 ClauseHasNoOld k = HasNoOld k.condition
 
--- nor in the value that a separate block names
+-- nor in what the head of a separate block evaluates
 abbrev pub HeadHasNoOld : Head → Type 0
 HeadHasNoOld d = HasNoOld d.value
 

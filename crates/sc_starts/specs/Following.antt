@@ -54,7 +54,7 @@ behind_body r = Forget (length r.text.formals) ∷ In r.contract ∷ ensures 0 r
 abbrev pub body_tasks : Routine → List Task
 body_tasks r = In r.text ∷ Declare r.locals ∷ Do r.body ∷ behind_body r
 
--- before these clauses of its precondition: they, the `old`s and the body
+-- behind a clause of its precondition: the clauses that are left, the `old`s, the body
 abbrev pub behind_clause : Routine → List Clause → List Task
 behind_clause r ks = Require ks ∷ keeps_olds (olds_of_clauses r.ensure) ++ body_tasks r
 

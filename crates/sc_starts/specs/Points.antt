@@ -146,7 +146,7 @@ PureMoves = (s : System) (root : Root) (pure : RoutineName → Bool) → IsFault
     PureSteps s pure (objects_of w) f.current f.routine (bound_in f)
     (moves s f.current (point_of f (w.handlers h).objects))
 
--- It may be said less of the call.
+-- What is said of the call may be replaced by what follows from it.
 abbrev pub PureCallsMore : Type 1
 PureCallsMore = (s : System) (O : ℕ → List Object) (me : Reference) (r : Routine) (bs : List Binding) (p : Point)
     (t : EntityType) (For Such : Reference → List ℕ → List Operand → Type 0) →
