@@ -4,6 +4,7 @@ use Rattle.std.specs.List.{flat_map}
 use Rattle.sc_tree.specs.Plain.{System}
 use Rattle.sc_model.specs.declared.status.Status.{Status}
 use Rattle.sc_model.specs.Handlers.{World}
+use Rattle.sc_lockpass.specs.declared.version.Version.TheVariants.{Two}
 use Rattle.sc_code.specs.declared.program.Image.{Image}
 use Rattle.sc_runtime.specs.Worlds.{PlainWorld}
 use Rattle.sc_refinement.specs.Refining.{RoundsRunAsMachine, StandingWorldIsNear, WorldHasHeadline, WorldReportsAsMachine, WorldRunsAsMachine}
@@ -43,13 +44,17 @@ replayed law near tells text root program version lines report statuses loaded r
     }
 
 pub rounded : RoundsRunAsMachine → StandingWorldIsNear → WorldReportsAsMachine → RoundsAreTheMachines
-rounded law near tells text root program version limit left world report statuses loaded rounds none_refused leaves =
-    let found = law loaded.system root loaded.sound.faultless loaded.sound.well_formed program version limit left world loaded.is_program loaded.fits rounds none_refused in (
+rounded law near tells text root program limit report statuses loaded run =
+    let s = loaded.system in
+    let found = law s root loaded.sound.faultless loaded.sound.well_formed program Two limit run.world loaded.is_program loaded.fits run.ends in (
       found.0,
       record {
-        system = loaded.system;
-        read = loaded.read;
-        sound = loaded.sound;
-        told = reported near tells loaded.system program (machine_after loaded.system root version found.0) world report statuses found.1 leaves;
+        is_run = record {
+          system = s;
+          read = loaded.read;
+          sound = loaded.sound;
+          told = reported near tells s program (machine_after s root Two found.0) run.world report statuses found.1 run.leaves;
+        };
+        within = found.2;
       },
     )

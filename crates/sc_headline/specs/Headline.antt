@@ -5,18 +5,18 @@ use Rattle.sc_tree.specs.Plain.{System}
 use Rattle.sc_class.specs.ClassNames.{Root}
 use Rattle.sc_lockpass.specs.Versions.{most_handlers}
 use Rattle.sc_lockpass.specs.declared.version.Version.{Version}
+use Rattle.sc_lockpass.specs.declared.version.Version.TheVariants.{Two}
 use Rattle.sc_audit.specs.declared.line.RecordLine.{RecordLine}
 use Rattle.sc_model.specs.declared.status.Status.{Status}
 use Rattle.sc_model.specs.Handlers.{World}
 use Rattle.sc_model.specs.Reports as machine
 use Rattle.sc_model.specs.Runs.{IsReached, opening, run}
 use Rattle.sc_code.specs.declared.program.Image.{Image}
-use Rattle.sc_runtime.specs.Rounds.{Rounds}
 use Rattle.sc_runtime.specs.Turning.{Runs}
 use Rattle.sc_runtime.specs.Worlds.{PlainWorld, opened}
-use Rattle.sc_refinement.specs.Refining.{NoneRefused, HasHeadline}
+use Rattle.sc_refinement.specs.Refining.{HasHeadline, IsRunWithin}
 use Rattle.sc_refinement.specs.Standing.{StandsFor}
-use Rattle.sc_execution.specs.Execution.{IsLoaded, IsRead, IsReplay, IsSound, Leaves, line_turns}
+use Rattle.sc_execution.specs.Execution.{IsLoaded, IsRead, IsReplay, IsSound, IsWorldRun, line_turns}
 
 -- ---- worlds
 
@@ -63,11 +63,16 @@ ReplaysAreTheMachines =
     IsLoaded text root program → IsReplay program version lines report statuses →
     IsMachineRun text root version (flat_map line_turns lines) report statuses
 
--- What turns round and round leave is what the machine reports after the turns of some handlers, where memory was never
--- refused within the rounds.
+-- The same of turns where there may be 512 handlers. They are so many at most, and fewer only where no handler has a turn
+-- any more.
+pub record IsMachineRunWithin (text : List ℕ) (root : Root) (limit : ℕ) (handlers report : List ℕ) (statuses : List Status) :
+    Type 0 where
+  pub is_run : IsMachineRun text root Two handlers report statuses
+  pub within : IsRunWithin limit handlers (machine_after is_run.system root Two handlers)
+
+-- What turns round and round leave is what the machine reports after turns of some handlers.
 abbrev pub RoundsAreTheMachines : Type 0
 RoundsAreTheMachines =
-    (text : List ℕ) (root : Root) (program : Image) (version : Version) (limit left : ℕ) (world : PlainWorld) (report : List ℕ) (statuses : List Status) →
-    IsLoaded text root program → (rounds : Rounds limit (opened program version) left world) →
-    NoneRefused limit (opened program version) left world rounds → Leaves world report statuses →
-    (handlers : List ℕ) × IsMachineRun text root version handlers report statuses
+    (text : List ℕ) (root : Root) (program : Image) (limit : ℕ) (report : List ℕ) (statuses : List Status) →
+    IsLoaded text root program → IsWorldRun program limit report statuses →
+    (handlers : List ℕ) × IsMachineRunWithin text root limit handlers report statuses

@@ -25,7 +25,8 @@ pub fn replays_are_the_machines()
     world_reports_as_machine();
 }
 
-/// What a run leaves is what the machine on trees reports after some turns, where memory was never refused within it.
+/// What rounds leave is what the machine on trees reports after turns of some handlers, at most so many, and fewer only
+/// where no handler has a turn any more.
 pub fn rounds_are_the_machines()
     ensures { RoundsAreTheMachines }
 {

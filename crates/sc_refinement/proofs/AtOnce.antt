@@ -1,6 +1,7 @@
 -- Turns of a handler that are made at once are its turns, one after the other.
-use Rattle.std.proofs.Common.{◌≡◌, ◌+◌, ◌==◌, ◌&&◌, inl, inr, ℕ, zero, suc, Bool, true, false, List, [], ◌∷◌, ◌++◌, Option, Some, None, is_some, slice_get, slice_set, refl, sym, ap, subst, ◌∙◌, arith}
+use Rattle.std.proofs.Common.{◌≡◌, ◌<◌, ◌≤◌, ◌+◌, ◌==◌, ◌&&◌, ◌⊎◌, inl, inr, ℕ, zero, suc, Bool, true, false, List, [], ◌∷◌, ◌++◌, Option, Some, None, is_some, length, slice_get, slice_set, refl, sym, ap, subst, ◌∙◌, arith}
 use Rattle.std.proofs.lemmas.Bool.{eq-eqb}
+use Rattle.std.proofs.lemmas.List.{length-append}
 use Rattle.std.proofs.Math.Path.{fun_ext}
 use Rattle.std.specs.Prelude.{nat_lt, if◌then◌else◌}
 use Rattle.sc_lockpass.specs.Rights.{Rights, is_among}
@@ -10,12 +11,13 @@ use Rattle.sc_model.specs.declared.cause.Cause.{Cause}
 use Rattle.sc_model.specs.declared.cause.Cause.TheVariants as cause
 use Rattle.sc_region.specs.declared.job.Job.{Job}
 use Rattle.sc_region.specs.declared.job.Job.TheVariants as job
+use Rattle.sc_region.specs.declared.job.Outcome.{Outcome}
 use Rattle.sc_region.specs.declared.job.Request.{Request}
 use Rattle.sc_region.specs.declared.job.Want.{Want}
 use Rattle.sc_region.specs.declared.job.Want.TheVariants as want
 use Rattle.sc_region.specs.Stores.{PlainStore}
 use Rattle.sc_request.specs.Handlers.{Answer, Awaits, Handler, HasMade, Idle, Posted, Refused, Replied, Reserves, Runs, Stage, State, SupplierFailed, put}
-use Rattle.sc_request.specs.Logs.{Center, granted, pick_for, picked, settles}
+use Rattle.sc_request.specs.Logs.{Center, granted, next, pick_for, picked, settles}
 use Rattle.sc_request.specs.Picking.{job_answered, job_at, job_awaiting, job_idle, job_of, job_reserving, job_with}
 use Rattle.sc_request.specs.Sessions.{session_ended}
 use Rattle.sc_request.specs.Settling.{asked_in, begun, fits_turns, goes_on, made_at, settled, takes, takes_answer, takes_callback, takes_next}
@@ -23,13 +25,16 @@ use Rattle.sc_interp.specs.Turning.{unless_failed}
 use Rattle.sc_play.specs.Regions.{EndsIn, PlainRegion}
 use Rattle.sc_play.specs.Turns.{Becomes, FirstTurn, TurnOf, Turns, first, more}
 use Rattle.sc_play.proofs.Programs.{turns_keep}
-use Rattle.sc_runtime.specs.Rounds.{more as one_more, none, turns_at_once}
+use Rattle.sc_runtime.specs.Rounds.{IsRefusedNext, MakesAll, StopsNext, more as one_more, none, turns_at_once}
 use Rattle.sc_runtime.specs.Turning.{IsTurn, Makes, Runs as RunsBy, TurnsUnder}
 use Rattle.sc_runtime.specs.Worlds.{PlainWorld}
 use Rattle.sc_runtime.proofs.Freeing.{next_picks}
 use Rattle.sc_refinement.specs.Refining.{RoundsAreTurns}
+use Rattle.sc_refinement.specs.Standing.{IsNear}
 use Rattle.sc_refinement.proofs.Asked.{begun_count}
 use Rattle.sc_refinement.proofs.Contracts.{job_here}
+use Rattle.sc_refinement.proofs.Picking.{picks_job}
+use Rattle.sc_refinement.proofs.PuttingBack.{IsFurther, held_further, set_same}
 
 -- ---- where nothing is asked, the handler goes on
 
@@ -251,11 +256,6 @@ runs_join : (hs ks : List ℕ) (x y z : PlainWorld) → RunsBy hs x y → RunsBy
 runs_join [] ks x y z same runs = subst (λ (w : PlainWorld). RunsBy ks w z) same runs
 runs_join (h ∷ hs) ks x y z before runs = (before.0, before.1, runs_join hs ks before.0 y z before.2 runs)
 
-set_same : (rs : List PlainRegion) (h : ℕ) (x y : PlainRegion) → slice_get rs h ≡ Some x → slice_get (slice_set rs h y) h ≡ Some y
-set_same [] h x y e = cc
-set_same (r ∷ rs) zero x y e = refl
-set_same (r ∷ rs) (suc h) x y e = set_same rs h x y e
-
 set_again : (rs : List PlainRegion) (h : ℕ) (x y : PlainRegion) → slice_set (slice_set rs h x) h y ≡ slice_set rs h y
 set_again [] h x y = refl
 set_again (r ∷ rs) zero x y = refl
@@ -329,38 +329,117 @@ module _ (h : ℕ) (j : Job) (x : PlainWorld) (r : PlainRegion) (stands : slice_
         most = refl;
       }))
 
-  all_turns : (n : ℕ) (y : PlainStore) (w : Want) → Turns r.handler r.is_told j r.store n y w → (hs : List ℕ) × RunsBy hs x (after n y w)
-  all_turns _ _ _ (first {y} {w} t) = (h ∷ [], (after 1 y w, first_turn y w t, refl))
-  all_turns _ _ _ (more {n} {y} {z} {w} ts t) =
-      let before = all_turns n y want.Continue ts in
-      (before.0 ++ h ∷ [], join_runs before.0 h x (after n y want.Continue) (after (n + 1) z w) before.1 (further_turn n y z w ts t))
+  one_longer : (hs : List ℕ) (n : ℕ) → length hs ≡ n → length (hs ++ h ∷ []) ≡ n + 1
+  one_longer hs n e = let one : length (h ∷ []) ≡ 1 = refl in omega (arith, length-append hs (h ∷ []), e, one)
 
--- the handler makes its turns at once, and stands where the last one left it
-pub makes_runs : (limit h : ℕ) (j : Job) (turns : ℕ) (x y : PlainWorld) → pick_for h x.center ≡ Some j → (m : Makes limit h j turns x y) →
-    m.after.store ≡ m.settles.plays.last → (hs : List ℕ) × RunsBy hs x y
-makes_runs limit h j turns x y picks m there =
-    let o = m.settles.outcome in
-    let all = all_turns h j x m.before m.stands picks o.turns m.settles.plays.last o.want m.settles.plays.turns in
-    let region : m.after ≡ record m.before { store = m.settles.plays.last; is_told = false } =
-    m.settles.plays.same ∙ ap (λ (s : PlainStore). let z : PlainRegion = record m.before { store = s; is_told = false } in z) there in
-    let same : y ≡ after h j x m.before m.stands picks o.turns m.settles.plays.last o.want = λ i. record {
-      most = m.most i;
-      center = (m.settles.center ∙ ap (λ (n : ℕ). settles x.most h j n o.want (picked h j x.center)) (sym m.settles.count)) i;
-      regions = (m.regions ∙ ap (slice_set x.regions h) region) i;
-    } in
-    (all.0, subst (λ (z : PlainWorld). RunsBy all.0 x z) (sym same) all.1)
+  all_turns : (n : ℕ) (y : PlainStore) (w : Want) → Turns r.handler r.is_told j r.store n y w → (hs : List ℕ) × (length hs ≡ n) × RunsBy hs x (after n y w)
+  all_turns _ _ _ (first {y} {w} t) = (h ∷ [], refl, (after 1 y w, first_turn y w t, refl))
+  all_turns _ _ _ (more {n} {y} {z} {w} ts t) =
+      let before = all_turns n y want.Continue ts in (
+        before.0 ++ h ∷ [],
+        one_longer before.0 n before.1,
+        join_runs before.0 h x (after n y want.Continue) (after (n + 1) z w) before.2 (further_turn n y z w ts t),
+      )
+
+module _ (limit h : ℕ) (j : Job) (turns : ℕ) (x y : PlainWorld) (picks : pick_for h x.center ≡ Some j) (m : Makes limit h j turns x y) where
+  abbrev played : Outcome
+  played = m.settles.outcome
+
+  -- the region where its last turn left it
+  abbrev stopped : PlainRegion
+  stopped = record m.before { store = m.settles.plays.last; is_told = false }
+
+  -- the world then
+  abbrev there : PlainWorld
+  there = after h j x m.before m.stands picks played.turns m.settles.plays.last played.want
+
+  turns_there : (hs : List ℕ) × (length hs ≡ turns) × RunsBy hs x there
+  turns_there =
+      let all = all_turns h j x m.before m.stands picks played.turns m.settles.plays.last played.want m.settles.plays.turns in
+      (all.0, all.1 ∙ m.settles.count, all.2)
+
+  center_there : y.center ≡ there.center
+  center_there = m.settles.center ∙ ap (λ (n : ℕ). settles x.most h j n played.want (picked h j x.center)) (sym m.settles.count)
+
+  -- the handler makes its turns at once, and stands where the last one left it
+  makes_runs : m.after.store ≡ m.settles.plays.last → (hs : List ℕ) × (length hs ≡ turns) × RunsBy hs x y
+  makes_runs e =
+      let region : m.after ≡ stopped =
+      m.settles.plays.same ∙ ap (λ (s : PlainStore). let z : PlainRegion = record m.before { store = s; is_told = false } in z) e in
+      let same : y ≡ there = λ i. record {
+        most = m.most i;
+        center = center_there i;
+        regions = (m.regions ∙ ap (slice_set x.regions h) region) i;
+      } in
+      (turns_there.0, turns_there.1, subst (λ (z : PlainWorld). RunsBy turns_there.0 x z) (sym same) turns_there.2)
+
+  -- or is ahead of it by silent operations of one that was refused memory
+  near_there : (n : ℕ) (w : Want) → EndsIn n limit m.settles.plays.last w m.after.store → IsNear stopped m.after
+  near_there n w (inl e) = inl (m.settles.plays.same ∙ ap (λ (s : PlainStore). let z : PlainRegion = record m.before { store = s; is_told = false } in z) e)
+  near_there n w (inr (few, nothing, ahead)) = inr (job.Go, record { store = ahead; same = m.settles.plays.same; program = ahead.remains.program })
+
+  further_there : IsFurther h there y
+  further_there = record {
+    state = ap (λ (d : Center). d.state) center_there;
+    none_out = λ k none. ap (λ (d : Center). d.out k) center_there ∙ none;
+    start = stopped;
+    after = m.after;
+    stands = set_same x.regions h m.before stopped m.stands;
+    near = near_there played.turns played.want m.settles.plays.ends;
+    regions = m.regions ∙ sym (set_again x.regions h stopped m.after);
+  }
 
 -- Where memory was refused to none of them, it stands there.
 ends_there : (n limit : ℕ) (x y : PlainStore) (w : Want) → (w ≡ want.Continue → n ≡ limit) → EndsIn n limit x w y → y ≡ x
 ends_there n limit x y w all (inl same) = same
 ends_there n limit x y w all (inr (few, nothing, ahead)) = absurd (omega (arith, few, all nothing))
 
+all_run : (limit h : ℕ) (j : Job) (turns : ℕ) (x y : PlainWorld) → pick_for h x.center ≡ Some j → MakesAll limit h j turns x y →
+    (hs : List ℕ) × (length hs ≡ turns) × RunsBy hs x y
+all_run limit h j turns x y picks m =
+    let s = m.makes.settles in
+    makes_runs limit h j turns x y picks m.makes
+    (ends_there s.outcome.turns limit s.plays.last m.makes.after.store s.outcome.want (λ nothing. s.count ∙ m.all nothing) s.plays.ends)
+
+-- ---- rounds
+
+at_most_left : (left : ℕ) (x : PlainWorld) → 0 < left → turns_at_once left x ≤ left
+at_most_left left x some = by (x.center.state.count == 1)
+  where
+    by : (b : Bool) → (if b then left else 1) ≤ left
+    by true = omega arith
+    by false = omega (arith, some)
+
 pub rounds_are_turns : RoundsAreTurns
-rounds_are_turns limit x _ _ none unrefused = ([], refl)
-rounds_are_turns limit x _ _ (one_more {left = l} {turns = n} {y = y} {z = z} h j rounds is makes) unrefused =
-    let before = rounds_are_turns limit x l y rounds unrefused.0 in
-    let o = makes.settles.outcome in
-    let there : makes.after.store ≡ makes.settles.plays.last =
-    ends_there o.turns (turns_at_once l y) makes.settles.plays.last makes.after.store o.want (λ e. makes.settles.count ∙ unrefused.1 e) makes.settles.plays.ends in
-    let last = makes_runs (turns_at_once l y) h j n y z (next_picks h j y.center is) makes there in
-    (before.0 ++ last.0, runs_join before.0 last.0 x y z before.1 last.1)
+rounds_are_turns limit x _ _ none = let all : 0 + limit ≡ limit = omega arith in ([], all, refl)
+rounds_are_turns limit x _ _ (one_more {left = l} {turns = n} {y = y} {z = z} h j rounds some is all) =
+    let before = rounds_are_turns limit x l y rounds in
+    let last = all_run (turns_at_once l y) h j n y z (next_picks h j y.center is) all in
+    let few : n ≤ l = omega (arith, all.makes.settles.count, all.makes.settles.plays.few, at_most_left l y some) in (
+      before.0 ++ last.0,
+      omega (arith, length-append before.0 last.0, before.1, last.1, few),
+      runs_join before.0 last.0 x y z before.2 last.2,
+    )
+
+-- Behind turns of some handlers the world stands there, or memory was refused to the turn of one.
+abbrev pub StopsBehindSome : PlainWorld → PlainWorld → Type 0
+StopsBehindSome x y = (hs : List ℕ) × (z : PlainWorld) × RunsBy hs x z × ((y ≡ z) ⊎ ((h : ℕ) × IsFurther h z y))
+
+stops_next : (o : Option (ℕ × Job)) (left : ℕ) (x y : PlainWorld) → ((h : ℕ) → x.center.out h ≡ None) → next x.center ≡ o → StopsNext o left x y → StopsBehindSome x y
+stops_next None left x y none_out e same = ([], x, refl, inl same)
+stops_next (Some p) left x y none_out e (inl held) =
+    let picks = sym (picks_job p.0 x.center (none_out p.0)) ∙ next_picks p.0 p.1 x.center e in
+    ([], x, refl, inr (p.0, held_further p.0 p.1 x y picks held))
+stops_next (Some p) left x y none_out e (inr (turns, some)) =
+    let picks = next_picks p.0 p.1 x.center e in
+    let limit = turns_at_once left x in
+    let made = turns_there limit p.0 p.1 turns x y picks some.makes in
+    (made.0, there limit p.0 p.1 turns x y picks some.makes, made.2, inr (p.0, further_there limit p.0 p.1 turns x y picks some.makes))
+
+pub refused_next_stops : (left : ℕ) (x y : PlainWorld) → ((h : ℕ) → x.center.out h ≡ None) → IsRefusedNext left x y → StopsBehindSome x y
+refused_next_stops left x y none_out (inl same) = ([], x, refl, inl same)
+refused_next_stops left x y none_out (inr stops) = stops_next (next x.center) left x y none_out refl stops
+
+-- behind others
+pub stops_join : (hs : List ℕ) (x y z : PlainWorld) → RunsBy hs x y → StopsBehindSome y z → StopsBehindSome x z
+stops_join hs x y z runs stops = (hs ++ stops.0, stops.1, runs_join hs stops.0 x y stops.1 runs stops.2, stops.3)

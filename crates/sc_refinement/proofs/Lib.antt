@@ -3,6 +3,7 @@ mod Assembling
 mod AtOnce
 mod Contracts
 mod Headlined
+mod Idling
 mod Meeting
 mod Naming
 mod Opening

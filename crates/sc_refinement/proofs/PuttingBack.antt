@@ -1,5 +1,5 @@
 -- Where memory is refused to a turn, its handler is put back, and the core is what it was.
-use Rattle.std.proofs.Common.{◌≡◌, ◌<◌, ◌==◌, ◌&&◌, ◌||◌, inl, inr, ℕ, zero, suc, Bool, true, false, List, [], ◌∷◌, Option, Some, None, is_none, slice_get, slice_set, refl, sym, ap, subst, ◌∙◌}
+use Rattle.std.proofs.Common.{◌≡◌, ◌<◌, ◌==◌, ◌&&◌, ◌||◌, ◌⊎◌, inl, inr, ℕ, zero, suc, Bool, true, false, List, [], ◌∷◌, Option, Some, None, is_none, slice_get, slice_set, refl, sym, ap, subst, ◌∙◌}
 use Rattle.std.proofs.lemmas.Bool.{cases_eq, eq-eqb, eqb-true}
 use Rattle.std.proofs.Math.Path.{fun_ext}
 use Rattle.std.specs.List.{list_all}
@@ -15,15 +15,13 @@ use Rattle.sc_code.specs.declared.program.Image.{Image}
 use Rattle.sc_region.specs.declared.job.Job.{Job}
 use Rattle.sc_region.specs.declared.job.Job.TheVariants as job
 use Rattle.sc_request.specs.Handlers.{Answer, Awaits, Handler, HasMade, Idle, Posted, Refused, Replied, Reserves, Runs, Stage, State, SupplierFailed, standing_in}
-use Rattle.sc_request.specs.Logs.{Center, granted, next, picked, put_back, put_back_with, ungranted}
+use Rattle.sc_request.specs.Logs.{Center, granted, picked, put_back, put_back_with, ungranted}
 use Rattle.sc_request.specs.Picking.{job_answered, job_at, job_awaiting, job_idle, job_of, job_reserving, job_with, needs}
 use Rattle.sc_request.specs.Halves.{IsHalfOf}
 use Rattle.sc_interp.specs.RegionSteps.{numbering_by}
 use Rattle.sc_play.specs.Regions.{PlainRegion}
-use Rattle.sc_runtime.specs.Rounds.{HeldUpNext, IsRefusedNext}
-use Rattle.sc_runtime.specs.Turning.{HeldUpUnder, IsHeldUp, IsRefusedTurn}
+use Rattle.sc_runtime.specs.Turning.{HeldUpUnder, IsHeldUp}
 use Rattle.sc_runtime.specs.Worlds.{PlainWorld}
-use Rattle.sc_runtime.proofs.Freeing.{next_picks}
 use Rattle.sc_refinement.specs.Refining.{RefusedTurnStaysNear, StandingWorldIsNear}
 use Rattle.sc_refinement.specs.Standing.{IsNear, IsRegionFor, StandsFor, StandsNear, names_in}
 use Rattle.sc_refinement.proofs.Picking.{picks_job}
@@ -155,7 +153,7 @@ standing_world_is_near s p w x stands = record {
   regions = λ h few. (let r = stands.regions h few in (r.0, r.1, (r.0, inl refl, r.2)));
 }
 
-set_same : (rs : List PlainRegion) (h : ℕ) (x y : PlainRegion) → slice_get rs h ≡ Some x → slice_get (slice_set rs h y) h ≡ Some y
+pub set_same : (rs : List PlainRegion) (h : ℕ) (x y : PlainRegion) → slice_get rs h ≡ Some x → slice_get (slice_set rs h y) h ≡ Some y
 set_same [] h x y e = cc
 set_same (r ∷ rs) zero x y e = refl
 set_same (r ∷ rs) (suc h) x y e = set_same rs h x y e
@@ -170,58 +168,69 @@ set_other (r ∷ rs) (suc h) (suc k) y apart = set_other rs h k y (λ e. apart (
 same_region : (a b : PlainRegion) → Some a ≡ Some b → a ≡ b
 same_region a b e = cc
 
-module _ (s : System) (p : Image) (h : ℕ) (w : World) (x y : PlainWorld) (stands : StandsFor s p w x) where
-  abbrev Near : ℕ → PlainRegion → Type 0
-  Near k r = (start : PlainRegion) × IsNear start r × IsRegionFor s p k (w.handlers k) (y.center.state.handlers k).stage start
+-- The world is the first one, but that memory was refused to a turn of this handler: silent operations of its region may be done.
+pub record IsFurther (h : ℕ) (x y : PlainWorld) : Type 0 where
+  pub state : y.center.state ≡ x.center.state
+  pub none_out : (k : ℕ) → x.center.out k ≡ None → y.center.out k ≡ None
+  pub start : PlainRegion
+  pub after : PlainRegion
+  pub stands : slice_get x.regions h ≡ Some start
+  pub near : IsNear start after
+  pub regions : y.regions ≡ slice_set x.regions h after
 
-  pub held_near : (j : Job) → job_of h x.center.state ≡ Some j → IsHeldUp h j x y → StandsNear s p w y
-  held_near j is held = record {
-    core = subst (IsHalfOf (numbering_by (names_in p)) w) (sym same) stands.core;
-    none_out = λ k. ap (λ (d : Center). d.out k) held.put_back.center ∙ back_out h j x.center k (stands.none_out k);
-    regions = near;
-  }
-    where
-      same : y.center.state ≡ x.center.state
-      same = ap (λ (d : Center). d.state) held.put_back.center ∙ back_state h j x.center is
+pub held_further : (h : ℕ) (j : Job) (x y : PlainWorld) → job_of h x.center.state ≡ Some j → IsHeldUp h j x y → IsFurther h x y
+held_further h j x y is held = record {
+  state = ap (λ (d : Center). d.state) held.put_back.center ∙ back_state h j x.center is;
+  none_out = λ k none. ap (λ (d : Center). d.out k) held.put_back.center ∙ back_out h j x.center k none;
+  start = held.before;
+  after = held.after;
+  stands = held.stands;
+  near = inr (j, held.put_back.refused);
+  regions = held.regions;
+}
 
-      still : (k : ℕ) (r : PlainRegion) → IsRegionFor s p k (w.handlers k) (x.center.state.handlers k).stage r → IsRegionFor s p k (w.handlers k) (y.center.state.handlers k).stage r
-      still k r one = subst (λ (t : State). IsRegionFor s p k (w.handlers k) (t.handlers k).stage r) (sym same) one
+-- Where the first one stands for a state, the world is near it.
+pub further_near : (s : System) (p : Image) (w : World) (h : ℕ) (x y : PlainWorld) → StandsFor s p w x → IsFurther h x y → StandsNear s p w y
+further_near s p w h x y stands further = record {
+  core = subst (IsHalfOf (numbering_by (names_in p)) w) (sym further.state) stands.core;
+  none_out = λ k. further.none_out k (stands.none_out k);
+  regions = near;
+}
+  where
+    still : (k : ℕ) (r : PlainRegion) → IsRegionFor s p k (w.handlers k) (x.center.state.handlers k).stage r → IsRegionFor s p k (w.handlers k) (y.center.state.handlers k).stage r
+    still k r one = subst (λ (t : State). IsRegionFor s p k (w.handlers k) (t.handlers k).stage r) (sym further.state) one
 
-      near : (k : ℕ) → k < w.count → (r : PlainRegion) × (slice_get y.regions k ≡ Some r) × Near k r
-      near k few =
-          let one = stands.regions k few in
-          elim (cases_eq k h) [
-            | inl e ↦
-                let at : slice_get x.regions k ≡ Some held.before = ap (slice_get x.regions) e ∙ held.stands in
-                let start : one.0 ≡ held.before = same_region one.0 held.before (sym one.1 ∙ at) in (
-                  held.after,
-                  ap (λ (rs : List PlainRegion). slice_get rs k) held.regions ∙ ap (slice_get (slice_set x.regions h held.after)) e
-                      ∙ set_same x.regions h held.before held.after held.stands,
-                  (held.before, inr (j, held.put_back.refused), still k held.before (subst (IsRegionFor s p k (w.handlers k) (x.center.state.handlers k).stage) start one.2)),
-                )
-            | inr apart ↦ (
-              one.0,
-              ap (λ (rs : List PlainRegion). slice_get rs k) held.regions ∙ set_other x.regions h k held.after apart ∙ one.1,
-              (one.0, inl refl, still k one.0 one.2),
-            )
-          ]
+    near : (k : ℕ) → k < w.count → (r : PlainRegion) × (slice_get y.regions k ≡ Some r)
+        × ((start : PlainRegion) × IsNear start r × IsRegionFor s p k (w.handlers k) (y.center.state.handlers k).stage start)
+    near k few =
+        let one = stands.regions k few in
+        elim (cases_eq k h) [
+          | inl e ↦
+              let at : slice_get x.regions k ≡ Some further.start = ap (slice_get x.regions) e ∙ further.stands in
+              let start : one.0 ≡ further.start = same_region one.0 further.start (sym one.1 ∙ at) in (
+                further.after,
+                ap (λ (rs : List PlainRegion). slice_get rs k) further.regions ∙ ap (slice_get (slice_set x.regions h further.after)) e
+                    ∙ set_same x.regions h further.start further.after further.stands,
+                (further.start, further.near, still k further.start (subst (IsRegionFor s p k (w.handlers k) (x.center.state.handlers k).stage) start one.2)),
+              )
+          | inr apart ↦ (
+            one.0,
+            ap (λ (rs : List PlainRegion). slice_get rs k) further.regions ∙ set_other x.regions h k further.after apart ∙ one.1,
+            (one.0, inl refl, still k one.0 one.2),
+          )
+        ]
 
-  pub refused_near : IsRefusedTurn h x y → StandsNear s p w y
-  refused_near (inl same) = subst (StandsNear s p w) (sym same) (standing_world_is_near s p w x stands)
-  refused_near (inr held) = by (job_of h x.center.state) refl (subst (λ (o : Option Job). HeldUpUnder h o x y) (picks_job h x.center (stands.none_out h)) held)
-    where
-      by : (o : Option Job) → job_of h x.center.state ≡ o → HeldUpUnder h o x y → StandsNear s p w y
-      by None e same = subst (StandsNear s p w) (sym same) (standing_world_is_near s p w x stands)
-      by (Some j) e held = held_near j e held
+-- So it is where nothing has changed, or memory was refused to one handler's turn.
+pub same_or_further_near : (s : System) (p : Image) (w : World) (x y : PlainWorld) → StandsFor s p w x → (y ≡ x) ⊎ ((h : ℕ) × IsFurther h x y) → StandsNear s p w y
+same_or_further_near s p w x y stands (inl same) = subst (StandsNear s p w) (sym same) (standing_world_is_near s p w x stands)
+same_or_further_near s p w x y stands (inr (h, further)) = further_near s p w h x y stands further
+
+refused_further : (h : ℕ) (o : Option Job) (x y : PlainWorld) → job_of h x.center.state ≡ o → HeldUpUnder h o x y → (y ≡ x) ⊎ ((h : ℕ) × IsFurther h x y)
+refused_further h None x y e same = inl same
+refused_further h (Some j) x y e held = inr (h, held_further h j x y e held)
 
 pub refused_turn_stays_near : RefusedTurnStaysNear
-refused_turn_stays_near s p h w x y stands refused = refused_near s p h w x y stands refused
-
--- the same of the next handler that has something to do
-pub refused_next_near : (s : System) (p : Image) (w : World) (x y : PlainWorld) → StandsFor s p w x → IsRefusedNext x y → StandsNear s p w y
-refused_next_near s p w x y stands (inl same) = subst (StandsNear s p w) (sym same) (standing_world_is_near s p w x stands)
-refused_next_near s p w x y stands (inr held) = by (next x.center) refl held
-  where
-    by : (o : Option (ℕ × Job)) → next x.center ≡ o → HeldUpNext o x y → StandsNear s p w y
-    by None e same = subst (StandsNear s p w) (sym same) (standing_world_is_near s p w x stands)
-    by (Some q) e held = held_near s p q.0 w x y stands q.1 (sym (picks_job q.0 x.center (stands.none_out q.0)) ∙ next_picks q.0 q.1 x.center e) held
+refused_turn_stays_near s p h w x y stands (inl same) = same_or_further_near s p w x y stands (inl same)
+refused_turn_stays_near s p h w x y stands (inr held) =
+    same_or_further_near s p w x y stands
+    (refused_further h (job_of h x.center.state) x y refl (subst (λ (o : Option Job). HeldUpUnder h o x y) (picks_job h x.center (stands.none_out h)) held))

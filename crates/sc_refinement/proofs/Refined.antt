@@ -1,5 +1,5 @@
 -- The world that runs refines the machine.
-use Rattle.std.proofs.Common.{◌≡◌, inl, inr, ℕ, false, refl, sym, subst, take, arith}
+use Rattle.std.proofs.Common.{◌≡◌, ◌+◌, ◌⊎◌, inl, inr, ℕ, false, Option, None, length, refl, sym, subst, take, arith}
 use Rattle.sc_tree.specs.Plain.{System}
 use Rattle.sc_class.specs.ClassNames.{Root}
 use Rattle.sc_class.specs.Faults.ClassRules.{IsFaultless}
@@ -7,6 +7,7 @@ use Rattle.sc_rules.specs.SystemRules.{WellFormed}
 use Rattle.sc_rules.proofs.PurityStands.{purity_stands}
 use Rattle.sc_lockpass.specs.Versions.{most_handlers}
 use Rattle.sc_model.specs.Handlers as machine
+use Rattle.sc_model.specs.Reports.{some_has_turn}
 use Rattle.sc_model.specs.Runs.{IsReached, opening, run}
 use Rattle.sc_code.specs.declared.program.Image.{Image}
 use Rattle.sc_code.specs.Programs.{IsProgramOf}
@@ -16,6 +17,7 @@ use Rattle.sc_region.specs.declared.job.Job.TheVariants as job
 use Rattle.sc_region.specs.declared.job.Want.{Want}
 use Rattle.sc_region.specs.Stores.{PlainStore}
 use Rattle.sc_request.specs.Laws.{PicksWhereTurns}
+use Rattle.sc_request.specs.Logs.{next}
 use Rattle.sc_interp.specs.RegionHalves.{IsRegionOf}
 use Rattle.sc_interp.specs.RegionSteps.{IsProgramFor, RegionsAsk, first_want, numbering_by, task_of}
 use Rattle.sc_interp.specs.RegionTurns.{Half, taken_turn}
@@ -28,13 +30,14 @@ use Rattle.sc_settled.specs.Reached.{SettledMeetWhereReached}
 use Rattle.sc_halves.specs.Reached.{EntriesAreRemembered, HalvesWhereReached}
 use Rattle.sc_joined.specs.Joined as joined
 use Rattle.sc_runtime.specs.Worlds.{opened}
-use Rattle.sc_refinement.specs.Refining.{RoundsRunAsMachine, StoppedRoundsStayNear, StoppedWorldStaysNear, WorldHasHeadline, WorldRunsAsMachine}
+use Rattle.sc_refinement.specs.Refining.{IsRunWithin, RoundsRunAsMachine, StoppedRoundsStayNear, StoppedWorldStaysNear, WorldHasHeadline, WorldRunsAsMachine}
 use Rattle.sc_refinement.specs.Standing.{names_in}
 use Rattle.sc_refinement.proofs.Assembling.{stands_along}
-use Rattle.sc_refinement.proofs.AtOnce.{rounds_are_turns}
+use Rattle.sc_refinement.proofs.AtOnce.{refused_next_stops, rounds_are_turns, stops_join}
 use Rattle.sc_refinement.proofs.Headlined.{headlined}
+use Rattle.sc_refinement.proofs.Idling.{idle_world_is_idle}
 use Rattle.sc_refinement.proofs.Meeting.{job_fits}
-use Rattle.sc_refinement.proofs.PuttingBack.{refused_next_near, refused_turn_stays_near}
+use Rattle.sc_refinement.proofs.PuttingBack.{refused_turn_stays_near, same_or_further_near}
 use Rattle.sc_refinement.proofs.Reaching.{in_each, reached_fits}
 use Rattle.sc_refinement.proofs.Running.{HalvesMeet, OthersKeep, RegionsAskSo, RegionsFollow, SettledMeet, StoresTurn, TurnsEndThere}
 
@@ -51,6 +54,12 @@ untold job.Failed x = refl
 untold job.Refused x = refl
 untold (job.Granted ks) x = refl
 untold job.Go x = refl
+
+-- rounds that ended have made all turns, or no handler has one
+ended : (n left limit : ℕ) (o : Option (ℕ × Job)) (w : machine.World) → n + left ≡ limit → (left ≡ 0) ⊎ (o ≡ None) → (o ≡ None → some_has_turn w.count w ≡ false) →
+    (n ≡ limit) ⊎ (some_has_turn w.count w ≡ false)
+ended n left limit o w all (inl none_left) idle = inl (omega (arith, all, none_left))
+ended n left limit o w all (inr none) idle = inr (idle none)
 
 module _ (picks : PicksWhereTurns) (halves : HalvesWhereReached) (remembered : EntriesAreRemembered) (settled : SettledMeetWhereReached) (follow : joined.RegionsFollow) (ask : RegionsAsk) (others : joined.OthersKeepHalves) (created : joined.CreatedAreNew) (ordered : OpensInOrder)
     (keep_order : TurnsKeepOrder) (new_sound : NewStoresAreSound) (taken : SoundJobsAreTaken) where
@@ -119,11 +128,20 @@ module _ (picks : PicksWhereTurns) (halves : HalvesWhereReached) (remembered : E
       )
 
   pub rounds_run_as_machine : RoundsRunAsMachine
-  rounds_run_as_machine s root faultless well p v limit left y program fits rounds unrefused =
-      let turns = rounds_are_turns limit (opened p v) left y rounds unrefused in
-      (turns.0, world_runs_as_machine s root faultless well p v turns.0 y program fits turns.1)
+  rounds_run_as_machine s root faultless well p v limit y program fits ends =
+      let turns = rounds_are_turns limit (opened p v) ends.left y ends.rounds in
+      let w : machine.World = run (most_handlers v) s turns.0 (opening s root) in
+      let stands = world_runs_as_machine s root faultless well p v turns.0 y program fits turns.2 in
+      let within : IsRunWithin limit turns.0 w = record {
+        few = omega (arith, turns.1);
+        ends = ended (length turns.0) ends.left limit (next y.center) w turns.1 ends.ends (λ none. idle_world_is_idle picks s p w y stands none);
+      } in
+      (turns.0, stands, within)
 
   pub stopped_rounds_stay_near : StoppedRoundsStayNear
-  stopped_rounds_stay_near s root faultless well p v limit y program fits stops unrefused =
-      let turns = rounds_run_as_machine s root faultless well p v limit stops.left stops.before program fits stops.rounds unrefused in
-      (turns.0, refused_next_near s p (run (most_handlers v) s turns.0 (opening s root)) stops.before y turns.1 stops.refused)
+  stopped_rounds_stay_near s root faultless well p v limit y program fits stops =
+      let before = rounds_are_turns limit (opened p v) stops.left stops.before stops.rounds in
+      let none_out = (world_runs_as_machine s root faultless well p v before.0 stops.before program fits before.2).none_out in
+      let behind = stops_join before.0 (opened p v) stops.before y before.2 (refused_next_stops stops.left stops.before y none_out stops.refused) in
+      let stands = world_runs_as_machine s root faultless well p v behind.0 behind.1 program fits behind.2 in
+      (behind.0, same_or_further_near s p (run (most_handlers v) s behind.0 (opening s root)) behind.1 y stands behind.3)

@@ -1,6 +1,6 @@
 -- What is said of each world that turns lead to, from the opening of the program of an accepted system on.
 use Rattle.std.specs.List.{range_with_len}
-use Rattle.std.specs.Prelude.{◌≡◌, ◌⊎◌, ℕ, Bool, true, List, Option, map, take}
+use Rattle.std.specs.Prelude.{◌≡◌, ◌⊎◌, ◌≤◌, ◌+◌, ℕ, Bool, true, false, List, Option, None, length, map, take}
 use Rattle.sc_tree.specs.Plain.{System}
 use Rattle.sc_proctype.specs.declared.entity_type.EntityType.{EntityType}
 use Rattle.sc_proctype.specs.declared.tag.Reserved.{Reserved}
@@ -16,14 +16,14 @@ use Rattle.sc_model.specs.Values.{Attached, Reference, Value}
 use Rattle.sc_code.specs.declared.program.Image.{Image}
 use Rattle.sc_code.specs.Programs.{IsProgramOf}
 use Rattle.sc_code.specs.RequestRoom.{FitsRequests}
-use Rattle.sc_region.specs.declared.job.Want.TheVariants as want
+use Rattle.sc_request.specs.Logs.{next}
 use Rattle.sc_laws.specs.Formals.{FormalsAreHeld, NamesAreHeld}
 use Rattle.sc_laws.specs.Headline.{CallbacksComeFirst, ChainsHold, OnlyWaitersAreTold, RepliesMeetNone, ReservedAreHeld, TargetsAreKept, WaitersAreTold}
 use Rattle.sc_values.specs.Places.{StandsAs}
 use Rattle.sc_values.specs.Values.{WhereAccepted}
 use Rattle.sc_starts.specs.Starting.{StartsWhereTheyHold}
 use Rattle.sc_runtime.specs.Reports.{report, statuses}
-use Rattle.sc_runtime.specs.Rounds.{Rounds, StopsRounds, more, none, turns_at_once}
+use Rattle.sc_runtime.specs.Rounds.{EndsRounds, Rounds, StopsRounds}
 use Rattle.sc_runtime.specs.Turning.{IsRefusedTurn, Runs, StopsBehind}
 use Rattle.sc_runtime.specs.Worlds.{PlainWorld, opened}
 use Rattle.sc_refinement.specs.Standing.{StandsFor, StandsNear}
@@ -93,31 +93,36 @@ WorldReportsAsMachine =
 
 -- ---- turns round and round
 
--- Memory was refused to no turn within the rounds: a handler that asks nothing has made all turns that it might make at
--- once. Only one that is alone may make several.
-abbrev pub NoneRefused : (limit : ℕ) (x : PlainWorld) (left : ℕ) (y : PlainWorld) → Rounds limit x left y → Type 0
-NoneRefused limit x _ _ none = Unit {0}
-NoneRefused limit x _ _ (more {left} {turns} {y} {z} h j rounds next makes) =
-    NoneRefused limit x left y rounds
-    × (makes.settles.outcome.want ≡ want.Continue → turns ≡ turns_at_once left y)
-
--- Such rounds are turns of handlers, one after the other.
+-- Turns round and round are turns of handlers, one after the other, also where several are made at once.
 abbrev pub RoundsAreTurns : Type 0
 RoundsAreTurns =
-    (limit : ℕ) (x : PlainWorld) (left : ℕ) (y : PlainWorld) (rounds : Rounds limit x left y) →
-    NoneRefused limit x left y rounds → (hs : List ℕ) × Runs hs x y
+    (limit : ℕ) (x : PlainWorld) (left : ℕ) (y : PlainWorld) → Rounds limit x left y →
+    (hs : List ℕ) × (length hs + left ≡ limit) × Runs hs x y
 
--- So they lead a program's world to one that stands for a state that the machine reaches.
+-- Where no handler of the world has anything to do, none has a turn in the machine.
+abbrev pub IdleWorldIsIdle : Type 0
+IdleWorldIsIdle =
+    (s : System) (p : Image) (w : World) (x : PlainWorld) → StandsFor s p w x → next x.center ≡ None →
+    machine.some_has_turn w.count w ≡ false
+
+-- The turns of these handlers lead the machine to this state. They are so many at most, and fewer only where no handler
+-- has a turn any more.
+pub record IsRunWithin (limit : ℕ) (hs : List ℕ) (w : World) : Type 0 where
+  pub few : length hs ≤ limit
+  pub ends : (length hs ≡ limit) ⊎ (machine.some_has_turn w.count w ≡ false)
+
+-- Rounds that end lead a program's world to one that stands for a state to which such turns lead the machine.
 abbrev pub RoundsRunAsMachine : Type 0
 RoundsRunAsMachine = WhereAccepted λ s root.
-    (p : Image) (v : Version) (limit left : ℕ) (y : PlainWorld) → IsProgramOf s root p → FitsRequests p →
-    (rounds : Rounds limit (opened p v) left y) → NoneRefused limit (opened p v) left y rounds →
+    (p : Image) (v : Version) (limit : ℕ) (y : PlainWorld) → IsProgramOf s root p → FitsRequests p →
+    EndsRounds limit (opened p v) y →
     (hs : List ℕ) × StandsFor s p (run (most_handlers v) s hs (opening s root)) y
+    × IsRunWithin limit hs (run (most_handlers v) s hs (opening s root))
 
--- Where memory was refused to a turn behind such rounds, the world is near that state.
+-- Where memory was refused to one of their turns, the world is near the state to which those before it lead the
+-- machine.
 abbrev pub StoppedRoundsStayNear : Type 0
 StoppedRoundsStayNear = WhereAccepted λ s root.
     (p : Image) (v : Version) (limit : ℕ) (y : PlainWorld) → IsProgramOf s root p → FitsRequests p →
-    (stops : StopsRounds limit (opened p v) y) →
-    NoneRefused limit (opened p v) stops.left stops.before stops.rounds →
+    StopsRounds limit (opened p v) y →
     (hs : List ℕ) × StandsNear s p (run (most_handlers v) s hs (opening s root)) y

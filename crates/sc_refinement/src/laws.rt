@@ -1,5 +1,5 @@
 //! Laws of the world that runs beside the machine, each the contract of a function that does nothing.
-ghost use Rattle.sc_refinement.specs.Refining.{RefusedTurnStaysNear, RoundsAreTurns, RoundsRunAsMachine, StandingWorldIsNear};
+ghost use Rattle.sc_refinement.specs.Refining.{IdleWorldIsIdle, RefusedTurnStaysNear, RoundsAreTurns, RoundsRunAsMachine, StandingWorldIsNear};
 ghost use Rattle.sc_refinement.specs.Refining.{StoppedRoundsStayNear, StoppedWorldStaysNear, WorldHasHeadline, WorldReportsAsMachine, WorldRunsAsMachine};
 
 use sc_acts::sound::{new_stores_are_sound, sound_jobs_are_taken};
@@ -84,13 +84,20 @@ pub fn world_reports_as_machine()
     core_picks_where_the_machine_turns();
 }
 
-/// Turns round and round, of which several may be made at once, are turns of handlers, one after the other, where memory was never
-/// refused within them.
+/// Where no handler of a world has anything to do, none has a turn in the state of the machine that it stands for.
+pub fn idle_world_is_idle()
+    ensures { IdleWorldIsIdle }
+{
+    core_picks_where_the_machine_turns();
+}
+
+/// Turns round and round, of which several may be made at once, are turns of handlers, one after the other.
 pub fn rounds_are_turns()
     ensures { RoundsAreTurns }
 {}
 
-/// So they lead a program's world to one that stands for a state that the machine reaches.
+/// So rounds that end lead a program's world to one that stands for a state to which as many turns lead the machine, or
+/// fewer where no handler has a turn any more.
 pub fn rounds_run_as_machine()
     ensures { RoundsRunAsMachine }
 {
@@ -108,7 +115,7 @@ pub fn rounds_run_as_machine()
     sound_jobs_are_taken();
 }
 
-/// Where memory was refused to a turn behind such rounds, the world is near that state.
+/// Where memory was refused to one of their turns, the world is near the state to which those before it lead the machine.
 pub fn stopped_rounds_stay_near()
     ensures { StoppedRoundsStayNear }
 {

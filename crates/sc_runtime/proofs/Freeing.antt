@@ -17,7 +17,7 @@ use Rattle.sc_free.specs.Free.{AreLinked}
 use Rattle.sc_free.proofs.Linking as linking
 use Rattle.sc_free.proofs.Linking.{free_regions_rest, refused_turns_stay_linked, turns_stay_linked}
 use Rattle.sc_runtime.specs.Free.{FreeObjectMeets, IsLinked, OpeningsAreLinked, RoundsStayLinked, RunsStayLinked, StoppedRoundsStayLinked, StoppedRunsStayLinked}
-use Rattle.sc_runtime.specs.Rounds.{HeldUpNext, IsRefusedNext, Rounds, TurnsOfNext, more, none, turns_at_once}
+use Rattle.sc_runtime.specs.Rounds.{IsRefusedNext, Played, Rounds, StopsNext, TurnsOfNext, more, none, turns_at_once}
 use Rattle.sc_runtime.specs.Turning.{HeldUpUnder, IsHeldUp, IsRefusedTurn, IsTurn, Makes, PutsBack, Settles, TurnsUnder}
 use Rattle.sc_runtime.specs.Worlds.{PlainWorld, max_handlers, new_regions, opened}
 
@@ -103,27 +103,29 @@ next_picks h j c e = found_picks (round c.state.count c.last) c (h, j) e
 
 rounds_linked : (limit : ℕ) (x : PlainWorld) (left : ℕ) (y : PlainWorld) → IsLinked x → Rounds limit x left y → IsLinked y
 rounds_linked limit x left y linked none = linked
-rounds_linked limit x left z linked (more {left = l} {turns = n} {y = y} h j rounds is makes) =
-    makes_linked (turns_at_once l y) h j n y z (rounds_linked limit x l y linked rounds) (next_picks h j y.center is) makes
+rounds_linked limit x left z linked (more {left = l} {turns = n} {y = y} h j rounds some is all) =
+    makes_linked (turns_at_once l y) h j n y z (rounds_linked limit x l y linked rounds) (next_picks h j y.center is) all.makes
 
 pub rounds_stay_linked : RoundsStayLinked
 rounds_stay_linked limit x y linked ends = rounds_linked limit x ends.left y linked ends.rounds
 
-held_next_linked : (o : Option (ℕ × Job)) (x y : PlainWorld) → IsLinked x → HeldUpNext o x y → IsLinked y
-held_next_linked None x y linked same = same_linked x y same linked
-held_next_linked (Some p) x y linked held = held_up_linked p.0 p.1 x y linked held
+stops_next_linked : (o : Option (ℕ × Job)) (left : ℕ) (x y : PlainWorld) → next x.center ≡ o → IsLinked x → StopsNext o left x y → IsLinked y
+stops_next_linked None left x y is linked same = same_linked x y same linked
+stops_next_linked (Some p) left x y is linked (inl held) = held_up_linked p.0 p.1 x y linked held
+stops_next_linked (Some p) left x y is linked (inr (turns, some)) =
+    makes_linked (turns_at_once left x) p.0 p.1 turns x y linked (next_picks p.0 p.1 x.center is) some.makes
 
-pub refused_next_linked : (x y : PlainWorld) → IsLinked x → IsRefusedNext x y → IsLinked y
-refused_next_linked x y linked (inl same) = same_linked x y same linked
-refused_next_linked x y linked (inr held) = held_next_linked (next x.center) x y linked held
+pub refused_next_linked : (left : ℕ) (x y : PlainWorld) → IsLinked x → IsRefusedNext left x y → IsLinked y
+refused_next_linked left x y linked (inl same) = same_linked x y same linked
+refused_next_linked left x y linked (inr stops) = stops_next_linked (next x.center) left x y refl linked stops
 
 pub stopped_rounds_stay_linked : StoppedRoundsStayLinked
 stopped_rounds_stay_linked limit x y linked stops =
-    refused_next_linked stops.before y (rounds_linked limit x stops.left stops.before linked stops.rounds) stops.refused
+    refused_next_linked stops.left stops.before y (rounds_linked limit x stops.left stops.before linked stops.rounds) stops.refused
 
 of_next : (o : Option (ℕ × Job)) (left turns : ℕ) (x y : PlainWorld) → next x.center ≡ o → IsLinked x → TurnsOfNext o left turns x y → IsLinked y
 of_next None left turns x y is linked turned = same_linked x y turned.1 linked
-of_next (Some p) left turns x y is linked makes = makes_linked (turns_at_once left x) p.0 p.1 turns x y linked (next_picks p.0 p.1 x.center is) makes
+of_next (Some p) left turns x y is linked all = makes_linked (turns_at_once left x) p.0 p.1 turns x y linked (next_picks p.0 p.1 x.center is) all.makes
 
 pub turns_of_next_linked : (left turns : ℕ) (x y : PlainWorld) → IsLinked x → TurnsOfNext (next x.center) left turns x y → IsLinked y
 turns_of_next_linked left turns x y linked turned = of_next (next x.center) left turns x y refl linked turned
@@ -171,11 +173,12 @@ settled_linked limit h j turns most c b d rs x y linked picks stands out s =
     (turns_stay_linked limit most h j c rs x y o linked picks stands s.plays)
 
 -- the handler that was picked has played and is settled, or memory was refused to it
-pub played_linked : {E : Type 0} (limit h : ℕ) (j : Job) (most : ℕ) (c b d : Center) (rs : List PlainRegion) (x y : PlainRegion) (r : Result ℕ E) →
-    AreLinked c rs → pick_for h c ≡ Some j → slice_get rs h ≡ Some x → b ≡ picked h j c → IfOk r (λ turns. Settles limit h j turns most b d x y) →
+pub played_linked : {E : Type 0} (limit h : ℕ) (j : Job) (most : ℕ) (c b d : Center) (rs : List PlainRegion) (x y : PlainRegion) (r : Result (ℕ × Bool) E) →
+    AreLinked c rs → pick_for h c ≡ Some j → slice_get rs h ≡ Some x → b ≡ picked h j c → IfOk r (λ p. Played limit h j p.0 most b d x y p.1) →
     OnErr r (PutsBack h j b d x y) → AreLinked d (slice_set rs h y)
-played_linked limit h j most c b d rs x y (Ok turns) linked picks stands out s back = settled_linked limit h j turns most c b d rs x y linked picks stands out s
-played_linked limit h j most c b d rs x y (Err e) linked picks stands out s back =
+played_linked limit h j most c b d rs x y (Ok p) linked picks stands out played back =
+    settled_linked limit h j p.0 most c b d rs x y linked picks stands out played.settles
+played_linked limit h j most c b d rs x y (Err e) linked picks stands out played back =
     linked_still (put_back h (picked h j c)) d (slice_set rs h y) (back.center ∙ ap (put_back h) out)
     (refused_turns_stay_linked h j c rs x y linked stands back.refused)
 

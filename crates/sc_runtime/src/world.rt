@@ -1,5 +1,5 @@
 //! The world, and its turns.
-ghost use Rattle.std.specs.Prelude.{◌≡◌, ◌≤◌, ℕ, IfOk, OnErr, OnOk, Some, length, replicate, vec_len};
+ghost use Rattle.std.specs.Prelude.{◌≡◌, ◌≤◌, ◌↔◌, ℕ, IfOk, IsTrue, OnErr, OnOk, Some, length, replicate, vec_len};
 ghost use Rattle.sc_free.proofs.Props.{linked_prop};
 ghost use Rattle.sc_free.specs.Free.{AreLinked};
 ghost use Rattle.sc_lockpass.specs.Versions.{most_handlers};
@@ -8,8 +8,8 @@ ghost use Rattle.sc_request.specs.Rooms.{HasRoomFor};
 ghost use Rattle.sc_request.specs.Logs as core;
 ghost use Rattle.sc_runtime.specs.Free.{FreeObjectMeets};
 ghost use Rattle.sc_runtime.specs.Reports as told;
-ghost use Rattle.sc_runtime.specs.Rounds.{EndsRounds, IsRefusedNext, StopsRounds, TurnsOfNext, turns_at_once};
-ghost use Rattle.sc_runtime.specs.Turning.{IsRefusedTurn, IsTurn, PutsBack, Runs, Settles, StopsBehind, turned_by};
+ghost use Rattle.sc_runtime.specs.Rounds.{AreCutShort, EndsRounds, IsRefusedNext, Played, StopsRounds, TurnsOfNext, turns_at_once};
+ghost use Rattle.sc_runtime.specs.Turning.{IsRefusedTurn, IsTurn, PutsBack, Runs, StopsBehind, turned_by};
 ghost use Rattle.sc_runtime.specs.Worlds.{max_handlers, new_regions, opened};
 
 use crate::report::{self, push_end, push_handler};
@@ -17,7 +17,7 @@ use sc_code::Program;
 use sc_lockpass::Version;
 use sc_model::Status;
 use sc_play::Region;
-use sc_region::{Breakdown, Job, Outcome};
+use sc_region::{Breakdown, Job, Outcome, Want};
 use sc_request::{Core, Settlement};
 use std::alloc::{AllocError, Global};
 
@@ -138,7 +138,7 @@ impl<'p> World<'p> {
     /// made. It begins behind the handler that made the last turn.
     ///
     /// # Errors
-    /// Where there is no memory. Then the world stands after the turns before.
+    /// Where there is no memory. Then the world stands after the turns before, also where several are made at once.
     pub fn rounds(&mut self, limit: u32) -> Result<(), AllocError>
         ensures ok { OnOk result (EndsRounds limit (world_of self.old) (world_of self.new)) }
         ensures err { OnErr result (StopsRounds limit (world_of self.old) (world_of self.new)) }
@@ -158,19 +158,23 @@ impl<'p> World<'p> {
     }
 
     /// The next handler that has something to do makes a turn; or as many as are left, where it is the only handler.
-    /// Answers how many.
+    /// Answers how many. Err where memory is refused to one of them, which may be behind others.
     fn next_turns(&mut self, left: u32) -> Result<u32, AllocError>
         requires { 1 ≤ left }
         ensures ok { IfOk result (λ turns.
             TurnsOfNext (next (world_of self.old).center) left turns (world_of self.old) (world_of self.new)) }
-        ensures err { OnErr result (IsRefusedNext (world_of self.old) (world_of self.new)) }
+        ensures err { OnErr result (IsRefusedNext left (world_of self.old) (world_of self.new)) }
     {
         self.core.make_room()?;
         let most = self.turns_at_once(left);
         match self.core.pick() {
             Some((handler, job)) => {
                 let region = &mut self.regions[handler as usize];
-                play(&mut self.core, region, handler, &job, most)
+                let (turns, cut_short) = play(&mut self.core, region, handler, &job, most)?;
+                if cut_short {
+                    return Err(AllocError);
+                }
+                Ok(turns)
             }
             None => Ok(0),
         }
@@ -285,20 +289,27 @@ fn regions<'p>(alloc: Global, program: &'p Program) -> Result<Vec<Region<'p>>, A
     Ok(regions)
 }
 
-/// The handler, which is out with this job, plays at most so many turns under it, and is settled: how many it played. Err
-/// where there is no memory: it is put back.
+/// Whether the turns that a handler made under its job were cut short: the last asks nothing, and there might be more.
+fn are_cut_short(limit: u32, turns: u32, asked: &Want) -> bool
+    ensures { IsTrue result ↔ AreCutShort limit turns asked.now }
+{
+    turns < limit && matches!(asked, Want::Continue)
+}
+
+/// The handler, which is out with this job, plays at most so many turns under it, and is settled: how many it played, and
+/// whether memory was refused to the next. Err where it was refused to the first: the handler is put back.
 fn play(
     core: &mut Core,
     region: &mut Region<'_>,
     handler: u16,
     job: &Job,
     limit: u32,
-) -> Result<u32, AllocError>
+) -> Result<(u32, bool), AllocError>
     requires some { 1 ≤ limit }
     requires out { (center_of core.old).out handler ≡ Some job.now }
     requires room { HasRoomFor 0 core.old }
-    ensures ok { IfOk result (λ turns.
-        Settles limit handler job.now turns (most_handlers core.old.state.rights.version) (center_of core.old) (center_of core.new) region.old region.new) }
+    ensures ok { IfOk result (λ played.
+        Played limit handler job.now played.0 (most_handlers core.old.state.rights.version) (center_of core.old) (center_of core.new) region.old region.new played.1) }
     ensures err { OnErr result (PutsBack handler job.now (center_of core.old) (center_of core.new) region.old region.new) }
     ensures version { core.new.state.rights.version ≡ core.old.state.rights.version }
 {
@@ -311,6 +322,7 @@ fn play(
         turns,
         want,
     } = outcome;
+    let cut_short = are_cut_short(limit, turns, &want);
     let settled = core.settle(Outcome {
         handler,
         turns,
@@ -319,5 +331,5 @@ fn play(
     if settled.is_err() {
         unreachable!();
     }
-    Ok(turns)
+    Ok((turns, cut_short))
 }

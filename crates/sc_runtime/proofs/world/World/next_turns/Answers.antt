@@ -1,13 +1,12 @@
 use Rattle.std.proofs.Common.{◌≡◌, ◌==◌, length, ap, sym, ◌∙◌, arith}
 use Rattle.std.specs.Prelude.{if◌then◌else◌}
 use Rattle.std.proofs.lemmas.Option.{slice_get_read}
-use Rattle.std.proofs.lemmas.Result.{IfOk-weaker, on_err_weaker}
 use Rattle.sc_lockpass.specs.Versions.{most_handlers}
 use Rattle.sc_request.specs.Cores.{center_of}
 use Rattle.sc_request.specs.Logs.{Center, next, picked, picks}
 use Rattle.sc_runtime.proofs.Freeing.{linked_still, next_picks, played_linked}
-use Rattle.sc_runtime.proofs.Outs.{held-up, makes-many, picked-out, world-is}
-use Rattle.sc_runtime.proofs.Rounding.{next-none, next-some, refused-next, some-at-once}
+use Rattle.sc_runtime.proofs.Outs.{held-up, on-err, picked-out, world-is}
+use Rattle.sc_runtime.proofs.Rounding.{makes-all, makes-some, next-none, next-some, refused-behind, refused-next, some-at-once}
 use Rattle.sc_runtime.proofs.world.World.next_turns.Goals as goal
 
 pub play-requires-clause-some : goal.play-requires-clause-some
@@ -24,8 +23,8 @@ play-requires-clause-out c =
 pub play-requires-clause-room : goal.play-requires-clause-room
 play-requires-clause-room c = c.pick.ensures.room 0 c.in_ok-make_room.ensures.room
 
-pub returns-in-Some-clause-ok : goal.returns-in-Some-clause-ok
-returns-in-Some-clause-ok c =
+pub returns-else-cut_short-clause-ok : goal.returns-else-cut_short-clause-ok
+returns-else-cut_short-clause-ok c =
     let h = c.in-Some.handler in
     let j = c.in-Some.job in
     let room = c.in_ok-make_room.ensures.center in
@@ -35,13 +34,13 @@ returns-in-Some-clause-ok c =
     let stands = slice_get_read c.args.self.now.regions.items 512 h c.index_mut-region.result.now count c.in-Some.ensures.below c.index_mut-region.ensures.value in
     let version = c.pick.ensures.version ∙ c.in_ok-make_room.ensures.version in
     let most = c.turns_at_once-most.ensures ∙ ap (λ (d : Center). if d.state.count == 1 then c.args.left else 1) room in
-    IfOk-weaker c.play.result _ _
-    (λ turns settles. next-some h j c.args.left turns _ _ (job ∙ ap next room)
-    (makes-many _ _ h j turns _ _ _ _ _ _ _ _ _ most stands (ap most_handlers version) (ap most_handlers (c.play.ensures.version ∙ version)) out settles))
-    c.play.ensures.ok
+    let turns = c.in_ok-turns-in-Some.turns in
+    next-some h j c.args.left turns _ _ (job ∙ ap next room)
+    (makes-all _ _ h j turns _ _ _ _ _ _ _ _ _ c.in_ok-turns-in-Some.cut_short most stands (ap most_handlers version)
+    (ap most_handlers (c.in_ok-turns-in-Some.ensures.version ∙ version)) out c.in_ok-turns-in-Some.ensures.ok c.if-cut_short.false)
 
-pub returns-in-Some-clause-err : goal.returns-in-Some-clause-err
-returns-in-Some-clause-err c =
+pub returns-then-cut_short-clause-err : goal.returns-then-cut_short-clause-err
+returns-then-cut_short-clause-err c =
     let h = c.in-Some.handler in
     let j = c.in-Some.job in
     let room = c.in_ok-make_room.ensures.center in
@@ -50,10 +49,25 @@ returns-in-Some-clause-err c =
     let count : 512 ≡ length c.args.self.now.regions.items = omega (arith, c.args.self.now.places, c.args.self.now.regions.ok.0) in
     let stands = slice_get_read c.args.self.now.regions.items 512 h c.index_mut-region.result.now count c.in-Some.ensures.below c.index_mut-region.ensures.value in
     let version = c.pick.ensures.version ∙ c.in_ok-make_room.ensures.version in
-    on_err_weaker c.play.result
-    (λ back. refused-next h j _ _ (job ∙ ap next room)
-    (held-up h j _ _ _ _ _ _ _ _ stands (ap most_handlers (c.play.ensures.version ∙ version)) out back))
-    c.play.ensures.err
+    let most = c.turns_at_once-most.ensures ∙ ap (λ (d : Center). if d.state.count == 1 then c.args.left else 1) room in
+    let turns = c.in_ok-turns-in-Some.turns in
+    refused-behind h j c.args.left turns _ _ (job ∙ ap next room)
+    (makes-some _ _ h j turns _ _ _ _ _ _ _ _ _ c.in_ok-turns-in-Some.cut_short most stands (ap most_handlers version)
+    (ap most_handlers (c.in_ok-turns-in-Some.ensures.version ∙ version)) out c.in_ok-turns-in-Some.ensures.ok c.if-cut_short.true)
+
+pub returns-in_err-turns-in-Some-clause-err : goal.returns-in_err-turns-in-Some-clause-err
+returns-in_err-turns-in-Some-clause-err c =
+    let h = c.in-Some.handler in
+    let j = c.in-Some.job in
+    let room = c.in_ok-make_room.ensures.center in
+    let job = sym c.in-Some.is ∙ c.pick.ensures.job in
+    let out = c.pick.ensures.center ∙ ap (λ o. picks o (center_of c.make_room.new.self)) (sym job) ∙ ap (picked h j) room in
+    let count : 512 ≡ length c.args.self.now.regions.items = omega (arith, c.args.self.now.places, c.args.self.now.regions.ok.0) in
+    let stands = slice_get_read c.args.self.now.regions.items 512 h c.index_mut-region.result.now count c.in-Some.ensures.below c.index_mut-region.ensures.value in
+    let version = c.pick.ensures.version ∙ c.in_ok-make_room.ensures.version in
+    on-err c.from_residual-in_err-turns-in-Some.result _
+    (refused-next h j c.args.left _ _ (job ∙ ap next room)
+    (held-up h j _ _ _ _ _ _ _ _ stands (ap most_handlers (c.in_err-turns-in-Some.ensures.version ∙ version)) out c.in_err-turns-in-Some.ensures.err))
 
 pub returns-in-None-clause-ok : goal.returns-in-None-clause-ok
 returns-in-None-clause-ok c =

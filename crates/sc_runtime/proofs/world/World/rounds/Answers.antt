@@ -18,7 +18,7 @@ pub loop-preserved : goal.loop-preserved
 loop-preserved c = record {
   rounds = rw c.saturating_sub-left.ensures
       (rounds-more (next (world_of c.loop.self).center) c.args.limit c.loop.left c.in_ok-turns.turns _ (world_of c.loop.self) _ refl c.loop.invariant.rounds
-      c.in_ok-turns.ensures.ok);
+      (omega (arith, c.if-left-eq0.false)) c.in_ok-turns.ensures.ok);
   left = omega (arith, c.saturating_sub-left.ensures, c.loop.invariant.left, c.if-turns-eq0.false, c.if-left-eq0.false);
 }
 
@@ -30,4 +30,5 @@ returns-then-left-eq0-clause-ok c = record { left = c.loop.left; rounds = c.loop
 
 pub returns-then-turns-eq0-clause-ok : goal.returns-then-turns-eq0-clause-ok
 returns-then-turns-eq0-clause-ok c =
-    ends-idle c.args.limit c.loop.left c.in_ok-turns.turns _ (world_of c.loop.self) _ c.if-turns-eq0.true c.loop.invariant.rounds c.in_ok-turns.ensures.ok
+    ends-idle c.args.limit c.loop.left c.in_ok-turns.turns _ (world_of c.loop.self) _ c.if-turns-eq0.true c.loop.invariant.rounds
+    (omega (arith, c.if-left-eq0.false)) c.in_ok-turns.ensures.ok

@@ -40,7 +40,7 @@ returns-in_ok-play-in-Some-clause-ok c =
     turn-some c.args.handler c.in-Some.job _ _ (job ∙ ap (pick_for c.args.handler) room)
     (makes c.args.handler c.in-Some.job _ _ _ _ _ _ _ _ _ _ stands (ap most_handlers version)
     (ap most_handlers (c.in_ok-play-in-Some.ensures.version ∙ version)) (out ∙ ap (picked c.args.handler c.in-Some.job) room)
-    c.in_ok-play-in-Some.ensures.ok)
+    c.in_ok-play-in-Some.ensures.ok.settles)
 
 pub returns-in_ok-play-in-Some-clause-turned : goal.returns-in_ok-play-in-Some-clause-turned
 returns-in_ok-play-in-Some-clause-turned c =
