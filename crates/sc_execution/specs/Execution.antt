@@ -1,7 +1,6 @@
 -- What the check, the run and the printing of a source text come to.
-use Rattle.std.specs.Prelude.{ℕ, ◌≡◌, ◌≤◌, ◌<◌, ◌+◌, ◌^◌, ◌⊎◌, ◌↔◌, true, false, List, [], ◌∷◌, ◌++◌, map, length, Option, Some, None, slice_get, replicate}
+use Rattle.std.specs.Prelude.{ℕ, ◌≡◌, ◌≤◌, ◌<◌, ◌+◌, ◌^◌, ◌↔◌, List, [], ◌∷◌, ◌++◌, map, length, replicate}
 use Rattle.std.specs.List.{flat_map}
-use Rattle.std.specs.Option.{option_map}
 use Rattle.sc_text.specs.Kind.{Kind}
 use Rattle.sc_text.specs.Spelling.{Lexeme, Spells, IsRefused, max_source_bytes}
 use Rattle.sc_tree.specs.Plain.{System}
@@ -15,17 +14,7 @@ use Rattle.sc_text.specs.declared.token.Span.{Span}
 use Rattle.sc_class.specs.ClassNames.{Root}
 use Rattle.sc_class.specs.Faults.ClassRules as class_rules
 use Rattle.sc_class.specs.Faults.ClassRules.{IsFaultless}
-use Rattle.sc_world.specs.declared.cause.Cause as one_cause
-use Rattle.sc_world.specs.declared.cause.Cause.TheVariants as why_one
-use Rattle.sc_world.specs.declared.status.Status as one_status
-use Rattle.sc_world.specs.declared.status.Status.TheVariants as one
-use Rattle.sc_model.specs.declared.cause.Cause.{Cause}
-use Rattle.sc_model.specs.declared.cause.Cause.TheVariants as cause
 use Rattle.sc_model.specs.declared.status.Status.{Status}
-use Rattle.sc_model.specs.declared.status.Status.TheVariants as status
-use Rattle.sc_world.specs.Lookup as lookup
-use Rattle.sc_world.specs.World.{World, opening, run, has_turn_at}
-use Rattle.sc_world.specs.Report.{report, status_of}
 use Rattle.sc_rules.specs.declared.rule.Rule.{Rule}
 use Rattle.sc_rules.specs.SystemRules.{SystemFails, WellFormed}
 use Rattle.sc_code.specs.declared.program.Image.{Image}
@@ -38,7 +27,6 @@ use Rattle.sc_runtime.specs.Worlds.{PlainWorld, opened}
 use Rattle.sc_runtime.specs.Turning.{Runs}
 use Rattle.sc_runtime.specs.Rounds.{EndsRounds}
 use Rattle.sc_runtime.specs.Reports as told
-use Rattle.sc_execution.specs.Simple.{is_simple}
 use Rattle.sc_execution.specs.declared.rejection.Rejection.{Rejection}
 use Rattle.sc_execution.specs.declared.rejection.Rejection.TheVariants as rejection
 
@@ -156,47 +144,7 @@ IsNotRunFor text root (rejection.Rules fault) = HasFault text root (rejection.Ru
 IsNotRunFor text root rejection.CodeTooLong = IsTooLong text root
 IsNotRunFor text root rejection.OutOfMemory = Unit {0}
 
--- ---- how handlers stand
-
--- a cause of the machine of simple systems, among all
-abbrev pub cause_of : one_cause.Cause → Cause
-cause_of why_one.Invariant = cause.Invariant
-cause_of why_one.Overflow = cause.Overflow
-cause_of why_one.DivideByZero = cause.DivideByZero
-cause_of why_one.StackFull = cause.StackFull
-cause_of why_one.BadCode = cause.BadCode
-
-abbrev pub standing_of : one_status.Status → Status
-standing_of (one.Failed why) = status.Failed (cause_of why)
-standing_of one.Busy = status.Busy
-standing_of one.Waiting = status.Waiting
-standing_of one.Free = status.Free
-
--- how the one handler stands, if there is one
-abbrev pub standings : Option one_status.Status → List Status
-standings None = []
-standings (Some how) = standing_of how ∷ []
-
--- ---- runs of simple systems
-
--- a root, as the machine has it
-abbrev pub run_root : Root → lookup.Root
-run_root r = record { class = r.class; procedure = r.procedure }
-
--- the world after so many turns of handler 0
-abbrev pub world_after : System → lookup.Root → ℕ → World
-world_after system root turns = run system (replicate turns 0) (opening root)
-
--- The report and how the handlers stand are those of the world after some turns of handler 0, of which there are at most so
--- many, and fewer only where handler 0 has nothing to do any more.
-pub record IsRun (system : System) (root : lookup.Root) (limit : ℕ) (text : List ℕ) (statuses : List Status) : Type 0 where
-  pub turns : ℕ
-  pub within : turns ≤ limit
-  pub ended : (turns ≡ limit) ⊎ (has_turn_at 0 (world_after system root turns) ≡ false)
-  pub report_is : text ≡ report (world_after system root turns)
-  pub statuses_are : statuses ≡ standings (option_map status_of (slice_get (world_after system root turns) 0))
-
--- ---- runs of programs
+-- ---- runs
 
 -- The report and how the handlers stand are those of the world.
 pub record Leaves (world : PlainWorld) (text : List ℕ) (statuses : List Status) : Type 0 where
@@ -210,21 +158,6 @@ pub record IsWorldRun (program : Image) (limit : ℕ) (text : List ℕ) (statuse
   pub ends : EndsRounds limit (opened program Two) world
   pub leaves : Leaves world text statuses
 
--- The program of the system is run so.
-pub record IsProgramRun (system : System) (root : Root) (limit : ℕ) (text : List ℕ) (statuses : List Status) : Type 0 where
-  pub program : Image
-  pub is_program : IsProgramOf system root program
-  pub is_run : IsWorldRun program limit text statuses
-
--- The text spells a system that is sound. The report and how the handlers stand are those of its run: that of the machine on
--- trees where it is simple, and that of its program where it isn't.
-pub record IsRunOf (text : List ℕ) (root : Root) (limit : ℕ) (output : List ℕ) (statuses : List Status) : Type 0 where
-  pub system : System
-  pub read : IsRead text system
-  pub sound : IsSound system root
-  pub is_run : is_simple system ≡ true → IsRun system (run_root root) limit output statuses
-  pub is_program_run : is_simple system ≡ false → IsProgramRun system root limit output statuses
-
 -- The text spells a system that is sound, and this is its program; requests have room for what it names.
 pub record IsLoaded (text : List ℕ) (root : Root) (program : Image) : Type 0 where
   pub system : System
@@ -232,6 +165,12 @@ pub record IsLoaded (text : List ℕ) (root : Root) (program : Image) : Type 0 w
   pub sound : IsSound system root
   pub is_program : IsProgramOf system root program
   pub fits : FitsRequests program
+
+-- The text spells a system that is sound. The report and how the handlers stand are those of a run of its program.
+pub record IsRunOf (text : List ℕ) (root : Root) (limit : ℕ) (output : List ℕ) (statuses : List Status) : Type 0 where
+  pub program : Image
+  pub loaded : IsLoaded text root program
+  pub is_run : IsWorldRun program limit output statuses
 
 -- ---- replays
 

@@ -5,30 +5,25 @@ ghost use Rattle.sc_tree.specs.Bare.{bare_system};
 ghost use Rattle.sc_tree.specs.Plain as plain;
 ghost use Rattle.sc_tree.specs.View.{system_of};
 ghost use Rattle.sc_tree.specs.Canonical.{canonical_text};
-ghost use Rattle.sc_class.specs.Faults.ClassRules.{IsFaultless};
 ghost use Rattle.sc_class.specs.View.{root_of};
 ghost use Rattle.sc_class.specs.SystemIn.{root_in, system_in};
 ghost use Rattle.sc_check.specs.CheckedTables.{tables_of};
 ghost use Rattle.sc_lower.specs.Lowerings.{image_of};
 ghost use Rattle.sc_runtime.specs.Views.{world_of};
-ghost use Rattle.sc_execution.specs.Execution as spec;
-ghost use Rattle.sc_execution.specs.Execution.{EmptyReplayLeavesOpening, IsAccepted, IsAtFault, IsLoaded, IsNotRunFor, IsPrinted, IsRead, IsRefusedFor, IsReplay, IsRun, IsRunOf, IsSound, IsSpelled, IsUnreadable, IsWorldRun, Leaves, LinesMayBeSplit, MustBeAccepted, MustBeRun, run_root};
+ghost use Rattle.sc_execution.specs.Execution.{EmptyReplayLeavesOpening, IsAccepted, IsAtFault, IsLoaded, IsNotRunFor, IsPrinted, IsRead, IsRefusedFor, IsReplay, IsRunOf, IsSound, IsSpelled, IsUnreadable, IsWorldRun, Leaves, LinesMayBeSplit, MustBeAccepted, MustBeRun};
 
 use crate::rejection::Rejection;
-use crate::root::start_of;
-use crate::simple::is_simple;
 use sc_audit::Record;
 use sc_check::{Checked, check};
 use sc_class::{Root, tables};
 use sc_code::Program;
 use sc_lockpass::Version;
 use sc_lower::lower;
-use sc_model::{Cause, Status};
+use sc_model::Status;
 use sc_parse::parse;
 use sc_runtime::World;
 use sc_text::lex;
 use sc_tree::{System, print_system};
-use sc_world::Turned;
 use std::alloc::{AllocError, Global};
 
 /// What a run leaves: its report, and how each handler stands, in order of number.
@@ -56,12 +51,7 @@ pub fn run_text(alloc: Global, text: &str, root: &Root, turns: u32) -> Result<Ou
     ensures refused { IfErr result (IsNotRunFor text.now (root_of root.now)) }
     ensures complete { MustBeRun text.now (root_of root.now) → IfErr result (λ e. e ≡ Rejection.OutOfMemory) }
 {
-    let system = read(alloc, text)?;
-    let checked = judge(alloc, &system, root)?;
-    if is_simple(checked.tables()) {
-        return Ok(play_simple(alloc, &system, root, turns)?);
-    }
-    let program = lower(alloc, checked)?;
+    let program = load_text(alloc, text, root)?;
     Ok(play(alloc, &program, turns)?)
 }
 
@@ -139,64 +129,6 @@ fn outcome_of(world: &World<'_>) -> Result<Outcome, AllocError>
         report: world.report()?,
         statuses: world.statuses()?,
     })
-}
-
-/// Plays the one handler of a simple system until it has nothing to do or so many turns are played.
-fn play_simple(
-    alloc: Global,
-    system: &System,
-    root: &Root,
-    turns: u32,
-) -> Result<Outcome, AllocError>
-    requires { IsFaultless (system_of system.now) (root_of root.now) }
-    ensures { IfOk result (λ outcome.
-        IsRun (system_of system.now) (run_root (root_of root.now)) turns outcome.report.items outcome.statuses.items) }
-{
-    let (class, procedure) = start_of(system, root);
-    let mut world = sc_world::World::open(alloc, system, class, procedure)?;
-    for _ in 0..turns {
-        if world.turn(0)? == Turned::Nothing {
-            break;
-        }
-    }
-    let report = world.report()?;
-    let statuses = standings(alloc, world.status(0))?;
-    Ok(Outcome { report, statuses })
-}
-
-/// How the one handler stands, if there is one.
-fn standings(alloc: Global, status: Option<sc_world::Status>) -> Result<Vec<Status>, AllocError>
-    ensures { IfOk result (λ statuses. statuses.items ≡ spec.standings status) }
-{
-    let mut statuses = Vec::new(alloc);
-    if let Some(status) = status {
-        statuses.push(standing_of(status))?;
-    }
-    Ok(statuses)
-}
-
-/// How the handler of a simple system stands, as any handler does.
-fn standing_of(status: sc_world::Status) -> Status
-    ensures { result ≡ spec.standing_of status }
-{
-    match status {
-        sc_world::Status::Failed(why) => Status::Failed(cause_of(why)),
-        sc_world::Status::Busy => Status::Busy,
-        sc_world::Status::Waiting => Status::Waiting,
-        sc_world::Status::Free => Status::Free,
-    }
-}
-
-fn cause_of(why: sc_world::Cause) -> Cause
-    ensures { result ≡ spec.cause_of why }
-{
-    match why {
-        sc_world::Cause::Invariant => Cause::Invariant,
-        sc_world::Cause::Overflow => Cause::Overflow,
-        sc_world::Cause::DivideByZero => Cause::DivideByZero,
-        sc_world::Cause::StackFull => Cause::StackFull,
-        sc_world::Cause::BadCode => Cause::BadCode,
-    }
 }
 
 // ---- laws of replays

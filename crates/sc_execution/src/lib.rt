@@ -7,8 +7,6 @@
 
 mod execution;
 mod rejection;
-mod root;
-mod simple;
 
 pub use execution::{
     Outcome, check_text, empty_replay_leaves_opening, lines_may_be_split, load_text, print_text,

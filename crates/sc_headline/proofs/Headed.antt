@@ -10,7 +10,7 @@ use Rattle.sc_runtime.specs.Worlds.{PlainWorld}
 use Rattle.sc_refinement.specs.Refining.{RoundsRunAsMachine, StandingWorldIsNear, WorldHasHeadline, WorldReportsAsMachine, WorldRunsAsMachine}
 use Rattle.sc_refinement.specs.Standing.{StandsFor}
 use Rattle.sc_execution.specs.Execution.{Leaves, line_turns}
-use Rattle.sc_headline.specs.Headline.{Headline, IsReportOf, ReplaysAreTheMachines, RoundsAreTheMachines, machine_after}
+use Rattle.sc_headline.specs.Headline.{Headline, IsReportOf, ReplaysAreTheMachines, RunsAreTheMachines, machine_after}
 
 pub headed : WorldHasHeadline → Headline
 headed law text root program version handlers world loaded runs =
@@ -43,17 +43,19 @@ replayed law near tells text root program version lines report statuses loaded r
       told = reported near tells loaded.system program (machine_after loaded.system root version turns) replay.world report statuses stands replay.leaves;
     }
 
-pub rounded : RoundsRunAsMachine → StandingWorldIsNear → WorldReportsAsMachine → RoundsAreTheMachines
-rounded law near tells text root program limit report statuses loaded run =
+pub ran : RoundsRunAsMachine → StandingWorldIsNear → WorldReportsAsMachine → RunsAreTheMachines
+ran law near tells text root limit report statuses of_text =
+    let loaded = of_text.loaded in
     let s = loaded.system in
-    let found = law s root loaded.sound.faultless loaded.sound.well_formed program Two limit run.world loaded.is_program loaded.fits run.ends in (
+    let world = of_text.is_run.world in
+    let found = law s root loaded.sound.faultless loaded.sound.well_formed of_text.program Two limit world loaded.is_program loaded.fits of_text.is_run.ends in (
       found.0,
       record {
         is_run = record {
           system = s;
           read = loaded.read;
           sound = loaded.sound;
-          told = reported near tells s program (machine_after s root Two found.0) run.world report statuses found.1 run.leaves;
+          told = reported near tells s of_text.program (machine_after s root Two found.0) world report statuses found.1 of_text.is_run.leaves;
         };
         within = found.2;
       },

@@ -16,7 +16,7 @@ use Rattle.sc_runtime.specs.Turning.{Runs}
 use Rattle.sc_runtime.specs.Worlds.{PlainWorld, opened}
 use Rattle.sc_refinement.specs.Refining.{HasHeadline, IsRunWithin}
 use Rattle.sc_refinement.specs.Standing.{StandsFor}
-use Rattle.sc_execution.specs.Execution.{IsLoaded, IsRead, IsReplay, IsSound, IsWorldRun, line_turns}
+use Rattle.sc_execution.specs.Execution.{IsLoaded, IsRead, IsReplay, IsRunOf, IsSound, line_turns}
 
 -- ---- worlds
 
@@ -70,9 +70,9 @@ pub record IsMachineRunWithin (text : List ℕ) (root : Root) (limit : ℕ) (han
   pub is_run : IsMachineRun text root Two handlers report statuses
   pub within : IsRunWithin limit handlers (machine_after is_run.system root Two handlers)
 
--- What turns round and round leave is what the machine reports after turns of some handlers.
-abbrev pub RoundsAreTheMachines : Type 0
-RoundsAreTheMachines =
-    (text : List ℕ) (root : Root) (program : Image) (limit : ℕ) (report : List ℕ) (statuses : List Status) →
-    IsLoaded text root program → IsWorldRun program limit report statuses →
+-- What a run leaves is what the machine reports after turns of some handlers.
+abbrev pub RunsAreTheMachines : Type 0
+RunsAreTheMachines =
+    (text : List ℕ) (root : Root) (limit : ℕ) (report : List ℕ) (statuses : List Status) →
+    IsRunOf text root limit report statuses →
     (handlers : List ℕ) × IsMachineRunWithin text root limit handlers report statuses

@@ -1,5 +1,5 @@
 //! Laws of worlds and replays, from the bytes of a source text on, each the contract of a function that does nothing.
-ghost use Rattle.sc_headline.specs.Headline.{Headline, ReplaysAreTheMachines, RoundsAreTheMachines};
+ghost use Rattle.sc_headline.specs.Headline.{Headline, ReplaysAreTheMachines, RunsAreTheMachines};
 
 use sc_refinement::laws::{
     rounds_run_as_machine, standing_world_is_near, world_has_headline, world_reports_as_machine,
@@ -25,10 +25,10 @@ pub fn replays_are_the_machines()
     world_reports_as_machine();
 }
 
-/// What rounds leave is what the machine on trees reports after turns of some handlers, at most so many, and fewer only
+/// What a run leaves is what the machine on trees reports after turns of some handlers, at most so many, and fewer only
 /// where no handler has a turn any more.
-pub fn rounds_are_the_machines()
-    ensures { RoundsAreTheMachines }
+pub fn runs_are_the_machines()
+    ensures { RunsAreTheMachines }
 {
     rounds_run_as_machine();
     standing_world_is_near();

@@ -25,5 +25,3 @@ mod tokens;
 mod trees;
 #[cfg(test)]
 mod types;
-#[cfg(test)]
-mod worlds;

@@ -15,7 +15,7 @@ end
 const RUN: [&str; 3] = ["scoop", "run", "app.e"];
 
 /// The procedures of a class, the status of its run, and what is reported of its handler.
-const RUNS: [(&str, u8, &str); 9] = [
+const RUNS: [(&str, u8, &str); 10] = [
     // The smallest run, and its beginning.
     (
         "make do raise print (n) end\n\traise do n := n + 1 end",
@@ -55,6 +55,12 @@ const RUNS: [(&str, u8, &str); 9] = [
         3,
         "failed F6 refused 0 output 0\n",
     ),
+    // What a left operand decides leaves the right one out.
+    (
+        "make do print (True or else 1 // 0 = 1) print (\"!\") end",
+        0,
+        "free refused 0 output 5\nTrue!",
+    ),
     // What was printed before a failure stays.
     (
         "make do print (\"a%Nb\") print (n = 0) n := 1 \\\\ n end",
@@ -80,6 +86,13 @@ fn reports_what_became_of_the_handler(rt: HostRuntime) -> Result<(), Fail> {
     Ok(())
 }
 
+/// A procedure that calls itself: a turn takes the root request, and each further one makes a call.
+const ENDLESS: &str = "class APPLICATION create make feature make do make end end";
+
+const FULL: &str = "handler 0 failed F11 refused 0 output 0\n\nstopped idle\n";
+
+const FILLING: &str = "handler 0 busy refused 0 output 0\n\nstopped limit\n";
+
 /// Two classes with three procedures by which they are made.
 const ROOTS: &str = "class A create f, G feature f do print (1) end g do print (2) end end
 class B create h feature h do print (3) end end
@@ -94,11 +107,13 @@ const TWO: &str = "handler 0 free refused 0 output 1\n2\nstopped idle\n";
 const THREE: &str = "handler 0 free refused 0 output 1\n3\nstopped idle\n";
 
 /// An option and its value, a text, and the status and the output of its run.
-const TURNS_AND_ROOTS: [(&str, &str, &str, u8, &str); 9] = [
+const TURNS_AND_ROOTS: [(&str, &str, &str, u8, &str); 11] = [
     ("--turns", "4", COUNTER, 4, BUSY),
     ("--turns", "5", COUNTER, 0, ONE),
     ("--turns", "+6", COUNTER, 0, ONE),
     ("--turns", "010", COUNTER, 0, ONE),
+    ("--turns", "1024", ENDLESS, 4, FILLING),
+    ("--turns", "1025", ENDLESS, 3, FULL),
     ("--root", "A.f", ROOTS, 0, ONE),
     ("--root", "a.g", ROOTS, 0, TWO),
     ("--root", "b.H", ROOTS, 0, THREE),
