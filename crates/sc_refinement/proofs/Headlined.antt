@@ -8,6 +8,7 @@ use Rattle.sc_model.specs.Handlers.{World}
 use Rattle.sc_model.specs.Runs.{IsReached}
 use Rattle.sc_model.specs.Settled.{SettledObjectsMeet}
 use Rattle.sc_laws.proofs.Machine.{machine_callbacks_come_first, machine_chains_hold, machine_only_waiters_are_told, machine_replies_meet_none, machine_reserved_are_held, machine_targets_are_kept, machine_waiters_are_told}
+use Rattle.sc_laws.proofs.Posting.{posted_under_right}
 use Rattle.sc_laws.proofs.links.Held.{reached_formals_are_held, reached_names_are_held}
 use Rattle.sc_laws.proofs.links.Reached.{reached_stands}
 use Rattle.sc_values.proofs.Awaiting.{each_non_separate_is_own, each_value_fits}
@@ -18,6 +19,7 @@ pub headlined : (s : System) (root : Root) → IsFaultless s root → WellFormed
 headlined s root faultless well most w is settled =
     let t = reached_stands most s root w is in
     record {
+      posts_under_right = λ h k r. posted_under_right most s h w k r;
       reserved_are_held = machine_reserved_are_held t.0 w t.1 t.2;
       formals_are_held = reached_formals_are_held most s root w is;
       names_are_held = reached_names_are_held most s root w is;

@@ -1,17 +1,20 @@
 -- What is said of each world that turns lead to, from the opening of the program of an accepted system on.
 use Rattle.std.specs.List.{range_with_len}
-use Rattle.std.specs.Prelude.{◌≡◌, ◌⊎◌, ◌≤◌, ◌+◌, ℕ, Bool, true, false, List, Option, None, length, map, take}
+use Rattle.std.specs.Prelude.{◌≡◌, ◌⊎◌, ◌≤◌, ◌+◌, ℕ, Bool, true, false, List, Option, Some, None, Contains, length, map, take}
 use Rattle.sc_tree.specs.Plain.{System}
 use Rattle.sc_proctype.specs.declared.entity_type.EntityType.{EntityType}
 use Rattle.sc_proctype.specs.declared.tag.Reserved.{Reserved}
 use Rattle.sc_proctype.specs.declared.tag.Tag.TheVariants as tag
+use Rattle.sc_lockpass.specs.Rights.{held}
 use Rattle.sc_lockpass.specs.Versions.{most_handlers}
 use Rattle.sc_lockpass.specs.declared.version.Version.{Version}
 use Rattle.sc_model.specs.Fits.{Fits, IsUnset}
-use Rattle.sc_model.specs.Handlers.{World}
+use Rattle.sc_model.specs.Failures.{requests_at}
+use Rattle.sc_model.specs.Handlers.{Request, World}
 use Rattle.sc_model.specs.Reports as machine
 use Rattle.sc_model.specs.Runs.{IsReached, opening, run}
 use Rattle.sc_model.specs.Settled.{SettledObjectsMeet}
+use Rattle.sc_model.specs.Turns.{turn}
 use Rattle.sc_model.specs.Values.{Attached, Reference, Value}
 use Rattle.sc_code.specs.declared.program.Image.{Image}
 use Rattle.sc_code.specs.Programs.{IsProgramOf}
@@ -30,10 +33,17 @@ use Rattle.sc_refinement.specs.Standing.{StandsFor, StandsNear}
 
 -- ---- the state that a world stands for
 
--- What the headline claims of a state, where there may be so many handlers: who holds and waits for whom, which values stand
--- where, that settled objects meet their class invariants, and that in the next turn a body starts only where the clauses of
--- its precondition hold.
+-- A request that comes to stand at a handler in a turn was posted by the handler of the turn, which held it then, or created
+-- it in this turn.
+abbrev pub PostsUnderRight : ℕ → System → World → Type 0
+PostsUnderRight most s w = (h k : ℕ) (r : Request) → Contains (requests_at ((turn most s h w).handlers k)) r →
+    Contains (requests_at (w.handlers k)) r ⊎ ((r.poster ≡ Some h) × ((held w.rights h k ≡ true) ⊎ (k ≡ w.count)))
+
+-- What the headline claims of a state, where there may be so many handlers: what is posted under which right, who holds and
+-- waits for whom, which values stand where, that settled objects meet their class invariants, and that in the next turn a
+-- body starts only where the clauses of its precondition hold.
 pub record HasHeadline (most : ℕ) (s : System) (w : World) : Type 0 where
+  pub posts_under_right : PostsUnderRight most s w
   pub reserved_are_held : ReservedAreHeld w
   pub formals_are_held : FormalsAreHeld w
   pub names_are_held : NamesAreHeld w
