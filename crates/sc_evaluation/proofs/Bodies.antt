@@ -22,8 +22,8 @@ use Rattle.sc_model.specs.Olds.{olds_of, olds_of_each}
 use Rattle.sc_model.specs.Routines.{Routine}
 use Rattle.sc_values.specs.Points.{Each}
 use Rattle.sc_values.proofs.Olds.{none_old}
-use Rattle.sc_evaluation.specs.Laws.{IsWithoutOld, TextsAreOldless}
-use Rattle.sc_evaluation.specs.Texts.{CallHasNoOld, ClauseHasNoOld, HasNoOld, HaveNoOld, HeadHasNoOld, OldlessBranches, OldlessInstr, OldlessInstrs}
+use Rattle.sc_evaluation.specs.Laws.{IsWithoutOld, TextsAreWithoutOld}
+use Rattle.sc_evaluation.specs.Texts.{CallHasNoOld, ClauseHasNoOld, HasNoOld, HaveNoOld, HeadHasNoOld, BranchesHaveNoOld, InstrHasNoOld, InstrsHaveNoOld}
 use Rattle.sc_evaluation.proofs.Stems.{IsDeclared, Stem, body_is, require_is, stem}
 
 within_then : {h : RoutineContext} {a b c : Site} → Within h a b → Part h b c → Within h a c
@@ -54,80 +54,80 @@ module _ (s : System) (pure : RoutineName → Bool) (well : WellFormed s) (tells
       olds_of e ≡ []
   expr_none c q n e i w = none_old i (each_is_typed_lem s pure well tells h c q n e w).2
 
-  expr_oldless : (c : Context) (q : Position) (n : Entities) (e : Expr) → is_ensure c ≡ false →
+  expr_without_old : (c : Context) (q : Position) (n : Entities) (e : Expr) → is_ensure c ≡ false →
       Here (expression c q n e) → HasNoOld e
-  expr_oldless c q n e i w = none_long (expr_none c q n e i w)
+  expr_without_old c q n e i w = none_long (expr_none c q n e i w)
 
-  actuals_oldless : (n : Entities) (es : Exprs) →
+  actuals_without_old : (n : Entities) (es : Exprs) →
       ((e : Expr) → IsActual e es → Here (expression context.Body Source n e)) → HaveNoOld es
-  actuals_oldless n es f = none_long (no_olds_each es (λ e i. expr_none context.Body Source n e refl (f e i)))
+  actuals_without_old n es f = none_long (no_olds_each es (λ e i. expr_none context.Body Source n e refl (f e i)))
 
   mutual
-    instr_oldless : (i : Instr) (n : Entities) → Here (instruction n i) → OldlessInstr i
-    instr_oldless (tree.Assign q v e) n w = expr_oldless context.Body Source n e refl (part_stands w source_part)
-    instr_oldless (tree.PrintText q text) n w = tt
-    instr_oldless (tree.CallRoutine q tree.no_target x es) n w = actuals_oldless n es
+    instr_without_old : (i : Instr) (n : Entities) → Here (instruction n i) → InstrHasNoOld i
+    instr_without_old (tree.Assign q v e) n w = expr_without_old context.Body Source n e refl (part_stands w source_part)
+    instr_without_old (tree.PrintText q text) n w = tt
+    instr_without_old (tree.CallRoutine q tree.no_target x es) n w = actuals_without_old n es
         (λ e j. part_stands w (call_actual_part j))
-    instr_oldless (tree.CallRoutine q (tree.target a) x es) n w = (
-      expr_oldless context.Body Plain n a refl (part_stands w call_target_part),
-      actuals_oldless n es (λ e j. part_stands w (call_actual_part j)),
+    instr_without_old (tree.CallRoutine q (tree.target a) x es) n w = (
+      expr_without_old context.Body Plain n a refl (part_stands w call_target_part),
+      actuals_without_old n es (λ e j. part_stands w (call_actual_part j)),
     )
-    instr_oldless (tree.Create q c) n w = by c.call refl
+    instr_without_old (tree.Create q c) n w = by c.call refl
       where
         by : (o : Option CreationCall) → c.call ≡ o → CallHasNoOld o
         by None e = tt
-        by (Some k) e = actuals_oldless n k.actuals (λ a j. part_stands w (creation_actual_part e j))
-    instr_oldless (tree.If q e is bs other) n w =
+        by (Some k) e = actuals_without_old n k.actuals (λ a j. part_stands w (creation_actual_part e j))
+    instr_without_old (tree.If q e is bs other) n w =
         let z = conditions_give s pure well tells h context.Body n e
         (part_stands w (condition_part {choice = choice})) in (
-          expr_oldless context.Body Condition n e refl (part_stands w (condition_part {choice = choice})),
+          expr_without_old context.Body Condition n e refl (part_stands w (condition_part {choice = choice})),
           (
-            instrs_oldless is z.0 (part_stands w (then_part {choice = choice} z.1)),
+            instrs_without_old is z.0 (part_stands w (then_part {choice = choice} z.1)),
             (
-              branches_oldless bs n (part_stands w (elseif_part {choice = choice})),
-              instrs_oldless other n (part_stands w (else_part {choice = choice})),
+              branches_without_old bs n (part_stands w (elseif_part {choice = choice})),
+              instrs_without_old other n (part_stands w (else_part {choice = choice})),
             ),
           ),
         )
       where
         choice : tree.Conditional
         choice = record { condition = e; body = is; branches = bs; other = other }
-    instr_oldless (tree.Loop q initial e is) n w = (
-      instrs_oldless initial n (part_stands w (from_part {loop = loop})),
+    instr_without_old (tree.Loop q initial e is) n w = (
+      instrs_without_old initial n (part_stands w (from_part {loop = loop})),
       (
-        expr_oldless context.Body Plain n e refl (part_stands w (until_part {loop = loop})),
-        instrs_oldless is n (part_stands w (loop_part {loop = loop})),
+        expr_without_old context.Body Plain n e refl (part_stands w (until_part {loop = loop})),
+        instrs_without_old is n (part_stands w (loop_part {loop = loop})),
       ),
     )
       where
         loop : tree.Iteration
         loop = record { initial = initial; until = e; body = is }
-    instr_oldless (tree.Check q ks) n w =
+    instr_without_old (tree.Check q ks) n w =
         each_from ClauseHasNoOld ks
-        (λ k l. expr_oldless context.Check Plain n k.condition refl (part_stands w (check_part l)))
-    instr_oldless (tree.Block q ds is) n w =
+        (λ k l. expr_without_old context.Check Plain n k.condition refl (part_stands w (check_part l)))
+    instr_without_old (tree.Block q ds is) n w =
         let z = blocks_reserve s pure well tells h n q block w in (
           each_from HeadHasNoOld ds
-              (λ d l. expr_oldless context.Body Plain n d.value refl (part_stands w (head_part {block = block} l))),
-          instrs_oldless is z.0 (part_stands w (block_part {block = block} z.1)),
+              (λ d l. expr_without_old context.Body Plain n d.value refl (part_stands w (head_part {block = block} l))),
+          instrs_without_old is z.0 (part_stands w (block_part {block = block} z.1)),
         )
       where
         block : tree.SeparateBlock
         block = record { heads = ds; body = is }
 
-    instrs_oldless : (is : Instrs) (n : Entities) → Here (instructions n is) → OldlessInstrs is
-    instrs_oldless no_instrs n w = tt
-    instrs_oldless (instr_then i is) n w =
-        (instr_oldless i n (part_stands w first_part), instrs_oldless is n (part_stands w others_part))
+    instrs_without_old : (is : Instrs) (n : Entities) → Here (instructions n is) → InstrsHaveNoOld is
+    instrs_without_old no_instrs n w = tt
+    instrs_without_old (instr_then i is) n w =
+        (instr_without_old i n (part_stands w first_part), instrs_without_old is n (part_stands w others_part))
 
-    branches_oldless : (bs : Branches) (n : Entities) → Here (branches n bs) → OldlessBranches bs
-    branches_oldless no_branches n w = tt
-    branches_oldless (branch_then e is bs) n w =
+    branches_without_old : (bs : Branches) (n : Entities) → Here (branches n bs) → BranchesHaveNoOld bs
+    branches_without_old no_branches n w = tt
+    branches_without_old (branch_then e is bs) n w =
         let z = conditions_give s pure well tells h context.Body n e (part_stands w branch_condition_part) in (
-          expr_oldless context.Body Condition n e refl (part_stands w branch_condition_part),
+          expr_without_old context.Body Condition n e refl (part_stands w branch_condition_part),
           (
-            instrs_oldless is z.0 (part_stands w (branch_part z.1)),
-            branches_oldless bs n (part_stands w later_branches_part),
+            instrs_without_old is z.0 (part_stands w (branch_part z.1)),
+            branches_without_old bs n (part_stands w later_branches_part),
           ),
         )
 
@@ -137,25 +137,25 @@ module _ (s : System) (pure : RoutineName → Bool) (well : WellFormed s) (tells
   abbrev judged : RoutineContext
   judged = context_of s pure f.class routine
 
-  body_oldless : OldlessInstrs routine.body
-  body_oldless = instrs_oldless s pure well tells judged routine.body (known_in_body s routine)
+  body_without_old : InstrsHaveNoOld routine.body
+  body_without_old = instrs_without_old s pure well tells judged routine.body (known_in_body s routine)
       (stands_in (laws.body d.is_class d.declares d.kind) itself)
 
-  clause_oldless : (k : Clause) → Contains routine.precondition k → HasNoOld k.condition
-  clause_oldless k l = expr_oldless s pure well tells judged context.Require Plain
+  clause_keeps_no_old : (k : Clause) → Contains routine.precondition k → HasNoOld k.condition
+  clause_keeps_no_old k l = expr_without_old s pure well tells judged context.Require Plain
       (formals_known s routine.formals) k.condition refl
       (stands_in (laws.precondition d.is_class d.declares d.kind l) itself)
 
 without_old : (s : System) (pure : RoutineName → Bool) → WellFormed s → IsPurity s pure → (r : Routine) → Stem s r →
     IsWithoutOld r
 without_old s pure well tells r m = record {
-  body = subst OldlessInstrs (body_is s r m) (body_oldless s pure well tells m.feature m.own m.has_body);
-  require = λ k l. clause_oldless s pure well tells m.origin m.original m.has_contract k
+  body = subst InstrsHaveNoOld (body_is s r m) (body_without_old s pure well tells m.feature m.own m.has_body);
+  require = λ k l. clause_keeps_no_old s pure well tells m.origin m.original m.has_contract k
       (subst (λ (ks : List Clause). Contains ks k) (sym (require_is s r m)) l);
 }
 
-pub texts_are_oldless : TextsAreOldless
-texts_are_oldless s root faultless well k x r e = by (purity_stands s)
+pub texts_are_without_old : TextsAreWithoutOld
+texts_are_without_old s root faultless well k x r e = by (purity_stands s)
   where
     by : (pure : RoutineName → Bool) × IsPurity s pure → IsWithoutOld r
     by (pure, tells) = without_old s pure well tells r (stem s root pure faultless well tells k x r e)

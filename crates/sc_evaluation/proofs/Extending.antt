@@ -40,7 +40,7 @@ use Rattle.sc_model.specs.Instructions.{assigns, prints, chooses_other, chooses,
 use Rattle.sc_model.specs.Moves.{performs, step_at}
 use Rattle.sc_evaluation.specs.Evaluating.{extended, extended_step}
 use Rattle.sc_evaluation.specs.Laws.{StepExtends}
-use Rattle.sc_evaluation.specs.Texts.{HasNoOld, IsOldless}
+use Rattle.sc_evaluation.specs.Texts.{HasNoOld, TaskHasNoOld}
 
 module _ (s : System) (me : Reference) (os : List Operand) (ts : List Task) where
   -- the point, and the step, with more behind it
@@ -350,7 +350,7 @@ module _ (s : System) (me : Reference) (os : List Operand) (ts : List Task) wher
   -- ---- tasks
 
   -- one task, where p.tasks is what is left behind it
-  performs_x : (t : Task) (vs : List Operand) (p : Point) → IsOldless t → performs s me t vs (X p) ≡ XS
+  performs_x : (t : Task) (vs : List Operand) (p : Point) → TaskHasNoOld t → performs s me t vs (X p) ≡ XS
       (performs s me t vs p)
   performs_x (Do no_instrs) vs p o = refl
   performs_x (Do (instr_then i is)) vs p o = begins_x i (record p { tasks = Do is ∷ p.tasks })
@@ -392,7 +392,7 @@ module _ (s : System) (me : Reference) (os : List Operand) (ts : List Task) wher
   performs_x (EndLoop until body) (u ∷ vs) p o = ends_loop_x u.value until body (record p { values = vs })
   performs_x Checked (u ∷ vs) p o = tests_x cause.Check u.value (record p { values = vs })
 
-  step_at_x : (l : List Task) (t : Task) (rest : List Task) (p : Point) → l ≡ t ∷ rest → IsOldless t →
+  step_at_x : (l : List Task) (t : Task) (rest : List Task) (p : Point) → l ≡ t ∷ rest → TaskHasNoOld t →
       step_at s me (l ++ ts) (X p) ≡ XS (step_at s me l p)
   step_at_x l t rest p e o =
       subst (λ l. step_at s me (l ++ ts) (X p) ≡ XS (step_at s me l p)) (sym e)

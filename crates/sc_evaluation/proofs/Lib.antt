@@ -3,6 +3,6 @@ pub mod Contracts
 pub mod Extending
 pub mod Holding
 pub mod Locally
-pub mod Oldless
+pub mod WithoutOld
 pub mod Stems
-pub mod Testless
+pub mod WithoutTests

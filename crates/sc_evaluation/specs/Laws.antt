@@ -13,7 +13,7 @@ use Rattle.sc_model.specs.Clauses.{Holds}
 use Rattle.sc_values.specs.Points.{Each}
 use Rattle.sc_values.specs.Values.{WhereAccepted}
 use Rattle.sc_evaluation.specs.Evaluating.{Answers, Reaches, EndsTrue, clause_point, extended, extended_step}
-use Rattle.sc_evaluation.specs.Texts.{HasNoOld, OldlessInstrs, ClauseHasNoTest, HasNoTest, IsOldless, IsOfContract}
+use Rattle.sc_evaluation.specs.Texts.{HasNoOld, InstrsHaveNoOld, ClauseHasNoTest, HasNoTest, TaskHasNoOld, IsOfContract}
 
 -- ---- evaluations
 
@@ -89,7 +89,7 @@ EvaluationsMayAskMore = (s : System) (may more : ℕ → Bool) (O : ℕ → List
 -- A step of a task without `old` is the same whatever stands behind it, and whatever the `old`s are.
 abbrev pub StepExtends : Type 0
 StepExtends = (s : System) (me : Reference) (os : List Operand) (ts : List Task) (p : Point) (t : Task)
-    (rest : List Task) → p.tasks ≡ t ∷ rest → IsOldless t →
+    (rest : List Task) → p.tasks ≡ t ∷ rest → TaskHasNoOld t →
     step s me (extended os ts p) ≡ extended_step os ts (step s me p)
 
 -- where a step comes to
@@ -98,18 +98,18 @@ point_after (Goes p) = p
 point_after (Does a p) = p
 
 -- A step of tasks without `old` leaves such tasks.
-abbrev pub StepOldless : Type 0
-StepOldless = (s : System) (me : Reference) (p : Point) → Each IsOldless p.tasks →
-    Each IsOldless (point_after (step s me p)).tasks
+abbrev pub StepKeepsNoOld : Type 0
+StepKeepsNoOld = (s : System) (me : Reference) (p : Point) → Each TaskHasNoOld p.tasks →
+    Each TaskHasNoOld (point_after (step s me p)).tasks
 
 -- In an accepted system no `old` stands in the body of a routine, nor in its precondition.
 pub record IsWithoutOld (r : Routine) : Type 0 where
-  pub body : OldlessInstrs r.body
+  pub body : InstrsHaveNoOld r.body
   pub require : (k : Clause) → Contains r.require k → HasNoOld k.condition
 
 -- So is each routine that is found by a name.
-abbrev pub TextsAreOldless : Type 0
-TextsAreOldless = WhereAccepted λ s root. (k : ℕ) (x : List ℕ) (r : Routine) → routine_named s k x ≡ Some r →
+abbrev pub TextsAreWithoutOld : Type 0
+TextsAreWithoutOld = WhereAccepted λ s root. (k : ℕ) (x : List ℕ) (r : Routine) → routine_named s k x ≡ Some r →
     IsWithoutOld r
 
 -- ---- contracts
@@ -149,6 +149,6 @@ pub record IsWithoutTests (r : Routine) : Type 0 where
   pub behind : Each IsOfContract (ensures 0 r.ensure)
 
 -- So is each routine that is found by a name.
-abbrev pub TextsAreTestless : Type 0
-TextsAreTestless = WhereAccepted λ s root. (k : ℕ) (x : List ℕ) (r : Routine) → routine_named s k x ≡ Some r →
+abbrev pub TextsAreWithoutTests : Type 0
+TextsAreWithoutTests = WhereAccepted λ s root. (k : ℕ) (x : List ℕ) (r : Routine) → routine_named s k x ≡ Some r →
     IsWithoutTests r

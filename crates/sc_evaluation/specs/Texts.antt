@@ -31,55 +31,55 @@ CallHasNoOld (Some k) = HaveNoOld k.actuals
 
 -- no `old` stands in the instruction
 abbrev mutual
-  pub OldlessInstr : Instr → Type 0
-  OldlessInstr (tree.Assign q v e) = HasNoOld e
-  OldlessInstr (tree.PrintText q text) = Unit {0}
-  OldlessInstr (tree.CallRoutine q tree.no_target x es) = HaveNoOld es
-  OldlessInstr (tree.CallRoutine q (tree.target a) x es) = HasNoOld a × HaveNoOld es
-  OldlessInstr (tree.Create q c) = CallHasNoOld c.call
-  OldlessInstr (tree.If q e body bs other) =
-      HasNoOld e × (OldlessInstrs body × (OldlessBranches bs × OldlessInstrs other))
-  OldlessInstr (tree.Loop q initial e body) = OldlessInstrs initial × (HasNoOld e × OldlessInstrs body)
-  OldlessInstr (tree.Check q ks) = Each ClauseHasNoOld ks
-  OldlessInstr (tree.Block q ds body) = Each HeadHasNoOld ds × OldlessInstrs body
+  pub InstrHasNoOld : Instr → Type 0
+  InstrHasNoOld (tree.Assign q v e) = HasNoOld e
+  InstrHasNoOld (tree.PrintText q text) = Unit {0}
+  InstrHasNoOld (tree.CallRoutine q tree.no_target x es) = HaveNoOld es
+  InstrHasNoOld (tree.CallRoutine q (tree.target a) x es) = HasNoOld a × HaveNoOld es
+  InstrHasNoOld (tree.Create q c) = CallHasNoOld c.call
+  InstrHasNoOld (tree.If q e body bs other) =
+      HasNoOld e × (InstrsHaveNoOld body × (BranchesHaveNoOld bs × InstrsHaveNoOld other))
+  InstrHasNoOld (tree.Loop q initial e body) = InstrsHaveNoOld initial × (HasNoOld e × InstrsHaveNoOld body)
+  InstrHasNoOld (tree.Check q ks) = Each ClauseHasNoOld ks
+  InstrHasNoOld (tree.Block q ds body) = Each HeadHasNoOld ds × InstrsHaveNoOld body
 
-  pub OldlessInstrs : Instrs → Type 0
-  OldlessInstrs no_instrs = Unit {0}
-  OldlessInstrs (instr_then i is) = OldlessInstr i × OldlessInstrs is
+  pub InstrsHaveNoOld : Instrs → Type 0
+  InstrsHaveNoOld no_instrs = Unit {0}
+  InstrsHaveNoOld (instr_then i is) = InstrHasNoOld i × InstrsHaveNoOld is
 
-  pub OldlessBranches : Branches → Type 0
-  OldlessBranches no_branches = Unit {0}
-  OldlessBranches (branch_then e body bs) = HasNoOld e × (OldlessInstrs body × OldlessBranches bs)
+  pub BranchesHaveNoOld : Branches → Type 0
+  BranchesHaveNoOld no_branches = Unit {0}
+  BranchesHaveNoOld (branch_then e body bs) = HasNoOld e × (InstrsHaveNoOld body × BranchesHaveNoOld bs)
 
 -- ---- tasks without `old`
 
 -- The task reads no `old` and keeps none, and belongs to a body or to the evaluation of one expression.
-abbrev pub IsOldless : Task → Type 0
-IsOldless (Do body) = OldlessInstrs body
-IsOldless (Eval i e) = HasNoOld e
-IsOldless (EvalRight op i e) = HasNoOld e
-IsOldless (Choose depth body bs other) = OldlessInstrs body × (OldlessBranches bs × OldlessInstrs other)
-IsOldless (Repeat e body) = HasNoOld e × OldlessInstrs body
-IsOldless (EndLoop e body) = HasNoOld e × OldlessInstrs body
-IsOldless (Open xs body) = OldlessInstrs body
-IsOldless (Require ks) = ⊥
-IsOldless (Required k) = ⊥
-IsOldless KeepOld = ⊥
-IsOldless Ensured = ⊥
-IsOldless (In text) = Unit {0}
-IsOldless (Declare locals) = Unit {0}
-IsOldless (Forget depth) = Unit {0}
-IsOldless (ApplyUnary op) = Unit {0}
-IsOldless (ApplyBinary op) = Unit {0}
-IsOldless Conclude = Unit {0}
-IsOldless (Bind d x) = Unit {0}
-IsOldless (CallUnqualified x n) = Unit {0}
-IsOldless (CallQualified x n) = Unit {0}
-IsOldless (AssignTo v) = Unit {0}
-IsOldless Print = Unit {0}
-IsOldless Checked = Unit {0}
-IsOldless (CreateBy v k n) = Unit {0}
-IsOldless (Leave depth) = Unit {0}
+abbrev pub TaskHasNoOld : Task → Type 0
+TaskHasNoOld (Do body) = InstrsHaveNoOld body
+TaskHasNoOld (Eval i e) = HasNoOld e
+TaskHasNoOld (EvalRight op i e) = HasNoOld e
+TaskHasNoOld (Choose depth body bs other) = InstrsHaveNoOld body × (BranchesHaveNoOld bs × InstrsHaveNoOld other)
+TaskHasNoOld (Repeat e body) = HasNoOld e × InstrsHaveNoOld body
+TaskHasNoOld (EndLoop e body) = HasNoOld e × InstrsHaveNoOld body
+TaskHasNoOld (Open xs body) = InstrsHaveNoOld body
+TaskHasNoOld (Require ks) = ⊥
+TaskHasNoOld (Required k) = ⊥
+TaskHasNoOld KeepOld = ⊥
+TaskHasNoOld Ensured = ⊥
+TaskHasNoOld (In text) = Unit {0}
+TaskHasNoOld (Declare locals) = Unit {0}
+TaskHasNoOld (Forget depth) = Unit {0}
+TaskHasNoOld (ApplyUnary op) = Unit {0}
+TaskHasNoOld (ApplyBinary op) = Unit {0}
+TaskHasNoOld Conclude = Unit {0}
+TaskHasNoOld (Bind d x) = Unit {0}
+TaskHasNoOld (CallUnqualified x n) = Unit {0}
+TaskHasNoOld (CallQualified x n) = Unit {0}
+TaskHasNoOld (AssignTo v) = Unit {0}
+TaskHasNoOld Print = Unit {0}
+TaskHasNoOld Checked = Unit {0}
+TaskHasNoOld (CreateBy v k n) = Unit {0}
+TaskHasNoOld (Leave depth) = Unit {0}
 
 -- ---- texts without object tests
 

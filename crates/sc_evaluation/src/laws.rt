@@ -1,6 +1,6 @@
 //! Laws of evaluations by their parts, and of the steps that they are made of. Each is the contract of a function that
 //! does nothing.
-ghost use Rattle.sc_evaluation.specs.Laws.{AnswersAreLocal, EvaluationsAreLocal, EvaluationsMayAskMore, StepExtends, StepOfContract, StepOldless, TextsAreOldless, TextsAreTestless, TrueEvaluationsHold};
+ghost use Rattle.sc_evaluation.specs.Laws.{AnswersAreLocal, EvaluationsAreLocal, EvaluationsMayAskMore, StepExtends, StepOfContract, StepKeepsNoOld, TextsAreWithoutOld, TextsAreWithoutTests, TrueEvaluationsHold};
 
 /// A clause whose evaluation by its parts, text by text, comes to its end with True holds in the world.
 pub fn true_evaluations_hold()
@@ -29,12 +29,12 @@ pub fn steps_extend()
 
 /// Tasks without `old` leave such tasks.
 pub fn steps_stay_without_old()
-    ensures { StepOldless }
+    ensures { StepKeepsNoOld }
 {}
 
 /// In an accepted system no `old` stands in the body of a routine, nor in its precondition.
 pub fn texts_are_without_old()
-    ensures { TextsAreOldless }
+    ensures { TextsAreWithoutOld }
 {}
 
 /// A step of a contract's task leads to such tasks and changes neither names nor Result nor objects. All that is seen
@@ -45,5 +45,5 @@ pub fn contracts_step()
 
 /// In an accepted system no object test stands in a contract.
 pub fn contracts_are_without_tests()
-    ensures { TextsAreTestless }
+    ensures { TextsAreWithoutTests }
 {}

@@ -24,7 +24,7 @@ module _ (reaches_locally : ReachesLocally) (ends_locally : EndsTrueLocally) (s 
       at = z.at;
       reaches = reaches_locally s M O N same me start z.at z.reaches;
       stands = z.stands;
-      oldless = z.oldless;
+      without_old = z.without_old;
     }
 
     done_local : (start : Point) (ts : List Task) (a : Act) (p : Point) → HasDone s M O me start ts a p →
@@ -35,7 +35,7 @@ module _ (reaches_locally : ReachesLocally) (ends_locally : EndsTrueLocally) (s 
       reaches = reaches_locally s M O N same me start z.before z.reaches;
       step_is = z.step_is;
       stands = z.stands;
-      oldless = z.oldless;
+      without_old = z.without_old;
     }
 
     module _ (here : O me.handler ≡ N me.handler) (r : Routine) (bs : List Binding) where

@@ -41,7 +41,7 @@ use Rattle.sc_values.proofs.Lists.{none_in}
 use Rattle.sc_halves.specs.Calm.{name_of}
 use Rattle.sc_halves.specs.Entries.{HasStarted}
 use Rattle.sc_evaluation.specs.Evaluating.{Answers}
-use Rattle.sc_evaluation.specs.Laws.{AnswersMore, EndsTrueMore, ReachesMore, TextsAreTestless}
+use Rattle.sc_evaluation.specs.Laws.{AnswersMore, EndsTrueMore, ReachesMore, TextsAreWithoutTests}
 use Rattle.sc_kept.proofs.Others.{ended_rests, ended_answer}
 use Rattle.sc_starts.specs.Following.{objects_of, MayAsk, Own, bound_in, between_point, behind_clause, ClausesAt, ClauseDone, IsQuiet, clause_request, RequestStands, IsPending, AwaitsOf, IsLost, AboveIsPure, StandsByStage, InPrecondition, FrameFollows, StackFollows}
 use Rattle.sc_starts.specs.Following as following
@@ -56,7 +56,7 @@ use Rattle.sc_starts.proofs.OwnAsks.{request_follows}
 use Rattle.sc_starts.proofs.OwnMore.{clause_done_more, stands_at}
 use Rattle.sc_starts.proofs.Lists.{first_of}
 
-module _ (testless : TextsAreTestless) (clauses_moved : ClauseMoves) (answers_more : AnswersMore)
+module _ (without_tests : TextsAreWithoutTests) (clauses_moved : ClauseMoves) (answers_more : AnswersMore)
     (reaches_more : ReachesMore) (ends_true_more : EndsTrueMore)
     (s : System) (root : Root) (pure : RoutineName → Bool) (faultless : IsFaultless s root) (well : WellFormed s)
     (tells : IsPurity s pure) (most : ℕ)
@@ -122,7 +122,7 @@ module _ (testless : TextsAreTestless) (clauses_moved : ClauseMoves) (answers_mo
         Follow s pure h (effect most s h (Enters c o x us gives) (frame_at f p) below (moved_in w h f below p))
     calls_on c o x us gives p (t, e, to, pures, done, there) =
         enters_follow s pure w h f below p (objects_same p there) o x c us gives (λ r bs j k. (
-          entry_follows_there testless s root pure faultless well tells (Now r bs) h
+          entry_follows_there without_tests s root pure faultless well tells (Now r bs) h
               (entry o r (Called c) bs) (to ∙ own)
               (entered_so s pure w h f below p (objects_same p there) o x c us r bs j k),
           (

@@ -27,7 +27,7 @@ use Rattle.sc_halves.specs.Clauses.{RunsPure}
 use Rattle.sc_halves.specs.Entries.{HasStarted}
 use Rattle.sc_halves.proofs.Clausal.{rest_of, rest_started}
 use Rattle.sc_halves.proofs.Quiet.{pure_reserve_nothing}
-use Rattle.sc_evaluation.specs.Laws.{TextsAreTestless}
+use Rattle.sc_evaluation.specs.Laws.{TextsAreWithoutTests}
 use Rattle.sc_starts.specs.Following.{objects_of, bound_in, AreBound, between_point, PureAt, FollowsPure, IsLost, AboveIsPure, StandsByStage, InPrecondition, FrameFollows, StackFollows}
 use Rattle.sc_starts.specs.Following as following
 use Rattle.sc_starts.proofs.PointsEntries.{entry_follows, entry_is_between, takes_bound}
@@ -102,7 +102,7 @@ begins_or_starts r = by r.require refl
         (rest_started r))
     by (k ∷ ks) e = inr (λ i. let both : k ∷ ks ≡ [] = sym e ∙ i in cc)
 
-module _ (testless : TextsAreTestless) (s : System) (root : Root) (pure : RoutineName → Bool)
+module _ (without_tests : TextsAreWithoutTests) (s : System) (root : Root) (pure : RoutineName → Bool)
     (faultless : IsFaultless s root) (well : WellFormed s) (tells : IsPurity s pure)
     (v : World) (h : ℕ) where
   module _ (me : Reference) (x : List ℕ) (r : Routine) (o : Origin) (bs : List Binding) (here : me.handler ≡ h)
@@ -142,7 +142,7 @@ module _ (testless : TextsAreTestless) (s : System) (root : Root) (pure : Routin
         (sym (pure_reserves_nothing s pure tells me.class x r named is bs bound))
         (subst (λ (cs : List Binding). PureAt s (objects_of v) me r cs (point_of C (objects_of v me.handler)))
         (sym bound_is)
-        (entry_follows testless s root faultless well (objects_of v) me x r named bs bound o).0)
+        (entry_follows without_tests s root faultless well (objects_of v) me x r named bs bound o).0)
 
     entry_frame : FrameFollows s pure v h None C
     entry_frame = record {

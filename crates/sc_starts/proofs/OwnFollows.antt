@@ -21,7 +21,7 @@ use Rattle.sc_halves.specs.Calm.{name_of}
 use Rattle.sc_halves.specs.Entries.{HasStarted}
 use Rattle.sc_halves.proofs.Linking.{one_further, reached_fits}
 use Rattle.sc_evaluation.proofs.Locally.{answers_more, ends_true_more, reaches_more}
-use Rattle.sc_evaluation.proofs.Testless.{texts_are_testless}
+use Rattle.sc_evaluation.proofs.WithoutTests.{texts_are_without_tests}
 use Rattle.sc_kept.proofs.Turned.{count_grows}
 use Rattle.sc_kept.proofs.Unlent.{no_callback_there}
 use Rattle.sc_starts.specs.Following.{objects_of, FollowsPure, IsLost, AboveIsPure, InPrecondition, StackFollows, WorldFollows}
@@ -57,7 +57,7 @@ module _ (s : System) (root : Root) (pure : RoutineName → Bool) (faultless : I
     -- a function that contracts may call runs, or is in a call
     as_pure : pure (name_of f.routine) ≡ true → (st : Stage) → f.stage ≡ st → FollowsPure s (objects_of w) None f st →
         Follow s pure h (goes_on most s h st f below w)
-    as_pure is Runs e z = pure_follows texts_are_testless clause_moves pure_moves answers_more s root pure faultless
+    as_pure is Runs e z = pure_follows texts_are_without_tests clause_moves pure_moves answers_more s root pure faultless
         well tells most w reached h f below
         (record { is_there = here; lives = lives; stack_is = at; runs = e }) stack_follows.0 stack_follows.1
         stack_fits linked is
@@ -81,7 +81,7 @@ module _ (s : System) (root : Root) (pure : RoutineName → Bool) (faultless : I
       by_place (inl i) = inr (goes_good s pure h w f below at (inl i, impure) rest most f.stage here refl)
       by_place (inr (inl i)) = inr (goes_good s pure h w f below at (inr i, impure) rest most f.stage here refl)
       by_place (inr (inr (p, i))) =
-          clause_follows texts_are_testless clause_moves answers_more reaches_more ends_true_more s root pure faultless
+          clause_follows texts_are_without_tests clause_moves answers_more reaches_more ends_true_more s root pure faultless
           well tells most w reached h here lives
           f below at i stack_fits.0.is_own rest impure fits.answer_fits alone
           (λ r v. callbacks_stand_alone s root most w reached h r v here) f.stage refl
@@ -118,7 +118,7 @@ module _ (s : System) (root : Root) (pure : RoutineName → Bool) (faultless : I
 
   own : Follow s pure h V → StackFollows s pure V h None (V.handlers h).stack
   own (inl z) = z
-  own (inr calm) = calm_follows texts_are_testless s root pure faultless well tells V h (V.handlers h).stack
+  own (inr calm) = calm_follows texts_are_without_tests s root pure faultless well tells V h (V.handlers h).stack
       (reached_fits s root pure faultless well tells most V
       (one_further most s root h w reached) h still_here).frames_fit calm
 

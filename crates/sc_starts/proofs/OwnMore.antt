@@ -37,7 +37,7 @@ module _ (reaches_more : ReachesMore) (ends_true_more : EndsTrueMore) (s : Syste
     reaches = reaches_more s M N O more me (clause_of O me r bs k) z.before z.reaches;
     step_is = z.step_is;
     stands = z.stands;
-    oldless = z.oldless;
+    without_old = z.without_old;
   }
 
   pub clause_done_more : (a : Act) (p : Point) → ClauseDone s M O me r bs a p → ClauseDone s N O me r bs a p

@@ -36,7 +36,7 @@ use Rattle.sc_halves.specs.Calm.{name_of}
 use Rattle.sc_halves.specs.Entries.{HasStarted}
 use Rattle.sc_halves.proofs.Guarding.{pure_waits_not}
 use Rattle.sc_evaluation.specs.Evaluating.{Answers}
-use Rattle.sc_evaluation.specs.Laws.{AnswersMore, TextsAreTestless}
+use Rattle.sc_evaluation.specs.Laws.{AnswersMore, TextsAreWithoutTests}
 use Rattle.sc_starts.specs.Following.{objects_of, MayAsk, Own, AreBound, bound_in, PureAt, PureCalls, ClausesAt, IsFor, AboveIsFor, FollowsPure, is_called, IsCalledPure, IsLost, AboveIsPure, StandsByStage, InPrecondition, FrameFollows, StackFollows}
 use Rattle.sc_starts.specs.Points.{ClauseMoves, GoesOn, KeepsActuals, HasRun, IsThisCall, PureActs, PureSteps, PureMoves}
 use Rattle.sc_starts.proofs.PointsEntries.{clause_goes_on, pure_calls_more, pure_goes_on, pure_answers}
@@ -71,7 +71,7 @@ in_call s h f g more c origin_is linked = by f (g ∷ more) refl refl linked
     by f' _ i j (fitting.called {g = k} {below = rest} {t} is calls gives linked) =
         (t, ap (λ (k : Frame). k.stage) (sym (first_of j)) ∙ calls)
 
-module _ (testless : TextsAreTestless) (clauses_moved : ClauseMoves) (pures_moved : PureMoves)
+module _ (without_tests : TextsAreWithoutTests) (clauses_moved : ClauseMoves) (pures_moved : PureMoves)
     (answers_more : AnswersMore)
     (s : System) (root : Root) (pure : RoutineName → Bool) (faultless : IsFaultless s root) (well : WellFormed s)
     (tells : IsPurity s pure) (most : ℕ)
@@ -147,7 +147,7 @@ module _ (testless : TextsAreTestless) (clauses_moved : ClauseMoves) (pures_move
       Follow s pure h (effect most s h (Enters c o x us gives) (frame_at f p) below (moved_in w h f below p))
   calls_on c o x us gives p (t, e, at, runs, calls, keeps) b same =
       enters_follow s pure w h f below p same o x c us gives (λ r bs i j. (
-        entry_follows_there testless s root pure faultless well tells (Now r bs) h (entry o r (Called c) bs) (at ∙ own)
+        entry_follows_there without_tests s root pure faultless well tells (Now r bs) h (entry o r (Called c) bs) (at ∙ own)
             (entered_so s pure w h f below p same o x c us r bs i j),
         (
           frame_follows p keeps (New r bs) (InCall gives) (Some (entry o r (Called c) bs))

@@ -31,7 +31,7 @@ use Rattle.sc_halves.specs.Clauses.{AreOfTypes, ClauseStep, InClauses, StandsInC
 use Rattle.sc_halves.specs.Clauses as clauses
 use Rattle.sc_halves.proofs.Clausal.{clause_next, own_values, rest_started, still_there}
 use Rattle.sc_evaluation.specs.Evaluating.{EndsTrue, begins}
-use Rattle.sc_evaluation.specs.Laws.{StaysInContract, StepExtends, StepOfContract, StepOldless, StepsInContract, TextsAreOldless, TextsAreTestless}
+use Rattle.sc_evaluation.specs.Laws.{StaysInContract, StepExtends, StepOfContract, StepKeepsNoOld, StepsInContract, TextsAreWithoutOld, TextsAreWithoutTests}
 use Rattle.sc_evaluation.specs.Texts.{ClauseHasNoOld, ClauseHasNoTest}
 use Rattle.sc_starts.specs.Following.{ClausesAt, HasDone, Hold, IsAt, behind_clause, between_point, body_tasks, clause_of}
 use Rattle.sc_starts.specs.Following as at
@@ -46,8 +46,8 @@ one_value s pure t n k rest _ (u ∷ []) (clauses.required d) are = (u, refl)
 one_value s pure t n k rest _ [] (clauses.required d) are = absurd are
 one_value s pure t n k rest _ (u ∷ v ∷ vs) (clauses.required d) are = absurd are.1
 
-module _ (extends : StepExtends) (leaves : StepOldless) (contract : StepOfContract) (no_olds : TextsAreOldless)
-    (no_tests : TextsAreTestless)
+module _ (extends : StepExtends) (leaves : StepKeepsNoOld) (contract : StepOfContract) (no_olds : TextsAreWithoutOld)
+    (no_tests : TextsAreWithoutTests)
     (s : System) (root : Root) (pure : RoutineName → Bool) (faultless : IsFaultless s root) (well : WellFormed s)
     (tells : IsPurity s pure)
     (r : Routine) (me : Reference) (named : routine_named s me.class r.name ≡ Some r) (n : Entities) (M : ℕ → Type 0)
@@ -64,13 +64,13 @@ module _ (extends : StepExtends) (leaves : StepOldless) (contract : StepOfContra
 
   -- ---- clauses
 
-  oldless_clause : (done ks : List Clause) (k : Clause) → r.require ≡ done ++ k ∷ ks → ClauseHasNoOld k
-  oldless_clause done ks k e = (no_olds s root faultless well me.class r.name r named).require k
+  clause_without_old : (done ks : List Clause) (k : Clause) → r.require ≡ done ++ k ∷ ks → ClauseHasNoOld k
+  clause_without_old done ks k e = (no_olds s root faultless well me.class r.name r named).require k
       (subst (λ (qs : List Clause). Contains qs k) (sym e)
       (Contains-append_right done (k ∷ ks) k (contains_first k ks)))
 
-  testless_clause : (done ks : List Clause) (k : Clause) → r.require ≡ done ++ k ∷ ks → ClauseHasNoTest k
-  testless_clause done ks k e =
+  clause_without_test : (done ks : List Clause) (k : Clause) → r.require ≡ done ++ k ∷ ks → ClauseHasNoTest k
+  clause_without_test done ks k e =
       (each_behind ClauseHasNoTest done (k ∷ ks)
       (subst (Each ClauseHasNoTest) e (no_tests s root faultless well me.class r.name r named).require)).0
 
@@ -120,7 +120,7 @@ module _ (extends : StepExtends) (leaves : StepOldless) (contract : StepOfContra
           at = clause_of O me r bs k;
           reaches = begins;
           stands = refl;
-          oldless = (oldless_clause done ks k e, tt);
+          without_old = (clause_without_old done ks k e, tt);
         }),
     record { objects_are = refl; text_is = refl; environment_is = refl; result_is = refl; olds_are = refl },
   )
@@ -131,7 +131,7 @@ module _ (extends : StepExtends) (leaves : StepOldless) (contract : StepOfContra
       (p : Point) (none : p.olds ≡ [])
       (a : At k ks p) (z : StandsInClauses s pure r.contract n [] p) where
     here : InContract O me r bs p
-    here = in_clause k (Required k ∷ behind_clause r ks) p (testless_clause done ks k e) a z.text_is none
+    here = in_clause k (Required k ∷ behind_clause r ks) p (clause_without_test done ks k e) a z.text_is none
 
     -- behind the clause, whatever is left
     left : {ts : List Task} {vs : List Operand} → InContract O me r bs (record p { tasks = ts; values = vs })
@@ -206,7 +206,7 @@ module _ (extends : StepExtends) (leaves : StepOldless) (contract : StepOfContra
   within_so done ks k e holds p none (Goes q) y z f = (
     at.inside done ks k e holds (y.1 ∙ none) y.0,
     in_clause k (Required k ∷ behind_clause r ks) q
-        (testless_clause done ks k e) y.0 z.text_is (y.1 ∙ none),
+        (clause_without_test done ks k e) y.0 z.text_is (y.1 ∙ none),
   )
   within_so done ks k e holds p none (Does (Enters c o x us g) q) y z f = by z.1.0 z.1.1 z.1.2.text_is y
     where
@@ -218,7 +218,7 @@ module _ (extends : StepExtends) (leaves : StepOldless) (contract : StepOfContra
         f.0,
         z.0,
         at.inside done ks k e holds (same ∙ none) (subst (λ g. Done k ks (Enters c o x us g) q) i d),
-        done_clause k (Required k ∷ behind_clause r ks) (Enters c o x us g) q (testless_clause done ks k e) d (λ q y. y)
+        done_clause k (Required k ∷ behind_clause r ks) (Enters c o x us g) q (clause_without_test done ks k e) d (λ q y. y)
             (λ n. cc) text (same ∙ none),
       )
   within_so done ks k e holds p none (Does (Requests o x us g passes) q) y z f = by z.1.0 z.1.1 z.1.2.text_is y
@@ -233,7 +233,7 @@ module _ (extends : StepExtends) (leaves : StepOldless) (contract : StepOfContra
         at.inside done ks k e holds (same ∙ none)
             (subst (λ b. Done k ks (Requests o x us (Some t) b) q) z.0
             (subst (λ g. Done k ks (Requests o x us g passes) q) i d)),
-        done_clause k (Required k ∷ behind_clause r ks) (Requests o x us g passes) q (testless_clause done ks k e) d
+        done_clause k (Required k ∷ behind_clause r ks) (Requests o x us g passes) q (clause_without_test done ks k e) d
             (λ q y. y) (λ n. cc) text (same ∙ none),
       )
   within_so done ks k e holds p none (Does Starts q) y z f = absurd y
@@ -294,7 +294,7 @@ module _ (extends : StepExtends) (leaves : StepOldless) (contract : StepOfContra
       subst (InContract O me r bs) (sym i)
       (record { objects_are = refl; text_is = refl; environment_is = refl; result_is = refl; olds_are = refl })
   in_contract p (at.inside done ks k e holds none a) text = in_clause k (Required k ∷ behind_clause r ks) p
-      (testless_clause done ks k e) a text none
+      (clause_without_test done ks k e) a text none
 
   -- So does its next turn.
   pub clauses_move : (p : Point) → ClausesAt s M O me r bs p → StandsSo s pure r me [] p →

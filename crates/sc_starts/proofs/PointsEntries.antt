@@ -20,7 +20,7 @@ use Rattle.sc_model.specs.Values.{Reference, Value, Operand}
 use Rattle.sc_settled.proofs.Modes.{IsVersionOf, routine_found}
 use Rattle.sc_settled.proofs.Purely.{is_routine}
 use Rattle.sc_evaluation.specs.Evaluating.{Answers, routine, enters, requests}
-use Rattle.sc_evaluation.specs.Laws.{TextsAreTestless}
+use Rattle.sc_evaluation.specs.Laws.{TextsAreWithoutTests}
 use Rattle.sc_evaluation.proofs.Holding.{given}
 use Rattle.sc_starts.specs.Following.{AreBound, ClausesAt, ClauseDone, HasDone, IsAt, Own, PureAt, PureCalls, behind_clause, between_point, body_tasks, bound_in, start_of}
 use Rattle.sc_starts.specs.Following as at
@@ -38,7 +38,7 @@ module _ (s : System) (M : ℕ → Type 0) (O : ℕ → List Object) (me : Refer
     at = given v t d.after;
     reaches = enters d.reaches d.step_is a;
     stands = ap (given v t) d.stands;
-    oldless = d.oldless;
+    without_old = d.without_old;
   }
 
   pub requested_on : (p : Point) (o : Reference) (x : List ℕ) (us : List Operand) (t : EntityType)
@@ -49,7 +49,7 @@ module _ (s : System) (M : ℕ → Type 0) (O : ℕ → List Object) (me : Refer
     at = given v t d.after;
     reaches = requests d.reaches d.step_is a;
     stands = ap (given v t) d.stands;
-    oldless = d.oldless;
+    without_old = d.without_old;
   }
 
 pub clause_goes_on : ClauseGoesOn
@@ -121,11 +121,11 @@ pub takes_bound : (s : System) (r : Routine) (bs : List Binding) → AreBound s 
 takes_bound s r bs (vs, e) =
     subst (λ (n : ℕ). take n bs ≡ bs) (bound_length s r.text.formals 0 r.text.formals vs bs e) (take_all bs)
 
-module _ (testless : TextsAreTestless) where
+module _ (without_tests : TextsAreWithoutTests) where
   pub entry_follows : EntryFollows
   entry_follows s root faultless well O me x r named bs bound o = (
     at.before (requires r.require ++ keeps_olds (olds_of_clauses r.ensure)) refl
-        (testless s root faultless well me.class x r named).before refl refl,
+        (without_tests s root faultless well me.class x r named).before refl refl,
     takes_bound s r bs bound,
   )
 

@@ -13,12 +13,12 @@ use Rattle.sc_settled.proofs.Walking.{MayAssign, SteppedSo, moves_so}
 use Rattle.sc_settled.proofs.Modes.{Any, any_branches, any_expr, any_instrs, any_variable}
 use Rattle.sc_evaluation.specs.Evaluating.{extended, extended_step}
 use Rattle.sc_evaluation.specs.Laws.{StepExtends}
-use Rattle.sc_evaluation.specs.Texts.{IsOldless}
+use Rattle.sc_evaluation.specs.Texts.{TaskHasNoOld}
 
 -- ---- any tasks
 
 module _ (K : Type 0) where
-  any_task : (t : Task) → IsOldless t → OfTask Any Any (Unit {0}) K t
+  any_task : (t : Task) → TaskHasNoOld t → OfTask Any Any (Unit {0}) K t
   any_task (Do body) o = any_instrs body
   any_task (Eval i e) o = any_expr e
   any_task (EvalRight op i e) o = any_expr e
@@ -49,11 +49,11 @@ module _ (K : Type 0) where
     abbrev AnyTasks : ℕ → List Task → Type 0
     AnyTasks k ts = OfTasks (λ k. Any) (λ k. Any) (Unit {0}) K End F k ts
 
-    behind_any : (t : Task) (ts : List Task) (X : Type 0) → IsOldless t → X → Behind F t ts X
+    behind_any : (t : Task) (ts : List Task) (X : Type 0) → TaskHasNoOld t → X → Behind F t ts X
     behind_any (Require ks) ts X o x = absurd o
     behind_any t ts X o x = x
 
-    any_tasks : (ts rest : List Task) → Each IsOldless ts → ((k : ℕ) → AnyTasks k rest) → (k : ℕ) →
+    any_tasks : (ts rest : List Task) → Each TaskHasNoOld ts → ((k : ℕ) → AnyTasks k rest) → (k : ℕ) →
         AnyTasks k (ts ++ rest)
     any_tasks [] rest o l k = l k
     any_tasks (t ∷ ts) rest o l k = (
@@ -75,7 +75,7 @@ IsWithin (Does Exits q) = ⊥
 IsWithin st = Unit {0}
 
 module _ (extends : StepExtends) (s : System) (me : Reference) (p : Point) (t : Task) (rest : List Task)
-    (e : p.tasks ≡ t ∷ rest) (o : Each IsOldless p.tasks) where
+    (e : p.tasks ≡ t ∷ rest) (o : Each TaskHasNoOld p.tasks) where
   -- no body starts, and nothing is refused
   abbrev NoneStarts : Step → Type 0
   NoneStarts x = SteppedSo s me (λ k. Any) (λ k. Any) (Unit {0}) ⊥ (Unit {0}) (λ ts. ⊥) (λ os. Unit {0})
@@ -116,7 +116,7 @@ module _ (extends : StepExtends) (s : System) (me : Reference) (p : Point) (t : 
           (then_go (extended_step p.olds (Require [] ∷ []) x) (first_visible (size Longer.tasks) s me))
       longer x i = subst (λ x. NoneExits
           (then_go x (first_visible (size Longer.tasks) s me)))
-          (extends s me p.olds (Require [] ∷ []) p t rest e (subst (Each IsOldless) e o).0
+          (extends s me p.olds (Require [] ∷ []) p t rest e (subst (Each TaskHasNoOld) e o).0
           ∙ ap (extended_step p.olds (Require [] ∷ [])) i) exits_never
 
       by : (x : Step) → step s me p ≡ x → IsWithin x

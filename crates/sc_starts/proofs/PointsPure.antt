@@ -29,7 +29,7 @@ use Rattle.sc_settled.proofs.Walking.{MayAssign, SteppedSo, moves_so}
 use Rattle.sc_halves.specs.Calm.{CalmStep, name_of}
 use Rattle.sc_halves.proofs.Clausal.{own_values, still_there}
 use Rattle.sc_evaluation.specs.Evaluating.{Reaches, begins}
-use Rattle.sc_evaluation.specs.Laws.{StaysInContract, StepExtends, StepOfContract, StepOldless, StepsInContract, TextsAreOldless, TextsAreTestless}
+use Rattle.sc_evaluation.specs.Laws.{StaysInContract, StepExtends, StepOfContract, StepKeepsNoOld, StepsInContract, TextsAreWithoutOld, TextsAreWithoutTests}
 use Rattle.sc_evaluation.specs.Texts.{IsOfContract}
 use Rattle.sc_starts.specs.Following.{AreBound, HasDone, IsAt, Own, PureAt, PureCalls, behind_body, body_tasks, start_of}
 use Rattle.sc_starts.specs.Following as at
@@ -79,8 +79,8 @@ module _ (s : System) (pure : RoutineName → Bool) (me : Reference) (os : List 
 
 -- ---- a step
 
-module _ (extends : StepExtends) (leaves : StepOldless) (contract : StepOfContract) (no_olds : TextsAreOldless)
-    (no_tests : TextsAreTestless)
+module _ (extends : StepExtends) (leaves : StepKeepsNoOld) (contract : StepOfContract) (no_olds : TextsAreWithoutOld)
+    (no_tests : TextsAreWithoutTests)
     (s : System) (root : Root) (pure : RoutineName → Bool) (faultless : IsFaultless s root) (well : WellFormed s)
     (tells : IsPurity s pure)
     (r : Routine) (me : Reference) (named : routine_named s me.class r.name ≡ Some r) (is : pure (name_of r) ≡ true)
@@ -197,7 +197,7 @@ module _ (extends : StepExtends) (leaves : StepOldless) (contract : StepOfContra
     at = start_of s O me r bs;
     reaches = begins;
     stands = same p.objects p.environment p.result p.values j i u v;
-    oldless = (tt, ((no_olds s root faultless well me.class r.name r named).body, tt));
+    without_old = (tt, ((no_olds s root faultless well me.class r.name r named).body, tt));
   }))
     where
       same : (os : List Object) (cs : List Binding) (u : Option Operand) (vs : List Operand) → os ≡ O me.handler →

@@ -28,11 +28,11 @@ use Rattle.sc_halves.proofs.Unstarted.{each_stands}
 use Rattle.sc_settled.proofs.Modes.{RunsPure, StandsAs}
 use Rattle.sc_settled.proofs.Stacks.{Stands}
 use Rattle.sc_settled.proofs.Reaching.{reached_good}
-use Rattle.sc_evaluation.proofs.Bodies.{texts_are_oldless}
+use Rattle.sc_evaluation.proofs.Bodies.{texts_are_without_old}
 use Rattle.sc_evaluation.proofs.Contracts.{step_of_contract}
 use Rattle.sc_evaluation.proofs.Extending.{step_extends}
-use Rattle.sc_evaluation.proofs.Oldless.{step_oldless}
-use Rattle.sc_evaluation.proofs.Testless.{texts_are_testless}
+use Rattle.sc_evaluation.proofs.WithoutOld.{step_keeps_no_old}
+use Rattle.sc_evaluation.proofs.WithoutTests.{texts_are_without_tests}
 use Rattle.sc_starts.specs.Following.{ClausesAt, behind_clause, between_point, bound_in, objects_of}
 use Rattle.sc_starts.specs.Following as at
 use Rattle.sc_starts.specs.Points.{ClauseMoves, EntryFollows, GoesOn, PureMoves}
@@ -109,7 +109,7 @@ module _ (s : System) (root : Root) (pure : RoutineName → Bool) (faultless : I
 
 pub clause_moves : ClauseMoves
 clause_moves s root pure faultless well tells most w reached h f below g M bs a =
-    clauses_move step_extends step_oldless step_of_contract texts_are_oldless texts_are_testless s root pure faultless
+    clauses_move step_extends step_keeps_no_old step_of_contract texts_are_without_old texts_are_without_tests s root pure faultless
     well tells f.routine f.current
     (frame s root pure faultless well tells most w reached h f below g).is_version
     (formals_known s f.routine.text.formals) M (objects_of w) bs
@@ -120,7 +120,7 @@ clause_moves s root pure faultless well tells most w reached h f below g M bs a 
 
 pub pure_moves : PureMoves
 pure_moves s root pure faultless well tells most w reached h f below g is bound a =
-    functions_move step_extends step_oldless step_of_contract texts_are_oldless texts_are_testless s root pure faultless
+    functions_move step_extends step_keeps_no_old step_of_contract texts_are_without_old texts_are_without_tests s root pure faultless
     well tells f.routine f.current
     (frame s root pure faultless well tells most w reached h f below g).is_version is (objects_of w) (bound_in f) bound
     (point_of f (w.handlers h).objects) a
@@ -131,4 +131,4 @@ pure_moves s root pure faultless well tells most w reached h f below g is bound 
     (each_pure_is_calm s root pure faultless well tells most w reached h g.is_there f below g.stack_is g.runs is)
 
 pub entry_follows : EntryFollows
-entry_follows = entries.entry_follows texts_are_testless
+entry_follows = entries.entry_follows texts_are_without_tests

@@ -9,14 +9,14 @@ use Rattle.sc_model.specs.Tasks.{Task}
 use Rattle.sc_model.specs.Values.{Reference, Operand}
 use Rattle.sc_values.specs.Points.{Each}
 use Rattle.sc_evaluation.specs.Evaluating.{Reaches, extended, extended_step, goes, tests, begins, enters, requests}
-use Rattle.sc_evaluation.specs.Laws.{StepExtends, StepOfContract, StepOldless, StaysInContract, StepsInContract, point_after}
-use Rattle.sc_evaluation.specs.Texts.{IsOfContract, IsOldless}
+use Rattle.sc_evaluation.specs.Laws.{StepExtends, StepOfContract, StepKeepsNoOld, StaysInContract, StepsInContract, point_after}
+use Rattle.sc_evaluation.specs.Texts.{IsOfContract, TaskHasNoOld}
 use Rattle.sc_starts.specs.Following.{HasDone, IsAt}
 use Rattle.sc_starts.proofs.PointsKinds.{IsWithin, step_is_within}
 
 -- ---- within a text
 
-module _ (extends : StepExtends) (leaves : StepOldless) (s : System) (M : ℕ → Type 0) (O : ℕ → List Object)
+module _ (extends : StepExtends) (leaves : StepKeepsNoOld) (s : System) (M : ℕ → Type 0) (O : ℕ → List Object)
     (me : Reference) (start : Point) (ts : List Task) where
   -- The step goes on in the text, or has done what is seen; the `old`s are these.
   abbrev pub Stepped : List Operand → Step → Type 0
@@ -29,15 +29,15 @@ module _ (extends : StepExtends) (leaves : StepOldless) (s : System) (M : ℕ �
   Stepped os (Does a q) = HasDone s M O me start ts a q × (q.olds ≡ os)
 
   did : (os : List Operand) (before : Point) → Reaches s M O me start before → (a : Act) (q : Point) →
-      step s me before ≡ Does a q → Each IsOldless q.tasks → HasDone s M O me start ts a (extended os ts q)
-  did os before r a q e o = record { before = before; after = q; reaches = r; step_is = e; stands = refl; oldless = o }
+      step s me before ≡ Does a q → Each TaskHasNoOld q.tasks → HasDone s M O me start ts a (extended os ts q)
+  did os before r a q e o = record { before = before; after = q; reaches = r; step_is = e; stands = refl; without_old = o }
 
   extended_so : (os : List Operand) (before : Point) → Reaches s M O me start before → (x : Step) →
-      step s me before ≡ x → IsWithin x → Each IsOldless (point_after x).tasks →
+      step s me before ≡ x → IsWithin x → Each TaskHasNoOld (point_after x).tasks →
       Stepped os (extended_step os ts x)
-  extended_so os before r (Goes q) e w o = (record { at = q; reaches = goes r e; stands = refl; oldless = o }, refl)
+  extended_so os before r (Goes q) e w o = (record { at = q; reaches = goes r e; stands = refl; without_old = o }, refl)
   extended_so os before r (Does Tests q) e w o =
-      (record { at = q; reaches = tests r e; stands = refl; oldless = o }, refl)
+      (record { at = q; reaches = tests r e; stands = refl; without_old = o }, refl)
   extended_so os before r (Does (Fails why) q) e w o = tt
   extended_so os before r (Does Starts q) e w o = w
   extended_so os before r (Does (Refuses k) q) e w o = w
@@ -56,9 +56,9 @@ module _ (extends : StepExtends) (leaves : StepOldless) (s : System) (M : ℕ �
       Stepped p.olds (step s me p)
   step_within p a t rest e =
       subst (Stepped p.olds) (sym
-      (ap (step s me) a.stands ∙ extends s me p.olds ts a.at t rest e (subst (Each IsOldless) e a.oldless).0))
-      (extended_so p.olds a.at a.reaches (step s me a.at) refl (step_is_within extends s me a.at t rest e a.oldless)
-      (leaves s me a.at a.oldless))
+      (ap (step s me) a.stands ∙ extends s me p.olds ts a.at t rest e (subst (Each TaskHasNoOld) e a.without_old).0))
+      (extended_so p.olds a.at a.reaches (step s me a.at) refl (step_is_within extends s me a.at t rest e a.without_old)
+      (leaves s me a.at a.without_old))
 
 -- ---- contracts
 

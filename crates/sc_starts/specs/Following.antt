@@ -21,7 +21,7 @@ use Rattle.sc_halves.specs.Calm.{name_of}
 use Rattle.sc_halves.specs.Entries.{HasStarted}
 use Rattle.sc_halves.specs.Clauses.{RunsPureIfRoutine}
 use Rattle.sc_evaluation.specs.Evaluating.{Answers, Reaches, EndsTrue, clause_point, extended}
-use Rattle.sc_evaluation.specs.Texts.{IsOldless, IsOfContract}
+use Rattle.sc_evaluation.specs.Texts.{TaskHasNoOld, IsOfContract}
 
 -- ---- objects, handlers that may be asked, and actuals
 
@@ -66,7 +66,7 @@ pub record IsAt (s : System) (M : ℕ → Type 0) (O : ℕ → List Object) (me 
   pub at : Point
   pub reaches : Reaches s M O me start at
   pub stands : p ≡ extended p.olds ts at
-  pub oldless : Each IsOldless at.tasks
+  pub without_old : Each TaskHasNoOld at.tasks
 
 -- It has made this call, and what the call gives is still to come.
 pub record HasDone (s : System) (M : ℕ → Type 0) (O : ℕ → List Object) (me : Reference) (start : Point) (ts : List Task)
@@ -76,7 +76,7 @@ pub record HasDone (s : System) (M : ℕ → Type 0) (O : ℕ → List Object) (
   pub reaches : Reaches s M O me start before
   pub step_is : step s me before ≡ Does a after
   pub stands : p ≡ extended p.olds ts after
-  pub oldless : Each IsOldless after.tasks
+  pub without_old : Each TaskHasNoOld after.tasks
 
 -- ---- points: a pure function, with these actuals
 

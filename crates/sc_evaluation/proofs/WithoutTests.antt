@@ -26,7 +26,7 @@ use Rattle.sc_model.specs.Tasks.{ensures, keeps_olds, requires}
 use Rattle.sc_values.specs.Points.{Each}
 use Rattle.sc_values.proofs.Applying.{plain_operand}
 use Rattle.sc_values.proofs.Lists.{each_append}
-use Rattle.sc_evaluation.specs.Laws.{IsWithoutTests, TextsAreTestless}
+use Rattle.sc_evaluation.specs.Laws.{IsWithoutTests, TextsAreWithoutTests}
 use Rattle.sc_evaluation.specs.Texts.{ClauseHasNoTest, HasNoTest, HaveNoTest, IsOfContract}
 use Rattle.sc_evaluation.proofs.Bodies.{each_from}
 use Rattle.sc_evaluation.proofs.Stems.{IsDeclared, Stem, ensure_is, require_is, stem}
@@ -62,32 +62,32 @@ mutual
 -- ---- what `old`s keep
 
 mutual
-  olds_testless : (e : Expr) → HasNoTest e → Each HasNoTest (olds_of e)
-  olds_testless (tree.Integer q z) o = tt
-  olds_testless (tree.Boolean q b) o = tt
-  olds_testless (tree.Void q) o = tt
-  olds_testless (tree.Current q) o = tt
-  olds_testless (tree.Result q) o = tt
-  olds_testless (tree.Call q tree.no_target x es) o = each_testless es o
-  olds_testless (tree.Call q (tree.target a) x es) o = each_append HasNoTest (olds_of a) (olds_of_each es)
-      (olds_testless a o.0) (each_testless es o.1)
-  olds_testless (tree.Unary q unary.Old a) o = (o, tt)
-  olds_testless (tree.Unary q unary.Not a) o = olds_testless a o
-  olds_testless (tree.Unary q unary.Plus a) o = olds_testless a o
-  olds_testless (tree.Unary q unary.Minus a) o = olds_testless a o
-  olds_testless (tree.Binary q op a b) o = each_append HasNoTest (olds_of a) (olds_of b) (olds_testless a o.0)
-      (olds_testless b o.1)
-  olds_testless (tree.ObjectTest q d a x) o = absurd o
+  olds_without_tests : (e : Expr) → HasNoTest e → Each HasNoTest (olds_of e)
+  olds_without_tests (tree.Integer q z) o = tt
+  olds_without_tests (tree.Boolean q b) o = tt
+  olds_without_tests (tree.Void q) o = tt
+  olds_without_tests (tree.Current q) o = tt
+  olds_without_tests (tree.Result q) o = tt
+  olds_without_tests (tree.Call q tree.no_target x es) o = each_without_tests es o
+  olds_without_tests (tree.Call q (tree.target a) x es) o = each_append HasNoTest (olds_of a) (olds_of_each es)
+      (olds_without_tests a o.0) (each_without_tests es o.1)
+  olds_without_tests (tree.Unary q unary.Old a) o = (o, tt)
+  olds_without_tests (tree.Unary q unary.Not a) o = olds_without_tests a o
+  olds_without_tests (tree.Unary q unary.Plus a) o = olds_without_tests a o
+  olds_without_tests (tree.Unary q unary.Minus a) o = olds_without_tests a o
+  olds_without_tests (tree.Binary q op a b) o = each_append HasNoTest (olds_of a) (olds_of b) (olds_without_tests a o.0)
+      (olds_without_tests b o.1)
+  olds_without_tests (tree.ObjectTest q d a x) o = absurd o
 
-  each_testless : (es : Exprs) → HaveNoTest es → Each HasNoTest (olds_of_each es)
-  each_testless no_exprs o = tt
-  each_testless (expr_then e es) o = each_append HasNoTest (olds_of e) (olds_of_each es) (olds_testless e o.0)
-      (each_testless es o.1)
+  each_without_tests : (es : Exprs) → HaveNoTest es → Each HasNoTest (olds_of_each es)
+  each_without_tests no_exprs o = tt
+  each_without_tests (expr_then e es) o = each_append HasNoTest (olds_of e) (olds_of_each es) (olds_without_tests e o.0)
+      (each_without_tests es o.1)
 
-clauses_testless : (ks : List Clause) → Each ClauseHasNoTest ks → Each HasNoTest (olds_of_clauses ks)
-clauses_testless [] o = tt
-clauses_testless (k ∷ ks) o = each_append HasNoTest (olds_of k.condition) (olds_of_clauses ks)
-    (olds_testless k.condition o.0) (clauses_testless ks o.1)
+clauses_without_tests : (ks : List Clause) → Each ClauseHasNoTest ks → Each HasNoTest (olds_of_clauses ks)
+clauses_without_tests [] o = tt
+clauses_without_tests (k ∷ ks) o = each_append HasNoTest (olds_of k.condition) (olds_of_clauses ks)
+    (olds_without_tests k.condition o.0) (clauses_without_tests ks o.1)
 
 -- ---- tasks of contracts
 
@@ -106,11 +106,11 @@ ensures_of_contract i (k ∷ ks) o = (o.0, (tt, ensures_of_contract (i + olds_in
 without_tests : (r : Routine) → Each ClauseHasNoTest r.require → Each ClauseHasNoTest r.ensure → IsWithoutTests r
 without_tests r o e = record {
   require = o;
-  olds = clauses_testless r.ensure e;
+  olds = clauses_without_tests r.ensure e;
   ensure = e;
   before = each_append IsOfContract (requires r.require) (keeps_olds (olds_of_clauses r.ensure))
       (requires_of_contract r.require o)
-      (keeps_of_contract (olds_of_clauses r.ensure) (clauses_testless r.ensure e));
+      (keeps_of_contract (olds_of_clauses r.ensure) (clauses_without_tests r.ensure e));
   behind = ensures_of_contract 0 r.ensure e;
 }
 
@@ -122,29 +122,29 @@ module _ (s : System) (pure : RoutineName → Bool) (well : WellFormed s) (tells
   abbrev judged : RoutineContext
   judged = context_of s pure f.class routine
 
-  clause_testless : (c : Context) (k : Clause) →
+  clause_without_tests : (c : Context) (k : Clause) →
       Stands s pure judged (expression c Plain (formals_known s routine.formals) k.condition) → HasNoTest k.condition
-  clause_testless c k w = no_test refl
+  clause_without_tests c k w = no_test refl
       (each_is_typed_lem s pure well tells judged c Plain (formals_known s routine.formals) k.condition w).2
 
-  require_testless : Each ClauseHasNoTest routine.precondition
-  require_testless = each_from ClauseHasNoTest routine.precondition
-      (λ k l. clause_testless context.Require k (stands_in (laws.precondition d.is_class d.declares d.kind l) itself))
+  require_without_tests : Each ClauseHasNoTest routine.precondition
+  require_without_tests = each_from ClauseHasNoTest routine.precondition
+      (λ k l. clause_without_tests context.Require k (stands_in (laws.precondition d.is_class d.declares d.kind l) itself))
 
-  ensure_testless : Each ClauseHasNoTest routine.postcondition
-  ensure_testless = each_from ClauseHasNoTest routine.postcondition
-      (λ k l. clause_testless context.Ensure k (stands_in (laws.postcondition d.is_class d.declares d.kind l) itself))
+  ensure_without_tests : Each ClauseHasNoTest routine.postcondition
+  ensure_without_tests = each_from ClauseHasNoTest routine.postcondition
+      (λ k l. clause_without_tests context.Ensure k (stands_in (laws.postcondition d.is_class d.declares d.kind l) itself))
 
-texts_testless : (s : System) (pure : RoutineName → Bool) → WellFormed s → IsPurity s pure → (r : Routine) → Stem s r →
+texts_without_tests : (s : System) (pure : RoutineName → Bool) → WellFormed s → IsPurity s pure → (r : Routine) → Stem s r →
     IsWithoutTests r
-texts_testless s pure well tells r m = without_tests r
+texts_without_tests s pure well tells r m = without_tests r
     (subst (Each ClauseHasNoTest) (require_is s r m)
-    (require_testless s pure well tells m.origin m.original m.has_contract))
+    (require_without_tests s pure well tells m.origin m.original m.has_contract))
     (subst (Each ClauseHasNoTest) (ensure_is s r m)
-    (ensure_testless s pure well tells m.origin m.original m.has_contract))
+    (ensure_without_tests s pure well tells m.origin m.original m.has_contract))
 
-pub texts_are_testless : TextsAreTestless
-texts_are_testless s root faultless well k x r e = by (purity_stands s)
+pub texts_are_without_tests : TextsAreWithoutTests
+texts_are_without_tests s root faultless well k x r e = by (purity_stands s)
   where
     by : (pure : RoutineName → Bool) × IsPurity s pure → IsWithoutTests r
-    by (pure, tells) = texts_testless s pure well tells r (stem s root pure faultless well tells k x r e)
+    by (pure, tells) = texts_without_tests s pure well tells r (stem s root pure faultless well tells k x r e)

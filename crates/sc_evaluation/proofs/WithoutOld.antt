@@ -38,10 +38,10 @@ use Rattle.sc_model.specs.ObjectTests.{is_tested, binds_if, binds}
 use Rattle.sc_model.specs.Expressions.{gives_outcome, gives_truth, apply_unary, apply_to_integers, apply_to_booleans, is_same_object, apply_binary, applies, decided_by, evals_right, concludes, reads_result, reads_own, begins_kind, begins_feature, begins_name, evaluate}
 use Rattle.sc_model.specs.Instructions.{assigns, prints, chooses_other, chooses, ends_loop, tests, opens, actuals_of, procedure_of, begins_routine, begins}
 use Rattle.sc_model.specs.Moves.{performs, step_at}
-use Rattle.sc_evaluation.specs.Laws.{StepOldless, point_after}
+use Rattle.sc_evaluation.specs.Laws.{StepKeepsNoOld, point_after}
 use Rattle.sc_values.specs.Points.{Each}
 use Rattle.sc_values.proofs.Lists.{each_append}
-use Rattle.sc_evaluation.specs.Texts.{HasNoOld, HaveNoOld, ClauseHasNoOld, HeadHasNoOld, CallHasNoOld, OldlessInstr, OldlessInstrs, OldlessBranches, IsOldless}
+use Rattle.sc_evaluation.specs.Texts.{HasNoOld, HaveNoOld, ClauseHasNoOld, HeadHasNoOld, CallHasNoOld, InstrHasNoOld, InstrsHaveNoOld, BranchesHaveNoOld, TaskHasNoOld}
 
 left_none : {A : Type 0} (xs ys : List A) → length (xs ++ ys) ≡ 0 → length xs ≡ 0
 left_none [] ys e = refl
@@ -53,33 +53,33 @@ right_none (x ∷ xs) ys e = absurd (omega (arith, e))
 
 -- ---- tasks that constructs set out
 
-evals_oldless : (i : ℕ) (es : Exprs) → HaveNoOld es → Each IsOldless (evals i es)
-evals_oldless i no_exprs o = tt
-evals_oldless i (expr_then e es) o = (
+evals_without_old : (i : ℕ) (es : Exprs) → HaveNoOld es → Each TaskHasNoOld (evals i es)
+evals_without_old i no_exprs o = tt
+evals_without_old i (expr_then e es) o = (
   left_none (olds_of e) (olds_of_each es) o,
-  evals_oldless (i + olds_in e) es
+  evals_without_old (i + olds_in e) es
       (right_none (olds_of e) (olds_of_each es) o),
 )
 
-heads_oldless : (ds : List Head) → Each HeadHasNoOld ds → Each IsOldless (head_evals ds)
-heads_oldless [] o = tt
-heads_oldless (d ∷ ds) o = (o.0, heads_oldless ds o.1)
+heads_without_old : (ds : List Head) → Each HeadHasNoOld ds → Each TaskHasNoOld (head_evals ds)
+heads_without_old [] o = tt
+heads_without_old (d ∷ ds) o = (o.0, heads_without_old ds o.1)
 
-checks_oldless : (ks : List Clause) → Each ClauseHasNoOld ks → Each IsOldless (checks ks)
-checks_oldless [] o = tt
-checks_oldless (k ∷ ks) o = (o.0, (tt, checks_oldless ks o.1))
+checks_without_old : (ks : List Clause) → Each ClauseHasNoOld ks → Each TaskHasNoOld (checks ks)
+checks_without_old [] o = tt
+checks_without_old (k ∷ ks) o = (o.0, (tt, checks_without_old ks o.1))
 
 -- these, one more, and the others
-behind_these : (us : List Task) (t : Task) (ts : List Task) → Each IsOldless us → IsOldless t → Each IsOldless ts →
-    Each IsOldless ((us ++ t ∷ []) ++ ts)
-behind_these us t ts o a l = each_append IsOldless (us ++ t ∷ []) ts (each_append IsOldless us (t ∷ []) o (a, tt)) l
+behind_these : (us : List Task) (t : Task) (ts : List Task) → Each TaskHasNoOld us → TaskHasNoOld t → Each TaskHasNoOld ts →
+    Each TaskHasNoOld ((us ++ t ∷ []) ++ ts)
+behind_these us t ts o a l = each_append TaskHasNoOld (us ++ t ∷ []) ts (each_append TaskHasNoOld us (t ∷ []) o (a, tt)) l
 
 module _ (s : System) (me : Reference) where
   abbrev Left : Point → Type 0
-  Left p = Each IsOldless p.tasks
+  Left p = Each TaskHasNoOld p.tasks
 
   abbrev Leaves : Step → Type 0
-  Leaves st = Each IsOldless (point_after st).tasks
+  Leaves st = Each TaskHasNoOld (point_after st).tasks
 
   if_l : (b : Bool) (x y : Step) → Leaves x → Leaves y → Leaves (if b then x else y)
   if_l true x y h k = h
@@ -282,7 +282,7 @@ module _ (s : System) (me : Reference) where
   begins_kind_l x (tree.Attribute d) i es p o l = reads_own_l (given_type s (current (place_in s p.text)) d)
       (binding_named x (attributes_of me.number p.objects)) p l
   begins_kind_l x (tree.Routine r) i es p o l = behind_these (evals i es) (CallUnqualified x (count es)) p.tasks
-      (evals_oldless i es o) tt l
+      (evals_without_old i es o) tt l
 
   begins_feature_l : (x : List ℕ) (f : Option DeclaredFeature) (i : ℕ) (es : Exprs) (p : Point) → HaveNoOld es →
       Left p → Leaves (begins_feature s me x f i es p)
@@ -305,7 +305,7 @@ module _ (s : System) (me : Reference) where
   evaluate_l i (tree.Call q (tree.target a) x es) p o l = (
     left_none (olds_of a) (olds_of_each es) o,
     behind_these (evals (i + olds_in a) es) (CallQualified x.text (count es)) p.tasks
-        (evals_oldless (i + olds_in a) es (right_none (olds_of a) (olds_of_each es) o)) tt l,
+        (evals_without_old (i + olds_in a) es (right_none (olds_of a) (olds_of_each es) o)) tt l,
   )
   evaluate_l i (tree.Unary q unary.Old a) p o l = absurd (omega (arith, o))
   evaluate_l i (tree.Unary q unary.Not a) p o l = (o, (tt, l))
@@ -329,19 +329,19 @@ module _ (s : System) (me : Reference) where
   prints_l Void p l = tt
   prints_l (Attached r) p l = tt
 
-  other_l : (depth : ℕ) (bs : Branches) (other : Instrs) (p : Point) → OldlessBranches bs → OldlessInstrs other →
+  other_l : (depth : ℕ) (bs : Branches) (other : Instrs) (p : Point) → BranchesHaveNoOld bs → InstrsHaveNoOld other →
       Left p → Leaves (chooses_other depth bs other p)
   other_l depth no_branches other p o a l = (a, l)
   other_l depth (branch_then e body bs) other p o a l = (o.0, ((o.1.0, (o.1.1, a)), l))
 
   chooses_l : (depth : ℕ) (v : Value) (body : Instrs) (bs : Branches) (other : Instrs) (p : Point) →
-      OldlessInstrs body → OldlessBranches bs → OldlessInstrs other →
+      InstrsHaveNoOld body → BranchesHaveNoOld bs → InstrsHaveNoOld other →
       Left p → Leaves (chooses depth v body bs other p)
   chooses_l depth (Boolean true) body bs other p o a b l = (o, (tt, l))
   chooses_l depth (Boolean false) body bs other p o a b l = other_l depth bs other (forgets depth p) a b l
   chooses_l depth v body bs other p o a b l = tt
 
-  ends_loop_l : (v : Value) (e : tree.Expr) (body : Instrs) (p : Point) → HasNoOld e → OldlessInstrs body → Left p →
+  ends_loop_l : (v : Value) (e : tree.Expr) (body : Instrs) (p : Point) → HasNoOld e → InstrsHaveNoOld body → Left p →
       Leaves (ends_loop v e body p)
   ends_loop_l (Boolean true) e body p o a l = l
   ends_loop_l (Boolean false) e body p o a l = (a, ((o, a), l))
@@ -353,7 +353,7 @@ module _ (s : System) (me : Reference) where
   tests_l why v p l = tt
 
   opens_l : (xs : List Name) (body : Instrs) (us : Option (List Operand × List Operand)) (p : Point) →
-      OldlessInstrs body → Left p → Leaves (opens xs body us p)
+      InstrsHaveNoOld body → Left p → Leaves (opens xs body us p)
   opens_l xs body None p o l = tt
   opens_l xs body (Some (us, vs)) p o l = (o, (tt, l))
 
@@ -363,32 +363,32 @@ module _ (s : System) (me : Reference) where
   routine_l true x (expr_then e no_exprs) p o l = (left_none (olds_of e) [] o, (tt, l))
   routine_l true x (expr_then e (expr_then d es)) p o l = tt
   routine_l false x es p o l = behind_these (evals 0 es) (CallUnqualified x (count es)) p.tasks
-      (evals_oldless 0 es o) tt l
+      (evals_without_old 0 es o) tt l
 
   called : (c : Option CreationCall) → CallHasNoOld c → HaveNoOld (actuals_of c)
   called None o = refl
   called (Some k) o = o
 
-  begins_l : (i : Instr) (p : Point) → OldlessInstr i → Left p → Leaves (begins i p)
+  begins_l : (i : Instr) (p : Point) → InstrHasNoOld i → Left p → Leaves (begins i p)
   begins_l (tree.Assign q x e) p o l = (o, (tt, l))
   begins_l (tree.PrintText q text) p o l = l
   begins_l (tree.CallRoutine q tree.no_target x es) p o l = routine_l (is_print x.text) x.text es p o l
   begins_l (tree.CallRoutine q (tree.target a) x es) p o l =
-      (o.0, behind_these (evals 0 es) (CallQualified x.text (count es)) p.tasks (evals_oldless 0 es o.1) tt l)
+      (o.0, behind_these (evals 0 es) (CallQualified x.text (count es)) p.tasks (evals_without_old 0 es o.1) tt l)
   begins_l (tree.Create q c) p o l =
       behind_these (evals 0 (actuals_of c.call))
       (CreateBy c.variable (procedure_of c.call) (count (actuals_of c.call))) p.tasks
-      (evals_oldless 0 (actuals_of c.call) (called c.call o)) tt l
+      (evals_without_old 0 (actuals_of c.call) (called c.call o)) tt l
   begins_l (tree.If q e body bs other) p o l = (o.0, ((o.1.0, (o.1.1.0, o.1.1.1)), l))
   begins_l (tree.Loop q initial e body) p o l = (o.0, ((o.1.0, o.1.1), l))
-  begins_l (tree.Check q ks) p o l = each_append IsOldless (checks ks) p.tasks (checks_oldless ks o) l
+  begins_l (tree.Check q ks) p o l = each_append TaskHasNoOld (checks ks) p.tasks (checks_without_old ks o) l
   begins_l (tree.Block q ds body) p o l =
-      behind_these (head_evals ds) (Open (map (λ (d : Head). d.name) ds) body) p.tasks (heads_oldless ds o.0) o.1 l
+      behind_these (head_evals ds) (Open (map (λ (d : Head). d.name) ds) body) p.tasks (heads_without_old ds o.0) o.1 l
 
   -- ---- tasks
 
   -- one task, where p.tasks is what is left behind it
-  performs_l : (t : Task) (vs : List Operand) (p : Point) → IsOldless t → Left p → Leaves (performs s me t vs p)
+  performs_l : (t : Task) (vs : List Operand) (p : Point) → TaskHasNoOld t → Left p → Leaves (performs s me t vs p)
   performs_l (Do no_instrs) vs p o l = l
   performs_l (Do (instr_then i is)) vs p o l = begins_l i (record p { tasks = Do is ∷ p.tasks }) o.0 (o.1, l)
   performs_l (In text) vs p o l = l
@@ -420,9 +420,9 @@ module _ (s : System) (me : Reference) where
   performs_l Checked (u ∷ vs) p o l = tests_l cause.Check u.value (record p { values = vs }) l
   performs_l t [] p o l = tt
 
-  step_at_l : (ts : List Task) (p : Point) → p.tasks ≡ ts → Each IsOldless ts → Leaves (step_at s me ts p)
-  step_at_l [] p e o = subst (Each IsOldless) (sym e) tt
+  step_at_l : (ts : List Task) (p : Point) → p.tasks ≡ ts → Each TaskHasNoOld ts → Leaves (step_at s me ts p)
+  step_at_l [] p e o = subst (Each TaskHasNoOld) (sym e) tt
   step_at_l (t ∷ ts) p e o = performs_l t p.values (record p { tasks = ts }) o.0 o.1
 
-pub step_oldless : StepOldless
-step_oldless s me p o = step_at_l s me p.tasks p refl o
+pub step_keeps_no_old : StepKeepsNoOld
+step_keeps_no_old s me p o = step_at_l s me p.tasks p refl o
