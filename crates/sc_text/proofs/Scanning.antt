@@ -1,12 +1,15 @@
 -- What the lengths of the parts of a text are.
-use Rattle.std.proofs.Common.{◌≡◌, ℕ, suc, ◌+◌, ◌-◌, ◌*◌, ◌≤◌, ◌<◌, Bool, true, false, List, [], ◌∷◌, ◌++◌, length, take, drop, get_or, None, refl, ap, sym, ◌∙◌, append_assoc, append-nil, add-zero, arith}
-use Rattle.std.specs.Prelude.{if◌then◌else◌, ◌&&◌, ◌==◌}
+use Rattle.std.proofs.Common.{◌≡◌, ℕ, zero, suc, ◌+◌, ◌-◌, ◌*◌, ◌≤◌, ◌<◌, Bool, true, false, List, [], ◌∷◌, ◌++◌, length, take, drop, get_or, Option, Some, None, refl, ap, sym, subst, ◌∙◌, append_assoc, append-nil, add-zero, arith}
+use Rattle.std.specs.Prelude.{if◌then◌else◌, ◌&&◌, ◌==◌, Ok, Err, slice_index}
 use Rattle.std.specs.List.{list_all, prefix_len}
 use Rattle.std.proofs.lemmas.List.{at_drop_more, take_at, drop_at}
 use Rattle.std.proofs.lemmas.Bool.Decides.{nat_tests}
-use Rattle.sc_text.specs.Characters.{begins_with, decimal_from, decimal, is_digit, percent}
+use Rattle.sc_text.specs.declared.token.Span.{Span}
+use Rattle.sc_text.specs.declared.fault.LexFault.TheVariants as fault
+use Rattle.sc_text.specs.Characters.{begins_with, decimal_from, decimal, escape, is_digit, percent, quote}
+use Rattle.sc_text.specs.Spelling.{span_at}
 use Rattle.sc_text.specs.Reading.Lengths.{is_bare}
-use Rattle.sc_text.specs.Reading.Front.{number, marks_read}
+use Rattle.sc_text.specs.Reading.Front.{mark_ahead, number, marks_read, with_mark}
 use Rattle.sc_text.proofs.Classes.{and_true, not_true}
 
 -- ---- what goes on as long as it can
@@ -109,3 +112,62 @@ run_kept found found' run at n text after count r f a =
     ap (λ (l : List ℕ). marks_read false l (at + n) after) (f ∙ ap (λ (l : List ℕ). found ++ l) r)
     ∙ ap (marks_read false (found ++ take n text) (at + n)) a
     ∙ ap (λ (m : ℕ). marks_read false (found ++ take m text) (at + m) (drop m text)) count ∙ sym (run_read found at text)
+
+-- at the end of the text
+pub marks_end : (found : List ℕ) (at : ℕ) (text : List ℕ) → (length text == 0) ≡ true → marks_read false found at text ≡ Ok found
+marks_end found at [] e = refl
+marks_end found at (c ∷ cs) e = absurd (grind (arith, nat_tests))
+
+some_left : (c : ℕ) (cs : List ℕ) → 0 < length (c ∷ cs)
+some_left c cs = omega arith
+
+refused_at : (found : List ℕ) (at n : ℕ) (text : List ℕ) → (length text == 0) ≡ false → n ≤ 0 → (n < length text → slice_index text n ≡ percent) → None ≡ mark_ahead text →
+    marks_read false found at text ≡ Err (fault.BadEscape (span_at at 1))
+refused_at found at n [] l z p m = absurd (grind (arith, nat_tests))
+refused_at found at (suc n) (c ∷ cs) l z p m = absurd (omega arith)
+refused_at found at zero (c ∷ []) l z p m =
+    ap (λ (x : ℕ). if x == percent then marks_read true found at [] else marks_read false (found ++ c ∷ []) (at + 1) []) (p (some_left c []))
+refused_at found at zero (c ∷ d ∷ cs) l z p m =
+    ap (λ (x : ℕ). if x == percent then marks_read true found at (d ∷ cs) else marks_read false (found ++ c ∷ []) (at + 1) (d ∷ cs)) (p (some_left c (d ∷ cs)))
+    ∙ ap (with_mark (fault.BadEscape (span_at at 1)) (λ v. marks_read false (found ++ v ∷ []) (at + 2) cs)) (sym m)
+
+-- where a percent sign begins no mark, at what the code read of the text
+pub mark_refused : (found : List ℕ) (at n : ℕ) (text bytes ahead : List ℕ) (span : Span) → (length text == 0) ≡ false → n ≤ 0 → bytes ≡ text → (n < length bytes → slice_index bytes n ≡ percent) →
+    ahead ≡ text → None ≡ mark_ahead ahead → span ≡ span_at at 1 → marks_read false found at text ≡ Err (fault.BadEscape span)
+mark_refused found at n text bytes ahead span l z b p a m s =
+    refused_at found at n text l z (subst (λ (t : List ℕ). n < length t → slice_index t n ≡ percent) b p) (m ∙ ap mark_ahead a)
+    ∙ ap (λ (x : Span). Err (fault.BadEscape x)) (sym s)
+
+small_step : (b : Bool) (w v : ℕ) (o : Option ℕ) → (if b then Some w else o) ≡ Some v → w < 128 → (o ≡ Some v → v < 128) → v < 128
+small_step true w v o e l more = let s : w ≡ v = cc in omega (arith, l, s)
+small_step false w v o e l more = more e
+
+-- what a mark stands for is one byte
+escape_small : (d v : ℕ) → escape d ≡ Some v → v < 128
+escape_small d v e =
+    small_step (d == 78) 10 v _ e (omega arith) (λ e. small_step (d == 84) 9 v _ e (omega arith) (λ e. small_step (d == percent) 37 v _ e (omega arith)
+    (λ e. small_step (d == quote) 34 v _ e (omega arith) (λ e. small_step (d == 39) 39 v _ e (omega arith) (λ e. cc)))))
+
+ahead_small : (v : ℕ) (text : List ℕ) → Some v ≡ mark_ahead text → v < 128
+ahead_small v [] e = cc
+ahead_small v (c ∷ []) e = cc
+ahead_small v (c ∷ d ∷ cs) e = escape_small d v (sym e)
+
+kept_at : (found : List ℕ) (at n v : ℕ) (text : List ℕ) → (length text == 0) ≡ false → n ≤ 0 → (n < length text → slice_index text n ≡ percent) → Some v ≡ mark_ahead text →
+    marks_read false (found ++ v ∷ []) (at + 2) (drop 2 text) ≡ marks_read false found at text
+kept_at found at n v [] l z p m = absurd (grind (arith, nat_tests))
+kept_at found at (suc n) v (c ∷ cs) l z p m = absurd (omega arith)
+kept_at found at zero v (c ∷ []) l z p m = cc
+kept_at found at zero v (c ∷ d ∷ cs) l z p m =
+    ap (with_mark (fault.BadEscape (span_at at 1)) (λ w. marks_read false (found ++ w ∷ []) (at + 2) cs)) m
+    ∙ sym (ap (λ (x : ℕ). if x == percent then marks_read true found at (d ∷ cs) else marks_read false (found ++ c ∷ []) (at + 1) (d ∷ cs)) (p (some_left c (d ∷ cs))))
+
+-- where it begins the mark of this character, at what the code made of it
+pub mark_kept : (found found' encoded : List ℕ) (at n v ch : ℕ) (text bytes ahead after : List ℕ) → (length text == 0) ≡ false → n ≤ 0 → bytes ≡ text → (n < length bytes → slice_index bytes n ≡ percent) →
+    ahead ≡ text → Some v ≡ mark_ahead ahead → ch ≡ v → (ch < 128 → encoded ≡ ch ∷ []) → found' ≡ found ++ encoded → after ≡ drop 2 text →
+    marks_read false found' (at + 2) after ≡ marks_read false found at text
+mark_kept found found' encoded at n v ch text bytes ahead after l z b p a m s e f d =
+    let small : ch < 128 = let o = ahead_small v ahead m in omega (arith, o, s) in
+    ap (λ (vs : List ℕ). marks_read false vs (at + 2) after) (f ∙ ap (λ (x : List ℕ). found ++ x) (e small ∙ ap (λ (x : ℕ). x ∷ []) s))
+    ∙ ap (marks_read false (found ++ v ∷ []) (at + 2)) d
+    ∙ kept_at found at n v text l z (subst (λ (t : List ℕ). n < length t → slice_index t n ≡ percent) b p) (m ∙ ap mark_ahead a)

@@ -98,7 +98,7 @@ pub enum Terminal {
 }
 
 /// What a token is.
-#[derive(Debug, Drop)]
+#[derive(Drop)]
 pub enum TokenKind {
     /// An identifier, in lower case.
     Name(String),
@@ -111,7 +111,7 @@ pub enum TokenKind {
 }
 
 /// A token and where it stands in the source text.
-#[derive(Debug, Drop)]
+#[derive(Drop)]
 pub struct Token {
     pub kind: TokenKind,
     pub span: Span,
