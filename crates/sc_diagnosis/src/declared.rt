@@ -17,10 +17,13 @@ pub fn other_declaration(
     } else {
         other_entity(system, name, span)
     };
-    other.map(|span| Related {
-        what: "the name stands here too",
-        span,
-    })
+    match other {
+        None => None,
+        Some(span) => Some(Related {
+            what: "the name stands here too",
+            span,
+        }),
+    }
 }
 
 fn other_class(system: &System, name: &str, span: Span) -> Option<Span> {
@@ -114,11 +117,11 @@ fn other_in_routine(feature: &Feature, name: &str, span: Span) -> Option<Span> {
     let FeatureKind::Routine(routine) = &feature.kind else {
         return None;
     };
-    other_declared(&routine.formals, name, span).or_else(|| other_declared(
-        &routine.locals,
-        name,
-        span,
-    ))
+    let found = other_declared(&routine.formals, name, span);
+    if found.is_some() {
+        return found;
+    }
+    other_declared(&routine.locals, name, span)
 }
 
 fn other_declared(declarations: &[Declaration], name: &str, span: Span) -> Option<Span> {
@@ -132,13 +135,17 @@ fn other_declared(declarations: &[Declaration], name: &str, span: Span) -> Optio
 
 /// Where the name stands, if it is this one at another place.
 fn other(declared: &Name, name: &str, span: Span) -> Option<Span> {
-    let is_other = declared.text.eq_ignore_ascii_case(name) && declared.span != span;
-    is_other.then_some(declared.span)
+    if declared.text.eq_ignore_ascii_case(name) && declared.span != span {
+        Some(declared.span)
+    } else {
+        None
+    }
 }
 
 /// The class in which a part of the text stands, with its number.
 pub fn class_around(classes: &[Class], span: Span) -> Option<(usize, &Class)> {
-    for (number, class) in classes.iter().enumerate() {
+    for number in 0..classes.len() {
+        let class = classes.get(number)?;
         if class.span.start <= span.start && span.start < class.span.end {
             return Some((number, class));
         }

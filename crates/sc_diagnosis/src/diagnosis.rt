@@ -5,8 +5,8 @@ use crate::expected::expected;
 use crate::nearest::nearest_class;
 use crate::open::open_construct;
 use crate::reading::system_of;
-use crate::scope::{part_of, push_quoted};
-use crate::sentences::sentence_of;
+use crate::scope::part_of;
+use crate::sentences::{Sentence, sentence_of};
 use crate::told::Refused;
 use sc_class::Root;
 use sc_text::Span;
@@ -46,91 +46,137 @@ pub fn diagnose(
     let Some(sentence) = sentence_of(code) else {
         return Ok(diagnosis);
     };
-    if let Some(span) = span {
-        let refused = Refused {
-            text,
-            root,
-            code,
-            span,
-        };
-        if code.starts_with('V') && is_told(alloc, &mut diagnosis.lines, refused)? {
-            return Ok(diagnosis);
+    match span {
+        None => push_told(&mut diagnosis.lines, sentence, "")?,
+        Some(span) => {
+            let refused = Refused {
+                text,
+                root,
+                code,
+                span,
+            };
+            tell(alloc, &mut diagnosis, sentence, refused)?;
         }
-    }
-    let part = span.map_or("", |span| part_of(text, span));
-    let said = if code == "V7" && part.eq_ignore_ascii_case("result") {
-        "# stands in a function alone"
-    } else {
-        sentence.text
-    };
-    push_sentence(&mut diagnosis.lines, said, part)?;
-    if !sentence.help.is_empty() {
-        push_help(&mut diagnosis.lines, sentence.help, part)?;
-    }
-    if let Some(span) = span {
-        add_more(alloc, &mut diagnosis, text, code, span)?;
     }
     Ok(diagnosis)
 }
 
-/// Adds what the classes tell of the refusal by a rule, and whether there is something.
-fn is_told(alloc: Global, lines: &mut String, refused: Refused<'_>) -> Result<bool, AllocError> {
-    match system_of(alloc, refused.text)? {
-        None => Ok(false),
-        Some(system) => refused.push_told(alloc, lines, &system),
+/// Adds what is said of the part of a text that is at fault: what the classes tell of it, or else its sentence.
+fn tell(
+    alloc: Global,
+    diagnosis: &mut Diagnosis,
+    sentence: &Sentence,
+    refused: Refused<'_>,
+) -> Result<(), AllocError> {
+    if is_told(alloc, &mut diagnosis.lines, refused)? {
+        return Ok(());
+    }
+    let part = part_of(refused.text, refused.span);
+    push_told(&mut diagnosis.lines, sentence, part)?;
+    match refused.code {
+        "P1" => add_expected(alloc, diagnosis, refused),
+        "C1" => add_other(alloc, diagnosis, refused, true),
+        "C4" | "C5" => add_other(alloc, diagnosis, refused, false),
+        "V1" => add_nearest(alloc, diagnosis, refused),
+        _ => Ok(()),
     }
 }
 
-/// What can be said of some codes alone.
-fn add_more(
+/// Adds what the classes tell of the refusal by a rule, and whether there is something.
+fn is_told(alloc: Global, lines: &mut String, refused: Refused<'_>) -> Result<bool, AllocError> {
+    let Some(aim) = refused.aim() else {
+        return Ok(false);
+    };
+    match system_of(alloc, refused.text)? {
+        None => Ok(false),
+        Some(system) => refused.push_told(alloc, lines, &system, aim),
+    }
+}
+
+/// Adds what may stand where the text is no system, and what is still open there.
+fn add_expected(
     alloc: Global,
     diagnosis: &mut Diagnosis,
-    text: &str,
-    code: &str,
-    span: Span,
+    refused: Refused<'_>,
 ) -> Result<(), AllocError> {
-    match code {
-        "P1" => {
-            expected(alloc, &mut diagnosis.lines, text, span.start)?;
-            diagnosis.related = open_construct(alloc, text, span.start)?;
-        }
-        "C1" | "C4" | "C5" => {
-            if let Some(system) = system_of(alloc, text)? {
-                let name = part_of(text, span);
-                diagnosis.related = other_declaration(&system, code == "C1", name, span);
-            }
-        }
-        "V1" => {
-            if let Some(system) = system_of(alloc, text)? {
-                nearest_class(&mut diagnosis.lines, text, &system, part_of(text, span))?;
-            }
-        }
-        _ => {}
+    let length = refused.span.start;
+    expected(alloc, &mut diagnosis.lines, refused.text, length)?;
+    diagnosis.related = open_construct(alloc, refused.text, length)?;
+    Ok(())
+}
+
+/// Adds the other declaration of the name at fault, which is a class's or another's.
+fn add_other(
+    alloc: Global,
+    diagnosis: &mut Diagnosis,
+    refused: Refused<'_>,
+    is_class: bool,
+) -> Result<(), AllocError> {
+    let name = part_of(refused.text, refused.span);
+    if let Some(system) = system_of(alloc, refused.text)? {
+        diagnosis.related = other_declaration(&system, is_class, name, refused.span);
     }
     Ok(())
 }
 
+/// Adds the name of a class that is near to one that isn't known.
+fn add_nearest(
+    alloc: Global,
+    diagnosis: &mut Diagnosis,
+    refused: Refused<'_>,
+) -> Result<(), AllocError> {
+    let name = part_of(refused.text, refused.span);
+    match system_of(alloc, refused.text)? {
+        None => Ok(()),
+        Some(system) => nearest_class(&mut diagnosis.lines, refused.text, &system, name),
+    }
+}
+
+/// Adds the sentence on a part of the text, and what helps where something does.
+fn push_told(lines: &mut String, sentence: &Sentence, part: &str) -> Result<(), AllocError> {
+    push_sentence(lines, said_of(sentence, part), part)?;
+    if sentence.help.is_empty() {
+        return Ok(());
+    }
+    push_help(lines, sentence.help, part)
+}
+
+/// What is said of a part of the text.
+fn said_of(sentence: &Sentence, part: &str) -> &'static str {
+    if sentence.code == "V7" && part.eq_ignore_ascii_case("result") {
+        return "# stands in a function alone";
+    }
+    sentence.text
+}
+
 /// Adds a sentence with the part of the text in quotes at its `#`.
 fn push_sentence(lines: &mut String, text: &str, part: &str) -> Result<(), AllocError> {
-    match text.split_once('#') {
-        None => lines.push_str(text)?,
-        Some((before, after)) => {
-            lines.push_str(before)?;
-            push_quoted(lines, part)?;
-            lines.push_str(after)?;
-        }
+    if part.is_empty() {
+        push_with(lines, text, "", "this")
+    } else {
+        push_with(lines, text, "`", part)
     }
-    lines.push_str("\n")
 }
 
 /// Adds what helps, with the part of the text at its `#`.
 fn push_help(lines: &mut String, text: &str, part: &str) -> Result<(), AllocError> {
     lines.push_str("help: ")?;
+    if part.is_empty() {
+        push_with(lines, text, "", "..")
+    } else {
+        push_with(lines, text, "", part)
+    }
+}
+
+/// Adds a line of text with a part between two marks at its `#`.
+fn push_with(lines: &mut String, text: &str, mark: &str, part: &str) -> Result<(), AllocError> {
     match text.split_once('#') {
         None => lines.push_str(text)?,
         Some((before, after)) => {
             lines.push_str(before)?;
-            lines.push_str(if part.is_empty() { ".." } else { part })?;
+            lines.push_str(mark)?;
+            lines.push_str(part)?;
+            lines.push_str(mark)?;
             lines.push_str(after)?;
         }
     }

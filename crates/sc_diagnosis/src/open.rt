@@ -18,29 +18,37 @@ pub fn open_construct(
     let mut open: Vec<Opening> = Vec::new(alloc);
     let mut last = None;
     for token in tokens.iter() {
-        match step_of(token, last, open.last()) {
-            Step::Opens(waits_for_do) => open.push(Opening {
-                span: token.span,
-                waits_for_do,
-            })?,
-            Step::Does => {
-                if let Some(opening) = open.last_mut() {
-                    opening.waits_for_do = false;
-                }
-            }
-            Step::Ends => {
-                open.pop();
-            }
-            Step::GoesOn => {}
+        let terminal = terminal_of(token);
+        if let Some(terminal) = terminal {
+            let step = step_of(terminal, last, open.last());
+            take(&mut open, step, token.span)?;
         }
-        last = terminal_of(token);
+        last = terminal;
     }
-    Ok(
-        open.last().map(|opening| Related {
+    match open.last() {
+        None => Ok(None),
+        Some(opening) => Ok(Some(Related {
             what: "what begins here hasn't ended",
             span: opening.span,
-        }),
-    )
+        })),
+    }
+}
+
+/// Does to the constructs that are open what the token at this place does.
+fn take(open: &mut Vec<Opening>, step: Step, span: Span) -> Result<(), AllocError> {
+    match step {
+        Step::Opens(waits_for_do) => open.push(Opening { span, waits_for_do })?,
+        Step::Does => {
+            if let Some(opening) = open.last_mut() {
+                opening.waits_for_do = false;
+            }
+        }
+        Step::Ends => {
+            open.pop();
+        }
+        Step::GoesOn => {}
+    }
+    Ok(())
 }
 
 /// The word that a construct began with.
@@ -66,32 +74,27 @@ fn terminal_of(token: &Token) -> Option<Terminal> {
     }
 }
 
-fn step_of(token: &Token, last: Option<Terminal>, open: Option<&Opening>) -> Step {
-    match terminal_of(token) {
-        Some(Terminal::Class | Terminal::If | Terminal::From | Terminal::Check) => {
-            Step::Opens(false)
-        }
-        Some(Terminal::Separate) if !is_before_type(last) => Step::Opens(true),
-        Some(Terminal::Do) => match open {
+fn step_of(terminal: Terminal, last: Option<Terminal>, open: Option<&Opening>) -> Step {
+    match terminal {
+        Terminal::Class | Terminal::If | Terminal::From | Terminal::Check => Step::Opens(false),
+        Terminal::Separate => match last {
+            Some(last) if is_before_type(last) => Step::GoesOn,
+            _ => Step::Opens(true),
+        },
+        Terminal::Do => match open {
             Some(opening) if opening.waits_for_do => Step::Does,
             _ => Step::Opens(false),
         },
-        Some(Terminal::End) => Step::Ends,
+        Terminal::End => Step::Ends,
         _ => Step::GoesOn,
     }
 }
 
 /// Whether a `separate` behind this token belongs to a type and begins no block.
-fn is_before_type(last: Option<Terminal>) -> bool {
-    matches!(
-        last,
-        Some(
-            Terminal::Colon
-                | Terminal::OpenBrace
-                | Terminal::Question
-                | Terminal::Exclamation
-                | Terminal::Attached
-                | Terminal::Detachable
-        )
-    )
+fn is_before_type(last: Terminal) -> bool {
+    match last {
+        Terminal::Colon | Terminal::OpenBrace | Terminal::Question => true,
+        Terminal::Exclamation | Terminal::Attached | Terminal::Detachable => true,
+        _ => false,
+    }
 }

@@ -9,7 +9,7 @@ use sc_class::ClassId;
 use sc_proctype::EntityType;
 use sc_rules::Context;
 use sc_text::Span;
-use sc_tree::{BinaryOperator, Call, Expr, UnaryOperator};
+use sc_tree::{BinaryOperator, Call, CreationCall, Expr, UnaryOperator, Variable};
 use sc_typing::{
     CheckFault, Entity, Formals, Meaning, RoutineContext, Signature, Typing, is_boolean,
     judge_binary, judge_unary, operand_context, operand_position, variable_span,
@@ -63,16 +63,8 @@ impl<'c, 't, 's> Fault<'c, 't, 's> {
     ) -> Result<Option<Remark<'s>>, CheckFault> {
         let context = site.context;
         match site.part {
-            Part::Assigned(variable, value) => {
-                let types = assigned_types(self.routine, names, variable, value)?;
-                Ok(types.map(|types| Remark::Assigned(types, variable_span(variable))))
-            }
-            Part::Head(value) => {
-                match head_types(self.routine, names, value)? {
-                    None => Ok(None),
-                    Some(types) => Ok(Some(Remark::Reserved(types.given))),
-                }
-            }
+            Part::Assigned(variable, value) => self.of_assigned(names, variable, value),
+            Part::Head(value) => self.of_head(names, value),
             Part::Condition(e) => self.of_condition(context, names, e),
             Part::Operation(e) => self.of_operation(context, names, e),
             Part::Actual(call, number) => {
@@ -84,13 +76,27 @@ impl<'c, 't, 's> Fault<'c, 't, 's> {
                 self.of_actual(context, names, &meaning, &call.actuals, number)
             }
             Part::CallName(call) => self.of_call(context, names, call),
-            Part::CreationName(created, call) => {
-                let meaning = meaning_of_creation(self.routine, names, created, call);
-                let remark = self.of_name(&meaning, call.actuals.len());
-                let class = class_of_created(self.routine, names, created);
-                Ok(remark.and_then(|remark| as_creation(remark, class)))
-            }
+            Part::CreationName(created, call) => Ok(self.of_creation(names, created, call)),
             Part::Assignee => Ok(self.of_unknown()),
+        }
+    }
+
+    fn of_assigned(
+        self,
+        names: &[Entity<'s>],
+        variable: &Variable,
+        value: &Expr,
+    ) -> Result<Option<Remark<'s>>, CheckFault> {
+        match assigned_types(self.routine, names, variable, value)? {
+            None => Ok(None),
+            Some(types) => Ok(Some(Remark::Assigned(types, variable_span(variable)))),
+        }
+    }
+
+    fn of_head(self, names: &[Entity<'s>], value: &Expr) -> Result<Option<Remark<'s>>, CheckFault> {
+        match head_types(self.routine, names, value)? {
+            None => Ok(None),
+            Some(types) => Ok(Some(Remark::Reserved(types.given))),
         }
     }
 
@@ -114,22 +120,12 @@ impl<'c, 't, 's> Fault<'c, 't, 's> {
             Expr::Unary(span, operator, operand) => {
                 let inside = operand_context(*operator, context);
                 let given = type_of_value(self.routine, inside, names, operand)?;
-                let typing = Typing {
-                    entity_type: given,
-                    is_separate: false,
-                };
-                let is_taken = judge_unary(context, *span, *operator, typing).is_ok();
-                let given = given.filter(|_| !is_taken);
-                Ok(given.map(|given| Remark::Operand(*operator, given)))
+                Ok(of_operand(context, *span, *operator, given))
             }
             Expr::Binary(span, operator, left, right) => {
                 let left = self.operand(context, names, *operator, left)?;
                 let right = self.operand(context, names, *operator, right)?;
-                if judge_binary(*span, *operator, left, right).is_ok() {
-                    return Ok(None);
-                }
-                let types = left.entity_type.zip(right.entity_type);
-                Ok(types.map(|(left, right)| Remark::Operands(*operator, left, right)))
+                Ok(of_operands(*span, *operator, left, right))
             }
             _ => Ok(None),
         }
@@ -166,8 +162,10 @@ impl<'c, 't, 's> Fault<'c, 't, 's> {
             Formals::Printed => { Ok(of_printed(type_of_actual(&found, number))) }
             Formals::Declared(formals) => {
                 let target = signature.target;
-                let types = passed_types(self.routine, &found, target, formals, number)?;
-                Ok(types.map(Remark::Passed))
+                match passed_types(self.routine, &found, target, formals, number)? {
+                    None => Ok(None),
+                    Some(passed) => Ok(Some(Remark::Passed(passed))),
+                }
             }
         }
     }
@@ -180,14 +178,37 @@ impl<'c, 't, 's> Fault<'c, 't, 's> {
     ) -> Result<Option<Remark<'s>>, CheckFault> {
         let meaning = meaning_of_call(self.routine, context, names, call)?;
         let remark = self.of_name(&meaning, call.actuals.len());
-        let (Some(Remark::Unknown), Some(target)) = (remark, &call.target) else {
+        let Some(target) = &call.target else {
             return Ok(remark);
         };
-        let target = type_of_value(self.routine, context, names, target)?;
-        match target {
+        match remark {
+            Some(Remark::Unknown) => self.of_lacking(context, names, target),
+            _ => Ok(remark),
+        }
+    }
+
+    /// Of a name that isn't known in the class of this target.
+    fn of_lacking(
+        self,
+        context: Context,
+        names: &[Entity<'s>],
+        target: &Expr,
+    ) -> Result<Option<Remark<'s>>, CheckFault> {
+        match type_of_value(self.routine, context, names, target)? {
             None => Ok(None),
             Some(target) => Ok(Some(Remark::Lacking(target.class))),
         }
+    }
+
+    fn of_creation(
+        self,
+        names: &[Entity<'s>],
+        created: &Variable,
+        call: &CreationCall,
+    ) -> Option<Remark<'s>> {
+        let meaning = meaning_of_creation(self.routine, names, created, call);
+        let remark = self.of_name(&meaning, call.actuals.len())?;
+        as_creation(remark, class_of_created(self.routine, names, created))
     }
 
     fn of_unknown(self) -> Option<Remark<'s>> {
@@ -203,25 +224,58 @@ impl<'c, 't, 's> Fault<'c, 't, 's> {
         match meaning {
             Meaning::Unknown => self.of_unknown(),
             Meaning::TargetUntyped => None,
-            Meaning::Named(signature) => match self.code {
-                "V2" => of_arity(signature, actuals),
-                "V7" => Some(match signature.gives {
-                    Some(_) => Remark::Query,
-                    None => Remark::Procedure,
-                }),
-                _ => None,
+            Meaning::Named(signature) => self.of_signature(signature, actuals),
+        }
+    }
+
+    fn of_signature(self, signature: &Signature<'s>, actuals: usize) -> Option<Remark<'s>> {
+        match self.code {
+            "V2" => of_arity(signature, actuals),
+            "V7" => match signature.gives {
+                Some(_) => Some(Remark::Query),
+                None => Some(Remark::Procedure),
             },
+            _ => None,
         }
     }
 }
 
 /// What is said of the name of the creation of an object of a class, by what is said of that of a call.
 fn as_creation<'s>(remark: Remark<'s>, class: Option<ClassId>) -> Option<Remark<'s>> {
-    match (remark, class) {
-        (Remark::Query, _) => Some(Remark::Creator),
-        (Remark::Unknown, None) => None,
-        (Remark::Unknown, Some(class)) => Some(Remark::Lacking(class)),
+    match remark {
+        Remark::Query => Some(Remark::Creator),
+        Remark::Unknown => Some(Remark::Lacking(class?)),
         _ => Some(remark),
+    }
+}
+
+/// That an operand's type isn't one that the operator takes.
+fn of_operand<'s>(
+    context: Context,
+    span: Span,
+    operator: UnaryOperator,
+    given: Option<EntityType>,
+) -> Option<Remark<'s>> {
+    let typing = Typing {
+        entity_type: given,
+        is_separate: false,
+    };
+    match judge_unary(context, span, operator, typing) {
+        Ok(_) => None,
+        Err(_) => Some(Remark::Operand(operator, given?)),
+    }
+}
+
+/// That the types of operands aren't ones that the operator takes.
+fn of_operands<'s>(
+    span: Span,
+    operator: BinaryOperator,
+    left: Typing,
+    right: Typing,
+) -> Option<Remark<'s>> {
+    match judge_binary(span, operator, left, right) {
+        Ok(_) => None,
+        Err(_) => Some(Remark::Operands(operator, left.entity_type?, right.entity_type?)),
     }
 }
 
@@ -251,5 +305,9 @@ fn of_arity<'s>(signature: &Signature<'s>, actuals: usize) -> Option<Remark<'s>>
         Formals::Declared(formals) => formals.len(),
         Formals::Printed => 1,
     };
-    (taken != actuals).then_some(Remark::Arity(taken, actuals))
+    if taken == actuals {
+        None
+    } else {
+        Some(Remark::Arity(taken, actuals))
+    }
 }

@@ -17,30 +17,28 @@ impl<'c, 't, 's> Scope<'c, 't, 's> {
     ) -> Result<(), AllocError> {
         match remark {
             Remark::Assigned(types, taker) => {
-                self.push_given(lines, span, types.given)?;
-                lines.push_str(", and ")?;
-                push_quoted(lines, part_of(self.text, taker))?;
-                lines.push_str(" takes ")?;
-                self.push_type(lines, types.taken)
+                self.push_given(lines, span, types.given, ", and ")?;
+                self.push_taken(lines, part_of(self.text, taker), types.taken)
             }
             Remark::Passed(passed) => {
-                self.push_given(lines, span, passed.compared.given)?;
-                lines.push_str(", and here the formal ")?;
-                push_quoted(lines, self.written(&passed.formal.name))?;
-                lines.push_str(" takes ")?;
-                self.push_type(lines, passed.compared.taken)
+                let types = passed.compared;
+                self.push_given(lines, span, types.given, ", and here the formal ")?;
+                self.push_taken(lines, self.written(&passed.formal.name), types.taken)
             }
             Remark::Printed(given) => {
-                self.push_given(lines, span, given)?;
-                lines.push_str(", and `print` takes an INTEGER or a BOOLEAN")
+                self.push_given(
+                    lines,
+                    span,
+                    given,
+                    ", and `print` takes an INTEGER or a BOOLEAN",
+                )
             }
             Remark::Reserved(given) => {
-                self.push_given(lines, span, given)?;
-                lines.push_str(", and a separate block takes an attached reference")
+                let wanted = ", and a separate block takes an attached reference";
+                self.push_given(lines, span, given, wanted)
             }
             Remark::Condition(given) => {
-                self.push_given(lines, span, given)?;
-                lines.push_str(", and BOOLEAN is wanted here")
+                self.push_given(lines, span, given, ", and BOOLEAN is wanted here")
             }
             Remark::Operand(operator, given) => self.push_operand(lines, operator, given),
             Remark::Operands(operator, left, right) => {
@@ -58,13 +56,13 @@ impl<'c, 't, 's> Scope<'c, 't, 's> {
         remark: Remark<'s>,
     ) -> Result<(), AllocError> {
         match remark {
-            Remark::Arity(taken, given) => {
-                push_quoted(lines, name)?;
-                lines.push_str(" takes ")?;
-                push_actuals(self.routine.alloc, lines, taken)?;
-                lines.push_str(", and is given ")?;
-                push_given_number(self.routine.alloc, lines, given)
-            }
+            Remark::Arity(taken, given) => push_arity(
+                self.routine.alloc,
+                lines,
+                name,
+                taken,
+                given,
+            ),
             Remark::Lacking(class) => {
                 lines.push_str("the class `")?;
                 lines.push_str(self.class_name(class))?;
@@ -82,16 +80,30 @@ impl<'c, 't, 's> Scope<'c, 't, 's> {
         }
     }
 
-    /// Adds that the part of the text is of this type.
+    /// Adds that the part of the text is of this type, and what stands behind that.
     fn push_given(
         self,
         lines: &mut String,
         span: Span,
         given: EntityType,
+        behind: &str,
     ) -> Result<(), AllocError> {
         push_quoted(lines, part_of(self.text, span))?;
         lines.push_str(" is of type ")?;
-        self.push_type(lines, given)
+        self.push_type(lines, given)?;
+        lines.push_str(behind)
+    }
+
+    /// Adds what takes this type.
+    fn push_taken(
+        self,
+        lines: &mut String,
+        taker: &str,
+        taken: EntityType,
+    ) -> Result<(), AllocError> {
+        push_quoted(lines, taker)?;
+        lines.push_str(" takes ")?;
+        self.push_type(lines, taken)
     }
 
     fn push_operand(
@@ -173,6 +185,21 @@ fn spelling(operator: BinaryOperator) -> &'static str {
         BinaryOperator::Xor => "xor",
         BinaryOperator::Implies => "implies",
     }
+}
+
+/// Adds how many actuals are taken, and how many are given.
+fn push_arity(
+    alloc: Global,
+    lines: &mut String,
+    name: &str,
+    taken: usize,
+    given: usize,
+) -> Result<(), AllocError> {
+    push_quoted(lines, name)?;
+    lines.push_str(" takes ")?;
+    push_actuals(alloc, lines, taken)?;
+    lines.push_str(", and is given ")?;
+    push_given_number(alloc, lines, given)
 }
 
 /// Adds how many actuals are taken.

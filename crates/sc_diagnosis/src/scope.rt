@@ -88,20 +88,21 @@ fn name_of_block<'n>(names: &[Entity<'n>], number: usize) -> &'n str {
 /// The text of a part, where it is a short one on one line and closes what it opens; else nothing.
 pub fn part_of(text: &str, span: Span) -> &str {
     let part = text.get(span.start..span.end).unwrap_or("");
-    if part.len() > 60 || part.contains('\n') || !is_closed(part) {
+    if part.len() > 60 || !is_closed(part) {
         ""
     } else {
         part
     }
 }
 
-/// Whether each parenthesis in the text is closed, and none that stands before it. (A part at fault may begin or end
-/// inside of parentheses.)
+/// Whether the text is on one line, and each parenthesis in it is closed, and none that stands before it. (A part at fault
+/// may begin or end inside of parentheses.)
 fn is_closed(part: &str) -> bool {
     let mut depth = 0_usize;
     for byte in part.as_bytes() {
         match byte {
             b'(' => depth = depth.saturating_add(1),
+            b'\n' => return false,
             b')' if depth == 0 => return false,
             b')' => depth -= 1,
             _ => {}

@@ -10,7 +10,12 @@ pub struct Sentence {
 
 /// The sentence of this code, if there is one.
 pub fn sentence_of(code: &str) -> Option<&'static Sentence> {
-    SENTENCES.iter().find(|sentence| sentence.code == code)
+    for sentence in SENTENCES {
+        if sentence.code == code {
+            return Some(sentence);
+        }
+    }
+    None
 }
 
 /// The sentences, in the order in which what they tell of is looked for.

@@ -9,7 +9,7 @@ use crate::walk::{in_routine, pass_clauses};
 use sc_class::{ClassFault, ClassId, Root, Tables, tables};
 use sc_rules::Context;
 use sc_text::Span;
-use sc_tree::{Class, FeatureKind, Name, System};
+use sc_tree::{Class, FeatureKind, Name, Routine, System};
 use sc_typing::{CheckFault, Entity, Purity, RoutineContext, result_type};
 use std::alloc::{AllocError, Global};
 
@@ -35,7 +35,7 @@ const AIMS: [(&str, Kind); 7] = [
 
 impl<'c> Refused<'c> {
     /// What is looked for, where more can be said of the rule.
-    fn aim(self) -> Option<Aim> {
+    pub fn aim(self) -> Option<Aim> {
         for (code, kind) in &AIMS {
             if *code == self.code {
                 return Some(Aim {
@@ -47,16 +47,15 @@ impl<'c> Refused<'c> {
         None
     }
 
-    /// Adds a sentence on this very fault and what helps, and whether there is one.
+    /// Adds a sentence on this very fault, which is at a part that is aimed at, and what helps, and whether there is
+    /// one.
     pub fn push_told(
         self,
         alloc: Global,
         lines: &mut String,
         system: &System,
+        aim: Aim,
     ) -> Result<bool, AllocError> {
-        let Some(aim) = self.aim() else {
-            return Ok(false);
-        };
         // Every class has `print`: where it isn't known it stands in a place that no class gives it.
         if self.code == "V1" && part_of(self.text, self.span).eq_ignore_ascii_case("print") {
             return Ok(false);
@@ -84,35 +83,57 @@ impl<'c> Refused<'c> {
         let Some((number, class)) = class_around(tables.classes(), self.span) else {
             return Ok(false);
         };
-        let purity = Purity::NotAsked;
-        let mut names = Vec::new(alloc);
-        if let Some(feature) = feature_around(class, self.span) {
-            if let FeatureKind::Routine(text) = &feature.kind {
-                let routine = RoutineContext {
-                    alloc,
-                    tables,
-                    class: number,
-                    formals: &text.formals,
-                    result: result_type(tables, &text.result_type),
-                    purity: &purity,
-                };
-                if let Some(site) = in_routine(&routine, aim, &mut names, text)? {
-                    return self.push_at(lines, &routine, &mut names, site);
-                }
-                names.truncate(0);
-            }
-        }
         let routine = RoutineContext {
             alloc,
             tables,
             class: number,
             formals: &[],
             result: None,
-            purity: &purity,
+            purity: &Purity::NotAsked,
         };
+        if let Some(text) = routine_around(class, self.span) {
+            if let Some(is_told) = self.push_in_routine(lines, &routine, aim, text)? {
+                return Ok(is_told);
+            }
+        }
+        self.push_in_class(lines, &routine, aim, class)
+    }
+
+    /// Adds what is told of the part that is aimed at, where it stands in this routine of the class.
+    fn push_in_routine<'s>(
+        self,
+        lines: &mut String,
+        class: &RoutineContext<'_, 's>,
+        aim: Aim,
+        text: &'s Routine,
+    ) -> Result<Option<bool>, CheckFault> {
+        let routine = RoutineContext {
+            alloc: class.alloc,
+            tables: class.tables,
+            class: class.class,
+            formals: &text.formals,
+            result: result_type(class.tables, &text.result_type),
+            purity: class.purity,
+        };
+        let mut names = Vec::new(class.alloc);
+        match in_routine(&routine, aim, &mut names, text)? {
+            None => Ok(None),
+            Some(site) => Ok(Some(self.push_at(lines, &routine, &mut names, site)?)),
+        }
+    }
+
+    /// Adds what is told of the part that is aimed at, where it stands in the invariant of the class or in its list of
+    /// creators.
+    fn push_in_class<'s>(
+        self,
+        lines: &mut String,
+        routine: &RoutineContext<'_, 's>,
+        aim: Aim,
+        class: &'s Class,
+    ) -> Result<bool, CheckFault> {
         match pass_clauses(aim, Context::Invariant, &class.invariant) {
-            Ok(()) => self.push_creator(lines, &routine, class),
-            Err(site) => self.push_at(lines, &routine, &mut names, site),
+            Ok(()) => self.push_creator(lines, routine, class),
+            Err(site) => self.push_at(lines, routine, &mut Vec::new(routine.alloc), site),
         }
     }
 
@@ -181,19 +202,37 @@ impl<'c> Refused<'c> {
         remark: Remark<'_>,
     ) -> Result<(), AllocError> {
         let name = self.text.get(self.span.start..self.span.end).unwrap_or("");
-        let tables = scope.routine.tables;
-        let alloc = scope.routine.alloc;
         match remark {
             Remark::Unknown => {
                 if nearest_entity(lines, scope.names, name)? {
                     return Ok(());
                 }
                 let own = ClassId::Declared(scope.routine.class);
-                nearest_feature(lines, &tables.features(alloc, own)?, name)
+                push_nearest_feature(lines, scope.routine, own, name)
             }
-            Remark::Lacking(class) => nearest_feature(lines, &tables.features(alloc, class)?, name),
+            Remark::Lacking(class) => push_nearest_feature(lines, scope.routine, class, name),
             _ => Ok(()),
         }
+    }
+}
+
+/// Adds a feature of the class whose name is near to one that isn't known.
+fn push_nearest_feature(
+    lines: &mut String,
+    routine: &RoutineContext<'_, '_>,
+    class: ClassId,
+    name: &str,
+) -> Result<(), AllocError> {
+    let features = routine.tables.features(routine.alloc, class)?;
+    nearest_feature(lines, &features, name)
+}
+
+/// The routine that is the feature around a part of the text, if it is one.
+fn routine_around(class: &Class, span: Span) -> Option<&Routine> {
+    let feature = feature_around(class, span)?;
+    match &feature.kind {
+        FeatureKind::Attribute(_) => None,
+        FeatureKind::Routine(text) => Some(text),
     }
 }
 

@@ -2,7 +2,7 @@
 
 use sc_class::{ClassId, FeatureEntry, Tables};
 use sc_text::Span;
-use sc_tree::{Class, FeatureKind, Routine};
+use sc_tree::{Class, FeatureKind, Name, Routine};
 
 /// A routine with the contract that it keeps.
 #[derive(Clone, Copy)]
@@ -33,11 +33,12 @@ pub fn source_at<'s>(tables: &Tables<'s>, number: usize) -> Option<Source<'s>> {
 /// The feature at this number, as they are numbered in the text.
 fn feature_at<'s>(tables: &Tables<'s>, number: usize) -> Option<FeatureEntry<'s>> {
     let mut left = number;
-    for (class, text) in tables.classes().iter().enumerate() {
-        if let Some(feature) = text.features.get(left) {
+    for class in 0..tables.classes().len() {
+        let features = &tables.class(class)?.features;
+        if let Some(feature) = features.get(left) {
             return Some(FeatureEntry { class, feature });
         }
-        left = left.saturating_sub(text.features.len());
+        left = left.saturating_sub(features.len());
     }
     None
 }
@@ -61,11 +62,17 @@ fn origin_of<'s>(tables: &Tables<'s>, entry: FeatureEntry<'s>) -> Option<Feature
 fn redefines(class: &Class, name: &str) -> bool {
     match class.parents.first() {
         None => false,
-        Some(parent) => parent
-            .redefined
-            .iter()
-            .any(|redefined| redefined.text.as_str() == name),
+        Some(parent) => is_among(&parent.redefined, name),
     }
+}
+
+fn is_among(names: &[Name], wanted: &str) -> bool {
+    for name in names {
+        if name.text.as_str() == wanted {
+            return true;
+        }
+    }
+    false
 }
 
 fn routine_of<'s>(entry: FeatureEntry<'s>) -> Option<&'s Routine> {

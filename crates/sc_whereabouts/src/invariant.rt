@@ -5,7 +5,7 @@ use sc_class::{ClassId, Tables};
 use sc_text::Span;
 
 /// A clause of the invariant of a class. A name is where it stands in the text.
-#[derive(Clone, Copy, Debug, PartialEq, Eq)]
+#[derive(Clone, Copy)]
 pub struct InvariantClause {
     /// The name of the class in whose text the clause stands: this one or an ancestor.
     pub class: Span,
@@ -21,8 +21,10 @@ pub fn invariant_clause(
     number: usize,
 ) -> Option<InvariantClause> {
     let mut left = number;
-    for ancestor in tables.ancestors(ClassId::Declared(class)).iter().rev() {
-        let text = tables.class(*ancestor)?;
+    let ancestors = tables.ancestors(ClassId::Declared(class));
+    for index in 0..ancestors.len() {
+        let ancestor = at_back(ancestors, index)?;
+        let text = tables.class(ancestor)?;
         if let Some(clause) = text.invariant.get(left) {
             return Some(InvariantClause {
                 class: text.name.span,
@@ -33,4 +35,10 @@ pub fn invariant_clause(
         left = left.saturating_sub(text.invariant.len());
     }
     None
+}
+
+/// The number at an index, counted from the last.
+fn at_back(numbers: &[usize], index: usize) -> Option<usize> {
+    let behind = numbers.len().checked_sub(index)?;
+    numbers.get(behind.checked_sub(1)?).copied()
 }

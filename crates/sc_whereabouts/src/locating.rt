@@ -8,7 +8,7 @@ use sc_class::Tables;
 use sc_text::Span;
 
 /// Where a routine stood. A name is where it stands in the text.
-#[derive(Clone, Copy, Debug, PartialEq, Eq)]
+#[derive(Clone, Copy)]
 pub struct Whereabouts {
     /// The name of the class in whose text the routine is.
     pub class: Span,

@@ -4,14 +4,14 @@ use sc_text::Span;
 use sc_tree::{BinaryOperator, Clause, UnaryOperator};
 
 /// A part of a text that an operation was made of: where it stands, and what it is.
-#[derive(Clone, Copy, Debug, PartialEq, Eq)]
+#[derive(Clone, Copy)]
 pub struct Site {
     pub span: Span,
     pub kind: Kind,
 }
 
 /// What a clause is one of.
-#[derive(Clone, Copy, Debug, PartialEq, Eq)]
+#[derive(Clone, Copy, PartialEq, Eq)]
 pub enum Assertion {
     Precondition,
     Check,
@@ -19,7 +19,7 @@ pub enum Assertion {
 }
 
 /// What an operation does at its part of the text. A name is where it stands in the text.
-#[derive(Clone, Copy, Debug, PartialEq, Eq)]
+#[derive(Clone, Copy, PartialEq, Eq)]
 pub enum Kind {
     /// A clause is tested, which may have a tag.
     Clause(Assertion, Option<Span>),
