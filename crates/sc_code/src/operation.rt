@@ -9,7 +9,7 @@ use sc_model::Cause;
 use sc_tree::{BinaryOperator, UnaryOperator};
 
 /// What an entity of the language holds before anything is assigned to it.
-#[derive(Clone, Copy, Debug, PartialEq, Eq)]
+#[derive(Clone, Copy)]
 pub enum DefaultValue {
     /// 0, of INTEGER.
     Zero,
@@ -36,7 +36,7 @@ impl DefaultValue {
 ///
 /// Slots are numbered from 0, the formals first; names, texts, sites, tests, clauses and blocks by their place in the
 /// tables of the [`ConstantPool`](crate::ConstantPool). A number of operations that are passed counts from the next one.
-#[derive(Clone, Copy, Debug, PartialEq, Eq)]
+#[derive(Clone, Copy)]
 pub enum Operation {
     PushInteger(i64),
     PushBoolean(bool),

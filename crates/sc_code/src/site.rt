@@ -3,7 +3,7 @@
 use sc_class::ClassId;
 
 /// A call.
-#[derive(Clone, Copy, Debug, PartialEq, Eq)]
+#[derive(Clone, Copy)]
 pub struct CallSite {
     /// The number of the feature's name.
     pub name: usize,
@@ -18,7 +18,7 @@ pub struct CallSite {
 }
 
 /// A creation.
-#[derive(Clone, Copy, Debug, PartialEq, Eq)]
+#[derive(Clone, Copy)]
 pub struct CreationSite {
     /// The number of the class.
     pub class: usize,
@@ -31,7 +31,7 @@ pub struct CreationSite {
 }
 
 /// On which handler a tested object has to lie.
-#[derive(Clone, Copy, Debug, PartialEq, Eq)]
+#[derive(Clone, Copy)]
 pub enum Residence {
     /// On the current one.
     OnCurrent,
@@ -44,14 +44,14 @@ pub enum Residence {
 }
 
 /// A type that an object test asks for.
-#[derive(Clone, Copy, Debug, PartialEq, Eq)]
+#[derive(Clone, Copy)]
 pub struct TestedType {
     pub class: ClassId,
     pub residence: Residence,
 }
 
 /// An object test.
-#[derive(Clone, Copy, Debug, PartialEq, Eq)]
+#[derive(Clone, Copy)]
 pub struct ObjectTest {
     /// What the object has to be; None where any object will do.
     pub tested: Option<TestedType>,
@@ -60,7 +60,7 @@ pub struct ObjectTest {
 }
 
 /// The slots of the heads of a separate block.
-#[derive(Clone, Copy, Debug, PartialEq, Eq)]
+#[derive(Clone, Copy)]
 pub struct Heads {
     pub first: usize,
     pub count: usize,

@@ -12,11 +12,11 @@ use Rattle.sc_class.specs.View.{entry_of}
 use Rattle.sc_model.specs.Routines.{Routine, routine_of}
 use Rattle.sc_model.specs.Values.{Value}
 use Rattle.sc_code.specs.declared.program.RoutineCode.{RoutineCode}
-use Rattle.sc_lower.specs.declared.unlinked.UnlinkedOperation.{UnlinkedOperation}
+use Rattle.sc_routines.specs.declared.unlinked.UnlinkedOperation.{UnlinkedOperation}
 use Rattle.sc_code.specs.Emitted.{formals_of, routine_code, routine_depth, routine_slots}
 use Rattle.sc_code.specs.Places.{known_type}
 use Rattle.sc_code.specs.Room.{routine_blocks, routine_olds}
-use Rattle.sc_lower.specs.Unlinked.{unlinked}
+use Rattle.sc_routines.specs.Unlinked.{unlinked}
 use Rattle.sc_code.specs.Operations as plain
 use Rattle.sc_lower.specs.Pools.{Grows}
 use Rattle.sc_code.specs.Programs.{PlainRoutine, code_of, codes_of, length_of_codes, result_in, result_of, routine_in, separate_slots}

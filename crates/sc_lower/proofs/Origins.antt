@@ -12,7 +12,7 @@ use Rattle.sc_class.specs.Tables.Ancestors.{ancestors, ancestors_within, parent_
 use Rattle.sc_class.specs.Tables.Features.{DeclaredFeature, declared_features, declared_in, redefined_by, redefined_names, named_among}
 use Rattle.sc_model.specs.Routines as model
 use Rattle.sc_model.specs.Routines.{origin_along, origin_of, routine_with, routine_from, routine_of}
-use Rattle.sc_lower.specs.Sources.{original, routine_declared}
+use Rattle.sc_lower.specs.Origins.{original, routine_declared}
 
 -- ---- the origin
 

@@ -1,11 +1,6 @@
-pub mod Unlinked
 pub mod Growing
 pub mod Pools
-pub mod Settings
-pub mod Parts
-pub mod Named
-pub mod Jumps
-pub mod Sources
+pub mod Origins
 pub mod Lowerings
 pub mod AttributeBindings
 pub mod Fitting

@@ -7,12 +7,12 @@ ghost use Rattle.sc_lower.specs.Pools.{pool_in, Grows};
 ghost use Rattle.sc_code.specs.View.{named, call_of, creation_of, operation_of, test_of};
 ghost use Rattle.sc_code.specs.Operations as plain;
 ghost use Rattle.sc_code.specs.declared.site.Heads as heads;
-ghost use Rattle.sc_lower.specs.Unlinked.{unlinked, unlinked_call, unlinked_creation};
+ghost use Rattle.sc_routines.specs.Unlinked.{unlinked, unlinked_call, unlinked_creation};
 
 use crate::link_pools::add;
 use crate::link_tables::Linker;
-use crate::unlinked::{UnlinkedCall, UnlinkedCreation, UnlinkedOperation};
 use sc_code::{CallSite, CreationSite, Heads, ObjectTest, Operation, TestedType};
+use sc_routines::{UnlinkedCall, UnlinkedCreation, UnlinkedOperation};
 use std::alloc::AllocError;
 
 /// The number of a name.

@@ -1,6 +1,12 @@
-//! Tests alone: rows of texts, types and steps, and what each crate below the checker makes of them.
+//! Tests alone: rows of texts, types and steps, and what each crate below the program makes of them.
 #![tactic(auto)]
 
+#[cfg(test)]
+mod answer;
+#[cfg(test)]
+mod checker;
+#[cfg(test)]
+mod checks;
 #[cfg(test)]
 mod class_tables;
 #[cfg(test)]
@@ -10,7 +16,11 @@ mod entries;
 #[cfg(test)]
 mod formulas;
 #[cfg(test)]
+mod gaps;
+#[cfg(test)]
 mod grammar;
+#[cfg(test)]
+mod lowered;
 #[cfg(test)]
 mod programs;
 #[cfg(test)]

@@ -10,10 +10,11 @@ ghost use Rattle.sc_class.specs.SystemIn.{system_in};
 ghost use Rattle.sc_class.specs.Tables.Features.{redefined_by, redefined_names};
 ghost use Rattle.sc_class.specs.View.{entry_of};
 ghost use Rattle.sc_model.specs.Routines as routines;
-ghost use Rattle.sc_lower.specs.Sources as sources;
+ghost use Rattle.sc_routines.specs.Sources.{source_in};
+ghost use Rattle.sc_lower.specs.Origins as origins;
 
-use crate::routine::source::RoutineSource;
 use sc_class::{ClassId, FeatureEntry, Tables};
+use sc_routines::RoutineSource;
 use sc_tree::{Class, FeatureKind, Name, Routine};
 
 /// Whether one of the names is this text.
@@ -51,7 +52,7 @@ fn redefines(tables: &Tables, class: usize, name: &str) -> bool
 
 /// The declaration of the name in the class at the number, where that is no redefinition.
 fn original<'s>(tables: &Tables<'s>, class: usize, name: &str) -> Option<FeatureEntry<'s>>
-    ensures { option_map entry_of result ≡ sources.original (system_in tables.now) name.now class }
+    ensures { option_map entry_of result ≡ origins.original (system_in tables.now) name.now class }
 {
     if redefines(tables, class, name) {
         return None;
@@ -75,7 +76,7 @@ fn origin<'s>(tables: &Tables<'s>, name: &str, classes: &[usize]) -> Option<Feat
 /// The routine that a feature of the kind is.
 #[tactic(auto, unfolding(sc_tree::specs::View::kind_of))]
 fn routine_of<'s>(kind: &'s FeatureKind) -> Option<&'s Routine>
-    ensures { option_map (λ (routine : Bor Routine). routine_of routine.now) result ≡ sources.routine_declared (kind_of kind.now) }
+    ensures { option_map (λ (routine : Bor Routine). routine_of routine.now) result ≡ origins.routine_declared (kind_of kind.now) }
 {
     match kind {
         FeatureKind::Attribute(_) => None,
@@ -86,7 +87,7 @@ fn routine_of<'s>(kind: &'s FeatureKind) -> Option<&'s Routine>
 /// The routine that a feature is, with the contract of where it was first declared.
 #[tactic(auto, unfolding(sc_tree::specs::View::feature_of))]
 pub fn source<'s>(tables: &Tables<'s>, entry: FeatureEntry<'s>) -> Option<RoutineSource<'s>>
-    ensures { option_map (sources.source_in (system_in tables.now)) result ≡ routines.routine_of (system_in tables.now) (entry_of entry.entry) }
+    ensures { option_map (source_in (system_in tables.now)) result ≡ routines.routine_of (system_in tables.now) (entry_of entry.entry) }
 {
     let name = entry.feature.name.text.as_str();
     let origin = origin(

@@ -1,7 +1,7 @@
 use Rattle.std.proofs.Common.{ap, ◌∙◌, map}
 use Rattle.sc_lower.specs.Pools.{pool_in}
 use Rattle.sc_code.specs.View.{operation_of}
-use Rattle.sc_lower.specs.Unlinked.{unlinked}
+use Rattle.sc_routines.specs.Unlinked.{unlinked}
 use Rattle.sc_lower.proofs.FittingTables.{read_fits}
 use Rattle.sc_lower.proofs.Kept.{grows_not, grows_further, operations_more}
 use Rattle.sc_lower.proofs.link.link_all.Goals as goal

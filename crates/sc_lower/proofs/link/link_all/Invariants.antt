@@ -1,7 +1,7 @@
 use Rattle.std.proofs.Common.{◌≡◌, Some, map, take}
 use Rattle.sc_lower.specs.Pools.{pool_in, Grows}
 use Rattle.sc_code.specs.View.{operation_of}
-use Rattle.sc_lower.specs.Unlinked.{unlinked}
+use Rattle.sc_routines.specs.Unlinked.{unlinked}
 use Rattle.sc_lower.proofs.link.link_all.Given as goal
 
 abbrev pub invariant-loop-operation : goal.invariant-loop-operation

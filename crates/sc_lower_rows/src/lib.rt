@@ -1,5 +1,0 @@
-//! Tests alone: source texts, and what they are lowered to.
-#![tactic(auto)]
-
-#[cfg(test)]
-mod programs;

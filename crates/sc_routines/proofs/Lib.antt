@@ -1,0 +1,14 @@
+pub mod Blocks
+pub mod Contexts
+pub mod Deciding
+pub mod OwnFeatures
+pub mod Given
+pub mod LoweredExpressions
+pub mod Creating
+pub mod FormalNames
+pub mod HeadNames
+pub mod InstructionCalls
+pub mod Keeping
+pub mod Landing
+pub mod Shapes
+pub mod Whole

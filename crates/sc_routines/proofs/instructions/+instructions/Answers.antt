@@ -1,0 +1,149 @@
+use Rattle.std.proofs.Common.{◌≡◌, ◌<◌, ◌+◌, ◌-◌, ◌++◌, ◌∷◌, [], ℕ, List, OnOk, IfOk, map, length, sym, ap, subst, ◌∙◌, arith}
+use Rattle.std.specs.Prelude.{slice_set}
+use Rattle.std.specs.List.{All}
+use Rattle.sc_tree.specs.Plain as plain
+use Rattle.sc_tree.specs.View.{expr_of, head_of, instrs_of, branches_of}
+use Rattle.sc_rules.specs.Names.{Entities}
+use Rattle.sc_typing.specs.Views.{entity_of}
+use Rattle.sc_routines.specs.Jumps.{jump_of, landed}
+use Rattle.sc_code.specs.Operations.{EndLoop, Jump}
+use Rattle.sc_code.specs.Places.{names_given, with_heads}
+use Rattle.sc_code.specs.Emitted.{expr_code, expr_depth, names_of, instr_code, instr_depth, instr_slots, instrs_code, instrs_depth, instrs_slots, branches_depth, branches_slots}
+use Rattle.sc_code.specs.Room.{instr_blocks}
+use Rattle.sc_routines.specs.Settings.{setting_in}
+use Rattle.sc_routines.proofs.Landing.{skip_set, loop_set, if_landed, if_jumps}
+use Rattle.sc_routines.proofs.Shapes.{if_is, loop_is, block_is}
+use Rattle.sc_routines.proofs.HeadNames.{block_left, part_left}
+use Rattle.sc_routines.proofs.instructions.+instructions.Goals as goal
+
+pub lower_block-returns-clause-names : goal.lower_block-returns-clause-names
+lower_block-returns-clause-names t c =
+    ap (map entity_of) c.truncate.ensures.items
+    ∙ block_left (names_of (map head_of c.args.heads.now)) c.deref.result.now c.args.names.now.items c.add_heads.new.names.items c.lower_instructions.new.names.items c.len-outer.result
+    (c.in_ok-add_heads.ensures ∙ ap (with_heads (names_of (map head_of c.args.heads.now)) c.deref.result.now) c.in_ok-opened.ensures.names)
+    c.in_ok-inner.ensures.names (c.len-outer.ensures ∙ c.args.names.now.ok.0)
+
+pub lower_branch-returns-clause-code : goal.lower_branch-returns-clause-code
+lower_branch-returns-clause-code t c =
+    let h = setting_in c.args.setting.now in
+    c.set.ensures
+    ∙ skip_set _ (expr_code h (map entity_of c.args.names.now.items) 0 (expr_of c.args.condition.now)) _ _ _ _ _ _ _ c.in_ok-tested.ensures.code c.len-skip.ensures c.in_ok-push.ensures
+    (c.in_ok-needs.ensures.code ∙ ap (λ (m : Entities). c.push.new.self ++ instrs_code h m (instrs_of c.args.body.now)) c.in_ok-tested.ensures.names)
+    c.len-jump.ensures c.in_ok-push-3.ensures
+
+pub lower_branch-returns-clause-names : goal.lower_branch-returns-clause-names
+lower_branch-returns-clause-names t c =
+    ap (map entity_of) c.truncate.ensures.items
+    ∙ part_left (setting_in c.args.setting.now) 0 (expr_of c.args.condition.now) c.args.names.now.items c.lower_condition.new.names.items c.lower_instructions.new.names.items c.len-known.result
+    c.in_ok-tested.ensures.names c.in_ok-needs.ensures.names (c.len-known.ensures ∙ c.args.names.now.ok.0)
+
+pub lower_instruction-returns-in-Block-clause-code : goal.lower_instruction-returns-in-Block-clause-code
+lower_instruction-returns-in-Block-clause-code t c =
+    let q = block_is c.args.instruction.now c.in-Block.field-0 c.in-Block.heads c.in-Block.body c.deref-in-Block.result.now c.deref-in-Block-2.result.now
+    c.in-Block.is c.deref-in-Block.ensures.value c.deref-in-Block-2.ensures.value in
+    subst (λ (p : plain.Instr). OnOk c.lower_block.result (c.lower_block.new.code ≡ c.args.code.now ++ instr_code (setting_in c.args.setting.now) (map entity_of c.args.names.now.items) p)) (sym q)
+    c.lower_block.ensures.code
+
+pub lower_instruction-returns-in-Block-clause-depth : goal.lower_instruction-returns-in-Block-clause-depth
+lower_instruction-returns-in-Block-clause-depth t c =
+    let q = block_is c.args.instruction.now c.in-Block.field-0 c.in-Block.heads c.in-Block.body c.deref-in-Block.result.now c.deref-in-Block-2.result.now
+    c.in-Block.is c.deref-in-Block.ensures.value c.deref-in-Block-2.ensures.value in
+    subst (λ (p : plain.Instr). IfOk c.lower_block.result (λ n. n.depth ≡ instr_depth (setting_in c.args.setting.now) (map entity_of c.args.names.now.items) p)) (sym q)
+    c.lower_block.ensures.depth
+
+pub lower_instruction-returns-in-Block-clause-slots : goal.lower_instruction-returns-in-Block-clause-slots
+lower_instruction-returns-in-Block-clause-slots t c =
+    let q = block_is c.args.instruction.now c.in-Block.field-0 c.in-Block.heads c.in-Block.body c.deref-in-Block.result.now c.deref-in-Block-2.result.now
+    c.in-Block.is c.deref-in-Block.ensures.value c.deref-in-Block-2.ensures.value in
+    subst (λ (p : plain.Instr). IfOk c.lower_block.result (λ n. n.slots ≡ instr_slots (setting_in c.args.setting.now) (map entity_of c.args.names.now.items) p)) (sym q)
+    c.lower_block.ensures.slots
+
+pub lower_instruction-returns-in-Block-clause-blocks : goal.lower_instruction-returns-in-Block-clause-blocks
+lower_instruction-returns-in-Block-clause-blocks t c =
+    let q = block_is c.args.instruction.now c.in-Block.field-0 c.in-Block.heads c.in-Block.body c.deref-in-Block.result.now c.deref-in-Block-2.result.now
+    c.in-Block.is c.deref-in-Block.ensures.value c.deref-in-Block-2.ensures.value in
+    subst (λ (p : plain.Instr). IfOk c.lower_block.result (λ n. n.blocks ≡ instr_blocks p)) (sym q) c.lower_block.ensures.blocks
+
+pub lower_instruction-land_jumps-requires : goal.lower_instruction-land_jumps-requires
+lower_instruction-land_jumps-requires t c =
+    let h = setting_in c.args.setting.now in
+    let n = map entity_of c.args.names.now.items in
+    let e = expr_of c.in-If.condition in
+    let body = instrs_of c.deref.result.now in
+    let first = c.in_ok-first-in-If.ensures in
+    let further = c.in_ok-further-in-If.ensures in
+    let last = c.in_ok-last-in-If.ensures in
+    subst (All (λ place. place < length c.lower_instructions.new.code)) (sym c.deref-in-If-3.ensures.value)
+    (if_jumps h n (map entity_of c.lower_branch.new.names.items) (map entity_of c.lower_branches.new.names.items) e body (branches_of c.deref-in-If.result.now) (instrs_of c.deref-in-If-2.result.now)
+    c.args.code.now c.lower_branch.new.code c.lower_branches.new.code c.lower_instructions.new.code c.lower_branch.new.jumps.items c.lower_branches.new.jumps.items
+    first.code (first.jumps ∙ ap (λ (l : List ℕ). l ++ jump_of (length c.args.code.now) (expr_code h n 0 e) (instrs_code h (names_given h n 0 e) body) ∷ []) c.new-jumps.ensures.items)
+    first.names further.code further.jumps further.names last.code)
+
+pub lower_instruction-returns-in_ok-last-in-If : goal.lower_instruction-returns-in_ok-last-in-If
+lower_instruction-returns-in_ok-last-in-If t c =
+    let h = setting_in c.args.setting.now in
+    let n = map entity_of c.args.names.now.items in
+    let e = expr_of c.in-If.condition in
+    let body = instrs_of c.deref.result.now in
+    let bs = branches_of c.deref-in-If.result.now in
+    let other = instrs_of c.deref-in-If-2.result.now in
+    let n1 = map entity_of c.lower_branch.new.names.items in
+    let n2 = map entity_of c.lower_branches.new.names.items in
+    let first = c.in_ok-first-in-If.ensures in
+    let further = c.in_ok-further-in-If.ensures in
+    let last = c.in_ok-last-in-If.ensures in
+    let needs = c.then-in-If.result in
+    let one = c.then.ensures in
+    let all = c.then-in-If.ensures in
+    let kept = further.names ∙ first.names in
+    let q = sym (if_is c.args.instruction.now c.in-If.field-0 c.in-If.condition c.in-If.body c.in-If.branches c.in-If.other c.deref.result.now c.deref-in-If.result.now c.deref-in-If-2.result.now
+    c.in-If.is c.deref.ensures.value c.deref-in-If.ensures.value c.deref-in-If-2.ensures.value) in
+    record {
+      code = subst (λ (p : plain.Instr). c.land_jumps.new.code ≡ c.args.code.now ++ instr_code h n p) q
+          (c.land_jumps.ensures ∙ ap (λ (ks : List ℕ). landed ks c.lower_instructions.new.code) c.deref-in-If-3.ensures.value
+          ∙ if_landed h n n1 n2 e body bs other
+          c.args.code.now c.lower_branch.new.code c.lower_branches.new.code c.lower_instructions.new.code c.lower_branch.new.jumps.items c.lower_branches.new.jumps.items
+          first.code (first.jumps ∙ ap (λ (l : List ℕ). l ++ jump_of (length c.args.code.now) (expr_code h n 0 e) (instrs_code h (names_given h n 0 e) body) ∷ []) c.new-jumps.ensures.items)
+          first.names further.code further.jumps further.names last.code);
+      names = last.names ∙ kept;
+      depth = subst (λ (p : plain.Instr). needs.depth ≡ instr_depth h n p) q
+          (omega (arith, one.depth, all.depth, first.depth, further.depth ∙ ap (λ (m : Entities). branches_depth h m bs) first.names, last.depth ∙ ap (λ (m : Entities). instrs_depth h m other) kept));
+      slots = subst (λ (p : plain.Instr). needs.slots ≡ instr_slots h n p) q
+          (omega (arith, one.slots, all.slots, first.slots, further.slots ∙ ap (λ (m : Entities). branches_slots h m bs) first.names, last.slots ∙ ap (λ (m : Entities). instrs_slots h m other) kept));
+      blocks = subst (λ (p : plain.Instr). needs.blocks ≡ instr_blocks p) q (omega (arith, one.blocks, all.blocks, first.blocks, further.blocks, last.blocks));
+    }
+
+pub lower_instruction-returns-in_ok-until-in-Loop : goal.lower_instruction-returns-in_ok-until-in-Loop
+lower_instruction-returns-in_ok-until-in-Loop t c =
+    let h = setting_in c.args.setting.now in
+    let n = map entity_of c.args.names.now.items in
+    let initial = instrs_of c.deref-in-Loop.result.now in
+    let body = instrs_of c.deref-in-Loop-2.result.now in
+    let until = expr_of c.in-Loop.until in
+    let first = c.in_ok-first-in-Loop.ensures in
+    let again = c.in_ok-again-in-Loop.ensures in
+    let last = c.in_ok-until-in-Loop.ensures in
+    let needs = c.then-in-Loop-2.result in
+    let one = c.then-in-Loop.ensures in
+    let all = c.then-in-Loop-2.ensures in
+    let kept = again.names ∙ first.names in
+    let q = sym (loop_is c.args.instruction.now c.in-Loop.field-0 c.in-Loop.initial c.in-Loop.until c.in-Loop.body c.deref-in-Loop.result.now c.deref-in-Loop-2.result.now
+    c.in-Loop.is c.deref-in-Loop.ensures.value c.deref-in-Loop-2.ensures.value) in
+    let c1 = c.lower_instructions-in-Loop.new.code in
+    let c3 = c.lower_instructions-in-Loop-2.new.code in
+    let c4 = c.end_loop.new.code in
+    let jump = c.len-jump.result in
+    let again_code = again.code ∙ ap (λ (m : Entities). c.push-in-Loop.new.self ++ instrs_code h m body) first.names in
+    let end_code : c4 ≡ slice_set (c3 ++ (expr_code h n 0 until ++ EndLoop (length c3 - jump - 1 + length (expr_code h n 0 until)) ∷ [])) jump (Jump (length c3 - jump - 1)) =
+    last.code ∙ ap (λ (m : Entities). slice_set (c3 ++ (expr_code h m 0 until ++ EndLoop (length c3 - jump - 1 + length (expr_code h m 0 until)) ∷ [])) jump (Jump (length c3 - jump - 1))) kept in
+    record {
+      code = subst (λ (p : plain.Instr). c4 ≡ c.args.code.now ++ instr_code h n p) q
+          (loop_set c.args.code.now (instrs_code h n initial) (instrs_code h n body) (expr_code h n 0 until) jump c1 c.push-in-Loop.new.self c3 c4
+          first.code c.len-jump.ensures c.in_ok-push-in-Loop.ensures again_code end_code);
+      names = last.names ∙ kept;
+      depth = subst (λ (p : plain.Instr). needs.depth ≡ instr_depth h n p) q
+          (omega (arith, one.depth, all.depth, first.depth, again.depth ∙ ap (λ (m : Entities). instrs_depth h m body) first.names, last.depth ∙ ap (λ (m : Entities). expr_depth h m 0 until) kept));
+      slots = subst (λ (p : plain.Instr). needs.slots ≡ instr_slots h n p) q
+          (omega (arith, one.slots, all.slots, first.slots, again.slots ∙ ap (λ (m : Entities). instrs_slots h m body) first.names, last.slots));
+      blocks = subst (λ (p : plain.Instr). needs.blocks ≡ instr_blocks p) q (omega (arith, one.blocks, all.blocks, first.blocks, again.blocks, last.blocks));
+    }

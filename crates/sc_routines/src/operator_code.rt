@@ -1,0 +1,157 @@
+// Operators.
+
+ghost use Rattle.std.specs.Prelude.{◌≡◌, ◌<◌, ◌++◌, ◌∷◌, [], IfOk, List, OnOk, length, max, take, true, false, Some};
+ghost use Rattle.sc_model.specs.Operators as model;
+ghost use Rattle.sc_tree.specs.Properties.{is_and_then};
+ghost use Rattle.sc_code.specs.Emitted as emitted;
+ghost use Rattle.sc_code.specs.Operations as plain;
+ghost use Rattle.sc_code.specs.Places as places;
+ghost use Rattle.sc_routines.specs.Parts.{opened};
+
+use crate::code::Code;
+use crate::lowered::Lowered;
+use crate::sums::sum;
+use crate::unlinked::UnlinkedOperation;
+use sc_proctype::EntityType;
+use sc_tree::{BinaryOperator, UnaryOperator};
+use sc_typing::Entity;
+use std::alloc::AllocError;
+
+/// Whether the left operand may decide.
+fn is_short(operator: BinaryOperator) -> bool
+    ensures { result ≡ model.is_short operator }
+{
+    matches!(
+        operator,
+        BinaryOperator::AndThen | BinaryOperator::OrElse | BinaryOperator::Implies
+    )
+}
+
+/// The type of a unary operator's value.
+fn unary_type(operator: UnaryOperator) -> EntityType
+    ensures { result ≡ places.unary_type operator }
+{
+    match operator {
+        UnaryOperator::Not => EntityType::boolean(),
+        UnaryOperator::Old | UnaryOperator::Plus | UnaryOperator::Minus => EntityType::integer(),
+    }
+}
+
+/// Adds a unary operator behind its operand.
+pub fn close_unary(
+    code: &mut Code,
+    operator: UnaryOperator,
+    operand: Lowered,
+) -> Result<Lowered, AllocError>
+    ensures code { OnOk result (code.new ≡ code.old ++ plain.ApplyUnary operator ∷ []) }
+    ensures told { IfOk result (λ l. l ≡ record { value = Some (places.unary_type operator); depth = operand.depth; olds = operand.olds; slots = 0 }) }
+{
+    code.push(UnlinkedOperation::ApplyUnary(operator))?;
+    Ok(Lowered {
+        value: Some(unary_type(operator)),
+        depth: operand.depth,
+        olds: operand.olds,
+        slots: 0,
+    })
+}
+
+/// The type of a binary operator's value.
+pub fn binary_type(operator: BinaryOperator) -> EntityType
+    ensures { result ≡ places.binary_type operator }
+{
+    match operator {
+        BinaryOperator::Times
+        | BinaryOperator::Quotient
+        | BinaryOperator::Remainder
+        | BinaryOperator::Plus
+        | BinaryOperator::Minus => EntityType::integer(),
+        _ => EntityType::boolean(),
+    }
+}
+
+/// How many operands are needed behind the left one's value.
+pub fn operand_depth(operator: BinaryOperator, right: usize) -> Result<usize, AllocError>
+    ensures { IfOk result (λ depth. depth ≡ emitted.operand_depth operator right) }
+{
+    if is_short(operator) {
+        Ok(right)
+    } else {
+        sum(right, 1)
+    }
+}
+
+/// Adds what stands between the operands. How much a decision passes isn't known yet.
+pub fn open_right(code: &mut Code, operator: BinaryOperator) -> Result<(), AllocError>
+    ensures { OnOk result (code.new ≡ code.old ++ opened operator) }
+{
+    if !is_short(operator) {
+        return Ok(());
+    }
+    code.push(UnlinkedOperation::Decide {
+        operator,
+        passed: 0,
+    })
+}
+
+/// Adds what stands behind the operands, of which the right one begins at the place.
+pub fn close_right(
+    code: &mut Code,
+    operator: BinaryOperator,
+    place: usize,
+) -> Result<(), AllocError>
+    requires { model.is_short operator ≡ true → place < length code.old }
+    ensures { OnOk result ((base right : List plain.Operation) → code.old ≡ base ++ (opened operator ++ right) → place ≡ length base → code.new ≡ base ++ emitted.right_code operator right) }
+{
+    if is_short(operator) {
+        let passed = code.len() - place;
+        code.set(place, UnlinkedOperation::Decide { operator, passed });
+        return code.push(UnlinkedOperation::Conclude);
+    }
+    code.push(UnlinkedOperation::ApplyBinary(operator))
+}
+
+/// Forgets the names of the operands, unless what stands behind them is met only where they hold.
+fn forget_names(names: &mut Vec<Entity>, count: usize, operator: BinaryOperator)
+    ensures both { is_and_then operator ≡ true → names.new.items ≡ names.old.items }
+    ensures none { is_and_then operator ≡ false → names.new.items ≡ take count names.old.items }
+{
+    if !operator.is_and_then() {
+        names.truncate(count);
+    }
+}
+
+/// The operands of a binary operator, in code.
+#[derive(Clone, Copy)]
+pub struct Operands {
+    /// The first one.
+    pub left: Lowered,
+    /// Where the code of the second one begins.
+    pub place: usize,
+    /// The second one.
+    pub right: Lowered,
+}
+
+/// Adds a binary operator behind its operands. So many names were known before them.
+pub fn close_binary(
+    names: &mut Vec<Entity>,
+    count: usize,
+    code: &mut Code,
+    operator: BinaryOperator,
+    operands: Operands,
+) -> Result<Lowered, AllocError>
+    requires { model.is_short operator ≡ true → operands.place < length code.old }
+    ensures code { OnOk result ((base right : List plain.Operation) → code.old ≡ base ++ (opened operator ++ right) → operands.place ≡ length base → code.new ≡ base ++ emitted.right_code operator right) }
+    ensures both { is_and_then operator ≡ true → names.new.items ≡ names.old.items }
+    ensures none { is_and_then operator ≡ false → names.new.items ≡ take count names.old.items }
+    ensures told { IfOk result (λ l. l ≡ record { value = Some (places.binary_type operator); depth = max operands.left.depth (emitted.operand_depth operator operands.right.depth); olds = operands.right.olds; slots = max operands.left.slots operands.right.slots }) }
+{
+    forget_names(names, count, operator);
+    let Operands { left, place, right } = operands;
+    close_right(code, operator, place)?;
+    Ok(Lowered {
+        value: Some(binary_type(operator)),
+        depth: left.depth.max(operand_depth(operator, right.depth)?),
+        olds: right.olds,
+        slots: left.slots.max(right.slots),
+    })
+}
