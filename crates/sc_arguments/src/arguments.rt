@@ -7,7 +7,7 @@ ghost use Rattle.sc_arguments.specs.Usage as spec;
 
 use clap::builder::ValueParser;
 use clap::error::ErrorKind;
-use clap::{Arg, ArgAction, ArgMatches, value_parser};
+use clap::{Arg, ArgAction, ArgMatches};
 use sc_class::Root;
 use std::alloc::{AllocError, Global};
 use std::convert::AsStr;
@@ -238,24 +238,48 @@ pub fn read_arguments<'a, S: AsStr>(
     arguments: &'a [S],
 ) -> Result<Invocation<'a>, UsageFault> {
     let matches = scoop_command(alloc)?.try_get_matches_from(arguments)?;
-    let Some((name, options)) = matches.subcommand() else {
-        return Err(UsageFault::NoCommand);
-    };
-    let command = match name {
-        "replay" => return read_replay(alloc, options),
-        "explain" => return Ok(Invocation::Explain(options.get_str("CODE"))),
-        "print" => Command::Print,
-        "run" => Command::Run(RunOptions {
-            root: read_root(alloc, options)?,
-            turns: options.get_one("turns").unwrap_or(DEFAULT_TURNS),
-            is_explained: options.get_flag("explain"),
-        }),
-        _ => Command::Check(CheckOptions {
-            root: read_root(alloc, options)?,
-            is_explained: options.get_flag("explain"),
-        }),
-    };
+    match matches.subcommand() {
+        Some((name, options)) => read_command(alloc, name, options),
+        None => Err(UsageFault::NoCommand),
+    }
+}
+
+/// What is asked for by the command of this name and what is given to it.
+fn read_command<'a>(
+    alloc: Global,
+    name: &str,
+    options: &ArgMatches<'a>,
+) -> Result<Invocation<'a>, UsageFault> {
+    match name {
+        "replay" => read_replay(alloc, options),
+        "explain" => Ok(Invocation::Explain(options.get_str("CODE"))),
+        "print" => on_files(alloc, Command::Print, options),
+        "run" => on_files(alloc, Command::Run(read_run(alloc, options)?), options),
+        _ => on_files(alloc, Command::Check(read_check(alloc, options)?), options),
+    }
+}
+
+fn on_files<'a>(
+    alloc: Global,
+    command: Command,
+    options: &ArgMatches<'a>,
+) -> Result<Invocation<'a>, UsageFault> {
     Ok(Invocation::OnFiles(command, read_files(alloc, options)?))
+}
+
+fn read_check(alloc: Global, options: &ArgMatches<'_>) -> Result<CheckOptions, UsageFault> {
+    Ok(CheckOptions {
+        root: read_root(alloc, options)?,
+        is_explained: options.get_flag("explain"),
+    })
+}
+
+fn read_run(alloc: Global, options: &ArgMatches<'_>) -> Result<RunOptions, UsageFault> {
+    Ok(RunOptions {
+        root: read_root(alloc, options)?,
+        turns: options.get_one("turns").unwrap_or(DEFAULT_TURNS),
+        is_explained: options.get_flag("explain"),
+    })
 }
 
 fn read_replay<'a>(alloc: Global, options: &ArgMatches<'a>) -> Result<Invocation<'a>, UsageFault> {
@@ -276,67 +300,115 @@ fn read_files<'a>(alloc: Global, options: &ArgMatches<'a>) -> Result<Vec<&'a str
 }
 
 fn scoop_command<'a>(alloc: Global) -> Result<clap::Command<'a>, AllocError> {
-    clap::Command::new(alloc, "scoop")
-        .bin_name("scoop")?
+    let command = with_command(program(alloc), check_command(alloc));
+    let command = with_command(command, run_command(alloc));
+    let command = with_command(command, replay_command(alloc));
+    let command = with_command(command, print_command(alloc));
+    with_command(command, explain_command(alloc))
+}
+
+/// The program, without its commands.
+fn program<'a>(alloc: Global) -> Result<clap::Command<'a>, AllocError> {
+    described(alloc, "scoop", ABOUT, LONG_ABOUT, STATUS_HELP)
         .version("0.1.0")
-        .about(ABOUT)
-        .long_about(LONG_ABOUT)
-        .after_help(STATUS_HELP)
         .subcommand_required(true)
         .arg_required_else_help(true)
-        .subcommand(check_command(alloc)?)?
-        .subcommand(run_command(alloc)?)?
-        .subcommand(replay_command(alloc)?)?
-        .subcommand(print_command(alloc)?)?
-        .subcommand(explain_command(alloc)?)
+        .bin_name("scoop")
 }
 
 fn check_command<'a>(alloc: Global) -> Result<clap::Command<'a>, AllocError> {
-    clap::Command::new(alloc, "check")
-        .about(CHECK_ABOUT)
-        .long_about(CHECK_LONG_ABOUT)
-        .after_help(CHECK_AFTER_HELP)
-        .arg(explain_argument(alloc, EXPLAIN_HELP))?
-        .arg(root_argument(alloc))?
-        .arg(file_argument(alloc))
+    let command = described(
+        alloc,
+        "check",
+        CHECK_ABOUT,
+        CHECK_LONG_ABOUT,
+        CHECK_AFTER_HELP,
+    );
+    let command = command.arg(explain_argument(alloc, EXPLAIN_HELP));
+    let command = with_argument(command, root_argument(alloc));
+    with_argument(command, file_argument(alloc))
 }
 
 fn run_command<'a>(alloc: Global) -> Result<clap::Command<'a>, AllocError> {
-    clap::Command::new(alloc, "run")
-        .about(RUN_ABOUT)
-        .long_about(RUN_LONG_ABOUT)
-        .after_help(RUN_AFTER_HELP)
-        .arg(turns_argument(alloc))?
-        .arg(explain_argument(alloc, RUN_EXPLAIN_HELP))?
-        .arg(root_argument(alloc))?
-        .arg(file_argument(alloc))
+    let command = described(alloc, "run", RUN_ABOUT, RUN_LONG_ABOUT, RUN_AFTER_HELP);
+    let command = command.arg(turns_argument(alloc));
+    let command = with_argument(command, explain_argument(alloc, RUN_EXPLAIN_HELP));
+    let command = with_argument(command, root_argument(alloc));
+    with_argument(command, file_argument(alloc))
 }
 
 fn replay_command<'a>(alloc: Global) -> Result<clap::Command<'a>, AllocError> {
-    clap::Command::new(alloc, "replay")
-        .about(REPLAY_ABOUT)
-        .long_about(REPLAY_LONG_ABOUT)
-        .after_help(REPLAY_AFTER_HELP)
-        .arg(root_argument(alloc))?
-        .arg(record_argument(alloc))?
-        .arg(file_argument(alloc))
+    let command = described(
+        alloc,
+        "replay",
+        REPLAY_ABOUT,
+        REPLAY_LONG_ABOUT,
+        REPLAY_AFTER_HELP,
+    );
+    let command = command.arg(root_argument(alloc));
+    let command = with_argument(command, record_argument(alloc));
+    with_argument(command, file_argument(alloc))
 }
 
 fn print_command<'a>(alloc: Global) -> Result<clap::Command<'a>, AllocError> {
-    clap::Command::new(alloc, "print")
-        .about(PRINT_ABOUT)
-        .long_about(PRINT_LONG_ABOUT)
-        .after_help(PRINT_AFTER_HELP)
-        .arg(file_argument(alloc))
+    let command = described(
+        alloc,
+        "print",
+        PRINT_ABOUT,
+        PRINT_LONG_ABOUT,
+        PRINT_AFTER_HELP,
+    );
+    command.arg(file_argument(alloc))
 }
 
 fn explain_command<'a>(alloc: Global) -> Result<clap::Command<'a>, AllocError> {
-    let code = Arg::new(alloc, "CODE").help(CODE_HELP);
-    clap::Command::new(alloc, "explain")
-        .about(EXPLAIN_ABOUT)
-        .long_about(EXPLAIN_LONG_ABOUT)
-        .after_help(EXPLAIN_AFTER_HELP)
-        .arg(code)
+    let command = described(
+        alloc,
+        "explain",
+        EXPLAIN_ABOUT,
+        EXPLAIN_LONG_ABOUT,
+        EXPLAIN_AFTER_HELP,
+    );
+    command.arg(Arg::new(alloc, "CODE").help(CODE_HELP))
+}
+
+/// A command of this name with these texts in its help, and with no arguments.
+fn described<'a>(
+    alloc: Global,
+    name: &'a str,
+    about: &'a str,
+    long_about: &'a str,
+    after_help: &'a str,
+) -> clap::Command<'a> {
+    clap::Command::new(alloc, name)
+        .about(about)
+        .long_about(long_about)
+        .after_help(after_help)
+}
+
+/// The command with this subcommand, where memory sufficed for both.
+fn with_command<'a>(
+    command: Result<clap::Command<'a>, AllocError>,
+    subcommand: Result<clap::Command<'a>, AllocError>,
+) -> Result<clap::Command<'a>, AllocError> {
+    match command {
+        Ok(command) => match subcommand {
+            Ok(subcommand) => command.subcommand(subcommand),
+            Err(error) => Err(error),
+        },
+        Err(error) => Err(error),
+    }
+}
+
+/// The command with this argument, where memory sufficed for it.
+fn with_argument<'a>(
+    command: Result<clap::Command<'a>, AllocError>,
+    argument: Arg<'a>,
+) -> Result<clap::Command<'a>, AllocError> {
+    match command {
+        Ok(command) => command.arg(argument),
+        Err(error) => Err(error),
+    }
 }
 
 fn root_argument<'a>(alloc: Global) -> Arg<'a> {
@@ -351,14 +423,9 @@ fn turns_argument<'a>(alloc: Global) -> Arg<'a> {
     Arg::new(alloc, "turns")
         .long("turns")
         .value_name("N")
-        .value_parser(turns_parser())
+        .value_parser(ValueParser::signed(1, 10_000_000))
         .default_value("1000000")
         .help(TURNS_HELP)
-}
-
-/// What `--turns` may be.
-fn turns_parser<'a>() -> ValueParser<'a> {
-    value_parser!(u32).range(1..=10_000_000)
 }
 
 fn explain_argument<'a>(alloc: Global, help: &'a str) -> Arg<'a> {
