@@ -4,7 +4,7 @@ use sc_model::Cause;
 use sc_region::Reference;
 
 /// How a routine of the same handler is called.
-#[derive(Clone, Copy, Debug, PartialEq, Eq)]
+#[derive(Clone, Copy)]
 pub enum Calling {
     Unqualified,
     Qualified,
@@ -12,7 +12,7 @@ pub enum Calling {
 
 /// A visible operation that a routine has come to, with what it names. Its actuals are the last operands, and the target of a
 /// qualified call or a request lies under them.
-#[derive(Clone, Copy, Debug, PartialEq, Eq)]
+#[derive(Clone, Copy)]
 pub enum Act {
     /// The last operand is printed.
     PrintInteger(i64),
@@ -67,7 +67,7 @@ pub enum Act {
 }
 
 /// What an operation comes to.
-#[derive(Clone, Copy, Debug, PartialEq, Eq)]
+#[derive(Clone, Copy)]
 pub enum Hop {
     /// It was silent, and is done.
     Passed,

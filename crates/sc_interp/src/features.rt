@@ -23,7 +23,7 @@ use sc_model::Cause;
 use sc_region::{Activation, Reference, Store, Value};
 
 /// What a feature of an object is.
-#[derive(Clone, Copy, Debug, PartialEq, Eq)]
+#[derive(Clone, Copy)]
 pub enum Feature {
     /// An attribute, with its value, where the object has one.
     Attribute(Option<Value>),

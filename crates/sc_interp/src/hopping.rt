@@ -1,9 +1,9 @@
 //! The operations of the topmost routine of a store, one by one.
-ghost use Rattle.std.specs.Prelude.{◌≡◌, IfOk, OnErr, true, slice_get};
+ghost use Rattle.std.specs.Prelude.{◌≡◌, ◌<◌, IfOk, OnErr, Some, true, length, slice_get};
 ghost use Rattle.std.specs.Option.{option_map, option_and_then};
 ghost use Rattle.sc_region.specs.Classes as at;
-ghost use Rattle.sc_region.specs.Frames.{PlainActivation, top_activation};
-ghost use Rattle.sc_interp.specs.Hopping.{ComesTo, IsCount, IsNext, LeadsTo, NextIs};
+ghost use Rattle.sc_region.specs.Frames.{PlainActivation, top_activation, top_current};
+ghost use Rattle.sc_interp.specs.Hopping.{ComesTo, HasCode, IsNext, LeadsTo, NextIs};
 ghost use Rattle.sc_interp.specs.Playing.{Plays, Remains};
 ghost use Rattle.sc_interp.specs.Standing.{is_simple};
 ghost use Rattle.sc_interp.specs.Told.{IsTold};
@@ -63,6 +63,8 @@ fn hop_by(
     }
 }
 
+// ---- the code of the topmost routine
+
 /// The code of the topmost routine.
 fn top_code<'p>(store: &Store<'p>) -> Option<&'p RoutineCode>
     ensures { option_map (λ code. code.now) result
@@ -72,14 +74,12 @@ fn top_code<'p>(store: &Store<'p>) -> Option<&'p RoutineCode>
     store.program().routine(activation.routine)
 }
 
-/// How many operations the code of the topmost routine has.
-fn operation_count(store: &Store<'_>) -> usize
-    ensures { IsCount store.now result }
+/// How many operations a code has.
+fn operation_count(code: &RoutineCode) -> usize
+    ensures count { result ≡ length code.now.operations.items }
+    ensures few { result < 18446744073709551615 }
 {
-    match top_code(store) {
-        Some(code) => code.operations.len(),
-        None => 0,
-    }
+    code.operations.len()
 }
 
 /// The operation at the place of a code.
@@ -89,15 +89,32 @@ fn operation_at(code: &RoutineCode, place: usize) -> Option<Operation>
     code.operations.get(place).copied()
 }
 
-/// How many operations the code of the topmost routine has, and the next of them, if there is one.
-fn next_of(store: &Store<'_>) -> Option<(usize, Operation)>
+/// How many operations the topmost routine's code has, which is this, and the next of them, if there is one.
+fn next_in(store: &Store<'_>, code: &RoutineCode) -> Option<(usize, Operation)>
+    requires { HasCode store.now code.now }
     ensures { IsNext store.now result }
 {
     let activation = store.top()?;
-    let code = store.program().routine(activation.routine)?;
     match operation_at(code, activation.place) {
-        Some(operation) => Some((code.operations.len(), operation)),
+        Some(operation) => Some((operation_count(code), operation)),
         None => None,
+    }
+}
+
+// ---- one operation
+
+/// The next operation of the topmost routine, which runs on `me` and has this code.
+fn hop_in(store: &mut Store<'_>, me: Reference, code: &RoutineCode) -> Result<Hop, AllocError>
+    requires current { top_current store.old.frames ≡ Some me }
+    requires code { HasCode store.old code.now }
+    ensures next { IfOk result (λ hop. NextIs hop store.old store.new) }
+    ensures remains { Remains store.old store.new }
+    ensures err { OnErr result (store.new ≡ store.old) }
+    ensures told { IfOk result (λ hop. IsTold hop store.new) }
+{
+    match next_in(store, code) {
+        None => Ok(Hop::Failed(Cause::BadCode)),
+        Some((count, operation)) => hop_by(store, me, count, operation),
     }
 }
 
@@ -111,11 +128,34 @@ pub fn hop(store: &mut Store<'_>) -> Result<Hop, AllocError>
 {
     match store.current() {
         None => Ok(Hop::Failed(Cause::BadCode)),
-        Some(me) => match next_of(store) {
+        Some(me) => match top_code(store) {
             None => Ok(Hop::Failed(Cause::BadCode)),
-            Some((count, operation)) => hop_by(store, me, count, operation),
+            Some(code) => hop_in(store, me, code),
         },
     }
+}
+
+// ---- silent operations
+
+/// The silent operations of the topmost routine, which runs on `me` and has this code, are done, up to one that isn't
+/// silent. Each goes ahead in the code, so they are fewer than its operations.
+fn moves_in(store: &mut Store<'_>, me: Reference, code: &RoutineCode) -> Result<Hop, AllocError>
+    requires current { top_current store.old.frames ≡ Some me }
+    requires code { HasCode store.old code.now }
+    ensures comes { IfOk result (λ hop. ComesTo hop store.old store.new) }
+    ensures remains { Remains store.old store.new }
+    ensures err { OnErr result (LeadsTo store.old store.new) }
+    ensures told { IfOk result (λ hop. IsTold hop store.new) }
+{
+    let count = operation_count(code);
+    for passed in 0..count + 1 {
+        match hop_in(store, me, code)? {
+            Hop::Passed => (),
+            Hop::Failed(why) => return Ok(Hop::Failed(why)),
+            Hop::Comes(act) => return Ok(Hop::Comes(act)),
+        }
+    }
+    Ok(Hop::Failed(Cause::BadCode))
 }
 
 /// The silent operations of the topmost routine are done, up to one that isn't silent, which is told as `hop` tells it.
@@ -126,13 +166,11 @@ pub fn moves(store: &mut Store<'_>) -> Result<Hop, AllocError>
     ensures err { OnErr result (LeadsTo store.old store.new) }
     ensures told { IfOk result (λ hop. IsTold hop store.new) }
 {
-    let count = operation_count(store);
-    for passed in 0..count {
-        match hop(store)? {
-            Hop::Passed => (),
-            Hop::Failed(why) => return Ok(Hop::Failed(why)),
-            Hop::Comes(act) => return Ok(Hop::Comes(act)),
-        }
+    match store.current() {
+        None => Ok(Hop::Failed(Cause::BadCode)),
+        Some(me) => match top_code(store) {
+            None => Ok(Hop::Failed(Cause::BadCode)),
+            Some(code) => moves_in(store, me, code),
+        },
     }
-    hop(store)
 }

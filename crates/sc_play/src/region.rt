@@ -39,22 +39,21 @@ fn is_continue(asked: &Want) -> bool
 }
 
 /// Further turns, as long as nothing is asked and fewer than `limit` are made: how many turns are made then, with the one
-/// that asked `first`, and what the last of them asks. Where memory is refused, they end before that turn.
-fn play_on(store: &mut Store<'_>, handler: u16, limit: u32, first: Want) -> (u32, Want)
+/// that asked what was `asked`, which is now what the last of them asks. Where memory is refused, they end before that turn.
+fn play_on(store: &mut Store<'_>, handler: u16, limit: u32, asked: &mut Want) -> u32
     requires { 1 ≤ limit }
-    ensures { PlaysOn limit handler store.old first store.new result.0 result.1 }
+    ensures { PlaysOn limit handler store.old asked.old store.new result asked.new }
 {
-    let mut asked = first;
     for turns in 1..limit {
-        if !is_continue(&asked) {
-            return (turns, asked);
+        if !is_continue(asked) {
+            return turns;
         }
-        match turn(store, handler) {
-            Ok(next) => asked = next,
-            Err(_) => return (turns, Want::Continue),
+        match turn(store, handler, asked) {
+            Ok(()) => (),
+            Err(_) => return turns,
         }
     }
-    (limit, asked)
+    limit
 }
 
 impl<'p> Region<'p> {
@@ -84,10 +83,11 @@ impl<'p> Region<'p> {
         ensures ok { IfOk result (λ outcome. Plays limit job.now self.old self.new outcome) }
         ensures err { OnErr result (IsRefused job.now self.old self.new) }
     {
-        match first_turn(&mut self.store, self.handler, job, self.is_told) {
-            Ok(asked) => {
+        let mut want = Want::Continue;
+        match first_turn(&mut self.store, self.handler, job, self.is_told, &mut want) {
+            Ok(()) => {
                 self.is_told = false;
-                let (turns, want) = play_on(&mut self.store, self.handler, limit, asked);
+                let turns = play_on(&mut self.store, self.handler, limit, &mut want);
                 Ok(Outcome {
                     handler: self.handler,
                     turns,

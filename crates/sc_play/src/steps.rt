@@ -23,12 +23,12 @@ pub fn pass(store: &mut Store<'_>, count: usize)
     }
 }
 
-/// What is asked, where the store hasn't ended in a failure.
-pub fn unless_failed(store: &Store<'_>, asked: Want) -> Want
-    ensures { result ≡ unless_failed store.now.failure asked }
+/// What is asked stays, where the store hasn't ended in a failure.
+pub fn unless_failed(store: &Store<'_>, asked: &mut Want)
+    ensures { asked.new ≡ unless_failed store.now.failure asked.old }
 {
     match store.failure() {
-        Some(why) => Want::Fail(why),
-        None => asked,
+        Some(why) => *asked = Want::Fail(why),
+        None => (),
     }
 }

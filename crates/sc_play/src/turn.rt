@@ -1,5 +1,8 @@
 //! Turns of a handler.
-ghost use Rattle.std.specs.Prelude.{◌≡◌, IfOk, OnOk, OnErr};
+//!
+//! A turn is given what is asked so far, which is nothing, and writes there what it asks: where a turn asks nothing, as most
+//! do, nothing is written. Where memory is refused, it stays nothing.
+ghost use Rattle.std.specs.Prelude.{◌≡◌, OnOk, OnErr};
 ghost use Rattle.sc_play.specs.Answering.{top_stage};
 ghost use Rattle.sc_region.specs.Stores.{failed};
 ghost use Rattle.sc_region.specs.declared.job.Want.TheVariants as want;
@@ -14,102 +17,151 @@ use sc_region::{Job, Stage, Store, Want};
 use std::alloc::AllocError;
 
 /// An operation that isn't silent is done. Err where there is no memory; nothing has changed then.
-fn do_operation(store: &mut Store<'_>, handler: u16, operation: Hop) -> Result<Want, AllocError>
+fn do_operation(
+    store: &mut Store<'_>,
+    handler: u16,
+    operation: Hop,
+    asked: &mut Want,
+) -> Result<(), AllocError>
+    requires { asked.old ≡ want.Continue }
     ensures ok { OnOk result (store.new ≡ done handler operation store.old) }
-    ensures want { IfOk result (λ asked. asked ≡ asks_done handler operation store.old store.new) }
+    ensures want { OnOk result (asked.new ≡ asks_done handler operation store.old store.new) }
     ensures err { OnErr result (store.new ≡ store.old) }
+    ensures kept { OnErr result (asked.new ≡ asked.old) }
 {
     match operation {
-        Hop::Passed => Ok(Want::Continue),
+        Hop::Passed => Ok(()),
         Hop::Failed(why) => {
             store.fail(why);
-            Ok(Want::Fail(why))
+            *asked = Want::Fail(why);
+            Ok(())
         }
-        Hop::Comes(act) => act_on(store, handler, act),
+        Hop::Comes(act) => act_on(store, handler, act, asked),
     }
 }
 
 /// The topmost routine goes on, up to an operation that isn't silent, which is done. Err where there is no memory: silent
 /// operations may be done then.
-fn run_on(store: &mut Store<'_>, handler: u16) -> Result<Want, AllocError>
-    ensures ok { IfOk result (λ asked. GoesOn handler store.old store.new asked) }
+fn run_on(store: &mut Store<'_>, handler: u16, asked: &mut Want) -> Result<(), AllocError>
+    requires { asked.old ≡ want.Continue }
+    ensures ok { OnOk result (GoesOn handler store.old store.new asked.new) }
     ensures err { OnErr result (IsAhead store.old store.new) }
+    ensures kept { OnErr result (asked.new ≡ asked.old) }
 {
     let operation = moves(store)?;
-    do_operation(store, handler, operation)
+    do_operation(store, handler, operation, asked)
 }
 
 /// The store stays, and nothing is asked where it hasn't ended in a failure.
-fn wait(store: &Store<'_>) -> Want
-    ensures { Becomes store.now want.Continue store.now result }
+fn wait(store: &Store<'_>, asked: &mut Want)
+    requires { asked.old ≡ want.Continue }
+    ensures { Becomes store.now want.Continue store.now asked.new }
 {
-    unless_failed(store, Want::Continue)
+    unless_failed(store, asked);
 }
 
 /// The store ends in this failure.
-fn fail(store: &mut Store<'_>, why: Cause) -> Want
-    ensures { Becomes (failed why store.old) want.Continue store.new result }
+fn fail(store: &mut Store<'_>, why: Cause, asked: &mut Want)
+    requires { asked.old ≡ want.Continue }
+    ensures { Becomes (failed why store.old) want.Continue store.new asked.new }
 {
     store.fail(why);
-    unless_failed(store, Want::Continue)
+    unless_failed(store, asked);
 }
 
 /// A turn of a handler whose topmost routine is in this stage. Err where there is no memory: silent operations may be
 /// done then.
-fn turn_in(store: &mut Store<'_>, handler: u16, stage: Option<Stage>) -> Result<Want, AllocError>
-    ensures ok { IfOk result (λ asked. TurnIn stage handler store.old store.new asked) }
+fn turn_in(
+    store: &mut Store<'_>,
+    handler: u16,
+    stage: Option<Stage>,
+    asked: &mut Want,
+) -> Result<(), AllocError>
+    requires { asked.old ≡ want.Continue }
+    ensures ok { OnOk result (TurnIn stage handler store.old store.new asked.new) }
     ensures err { OnErr result (IsAhead store.old store.new) }
+    ensures kept { OnErr result (asked.new ≡ asked.old) }
 {
     match stage {
-        Some(Stage::Runs) => run_on(store, handler),
-        Some(Stage::InCall { .. }) => Ok(fail(store, Cause::BadCode)),
+        Some(Stage::Runs) => run_on(store, handler, asked),
+        Some(Stage::InCall { .. }) => {
+            fail(store, Cause::BadCode, asked);
+            Ok(())
+        }
         Some(Stage::Reserves | Stage::ReservesBlock | Stage::Awaits { .. }) | None => {
-            Ok(wait(store))
+            wait(store, asked);
+            Ok(())
         }
     }
 }
 
 /// A turn of the handler. Err where there is no memory: silent operations may be done then.
-pub fn turn(store: &mut Store<'_>, handler: u16) -> Result<Want, AllocError>
-    ensures ok { IfOk result (λ asked. TurnOf handler store.old store.new asked) }
+pub fn turn(store: &mut Store<'_>, handler: u16, asked: &mut Want) -> Result<(), AllocError>
+    requires { asked.old ≡ want.Continue }
+    ensures ok { OnOk result (TurnOf handler store.old store.new asked.new) }
     ensures err { OnErr result (IsAhead store.old store.new) }
+    ensures kept { OnErr result (asked.new ≡ asked.old) }
 {
     let stage = top_stage(store);
-    turn_in(store, handler, stage)
+    turn_in(store, handler, stage, asked)
 }
 
 /// A handler was made for the topmost routine, which has been told its number. Where it waits for the answer it goes on in
 /// its next turn, else in this one. Err where there is no memory: silent operations may be done then.
-fn turn_made(store: &mut Store<'_>, handler: u16) -> Result<Want, AllocError>
-    ensures ok { IfOk result (λ asked. TurnMade (top_stage store.old) handler store.old store.new asked) }
+fn turn_made(store: &mut Store<'_>, handler: u16, asked: &mut Want) -> Result<(), AllocError>
+    requires { asked.old ≡ want.Continue }
+    ensures ok { OnOk result (TurnMade (top_stage store.old) handler store.old store.new asked.new) }
     ensures err { OnErr result (IsAhead store.old store.new) }
+    ensures kept { OnErr result (asked.new ≡ asked.old) }
 {
     match top_stage(store) {
-        None => Ok(fail(store, Cause::BadCode)),
+        None => {
+            fail(store, Cause::BadCode, asked);
+            Ok(())
+        }
         Some(
             Stage::Awaits {
                 is_creation: true,
                 ..
             },
-        ) => Ok(resume(store)),
-        stage => turn_in(store, handler, stage),
+        ) => {
+            resume(store, asked);
+            Ok(())
+        }
+        stage => turn_in(store, handler, stage, asked),
     }
 }
 
 /// The first turn under a job that has begun. Err where there is no memory: silent operations may be done then.
 #[tactic(auto, using(crate::proofs::Going::stays_so))]
-fn turn_under(store: &mut Store<'_>, handler: u16, job: &Job) -> Result<Want, AllocError>
-    ensures ok { IfOk result (λ asked. TurnUnder handler job.now store.old store.new asked) }
+fn turn_under(
+    store: &mut Store<'_>,
+    handler: u16,
+    job: &Job,
+    asked: &mut Want,
+) -> Result<(), AllocError>
+    requires { asked.old ≡ want.Continue }
+    ensures ok { OnOk result (TurnUnder handler job.now store.old store.new asked.new) }
     ensures err { OnErr result (IsAhead store.old store.new) }
+    ensures kept { OnErr result (asked.new ≡ asked.old) }
 {
     match job {
-        Job::Take(request) => take(store, handler, request),
-        Job::Reply(value) => Ok(reply(store, *value)),
-        Job::Failed => Ok(fail(store, Cause::SupplierFailed)),
-        Job::Refused => Ok(fail(store, Cause::Precondition)),
-        Job::Granted(handlers) => grant(store, handlers),
-        Job::Made(_) => turn_made(store, handler),
-        Job::Go => turn(store, handler),
+        Job::Take(request) => take(store, handler, request, asked),
+        Job::Reply(value) => {
+            reply(store, *value, asked);
+            Ok(())
+        }
+        Job::Failed => {
+            fail(store, Cause::SupplierFailed, asked);
+            Ok(())
+        }
+        Job::Refused => {
+            fail(store, Cause::Precondition, asked);
+            Ok(())
+        }
+        Job::Granted(handlers) => grant(store, handlers, asked),
+        Job::Made(_) => turn_made(store, handler, asked),
+        Job::Go => turn(store, handler, asked),
     }
 }
 
@@ -134,10 +186,13 @@ pub fn first_turn(
     handler: u16,
     job: &Job,
     is_told: bool,
-) -> Result<Want, AllocError>
-    ensures ok { IfOk result (λ asked. FirstTurn handler is_told job.now store.old store.new asked) }
+    asked: &mut Want,
+) -> Result<(), AllocError>
+    requires { asked.old ≡ want.Continue }
+    ensures ok { OnOk result (FirstTurn handler is_told job.now store.old store.new asked.new) }
     ensures err { OnErr result (IsAhead (begun is_told job.now store.old) store.new) }
+    ensures kept { OnErr result (asked.new ≡ asked.old) }
 {
     begin(store, job, is_told);
-    turn_under(store, handler, job)
+    turn_under(store, handler, job, asked)
 }

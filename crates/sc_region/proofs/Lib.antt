@@ -4,5 +4,4 @@ pub mod Placed
 pub mod Meeting
 pub mod Settling
 pub mod Filling
-pub mod Opening
 pub mod Reaching

@@ -17,7 +17,8 @@ use Rattle.sc_region.specs.Classes.{routine_at, fresh_object, MeetsInvariant, ob
 use Rattle.sc_region.specs.Stores.{PlainStore, max_objects, max_frames, new_store, is_settled, SettledObjectsMeet, failed, settled, written_to, written, entry, entered_at, entered, left_to, left, with_new, born, born_for, next_reference, made, made_for, printed}
 use Rattle.sc_region.specs.declared.frame.Activation.{Activation}
 use Rattle.sc_region.specs.declared.state.State.{State}
-use Rattle.sc_region.specs.States.{stack_of, state_of}
+use Rattle.sc_region.specs.States.{state_of}
+use Rattle.sc_region.specs.Lending.{with_top_activation}
 use Rattle.sc_region.proofs.Meeting.{and_left, and_right, unbroken_meets}
 use Rattle.sc_region.proofs.Numbered.{numbered_suc, numbered_other, numbered_push}
 
@@ -206,15 +207,10 @@ either_keeps (Err e) x y z ok err m n = subst SettledObjectsMeet (sym err) n
 
 -- ---- the topmost routine
 
-none_left : (stands b : Bool) → stands && not b ≡ true → stands && true ≡ true
-none_left true b e = refl
-none_left false b e = e
+-- wherever the topmost routine stands, the same objects are settled
+top_settled : (number : ℕ) (a : Activation) (fs : List PlainFrame) → is_current number (with_top_activation a fs) ≡ is_current number fs
+top_settled number a [] = refl
+top_settled number a (f ∷ below) = refl
 
--- wherever the topmost routine stands, the same objects are settled, or fewer
-top_settled : (k : ℕ) (current : Reference) (top : Option Activation) (below : List PlainFrame) (w : Activation) (failure : Option Cause) →
-    is_none failure && not (is_current k (stack_of current (Some w) below)) ≡ true → is_none failure && not (is_current k (stack_of current top below)) ≡ true
-top_settled k current None below w failure e = none_left (is_none failure) (is_current k (stack_of current (Some w) below)) e
-top_settled k current (Some a) below w failure e = e
-
-pub top_keeps : (s : State) (w : Activation) → SettledObjectsMeet (state_of s) → SettledObjectsMeet (state_of (record s { top = Some w }))
-top_keeps s w m k o e g = m k o (top_settled k s.current s.top s.below w s.failure e) g
+pub top_keeps : (s : State) (a : Activation) → SettledObjectsMeet (state_of s) → SettledObjectsMeet (state_of (record s { stack = with_top_activation a s.stack }))
+top_keeps s a m k o e g = m k o (ap (λ b. is_none s.failure && not b) (sym (top_settled k a s.stack)) ∙ e) g

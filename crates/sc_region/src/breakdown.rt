@@ -1,14 +1,14 @@
 //! Where a handler failed.
 
 /// Where a routine stood: its number, and the place of its operation in its code.
-#[derive(Clone, Copy, Debug, PartialEq, Eq)]
+#[derive(Clone, Copy)]
 pub struct Point {
     pub routine: usize,
     pub place: usize,
 }
 
 /// A class invariant that an object broke.
-#[derive(Clone, Copy, Debug, PartialEq, Eq)]
+#[derive(Clone, Copy)]
 pub struct BrokenInvariant {
     /// The number of the object's class.
     pub class: u8,
@@ -17,7 +17,7 @@ pub struct BrokenInvariant {
 }
 
 /// Where a handler was as it failed, or else is now, as far as it is known.
-#[derive(Clone, Copy, Debug, PartialEq, Eq)]
+#[derive(Clone, Copy)]
 pub struct Breakdown {
     /// The routine that ran, or that had just ended where its object broke its invariant then.
     pub point: Option<Point>,

@@ -5,7 +5,7 @@ use arrayvec::ArrayVec;
 use sc_model::Cause;
 
 /// What a request is for.
-#[derive(Clone, Copy, Debug, PartialEq, Eq)]
+#[derive(Clone, Copy)]
 pub enum Errand {
     /// The feature of the number is called.
     Calls(u32),

@@ -11,6 +11,7 @@ mod job;
 mod object;
 mod operands;
 mod program;
+mod stack;
 mod state;
 mod store;
 mod value;

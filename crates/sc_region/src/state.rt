@@ -1,23 +1,22 @@
 //! What a store is made of, and what its calls do, whatever its objects meet.
-ghost use Rattle.std.specs.Prelude.{◌≡◌, ◌<◌, ◌≤◌, ◌+◌, ◌^◌, ◌++◌, [], ◌∷◌, OnOk, OnErr, IfOk, IsTrue, false, length, map, take};
+ghost use Rattle.std.specs.Prelude.{◌≡◌, ◌<◌, ◌≤◌, ◌+◌, ◌^◌, ◌++◌, [], ◌∷◌, OnOk, OnErr, IsTrue, false, length, map, take};
 ghost use Rattle.sc_formula.specs.Plain.{plain_formula};
 ghost use Rattle.sc_region.specs.Objects.{object_of, object_numbered};
-ghost use Rattle.sc_region.specs.Frames.{activation_of, frame_of};
 ghost use Rattle.sc_region.specs.Classes.{meets_invariant, all_hold, object_meets, object_breaks};
-ghost use Rattle.sc_region.specs.Stores.{failed, is_settled, settled, written, beginning, entered, left, with_new, born, born_for, made, made_for, printed};
-ghost use Rattle.sc_region.specs.States.{state_of, stack_below, opened};
+ghost use Rattle.sc_region.specs.Stores.{failed, is_settled, settled, written, entered, left, with_new, born, born_for, made, made_for, printed};
+ghost use Rattle.sc_region.specs.States.{state_of};
 ghost use Rattle.sc_region.specs.Values.{atoms_of};
 
 use crate::breakdown::{Breakdown, BrokenInvariant, Point};
-use crate::frame::{Activation, Frame, Frames, Origin};
+use crate::frame::{Activation, Origin};
 use crate::object::{Object, Objects};
 use crate::program::{class_at, routine_at};
+use crate::stack::Stack;
 use crate::value::{Reference, Value};
-use sc_code::{Program, RoutineCode};
+use sc_code::Program;
 use sc_formula::{Atom, Formula};
 use sc_model::Cause;
 use std::alloc::{AllocError, Global};
-use std::mem;
 
 /// The most objects of a handler.
 const MAX_OBJECTS: usize = 65_536;
@@ -31,12 +30,7 @@ pub struct State<'p> {
     pub alloc: Global,
     pub program: &'p Program,
     pub objects: Objects,
-    /// The object of the topmost frame, where there is one.
-    pub current: Reference,
-    pub top: Option<Activation>,
-    pub below: Frames,
-    /// What is left of routines that have exited: their memory serves the next ones.
-    pub spare: Vec<Activation>,
+    pub stack: Stack,
     pub output: Vec<u8>,
     pub failure: Option<Cause>,
     /// Where it failed, to be told. Nothing else depends on it.
@@ -55,7 +49,7 @@ fn point_of(activation: &Activation) -> Point {
 
 /// Where it is, or was as it failed.
 pub fn breakdown(state: &State<'_>) -> Breakdown {
-    match &state.top {
+    match state.stack.top() {
         Some(activation) => Breakdown {
             point: Some(point_of(activation)),
             invariant: state.breakdown.invariant,
@@ -68,12 +62,12 @@ pub fn breakdown(state: &State<'_>) -> Breakdown {
 fn keep_breakdown(state: &mut State<'_>, why: Cause)
     ensures { state_of state.new ≡ state_of state.old }
 {
-    if state.top.is_none() {
+    let Some(current) = state.stack.current() else {
         return;
-    }
+    };
     state.breakdown = breakdown(state);
     if matches!(why, Cause::Invariant) && state.breakdown.invariant.is_none() {
-        state.breakdown.invariant = broken_invariant(state, state.current.number as usize);
+        state.breakdown.invariant = broken_invariant(state, current.number as usize);
     }
 }
 
@@ -82,8 +76,7 @@ pub fn fail(state: &mut State<'_>, why: Cause)
     ensures { state_of state.new ≡ failed why (state_of state.old) }
 {
     keep_breakdown(state, why);
-    state.top = None;
-    state.below.clear();
+    state.stack.clear();
     state.failure = Some(why);
 }
 
@@ -91,13 +84,7 @@ pub fn fail(state: &mut State<'_>, why: Cause)
 pub fn is_settled(state: &State<'_>, number: usize) -> bool
     ensures { result ≡ is_settled number (state_of state.now) }
 {
-    if state.failure.is_some() {
-        return false;
-    }
-    match &state.top {
-        None => true,
-        Some(_) => { state.current.number as usize != number && !state.below.have_current(number) }
-    }
+    state.failure.is_none() && !state.stack.have_current(number)
 }
 
 /// Whether there is an object of the number, and it meets its class invariant.
@@ -182,7 +169,10 @@ pub fn settle(state: &mut State<'_>, number: usize)
 fn is_on_top(state: &State<'_>, number: usize) -> bool
     ensures { IsTrue result → is_settled number (state_of state.now) ≡ false }
 {
-    state.top.is_some() && state.current.number as usize == number
+    match state.stack.current() {
+        Some(current) => current.number as usize == number,
+        None => false,
+    }
 }
 
 // ---- attributes
@@ -191,84 +181,13 @@ fn is_on_top(state: &State<'_>, number: usize) -> bool
 pub fn write_current(state: &mut State<'_>, slot: usize, value: Value)
     ensures { state_of state.new ≡ written slot value (state_of state.old) }
 {
-    if state.top.is_some() {
-        let number = state.current.number as usize;
+    if let Some(current) = state.stack.current() {
+        let number = current.number as usize;
         state.objects.write(number, slot, value);
     }
 }
 
 // ---- frames
-
-fn count_frames(state: &State<'_>) -> usize
-    ensures { result ≡ length (state_of state.now).frames }
-{
-    match &state.top {
-        None => 0,
-        Some(_) => state.below.len() + 1,
-    }
-}
-
-/// What a call opens: a frame, or a failure.
-fn open(
-    state: &mut State<'_>,
-    current: Reference,
-    routine: usize,
-    origin: Origin,
-    actuals: &[Value],
-) -> Result<Result<Frame, Cause>, AllocError>
-    ensures kept { state_of state.new ≡ state_of state.old }
-    ensures opened { IfOk result (λ r.
-        opened r (state_of state.old) ≡ entered current routine origin actuals.now (state_of state.old)) }
-{
-    let Some(entered) = routine_at(state.program, routine) else {
-        return Ok(Err(Cause::BadCode));
-    };
-    if actuals.len() != entered.formals {
-        return Ok(Err(Cause::BadCode));
-    }
-    if count_frames(state) >= MAX_FRAMES {
-        return Ok(Err(Cause::StackFull));
-    }
-    let activation = activate(state, routine, entered, origin, actuals)?;
-    Ok(Ok(Frame {
-        current,
-        activation,
-    }))
-}
-
-/// A routine begins, in memory that is spare if there is any.
-fn activate(
-    state: &mut State<'_>,
-    routine: usize,
-    code: &RoutineCode,
-    origin: Origin,
-    actuals: &[Value],
-) -> Result<Activation, AllocError>
-    ensures kept { state_of state.new ≡ state_of state.old }
-    ensures begun { IfOk result (λ a. activation_of a ≡ beginning routine code.now origin actuals.now) }
-{
-    let memory = match state.spare.pop() {
-        Some(memory) => memory,
-        None => Activation::empty(state.alloc),
-    };
-    memory.begin(routine, code, origin, actuals)
-}
-
-/// The frame comes onto the others.
-fn put_frame(state: &mut State<'_>, frame: Frame) -> Result<(), AllocError>
-    ensures ok { OnOk result (state_of state.new ≡ record (state_of state.old) { frames = frame_of frame ∷ (state_of state.old).frames }) }
-    ensures err { OnErr result (state_of state.new ≡ state_of state.old) }
-{
-    match &mut state.top {
-        Some(top) => state.below.enter(&mut state.current, top, frame),
-        None => {
-            state.below.clear();
-            state.current = frame.current;
-            state.top = Some(frame.activation);
-            Ok(())
-        }
-    }
-}
 
 /// The routine of the number is entered on an object.
 pub fn enter(
@@ -281,47 +200,35 @@ pub fn enter(
     ensures ok { OnOk result (state_of state.new ≡ entered current routine origin actuals.now (state_of state.old)) }
     ensures err { OnErr result (state_of state.new ≡ state_of state.old) }
 {
-    match open(state, current, routine, origin, actuals)? {
-        Ok(frame) => put_frame(state, frame),
-        Err(why) => {
-            fail(state, why);
-            Ok(())
-        }
+    let Some(code) = routine_at(state.program, routine) else {
+        fail(state, Cause::BadCode);
+        return Ok(());
+    };
+    if actuals.len() != code.formals {
+        fail(state, Cause::BadCode);
+        return Ok(());
     }
+    if state.stack.height() >= MAX_FRAMES {
+        fail(state, Cause::StackFull);
+        return Ok(());
+    }
+    state
+        .stack
+        .enter(state.alloc, current, routine, code, origin, actuals)
 }
 
 /// The topmost frame goes, and the one below it is the topmost now.
-fn drop_top(state: &mut State<'_>)
-    ensures { state_of state.new ≡ record (state_of state.old) { frames = stack_below state.old.top state.old.below } }
-{
-    if state.top.is_none() {
-        return;
-    }
-    let left = match state.below.pop() {
-        Some(frame) => {
-            state.current = frame.current;
-            mem::replace(&mut state.top, Some(frame.activation))
-        }
-        None => mem::take(&mut state.top),
-    };
-    if let Some(activation) = left {
-        let _ = state.spare.push(activation);
-    }
-}
-
-/// The topmost frame goes.
 pub fn leave(state: &mut State<'_>)
     ensures { state_of state.new ≡ left (state_of state.old) }
 {
-    if state.top.is_none() {
+    let Some(current) = state.stack.pop() else {
         return;
-    }
-    let number = state.current.number as usize;
-    drop_top(state);
-    settle(state, number);
+    };
+    let height = state.stack.height();
+    settle(state, current.number as usize);
     if state.failure.is_some() {
-        // the routine that has exited is the last whose memory is spare
-        state.breakdown.point = state.spare.last().map(point_of);
+        // what has exited still stands over the frames that there were below it
+        state.breakdown.point = state.stack.over(height).map(point_of);
     }
 }
 

@@ -6,8 +6,9 @@ ghost use Rattle.sc_region.specs.Stores.{new_store, is_settled, failed, written,
 ghost use Rattle.sc_region.specs.declared.frame.Origin.TheVariants as origin;
 
 use crate::breakdown::Breakdown;
-use crate::frame::{Activation, Frames, Origin};
+use crate::frame::{Activation, Origin};
 use crate::object::Objects;
+use crate::stack::Stack;
 use crate::state::{self, State};
 use crate::value::{Reference, Value};
 use sc_code::Program;
@@ -15,20 +16,13 @@ use sc_model::Cause;
 use std::alloc::{AllocError, Global};
 use std::marker::Model;
 
-/// What stands for Current where there is no frame.
-const NOBODY: Reference = Reference {
-    handler: 0,
-    number: 0,
-    class: 0,
-};
-
 /// The store of a handler: its objects, its frames, the topmost first, its output, and the failure that it has ended in.
 ///
 /// Each settled object meets its class invariant: one that no frame has as Current, as long as the store hasn't ended in
 /// a failure. There may be 65,536 objects and 1,024 frames. An object takes 32 bytes and 16 for each attribute; a frame
-/// takes 216 bytes, 16 for each slot, for each `old` and for each operand that its routine may have at once, and 40 for
-/// each separate block. What a frame took serves later ones, so that calls take no memory once the stack has been as
-/// high.
+/// takes 212 bytes, 16 for each slot, for each `old` and for each operand that its routine may have at once, and 40 for
+/// each separate block. A frame stands where it began until its routine exits, so that a call moves nothing but its
+/// actuals; what it took serves later ones, so that calls take no memory once the stack has been as high.
 #[derive(Drop)]
 pub struct Store<'p> {
     state: State<'p>,
@@ -66,10 +60,7 @@ impl<'p> Store<'p> {
                 alloc,
                 program,
                 objects: Objects::new(alloc),
-                current: NOBODY,
-                top: None,
-                below: Frames::new(alloc),
-                spare: Vec::new(alloc),
+                stack: Stack::new(alloc),
                 output: Vec::new(alloc),
                 failure: None,
                 breakdown: Breakdown::none(),
@@ -228,17 +219,14 @@ impl<'p> Store<'p> {
     pub fn current(&self) -> Option<Reference>
         ensures { result ≡ top_current self.now.frames }
     {
-        match &self.state.top {
-            Some(_) => Some(self.state.current),
-            None => None,
-        }
+        self.state.stack.current()
     }
 
     /// Where the topmost routine stands, if there is a frame.
     pub fn top(&self) -> Option<&Activation>
         ensures { option_map (λ activation. activation_of activation.now) result ≡ top_activation self.now.frames }
     {
-        self.state.top.as_ref()
+        self.state.stack.top()
     }
 
     /// The same, to be changed.
@@ -246,7 +234,7 @@ impl<'p> Store<'p> {
         ensures* writes_back { sem 𝓛 (LendsTop self.entry result) }
         ensures value { option_map (λ activation. activation_of activation.now) result ≡ top_activation self.old.frames }
     {
-        self.state.top.as_mut()
+        self.state.stack.top_mut()
     }
 
     /// What was printed.

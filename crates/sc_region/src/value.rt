@@ -5,7 +5,7 @@ ghost use Rattle.sc_region.specs.Values.{default_value, atom_of};
 use sc_code::DefaultValue;
 use sc_formula::Atom;
 
-/// A reference to an object. It takes 8 bytes.
+/// A reference to an object. It takes 12 bytes.
 #[derive(Clone, Copy, Debug, PartialEq, Eq)]
 pub struct Reference {
     /// The handler on which the object lies.

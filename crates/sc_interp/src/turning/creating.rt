@@ -1,5 +1,5 @@
 //! Creations of objects of this handler.
-ghost use Rattle.std.specs.Prelude.{◌≡◌, ◌<◌, IfOk, OnOk, OnErr, Some, false, true, length};
+ghost use Rattle.std.specs.Prelude.{◌≡◌, ◌<◌, OnOk, OnErr, Some, false, true, length};
 ghost use Rattle.sc_region.specs.Frames.{PlainActivation, activation_of, top_activation};
 ghost use Rattle.sc_region.specs.Stores.{made_for};
 ghost use Rattle.sc_region.specs.declared.job.Want.TheVariants as want;
@@ -7,8 +7,8 @@ ghost use Rattle.sc_interp.specs.Creating.{created, created_by, given, has_room_
 ghost use Rattle.sc_interp.specs.Entering.{Calls, asks_beginning, in_call};
 ghost use Rattle.sc_interp.specs.Turning.{on_top, unless_failed};
 
-use crate::turning::beginning::want_beginning;
-use crate::turning::entering::{Caller, caller_of, resume, routine_of, suspend};
+use crate::turning::beginning::ask_beginning;
+use crate::turning::entering::{Caller, look, no_caller, resume, routine_of, suspend};
 use crate::turning::steps::{pass, unless_failed};
 use sc_model::Cause;
 use sc_region::{Activation, Reference, Store, Value, Want};
@@ -75,14 +75,22 @@ fn give(store: &mut Store<'_>, count: usize, reference: Reference)
 
 /// An object of the class of the reference is created, which is to name it: F10 where there are as many objects as there
 /// may be, F1 where it breaks its invariant. Err where there is no memory; nothing has changed then.
-pub fn create(store: &mut Store<'_>, reference: Reference, count: usize) -> Result<Want, AllocError>
+pub fn create(
+    store: &mut Store<'_>,
+    reference: Reference,
+    count: usize,
+    asked: &mut Want,
+) -> Result<(), AllocError>
+    requires { asked.old ≡ want.Continue }
     ensures ok { OnOk result (store.new ≡ created reference count store.old) }
-    ensures want { IfOk result (λ asked. asked ≡ unless_failed store.new.failure want.Continue) }
+    ensures want { OnOk result (asked.new ≡ unless_failed store.new.failure want.Continue) }
     ensures err { OnErr result (store.new ≡ store.old) }
+    ensures kept { OnErr result (asked.new ≡ asked.old) }
 {
     store.make_object(reference.class)?;
     give(store, count, reference);
-    Ok(unless_failed(store, Want::Continue))
+    unless_failed(store, asked);
+    Ok(())
 }
 
 // ---- by a procedure
@@ -126,10 +134,11 @@ fn make(
 {
     let found = routine_of(store.program(), reference.class, name);
     let has_room = has_room(store, count);
-    let Some(caller) = caller_of(store, count) else {
+    let mut caller = no_caller();
+    if !look(&mut caller, store, count) {
         store.fail(Cause::BadCode);
         return Ok(());
-    };
+    }
     let Some(routine) = found else {
         store.fail(Cause::BadCode);
         return Ok(());
@@ -149,12 +158,16 @@ pub fn create_by(
     reference: Reference,
     name: usize,
     count: usize,
-) -> Result<Want, AllocError>
+    asked: &mut Want,
+) -> Result<(), AllocError>
+    requires { asked.old ≡ want.Continue }
     ensures ok { OnOk result (store.new ≡ created_by reference name count store.old) }
-    ensures want { IfOk result (λ asked. asked ≡ unless_failed store.new.failure (asks_beginning store.new.program (top_activation store.new.frames))) }
+    ensures want { OnOk result (asked.new ≡ unless_failed store.new.failure (asks_beginning store.new.program (top_activation store.new.frames))) }
     ensures err { OnErr result (store.new ≡ store.old) }
+    ensures kept { OnErr result (asked.new ≡ asked.old) }
 {
     make(store, reference, name, count)?;
-    let asked = want_beginning(store);
-    Ok(unless_failed(store, asked))
+    ask_beginning(store, asked);
+    unless_failed(store, asked);
+    Ok(())
 }

@@ -1,15 +1,16 @@
 //! Calls of routines of this handler.
-ghost use Rattle.std.specs.Prelude.{◌≡◌, ◌≤◌, ◌<◌, ◌+◌, IfOk, IfSome, IfNone, OnOk, OnErr, Some, true, drop, length};
+ghost use Rattle.std.specs.Prelude.{◌≡◌, ◌≤◌, ◌<◌, ◌+◌, [], IsTrue, OnOk, OnErr, Some, false, true, drop, length};
 ghost use Rattle.sc_region.specs.Frames.{PlainActivation, activation_of, top_activation};
 ghost use Rattle.sc_region.specs.OperandList.{operands_onto};
 ghost use Rattle.sc_region.specs.Stores.{entered};
+ghost use Rattle.sc_region.specs.declared.job.Want.TheVariants as want;
 ghost use Rattle.sc_interp.specs.Entering.{Calls, CallsNone, CallsNot, Has, HasCall, StandsSo, asks_beginning, called, has_operands, in_call, last_values, operands_of, origin_of, resumed, routine_in};
 ghost use Rattle.sc_interp.specs.Serving.{version_in};
 ghost use Rattle.sc_interp.specs.Turning.{on_top, unless_failed};
 
 use crate::act::Calling;
 use crate::attributes::version_in;
-use crate::turning::beginning::want_beginning;
+use crate::turning::beginning::ask_beginning;
 use crate::turning::steps::{go_past, unless_failed};
 use arrayvec::ArrayVec;
 use sc_code::{Program, Version};
@@ -27,20 +28,30 @@ pub struct Caller {
     pub stage: Stage,
 }
 
-/// The last so many operands, in the order of the text.
-fn last_values(activation: &Activation, count: usize) -> ArrayVec<Value, 17>
+/// What stands for a caller, as long as none was looked at.
+pub fn no_caller() -> Caller
+    ensures { result.values.items ≡ [] }
+{
+    Caller {
+        values: ArrayVec::new(),
+        place: 0,
+        stage: Stage::Runs,
+    }
+}
+
+/// The values are the last so many operands, in the order of the text.
+fn take_last(values: &mut ArrayVec<Value, 17>, activation: &Activation, count: usize)
     requires few { count < 18 }
     requires enough { count ≤ length (activation_of activation.now).operands.values }
-    ensures { result.items ≡ last_values count (activation_of activation.now).operands.values }
+    ensures { values.new.items ≡ last_values count (activation_of activation.now).operands.values }
 {
-    let mut values = ArrayVec::new();
+    values.clear();
     for passed in 0..count {
         match activation.operands.under(passed) {
             Some(value) => values.insert(0, value),
             None => unreachable!(),
         }
     }
-    values
 }
 
 /// The routine is in a call, which took so many operands.
@@ -110,36 +121,35 @@ fn has_operands(activation: &Activation, count: usize) -> bool
     count < 18 && count <= activation.operands.len()
 }
 
-/// How the routine stands, with its last so many operands.
-fn caller_on(activation: &mut Activation, count: usize) -> Caller
+/// The caller is the routine as it stands, with its last so many operands.
+fn look_on(caller: &mut Caller, activation: &mut Activation, count: usize)
     requires { has_operands count (activation_of activation.old) ≡ true }
     ensures same { activation_of activation.new ≡ activation_of activation.old }
-    ensures stands { StandsSo count result.values.items result.place result.stage (activation_of activation.old) }
+    ensures stands { StandsSo count caller.new.values.items caller.new.place caller.new.stage (activation_of activation.old) }
 {
     keep_room(activation);
-    Caller {
-        values: last_values(activation, count),
-        place: activation.place,
-        stage: activation.stage,
-    }
+    take_last(&mut caller.values, activation, count);
+    caller.place = activation.place;
+    caller.stage = activation.stage;
 }
 
-/// The same of the topmost routine, where there is one and it has as many.
-pub fn caller_of(store: &mut Store<'_>, count: usize) -> Option<Caller>
+/// The same of the topmost routine; whether there is one, and it has as many.
+pub fn look(caller: &mut Caller, store: &mut Store<'_>, count: usize) -> bool
     ensures same { store.new ≡ store.old }
-    ensures some { IfSome result (λ caller. Calls count caller.values.items caller.place caller.stage (top_activation store.old.frames)) }
-    ensures has { IfSome result (λ caller. Has count (top_activation store.old.frames)) }
-    ensures none { IfNone result (CallsNone count (top_activation store.old.frames)) }
+    ensures some { IsTrue result → Calls count caller.new.values.items caller.new.place caller.new.stage (top_activation store.old.frames) }
+    ensures has { IsTrue result → Has count (top_activation store.old.frames) }
+    ensures none { result ≡ false → CallsNone count (top_activation store.old.frames) }
 {
     match store.top_mut() {
         Some(activation) => {
             if has_operands(activation, count) {
-                Some(caller_on(activation, count))
+                look_on(caller, activation, count);
+                true
             } else {
-                None
+                false
             }
         }
-        None => None,
+        None => false,
     }
 }
 
@@ -194,17 +204,17 @@ fn origin_of(calling: Calling) -> Origin
     }
 }
 
-/// How the topmost routine stands, where it has the operands of such a call.
-fn caller_for(store: &mut Store<'_>, calling: Calling, count: usize) -> Option<Caller>
+/// The caller is the topmost routine as it stands; whether it has the operands of such a call.
+fn look_for(caller: &mut Caller, store: &mut Store<'_>, calling: Calling, count: usize) -> bool
     ensures same { store.new ≡ store.old }
-    ensures some { IfSome result (λ caller. Calls (operands_of calling count) caller.values.items caller.place caller.stage (top_activation store.old.frames)) }
-    ensures has { IfSome result (λ caller. HasCall calling count (top_activation store.old.frames)) }
-    ensures none { IfNone result (CallsNot calling count (top_activation store.old.frames)) }
+    ensures some { IsTrue result → Calls (operands_of calling count) caller.new.values.items caller.new.place caller.new.stage (top_activation store.old.frames) }
+    ensures has { IsTrue result → HasCall calling count (top_activation store.old.frames) }
+    ensures none { result ≡ false → CallsNot calling count (top_activation store.old.frames) }
 {
     if count < 17 {
-        caller_of(store, operands_of(calling, count))
+        look(caller, store, operands_of(calling, count))
     } else {
-        None
+        false
     }
 }
 
@@ -231,10 +241,11 @@ fn call(
     ensures err { OnErr result (store.new ≡ store.old) }
 {
     let found = routine_of(store.program(), object.class, name);
-    let Some(caller) = caller_for(store, calling, count) else {
+    let mut caller = no_caller();
+    if !look_for(&mut caller, store, calling, count) {
         store.fail(Cause::BadCode);
         return Ok(());
-    };
+    }
     let Some(routine) = found else {
         store.fail(Cause::BadCode);
         return Ok(());
@@ -261,12 +272,16 @@ pub fn enter(
     name: usize,
     count: usize,
     gives: bool,
-) -> Result<Want, AllocError>
+    asked: &mut Want,
+) -> Result<(), AllocError>
+    requires { asked.old ≡ want.Continue }
     ensures ok { OnOk result (store.new ≡ called calling object name count gives store.old) }
-    ensures want { IfOk result (λ asked. asked ≡ unless_failed store.new.failure (asks_beginning store.new.program (top_activation store.new.frames))) }
+    ensures want { OnOk result (asked.new ≡ unless_failed store.new.failure (asks_beginning store.new.program (top_activation store.new.frames))) }
     ensures err { OnErr result (store.new ≡ store.old) }
+    ensures kept { OnErr result (asked.new ≡ asked.old) }
 {
     call(store, calling, object, name, count, gives)?;
-    let asked = want_beginning(store);
-    Ok(unless_failed(store, asked))
+    ask_beginning(store, asked);
+    unless_failed(store, asked);
+    Ok(())
 }

@@ -3,6 +3,7 @@ ghost use Rattle.std.specs.Prelude.{◌≡◌, ◌||◌};
 ghost use Rattle.sc_region.specs.Classes.{object_meets};
 ghost use Rattle.sc_region.specs.Objects.{object_numbered};
 ghost use Rattle.sc_region.specs.Frames.{activation_of, top_activation};
+ghost use Rattle.sc_region.specs.declared.job.Want.TheVariants as want;
 ghost use Rattle.sc_interp.specs.Exiting.{asks_exiting, asks_returning, exited, handed, is_unset, is_untested, returned};
 ghost use Rattle.sc_interp.specs.Turning.{on_top, unless_failed};
 
@@ -92,35 +93,43 @@ fn give_back(store: &mut Store<'_>, origin: Origin, value: Option<Value>)
 }
 
 /// What the end of a routine asks that began so.
-fn want_returning(origin: Origin, value: Option<Value>, reserved: &ArrayVec<u16, 16>) -> Want
-    ensures { result ≡ asks_returning origin value reserved.now.items }
+fn ask_returning(
+    origin: Origin,
+    value: Option<Value>,
+    reserved: &ArrayVec<u16, 16>,
+    asked: &mut Want,
+)
+    requires { asked.old ≡ want.Continue }
+    ensures { asked.new ≡ asks_returning origin value reserved.now.items }
 {
     match origin {
         Origin::Unqualified | Origin::Qualified | Origin::Creation => {
-            if reserved.is_empty() {
-                Want::Continue
-            } else {
-                Want::Release(copy_handlers(reserved))
+            if !reserved.is_empty() {
+                *asked = Want::Release(copy_handlers(reserved));
             }
         }
-        Origin::Requested | Origin::RequestedCreation => Want::Done {
-            reply: value,
-            released: copy_handlers(reserved),
-            refused: false,
-        },
+        Origin::Requested | Origin::RequestedCreation => {
+            *asked = Want::Done {
+                reply: value,
+                released: copy_handlers(reserved),
+                refused: false,
+            };
+        }
     }
 }
 
 /// What the end of the topmost routine asks, unless it fails.
-fn want_exiting(store: &Store<'_>) -> Want
-    ensures { result ≡ asks_exiting (top_activation store.now.frames) }
+fn ask_exiting(store: &Store<'_>, asked: &mut Want)
+    requires { asked.old ≡ want.Continue }
+    ensures { asked.new ≡ asks_exiting (top_activation store.now.frames) }
 {
     match store.top() {
-        None => Want::Continue,
-        Some(activation) => want_returning(
+        None => (),
+        Some(activation) => ask_returning(
             activation.origin,
             activation.result,
             &activation.reserved,
+            asked,
         ),
     }
 }
@@ -148,11 +157,12 @@ fn end(store: &mut Store<'_>)
 /// The topmost routine ends: F7 where its Result is unset, F1 where it has to leave its object in order and doesn't, or
 /// where an object that is settled now breaks its invariant. What it newly reserved is released; a request ends, and a
 /// routine of this handler goes on.
-pub fn exit(store: &mut Store<'_>) -> Want
+pub fn exit(store: &mut Store<'_>, asked: &mut Want)
+    requires { asked.old ≡ want.Continue }
     ensures store { store.new ≡ exited store.old }
-    ensures want { result ≡ unless_failed store.new.failure (asks_exiting (top_activation store.old.frames)) }
+    ensures want { asked.new ≡ unless_failed store.new.failure (asks_exiting (top_activation store.old.frames)) }
 {
-    let asked = want_exiting(store);
+    ask_exiting(store, asked);
     end(store);
-    unless_failed(store, asked)
+    unless_failed(store, asked);
 }

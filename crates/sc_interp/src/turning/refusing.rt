@@ -131,11 +131,11 @@ fn decide(store: &mut Store<'_>, formals: usize)
 /// A clause is false that names the formals of the list of the number. Where one of them lies on a handler that the entry
 /// newly reserved, it waits: those are released, and its reserve step comes again. Else a call of this handler fails with
 /// F4, and a request is refused: F1 where it was to create an object that breaks its invariant.
-pub fn refuse(store: &mut Store<'_>, formals: usize) -> Want
+pub fn refuse(store: &mut Store<'_>, formals: usize, asked: &mut Want)
     ensures store { store.new ≡ refused formals store.old }
-    ensures want { result ≡ unless_failed store.new.failure (asks_refusing (formals_at store.old.program formals) (top_activation store.old.frames)) }
+    ensures want { asked.new ≡ unless_failed store.new.failure (asks_refusing (formals_at store.old.program formals) (top_activation store.old.frames)) }
 {
-    let asked = want_refusing(store, formals_at(store.program(), formals));
+    *asked = want_refusing(store, formals_at(store.program(), formals));
     decide(store, formals);
-    unless_failed(store, asked)
+    unless_failed(store, asked);
 }

@@ -34,19 +34,16 @@ fn go_back(activation: &mut Activation, count: usize)
     activation.place = activation.place.saturating_sub(count);
 }
 
-/// Each clause of the precondition holds, so the body begins.
-pub fn start(store: &mut Store<'_>) -> Want
-    ensures store { store.new ≡ on_top (past 0) store.old }
-    ensures want { result ≡ want.Continue }
+/// Each clause of the precondition holds, so the body begins. Nothing is asked.
+pub fn start(store: &mut Store<'_>)
+    ensures { store.new ≡ on_top (past 0) store.old }
 {
     pass(store, 0);
-    Want::Continue
 }
 
-/// An `until` was evaluated: the loop ends, or its body comes again, so many operations back.
-pub fn end_round(store: &mut Store<'_>, back: Option<usize>) -> Want
-    ensures store { store.new ≡ on_top (round_ended back) store.old }
-    ensures want { result ≡ want.Continue }
+/// An `until` was evaluated: the loop ends, or its body comes again, so many operations back. Nothing is asked.
+pub fn end_round(store: &mut Store<'_>, back: Option<usize>)
+    ensures { store.new ≡ on_top (round_ended back) store.old }
 {
     match store.top_mut() {
         Some(activation) => match back {
@@ -55,7 +52,6 @@ pub fn end_round(store: &mut Store<'_>, back: Option<usize>) -> Want
         },
         None => (),
     }
-    Want::Continue
 }
 
 /// The store ends in this failure.
@@ -67,12 +63,12 @@ pub fn fail(store: &mut Store<'_>, why: Cause) -> Want
     Want::Fail(why)
 }
 
-/// What is asked, where the store hasn't ended in a failure.
-pub fn unless_failed(store: &Store<'_>, asked: Want) -> Want
-    ensures { result ≡ unless_failed store.now.failure asked }
+/// What is asked stays, where the store hasn't ended in a failure.
+pub fn unless_failed(store: &Store<'_>, asked: &mut Want)
+    ensures { asked.new ≡ unless_failed store.now.failure asked.old }
 {
     match store.failure() {
-        Some(why) => Want::Fail(why),
-        None => asked,
+        Some(why) => *asked = Want::Fail(why),
+        None => (),
     }
 }

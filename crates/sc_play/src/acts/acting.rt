@@ -1,5 +1,6 @@
 //! What a visible operation is.
-ghost use Rattle.std.specs.Prelude.{◌≡◌, IfOk, OnOk, OnErr};
+ghost use Rattle.std.specs.Prelude.{◌≡◌, OnOk, OnErr};
+ghost use Rattle.sc_region.specs.declared.job.Want.TheVariants as want;
 ghost use Rattle.sc_play.specs.Acting.{acted, asks_acting};
 ghost use Rattle.sc_interp.specs.Turning.{unless_failed};
 
@@ -17,56 +18,95 @@ use std::alloc::AllocError;
 
 /// The operation is done; what it asks is told, unless the handler fails.
 #[tactic(auto, using(crate::proofs::Failed::asked_twice))]
-fn dispatch(store: &mut Store<'_>, handler: u16, act: Act) -> Result<Want, AllocError>
+fn dispatch(
+    store: &mut Store<'_>,
+    handler: u16,
+    act: Act,
+    asked: &mut Want,
+) -> Result<(), AllocError>
+    requires { asked.old ≡ want.Continue }
     ensures ok { OnOk result (store.new ≡ acted handler act store.old) }
-    ensures want { IfOk result (λ asked. asks_acting handler act store.old store.new ≡ unless_failed store.new.failure asked) }
+    ensures want { OnOk result (asks_acting handler act store.old store.new ≡ unless_failed store.new.failure asked.new) }
     ensures err { OnErr result (store.new ≡ store.old) }
+    ensures kept { OnErr result (asked.new ≡ asked.old) }
 {
     match act {
         Act::PrintInteger(value) => print_integer(store, value),
         Act::PrintBoolean(value) => print_boolean(store, value),
         Act::PrintText(text) => print_text(store, text),
-        Act::Test(back) => Ok(end_round(store, back)),
+        Act::Test(back) => {
+            end_round(store, back);
+            Ok(())
+        }
         Act::Enter {
             calling,
             object,
             name,
             count,
             gives,
-        } => enter(store, calling, object, name, count, gives),
+        } => enter(store, calling, object, name, count, gives, asked),
         Act::Request {
             object,
             name,
             count,
             gives,
             passes,
-        } => Ok(request(store, handler, object, name, count, gives, passes)),
+        } => {
+            *asked = request(store, handler, object, name, count, gives, passes);
+            Ok(())
+        }
         Act::Create {
             class,
             procedure,
             count,
-        } => create_object(store, handler, class, procedure, count),
+        } => create_object(store, handler, class, procedure, count, asked),
         Act::CreateHandler {
             class,
             procedure,
             count,
             passes,
-        } => Ok(create_handler(store, handler, class, procedure, count, passes)),
-        Act::Start => Ok(start(store)),
-        Act::Refuse(formals) => Ok(refuse(store, formals)),
-        Act::Open { first, count } => Ok(open(store, first, count)),
-        Act::Leave => Ok(leave(store)),
-        Act::Exit => Ok(exit(store)),
+        } => {
+            *asked = create_handler(store, handler, class, procedure, count, passes);
+            Ok(())
+        }
+        Act::Start => {
+            start(store);
+            Ok(())
+        }
+        Act::Refuse(formals) => {
+            refuse(store, formals, asked);
+            Ok(())
+        }
+        Act::Open { first, count } => {
+            *asked = open(store, first, count);
+            Ok(())
+        }
+        Act::Leave => {
+            *asked = leave(store);
+            Ok(())
+        }
+        Act::Exit => {
+            exit(store, asked);
+            Ok(())
+        }
     }
 }
 
 /// A visible operation that the topmost routine has come to is done, by the handler of this number, and what the turn asks
 /// is told. Err where there is no memory; nothing has changed then.
-pub fn act_on(store: &mut Store<'_>, handler: u16, act: Act) -> Result<Want, AllocError>
+pub fn act_on(
+    store: &mut Store<'_>,
+    handler: u16,
+    act: Act,
+    asked: &mut Want,
+) -> Result<(), AllocError>
+    requires { asked.old ≡ want.Continue }
     ensures ok { OnOk result (store.new ≡ acted handler act store.old) }
-    ensures want { IfOk result (λ asked. asked ≡ asks_acting handler act store.old store.new) }
+    ensures want { OnOk result (asked.new ≡ asks_acting handler act store.old store.new) }
     ensures err { OnErr result (store.new ≡ store.old) }
+    ensures kept { OnErr result (asked.new ≡ asked.old) }
 {
-    let asked = dispatch(store, handler, act)?;
-    Ok(unless_failed(store, asked))
+    dispatch(store, handler, act, asked)?;
+    unless_failed(store, asked);
+    Ok(())
 }

@@ -1,7 +1,8 @@
 //! Creations of objects of this handler, by the number of their class.
-ghost use Rattle.std.specs.Prelude.{◌≡◌, IfOk, OnOk, OnErr};
+ghost use Rattle.std.specs.Prelude.{◌≡◌, OnOk, OnErr};
 ghost use Rattle.sc_region.specs.Frames.{top_activation};
 ghost use Rattle.sc_region.specs.Stores.{next_reference};
+ghost use Rattle.sc_region.specs.declared.job.Want.TheVariants as want;
 ghost use Rattle.sc_interp.specs.Entering.{asks_beginning};
 ghost use Rattle.sc_interp.specs.Turning.{unless_failed};
 ghost use Rattle.sc_play.specs.CreatingObjects.{asks_created, created_by_name, created_with, nearest_reference, object_created};
@@ -35,16 +36,20 @@ fn create_by_name(
     object: Reference,
     name: usize,
     count: usize,
-) -> Result<Want, AllocError>
+    asked: &mut Want,
+) -> Result<(), AllocError>
+    requires { asked.old ≡ want.Continue }
     ensures ok { OnOk result (store.new ≡ created_by_name object name count store.old) }
-    ensures want { IfOk result (λ asked. asked ≡ unless_failed store.new.failure (asks_beginning store.new.program (top_activation store.new.frames))) }
+    ensures want { OnOk result (asked.new ≡ unless_failed store.new.failure (asks_beginning store.new.program (top_activation store.new.frames))) }
     ensures err { OnErr result (store.new ≡ store.old) }
+    ensures kept { OnErr result (asked.new ≡ asked.old) }
 {
     if store.object_count() < MAX_OBJECTS {
-        create_by(store, object, name, count)
+        create_by(store, object, name, count, asked)
     } else {
         store.fail(Cause::TooManyObjects);
-        Ok(Want::Fail(Cause::TooManyObjects))
+        *asked = Want::Fail(Cause::TooManyObjects);
+        Ok(())
     }
 }
 
@@ -56,15 +61,18 @@ fn create_by_number(
     class: u8,
     procedure: Option<usize>,
     count: usize,
-) -> Result<Want, AllocError>
+    asked: &mut Want,
+) -> Result<(), AllocError>
+    requires { asked.old ≡ want.Continue }
     ensures ok { OnOk result (store.new ≡ created_with procedure (next_reference handler class store.old) count store.old) }
-    ensures want { IfOk result (λ asked. asked ≡ unless_failed store.new.failure (asks_created procedure store.new)) }
+    ensures want { OnOk result (asked.new ≡ unless_failed store.new.failure (asks_created procedure store.new)) }
     ensures err { OnErr result (store.new ≡ store.old) }
+    ensures kept { OnErr result (asked.new ≡ asked.old) }
 {
     let object = next_reference(store, handler, class);
     match procedure {
-        None => create(store, object, count),
-        Some(name) => create_by_name(store, object, name, count),
+        None => create(store, object, count, asked),
+        Some(name) => create_by_name(store, object, name, count, asked),
     }
 }
 
@@ -77,13 +85,19 @@ pub fn create_object(
     class: usize,
     procedure: Option<usize>,
     count: usize,
-) -> Result<Want, AllocError>
+    asked: &mut Want,
+) -> Result<(), AllocError>
+    requires { asked.old ≡ want.Continue }
     ensures ok { OnOk result (store.new ≡ object_created handler class procedure count store.old) }
-    ensures want { IfOk result (λ asked. asked ≡ unless_failed store.new.failure (asks_created procedure store.new)) }
+    ensures want { OnOk result (asked.new ≡ unless_failed store.new.failure (asks_created procedure store.new)) }
     ensures err { OnErr result (store.new ≡ store.old) }
+    ensures kept { OnErr result (asked.new ≡ asked.old) }
 {
     match class_number(class) {
-        Some(class) => create_by_number(store, handler, class, procedure, count),
-        None => Ok(misfit(store)),
+        Some(class) => create_by_number(store, handler, class, procedure, count, asked),
+        None => {
+            *asked = misfit(store);
+            Ok(())
+        }
     }
 }

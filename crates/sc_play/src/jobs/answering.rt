@@ -1,5 +1,5 @@
 //! Answers, granted reservations, and handlers that were made.
-ghost use Rattle.std.specs.Prelude.{◌≡◌, IfOk, OnOk, OnErr};
+ghost use Rattle.std.specs.Prelude.{◌≡◌, OnOk, OnErr};
 ghost use Rattle.sc_region.specs.Frames.{activation_of};
 ghost use Rattle.sc_interp.specs.Exiting.{handed_as};
 ghost use Rattle.sc_region.specs.declared.job.Want.TheVariants as want;
@@ -59,11 +59,12 @@ fn answer(store: &mut Store<'_>, value: Option<Value>)
 
 /// The topmost routine takes an answer: where it waits for one it goes on, with the value, where it is given one. One that
 /// goes on already takes the end of a callback that it posted as a command. F16 in any other stage.
-pub fn reply(store: &mut Store<'_>, value: Option<Value>) -> Want
-    ensures { Becomes (replied value store.old) want.Continue store.new result }
+pub fn reply(store: &mut Store<'_>, value: Option<Value>, asked: &mut Want)
+    requires { asked.old ≡ want.Continue }
+    ensures { Becomes (replied value store.old) want.Continue store.new asked.new }
 {
     answer(store, value);
-    unless_failed(store, Want::Continue)
+    unless_failed(store, asked);
 }
 
 // ---- a reserve step
@@ -141,12 +142,19 @@ fn grant_in(store: &mut Store<'_>, handlers: &ArrayVec<u16, 16>) -> Result<(), A
 
 /// The reserve step of the topmost routine, or of its separate block that begins, has newly reserved these handlers: it
 /// goes on. F16 where it has none. Err where there is no memory; nothing has changed then.
-pub fn grant(store: &mut Store<'_>, handlers: &ArrayVec<u16, 16>) -> Result<Want, AllocError>
-    ensures ok { IfOk result (λ asked. Becomes (granted handlers.now.items store.old) want.Continue store.new asked) }
+pub fn grant(
+    store: &mut Store<'_>,
+    handlers: &ArrayVec<u16, 16>,
+    asked: &mut Want,
+) -> Result<(), AllocError>
+    requires { asked.old ≡ want.Continue }
+    ensures ok { OnOk result (Becomes (granted handlers.now.items store.old) want.Continue store.new asked.new) }
     ensures err { OnErr result (store.new ≡ store.old) }
+    ensures kept { OnErr result (asked.new ≡ asked.old) }
 {
     grant_in(store, handlers)?;
-    Ok(unless_failed(store, Want::Continue))
+    unless_failed(store, asked);
+    Ok(())
 }
 
 // ---- a handler that was made
@@ -192,9 +200,10 @@ fn resume_top(store: &mut Store<'_>)
 }
 
 /// The topmost routine, which waited, goes on.
-pub fn resume(store: &mut Store<'_>) -> Want
-    ensures { Becomes (on_top runs store.old) want.Continue store.new result }
+pub fn resume(store: &mut Store<'_>, asked: &mut Want)
+    requires { asked.old ≡ want.Continue }
+    ensures { Becomes (on_top runs store.old) want.Continue store.new asked.new }
 {
     resume_top(store);
-    unless_failed(store, Want::Continue)
+    unless_failed(store, asked);
 }

@@ -162,10 +162,17 @@ fn take_errand(store: &mut Store<'_>, handler: u16, request: &Request) -> Result
 /// such object or feature; an attribute is answered at once, F7 where it is unset; a routine is entered, F16 and F11 as
 /// in [`Store::push`]. A creation: F1 where the object breaks its invariant; F16 and F11 as in [`Store::birth_with`].
 /// Err where there is no memory; nothing has changed then.
-pub fn take(store: &mut Store<'_>, handler: u16, request: &Request) -> Result<Want, AllocError>
-    ensures ok { IfOk result (λ asked. Becomes (taken handler request.now store.old) (asks_taking handler request.now store.old store.new) store.new asked) }
+pub fn take(
+    store: &mut Store<'_>,
+    handler: u16,
+    request: &Request,
+    asked: &mut Want,
+) -> Result<(), AllocError>
+    ensures ok { OnOk result (Becomes (taken handler request.now store.old) (asks_taking handler request.now store.old store.new) store.new asked.new) }
     ensures err { OnErr result (store.new ≡ store.old) }
+    ensures kept { OnErr result (asked.new ≡ asked.old) }
 {
-    let asked = take_errand(store, handler, request)?;
-    Ok(unless_failed(store, asked))
+    *asked = take_errand(store, handler, request)?;
+    unless_failed(store, asked);
+    Ok(())
 }

@@ -1,8 +1,11 @@
-use Rattle.std.proofs.Common.{◌≡◌, ℕ, inl, inr, refl, subst, arith}
+use Rattle.std.proofs.Common.{◌≡◌, ℕ, inl, inr, refl, sym, ◌∙◌, subst, arith}
 use Rattle.sc_region.specs.declared.job.Want.{Want}
 use Rattle.sc_region.specs.declared.job.Want.TheVariants as want
 use Rattle.sc_play.specs.Turns.{Turns, more}
 use Rattle.sc_play.proofs.region.play_on.Goals as goal
+
+pub turn-requires : goal.turn-requires
+turn-requires c = c.is_continue.ensures c.if-not-is_continue.false
 
 pub returns-then-not-is_continue : goal.returns-then-not-is_continue
 returns-then-not-is_continue c = record {
@@ -16,12 +19,13 @@ returns-then-not-is_continue c = record {
 pub returns-in-Err : goal.returns-in-Err
 returns-in-Err c =
     let none : c.loop-turns.asked ≡ want.Continue = c.is_continue.ensures c.if-not-is_continue.false in
+    let kept : c.turn.new.asked ≡ c.loop-turns.asked = c.in-Err.ensures.kept in
     record {
       few = omega (arith, c.loop-turns-test.true);
       some = omega (arith, c.loop-turns.auto.turns);
       last = c.loop-turns.store;
-      turns = λ t j z p. subst (λ (w : Want). Turns c.args.handler t j z c.loop-turns.turns c.loop-turns.store w) none (c.loop-turns.invariant t j z p);
-      ends = inr (c.loop-turns-test.true, refl, c.in-Err.ensures.err);
+      turns = λ t j z p. subst (λ (w : Want). Turns c.args.handler t j z c.loop-turns.turns c.loop-turns.store w) (sym kept) (c.loop-turns.invariant t j z p);
+      ends = inr (c.loop-turns-test.true, kept ∙ none, c.in-Err.ensures.err);
     }
 
 pub loop-turns-preserved : goal.loop-turns-preserved

@@ -7,5 +7,5 @@ pub returns-in-Ok-clause-ok : goal.returns-in-Ok-clause-ok
 returns-in-Ok-clause-ok c =
     let before : PlainRegion = record { handler = c.self.inside.handler; store = c.self.inside.store; is_told = c.self.inside.is_told } in
     let after : PlainRegion = record { handler = c.self.inside.handler; store = c.play_on-turns.new.store; is_told = false } in
-    subst (λ (z : PlainRegion). Plays c.args.limit c.args.job.now z after (record { handler = c.self.inside.handler; turns = c.play_on-turns.result.0; want = c.play_on-turns.result.1 })) c.self.view_is
-    (plays_by c.args.limit c.args.job.now before c.in-Ok.asked c.first_turn.new.store c.play_on-turns.new.store c.play_on-turns.result.0 c.play_on-turns.result.1 c.in-Ok.ensures.ok c.play_on-turns.ensures)
+    subst (λ (z : PlainRegion). Plays c.args.limit c.args.job.now z after (record { handler = c.self.inside.handler; turns = c.play_on-turns.result; want = c.play_on-turns.new.asked })) c.self.view_is
+    (plays_by c.args.limit c.args.job.now before c.first_turn.new.asked c.first_turn.new.store c.play_on-turns.new.store c.play_on-turns.result c.play_on-turns.new.asked c.in-Ok.ensures.ok c.play_on-turns.ensures)

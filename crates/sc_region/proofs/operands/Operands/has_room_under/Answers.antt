@@ -1,4 +1,4 @@
-use Rattle.std.proofs.Common.{◌≡◌, ◌-◌, [], ℕ, length, drop, length-drop, ap, ◌∙◌, arith}
+use Rattle.std.proofs.Common.{◌≡◌, [], ℕ, length, drop, length-drop, ap, ◌∙◌, arith}
 use Rattle.std.specs.Prelude.{nat_lt}
 use Rattle.sc_region.specs.OperandList.{OperandList, operands_onto}
 use Rattle.sc_region.proofs.Stacks.{operands_length}

@@ -1,6 +1,6 @@
 use Rattle.sc_interp.specs.Hopping.{Passes}
 use Rattle.sc_interp.specs.Playing.{Remains}
-use Rattle.sc_interp.proofs.hopping.moves.Given as goal
+use Rattle.sc_interp.proofs.hopping.moves_in.Given as goal
 
 abbrev pub invariant-loop-passed : goal.invariant-loop-passed
 invariant-loop-passed l = record {

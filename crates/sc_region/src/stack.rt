@@ -1,0 +1,140 @@
+//! The stack of a handler.
+ghost use Rattle.std.specs.List.{list_any};
+ghost use Rattle.std.specs.Option.{option_map};
+ghost use Rattle.std.specs.Prelude.{◌≡◌, ◌==◌, [], ◌∷◌, OnOk, OnErr, drop, length};
+ghost use Rattle.sc_region.specs.Frames.{activation_of, is_current, top_activation, top_current};
+ghost use Rattle.sc_region.specs.Stores.{entry};
+
+use crate::frame::{Activation, Origin};
+use crate::value::{Reference, Value};
+use sc_code::RoutineCode;
+use std::alloc::{AllocError, Global};
+use std::marker::Model;
+
+/// The frames of a handler: routines in the middle of their run. Each stays where it began until it exits.
+#[derive(Drop)]
+pub struct Stack {
+    /// The object that each frame runs on, that of the topmost one last.
+    currents: Vec<Reference>,
+    /// Where the routine of each frame stands, in the same order. Above them stands what is left of routines that have
+    /// exited: its memory serves the next ones.
+    activations: Vec<Activation>,
+}
+
+impl Model for Stack {
+    ghost use Rattle.std.specs.Prelude.{◌≤◌, List, [], length};
+    ghost use Rattle.sc_region.specs.Frames as m;
+
+    ghost Value = { List m.PlainFrame };
+
+    ghost use Rattle.sc_region.specs.Frames.{frames_onto};
+
+    ghost view = { λ stack. frames_onto stack.currents.items stack.activations.items [] };
+
+    ghost invariant = { λ stack. length stack.currents.items ≤ length stack.activations.items };
+}
+
+impl Stack {
+    ghost use Rattle.std.specs.Borrow.{sem};
+    ghost use Rattle.sc_region.specs.Lending.{LendsTopOfStack};
+
+    pub fn new(alloc: Global) -> Stack
+        ensures { result ≡ [] }
+    {
+        Stack {
+            currents: Vec::new(alloc),
+            activations: Vec::new(alloc),
+        }
+    }
+
+    /// How many frames there are.
+    pub fn height(&self) -> usize
+        ensures { result ≡ length self.now }
+    {
+        self.currents.len()
+    }
+
+    /// A routine is entered on an object. Err where there is no memory; nothing has changed then.
+    pub fn enter(
+        &mut self,
+        alloc: Global,
+        current: Reference,
+        routine: usize,
+        code: &RoutineCode,
+        origin: Origin,
+        actuals: &[Value],
+    ) -> Result<(), AllocError>
+        ensures ok { OnOk result (self.new ≡ entry current routine code.now origin actuals.now ∷ self.old) }
+        ensures err { OnErr result (self.new ≡ self.old) }
+    {
+        let height = self.currents.len();
+        self.currents.reserve(1)?;
+        if height == self.activations.len() {
+            self.activations.push(Activation::empty(alloc))?;
+        }
+        self.activations[height].begin(routine, code, origin, actuals)?;
+        match self.currents.push(current) {
+            Ok(()) => Ok(()),
+            Err(_) => unreachable!(),
+        }
+    }
+
+    /// The topmost frame goes, if there is one: the object that it ran on.
+    pub fn pop(&mut self) -> Option<Reference>
+        ensures current { result ≡ top_current self.old }
+        ensures below { self.new ≡ drop 1 self.old }
+    {
+        self.currents.pop()
+    }
+
+    /// All frames go.
+    pub fn clear(&mut self)
+        ensures { self.new ≡ [] }
+    {
+        self.currents.clear();
+    }
+
+    /// Whether one of the frames has the object of the number as Current.
+    pub fn have_current(&self, number: usize) -> bool
+        ensures { result ≡ is_current number self.now }
+    {
+        any_is(&self.currents, number)
+    }
+
+    /// The object that the topmost frame runs on, if there is one.
+    pub fn current(&self) -> Option<Reference>
+        ensures { result ≡ top_current self.now }
+    {
+        self.currents.last().copied()
+    }
+
+    /// Where the routine of the topmost frame stands, if there is one.
+    pub fn top(&self) -> Option<&Activation>
+        ensures { option_map (λ activation. activation_of activation.now) result ≡ top_activation self.now }
+    {
+        self.activations.get(self.currents.len().wrapping_sub(1))
+    }
+
+    /// The same, to be changed.
+    pub fn top_mut(&mut self) -> Option<&mut Activation>
+        ensures* writes_back { sem 𝓛 (LendsTopOfStack self.entry result) }
+        ensures value { option_map (λ activation. activation_of activation.now) result ≡ top_activation self.old }
+    {
+        let place = self.currents.len().wrapping_sub(1);
+        self.activations.get_mut(place)
+    }
+
+    /// Where the routine of the frame over so many others stands, or stood as it exited, to be told.
+    pub fn over(&self, height: usize) -> Option<&Activation> {
+        self.activations.get(height)
+    }
+}
+
+/// Whether one of the objects has the number.
+fn any_is(currents: &[Reference], number: usize) -> bool
+    ensures { result ≡ list_any (λ current. current.number == number) currents.now }
+{
+    currents
+        .iter()
+        .any(|current| current.number as usize == number)
+}
