@@ -45,18 +45,18 @@ impl<'r, 'p, 's> Rerun<'r, 'p, 's> {
             return Ok(());
         };
         let request = request_of(self.world.log(), handler);
-        if !failed_at_once(last) {
+        if !failed_at_once(&last) {
             if let Some(point) = breakdown.point {
-                self.push_point(lines, point, cause, last)?;
+                self.push_point(lines, point, cause, &last)?;
             }
-        } else if let Some(request) = request {
+        } else if let Some(request) = &request {
             self.push_at_once(lines, request, cause)?;
         }
         if let Some(broken) = breakdown.invariant {
             self.push_invariant(lines, broken)?;
         }
-        self.push_needed(lines, handler, cause, last)?;
-        match request {
+        self.push_needed(lines, handler, cause, &last)?;
+        match &request {
             None => Ok(()),
             Some(request) => self.push_request(lines, request),
         }

@@ -1,13 +1,16 @@
 // What the settlements of a run tell of one handler.
 
 use sc_region::{Errand, Job, Request, Want};
-use sc_request::Settlement;
+use sc_request::{Log, Settlement};
 
 /// The last settlement of the handler.
-pub fn last_of(log: &[Settlement], handler: u16) -> Option<&Settlement> {
-    log.iter()
-        .rev()
-        .find(|settlement| settlement.handler == handler)
+pub fn last_of(log: &Log, handler: u16) -> Option<Settlement> {
+    for place in (0..log.len()).rev() {
+        if log.handler_at(place) == Some(handler) {
+            return log.get(place);
+        }
+    }
+    None
 }
 
 /// Whether its handler failed as it took a request, before any routine ran for that.
@@ -26,14 +29,20 @@ pub fn failed_behind(settlement: &Settlement) -> bool {
 }
 
 /// The request that the handler has taken last among those that haven't ended.
-pub fn request_of(log: &[Settlement], handler: u16) -> Option<&Request> {
+pub fn request_of(log: &Log, handler: u16) -> Option<Request> {
     let mut ended = 0_usize;
-    for settlement in log.iter().rev() {
-        if settlement.handler == handler {
-            if matches!(&settlement.want, Want::Done { .. }) {
+    for place in (0..log.len()).rev() {
+        if log.handler_at(place) == Some(handler) {
+            let Settlement {
+                handler: _,
+                job,
+                turns: _,
+                want,
+            } = log.get(place)?;
+            if matches!(&want, Want::Done { .. }) {
                 ended = ended.saturating_add(1);
             }
-            if let Job::Take(request) = &settlement.job {
+            if let Job::Take(request) = job {
                 if ended == 0 {
                     return Some(request);
                 }
@@ -45,12 +54,14 @@ pub fn request_of(log: &[Settlement], handler: u16) -> Option<&Request> {
 }
 
 /// The handler that was last created for this one, and has begun.
-pub fn created_last(log: &[Settlement], creator: u16) -> Option<u16> {
-    let settlement = log
-        .iter()
-        .rev()
-        .find(|settlement| is_creation(&settlement.job, creator))?;
-    Some(settlement.handler)
+pub fn created_last(log: &Log, creator: u16) -> Option<u16> {
+    for place in (0..log.len()).rev() {
+        let settlement = log.get(place)?;
+        if is_creation(&settlement.job, creator) {
+            return Some(settlement.handler);
+        }
+    }
+    None
 }
 
 fn is_creation(job: &Job, creator: u16) -> bool {
@@ -64,10 +75,21 @@ fn is_creation(job: &Job, creator: u16) -> bool {
 }
 
 /// What the handler asked of others last.
-pub fn asked_last(log: &[Settlement], handler: u16) -> Option<&Want> {
-    let settlement = log.iter().rev().find(|settlement| settlement.handler == handler
-        && asks(&settlement.want))?;
-    Some(&settlement.want)
+pub fn asked_last(log: &Log, handler: u16) -> Option<Want> {
+    for place in (0..log.len()).rev() {
+        if log.handler_at(place) == Some(handler) {
+            let Settlement {
+                handler: _,
+                job: _,
+                turns: _,
+                want,
+            } = log.get(place)?;
+            if asks(&want) {
+                return Some(want);
+            }
+        }
+    }
+    None
 }
 
 fn asks(want: &Want) -> bool {

@@ -4,16 +4,16 @@ use Rattle.std.proofs.Math.Path.{fun_ext}
 use Rattle.std.proofs.lemmas.Bool.{ltb-true}
 use Rattle.std.proofs.lemmas.List.Elements.{All-nil, All-cons}
 use Rattle.std.specs.Prelude.{◌-◌, replicate, slice_get, slice_index, nat_lt, is_some, if◌then◌else◌}
-use Rattle.sc_lockpass.specs.Rights.{Rights, unreserved}
+use Rattle.sc_lockpass.specs.Rights.{unreserved}
 use Rattle.sc_lockpass.specs.Tables.{Table, rights_of, is_member}
 use Rattle.sc_region.specs.declared.job.Job.{Job}
 use Rattle.sc_region.specs.declared.job.Request.{Request}
 use Rattle.sc_request.specs.declared.handler.Handler as coded
-use Rattle.sc_request.specs.Handlers.{posted, new_handler}
+use Rattle.sc_request.specs.Handlers.{Handler, posted, new_handler}
 use Rattle.sc_request.specs.Tables.{fresh, asked, handler_in, handler_at, state_of, center, out_at, out_total}
 use Rattle.sc_request.specs.Picking.{job_with}
 use Rattle.sc_request.specs.Logs.{opening, opened}
-use Rattle.sc_request.specs.Candidates.{AreCandidates, HasGrantsBelow, HasOutsBelow, is_granted}
+use Rattle.sc_request.specs.Candidates.{AreCandidates, AreReserving, HasGrantsBelow, HasOutsBelow, is_granted, is_reserving}
 use Rattle.sc_request.specs.Sound.{IsPlaced, IsServed, IsSound, IsSoundHandler, placed_poster}
 use Rattle.sc_request.proofs.Sounds.{all_more, if_is, new_is, none_passed}
 
@@ -110,3 +110,9 @@ opening_tried words xs sessions t last first k is =
     let below = ltb-true k 1 (only_below (is_some (out_at xs k)) (nat_lt k 1) (job_with k (handler_at xs sessions k).failure (handler_at xs sessions k) (state_of 1 xs sessions t)) is) in
     let zeroth : k ≡ 0 = omega (arith, below) in
     ap (is_member words) zeroth ∙ first
+
+-- and doesn't reserve
+pub opening_reserving : (words sessions : List ℕ) (n : ℕ) (r : Request) → AreReserving words (handler_at (asked r ∷ replicate n fresh) sessions)
+opening_reserving words sessions n r zero is = cc
+opening_reserving words sessions n r (suc k) is =
+    let never : false ≡ true = ap (λ (x : Handler). is_reserving x.stage) (sym (fresh_at n k)) ∙ is in cc

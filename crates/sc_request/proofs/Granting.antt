@@ -1,7 +1,7 @@
 -- What a pick reserves, and what a put-back releases.
 use Rattle.std.proofs.Common.{◌≡◌, ◌==◌, ◌&&◌, ◌||◌, ◌<◌, ◌≤◌, ℕ, Bool, true, false, not, List, [], Option, Some, None, refl, sym, ◌∙◌, slice_set, slice_index_or, length, inl, inr, arith, ap, subst}
 use Rattle.std.proofs.Math.Path.{fun_ext}
-use Rattle.std.proofs.lemmas.Bool.{cases_eq, eq-eqb, ltb-true, ne_eqb, or_left, or_right}
+use Rattle.std.proofs.lemmas.Bool.{cases_Bool, cases_eq, eq-eqb, ltb-true, ne_eqb, or_left, or_right}
 use Rattle.std.proofs.lemmas.List.Elements.{All-nil}
 use Rattle.std.proofs.lemmas.Option.{slice_get-get_or}
 use Rattle.std.specs.Prelude.{is_some, nat_lt, slice_get, if◌then◌else◌}
@@ -13,12 +13,13 @@ use Rattle.sc_region.specs.declared.job.Job.TheVariants as job
 use Rattle.sc_request.specs.declared.handler.Handler as coded
 use Rattle.sc_request.specs.Handlers.{State}
 use Rattle.sc_request.specs.Picking.{job_of}
-use Rattle.sc_request.specs.Logs.{Center, pick_for, granted, ungranted, picked, put_back_with, put_back}
+use Rattle.sc_request.specs.Logs.{Center, pick_for, granted, ungranted, put_back}
 use Rattle.sc_request.specs.Sound.{IsHeldBelow, IsSound}
 use Rattle.sc_request.specs.Tables.{center, fresh, handler_at, handler_in, out_at, state_of}
-use Rattle.sc_request.specs.Candidates.{AreCandidates, HasGrantsBelow, HasOutsBelow, entry_below, granted_items, is_granted, is_granting}
+use Rattle.sc_request.specs.Candidates.{AreCandidates, AreReserving, HasGrantsBelow, HasOutsBelow, entry_below, granted_items, is_granted, is_granting, is_reserving}
 use Rattle.sc_request.proofs.Outs.{IsGrant, all_among_below, back_with, grant_is, out_is, out_set, picked_center, same_handler, stays, with_job}
 use Rattle.sc_request.proofs.Sounds.{release_below, reserve_below}
+use Rattle.sc_request.proofs.Elsewhere.{same_job}
 
 -- ---- who is picked isn't out
 
@@ -143,60 +144,72 @@ only_below true below o e = cc
 only_below false true o e = refl
 only_below false false o e = cc
 
-below_there : (c : Center) (k : ℕ) → is_some (pick_for k c) ≡ true → k < c.state.count
+pub below_there : (c : Center) (k : ℕ) → is_some (pick_for k c) ≡ true → k < c.state.count
 below_there c k is = ltb-true k c.state.count (only_below (is_some (c.out k)) (nat_lt k c.state.count) _ is)
 
--- where all are in the set those are that have something to do
-pub all_candidates : (words : List ℕ) (c : Center) → c.state.count ≤ 512 → ((k : ℕ) → k < 512 → is_member words k ≡ true) → AreCandidates words c
-all_candidates words c within all k is = let l = below_there c k is in all k (omega (arith, l, within))
+-- what was in the set is, and those that wait to reserve are, where the job is a grant
+abbrev pub Adds : Job → List ℕ → List ℕ → List ℕ → Type 0
+Adds j words reserving later = (k : ℕ) → is_member later k ≡ (is_member words k || (is_granting j && is_member reserving k))
 
--- what was in the set is, and all are, where the job is a grant
-abbrev pub Adds : Job → List ℕ → List ℕ → Type 0
-Adds j words later = (k : ℕ) → k < 512 → is_member later k ≡ (is_granting j || is_member words k)
+-- with other rights, one that has something to do is in the set, or waits to reserve
+tried_with : (c : Center) (r : Rights) (k : ℕ) (words reserving later : List ℕ) → AreCandidates words c → AreReserving reserving c.state.handlers →
+    is_member later k ≡ (is_member words k || is_member reserving k) →
+    is_some (if is_some (c.out k) then None else job_of k (record c.state { rights = r })) ≡ true → is_member later k ≡ true
+tried_with c r k words reserving later all wait adds is = elim (cases_Bool (is_reserving (c.state.handlers k).stage)) [
+  | inl reserves ↦ adds ∙ or_right (is_member words k) (is_member reserving k) (wait k reserves)
+  | inr apart ↦
+      let same = same_job k c.state (record c.state { rights = r }) refl refl apart in
+      let before = ap (λ (o : Option Job). is_some (if is_some (c.out k) then None else o)) (sym same) ∙ is in
+      adds ∙ or_left (is_member words k) (is_member reserving k) (all k before)
+]
 
 -- a handler that isn't this one has something to do: it is in the later set
-tried_granted : (j : Job) (c : Center) (h k : ℕ) (words later : List ℕ) → AreCandidates words c → Adds j words later → k < 512 →
+tried_granted : (j : Job) (c : Center) (h k : ℕ) (words reserving later : List ℕ) → AreCandidates words c → AreReserving reserving c.state.handlers →
+    Adds j words reserving later →
     is_some (if is_some (c.out k) then None else job_of k (record c.state { rights = granted h j c.state.rights })) ≡ true → is_member later k ≡ true
-tried_granted (job.Take p) c h k words later all adds below is = adds k below ∙ all k is
-tried_granted (job.Reply v) c h k words later all adds below is = adds k below ∙ all k is
-tried_granted job.Failed c h k words later all adds below is = adds k below ∙ all k is
-tried_granted job.Refused c h k words later all adds below is = adds k below ∙ all k is
-tried_granted (job.Granted ks) c h k words later all adds below is = adds k below
-tried_granted (job.Made i) c h k words later all adds below is = adds k below ∙ all k is
-tried_granted job.Go c h k words later all adds below is = adds k below ∙ all k is
+tried_granted (job.Take p) c h k words reserving later all wait adds is = adds k ∙ or_left (is_member words k) false (all k is)
+tried_granted (job.Reply v) c h k words reserving later all wait adds is = adds k ∙ or_left (is_member words k) false (all k is)
+tried_granted job.Failed c h k words reserving later all wait adds is = adds k ∙ or_left (is_member words k) false (all k is)
+tried_granted job.Refused c h k words reserving later all wait adds is = adds k ∙ or_left (is_member words k) false (all k is)
+tried_granted (job.Granted ks) c h k words reserving later all wait adds is =
+    tried_with c (granted h (job.Granted ks) c.state.rights) k words reserving later all wait (adds k) is
+tried_granted (job.Made i) c h k words reserving later all wait adds is = adds k ∙ or_left (is_member words k) false (all k is)
+tried_granted job.Go c h k words reserving later all wait adds is = adds k ∙ or_left (is_member words k) false (all k is)
 
-pub candidates_picked : (count : ℕ) (xs : List coded.Handler) (sessions : List ℕ) (t t' : Table) (last h : ℕ) (x : coded.Handler) (j : Job) (words mid later : List ℕ) →
-    slice_get xs h ≡ Some x → rights_of t' ≡ granted h j (rights_of t) → count ≤ 512 → AreCandidates words (center count xs sessions t last) → Adds j words mid →
+pub candidates_picked : (count : ℕ) (xs : List coded.Handler) (sessions : List ℕ) (t t' : Table) (last h : ℕ) (x : coded.Handler) (j : Job) (words reserving mid later : List ℕ) →
+    slice_get xs h ≡ Some x → rights_of t' ≡ granted h j (rights_of t) → AreCandidates words (center count xs sessions t last) →
+    AreReserving reserving (handler_at xs sessions) → Adds j words reserving mid →
     ((k : ℕ) → is_member later k ≡ (not (k == h) && is_member mid k)) → AreCandidates later (center count (slice_set xs h (with_job (Some j) x)) sessions t' h)
-candidates_picked count xs sessions t t' last h x j words mid later e f within all adds l =
+candidates_picked count xs sessions t t' last h x j words reserving mid later e f all wait adds l =
     subst (AreCandidates later) (sym (picked_center count xs sessions t t' last h x j e f)) (λ k is. elim (cases_eq k h) [
       | inl same ↦ let never = rw (eq-eqb k h same) at is in cc
       | inr apart ↦
           let other = rw (ne_eqb k h apart) at is in
-          let below = below_there (picked h j (center count xs sessions t last)) k is in
-          l k ∙ rw (ne_eqb k h apart) (tried_granted j (center count xs sessions t last) h k words mid all adds (omega (arith, below, within)) other)
+          l k ∙ rw (ne_eqb k h apart) (tried_granted j (center count xs sessions t last) h k words reserving mid all wait adds other)
     ])
 
-tried_ungranted : (j : Job) (c : Center) (k : ℕ) (words later : List ℕ) → AreCandidates words c → Adds j words later → k < 512 →
+tried_ungranted : (j : Job) (c : Center) (k : ℕ) (words reserving later : List ℕ) → AreCandidates words c → AreReserving reserving c.state.handlers →
+    Adds j words reserving later →
     is_some (if is_some (c.out k) then None else job_of k (record c.state { rights = ungranted j c.state.rights })) ≡ true → is_member later k ≡ true
-tried_ungranted (job.Take p) c k words later all adds below is = adds k below ∙ all k is
-tried_ungranted (job.Reply v) c k words later all adds below is = adds k below ∙ all k is
-tried_ungranted job.Failed c k words later all adds below is = adds k below ∙ all k is
-tried_ungranted job.Refused c k words later all adds below is = adds k below ∙ all k is
-tried_ungranted (job.Granted ks) c k words later all adds below is = adds k below
-tried_ungranted (job.Made i) c k words later all adds below is = adds k below ∙ all k is
-tried_ungranted job.Go c k words later all adds below is = adds k below ∙ all k is
+tried_ungranted (job.Take p) c k words reserving later all wait adds is = adds k ∙ or_left (is_member words k) false (all k is)
+tried_ungranted (job.Reply v) c k words reserving later all wait adds is = adds k ∙ or_left (is_member words k) false (all k is)
+tried_ungranted job.Failed c k words reserving later all wait adds is = adds k ∙ or_left (is_member words k) false (all k is)
+tried_ungranted job.Refused c k words reserving later all wait adds is = adds k ∙ or_left (is_member words k) false (all k is)
+tried_ungranted (job.Granted ks) c k words reserving later all wait adds is =
+    tried_with c (ungranted (job.Granted ks) c.state.rights) k words reserving later all wait (adds k) is
+tried_ungranted (job.Made i) c k words reserving later all wait adds is = adds k ∙ or_left (is_member words k) false (all k is)
+tried_ungranted job.Go c k words reserving later all wait adds is = adds k ∙ or_left (is_member words k) false (all k is)
 
-pub candidates_back : (count : ℕ) (xs : List coded.Handler) (sessions : List ℕ) (t t' : Table) (last h : ℕ) (x : coded.Handler) (j : Job) (words mid later : List ℕ) →
-    slice_get xs h ≡ Some x → rights_of t' ≡ ungranted j (rights_of t) → count ≤ 512 → AreCandidates words (center count xs sessions t last) → Adds j words mid →
+pub candidates_back : (count : ℕ) (xs : List coded.Handler) (sessions : List ℕ) (t t' : Table) (last h : ℕ) (x : coded.Handler) (j : Job) (words reserving mid later : List ℕ) →
+    slice_get xs h ≡ Some x → rights_of t' ≡ ungranted j (rights_of t) → AreCandidates words (center count xs sessions t last) →
+    AreReserving reserving (handler_at xs sessions) → Adds j words reserving mid →
     ((k : ℕ) → is_member later k ≡ (k == h || is_member mid k)) → AreCandidates later (center count (slice_set xs h (with_job None x)) sessions t' last)
-candidates_back count xs sessions t t' last h x j words mid later e f within all adds l =
+candidates_back count xs sessions t t' last h x j words reserving mid later e f all wait adds l =
     subst (AreCandidates later) (sym (back_with count xs sessions t t' last h x j e f)) (λ k is. elim (cases_eq k h) [
       | inl same ↦ l k ∙ or_left (k == h) (is_member mid k) (eq-eqb k h same)
       | inr apart ↦
           let other = rw (ne_eqb k h apart) at is in
-          let below = below_there (put_back_with h (Some j) (center count xs sessions t last)) k is in
-          l k ∙ or_right (k == h) (is_member mid k) (tried_ungranted j (center count xs sessions t last) k words mid all adds (omega (arith, below, within)) other)
+          l k ∙ or_right (k == h) (is_member mid k) (tried_ungranted j (center count xs sessions t last) k words reserving mid all wait adds other)
     ])
 
 -- ---- the state stays sound

@@ -17,9 +17,17 @@ mod Rounds
 mod Bits
 mod Granting
 mod Placing
+mod Counted
 pub mod Sounds
 mod Releasing
 mod Settles
 mod Created
 mod Ended
 mod Fallen
+mod Untouched
+mod Reserving
+mod Elsewhere
+mod Posters
+mod Quiet
+mod Waking
+mod Entries

@@ -1,6 +1,7 @@
 -- The first of a round of numbers that has something to do.
-use Rattle.std.proofs.Common.{◌≡◌, ◌+◌, ◌-◌, ◌<◌, ◌≤◌, ◌++◌, ℕ, zero, suc, false, List, [], ◌∷◌, Option, Some, None, refl, sym, ap, subst, ◌∙◌, inl, inr, min, arith}
+use Rattle.std.proofs.Common.{◌≡◌, ◌+◌, ◌-◌, ◌<◌, ◌≤◌, ◌++◌, ℕ, zero, suc, true, false, List, [], ◌∷◌, Option, Some, None, refl, sym, ap, subst, ◌∙◌, inl, inr, min, arith}
 use Rattle.std.proofs.lemmas.Bool.{both_ways, cases_eq, cases_lt, false_from_ne_true, le-ltb, lt-ltb, ne_eqb}
+use Rattle.std.specs.Option.{option_map}
 use Rattle.std.specs.Prelude.{is_some, not, nat_lt, ◌==◌, ◌&&◌, if◌then◌else◌}
 use Rattle.sc_lockpass.specs.Tables.{is_member}
 use Rattle.sc_region.specs.declared.job.Job.{Job}
@@ -123,3 +124,66 @@ job_first x None c r p is rest e = rest e
 pub has_job : (xs : List ℕ) (c : Center) (p : ℕ × Job) → first_with_job xs c ≡ Some p → pick_for p.0 c ≡ Some p.1
 has_job [] c p e = cc
 has_job (x ∷ xs) c p e = job_first x (pick_for x c) c (first_with_job xs c) p refl (has_job xs c p) e
+
+-- ---- the number alone
+
+abbrev pub number_of : Option (ℕ × Job) → Option ℕ
+number_of o = option_map (λ (p : ℕ × Job). p.0) o
+
+pub none_of : (h : ℕ) (c : Center) → is_some (pick_for h c) ≡ false → pick_for h c ≡ None
+none_of h c e = none_is (pick_for h c) e
+
+numbered : (words : List ℕ) (c : Center) (a b h : ℕ) (o : Option Job) → AreCandidates words c → IsFirstIn words a b h → pick_for h c ≡ o → is_some o ≡ true →
+    number_of (first_with_job (numbers_from a (b - a)) c) ≡ Some h
+numbered words c a b h (Some j) all is e some = ap number_of (first_there words c a b h j all is e)
+numbered words c a b h None all is e some = cc
+
+-- the least of the set comes first, if it has something to do
+pub some_there : (words : List ℕ) (c : Center) (a b h : ℕ) → AreCandidates words c → IsFirstIn words a b h → is_some (pick_for h c) ≡ true →
+    number_of (first_with_job (numbers_from a (b - a)) c) ≡ Some h
+some_there words c a b h all is some = numbered words c a b h (pick_for h c) all is refl some
+
+found_of : (h : ℕ) (o r : Option (ℕ × Job)) → Some h ≡ number_of o → ((p : ℕ × Job) → Some p ≡ o → Some p ≡ r) → Some h ≡ number_of r
+found_of h (Some p) r e f = e ∙ ap number_of (f p refl)
+found_of h None r e f = cc
+
+pub number_found : (c : Center) (h : ℕ) → Some h ≡ number_of (first_with_job (numbers_from (c.last + 1) (c.state.count - (c.last + 1))) c) →
+    Some h ≡ number_of (next c)
+number_found c h e = found_of h (first_with_job (numbers_from (c.last + 1) (c.state.count - (c.last + 1))) c) (next c) e (λ p f. round_found c p f)
+
+none_from : (o : Option (ℕ × Job)) → None ≡ number_of o → None ≡ o
+none_from (Some p) e = cc
+none_from None e = refl
+
+pub number_rest : (c : Center) (r : Option ℕ) → None ≡ number_of (first_with_job (numbers_from (c.last + 1) (c.state.count - (c.last + 1))) c) →
+    r ≡ number_of (first_with_job (numbers_from 0 (min c.state.count (c.last + 1) - 0)) c) → r ≡ number_of (next c)
+number_rest c r none e = e ∙ ap number_of (round_rest c _ (none_from _ none) refl)
+
+pair_of : (h : ℕ) (j : Job) (p : ℕ × Job) → h ≡ p.0 → j ≡ p.1 → (h, j) ≡ p
+pair_of h j p e f = λ i. (e i, f i)
+
+some_number : (h k : ℕ) → Some h ≡ Some k → h ≡ k
+some_number h k e = cc
+
+some_job : (i j : Job) → Some i ≡ Some j → i ≡ j
+some_job i j e = cc
+
+with_job_of : (h : ℕ) (j : Job) (o : Option (ℕ × Job)) (c : Center) → Some h ≡ number_of o → pick_for h c ≡ Some j →
+    ((p : ℕ × Job) → o ≡ Some p → pick_for p.0 c ≡ Some p.1) → Some (h, j) ≡ o
+with_job_of h j (Some p) c e own has =
+    let same : h ≡ p.0 = some_number h p.0 e in
+    ap Some (pair_of h j p same (some_job j p.1 (sym own ∙ ap (λ k. pick_for k c) same ∙ has p refl)))
+with_job_of h j None c e own has = cc
+
+has_some : (h : ℕ) (o : Option (ℕ × Job)) (c : Center) → Some h ≡ number_of o → pick_for h c ≡ None →
+    ((p : ℕ × Job) → o ≡ Some p → pick_for p.0 c ≡ Some p.1) → ⊥
+has_some h (Some p) c e none has =
+    let both : None ≡ Some p.1 = sym none ∙ ap (λ k. pick_for k c) (some_number h p.0 e) ∙ has p refl in cc
+has_some h None c e none has = cc
+
+-- the one that is next, with its job
+pub next_is : (c : Center) (h : ℕ) (j : Job) → Some h ≡ number_of (next c) → pick_for h c ≡ Some j → Some (h, j) ≡ next c
+next_is c h j e own = with_job_of h j (next c) c e own (has_job _ c)
+
+pub never_none : (c : Center) (h : ℕ) → Some h ≡ number_of (next c) → pick_for h c ≡ None → ⊥
+never_none c h e none = has_some h (next c) c e none (has_job _ c)

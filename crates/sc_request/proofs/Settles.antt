@@ -1,5 +1,5 @@
 -- The tables of a core where a handler that was out is settled.
-use Rattle.std.proofs.Common.{◌≡◌, ◌+◌, ◌*◌, ◌<◌, ◌≤◌, ◌==◌, ℕ, zero, suc, Bool, true, false, List, [], ◌∷◌, Option, Some, None, refl, sym, ap, subst, ◌∙◌, inl, inr, length, slice_set, arith}
+use Rattle.std.proofs.Common.{◌≡◌, ◌+◌, ◌<◌, ◌≤◌, ◌==◌, ℕ, zero, suc, Bool, true, false, List, [], ◌∷◌, Option, Some, None, refl, sym, ap, subst, ◌∙◌, inl, inr, length, slice_set, arith}
 use Rattle.std.proofs.Math.Path.{fun_ext}
 use Rattle.std.proofs.lemmas.Bool.{cases_Bool}
 use Rattle.std.specs.Prelude.{is_some, slice_get, if◌then◌else◌}
@@ -16,6 +16,7 @@ use Rattle.sc_request.specs.Tables.{center, out_at, out_total, state_of}
 use Rattle.sc_request.specs.Candidates.{HasGrantsBelow, HasOutsBelow, granted_items, is_granted}
 use Rattle.sc_request.proofs.Outs.{fewer_out, out_is, out_set, same_handler, with_job}
 use Rattle.sc_request.proofs.Granting.{grants_back, outs_back}
+use Rattle.sc_request.proofs.Counted.{counted}
 use Rattle.sc_request.proofs.Sounds.{all_more, settled_is}
 
 -- the state is the same, whoever is out
@@ -75,9 +76,23 @@ settled_grants most xs ys h x e same below =
 
 -- ---- the state stays sound
 
+-- no handler's count has grown by more than one
+settled_few : (n most h : ℕ) (j : Job) (turns : ℕ) (w : Want) (s : State) → most ≤ 512 → h < 512 → All (λ k. k < 512) (granted_items j) → IsSound n n s →
+    IsSound (n + 1) (n + 1) (settled most h j turns w s)
+settled_few n most h j turns w s within own there all =
+    let t = settled_is n n most h j turns w s within own there all in
+    record {
+      within = t.within;
+      rights = t.rights;
+      handlers = λ k.
+          let few = counted n most h j turns w s k (all.handlers k).sessions (all.handlers k).refused in
+          let x = t.handlers k in
+          record { stage = x.stage; queue = x.queue; callback = x.callback; services = x.services; entry = x.entry; sessions = few.0; refused = few.1; serves = x.serves };
+    }
+
 pub settled_sound : (n n' most h : ℕ) (j : Job) (turns : ℕ) (w : Want) (s : State) (count : ℕ) (xs : List coded.Handler) (sessions : List ℕ) (t : Table) (x : coded.Handler) →
     slice_get xs h ≡ Some x → state_of count xs sessions t ≡ settled most h j turns w s → n' ≡ n + 1 → most ≤ 512 → h < 512 →
-    All (λ k. k < 512) (granted_items j) → IsSound (2 * n) n s → IsSound (2 * n') n' (state_of count (slice_set xs h (with_job None x)) sessions t)
+    All (λ k. k < 512) (granted_items j) → IsSound n n s → IsSound n' n' (state_of count (slice_set xs h (with_job None x)) sessions t)
 settled_sound n n' most h j turns w s count xs sessions t x e f l within own there all =
-    subst (IsSound (2 * n') n') (sym (state_back count xs sessions t h x e ∙ f))
-    (all_more (2 * n + 1 + 1) (2 * n') (n + 1) n' (settled most h j turns w s) (omega (arith, l)) (omega (arith, l)) (settled_is (2 * n) n most h j turns w s within own there all))
+    subst (IsSound n' n') (sym (state_back count xs sessions t h x e ∙ f))
+    (all_more (n + 1) n' (n + 1) n' (settled most h j turns w s) (omega (arith, l)) (omega (arith, l)) (settled_few n most h j turns w s within own there all))

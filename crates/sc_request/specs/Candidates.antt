@@ -1,13 +1,18 @@
 -- Who may have something to do: sets that have at least those who do.
-use Rattle.std.specs.Prelude.{◌≡◌, ◌≤◌, ◌<◌, ℕ, Bool, true, false, List, [], Option, Some, None, is_some, slice_get, nat_lt}
+use Rattle.std.specs.Prelude.{◌≡◌, ◌≤◌, ◌<◌, ◌==◌, ◌||◌, ℕ, Bool, true, false, List, [], ◌∷◌, Option, Some, None, is_some, map, nat_lt}
 use Rattle.std.specs.List.{list_all}
-use Rattle.sc_lockpass.specs.Rights.{is_among}
+use Rattle.sc_lockpass.specs.Rights.{is_among, is_handler}
 use Rattle.sc_lockpass.specs.Tables.{is_member}
 use Rattle.sc_region.specs.declared.job.Job.{Job}
 use Rattle.sc_region.specs.declared.job.Job.TheVariants as job
+use Rattle.sc_region.specs.declared.job.Want.{Want}
+use Rattle.sc_region.specs.declared.job.Want.TheVariants.{Continue, Reserve, Post, Ask, Create, Release, Wait, Done, Fail}
 use Rattle.sc_request.specs.declared.handler.Stage as coded_stage
 use Rattle.sc_request.specs.declared.handler.Stage.TheVariants as stage
 use Rattle.sc_request.specs.declared.handler.Handler as coded
+use Rattle.sc_request.specs.Handlers.{Posted, Stage, Idle, Runs, HasMade, Reserves, Awaits, Service, Handler, State}
+use Rattle.sc_request.specs.Sessions.{to_list}
+use Rattle.sc_request.specs.Settling.{settled}
 use Rattle.sc_request.specs.Tables.{out_at}
 use Rattle.sc_request.specs.Logs.{Center, pick_for}
 
@@ -29,6 +34,18 @@ pub record IsFirstIn (words : List ℕ) (from to k : ℕ) : Type 0 where
 -- Each handler that has something to do, and isn't out, is in the set.
 abbrev pub AreCandidates : List ℕ → Center → Type 0
 AreCandidates words c = (k : ℕ) → is_some (pick_for k c) ≡ true → is_member words k ≡ true
+
+-- its next step is a reserve step
+abbrev pub is_reserving : Stage → Bool
+is_reserving Idle = false
+is_reserving Runs = false
+is_reserving (HasMade k) = false
+is_reserving (Reserves ks mark) = true
+is_reserving (Awaits k is_creation) = false
+
+-- Each handler whose next step is a reserve step is in the set.
+abbrev pub AreReserving : List ℕ → (ℕ → Handler) → Type 0
+AreReserving words xs = (k : ℕ) → is_reserving (xs k).stage ≡ true → is_member words k ≡ true
 
 abbrev pub reserves_at : coded_stage.Stage → Bool
 reserves_at stage.Idle = false
@@ -70,3 +87,58 @@ is_granting job.Refused = false
 is_granting (job.Granted ks) = true
 is_granting (job.Made k) = false
 is_granting job.Go = false
+
+-- ---- whom a settlement touches
+
+-- the handler posted the first of these
+abbrev pub posted_first : ℕ → List Posted → Bool
+posted_first k [] = false
+posted_first k (p ∷ ps) = is_handler k p.request.poster
+
+-- the handler posted what this one serves, or takes next
+abbrev pub may_hear_from : Handler → ℕ → Bool
+may_hear_from x k = posted_first k (map (λ (v : Service). v.posted) x.services) || (posted_first k x.queue || posted_first k (to_list x.callback))
+
+-- A turn of the handler that asks this touches another one: that is asked, or made, or may hear an answer.
+abbrev pub touches : ℕ → Want → State → ℕ → Bool
+touches h (Post r) s k = k == r.target.handler
+touches h (Ask r passing) s k = k == r.target.handler
+touches h (Create class procedure actuals passing) s k = k == s.count
+touches h (Done v ks refused) s k = may_hear_from (s.handlers h) k
+touches h w s k = false
+
+-- under this job rights may change, or sessions end
+abbrev pub frees_under : Job → Bool
+frees_under (job.Take r) = false
+frees_under (job.Reply v) = false
+frees_under job.Failed = false
+frees_under job.Refused = false
+frees_under (job.Granted ks) = true
+frees_under (job.Made k) = true
+frees_under job.Go = false
+
+-- by what this asks rights may change, or sessions end, or a handler becomes idle
+abbrev pub frees_by : Want → Bool
+frees_by Continue = false
+frees_by (Reserve ks) = false
+frees_by (Post r) = false
+frees_by (Ask r passing) = passing
+frees_by (Create class procedure actuals passing) = true
+frees_by (Release ks) = true
+frees_by (Wait ks) = true
+frees_by (Done v ks refused) = true
+frees_by (Fail why) = false
+
+-- The settlement may free what another handler waits to reserve, unless the settled handler fails.
+abbrev pub frees : Job → Want → Bool
+frees j w = frees_under j || frees_by w
+
+-- the handler, whatever the count of its sessions
+abbrev pub uncounted : Handler → Handler
+uncounted x = record x { sessions = 0 }
+
+-- Whom a settlement doesn't touch stays as it is but for its count of sessions, unless the settled handler has failed.
+abbrev pub LeavesUntouched : Type 0
+LeavesUntouched =
+    (most h : ℕ) (j : Job) (turns : ℕ) (w : Want) (s : State) (k : ℕ) → (k == h) ≡ false → touches h w s k ≡ false →
+    ((settled most h j turns w s).handlers h).failure ≡ None → uncounted ((settled most h j turns w s).handlers k) ≡ uncounted (s.handlers k)

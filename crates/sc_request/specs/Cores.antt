@@ -1,9 +1,9 @@
 -- What a core in memory stands for.
-use Rattle.std.specs.Prelude.{ℕ, List, Option}
-use Rattle.sc_region.specs.declared.job.Job.{Job}
+use Rattle.std.specs.Prelude.{List}
 use Rattle.sc_request.specs.declared.center.Core as coded
 use Rattle.sc_request.specs.declared.settlement.Settlement.{Settlement}
 use Rattle.sc_request.specs.Handlers.{State}
+use Rattle.sc_request.specs.Logged.{settlements_of}
 use Rattle.sc_request.specs.Logs.{Center}
 use Rattle.sc_request.specs.Tables as tables
 use Rattle.sc_request.specs.Tables.{center}
@@ -15,4 +15,4 @@ abbrev pub center_of : coded.Core → Center
 center_of c = center c.state.count c.state.handlers.items c.state.sessions.items c.state.rights c.last
 
 abbrev pub log_of : coded.Core → List Settlement
-log_of c = c.log.items
+log_of c = settlements_of c.log

@@ -13,3 +13,6 @@ pub mod Cores
 pub mod Steps
 pub mod Candidates
 pub mod Rooms
+pub mod Packed
+pub mod Entries
+pub mod Logged

@@ -1,5 +1,5 @@
 -- Room for settlements: what one takes is kept for each handler that is out.
-use Rattle.std.specs.Prelude.{◌≤◌, ◌+◌, ℕ, Bool, true, false, Result, Ok, Err, length, vec_len, vec_capacity}
+use Rattle.std.specs.Prelude.{◌≤◌, ◌+◌, ◌*◌, ℕ, Bool, true, false, Result, Ok, Err, length, vec_len, vec_capacity}
 use Rattle.sc_region.specs.declared.job.Job.{Job}
 use Rattle.sc_region.specs.declared.job.Outcome.{Outcome}
 use Rattle.sc_request.specs.declared.center.Core as coded
@@ -7,10 +7,13 @@ use Rattle.sc_request.specs.declared.settlement.Settlement.{Settlement}
 use Rattle.sc_request.specs.declared.settlement.SettleFault.{SettleFault}
 use Rattle.sc_request.specs.declared.settlement.SettleFault.TheVariants.{NotOut, OutOfMemory}
 
--- There is room to settle each handler that is out, and so many more: a place in the log, and one in some queue.
+-- There is room to settle each handler that is out, and so many more: a place in some queue, and in the log an entry and as many actuals and handlers
+-- as the two lists of a settlement may have.
 pub record HasRoomFor (more : ℕ) (c : coded.Core) : Type 0 where
   pub places : c.outs + more ≤ length c.spare
-  pub entries : vec_len c.log + (c.outs + more) ≤ vec_capacity c.log
+  pub entries : vec_len c.log.entries + (c.outs + more) ≤ vec_capacity c.log.entries
+  pub actuals : vec_len c.log.actuals + 32 * (c.outs + more) ≤ vec_capacity c.log.actuals
+  pub handlers : vec_len c.log.handlers + 32 * (c.outs + more) ≤ vec_capacity c.log.handlers
 
 -- ---- what a settlement answers
 

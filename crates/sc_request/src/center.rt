@@ -1,16 +1,16 @@
 //! The core.
 ghost use Rattle.std.specs.Prelude.{◌≡◌, ◌≤◌, ◌*◌, ◌∷◌, IfOk, Some, length, map, replicate, true, vec_len};
 ghost use Rattle.sc_lockpass.specs.Versions.{most_handlers};
-ghost use Rattle.sc_request.specs.Candidates.{AreCandidates, HasGrantsBelow, HasOutsBelow};
+ghost use Rattle.sc_request.specs.Candidates.{AreCandidates, AreReserving, HasGrantsBelow, HasOutsBelow};
 ghost use Rattle.sc_request.specs.Logs.{root_of};
 ghost use Rattle.sc_request.specs.Places.{plain};
 ghost use Rattle.sc_request.specs.Sound.{IsSound};
-ghost use Rattle.sc_request.specs.Tables.{out_total, asked, center, fresh};
+ghost use Rattle.sc_request.specs.Tables.{out_total, asked, center, fresh, handler_at};
 ghost use Rattle.sc_lockpass.specs.Tables.{rights_of};
 
 use crate::handler::{Handler, Posting, Stage};
 use crate::handler_set::HandlerSet;
-use crate::settlement::Settlement;
+use crate::logged::Log;
 use crate::state::State;
 use arrayvec::ArrayVec;
 use sc_lockpass::{Rights, Version};
@@ -22,9 +22,11 @@ use std::collections::LinkedList;
 
 /// The half of the world that moves requests and rights between handlers.
 ///
-/// A handler that was picked is out with its job until the job is put back or settled. A call that picks looks at no
-/// more handlers than those that were not tried since the last settlement, and no call looks at a whole queue but where
-/// a handler fails.
+/// A handler that was picked is out with its job until the job is put back or settled. A call that picks tries only
+/// handlers that may have got something to do since they were last tried. After a settlement these are the handler
+/// itself, and one that it asked or made, or whose request it may have ended; where rights may have changed, sessions
+/// ended or the handler become idle, also all that wait to reserve; and after a failure all. No call looks at a whole
+/// queue but where a handler fails.
 #[derive(Drop)]
 pub struct Core {
     /// The handlers, and who holds which.
@@ -33,17 +35,19 @@ pub struct Core {
     pub(crate) outs: usize,
     /// The handler that was picked last.
     pub(crate) last: u16,
-    pub(crate) log: Vec<Settlement>,
+    pub(crate) log: Log,
     /// Places for what is posted, each in a node of a queue: one for each settlement that was made room for.
     pub(crate) spare: LinkedList<Posting>,
-    /// Those that may have something to do: all that have, and some that were not tried since they might. After a
-    /// settlement these are all.
+    /// Those that may have something to do: all that have, and some that were not tried since they might.
     pub(crate) candidates: HandlerSet,
+    /// Those that wait to reserve: all whose next step is a reserve step.
+    pub(crate) reserving: HandlerSet,
     pub(crate) ghost counted: { outs ≡ out_total state.handlers.items },
     pub(crate) ghost there: { HasOutsBelow (most_handlers state.rights.version) state.handlers.items },
     pub(crate) ghost grants: { HasGrantsBelow (most_handlers state.rights.version) state.handlers.items },
-    pub(crate) ghost sound: { IsSound (2 * vec_len log) (vec_len log) (plain state) },
+    pub(crate) ghost sound: { IsSound (vec_len log.entries) (vec_len log.entries) (plain state) },
     pub(crate) ghost tried: { AreCandidates candidates.words (center state.count state.handlers.items state.sessions.items state.rights last) },
+    pub(crate) ghost waiting: { AreReserving reserving.words (handler_at state.handlers.items state.sessions.items) },
 }
 
 impl Core {
@@ -57,6 +61,7 @@ impl Core {
     ghost use Rattle.sc_request.specs.Handlers.{standing_in};
     ghost use Rattle.sc_request.specs.Picking.{needs, job_for_entry};
     ghost use Rattle.sc_request.specs.Cores.{state_of, center_of, log_of};
+    ghost use Rattle.sc_request.specs.Logged.{settlements_of};
 
     /// One handler, with the request for the creation of the root object: of this class, by the creation procedure of
     /// this number. There may be as many handlers as the version says.
@@ -84,9 +89,10 @@ impl Core {
             },
             outs: 0,
             last: version.most_handlers() - 1,
-            log: Vec::new(alloc),
+            log: Log::new(alloc),
             spare: LinkedList::new(alloc),
             candidates,
+            reserving: HandlerSet::new(),
         })
     }
 
@@ -257,10 +263,10 @@ impl Core {
     }
 
     /// The settlements so far, the first one first.
-    pub fn log(&self) -> &[Settlement]
-        ensures { result.now ≡ log_of self.now }
+    pub fn log(&self) -> &Log
+        ensures { settlements_of result.now ≡ log_of self.now }
     {
-        self.log.as_slice()
+        &self.log
     }
 }
 

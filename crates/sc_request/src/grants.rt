@@ -1,5 +1,5 @@
 //! What a reserve step is granted is reserved from its pick on.
-ghost use Rattle.std.specs.Prelude.{◌≡◌, ◌<◌, ◌||◌, ℕ};
+ghost use Rattle.std.specs.Prelude.{◌≡◌, ◌<◌, ◌&&◌, ◌||◌, ℕ};
 ghost use Rattle.std.specs.List.{All};
 ghost use Rattle.sc_lockpass.specs.Versions.{most_handlers};
 ghost use Rattle.sc_lockpass.specs.Tables.{is_member, rights_of};
@@ -11,32 +11,38 @@ use crate::sessions::{release_each, reserve_each};
 use sc_lockpass::Rights;
 use sc_region::Job;
 
-/// Reserves what the job was granted, if it is a grant. Then all are candidates.
+/// Reserves what the job was granted, if it is a grant. Then those that wait to reserve are candidates.
 pub(crate) fn reserve_granted(
     rights: &mut Rights,
     candidates: &mut HandlerSet,
+    reserving: &HandlerSet,
     handler: u16,
     job: &Job,
 )
     requires { All (λ k. k < most_handlers rights.old.version) (granted_items job.now) }
     ensures rights { rights_of rights.new ≡ granted handler job.now (rights_of rights.old) }
     ensures version { rights.new.version ≡ rights.old.version }
-    ensures candidates { (k : ℕ) → k < 512 → is_member candidates.new.words k ≡ (is_granting job.now || is_member candidates.old.words k) }
+    ensures candidates { (k : ℕ) → is_member candidates.new.words k ≡ (is_member candidates.old.words k || (is_granting job.now && is_member reserving.now.words k)) }
 {
     if let Job::Granted(handlers) = job {
         reserve_each(rights, handler, handlers.as_slice());
-        candidates.fill();
+        candidates.add(reserving);
     }
 }
 
-/// Releases what the job was granted, if it is a grant. Then all are candidates.
-pub(crate) fn release_granted(rights: &mut Rights, candidates: &mut HandlerSet, job: &Job)
+/// Releases what the job was granted, if it is a grant. Then those that wait to reserve are candidates.
+pub(crate) fn release_granted(
+    rights: &mut Rights,
+    candidates: &mut HandlerSet,
+    reserving: &HandlerSet,
+    job: &Job,
+)
     ensures rights { rights_of rights.new ≡ ungranted job.now (rights_of rights.old) }
     ensures version { rights.new.version ≡ rights.old.version }
-    ensures candidates { (k : ℕ) → k < 512 → is_member candidates.new.words k ≡ (is_granting job.now || is_member candidates.old.words k) }
+    ensures candidates { (k : ℕ) → is_member candidates.new.words k ≡ (is_member candidates.old.words k || (is_granting job.now && is_member reserving.now.words k)) }
 {
     if let Job::Granted(handlers) = job {
         release_each(rights, handlers.as_slice());
-        candidates.fill();
+        candidates.add(reserving);
     }
 }

@@ -15,7 +15,7 @@ use std::alloc::{AllocError, Global};
 use std::collections::LinkedList;
 
 /// An answer that has come.
-#[derive(Clone, Copy, Debug, PartialEq, Eq)]
+#[derive(Clone, Copy, PartialEq, Eq)]
 pub(crate) enum Answer {
     /// The value of a query, or none.
     Replied(Option<Value>),
@@ -26,7 +26,7 @@ pub(crate) enum Answer {
 }
 
 /// What the next turn of a handler stands on.
-#[derive(Clone, Copy, Debug, PartialEq, Eq)]
+#[derive(Clone, Copy, PartialEq, Eq)]
 pub(crate) enum Stage {
     /// It has no frames.
     Idle,

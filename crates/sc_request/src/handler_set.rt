@@ -1,5 +1,5 @@
 //! Sets of handlers.
-ghost use Rattle.std.specs.Prelude.{◌≡◌, ◌<◌, ◌≤◌, ◌==◌, ◌||◌, ◌&&◌, ℕ, None, IfSome, false, true, not};
+ghost use Rattle.std.specs.Prelude.{◌≡◌, ◌<◌, ◌≤◌, ◌==◌, ◌||◌, ◌&&◌, ℕ, None, IfSome, false, true, not, if◌then◌else◌};
 ghost use Rattle.sc_lockpass.specs.Tables.{is_member};
 ghost use Rattle.sc_request.specs.Candidates.{IsFirstIn, HasNoneIn};
 
@@ -28,6 +28,36 @@ impl HandlerSet {
         ensures { (k : ℕ) → is_member self.new.words k ≡ (not (k == handler) && is_member self.old.words k) }
     {
         self.words[handler / 64] &= !(1 << (handler % 64));
+    }
+
+    /// Adds a handler, where there is a place for it.
+    pub(crate) fn admit(&mut self, handler: usize)
+        ensures { (k : ℕ) → k < 512 → is_member self.new.words k ≡ (k == handler || is_member self.old.words k) }
+    {
+        if handler < 512 {
+            self.insert(handler);
+        }
+    }
+
+    /// Adds a handler, or takes it out.
+    pub(crate) fn set(&mut self, handler: usize, is_in: bool)
+        requires { handler < 512 }
+        ensures { (k : ℕ) → is_member self.new.words k ≡ (if k == handler then is_in else is_member self.old.words k) }
+    {
+        if is_in {
+            self.insert(handler);
+        } else {
+            self.remove(handler);
+        }
+    }
+
+    /// Adds all of another set.
+    pub(crate) fn add(&mut self, others: &HandlerSet)
+        ensures { (k : ℕ) → is_member self.new.words k ≡ (is_member self.old.words k || is_member others.now.words k) }
+    {
+        for at in 0..8 {
+            self.words[at] |= others.words[at];
+        }
     }
 
     /// Adds all.

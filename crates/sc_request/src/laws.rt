@@ -1,4 +1,5 @@
 //! Laws of the core, each the contract of a function that does nothing.
+ghost use Rattle.sc_request.specs.Candidates.{LeavesUntouched};
 ghost use Rattle.sc_request.specs.Laws.{OpensAsHalf, PicksWhereTurns};
 ghost use Rattle.sc_request.specs.Steps.{HalvesStep};
 
@@ -16,4 +17,9 @@ pub fn core_picks_where_the_machine_turns()
 /// settlement leaves the half of the state that the machine steps to.
 pub fn core_settles_as_half()
     ensures { HalvesStep }
+{}
+
+/// A settlement leaves whom it doesn't touch as it is, but for the count of its sessions, unless the settled handler has failed.
+pub fn core_leaves_untouched()
+    ensures { LeavesUntouched }
 {}

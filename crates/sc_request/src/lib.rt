@@ -16,7 +16,9 @@ mod grants;
 mod handler;
 mod handler_set;
 pub mod laws;
+mod logged;
 mod making;
+mod packed;
 mod picking;
 mod places;
 mod postings;
@@ -27,6 +29,8 @@ mod settle;
 mod settlement;
 mod state;
 mod steps;
+mod touching;
 
 pub use center::Core;
+pub use logged::Log;
 pub use settlement::{SettleFault, Settlement};

@@ -1,5 +1,6 @@
 //! Who goes on: handlers are picked with their jobs, and put back.
 ghost use Rattle.std.specs.Prelude.{◌≡◌, ◌≤◌, ◌+◌, ◌-◌, ◌<◌, ℕ, IfSome, Some};
+ghost use Rattle.std.specs.Option.{option_map};
 ghost use Rattle.sc_request.specs.Candidates.{AreCandidates};
 ghost use Rattle.sc_request.specs.Logs.{first_with_job, next, numbers_from, picked, picked_if, picks};
 ghost use Rattle.sc_request.specs.Logs as logs;
@@ -27,8 +28,8 @@ impl Core {
         let mut candidates = self.candidates;
         let found = self.first_round(&mut candidates);
         self.candidates = candidates;
-        let (handler, job) = found?;
-        self.send_out(handler, copy_job(&job));
+        let handler = found?;
+        let job = self.pick_at(handler)?;
         Some((handler, job))
     }
 
@@ -62,7 +63,12 @@ impl Core {
             return;
         };
         self.outs -= 1;
-        release_granted(&mut self.state.rights, &mut self.candidates, &job);
+        release_granted(
+            &mut self.state.rights,
+            &mut self.candidates,
+            &self.reserving,
+            &job,
+        );
         self.candidates.insert(at);
     }
 
@@ -75,17 +81,23 @@ impl Core {
         ensures version { self.new.state.rights.version ≡ self.old.state.rights.version }
     {
         let at = handler as usize;
-        reserve_granted(&mut self.state.rights, &mut self.candidates, handler, &job);
+        reserve_granted(
+            &mut self.state.rights,
+            &mut self.candidates,
+            &self.reserving,
+            handler,
+            &job,
+        );
         self.candidates.remove(at);
         self.state.handlers[at].out = Some(job);
         self.outs += 1;
         self.last = handler;
     }
 
-    /// The next handler that has something to do, with that. What has nothing to do leaves the candidates.
-    fn first_round(&self, candidates: &mut HandlerSet) -> Option<(u16, Job)>
+    /// The next handler that has something to do. What has nothing to do leaves the candidates.
+    fn first_round(&self, candidates: &mut HandlerSet) -> Option<u16>
         requires { AreCandidates candidates.old.words (center_of self.now) }
-        ensures found { result ≡ next (center_of self.now) }
+        ensures found { result ≡ option_map (λ p. p.0) (next (center_of self.now)) }
         ensures kept { AreCandidates candidates.new.words (center_of self.now) }
     {
         let after = self.last as usize + 1;
@@ -96,17 +108,17 @@ impl Core {
     }
 
     /// The first from a number on, and below another one.
-    fn first_in(&self, candidates: &mut HandlerSet, from: usize, to: usize) -> Option<(u16, Job)>
+    fn first_in(&self, candidates: &mut HandlerSet, from: usize, to: usize) -> Option<u16>
         requires within { to ≤ self.now.state.count }
         requires candidates { AreCandidates candidates.old.words (center_of self.now) }
-        ensures found { result ≡ first_with_job (numbers_from from (to - from)) (center_of self.now) }
+        ensures found { result ≡ option_map (λ p. p.0) (first_with_job (numbers_from from (to - from)) (center_of self.now)) }
         ensures kept { AreCandidates candidates.new.words (center_of self.now) }
     {
         let mut at = from;
         for _turn in from..to {
             let handler = candidates.next_in(at, to)?;
-            if let Some(job) = self.pick_for(handler as u16) {
-                return Some((handler as u16, job));
+            if self.has_job(handler as u16) {
+                return Some(handler as u16);
             }
             candidates.remove(handler);
             at = handler + 1;

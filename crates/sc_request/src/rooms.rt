@@ -1,5 +1,6 @@
 //! Room for settlements, so that one that was made room for takes no memory.
-ghost use Rattle.std.specs.Prelude.{◌≡◌, ◌≤◌, ◌<◌, ◌+◌, ℕ, OnErr, OnOk, length, vec_capacity, vec_len};
+ghost use Rattle.std.specs.Prelude.{◌≡◌, ◌≤◌, ◌<◌, ◌+◌, ℕ, OnErr, OnOk, length};
+ghost use Rattle.sc_request.specs.Logged.{HasPlaces};
 ghost use Rattle.sc_request.specs.Rooms.{HasRoomFor};
 
 use crate::center::Core;
@@ -27,8 +28,8 @@ impl Core {
     /// Makes room for one settlement, where there is none.
     pub(crate) fn make_room_for_one(&mut self) -> Result<(), AllocError>
         ensures places { OnOk result (1 ≤ length self.new.spare) }
-        ensures entries { OnOk result (vec_len self.new.log + 1 ≤ vec_capacity self.new.log) }
-        ensures room { OnErr result (1 ≤ length self.old.spare → vec_len self.old.log + 1 ≤ vec_capacity self.old.log → ⊥) }
+        ensures entries { OnOk result (HasPlaces 1 self.new.log) }
+        ensures room { OnErr result (1 ≤ length self.old.spare → HasPlaces 1 self.old.log → ⊥) }
         ensures center { center_of self.new ≡ center_of self.old }
         ensures log { log_of self.new ≡ log_of self.old }
         ensures outs { self.new.outs ≡ self.old.outs }

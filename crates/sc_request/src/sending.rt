@@ -90,7 +90,7 @@ impl State {
     }
 
     /// Whether the handler has failed.
-    fn has_failed(&self, handler: usize) -> bool
+    pub(crate) fn has_failed(&self, handler: usize) -> bool
         requires { handler < 512 }
         ensures { result ≡ is_some ((plain self.now).handlers handler).failure }
     {

@@ -1,8 +1,9 @@
 //! What a handler's turns came to is settled.
-ghost use Rattle.std.specs.Prelude.{◌≡◌, ◌++◌, ◌∷◌, ◌+◌, ◌<◌, ◌≤◌, ◌-◌, ◌^◌, ℕ, [], Some, IfErr, OnErr, OnOk, false, is_some, length, not, vec_capacity, vec_len};
+ghost use Rattle.std.specs.Prelude.{◌≡◌, ◌++◌, ◌∷◌, ◌+◌, ◌<◌, ◌≤◌, ◌-◌, ◌^◌, ℕ, [], Some, IfErr, OnErr, OnOk, false, is_some, length, not};
 ghost use Rattle.std.specs.List.{All};
 ghost use Rattle.sc_lockpass.specs.Versions.{most_handlers};
 ghost use Rattle.sc_request.specs.Candidates.{granted_items};
+ghost use Rattle.sc_request.specs.Logged.{HasPlaces};
 ghost use Rattle.sc_request.specs.Logs.{settles};
 ghost use Rattle.sc_request.specs.Places.{outs_of, plain};
 ghost use Rattle.sc_request.specs.Rooms.{HasRoomFor, is_not_out, is_short, outcome_of, settlement};
@@ -13,8 +14,9 @@ use crate::center::Core;
 use crate::copy::copy_job;
 use crate::fits::fits_turns;
 use crate::handler::Posting;
-use crate::settlement::{SettleFault, Settlement};
+use crate::settlement::SettleFault;
 use crate::state::State;
+use crate::touching::frees;
 use sc_model::Cause;
 use sc_region::{Job, Outcome, Want};
 use std::collections::LinkedList;
@@ -61,7 +63,7 @@ impl Core {
     fn settle_under(&mut self, job: Job, outcome: Outcome)
         requires out { (center_of self.old).out outcome.handler ≡ Some job }
         requires places { 1 ≤ length self.old.spare }
-        requires entries { vec_len self.old.log + 1 ≤ vec_capacity self.old.log }
+        requires entries { HasPlaces 1 self.old.log }
         ensures center { center_of self.new ≡ settles (most_handlers self.old.state.rights.version) outcome.handler job outcome.turns outcome.want (center_of self.old) }
         ensures log { log_of self.new ≡ log_of self.old ++ settlement job outcome ∷ [] }
         ensures room { (n : ℕ) → HasRoomFor n self.old → HasRoomFor n self.new }
@@ -72,17 +74,19 @@ impl Core {
             turns,
             want,
         } = outcome;
+        let is_freeing = frees(&job, &want);
+        self.state.touch(handler, &want, &mut self.candidates);
         self.state
             .settle(handler, &job, turns, &want, &mut self.spare);
+        self.state.wake(
+            handler,
+            is_freeing,
+            &mut self.reserving,
+            &mut self.candidates,
+        );
         self.state.handlers[handler as usize].out = None;
         self.outs -= 1;
-        self.candidates.fill();
-        self.log.push_reserved(Settlement {
-            handler,
-            job,
-            turns,
-            want,
-        });
+        self.log.push(handler, &job, turns, &want);
     }
 }
 

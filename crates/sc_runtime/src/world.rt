@@ -4,6 +4,7 @@ ghost use Rattle.sc_free.proofs.Props.{linked_prop};
 ghost use Rattle.sc_free.specs.Free.{AreLinked};
 ghost use Rattle.sc_lockpass.specs.Versions.{most_handlers};
 ghost use Rattle.sc_request.specs.Cores.{center_of, log_of};
+ghost use Rattle.sc_request.specs.Logged.{settlements_of};
 ghost use Rattle.sc_request.specs.Rooms.{HasRoomFor};
 ghost use Rattle.sc_request.specs.Logs as core;
 ghost use Rattle.sc_runtime.specs.Free.{FreeObjectMeets};
@@ -18,7 +19,7 @@ use sc_lockpass::Version;
 use sc_model::Status;
 use sc_play::Region;
 use sc_region::{Breakdown, Job, Outcome, Want};
-use sc_request::{Core, Settlement};
+use sc_request::{Core, Log};
 use std::alloc::{AllocError, Global};
 
 /// What a step of the world did.
@@ -232,8 +233,8 @@ impl<'p> World<'p> {
     }
 
     /// What the turns of handlers came to so far, the first one first.
-    pub fn log(&self) -> &[Settlement]
-        ensures { result.now ≡ log_of self.now.core }
+    pub fn log(&self) -> &Log
+        ensures { settlements_of result.now ≡ log_of self.now.core }
     {
         self.core.log()
     }

@@ -2,11 +2,11 @@ use Rattle.std.proofs.Common.{List, ◌*◌, ◌∙◌, ap, subst, sym}
 use Rattle.std.specs.Prelude.{◌-◌, vec_len}
 use Rattle.sc_lockpass.specs.Versions.{most_handlers}
 use Rattle.sc_region.specs.declared.job.Request.{Request}
-use Rattle.sc_request.specs.Candidates.{HasGrantsBelow, HasOutsBelow}
+use Rattle.sc_request.specs.Candidates.{AreReserving, HasGrantsBelow, HasOutsBelow}
 use Rattle.sc_request.specs.Logs.{opened}
-use Rattle.sc_request.specs.Tables.{out_total}
+use Rattle.sc_request.specs.Tables.{handler_at, out_total}
 use Rattle.sc_request.specs.declared.handler.Handler as coded
-use Rattle.sc_request.proofs.Filling.{none_out_yet, opens_center, opening_grants, opening_outs, opening_sound, opening_tried}
+use Rattle.sc_request.proofs.Filling.{none_out_yet, opens_center, opening_grants, opening_outs, opening_reserving, opening_sound, opening_tried}
 use Rattle.sc_request.proofs.center.Core.opening.Goals as goal
 
 pub returns-clause-center : goal.returns-clause-center
@@ -25,7 +25,9 @@ invariant_of-result-2 c =
       counted = sym (ap (λ (ys : List coded.Handler). out_total ys) is ∙ none_out_yet 511 r);
       there = subst (λ (ys : List coded.Handler). HasOutsBelow most ys) (sym is) (opening_outs most 511 r);
       grants = subst (λ (ys : List coded.Handler). HasGrantsBelow most ys) (sym is) (opening_grants most 511 r);
-      sound = opening_sound (2 * vec_len c.new-2.result) (vec_len c.new-2.result) xs c.in_ok-vec.field-0.items c.new.result 511 512 r is
+      sound = opening_sound (vec_len c.new-2.result.entries) (vec_len c.new-2.result.entries) xs c.in_ok-vec.field-0.items c.new.result 511 512 r is
           (c.in_ok-vec.ensures.items_if_clones_equal (λ y e. e)) c.new.ensures.rights (ap (λ (q : Request). q.poster) c.root_request.ensures);
       tried = opening_tried c.insert.new.self.words xs c.in_ok-vec.field-0.items c.new.result (c.most_handlers.result - 1) (c.insert.ensures 0);
+      waiting = subst (λ (ys : List coded.Handler). AreReserving c.new-4.result.words (handler_at ys c.in_ok-vec.field-0.items)) (sym is)
+          (opening_reserving c.new-4.result.words c.in_ok-vec.field-0.items 511 r);
     }

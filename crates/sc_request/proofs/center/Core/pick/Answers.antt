@@ -1,23 +1,34 @@
-use Rattle.std.proofs.Common.{◌∙◌, ◌<◌, ◌+◌, ℕ, Some, ap, arith, sym}
+use Rattle.std.proofs.Common.{◌∙◌, Option, ap, sym}
+use Rattle.sc_region.specs.declared.job.Job.{Job}
 use Rattle.sc_request.specs.Cores.{center_of}
-use Rattle.sc_request.specs.Logs.{pick_for}
-use Rattle.sc_request.specs.Rooms.{HasRoomFor}
-use Rattle.sc_request.proofs.Rounds.{has_job}
-use Rattle.sc_request.proofs.Granting.{below_count}
+use Rattle.sc_request.specs.Logs.{picked_if, picks}
+use Rattle.sc_request.proofs.Rounds.{never_none, next_is}
 use Rattle.sc_request.proofs.center.Core.pick.Goals as goal
 
-pub send_out-requires : goal.send_out-requires
-send_out-requires c = has_job _ (center_of c.args.self.now) (c.in_ok-handler.handler, c.in_ok-handler.job) (sym c.in_ok-handler.ensures.found)
-    ∙ ap Some (sym c.copy_job.ensures)
+pub returns-clause-job : goal.returns-clause-job
+returns-clause-job c =
+    next_is (center_of c.args.self.now) c.in_ok-handler.handler c.in_ok-job.job c.in_ok-handler.ensures.found (sym c.in_ok-job.ensures.job)
 
-pub returns-clause-below : goal.returns-clause-below
-returns-clause-below c =
-    let s = c.args.self.now in
+pub returns-clause-center : goal.returns-clause-center
+returns-clause-center c =
+    let s = center_of c.args.self.now in
     let h = c.in_ok-handler.handler in
-    let is = has_job _ (center_of s) (h, c.in_ok-handler.job) (sym c.in_ok-handler.ensures.found) in
-    let below = below_count s.state.count s.state.handlers.items s.state.sessions.items s.state.rights s.last h c.in_ok-handler.job is in
-    let within = s.sound.within in
-    omega (arith, below, within)
+    let j = c.in_ok-job.job in
+    c.in_ok-job.ensures.center
+    ∙ ap (λ (o : Option Job). picked_if h o s) (sym c.in_ok-job.ensures.job)
+    ∙ ap (λ o. picks o s) (next_is s h j c.in_ok-handler.ensures.found (sym c.in_ok-job.ensures.job))
 
 pub returns-clause-room : goal.returns-clause-room
-returns-clause-room c = λ n r. c.send_out.ensures.room n (record { places = r.places; entries = r.entries })
+returns-clause-room c = λ n r. c.in_ok-job.ensures.room n (record { places = r.places; entries = r.entries; actuals = r.actuals; handlers = r.handlers })
+
+pub returns-in_err-job-clause-job : goal.returns-in_err-job-clause-job
+returns-in_err-job-clause-job c =
+    absurd (never_none (center_of c.args.self.now) c.in_ok-handler.handler c.in_ok-handler.ensures.found (sym c.pick_at.ensures.job ∙ c.in_err-job.was))
+
+pub returns-in_err-job-clause-center : goal.returns-in_err-job-clause-center
+returns-in_err-job-clause-center c =
+    absurd (never_none (center_of c.args.self.now) c.in_ok-handler.handler c.in_ok-handler.ensures.found (sym c.pick_at.ensures.job ∙ c.in_err-job.was))
+
+pub returns-in_err-job-clause-room : goal.returns-in_err-job-clause-room
+returns-in_err-job-clause-room c = λ n r.
+    absurd (never_none (center_of c.args.self.now) c.in_ok-handler.handler c.in_ok-handler.ensures.found (sym c.pick_at.ensures.job ∙ c.in_err-job.was))

@@ -1,14 +1,14 @@
-use Rattle.std.proofs.Common.{◌*◌, ◌∙◌, ap, sym, refl, subst, length, slice_set, Option, None, arith}
+use Rattle.std.proofs.Common.{None, ◌*◌, ◌∙◌, ap, sym, refl, subst, length, slice_set, Option, arith}
 use Rattle.std.proofs.lemmas.Option.{slice_get_read}
 use Rattle.std.specs.Prelude.{vec_len}
-use Rattle.sc_lockpass.specs.Tables.{rights_of}
 use Rattle.sc_lockpass.specs.Versions.{most_handlers}
 use Rattle.sc_region.specs.declared.job.Job.{Job}
-use Rattle.sc_request.specs.Candidates.{AreCandidates, HasGrantsBelow, HasOutsBelow}
+use Rattle.sc_request.specs.Candidates.{AreCandidates, AreReserving, HasGrantsBelow, HasOutsBelow}
 use Rattle.sc_request.specs.Sound.{IsSound}
-use Rattle.sc_request.specs.Tables.{center, out_total, state_of}
+use Rattle.sc_request.specs.Tables.{center, handler_at, out_total, state_of}
 use Rattle.sc_request.proofs.Outs.{back_center, fewer_out, with_job}
 use Rattle.sc_request.proofs.Granting.{back_none, candidates_back, grants_back, outs_back, sound_back}
+use Rattle.sc_request.proofs.Reserving.{same_reserving}
 use Rattle.sc_request.proofs.center.Core.put_back.Goals as goal
 
 pub returns-in_default-clause-center : goal.returns-in_default-clause-center
@@ -62,15 +62,17 @@ invariant_of-self-3 c =
       grants = rw c.release_granted.ensures.version
           (subst (λ (o : Option Job). HasGrantsBelow (most_handlers s.state.rights.version) (slice_set xs h (with_job o x))) (sym c.take.ensures.after)
           (grants_back (most_handlers s.state.rights.version) xs h x e s.grants));
-      sound = subst (λ (o : Option Job). IsSound (2 * vec_len s.log) (vec_len s.log)
+      sound = subst (λ (o : Option Job). IsSound (vec_len s.log.entries) (vec_len s.log.entries)
           (state_of s.state.count (slice_set xs h (with_job o x)) s.state.sessions.items c.release_granted.new.rights)) (sym c.take.ensures.after)
-          (sound_back (2 * vec_len s.log) (vec_len s.log) s.state.count xs s.state.sessions.items s.state.rights c.release_granted.new.rights h x j e
+          (sound_back (vec_len s.log.entries) (vec_len s.log.entries) s.state.count xs s.state.sessions.items s.state.rights c.release_granted.new.rights h x j e
           c.release_granted.ensures.rights s.sound);
       tried = subst (λ (o : Option Job). AreCandidates c.insert.new.self.words
           (center s.state.count (slice_set xs h (with_job o x)) s.state.sessions.items c.release_granted.new.rights s.last)) (sym c.take.ensures.after)
-          (candidates_back s.state.count xs s.state.sessions.items s.state.rights c.release_granted.new.rights s.last h x j s.candidates.words
-          c.release_granted.new.candidates.words c.insert.new.self.words e c.release_granted.ensures.rights s.sound.within s.tried
+          (candidates_back s.state.count xs s.state.sessions.items s.state.rights c.release_granted.new.rights s.last h x j s.candidates.words s.reserving.words
+          c.release_granted.new.candidates.words c.insert.new.self.words e c.release_granted.ensures.rights s.tried s.waiting
           c.release_granted.ensures.candidates c.insert.ensures);
+      waiting = subst (λ (o : Option Job). AreReserving s.reserving.words (handler_at (slice_set xs h (with_job o x)) s.state.sessions.items)) (sym c.take.ensures.after)
+          (same_reserving s.reserving.words xs s.state.sessions.items h x None e s.waiting);
     }
 
 pub returns-clause-center : goal.returns-clause-center

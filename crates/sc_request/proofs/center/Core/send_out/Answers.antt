@@ -1,12 +1,11 @@
-use Rattle.std.proofs.Common.{◌+◌, ◌*◌, ◌∙◌, ap, sym, refl, length, arith}
+use Rattle.std.proofs.Common.{◌+◌, ◌*◌, ◌∙◌, Some, ap, sym, refl, length, arith}
 use Rattle.std.proofs.lemmas.Option.{slice_get_read}
 use Rattle.std.specs.Prelude.{vec_len}
-use Rattle.sc_lockpass.specs.Tables.{rights_of}
 use Rattle.sc_lockpass.specs.Versions.{most_handlers}
-use Rattle.sc_lockpass.proofs.Listings.{most_handlers-le}
 use Rattle.sc_request.specs.Candidates.{granted_items}
 use Rattle.sc_request.proofs.Outs.{below_most, more_out, outs_within, picked_center}
 use Rattle.sc_request.proofs.Granting.{below_count, candidates_picked, grants_picked, grants_there, not_out, outs_picked, sound_picked}
+use Rattle.sc_request.proofs.Reserving.{same_reserving}
 use Rattle.sc_request.proofs.center.Core.send_out.Goals as goal
 
 pub reserve_granted-requires : goal.reserve_granted-requires
@@ -49,10 +48,12 @@ invariant_of-self-3 c =
           (outs_picked (most_handlers s.state.rights.version) xs h x c.args.job e (omega (arith, below, some)) s.there);
       grants = rw c.reserve_granted.ensures.version
           (grants_picked (most_handlers s.state.rights.version) xs h x c.args.job e (λ i is. let l = g.below i is in omega (arith, l, some)) s.grants);
-      sound = sound_picked (2 * vec_len s.log) (vec_len s.log) s.state.count xs s.state.sessions.items s.state.rights c.reserve_granted.new.rights h x c.args.job e
+      sound = sound_picked (vec_len s.log.entries) (vec_len s.log.entries) s.state.count xs s.state.sessions.items s.state.rights c.reserve_granted.new.rights h x c.args.job e
           c.reserve_granted.ensures.rights (below_most s.state.count 512 (granted_items c.args.job) within g) s.sound;
       tried = candidates_picked s.state.count xs s.state.sessions.items s.state.rights c.reserve_granted.new.rights s.last h x c.args.job s.candidates.words
-          c.reserve_granted.new.candidates.words c.remove.new.self.words e c.reserve_granted.ensures.rights within s.tried c.reserve_granted.ensures.candidates c.remove.ensures;
+          s.reserving.words c.reserve_granted.new.candidates.words c.remove.new.self.words e c.reserve_granted.ensures.rights s.tried s.waiting
+          c.reserve_granted.ensures.candidates c.remove.ensures;
+      waiting = same_reserving s.reserving.words xs s.state.sessions.items h x (Some c.args.job) e s.waiting;
     }
 
 pub returns-clause-center : goal.returns-clause-center

@@ -22,9 +22,12 @@ returns-then-is_err-clause-short c = λ r.
     let counted = s.counted in
     let out = out_counted s.state.handlers.items c.args.outcome.handler c.in-Some.job (sym c.job_out.ensures ∙ c.in-Some.is) in
     let places = r.places in
-    let entries = r.entries in
     absurd (on_err c.make_room_for_one.result _ (sym c.is_err.ensures.value ∙ c.if-is_err.true) c.make_room_for_one.ensures.room
-    (omega (arith, counted, out, places)) (omega (arith, counted, out, entries)))
+    (omega (arith, counted, out, places)) (record {
+      entries = omega (arith, counted, out, r.entries);
+      actuals = omega (arith, counted, out, r.actuals);
+      handlers = omega (arith, counted, out, r.handlers);
+    }))
 
 pub settle_under-requires-clause-out : goal.settle_under-requires-clause-out
 settle_under-requires-clause-out c =

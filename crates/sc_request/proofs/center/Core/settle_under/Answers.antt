@@ -1,12 +1,18 @@
-use Rattle.std.proofs.Common.{◌+◌, ◌-◌, ◌*◌, None, arith, length, refl, slice_set}
+use Rattle.std.proofs.Common.{◌≡◌, ◌≤◌, ◌<◌, ◌==◌, ◌&&◌, ◌||◌, ◌+◌, ℕ, None, arith, length, refl, slice_set, subst, sym}
 use Rattle.std.proofs.lemmas.Option.{slice_get_read}
-use Rattle.std.specs.Prelude.{vec_len}
+use Rattle.std.specs.Prelude.{if◌then◌else◌, is_some, vec_len}
+use Rattle.sc_lockpass.specs.Tables.{is_member}
 use Rattle.sc_lockpass.proofs.Listings.{most_handlers-le}
 use Rattle.sc_lockpass.specs.Versions.{most_handlers}
 use Rattle.sc_request.specs.Places.{plain}
 use Rattle.sc_request.specs.Settling.{settled}
-use Rattle.sc_request.specs.Tables.{center, out_at}
-use Rattle.sc_request.proofs.Granting.{all_candidates, granted_below}
+use Rattle.sc_request.specs.Tables.{center, out_at, out_total}
+use Rattle.sc_request.specs.Candidates.{AreCandidates, AreReserving, frees, is_reserving}
+use Rattle.sc_request.specs.Cores.{center_of}
+use Rattle.sc_request.specs.Handlers.{State}
+use Rattle.sc_request.proofs.Granting.{granted_below}
+use Rattle.sc_request.proofs.Reserving.{same_reserving, settled_reserving}
+use Rattle.sc_request.proofs.Waking.{settled_candidates}
 use Rattle.sc_request.proofs.Settles.{settled_center, settled_grants, settled_outs, settled_sound, settled_total}
 use Rattle.sc_request.proofs.Outs.{with_job}
 use Rattle.sc_request.proofs.center.Core.settle_under.Goals as goal
@@ -57,15 +63,26 @@ invariant_of-self-2 c =
     let m = most_handlers s.state.rights.version in
     let there = settled_outs m xs ys h x e c.settle.ensures.outs s.there in
     let grants = settled_grants m xs ys h x e c.settle.ensures.outs s.grants in
-    let sound = settled_sound (vec_len s.log) (vec_len c.push_reserved.new.self) m h j c.args.outcome.turns c.args.outcome.want (plain s.state) t.count xs
-    t.sessions.items t.rights x e c.settle.ensures.plain c.push_reserved.ensures.len most (omega (arith, below, most))
+    let sound = settled_sound (vec_len s.log.entries) (vec_len c.push.new.self.entries) m h j c.args.outcome.turns c.args.outcome.want (plain s.state) t.count xs
+    t.sessions.items t.rights x e c.settle.ensures.plain c.push.ensures.len most (omega (arith, below, most))
     (λ k d l. let g = granted_below m ys h j c.requires.out s.grants k d l in omega (arith, g, most)) s.sound in
+    let u = settled m h j c.args.outcome.turns c.args.outcome.want (plain s.state) in
+    let same : plain t ≡ u = c.settle.ensures.plain in
+    let reserving = settled_reserving m h j c.args.outcome.turns c.args.outcome.want (plain s.state) s.reserving.words c.wake.new.reserving.words s.waiting
+    (subst (λ (z : State). (k : ℕ) → is_member c.wake.new.reserving.words k ≡ (if k == h then is_reserving (z.handlers h).stage else is_member s.reserving.words k))
+    same c.wake.ensures.reserving) in
     record {
       counted = omega (arith, total, counted);
       there = rw c.settle.ensures.version there;
       grants = rw c.settle.ensures.version grants;
       sound = sound;
-      tried = all_candidates c.fill.new.self.words (center t.count (slice_set xs h (with_job None x)) t.sessions.items t.rights s.last) sound.within c.fill.ensures;
+      tried = subst (AreCandidates c.wake.new.candidates.words) (sym (settled_center t.count xs t.sessions.items t.rights s.last h x u (out_at ys) e c.settle.ensures.plain c.settle.ensures.outs))
+          (settled_candidates m h j c.args.outcome.turns c.args.outcome.want (center_of s) s.candidates.words c.touch.new.candidates.words
+          c.wake.new.reserving.words c.wake.new.candidates.words (subst (λ (z : State). z.count ≤ 512) same sound.within) s.tried reserving c.touch.ensures
+          (subst (λ (z : State). (k : ℕ) → k < 512 → is_member c.wake.new.candidates.words k ≡
+          (is_some (z.handlers h).failure || (is_member c.touch.new.candidates.words k || (frees j c.args.outcome.want && is_member c.wake.new.reserving.words k)))) same
+          (rw c.frees-is_freeing.ensures at c.wake.ensures.candidates)));
+      waiting = same_reserving c.wake.new.reserving.words xs t.sessions.items h x None e (subst (λ (z : State). AreReserving c.wake.new.reserving.words z.handlers) (sym same) reserving);
     }
 
 pub returns-clause-center : goal.returns-clause-center
@@ -109,7 +126,14 @@ returns-clause-room c = λ n r.
     let counted = s.counted in
     let spared = c.settle.ensures.places in
     let places = r.places in
-    let entries = r.entries in
-    let longer = c.push_reserved.ensures.len in
-    let kept = c.push_reserved.ensures.capacity in
-    record { places = omega (arith, total, counted, spared, places); entries = omega (arith, total, counted, entries, longer, kept) }
+    let rest = c.push.ensures.kept (out_total (slice_set xs h (with_job None x)) + n) (record {
+      entries = omega (arith, total, counted, r.entries);
+      actuals = omega (arith, total, counted, r.actuals);
+      handlers = omega (arith, total, counted, r.handlers);
+    }) in
+    record {
+      places = omega (arith, total, counted, spared, places);
+      entries = omega (arith, total, counted, rest.entries);
+      actuals = omega (arith, total, counted, rest.actuals);
+      handlers = omega (arith, total, counted, rest.handlers);
+    }

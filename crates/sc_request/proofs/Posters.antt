@@ -1,0 +1,34 @@
+-- Those who may hear from a handler, in its place in memory.
+use Rattle.std.proofs.Common.{◌≡◌, ◌||◌, ℕ, Bool, true, false, List, [], ◌∷◌, Some, refl, sym, ap, ◌∙◌}
+use Rattle.std.specs.Prelude.{map, slice_get}
+use Rattle.sc_request.specs.declared.handler.Posting.{Posting}
+use Rattle.sc_request.specs.declared.handler.Handler as coded
+use Rattle.sc_request.specs.Handlers.{Service, Handler}
+use Rattle.sc_request.specs.Sessions.{to_list}
+use Rattle.sc_request.specs.Tables.{first_posted, handler_at, posting_of, service_of}
+use Rattle.sc_request.specs.Candidates.{may_hear_from, posted_first}
+use Rattle.sc_request.proofs.Placing.{handler_is}
+
+served_first : (k : ℕ) (ps : List Posting) → posted_first k (map posting_of ps) ≡ posted_first k (map (λ (v : Service). v.posted) (map service_of ps))
+served_first k [] = refl
+served_first k (p ∷ ps) = refl
+
+callback_first : (k : ℕ) (ps : List Posting) → posted_first k (map posting_of ps) ≡ posted_first k (to_list (first_posted ps))
+callback_first k [] = refl
+callback_first k (p ∷ ps) = refl
+
+any_of_three : (a b c d : Bool) → (a || (b || (c || d))) ≡ ((a || (b || c)) || d)
+any_of_three true b c d = refl
+any_of_three false true c d = refl
+any_of_three false false c d = refl
+
+pub touched_posters : (x : coded.Handler) (xs : List coded.Handler) (sessions : List ℕ) (h k : ℕ) (old m n new : Bool) → slice_get xs h ≡ Some x →
+    m ≡ (posted_first k (map posting_of x.callback) || old) → n ≡ (posted_first k (map posting_of x.queue) || m) →
+    new ≡ (posted_first k (map posting_of x.services) || n) → new ≡ (may_hear_from (handler_at xs sessions h) k || old)
+touched_posters x xs sessions h k old m n new e first second third =
+    let q = posted_first k (map posting_of x.queue) in
+    let s = posted_first k (map posting_of x.services) in
+    let c = posted_first k (to_list (first_posted x.callback)) in
+    third ∙ ap (λ b. s || b) second ∙ ap (λ b. s || (q || b)) first ∙ ap (λ b. s || (q || (b || old))) (callback_first k x.callback)
+    ∙ ap (λ b. b || (q || (c || old))) (served_first k x.services) ∙ any_of_three _ q c old
+    ∙ ap (λ (y : Handler). may_hear_from y k || old) (sym (handler_is xs sessions h x e))

@@ -1,0 +1,167 @@
+-- Who reserves: a settlement lets no other handler than the settled one come to a reserve step.
+use Rattle.std.proofs.Common.{◌≡◌, ◌==◌, ◌&&◌, ℕ, Bool, true, false, List, [], ◌∷◌, Option, Some, None, refl, sym, ap, ◌∙◌, inl, inr, slice_set}
+use Rattle.std.proofs.lemmas.Bool.{cases_Bool, cases_eq, eq-eqb, ne_eqb}
+use Rattle.std.specs.Prelude.{nat_lt, slice_get, if◌then◌else◌}
+use Rattle.std.specs.List.{list_any}
+use Rattle.arrayvec.specs.ArrayVec.{ArrayVec}
+use Rattle.sc_lockpass.specs.Rights.{is_among, is_handler}
+use Rattle.sc_lockpass.specs.Tables.{is_member}
+use Rattle.sc_waitcond.specs.Reservations.{ends_session}
+use Rattle.sc_waitcond.specs.declared.session.Release.{Release}
+use Rattle.sc_waitcond.specs.declared.session.Release.TheVariants as release_at
+use Rattle.sc_model.specs.declared.cause.Cause.{Cause}
+use Rattle.sc_model.specs.declared.cause.Cause.TheVariants as cause
+use Rattle.sc_region.specs.declared.value.Value.{Value}
+use Rattle.sc_region.specs.declared.job.Request.{Request}
+use Rattle.sc_region.specs.declared.job.Job.{Job}
+use Rattle.sc_region.specs.declared.job.Want.{Want}
+use Rattle.sc_region.specs.declared.job.Want.TheVariants as want
+use Rattle.sc_request.specs.declared.handler.Handler as coded
+use Rattle.sc_request.specs.Handlers.{Posted, posted, Answer, Replied, Refused, HasMade, Awaits, Service, Handler, State, put, with_stage}
+use Rattle.sc_request.specs.Sessions.{session_ended, release, passed_if, placed, send, is_callback, with_handler, answered, answer_to, return_rights, finish, requests_at, is_waited_by, told, fail}
+use Rattle.sc_request.specs.Settling.{begun, awaits_if, sends, asks, creation, creates_with, creates, counted_refusal, ends, done, posts_unheld, may_ask, done_if, fits_turns, settled}
+use Rattle.sc_request.specs.Tables.{handler_at}
+use Rattle.sc_request.specs.Candidates.{AreReserving, is_reserving}
+use Rattle.sc_request.proofs.Outs.{same_handler, with_job}
+use Rattle.sc_request.proofs.Untouched.{asks_so, awaited_other, begun_other, either, passed_on, put_other, returned_rights}
+
+-- ---- stages
+
+put_stage : (q k : ℕ) (x : Handler) (s : State) → x.stage ≡ (s.handlers q).stage → ((put q x s).handlers k).stage ≡ (s.handlers k).stage
+put_stage q k x s e = elim (cases_eq k q) [
+  | inl is ↦ rw (eq-eqb k q is) (e ∙ ap (λ i. (s.handlers i).stage) (sym is))
+  | inr apart ↦ rw (ne_eqb k q apart) refl
+]
+
+placed_stage : (b : Bool) (p : Posted) (x : Handler) → (placed b p x).stage ≡ x.stage
+placed_stage true p x = refl
+placed_stage false p x = refl
+
+ended_stage : (b : Bool) (x : Handler) → (session_ended b x).stage ≡ x.stage
+ended_stage true x = refl
+ended_stage false x = refl
+
+told_stage : (b : Bool) (x : Handler) → (told b x).stage ≡ x.stage
+told_stage true x = refl
+told_stage false x = refl
+
+released_stage : (how : Release) (ks : List ℕ) (s : State) (k : ℕ) → ((release how ks s).handlers k).stage ≡ (s.handlers k).stage
+released_stage how ks s k = ended_stage (ends_session how && is_among k ks) (s.handlers k)
+
+-- where the handler's next step is a reserve step in the second state, it is in the first
+abbrev Reserved : ℕ → State → State → Type 0
+Reserved k s t = is_reserving (t.handlers k).stage ≡ true → is_reserving (s.handlers k).stage ≡ true
+
+by_stage : (k : ℕ) (s t : State) → (t.handlers k).stage ≡ (s.handlers k).stage → Reserved k s t
+by_stage k s t e is = ap is_reserving (sym e) ∙ is
+
+fail_reserved : (h k : ℕ) (why : Cause) (s : State) → (k == h) ≡ false → Reserved k s (fail h why s)
+fail_reserved h k why s apart =
+    let b = list_any (is_waited_by k) (requests_at (s.handlers h)) in
+    by_stage k s (fail h why s) (rw apart (ended_stage (is_handler h (s.rights.queue k)) (told b (s.handlers k)) ∙ told_stage b (s.handlers k)))
+
+-- ---- requests
+
+sends_stage : (h k : ℕ) (r : Request) (passing waits : Bool) (s : State) → (k == h) ≡ false →
+    ((sends h r.target.handler r passing waits s).handlers k).stage ≡ (s.handlers k).stage
+sends_stage h k r passing waits s apart =
+    let i = r.target.handler in
+    let t = awaits_if waits h i s in
+    let b = is_callback h i s in
+    let p = posted (record r { is_waited = waits }) (passed_if passing h s.rights) in
+    ap (λ (x : Handler). x.stage) (passed_on passing h i (send b i p t) k) ∙ put_stage i k (placed b p (t.handlers i)) t (placed_stage b p (t.handlers i))
+    ∙ ap (λ (x : Handler). x.stage) (awaited_other waits h i k s apart)
+
+asks_reserved : (h k : ℕ) (r : Request) (passing : Bool) (s : State) → (k == h) ≡ false → Reserved k s (asks h r passing s)
+asks_reserved h k r passing s apart =
+    asks_so (Reserved k s) h r passing s (λ why. fail_reserved h k why s apart)
+    (λ waits. by_stage k s (sends h r.target.handler r passing waits s) (sends_stage h k r passing waits s apart))
+
+-- ---- a handler is made
+
+made_reserved : (m h k : ℕ) (s : State) → Reserved k s (with_handler m h s)
+made_reserved m h k s is = elim (cases_Bool (k == m)) [
+  | inl same ↦ let never = rw same at is in cc
+  | inr apart ↦ rw apart at is
+]
+
+creates_stage : (passing : Bool) (h m k : ℕ) (r : Request) (s : State) → (k == h) ≡ false →
+    ((creates_with passing h m r s).handlers k).stage ≡ (s.handlers k).stage
+creates_stage true h m k r s apart =
+    let t = with_stage h (Awaits m true) s in
+    put_stage m k (placed false (posted r (passed_if true h s.rights)) (t.handlers m)) t refl ∙ ap (λ (x : Handler). x.stage) (put_other h k _ s apart)
+creates_stage false h m k r s apart =
+    let t = with_stage h (HasMade m) s in
+    released_stage release_at.Creation (m ∷ []) (send false m (posted r None) t) k
+    ∙ put_stage m k (placed false (posted r None) (t.handlers m)) t refl ∙ ap (λ (x : Handler). x.stage) (put_other h k _ s apart)
+
+creates_reserved : (most h k class : ℕ) (procedure : Option ℕ) (actuals : ArrayVec Value) (passing : Bool) (s : State) → (k == h) ≡ false →
+    Reserved k s (creates most h class procedure actuals passing s)
+creates_reserved most h k class procedure actuals passing s apart =
+    let t = with_handler s.count h s in
+    let r = creation h s.count class procedure actuals passing in
+    either (Reserved k s) (nat_lt s.count most) _ _
+    (λ is. made_reserved s.count h k s (by_stage k t (creates_with passing h s.count r t) (creates_stage passing h s.count k r t apart) is))
+    (fail_reserved h k cause.TooManyHandlers s apart)
+
+-- ---- a request ends
+
+answered_stage : (is_waited : Bool) (poster : Option ℕ) (a : Answer) (k : ℕ) (s : State) → ((answer_to is_waited poster a s).handlers k).stage ≡ (s.handlers k).stage
+answered_stage true (Some p) a k s = put_stage p k (answered a (s.handlers p)) s refl
+answered_stage true None a k s = refl
+answered_stage false poster a k s = refl
+
+finished_stage : (p : Posted) (a : Answer) (k : ℕ) (s : State) → ((finish p a s).handlers k).stage ≡ (s.handlers k).stage
+finished_stage p a k s =
+    answered_stage p.request.is_waited p.request.poster a k (return_rights p.passed s) ∙ ap (λ (x : Handler). x.stage) (returned_rights p.passed s k)
+
+ends_reserved : (h k : ℕ) (v : Option Value) (ks : List ℕ) (refused : Bool) (es : List Service) (s : State) → (k == h) ≡ false →
+    Reserved k s (ends h v ks refused es s)
+ends_reserved h k v ks refused [] s apart = fail_reserved h k cause.BadCode s apart
+ends_reserved h k v ks false (e ∷ es) s apart =
+    let t = put h (record (s.handlers h) { stage = e.over; services = es }) s in
+    by_stage k s (ends h v ks false (e ∷ es) s) (finished_stage e.posted (Replied v) k (release release_at.Exit ks t)
+    ∙ released_stage release_at.Exit ks t k ∙ ap (λ (x : Handler). x.stage) (put_other h k _ s apart))
+ends_reserved h k v ks true (e ∷ es) s apart =
+    let t = put h (counted_refusal e.posted.request.is_waited (record (s.handlers h) { stage = e.over; services = es })) s in
+    by_stage k s (ends h v ks true (e ∷ es) s) (finished_stage e.posted Refused k (release release_at.Refusal ks t)
+    ∙ released_stage release_at.Refusal ks t k ∙ ap (λ (x : Handler). x.stage) (put_other h k _ s apart))
+
+-- ---- what the last turn asks
+
+done_reserved : (most h k : ℕ) (w : Want) (s : State) → (k == h) ≡ false → Reserved k s (done most h w s)
+done_reserved most h k want.Continue s apart = λ is. is
+done_reserved most h k (want.Reserve ks) s apart = by_stage k s (done most h (want.Reserve ks) s) (ap (λ (x : Handler). x.stage) (put_other h k _ s apart))
+done_reserved most h k (want.Post r) s apart = asks_reserved h k r false s apart
+done_reserved most h k (want.Ask r passing) s apart = asks_reserved h k r passing s apart
+done_reserved most h k (want.Create class procedure actuals passing) s apart = creates_reserved most h k class procedure actuals passing s apart
+done_reserved most h k (want.Release ks) s apart = by_stage k s (release release_at.Leave ks.items s) (released_stage release_at.Leave ks.items s k)
+done_reserved most h k (want.Wait ks) s apart = by_stage k s (done most h (want.Wait ks) s) (ap (λ (x : Handler). x.stage) (put_other h k _ s apart))
+done_reserved most h k (want.Done v ks refused) s apart = ends_reserved h k v ks.items refused (s.handlers h).services s apart
+done_reserved most h k (want.Fail why) s apart = fail_reserved h k why s apart
+
+asked_reserved : (unheld fits : Bool) (most h k : ℕ) (w : Want) (s : State) → (k == h) ≡ false → Reserved k s (done_if unheld fits most h w s)
+asked_reserved true fits most h k w s apart = fail_reserved h k cause.NotHeld s apart
+asked_reserved false true most h k w s apart = done_reserved most h k w s apart
+asked_reserved false false most h k w s apart = fail_reserved h k cause.BadCode s apart
+
+settled_reserved : (most h : ℕ) (j : Job) (turns : ℕ) (w : Want) (s : State) (k : ℕ) → (k == h) ≡ false → Reserved k s (settled most h j turns w s)
+settled_reserved most h j turns w s k apart is =
+    let t = begun h j s in
+    by_stage k s t (ap (λ (x : Handler). x.stage) (begun_other h k j s apart))
+    (asked_reserved (posts_unheld h w t) (fits_turns turns (s.handlers h).stage j w && may_ask h w t) most h k w t apart is)
+
+-- ---- the set of those who reserve
+
+pub settled_reserving : (most h : ℕ) (j : Job) (turns : ℕ) (w : Want) (s : State) (words later : List ℕ) → AreReserving words s.handlers →
+    ((k : ℕ) → is_member later k ≡ (if k == h then is_reserving ((settled most h j turns w s).handlers h).stage else is_member words k)) →
+    AreReserving later (settled most h j turns w s).handlers
+settled_reserving most h j turns w s words later all l k is = elim (cases_eq k h) [
+  | inl same ↦ l k ∙ rw (eq-eqb k h same) (ap (λ i. is_reserving ((settled most h j turns w s).handlers i).stage) (sym same) ∙ is)
+  | inr apart ↦ l k ∙ rw (ne_eqb k h apart) (all k (settled_reserved most h j turns w s k (ne_eqb k h apart) is))
+]
+
+-- whoever is out with whatever
+pub same_reserving : (words : List ℕ) (xs : List coded.Handler) (sessions : List ℕ) (h : ℕ) (x : coded.Handler) (o : Option Job) → slice_get xs h ≡ Some x →
+    AreReserving words (handler_at xs sessions) → AreReserving words (handler_at (slice_set xs h (with_job o x)) sessions)
+same_reserving words xs sessions h x o e all k is = all k (ap (λ (y : Handler). is_reserving y.stage) (sym (same_handler xs sessions h k x o e)) ∙ is)

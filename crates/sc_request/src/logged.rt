@@ -1,0 +1,146 @@
+//! The log of settlements.
+ghost use Rattle.std.specs.Prelude.{◌≡◌, ◌≤◌, ◌+◌, ◌++◌, ◌==◌, length, vec_capacity, vec_len};
+ghost use Rattle.std.specs.List.{All};
+ghost use Rattle.sc_request.specs.Entries.{IsWithin, settlement_in};
+
+use crate::packed::{
+    PackedJob, PackedWant, job_actuals, job_handlers, pack_job, pack_want, want_actuals,
+    want_handlers,
+};
+use crate::settlement::Settlement;
+use sc_region::{Job, Value, Want};
+use std::alloc::{AllocError, Global};
+
+/// A settlement, but for its actuals and handlers.
+#[derive(Clone, Copy)]
+struct LogEntry {
+    handler: u16,
+    turns: u32,
+    job: PackedJob,
+    want: PackedWant,
+    /// Where the actuals of its job begin. Those of its want lie behind them.
+    first_actual: usize,
+    /// Where the handlers of its job begin. Those of its want lie behind them.
+    first_handler: usize,
+}
+
+/// Settlements, the first one first.
+///
+/// Each takes an entry, and what its requests and lists of handlers have lies beside, with that of the others.
+#[derive(Drop)]
+pub struct Log {
+    entries: Vec<LogEntry>,
+    actuals: Vec<Value>,
+    handlers: Vec<u16>,
+    ghost within: { All (IsWithin (length actuals.items) (length handlers.items)) entries.items },
+}
+
+impl Log {
+    ghost use Rattle.std.specs.Prelude.{◌∷◌, [], ℕ, OnErr, OnOk, slice_get};
+    ghost use Rattle.std.specs.Option.{option_map};
+    ghost use Rattle.sc_request.specs.Logged.{HasPlaces, settlements_of};
+
+    /// One with no settlement. What grows takes its memory from this allocator.
+    pub(crate) fn new(alloc: Global) -> Log
+        ensures settlements { settlements_of result ≡ [] }
+        ensures len { vec_len result.entries ≡ 0 }
+    {
+        Log {
+            entries: Vec::new(alloc),
+            actuals: Vec::new(alloc),
+            handlers: Vec::new(alloc),
+        }
+    }
+
+    /// How many settlements there are.
+    pub fn len(&self) -> usize
+        ensures { result ≡ length (settlements_of self.now) }
+    {
+        self.entries.len()
+    }
+
+    /// Whether there is no settlement.
+    pub fn is_empty(&self) -> bool
+        ensures { result ≡ (length (settlements_of self.now) == 0) }
+    {
+        self.entries.is_empty()
+    }
+
+    /// The handler of the settlement at a place.
+    pub fn handler_at(&self, place: usize) -> Option<u16>
+        ensures { result ≡ option_map (λ s. s.handler) (slice_get (settlements_of self.now) place) }
+    {
+        Some(self.entries.get(place)?.handler)
+    }
+
+    /// The settlement at a place. The time that it takes doesn't depend on how many there are.
+    pub fn get(&self, place: usize) -> Option<Settlement>
+        ensures { result ≡ slice_get (settlements_of self.now) place }
+    {
+        let entry = *self.entries.get(place)?;
+        Some(settlement_at(entry, self.actuals.as_slice(), self.handlers.as_slice()))
+    }
+
+    /// Makes room for so many settlements. Err where there is no memory.
+    pub(crate) fn reserve(&mut self, more: usize) -> Result<(), AllocError>
+        requires few { more ≤ 1024 }
+        ensures ok { OnOk result (HasPlaces more self.new) }
+        ensures err { OnErr result (HasPlaces more self.old → ⊥) }
+        ensures settlements { settlements_of self.new ≡ settlements_of self.old }
+        ensures len { vec_len self.new.entries ≡ vec_len self.old.entries }
+        ensures kept { (n : ℕ) → HasPlaces n self.old → HasPlaces n self.new }
+    {
+        self.entries.reserve(more)?;
+        self.actuals.reserve(32 * more)?;
+        self.handlers.reserve(32 * more)
+    }
+
+    /// Adds the settlement of a handler, where there is room.
+    pub(crate) fn push(&mut self, handler: u16, job: &Job, turns: u32, want: &Want)
+        requires room { HasPlaces 1 self.old }
+        ensures settlements { settlements_of self.new ≡ settlements_of self.old ++ record { handler = handler; job = job.now; turns = turns; want = want.now } ∷ [] }
+        ensures len { vec_len self.new.entries ≡ vec_len self.old.entries + 1 }
+        ensures kept { (n : ℕ) → HasPlaces (n + 1) self.old → HasPlaces n self.new }
+    {
+        let entry = LogEntry {
+            handler,
+            turns,
+            job: pack_job(job),
+            want: pack_want(want),
+            first_actual: self.actuals.len(),
+            first_handler: self.handlers.len(),
+        };
+        append(&mut self.actuals, job_actuals(job));
+        append(&mut self.actuals, want_actuals(want));
+        append(&mut self.handlers, job_handlers(job));
+        append(&mut self.handlers, want_handlers(want));
+        self.entries.push_reserved(entry);
+    }
+}
+
+/// Adds to the end, where there is room.
+fn append<T: Copy>(items: &mut Vec<T>, more: &[T])
+    requires { vec_len items.old + length more.now ≤ vec_capacity items.old }
+    ensures items { items.new.items ≡ items.old.items ++ more.now }
+    ensures len { vec_len items.new ≡ vec_len items.old + length more.now }
+    ensures capacity { vec_capacity items.old ≤ vec_capacity items.new }
+{
+    let _ = items.extend_from_slice(more);
+}
+
+/// What the entry tells, with the actuals and the handlers of all entries.
+fn settlement_at(entry: LogEntry, actuals: &[Value], handlers: &[u16]) -> Settlement
+    requires { IsWithin (length actuals.now) (length handlers.now) entry }
+    ensures { result ≡ settlement_in actuals.now handlers.now entry }
+{
+    let job_actuals = &actuals[entry.first_actual..];
+    let job_handlers = &handlers[entry.first_handler..];
+    let want_actuals = &actuals[entry.first_actual + entry.job.actuals()..];
+    let want_handlers = &handlers[entry.first_handler + entry.job.handlers()..];
+    Settlement {
+        handler: entry.handler,
+        job: entry.job.unpack(job_actuals, job_handlers),
+        turns: entry.turns,
+        want: entry.want.unpack(want_actuals, want_handlers),
+    }
+}

@@ -1,0 +1,131 @@
+//! Whom a settlement gives something to do.
+ghost use Rattle.std.specs.Prelude.{◌≡◌, ◌==◌, ◌<◌, ◌&&◌, ◌||◌, ℕ, if◌then◌else◌, is_some, map};
+ghost use Rattle.sc_lockpass.specs.Rights.{is_handler};
+ghost use Rattle.sc_lockpass.specs.Tables.{is_member};
+ghost use Rattle.sc_request.specs.Candidates.{frees, frees_by, frees_under, is_reserving, may_hear_from, posted_first, touches};
+ghost use Rattle.sc_request.specs.Places.{plain};
+ghost use Rattle.sc_request.specs.Tables.{posting_of};
+
+use crate::handler::{Posting, Stage};
+use crate::handler_set::HandlerSet;
+use crate::state::State;
+use sc_region::{Job, Want};
+use std::collections::LinkedList;
+
+impl State {
+    /// Adds the handler that is to be settled, and each other one that its turn touches if it asks this and doesn't
+    /// fail.
+    pub(crate) fn touch(&self, handler: u16, want: &Want, candidates: &mut HandlerSet)
+        requires { handler < 512 }
+        ensures { (k : ℕ) → k < 512 → is_member candidates.new.words k ≡ (k == handler || (touches handler want.now (plain self.now) k || is_member candidates.old.words k)) }
+    {
+        match want {
+            Want::Post(request) => candidates.admit(request.target.handler as usize),
+            Want::Ask { request, passes: _ } => {
+                candidates.admit(request.target.handler as usize);
+            }
+            Want::Create {
+                class: _,
+                procedure: _,
+                actuals: _,
+                passes: _,
+            } => candidates.admit(self.count),
+            Want::Done {
+                reply: _,
+                released: _,
+                refused: _,
+            } => self.touch_posters(handler as usize, candidates),
+            Want::Continue | Want::Reserve(_) | Want::Release(_) | Want::Wait(_) | Want::Fail(_) =>
+                {}
+        }
+        candidates.insert(handler as usize);
+    }
+
+    /// Adds those that posted what a handler serves, or takes next.
+    fn touch_posters(&self, handler: usize, candidates: &mut HandlerSet)
+        requires { handler < 512 }
+        ensures { (k : ℕ) → k < 512 → is_member candidates.new.words k ≡ (may_hear_from ((plain self.now).handlers handler) k || is_member candidates.old.words k) }
+    {
+        let place = &self.handlers[handler];
+        touch_first(&place.callback, candidates);
+        touch_first(&place.queue, candidates);
+        touch_first(&place.services, candidates);
+    }
+
+    /// Notes whether a handler that was settled waits to reserve. Then it adds those that do, where what they need may
+    /// be free from now on, and all where the handler has failed.
+    pub(crate) fn wake(
+        &self,
+        handler: u16,
+        is_freeing: bool,
+        reserving: &mut HandlerSet,
+        candidates: &mut HandlerSet,
+    )
+        requires { handler < 512 }
+        ensures reserving { (k : ℕ) → is_member reserving.new.words k ≡ (if k == handler then is_reserving ((plain self.now).handlers handler).stage else is_member reserving.old.words k) }
+        ensures candidates { (k : ℕ) → k < 512 → is_member candidates.new.words k ≡ (is_some ((plain self.now).handlers handler).failure || (is_member candidates.old.words k || (is_freeing && is_member reserving.new.words k))) }
+    {
+        reserving.set(handler as usize, self.is_reserving(handler as usize));
+        if self.has_failed(handler as usize) {
+            candidates.fill();
+        } else if is_freeing {
+            candidates.add(reserving);
+        }
+    }
+
+    /// Whether the next step of a handler is a reserve step.
+    fn is_reserving(&self, handler: usize) -> bool
+        requires { handler < 512 }
+        ensures { result ≡ is_reserving ((plain self.now).handlers handler).stage }
+    {
+        match self.handlers[handler].stage {
+            Stage::Reserves => true,
+            Stage::Idle
+            | Stage::Runs
+            | Stage::HasMade(_)
+            | Stage::Awaits {
+                supplier: _,
+                is_creation: _,
+            } => false,
+        }
+    }
+}
+
+/// Whether the settlement under this job, of a turn that asks this, may free what another handler waits to reserve,
+/// unless it fails its handler.
+pub(crate) fn frees(job: &Job, want: &Want) -> bool
+    ensures { result ≡ frees job.now want.now }
+{
+    frees_under(job) || frees_by(want)
+}
+
+fn frees_under(job: &Job) -> bool
+    ensures { result ≡ frees_under job.now }
+{
+    match job {
+        Job::Granted(_) | Job::Made(_) => true,
+        Job::Take(_) | Job::Reply(_) | Job::Failed | Job::Refused | Job::Go => false,
+    }
+}
+
+fn frees_by(want: &Want) -> bool
+    ensures { result ≡ frees_by want.now }
+{
+    match want {
+        Want::Continue | Want::Reserve(_) | Want::Post(_) | Want::Fail(_) => false,
+        Want::Ask { request: _, passes } => *passes,
+        _ => true,
+    }
+}
+
+/// Adds the poster of the first of these, if there is one.
+fn touch_first(postings: &LinkedList<Posting>, candidates: &mut HandlerSet)
+    ensures { (k : ℕ) → k < 512 → is_member candidates.new.words k ≡ (posted_first k (map posting_of postings.now) || is_member candidates.old.words k) }
+{
+    let Some(first) = postings.front() else {
+        return;
+    };
+    if let Some(poster) = first.request.poster {
+        candidates.admit(poster as usize);
+    }
+}
