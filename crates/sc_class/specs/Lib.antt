@@ -5,3 +5,4 @@ pub mod SystemIn
 pub mod Tables
 pub mod Faults
 pub mod Internal
+pub use Rattle.sc_tree.specs.Plain

@@ -11,7 +11,7 @@ use Rattle.sc_formula.specs.Term as term
 use Rattle.sc_model.proofs.Texts as text
 use Rattle.sc_model.proofs.Texts.{integer, number, entity, both, routine, procedure, class, application, system, heir_of, root}
 use Rattle.sc_model.specs.Values as value
-use Rattle.sc_typing.specs.FeatureNumbers.{all_features}
+use Rattle.sc_rules.specs.FeatureNumbers.{all_features}
 use Rattle.sc_code.specs.Operations.{Operation, PushInteger, CallRoutine, StoreAttribute, StoreResult, Exit}
 use Rattle.sc_code.specs.declared.program.Image.{Image}
 use Rattle.sc_code.specs.declared.program.Version.TheVariants as version

@@ -12,3 +12,4 @@ pub mod Programs
 pub mod RequestRoom
 pub mod CheckedImages
 pub mod Invariants
+pub use Rattle.sc_model.specs.declared.cause.Cause

@@ -16,7 +16,7 @@ use Rattle.sc_proctype.specs.declared.entity_type.EntityType.{EntityType}
 use Rattle.sc_rules.specs.Types.{is_foreign}
 use Rattle.sc_rules.specs.Names as names
 use Rattle.sc_rules.specs.Names.{Entity, Entities}
-use Rattle.sc_typing.specs.FeatureNumbers.{all_features, feature_number}
+use Rattle.sc_rules.specs.FeatureNumbers.{all_features, feature_number}
 use Rattle.sc_model.specs.Values.{Value, default_of}
 use Rattle.sc_model.specs.Environments.{Binding}
 use Rattle.sc_model.specs.Objects.{fresh_attributes}

@@ -16,4 +16,5 @@ mod site;
 pub use operation::{DefaultValue, Operation};
 pub use program::lookup::Program;
 pub use program::{AttributeCode, ClassCode, ConstantPool, Image, RoutineCode, Version};
+pub use sc_model::Cause;
 pub use site::{CallSite, CreationSite, Heads, ObjectTest, Residence, TestedType};

@@ -2,10 +2,10 @@
 use Rattle.std.proofs.Common.{◌≡◌, ℕ, Bool, true, false, List, Option, Some, None, ◌&&◌, refl, sym, subst, ◌∙◌}
 use Rattle.std.specs.Prelude.{slice_get, if◌then◌else◌}
 use Rattle.std.specs.Option.{option_map_or}
-use Rattle.sc_tree.specs.Plain.{System}
-use Rattle.sc_class.specs.declared.identity.ClassId.{ClassId}
-use Rattle.sc_class.specs.declared.identity.ClassId.TheVariants as class
-use Rattle.sc_class.specs.Tables.Conformance.{is_expanded, class_conforms}
+use Rattle.sc_proctype.specs.Plain.{System}
+use Rattle.sc_proctype.specs.ClassId.{ClassId}
+use Rattle.sc_proctype.specs.ClassId.TheVariants as class
+use Rattle.sc_proctype.specs.ClassConformance.{is_expanded, class_conforms}
 use Rattle.sc_proctype.specs.declared.tag.Reserved.{Reserved}
 use Rattle.sc_proctype.specs.declared.tag.Reserved.TheVariants.{Formal, BlockName}
 use Rattle.sc_proctype.specs.declared.tag.Tag.{Tag}

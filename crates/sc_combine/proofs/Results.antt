@@ -1,7 +1,7 @@
 -- The result combiner gives `own` to no result of a target elsewhere, and the least tag that a result may be taken for.
 use Rattle.std.proofs.Common.{◌≡◌, Bool, true, false, refl, ◌∙◌}
 use Rattle.std.specs.Prelude.{if◌then◌else◌}
-use Rattle.sc_class.specs.Tables.Conformance.{is_expanded}
+use Rattle.sc_proctype.specs.ClassConformance.{is_expanded}
 use Rattle.sc_proctype.specs.declared.tag.Tag.{Tag}
 use Rattle.sc_proctype.specs.declared.tag.Tag.TheVariants as tag
 use Rattle.sc_proctype.specs.declared.entity_type.EntityType.{EntityType}

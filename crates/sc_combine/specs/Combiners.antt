@@ -1,7 +1,7 @@
 -- The type of a query's result, and the type that an actual must conform to, both seen by the caller.
 use Rattle.std.specs.Prelude.{true, List, slice_get, if◌then◌else◌}
 use Rattle.std.specs.Option.{option_map_or}
-use Rattle.sc_class.specs.Tables.Conformance.{is_expanded}
+use Rattle.sc_proctype.specs.ClassConformance.{is_expanded}
 use Rattle.sc_proctype.specs.declared.tag.Reserved.TheVariants.{Formal, BlockName}
 use Rattle.sc_proctype.specs.declared.tag.Tag.{Tag}
 use Rattle.sc_proctype.specs.declared.tag.Tag.TheVariants as tag

@@ -1,7 +1,7 @@
 -- Laws of the combiners.
 use Rattle.std.specs.Prelude.{◌≡◌, true, false, List}
-use Rattle.sc_tree.specs.Plain.{System}
-use Rattle.sc_class.specs.Tables.Conformance.{is_expanded}
+use Rattle.sc_proctype.specs.Plain.{System}
+use Rattle.sc_proctype.specs.ClassConformance.{is_expanded}
 use Rattle.sc_proctype.specs.declared.tag.Tag.{Tag}
 use Rattle.sc_proctype.specs.declared.tag.Tag.TheVariants as tag
 use Rattle.sc_proctype.specs.declared.entity_type.EntityType.{EntityType}

@@ -27,7 +27,7 @@ use Rattle.sc_class.specs.declared.identity.ClassId.TheVariants as class
 use Rattle.sc_proctype.specs.declared.entity_type.EntityType.{EntityType}
 use Rattle.sc_proctype.specs.declared.tag.Tag.TheVariants as tag
 use Rattle.sc_proctype.specs.Conformance.{void, integer, boolean}
-use Rattle.sc_combine.specs.Combiners.{result_tag, combined_result}
+use Rattle.sc_rules.specs.Combiners.{result_tag, combined_result}
 use Rattle.sc_rules.specs.declared.position.Context.TheVariants as context
 use Rattle.sc_rules.specs.declared.position.Position.{Position}
 use Rattle.sc_rules.specs.declared.position.Position.TheVariants as spot

@@ -1,6 +1,6 @@
 -- Conformance: which values may be attached to what (ECMA-367, 8.14), with the tags of SCOOP.
 use Rattle.std.specs.Prelude.{Bool, true, false, not, ◌&&◌, ◌||◌}
-use Rattle.sc_tree.specs.Plain.{System}
+use Rattle.sc_class.specs.Plain.{System}
 use Rattle.sc_class.specs.declared.identity.ClassId.TheVariants as class
 use Rattle.sc_class.specs.Tables.Conformance.{class_conforms}
 use Rattle.sc_proctype.specs.declared.tag.Tag.TheVariants as tag

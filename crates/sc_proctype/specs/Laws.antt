@@ -1,6 +1,6 @@
 -- Laws of conformance.
 use Rattle.std.specs.Prelude.{◌≡◌, ◌<◌, ◌⊎◌, ◌↔◌, ℕ, true, not, ◌&&◌, length}
-use Rattle.sc_tree.specs.Plain.{System}
+use Rattle.sc_class.specs.Plain.{System}
 use Rattle.sc_class.specs.declared.identity.ClassId.{ClassId}
 use Rattle.sc_class.specs.declared.identity.ClassId.TheVariants as class
 use Rattle.sc_class.specs.Tables.Conformance.{is_expanded, class_conforms}

@@ -13,9 +13,8 @@ use crate::object::{Object, Objects};
 use crate::program::{class_at, routine_at};
 use crate::stack::Stack;
 use crate::value::{Reference, Value};
-use sc_code::Program;
+use sc_code::{Cause, Program};
 use sc_formula::{Atom, Formula};
-use sc_model::Cause;
 use std::alloc::{AllocError, Global};
 
 /// The most objects of a handler.

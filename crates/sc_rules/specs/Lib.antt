@@ -19,3 +19,5 @@ pub mod Versions
 pub mod TextLaws
 pub mod ScopeLaws
 pub mod PurityLaws
+pub mod FeatureNumbers
+pub use Rattle.sc_combine.specs.Combiners
