@@ -41,7 +41,7 @@ impl Log {
     ghost use Rattle.sc_request.specs.Logged.{HasPlaces, settlements_of};
 
     /// One with no settlement. What grows takes its memory from this allocator.
-    pub(crate) fn new(alloc: Global) -> Log
+    pub fn new(alloc: Global) -> Log
         ensures settlements { settlements_of result ≡ [] }
         ensures len { vec_len result.entries ≡ 0 }
     {
@@ -82,7 +82,7 @@ impl Log {
     }
 
     /// Makes room for so many settlements. Err where there is no memory.
-    pub(crate) fn reserve(&mut self, more: usize) -> Result<(), AllocError>
+    pub fn reserve(&mut self, more: usize) -> Result<(), AllocError>
         requires few { more ≤ 1024 }
         ensures ok { OnOk result (HasPlaces more self.new) }
         ensures err { OnErr result (HasPlaces more self.old → ⊥) }
@@ -96,7 +96,7 @@ impl Log {
     }
 
     /// Adds the settlement of a handler, where there is room.
-    pub(crate) fn push(&mut self, handler: u16, job: &Job, turns: u32, want: &Want)
+    pub fn push(&mut self, handler: u16, job: &Job, turns: u32, want: &Want)
         requires room { HasPlaces 1 self.old }
         ensures settlements { settlements_of self.new ≡ settlements_of self.old ++ record { handler = handler; job = job.now; turns = turns; want = want.now } ∷ [] }
         ensures len { vec_len self.new.entries ≡ vec_len self.old.entries + 1 }
