@@ -1,0 +1,5 @@
+use Rattle.sc_worklog.proofs.Replaying.{turns_replay}
+use Rattle.sc_worklog.proofs.laws.turns_replay.Goals as goal
+
+pub returns : goal.returns
+returns c = turns_replay

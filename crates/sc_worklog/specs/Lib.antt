@@ -1,0 +1,3 @@
+pub mod Replaying
+pub mod LoggedRegions
+pub mod Laws

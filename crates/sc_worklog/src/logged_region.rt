@@ -1,0 +1,114 @@
+//! A region with its log.
+ghost use Rattle.std.specs.Prelude.{◌≡◌, ◌++◌, ◌∷◌, []};
+ghost use Rattle.sc_request.specs.Logged.{HasPlaces, settlements_of};
+ghost use Rattle.sc_worklog.specs.Replaying.{Replays, entry_of};
+
+use sc_code::Program;
+use sc_play::Region;
+use sc_region::{Job, Outcome};
+use sc_request::Log;
+use std::alloc::{AllocError, Global};
+
+/// A region, and the log of the jobs that it played, the first one first.
+///
+/// Each entry has the job, the handler that played it, how many turns that made, and what the last of them asked. The log
+/// replays to the region.
+#[derive(Drop)]
+pub struct LoggedRegion<'p> {
+    region: Region<'p>,
+    log: Log,
+    pub ghost replays: { ∥ Replays region.store.program region.handler (settlements_of log) region ∥₁ },
+}
+
+/// Notes what a job came to, where there is room.
+fn note(log: &mut Log, job: &Job, outcome: &Outcome)
+    requires { HasPlaces 1 log.old }
+    ensures { settlements_of log.new ≡ settlements_of log.old ++ entry_of job.now outcome.now ∷ [] }
+{
+    log.push(outcome.handler, job, outcome.turns, &outcome.want);
+}
+
+impl<'p> LoggedRegion<'p> {
+    ghost use Rattle.std.specs.Prelude.{◌⊎◌, ◌↔◌, ◌≤◌, ◌&&◌, IfOk, IsTrue, OnErr, is_some, length};
+    ghost use Rattle.sc_region.specs.Classes.{MeetsAt};
+    ghost use Rattle.sc_region.specs.Objects.{object_numbered};
+    ghost use Rattle.sc_region.specs.Stores.{is_settled};
+    ghost use Rattle.sc_play.specs.Regions.{IsRefused, Plays, new_region};
+    ghost use Rattle.sc_worklog.specs.LoggedRegions.{entries_of, region_of};
+
+    /// The region of the handler of a number, which was asked for nothing yet, and a log with no entry. What grows later
+    /// takes its memory from this allocator.
+    pub fn new(alloc: Global, program: &'p Program, handler: u16) -> LoggedRegion<'p>
+        ensures region { region_of result ≡ new_region program.now.image handler }
+        ensures entries { entries_of result ≡ [] }
+    {
+        LoggedRegion {
+            region: Region::new(alloc, program, handler),
+            log: Log::new(alloc),
+        }
+    }
+
+    /// The first turn is that of the job; further ones follow as long as nothing is asked and fewer than `limit` are made.
+    /// Where memory is refused to one of these, they end before it. The log has one more entry then, that of the job and of
+    /// its outcome.
+    ///
+    /// # Errors
+    /// Where memory is refused to the log, and nothing has changed; or where it is refused to the first turn: the log is as
+    /// it was, and the job can be played again and goes on where it stopped.
+    pub fn play(&mut self, job: &Job, limit: u32) -> Result<Outcome, AllocError>
+        requires { 1 ≤ limit }
+        ensures ok { IfOk result (λ outcome. Plays limit job.now (region_of self.old) (region_of self.new) outcome) }
+        ensures logged { IfOk result (λ outcome.
+            entries_of self.new ≡ entries_of self.old ++ entry_of job.now outcome ∷ []) }
+        ensures err { OnErr result
+            ((region_of self.new ≡ region_of self.old) ⊎ IsRefused job.now (region_of self.old) (region_of self.new)) }
+        ensures kept { OnErr result (entries_of self.new ≡ entries_of self.old) }
+    {
+        self.log.reserve(1)?;
+        let outcome = self.region.play(job, limit)?;
+        note(&mut self.log, job, &outcome);
+        Ok(outcome)
+    }
+
+    /// The entries, which replay to the region.
+    pub fn log(&self) -> &Log
+        ensures entries { settlements_of result.now ≡ entries_of self.now }
+        ensures replays { ∥ Replays (region_of self.now).store.program (region_of self.now).handler
+            (settlements_of result.now) (region_of self.now) ∥₁ }
+    {
+        &self.log
+    }
+
+    /// Whether there is an object of the number, and it is settled: the handler hasn't failed, and no routine that it is in
+    /// the middle of runs on the object. It meets its class invariant then.
+    pub fn settled(&self, number: u32) -> bool
+        ensures settled { result ≡ (is_settled number (region_of self.now).store
+            && is_some (object_numbered number (region_of self.now).store.objects)) }
+        ensures meets { IsTrue result →
+            MeetsAt (region_of self.now).store.program (object_numbered number (region_of self.now).store.objects) }
+    {
+        self.region.settled(number)
+    }
+
+    /// Whether there is an object of the number, and it meets its class invariant.
+    pub fn test_invariant(&self, number: u32) -> bool
+        ensures { IsTrue result ↔
+            MeetsAt (region_of self.now).store.program (object_numbered number (region_of self.now).store.objects) }
+    {
+        self.region.test_invariant(number)
+    }
+
+    /// What was printed.
+    pub fn output(&self) -> &[u8]
+        ensures { result.now ≡ (region_of self.now).store.output }
+    {
+        self.region.output()
+    }
+
+    /// How many objects there are.
+    pub fn object_count(&self) -> usize
+        ensures { result ≡ length (region_of self.now).store.objects }
+    {
+        self.region.object_count()
+    }
+}
