@@ -1,7 +1,11 @@
 // What the classes of a system are refused for: C1 to C8.
 
 /// A page for each code.
-pub const CLASSES: &[&str] = &[
+pub fn pages() -> &'static [&'static str] {
+    PAGES
+}
+
+const PAGES: &[&str] = &[
     r#"C1 DuplicateClass
 
 A class has the name of an earlier one, or is called ANY, NONE, INTEGER or

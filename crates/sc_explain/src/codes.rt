@@ -3,26 +3,31 @@
 ghost use Rattle.std.specs.Prelude.{IfSome, IsTrue};
 ghost use Rattle.sc_explain.specs.Page.{IsPageOf};
 
-use crate::classes::CLASSES;
-use crate::failures::FAILURES;
-use crate::grammar::GRAMMAR;
-use crate::lowering::LOWERING;
-use crate::records::RECORDS;
-use crate::rules::RULES;
-use crate::text::TEXT;
+use crate::{classes, failures, grammar, lowering, records, rules, text};
 use std::alloc::{AllocError, Global};
 
-/// The pages in groups, in the order in which what they tell of is looked for.
-fn groups() -> [&'static [&'static str]; 7] {
-    [TEXT, GRAMMAR, CLASSES, RULES, LOWERING, RECORDS, FAILURES]
+/// How many groups of pages there are.
+const GROUPS: usize = 7;
+
+/// The pages of the group at a number, in the order in which what they tell of is looked for.
+fn pages_of(group: usize) -> &'static [&'static str] {
+    match group {
+        0 => text::pages(),
+        1 => grammar::pages(),
+        2 => classes::pages(),
+        3 => rules::pages(),
+        4 => lowering::pages(),
+        5 => records::pages(),
+        _ => failures::pages(),
+    }
 }
 
 /// The page of this code or this name, in any letter case.
 pub fn find(word: &str) -> Option<&'static str>
     ensures { IfSome result (λ page. IsPageOf page.now word.now) }
 {
-    for pages in groups() {
-        if let Some(page) = find_among(pages, word) {
+    for group in 0..GROUPS {
+        if let Some(page) = find_among(pages_of(group), word) {
             return Some(page);
         }
     }
@@ -58,8 +63,8 @@ fn is_page_of(page: &str, word: &str) -> bool
 /// The first line of each page.
 pub fn list(alloc: Global) -> Result<String, AllocError> {
     let mut lines = String::new(alloc);
-    for pages in groups() {
-        push_headings(&mut lines, pages)?;
+    for group in 0..GROUPS {
+        push_headings(&mut lines, pages_of(group))?;
     }
     Ok(lines)
 }

@@ -1,7 +1,11 @@
 // What a handler fails for in a run: F1 to F16.
 
 /// A page for each code.
-pub const FAILURES: &[&str] = &[
+pub fn pages() -> &'static [&'static str] {
+    PAGES
+}
+
+const PAGES: &[&str] = &[
     r#"F1 Invariant
 
 The class invariant doesn't hold where it is tested: at the end of a creation,

@@ -1,7 +1,11 @@
 // What a list of tokens is refused for: P1 and P2.
 
 /// A page for each code.
-pub const GRAMMAR: &[&str] = &[
+pub fn pages() -> &'static [&'static str] {
+    PAGES
+}
+
+const PAGES: &[&str] = &[
     r#"P1 NotInGrammar
 
 The text isn't of the grammar.

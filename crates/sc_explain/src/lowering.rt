@@ -1,7 +1,11 @@
 // What a system is refused for behind the rules: its code is too long.
 
 /// A page for what has a name and no code.
-pub const LOWERING: &[&str] = &[
+pub fn pages() -> &'static [&'static str] {
+    PAGES
+}
+
+const PAGES: &[&str] = &[
     r#"CodeTooLong
 
 The code to which `scoop run` and `scoop replay` lower a system has more than

@@ -1,7 +1,11 @@
 // What a record is refused for: A1.
 
 /// A page for each code.
-pub const RECORDS: &[&str] = &[
+pub fn pages() -> &'static [&'static str] {
+    PAGES
+}
+
+const PAGES: &[&str] = &[
     r#"A1 BadRecord
 
 A text isn't that of a record: `scoop record` and its version, 1 or 2, then any

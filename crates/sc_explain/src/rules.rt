@@ -1,7 +1,11 @@
 // What stands in the classes of a system and is refused: V1 to V20.
 
 /// A page for each code.
-pub const RULES: &[&str] = &[
+pub fn pages() -> &'static [&'static str] {
+    PAGES
+}
+
+const PAGES: &[&str] = &[
     r#"V1 UnknownName
 
 No class, no feature and no entity in scope has the name. NONE is no class for a

@@ -1,7 +1,11 @@
 // What a text is refused for before its grammar: L1 to L5.
 
 /// A page for each code.
-pub const TEXT: &[&str] = &[
+pub fn pages() -> &'static [&'static str] {
+    PAGES
+}
+
+const PAGES: &[&str] = &[
     r#"L1 BadCharacter
 
 A character begins no token.
