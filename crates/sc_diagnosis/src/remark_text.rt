@@ -1,7 +1,9 @@
 // What is said of a fault, in words.
 
-use crate::remark::Remark;
-use crate::scope::{Scope, part_of, push_quoted};
+use crate::remark::{Misfit, Remark, Wanted};
+use crate::scope::{Scope, part_of, push_all, push_quoted};
+use crate::types::Compared;
+use sc_class::ClassId;
 use sc_proctype::EntityType;
 use sc_text::Span;
 use sc_tree::{BinaryOperator, UnaryOperator};
@@ -9,105 +11,56 @@ use std::alloc::{AllocError, Global};
 
 impl<'c, 't, 's> Scope<'c, 't, 's> {
     /// Adds what is said of the part of the text that is at fault, without a line feed.
-    pub fn push_remark(
-        self,
-        lines: &mut String,
-        span: Span,
-        remark: Remark<'s>,
-    ) -> Result<(), AllocError> {
+    pub fn push_remark(&self, lines: &mut String, remark: Remark) -> Result<(), AllocError> {
         match remark {
-            Remark::Assigned(types, taker) => {
-                self.push_given(lines, span, types.given, ", and ")?;
-                self.push_taken(lines, part_of(self.text, taker), types.taken)
-            }
+            Remark::Assigned(types, taker) => self.push_compared(lines, types, ", and ", taker),
             Remark::Passed(passed) => {
-                let types = passed.compared;
-                self.push_given(lines, span, types.given, ", and here the formal ")?;
-                self.push_taken(lines, self.written(&passed.formal.name), types.taken)
+                let taker = ", and here the formal ";
+                self.push_compared(lines, passed.compared, taker, passed.formal)
             }
-            Remark::Printed(given) => {
-                self.push_given(
-                    lines,
-                    span,
-                    given,
-                    ", and `print` takes an INTEGER or a BOOLEAN",
-                )
-            }
-            Remark::Reserved(given) => {
-                let wanted = ", and a separate block takes an attached reference";
-                self.push_given(lines, span, given, wanted)
-            }
-            Remark::Condition(given) => {
-                self.push_given(lines, span, given, ", and BOOLEAN is wanted here")
-            }
+            Remark::Given(given, wanted) => self.push_given(lines, given, said_of_wanted(wanted)),
             Remark::Operand(operator, given) => self.push_operand(lines, operator, given),
             Remark::Operands(operator, left, right) => {
                 self.push_operands(lines, operator, left, right)
             }
-            _ => self.push_of_name(lines, part_of(self.text, span), remark),
+            Remark::Name(misfit) => self.push_misfit(lines, misfit),
         }
     }
 
-    /// Adds what is said of a name at fault.
-    fn push_of_name(
-        self,
+    /// The part of the text that is at fault.
+    fn part(&self) -> &str {
+        part_of(self.text, self.span)
+    }
+
+    /// Adds that the part of the text is of one type, and what stands there takes another.
+    fn push_compared(
+        &self,
         lines: &mut String,
-        name: &str,
-        remark: Remark<'s>,
+        types: Compared,
+        and: &str,
+        taker: Span,
     ) -> Result<(), AllocError> {
-        match remark {
-            Remark::Arity(taken, given) => push_arity(
-                self.routine.alloc,
-                lines,
-                name,
-                taken,
-                given,
-            ),
-            Remark::Lacking(class) => {
-                lines.push_str("the class `")?;
-                lines.push_str(self.class_name(class))?;
-                lines.push_str("` has no feature ")?;
-                push_quoted(lines, name)
-            }
-            Remark::Unknown => {
-                lines.push_str("nothing that is known here has the name ")?;
-                push_quoted(lines, name)
-            }
-            _ => {
-                push_quoted(lines, name)?;
-                lines.push_str(said_of_use(remark))
-            }
-        }
+        self.push_given(lines, types.given, and)?;
+        push_quoted(lines, part_of(self.text, taker))?;
+        lines.push_str(" takes ")?;
+        self.push_type(lines, types.taken)
     }
 
     /// Adds that the part of the text is of this type, and what stands behind that.
     fn push_given(
-        self,
+        &self,
         lines: &mut String,
-        span: Span,
         given: EntityType,
         behind: &str,
     ) -> Result<(), AllocError> {
-        push_quoted(lines, part_of(self.text, span))?;
+        push_quoted(lines, self.part())?;
         lines.push_str(" is of type ")?;
         self.push_type(lines, given)?;
         lines.push_str(behind)
     }
 
-    /// Adds what takes this type.
-    fn push_taken(
-        self,
-        lines: &mut String,
-        taker: &str,
-        taken: EntityType,
-    ) -> Result<(), AllocError> {
-        push_quoted(lines, taker)?;
-        lines.push_str(" takes ")?;
-        self.push_type(lines, taken)
-    }
-
     fn push_operand(
-        self,
+        &self,
         lines: &mut String,
         operator: UnaryOperator,
         given: EntityType,
@@ -118,28 +71,72 @@ impl<'c, 't, 's> Scope<'c, 't, 's> {
     }
 
     fn push_operands(
-        self,
+        &self,
         lines: &mut String,
         operator: BinaryOperator,
         left: EntityType,
         right: EntityType,
     ) -> Result<(), AllocError> {
-        push_quoted(lines, spelling(operator))?;
-        lines.push_str(" takes two ")?;
-        lines.push_str(taken_by_binary(operator))?;
-        lines.push_str(", and its operands are of type ")?;
+        push_operator(lines, operator)?;
         self.push_type(lines, left)?;
         lines.push_str(" and of type ")?;
         self.push_type(lines, right)
     }
+
+    /// Adds what is said of a name at fault.
+    fn push_misfit(&self, lines: &mut String, misfit: Misfit) -> Result<(), AllocError> {
+        match misfit {
+            Misfit::Arity(taken, given) => {
+                push_arity(self.routine.alloc, lines, self.part(), taken, given)
+            }
+            Misfit::Lacking(class) => self.push_lacking(lines, class),
+            Misfit::Unknown => {
+                lines.push_str("nothing that is known here has the name ")?;
+                push_quoted(lines, self.part())
+            }
+            _ => {
+                push_quoted(lines, self.part())?;
+                lines.push_str(said_of_use(misfit))
+            }
+        }
+    }
+
+    fn push_lacking(&self, lines: &mut String, class: ClassId) -> Result<(), AllocError> {
+        push_all(
+            lines,
+            &["the class `", self.class_name(class), "` has no feature "],
+        )?;
+        push_quoted(lines, self.part())
+    }
+}
+
+/// Adds which operands an operator takes.
+fn push_operator(lines: &mut String, operator: BinaryOperator) -> Result<(), AllocError> {
+    let parts = [
+        "`",
+        spelling(operator),
+        "` takes two ",
+        taken_by_binary(operator),
+        ", and its operands are of type ",
+    ];
+    push_all(lines, &parts)
+}
+
+/// What is said behind the type of a value that isn't one that is wanted.
+fn said_of_wanted(wanted: Wanted) -> &'static str {
+    match wanted {
+        Wanted::Printed => ", and `print` takes an INTEGER or a BOOLEAN",
+        Wanted::Reserved => ", and a separate block takes an attached reference",
+        Wanted::Condition => ", and BOOLEAN is wanted here",
+    }
 }
 
 /// What is said of a name that is used as something else than it is; else nothing.
-fn said_of_use(remark: Remark<'_>) -> &'static str {
-    match remark {
-        Remark::Query => " gives a value, and an instruction has none",
-        Remark::Creator => " gives a value, and a procedure creates",
-        Remark::Procedure => " is a procedure, and gives no value",
+fn said_of_use(misfit: Misfit) -> &'static str {
+    match misfit {
+        Misfit::Query => " gives a value, and an instruction has none",
+        Misfit::Creator => " gives a value, and a procedure creates",
+        Misfit::Procedure => " is a procedure, and gives no value",
         _ => "",
     }
 }

@@ -8,41 +8,29 @@ use sc_tree::Name;
 use sc_typing::{Entity, RoutineContext};
 use std::alloc::AllocError;
 
-/// A part of a routine: the text of the system, the routine, and the names that are known there.
-#[derive(Clone, Copy)]
+/// A part of a routine at which the rule of this code fails: the text of the system, the routine, and the names that are
+/// known there.
+#[derive(Drop)]
 pub struct Scope<'c, 't, 's> {
     pub text: &'c str,
+    pub code: &'c str,
+    pub span: Span,
     pub routine: &'c RoutineContext<'t, 's>,
-    pub names: &'c [Entity<'s>],
+    pub names: Vec<Entity<'s>>,
 }
 
 impl<'c, 't, 's> Scope<'c, 't, 's> {
     /// Adds a type in quotes, as it is declared: with the name of the formal or the block whose handler it is of.
-    pub fn push_type(self, lines: &mut String, given: EntityType) -> Result<(), AllocError> {
-        let is_void = given.class == ClassId::None;
-        lines.push_str("`")?;
-        if !given.attached && !is_void {
-            lines.push_str("detachable ")?;
-        }
-        match given.tag {
-            Tag::Own | Tag::None => {}
-            Tag::Any => lines.push_str("separate ")?,
-            Tag::With(reserved) => {
-                lines.push_str("separate <")?;
-                lines.push_str(self.name_of_reserved(reserved))?;
-                lines.push_str(".handler> ")?;
-            }
-        }
+    pub fn push_type(&self, lines: &mut String, given: EntityType) -> Result<(), AllocError> {
+        push_all(lines, &["`", mark_of(given), before_handler(given.tag)])?;
+        lines.push_str(self.handler_of(given.tag))?;
+        lines.push_str(behind_handler(given.tag))?;
         lines.push_str(self.class_name(given.class))?;
-        lines.push_str("`")?;
-        if given.tag == Tag::None && !is_void {
-            lines.push_str(" of a handler that isn't known here")?;
-        }
-        Ok(())
+        push_all(lines, &["`", unknown_handler(given)])
     }
 
     /// The name of a class, as its text has it.
-    pub fn class_name(self, class: ClassId) -> &'c str {
+    pub fn class_name(&self, class: ClassId) -> &str {
         match class {
             ClassId::Any => "ANY",
             ClassId::None => "NONE",
@@ -55,19 +43,60 @@ impl<'c, 't, 's> Scope<'c, 't, 's> {
         }
     }
 
-    fn name_of_reserved(self, reserved: Reserved) -> &'c str {
-        match reserved {
-            Reserved::Formal(number) => match self.routine.formals.get(number) {
-                None => "..",
-                Some(formal) => self.written(&formal.name),
-            },
-            Reserved::BlockName(number) => name_of_block(self.names, number),
+    /// The name of the formal or the block whose handler the tag is of, if it is one's.
+    fn handler_of(&self, tag: Tag) -> &str {
+        match tag {
+            Tag::With(Reserved::Formal(number)) => self.name_of_formal(number),
+            Tag::With(Reserved::BlockName(number)) => name_of_block(&self.names, number),
+            _ => "",
+        }
+    }
+
+    fn name_of_formal(&self, number: usize) -> &str {
+        match self.routine.formals.get(number) {
+            None => "..",
+            Some(formal) => self.written(&formal.name),
         }
     }
 
     /// A name with the letters of the text.
-    pub fn written(self, name: &Name) -> &'c str {
+    fn written(&self, name: &Name) -> &str {
         part_of(self.text, name.span)
+    }
+}
+
+/// What stands first in a type.
+fn mark_of(given: EntityType) -> &'static str {
+    if given.attached || given.class == ClassId::None {
+        ""
+    } else {
+        "detachable "
+    }
+}
+
+/// What stands in a type before the name that its handler has.
+fn before_handler(tag: Tag) -> &'static str {
+    match tag {
+        Tag::Own | Tag::None => "",
+        Tag::Any => "separate ",
+        Tag::With(_) => "separate <",
+    }
+}
+
+/// What stands in a type behind the name that its handler has.
+fn behind_handler(tag: Tag) -> &'static str {
+    match tag {
+        Tag::With(_) => ".handler> ",
+        _ => "",
+    }
+}
+
+/// What is said behind a type whose handler isn't known.
+fn unknown_handler(given: EntityType) -> &'static str {
+    if given.tag == Tag::None && given.class != ClassId::None {
+        " of a handler that isn't known here"
+    } else {
+        ""
     }
 }
 
@@ -111,12 +140,18 @@ fn is_closed(part: &str) -> bool {
     depth == 0
 }
 
+/// Adds texts, one behind the other.
+pub fn push_all(lines: &mut String, parts: &[&str]) -> Result<(), AllocError> {
+    for part in parts {
+        lines.push_str(part)?;
+    }
+    Ok(())
+}
+
 /// Adds a part of the text in quotes, or `this` where there is none.
 pub fn push_quoted(lines: &mut String, part: &str) -> Result<(), AllocError> {
     if part.is_empty() {
         return lines.push_str("this");
     }
-    lines.push_str("`")?;
-    lines.push_str(part)?;
-    lines.push_str("`")
+    push_all(lines, &["`", part, "`"])
 }

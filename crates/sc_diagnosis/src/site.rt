@@ -2,7 +2,8 @@
 
 use sc_rules::Context;
 use sc_text::Span;
-use sc_tree::{Call, CreationCall, Expr, Variable};
+use sc_tree::{Call, Clause, CreationCall, Expr, Variable};
+use sc_typing::operand_context;
 
 /// What is looked for: a part of this kind that stands there.
 #[derive(Clone, Copy)]
@@ -54,71 +55,101 @@ pub struct Site<'s> {
     pub part: Part<'s>,
 }
 
-impl Aim {
-    /// Passes a part. Err where it is one of this kind and stands where this is aimed at.
-    pub fn pass<'s>(
-        self,
-        kind: Kind,
-        span: Span,
-        context: Context,
-        part: Part<'s>,
-    ) -> Result<(), Site<'s>> {
-        if self.kind == kind && self.span == span {
-            Err(Site { context, part })
-        } else {
-            Ok(())
+/// What a search has come to.
+#[derive(Clone, Copy)]
+pub enum Found<'s> {
+    /// Nothing as yet.
+    Nothing,
+    /// What was looked for stands here.
+    At(Site<'s>),
+    /// A part in front of it is faulty, so what is known at it isn't found.
+    Faulty,
+    /// Memory ran out.
+    OutOfMemory,
+}
+
+/// A search for the first part that is aimed at, through parts that are passed in the order of the text.
+#[derive(Drop)]
+pub struct Search<'s> {
+    pub aim: Aim,
+    pub found: Found<'s>,
+}
+
+impl<'s> Search<'s> {
+    /// Whether nothing is found as yet.
+    pub fn is_open(&self) -> bool {
+        match self.found {
+            Found::Nothing => true,
+            _ => false,
+        }
+    }
+
+    /// Passes a part: it is found where it is one of this kind and stands where this is aimed at.
+    pub fn pass(&mut self, kind: Kind, span: Span, context: Context, part: Part<'s>) {
+        if self.is_open() && self.aim.kind == kind && self.aim.span == span {
+            self.found = Found::At(Site { context, part });
         }
     }
 }
 
-/// Passes an expression. Err where what is looked for stands in it.
+/// Passes an expression.
 #[cycle(expressions)]
-pub fn pass_expression<'s>(aim: Aim, context: Context, e: &'s Expr) -> Result<(), Site<'s>> {
+pub fn pass_expression<'s>(search: &mut Search<'s>, context: Context, e: &'s Expr) {
     match e {
-        Expr::Integer(_, _) | Expr::Boolean(_, _) => Ok(()),
-        Expr::Void(_) | Expr::Current(_) | Expr::Result(_) => Ok(()),
-        Expr::Call(call) => pass_call(aim, context, call),
+        Expr::Call(call) => pass_call(search, context, call),
         Expr::Unary(span, operator, operand) => {
-            aim.pass(Kind::Operation, *span, context, Part::Operation(e))?;
-            pass_expression(aim, sc_typing::operand_context(*operator, context), operand)
+            search.pass(Kind::Operation, *span, context, Part::Operation(e));
+            pass_expression(search, operand_context(*operator, context), operand)
         }
         Expr::Binary(span, _, left, right) => {
-            aim.pass(Kind::Operation, *span, context, Part::Operation(e))?;
-            pass_expression(aim, context, left)?;
-            pass_expression(aim, context, right)
+            search.pass(Kind::Operation, *span, context, Part::Operation(e));
+            pass_expression(search, context, left);
+            pass_expression(search, context, right)
         }
-        Expr::ObjectTest(_, _, tested, _) => pass_expression(aim, context, tested),
+        Expr::ObjectTest(_, _, tested, _) => pass_expression(search, context, tested),
+        _ => {}
     }
 }
 
 /// Passes a call: its name, its target and its actuals.
 #[cycle(expressions)]
-pub fn pass_call<'s>(aim: Aim, context: Context, call: &'s Call) -> Result<(), Site<'s>> {
-    aim.pass(Kind::Name, call.name.span, context, Part::CallName(call))?;
+pub fn pass_call<'s>(search: &mut Search<'s>, context: Context, call: &'s Call) {
+    search.pass(Kind::Name, call.name.span, context, Part::CallName(call));
     if let Some(target) = &call.target {
-        pass_expression(aim, context, target)?;
+        pass_expression(search, context, target);
     }
     for (number, actual) in call.actuals.iter().enumerate() {
-        let part = Part::Actual(call, number);
-        aim.pass(Kind::Actual, actual.span(), context, part)?;
-        pass_expression(aim, context, actual)?;
+        search.pass(
+            Kind::Actual,
+            actual.span(),
+            context,
+            Part::Actual(call, number),
+        );
+        pass_expression(search, context, actual);
     }
-    Ok(())
 }
 
 /// Passes the call that an entity is created by.
-pub fn pass_creation<'s>(
-    aim: Aim,
-    created: &'s Variable,
-    call: &'s CreationCall,
-) -> Result<(), Site<'s>> {
+pub fn pass_creation<'s>(search: &mut Search<'s>, created: &'s Variable, call: &'s CreationCall) {
     let context = Context::Body;
     let part = Part::CreationName(created, call);
-    aim.pass(Kind::Name, call.name.span, context, part)?;
+    search.pass(Kind::Name, call.name.span, context, part);
     for (number, actual) in call.actuals.iter().enumerate() {
         let part = Part::CreationActual(created, call, number);
-        aim.pass(Kind::Actual, actual.span(), context, part)?;
-        pass_expression(aim, context, actual)?;
+        search.pass(Kind::Actual, actual.span(), context, part);
+        pass_expression(search, context, actual);
     }
-    Ok(())
+}
+
+/// Passes clauses, in which no more names are known than around them.
+pub fn pass_clauses<'s>(search: &mut Search<'s>, context: Context, clauses: &'s [Clause]) {
+    for clause in clauses {
+        pass_condition(search, context, &clause.condition);
+    }
+}
+
+/// Passes a condition that gives no names.
+pub fn pass_condition<'s>(search: &mut Search<'s>, context: Context, e: &'s Expr) {
+    search.pass(Kind::Condition, e.span(), context, Part::Condition(e));
+    pass_expression(search, context, e)
 }

@@ -2,15 +2,15 @@
 
 use crate::declared::{class_around, feature_around};
 use crate::nearest::{nearest_entity, nearest_feature};
-use crate::remark::{Fault, Remark};
+use crate::remark::{Misfit, Remark};
 use crate::scope::{Scope, part_of};
-use crate::site::{Aim, Kind, Site};
-use crate::walk::{in_routine, pass_clauses};
+use crate::site::{Aim, Found, Kind, Search, Site};
+use crate::walk::Walk;
 use sc_class::{ClassFault, ClassId, Root, Tables, tables};
 use sc_rules::Context;
 use sc_text::Span;
 use sc_tree::{Class, FeatureKind, Name, Routine, System};
-use sc_typing::{CheckFault, Entity, Purity, RoutineContext, result_type};
+use sc_typing::{Purity, RoutineContext, result_type};
 use std::alloc::{AllocError, Global};
 
 /// A text that spells a system, and what is told of its refusal by a rule.
@@ -60,14 +60,9 @@ impl<'c> Refused<'c> {
         if self.code == "V1" && part_of(self.text, self.span).eq_ignore_ascii_case("print") {
             return Ok(false);
         }
-        let tables = match tables(alloc, system, self.root) {
-            Ok(tables) => tables,
-            Err(ClassFault::OutOfMemory) => return Err(AllocError),
-            Err(_) => return Ok(false),
-        };
-        match self.push_found(alloc, lines, &tables, aim) {
-            Ok(is_told) => Ok(is_told),
-            Err(CheckFault::OutOfMemory) => Err(AllocError),
+        match tables(alloc, system, self.root) {
+            Ok(tables) => self.push_found(alloc, lines, &tables, aim),
+            Err(ClassFault::OutOfMemory) => Err(AllocError),
             Err(_) => Ok(false),
         }
     }
@@ -79,11 +74,11 @@ impl<'c> Refused<'c> {
         lines: &mut String,
         tables: &Tables<'_>,
         aim: Aim,
-    ) -> Result<bool, CheckFault> {
+    ) -> Result<bool, AllocError> {
         let Some((number, class)) = class_around(tables.classes(), self.span) else {
             return Ok(false);
         };
-        let routine = RoutineContext {
+        let around = RoutineContext {
             alloc,
             tables,
             class: number,
@@ -91,12 +86,24 @@ impl<'c> Refused<'c> {
             result: None,
             purity: &Purity::NotAsked,
         };
-        if let Some(text) = routine_around(class, self.span) {
-            if let Some(is_told) = self.push_in_routine(lines, &routine, aim, text)? {
-                return Ok(is_told);
-            }
+        self.push_in_class(lines, &around, aim, class)
+    }
+
+    /// Adds what is told of the part that is aimed at, where it stands in this class.
+    fn push_in_class<'s>(
+        self,
+        lines: &mut String,
+        around: &RoutineContext<'_, 's>,
+        aim: Aim,
+        class: &'s Class,
+    ) -> Result<bool, AllocError> {
+        let Some(text) = routine_around(class, self.span) else {
+            return self.push_beside_routines(lines, around, aim, class);
+        };
+        match self.push_in_routine(lines, around, aim, text)? {
+            Some(is_told) => Ok(is_told),
+            None => self.push_beside_routines(lines, around, aim, class),
         }
-        self.push_in_class(lines, &routine, aim, class)
     }
 
     /// Adds what is told of the part that is aimed at, where it stands in this routine of the class.
@@ -106,7 +113,7 @@ impl<'c> Refused<'c> {
         class: &RoutineContext<'_, 's>,
         aim: Aim,
         text: &'s Routine,
-    ) -> Result<Option<bool>, CheckFault> {
+    ) -> Result<Option<bool>, AllocError> {
         let routine = RoutineContext {
             alloc: class.alloc,
             tables: class.tables,
@@ -115,116 +122,127 @@ impl<'c> Refused<'c> {
             result: result_type(class.tables, &text.result_type),
             purity: class.purity,
         };
-        let mut names = Vec::new(class.alloc);
-        match in_routine(&routine, aim, &mut names, text)? {
-            None => Ok(None),
-            Some(site) => Ok(Some(self.push_at(lines, &routine, &mut names, site)?)),
-        }
+        let mut walk = self.walk(&routine, aim);
+        walk.pass_routine(text);
+        walk.push_found(lines)
     }
 
     /// Adds what is told of the part that is aimed at, where it stands in the invariant of the class or in its list of
     /// creators.
-    fn push_in_class<'s>(
+    fn push_beside_routines<'s>(
         self,
         lines: &mut String,
-        routine: &RoutineContext<'_, 's>,
+        around: &RoutineContext<'_, 's>,
         aim: Aim,
         class: &'s Class,
-    ) -> Result<bool, CheckFault> {
-        match pass_clauses(aim, Context::Invariant, &class.invariant) {
-            Ok(()) => self.push_creator(lines, routine, class),
-            Err(site) => self.push_at(lines, routine, &mut Vec::new(routine.alloc), site),
+    ) -> Result<bool, AllocError> {
+        let mut walk = self.walk(around, aim);
+        walk.pass_clauses(Context::Invariant, &class.invariant);
+        match walk.push_found(lines)? {
+            Some(is_told) => Ok(is_told),
+            None => walk.scope.push_creator(lines, &class.creators),
         }
     }
 
-    /// Adds what is told of a name that the class lists under `create`.
-    fn push_creator(
-        self,
-        lines: &mut String,
-        routine: &RoutineContext<'_, '_>,
-        class: &Class,
-    ) -> Result<bool, CheckFault> {
-        if !is_among(self.span, &class.creators) {
-            return Ok(false);
-        }
-        let remark = match self.code {
-            "V1" => Remark::Lacking(ClassId::Declared(routine.class)),
-            _ => Remark::Creator,
-        };
-        let scope = Scope {
-            text: self.text,
-            routine,
-            names: &[],
-        };
-        self.push_lines(lines, scope, remark)?;
-        Ok(true)
-    }
-
-    /// Adds what is told of what stands there.
-    fn push_at<'s>(
-        self,
-        lines: &mut String,
-        routine: &RoutineContext<'_, 's>,
-        names: &mut Vec<Entity<'s>>,
-        site: Site<'s>,
-    ) -> Result<bool, CheckFault> {
-        let code = self.code;
-        let fault = Fault { routine, code };
-        let Some(remark) = fault.remark(names, site)? else {
-            return Ok(false);
-        };
-        let scope = Scope {
-            text: self.text,
-            routine,
-            names,
-        };
-        self.push_lines(lines, scope, remark)?;
-        Ok(true)
-    }
-
-    /// Adds a remark, and what helps.
-    fn push_lines(
-        self,
-        lines: &mut String,
-        scope: Scope<'_, '_, '_>,
-        remark: Remark<'_>,
-    ) -> Result<(), AllocError> {
-        scope.push_remark(lines, self.span, remark)?;
-        lines.push_str("\n")?;
-        self.push_nearest(lines, scope, remark)
-    }
-
-    /// Adds a name that is near to one that isn't known.
-    fn push_nearest(
-        self,
-        lines: &mut String,
-        scope: Scope<'_, '_, '_>,
-        remark: Remark<'_>,
-    ) -> Result<(), AllocError> {
-        let name = self.text.get(self.span.start..self.span.end).unwrap_or("");
-        match remark {
-            Remark::Unknown => {
-                if nearest_entity(lines, scope.names, name)? {
-                    return Ok(());
-                }
-                let own = ClassId::Declared(scope.routine.class);
-                push_nearest_feature(lines, scope.routine, own, name)
-            }
-            Remark::Lacking(class) => push_nearest_feature(lines, scope.routine, class, name),
-            _ => Ok(()),
+    /// A walk through a text of this routine, in which no names are known as yet.
+    fn walk<'w, 't, 's>(self, routine: &'w RoutineContext<'t, 's>, aim: Aim) -> Walk<'w, 't, 's>
+    where
+        'c: 'w,
+    {
+        Walk {
+            search: Search {
+                aim,
+                found: Found::Nothing,
+            },
+            scope: Scope {
+                text: self.text,
+                code: self.code,
+                span: self.span,
+                routine,
+                names: Vec::new(routine.alloc),
+            },
         }
     }
 }
 
-/// Adds a feature of the class whose name is near to one that isn't known.
-fn push_nearest_feature(
-    lines: &mut String,
-    routine: &RoutineContext<'_, '_>,
-    class: ClassId,
-    name: &str,
-) -> Result<(), AllocError> {
-    let features = routine.tables.features(routine.alloc, class)?;
-    nearest_feature(lines, &features, name)
+impl<'c, 't, 's> Walk<'c, 't, 's> {
+    /// Adds what is told of what was looked for, and whether there is something; nothing where it wasn't found.
+    fn push_found(&mut self, lines: &mut String) -> Result<Option<bool>, AllocError> {
+        match self.search.found {
+            Found::Nothing => Ok(None),
+            Found::At(site) => {
+                let is_told = self.scope.push_at(lines, site)?;
+                Ok(Some(is_told))
+            }
+            Found::Faulty => Ok(Some(false)),
+            Found::OutOfMemory => Err(AllocError),
+        }
+    }
+}
+
+impl<'c, 't, 's> Scope<'c, 't, 's> {
+    /// Adds what is told of what stands there, and whether there is something.
+    fn push_at(&mut self, lines: &mut String, site: Site<'s>) -> Result<bool, AllocError> {
+        match self.remark(site)? {
+            None => Ok(false),
+            Some(remark) => self.push_lines(lines, remark),
+        }
+    }
+
+    /// Adds what is told of a name that the class lists under `create`, and whether it is one.
+    fn push_creator(&self, lines: &mut String, creators: &[Name]) -> Result<bool, AllocError> {
+        if !is_among(self.span, creators) {
+            return Ok(false);
+        }
+        let misfit = match self.code {
+            "V1" => Misfit::Lacking(self.class()),
+            _ => Misfit::Creator,
+        };
+        self.push_lines(lines, Remark::Name(misfit))
+    }
+
+    /// The class in which this is.
+    fn class(&self) -> ClassId {
+        ClassId::Declared(self.routine.class)
+    }
+
+    /// Adds a remark, and what helps.
+    fn push_lines(&self, lines: &mut String, remark: Remark) -> Result<bool, AllocError> {
+        self.push_remark(lines, remark)?;
+        lines.push_str("\n")?;
+        self.push_nearest(lines, remark)?;
+        Ok(true)
+    }
+
+    /// Adds a name that is near to one that isn't known.
+    fn push_nearest(&self, lines: &mut String, remark: Remark) -> Result<(), AllocError> {
+        let name = self.text.get(self.span.start..self.span.end).unwrap_or("");
+        match remark {
+            Remark::Name(Misfit::Unknown) => self.push_nearest_known(lines, name),
+            Remark::Name(Misfit::Lacking(class)) => self.push_nearest_feature(lines, class, name),
+            _ => Ok(()),
+        }
+    }
+
+    /// Adds a name that is known there and near to this one.
+    fn push_nearest_known(&self, lines: &mut String, name: &str) -> Result<(), AllocError> {
+        if nearest_entity(lines, &self.names, name)? {
+            return Ok(());
+        }
+        self.push_nearest_feature(lines, self.class(), name)
+    }
+
+    /// Adds a feature of the class whose name is near to one that isn't known.
+    fn push_nearest_feature(
+        &self,
+        lines: &mut String,
+        class: ClassId,
+        name: &str,
+    ) -> Result<(), AllocError> {
+        let routine = self.routine;
+        let features = routine.tables.features(routine.alloc, class)?;
+        nearest_feature(lines, &features, name)
+    }
 }
 
 /// The routine that is the feature around a part of the text, if it is one.

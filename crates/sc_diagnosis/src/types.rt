@@ -8,10 +8,13 @@ use sc_class::{ClassId, Tables};
 use sc_combine::{Known, combine_argument};
 use sc_proctype::{EntityType, Tag, conforms};
 use sc_rules::{Context, Position};
+use sc_text::Span;
 use sc_tree::{Call, CreationCall, Declaration, Expr, Variable};
 use sc_typing::{
-    Assignee, CheckFault, Entity, JudgedActual, Meaning, RoutineContext, declared_type, judged_type,
+    Assignee, CheckFault, Entity, JudgedActual, Meaning, RoutineContext, Typing, declared_type,
+    judged_type,
 };
+use std::alloc::AllocError;
 
 /// What is given, and what would be taken.
 #[derive(Clone, Copy)]
@@ -35,7 +38,7 @@ fn mismatch(tables: &Tables, given: EntityType, taken: EntityType) -> Option<Com
 fn known_handlers(
     routine: &RoutineContext,
     found: &[JudgedActual],
-) -> Result<Vec<Known>, CheckFault> {
+) -> Result<Vec<Known>, AllocError> {
     let mut known = Vec::with_capacity(routine.alloc, found.len())?;
     for actual in found {
         known.push(known_handler(actual))?;
@@ -57,7 +60,7 @@ pub fn assigned_types<'s>(
     names: &[Entity<'s>],
     variable: &Variable,
     value: &Expr,
-) -> Result<Option<Compared>, CheckFault>
+) -> Result<Option<Compared>, AllocError>
     ensures { IfOk result (λ types. IfSome types (IsMismatch (system_in routine.now.tables.now))) }
 {
     let Some(taken) = type_of_variable(routine, names, variable) else {
@@ -74,7 +77,7 @@ pub fn head_types<'s>(
     routine: &RoutineContext<'_, 's>,
     names: &[Entity<'s>],
     value: &Expr,
-) -> Result<Option<Compared>, CheckFault>
+) -> Result<Option<Compared>, AllocError>
     ensures { IfOk result (λ types. IfSome types (IsMismatch (system_in routine.now.tables.now))) }
 {
     let taken = EntityType {
@@ -94,9 +97,8 @@ fn type_of_source<'s>(
     context: Context,
     names: &[Entity<'s>],
     e: &Expr,
-) -> Result<Option<EntityType>, CheckFault> {
-    let typing = routine.expression(context, Position::Source, names, e)?;
-    Ok(typing.entity_type)
+) -> Result<Option<EntityType>, AllocError> {
+    type_found(routine.expression(context, Position::Source, names, e))
 }
 
 /// The type of an expression that is none of those, if it has one.
@@ -105,9 +107,17 @@ pub fn type_of_value<'s>(
     context: Context,
     names: &[Entity<'s>],
     e: &Expr,
-) -> Result<Option<EntityType>, CheckFault> {
-    let typing = routine.expression(context, Position::Plain, names, e)?;
-    Ok(typing.entity_type)
+) -> Result<Option<EntityType>, AllocError> {
+    type_found(routine.expression(context, Position::Plain, names, e))
+}
+
+/// The type of what was judged: none where a rule fails in it.
+pub fn type_found(judged: Result<Typing, CheckFault>) -> Result<Option<EntityType>, AllocError> {
+    match judged {
+        Ok(typing) => Ok(typing.entity_type),
+        Err(CheckFault::OutOfMemory) => Err(AllocError),
+        Err(CheckFault::Refused(_)) => Ok(None),
+    }
 }
 
 /// The type of an entity that is assigned or created, if it has one.
@@ -128,7 +138,7 @@ pub fn meaning_of_call<'s>(
     context: Context,
     names: &[Entity<'s>],
     call: &Call,
-) -> Result<Meaning<'s>, CheckFault> {
+) -> Result<Meaning<'s>, AllocError> {
     let target = match &call.target {
         None => None,
         Some(target) => type_of_value(routine, context, names, target)?,
@@ -164,21 +174,21 @@ pub fn type_of_actual(found: &[JudgedActual], number: usize) -> Option<EntityTyp
     judged_type(found.get(number)?.judged)
 }
 
-/// An actual's type, and the type that it has to conform to, with the formal that has this type.
+/// An actual's type, and the type that it has to conform to, with the place of the formal's name that has this type.
 #[derive(Clone, Copy)]
-pub struct Passed<'s> {
+pub struct Passed {
     pub compared: Compared,
-    pub formal: &'s Declaration,
+    pub formal: Span,
 }
 
 /// The types of an actual and of its formal, where they don't conform.
-pub fn passed_types<'s>(
-    routine: &RoutineContext<'_, 's>,
+pub fn passed_types(
+    routine: &RoutineContext,
     found: &[JudgedActual],
     target: EntityType,
-    formals: &'s [Declaration],
+    formals: &[Declaration],
     number: usize,
-) -> Result<Option<Passed<'s>>, CheckFault>
+) -> Result<Option<Passed>, AllocError>
     ensures { IfOk result (λ passed. IfSome passed (λ it. IsMismatch (system_in routine.now.tables.now) it.compared)) }
 {
     let Some(formal) = formals.get(number) else {
@@ -194,6 +204,9 @@ pub fn passed_types<'s>(
     let taken = combine_argument(target, declared, &known);
     match mismatch(routine.tables, given, taken) {
         None => Ok(None),
-        Some(compared) => Ok(Some(Passed { compared, formal })),
+        Some(compared) => Ok(Some(Passed {
+            compared,
+            formal: formal.name.span,
+        })),
     }
 }

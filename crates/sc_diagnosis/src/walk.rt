@@ -1,272 +1,232 @@
 // The walk through the text of a class to the part that a rule fails at, with the names that are known there.
 
-use crate::site::{Aim, Kind, Part, Site, pass_call, pass_creation, pass_expression};
+use crate::scope::Scope;
+use crate::site::{
+    Found, Kind, Part, Search, pass_call, pass_clauses, pass_condition, pass_creation,
+    pass_expression,
+};
 use sc_proctype::EntityType;
 use sc_rules::{Context, Position, Role};
-use sc_tree::{Branch, Clause, Expr, Head, Instr, Routine, Variable};
-use sc_typing::{
-    CheckFault, Entity, RoutineContext, add_formals, add_locals, block_type, blocks, variable_span,
-};
+use sc_tree::{Branch, Clause, Declaration, Expr, Head, Instr, Routine, Variable};
+use sc_typing::{CheckFault, Entity, add_formals, add_locals, block_type, blocks, variable_span};
 use std::alloc::AllocError;
 
-/// What is looked for in a feature. The names that are known there are left in `names`.
-pub fn in_routine<'s>(
-    routine: &RoutineContext<'_, 's>,
-    aim: Aim,
-    names: &mut Vec<Entity<'s>>,
-    text: &'s Routine,
-) -> Result<Option<Site<'s>>, CheckFault> {
-    let walk = Walk { routine, aim };
-    match walk.pass_routine(names, text) {
-        Ok(()) => Ok(None),
-        Err(Stop::Found(site)) => Ok(Some(site)),
-        Err(Stop::Fault(fault)) => Err(fault),
-    }
-}
-
-/// Passes clauses, in which no more names are known than around them. Err where what is looked for stands in one.
-pub fn pass_clauses<'s>(aim: Aim, context: Context, clauses: &'s [Clause]) -> Result<(), Site<'s>> {
-    for clause in clauses {
-        pass_plain_condition(aim, context, &clause.condition)?;
-    }
-    Ok(())
-}
-
-/// Passes a condition that gives no names.
-fn pass_plain_condition<'s>(aim: Aim, context: Context, e: &'s Expr) -> Result<(), Site<'s>> {
-    aim.pass(Kind::Condition, e.span(), context, Part::Condition(e))?;
-    pass_expression(aim, context, e)
-}
-
-/// Why a walk doesn't come to its end: what is looked for stands there, or what is known there isn't found.
+/// A walk: what is looked for, and what is known at the part that it has come to, or at that which was found.
 #[derive(Drop)]
-enum Stop<'s> {
-    Found(Site<'s>),
-    Fault(CheckFault),
+pub struct Walk<'c, 't, 's> {
+    pub search: Search<'s>,
+    pub scope: Scope<'c, 't, 's>,
 }
 
-impl<'s> From<Site<'s>> for Stop<'s> {
-    fn from(site: Site<'s>) -> Stop<'s> {
-        Stop::Found(site)
-    }
-}
-
-impl<'s> From<CheckFault> for Stop<'s> {
-    fn from(fault: CheckFault) -> Stop<'s> {
-        Stop::Fault(fault)
-    }
-}
-
-impl<'s> From<AllocError> for Stop<'s> {
-    fn from(_error: AllocError) -> Stop<'s> {
-        Stop::Fault(CheckFault::OutOfMemory)
-    }
-}
-
-/// What is looked for in the text of a routine.
-#[derive(Clone, Copy)]
-struct Walk<'w, 't, 's> {
-    routine: &'w RoutineContext<'t, 's>,
-    aim: Aim,
-}
-
-impl<'w, 't, 's> Walk<'w, 't, 's> {
+impl<'c, 't, 's> Walk<'c, 't, 's> {
     /// Passes a routine: its precondition, its body and its postcondition.
-    fn pass_routine(&self, names: &mut Vec<Entity<'s>>, text: &'s Routine) -> Result<(), Stop<'s>> {
-        add_formals(self.routine.tables, self.routine.formals, names)?;
-        pass_clauses(self.aim, Context::Require, &text.precondition)?;
-        let known = names.len();
-        add_locals(
-            self.routine.tables,
-            self.routine.formals,
-            &text.locals,
-            names,
-        )?;
-        self.pass_instructions(names, &text.body)?;
-        names.truncate(known);
-        pass_clauses(self.aim, Context::Ensure, &text.postcondition)?;
-        Ok(())
+    pub fn pass_routine(&mut self, text: &'s Routine) {
+        self.add_formals();
+        self.pass_clauses(Context::Require, &text.precondition);
+        let known = self.scope.names.len();
+        self.add_locals(&text.locals);
+        self.pass_instructions(&text.body);
+        self.forget(known);
+        self.pass_clauses(Context::Ensure, &text.postcondition)
+    }
+
+    /// Passes clauses, in which no more names are known than around them.
+    pub fn pass_clauses(&mut self, context: Context, clauses: &'s [Clause]) {
+        pass_clauses(&mut self.search, context, clauses)
+    }
+
+    fn add_formals(&mut self) {
+        let routine = self.scope.routine;
+        let added = add_formals(routine.tables, routine.formals, &mut self.scope.names);
+        self.keep(added)
+    }
+
+    fn add_locals(&mut self, locals: &'s [Declaration]) {
+        if self.search.is_open() {
+            let routine = self.scope.routine;
+            let names = &mut self.scope.names;
+            let added = add_locals(routine.tables, routine.formals, locals, names);
+            self.keep(added)
+        }
+    }
+
+    /// Keeps that memory ran out, if it did.
+    fn keep(&mut self, added: Result<(), AllocError>) {
+        if added.is_err() {
+            self.search.found = Found::OutOfMemory;
+        }
+    }
+
+    /// Makes names unknown behind the part in which they are known: of them only so many are left, unless what is looked
+    /// for was found there.
+    fn forget(&mut self, known: usize) {
+        if self.search.is_open() {
+            self.scope.names.truncate(known);
+        }
     }
 
     /// Passes instructions. Behind them the names are as before.
     #[cycle(instructions)]
-    fn pass_instructions(
-        &self,
-        names: &mut Vec<Entity<'s>>,
-        instructions: &'s [Instr],
-    ) -> Result<(), Stop<'s>> {
+    fn pass_instructions(&mut self, instructions: &'s [Instr]) {
         for instruction in instructions {
-            self.pass_instruction(names, instruction)?;
+            self.pass_instruction(instruction);
         }
-        Ok(())
     }
 
     #[cycle(instructions)]
-    fn pass_instruction(
-        &self,
-        names: &mut Vec<Entity<'s>>,
-        instruction: &'s Instr,
-    ) -> Result<(), Stop<'s>> {
+    fn pass_instruction(&mut self, instruction: &'s Instr) {
         match instruction {
             Instr::If(_, condition, body, branches, other) => {
-                self.pass_branch(names, body, condition)?;
-                self.pass_branches(names, branches)?;
-                self.pass_instructions(names, other)
+                self.pass_branch(body, condition);
+                self.pass_branches(branches);
+                self.pass_instructions(other)
             }
             Instr::Loop(_, initial, until, body) => {
-                self.pass_instructions(names, initial)?;
-                pass_plain_condition(self.aim, Context::Body, until)?;
-                self.pass_instructions(names, body)
+                self.pass_instructions(initial);
+                pass_condition(&mut self.search, Context::Body, until);
+                self.pass_instructions(body)
             }
             Instr::Block(_, heads, body) => {
-                self.pass_heads(heads)?;
-                let known = names.len();
-                self.add_block_names(names, heads)?;
-                self.pass_instructions(names, body)?;
-                names.truncate(known);
-                Ok(())
+                let known = self.scope.names.len();
+                self.pass_heads(heads);
+                self.add_block_names(heads);
+                self.pass_instructions(body);
+                self.forget(known)
             }
-            _ => Ok(self.pass_simple(instruction)?),
+            _ => self.pass_simple(instruction),
         }
     }
 
     /// Passes an instruction that has no others in it.
-    fn pass_simple(&self, instruction: &'s Instr) -> Result<(), Site<'s>> {
+    fn pass_simple(&mut self, instruction: &'s Instr) {
         match instruction {
             Instr::Assign(_, variable, value) => self.pass_assignment(variable, value),
-            Instr::Call(call) => pass_call(self.aim, Context::Body, call),
+            Instr::Call(call) => pass_call(&mut self.search, Context::Body, call),
             Instr::Create(_, variable, None) => self.pass_variable(variable),
             Instr::Create(_, variable, Some(call)) => {
-                self.pass_variable(variable)?;
-                pass_creation(self.aim, variable, call)
+                self.pass_variable(variable);
+                pass_creation(&mut self.search, variable, call)
             }
-            Instr::Check(_, clauses) => pass_clauses(self.aim, Context::Check, clauses),
-            _ => Ok(()),
+            Instr::Check(_, clauses) => self.pass_clauses(Context::Check, clauses),
+            _ => {}
         }
     }
 
-    fn pass_assignment(&self, variable: &'s Variable, value: &'s Expr) -> Result<(), Site<'s>> {
+    fn pass_assignment(&mut self, variable: &'s Variable, value: &'s Expr) {
         let part = Part::Assigned(variable, value);
-        self.aim
-            .pass(Kind::Assigned, value.span(), Context::Body, part)?;
-        self.pass_variable(variable)?;
-        pass_expression(self.aim, Context::Body, value)
+        self.search
+            .pass(Kind::Assigned, value.span(), Context::Body, part);
+        self.pass_variable(variable);
+        pass_expression(&mut self.search, Context::Body, value)
+    }
+
+    /// Passes the entity that is assigned or created.
+    fn pass_variable(&mut self, variable: &Variable) {
+        let span = variable_span(variable);
+        self.search
+            .pass(Kind::Name, span, Context::Body, Part::Assignee)
     }
 
     #[cycle(instructions)]
-    fn pass_branches(
-        &self,
-        names: &mut Vec<Entity<'s>>,
-        branches: &'s [Branch],
-    ) -> Result<(), Stop<'s>> {
+    fn pass_branches(&mut self, branches: &'s [Branch]) {
         for branch in branches {
-            self.pass_branch(names, &branch.body, &branch.condition)?;
+            self.pass_branch(&branch.body, &branch.condition);
         }
-        Ok(())
     }
 
     /// Passes a condition and what stands under it, with the names that the condition gives.
     #[cycle(instructions)]
-    fn pass_branch(
-        &self,
-        names: &mut Vec<Entity<'s>>,
-        body: &'s [Instr],
-        condition: &'s Expr,
-    ) -> Result<(), Stop<'s>> {
-        let known = names.len();
-        self.pass_whole_condition(names, condition)?;
-        self.pass_instructions(names, body)?;
-        names.truncate(known);
-        Ok(())
+    fn pass_branch(&mut self, body: &'s [Instr], condition: &'s Expr) {
+        let known = self.scope.names.len();
+        self.pass_whole_condition(condition);
+        self.pass_instructions(body);
+        self.forget(known)
     }
 
     /// Passes the heads of a separate block, in each of which none of its names is known.
-    fn pass_heads(&self, heads: &'s [Head]) -> Result<(), Site<'s>> {
+    fn pass_heads(&mut self, heads: &'s [Head]) {
         for head in heads {
             let part = Part::Head(&head.value);
-            self.aim
-                .pass(Kind::Actual, head.value.span(), Context::Body, part)?;
-            pass_expression(self.aim, Context::Body, &head.value)?;
+            self.search
+                .pass(Kind::Actual, head.value.span(), Context::Body, part);
+            pass_expression(&mut self.search, Context::Body, &head.value);
         }
-        Ok(())
     }
 
     /// Makes the names of a separate block known.
-    fn add_block_names(
-        &self,
-        names: &mut Vec<Entity<'s>>,
-        heads: &'s [Head],
-    ) -> Result<(), CheckFault> {
-        let known = names.len();
+    fn add_block_names(&mut self, heads: &'s [Head]) {
+        let known = self.scope.names.len();
         for head in heads {
-            let outer = names.get(..known).unwrap_or(&[]);
-            let given = self.type_of_head(outer, head)?;
-            push_block_name(names, head, given)?;
+            self.add_block_name(known, head);
         }
-        Ok(())
     }
 
-    fn type_of_head(
-        &self,
-        outer: &[Entity<'s>],
-        head: &Head,
-    ) -> Result<Option<EntityType>, CheckFault> {
-        let typing = self
-            .routine
-            .expression(Context::Body, Position::Plain, outer, &head.value)?;
-        Ok(typing.entity_type)
+    /// Makes a name of a separate block known, by the type of its head, around which so many names are known.
+    fn add_block_name(&mut self, known: usize, head: &'s Head) {
+        if self.search.is_open() {
+            let outer = self.scope.names.get(..known).unwrap_or(&[]);
+            let routine = self.scope.routine;
+            match routine.expression(Context::Body, Position::Plain, outer, &head.value) {
+                Ok(typing) => self.push_block_name(head, typing.entity_type),
+                Err(fault) => self.stop(fault),
+            }
+        }
+    }
+
+    fn push_block_name(&mut self, head: &'s Head, given: Option<EntityType>) {
+        let entity_type = block_type(blocks(&self.scope.names), given);
+        let added = self.scope.names.push(Entity {
+            name: head.name.text.as_str(),
+            entity_type,
+            role: Role::Block,
+        });
+        if added.is_err() {
+            self.search.found = Found::OutOfMemory;
+        }
+    }
+
+    /// Ends the search by what isn't found in a part that it has come to.
+    fn stop(&mut self, fault: CheckFault) {
+        self.search.found = match fault {
+            CheckFault::OutOfMemory => Found::OutOfMemory,
+            CheckFault::Refused(_) => Found::Faulty,
+        };
     }
 
     /// Passes the condition of an `if`. Behind it the names that it gives are known.
-    fn pass_whole_condition(
-        &self,
-        names: &mut Vec<Entity<'s>>,
-        condition: &'s Expr,
-    ) -> Result<(), Stop<'s>> {
+    fn pass_whole_condition(&mut self, condition: &'s Expr) {
         let part = Part::Condition(condition);
-        let span = condition.span();
-        self.aim.pass(Kind::Condition, span, Context::Body, part)?;
-        self.pass_condition(names, condition)
+        self.search
+            .pass(Kind::Condition, condition.span(), Context::Body, part);
+        self.pass_condition(condition)
     }
 
     /// Passes the condition of an `if`, or an operand of the `and then`s at its top. Behind it the names that it gives
     /// are known.
-    fn pass_condition(&self, names: &mut Vec<Entity<'s>>, e: &'s Expr) -> Result<(), Stop<'s>> {
+    fn pass_condition(&mut self, e: &'s Expr) {
         match e {
             Expr::Binary(span, operator, left, right) if operator.is_and_then() => {
                 let part = Part::Operation(e);
-                self.aim.pass(Kind::Operation, *span, Context::Body, part)?;
-                self.pass_condition(names, left)?;
-                self.pass_condition(names, right)
+                self.search
+                    .pass(Kind::Operation, *span, Context::Body, part);
+                self.pass_condition(left);
+                self.pass_condition(right)
             }
             Expr::ObjectTest(_, _, tested, _) => {
-                pass_expression(self.aim, Context::Body, tested)?;
-                self.routine.condition(Context::Body, names, e)?;
-                Ok(())
+                pass_expression(&mut self.search, Context::Body, tested);
+                self.learn(e)
             }
-            _ => Ok(pass_expression(self.aim, Context::Body, e)?),
+            _ => pass_expression(&mut self.search, Context::Body, e),
         }
     }
 
-    /// Passes the entity that is assigned or created.
-    fn pass_variable(&self, variable: &Variable) -> Result<(), Site<'s>> {
-        let span = variable_span(variable);
-        self.aim
-            .pass(Kind::Name, span, Context::Body, Part::Assignee)
+    /// Makes the name known that an object test gives.
+    fn learn(&mut self, e: &'s Expr) {
+        if self.search.is_open() {
+            let routine = self.scope.routine;
+            if let Err(fault) = routine.condition(Context::Body, &mut self.scope.names, e) {
+                self.stop(fault)
+            }
+        }
     }
-}
-
-/// Makes a name of a separate block known, by the type of its head.
-fn push_block_name<'s>(
-    names: &mut Vec<Entity<'s>>,
-    head: &'s Head,
-    given: Option<EntityType>,
-) -> Result<(), CheckFault> {
-    let entity_type = block_type(blocks(names), given);
-    names.push(Entity {
-        name: head.name.text.as_str(),
-        entity_type,
-        role: Role::Block,
-    })?;
-    Ok(())
 }
