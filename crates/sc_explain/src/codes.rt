@@ -6,19 +6,39 @@ ghost use Rattle.sc_explain.specs.Page.{IsPageOf};
 use crate::{classes, failures, grammar, lowering, records, rules, text};
 use std::alloc::{AllocError, Global};
 
-/// How many groups of pages there are.
-const GROUPS: usize = 7;
+/// What the pages of a group tell of.
+#[derive(Clone, Copy)]
+enum Topic {
+    Text,
+    Grammar,
+    Classes,
+    Rules,
+    Lowering,
+    Records,
+    Failures,
+}
 
-/// The pages of the group at a number, in the order in which what they tell of is looked for.
-fn pages_of(group: usize) -> &'static [&'static str] {
-    match group {
-        0 => text::pages(),
-        1 => grammar::pages(),
-        2 => classes::pages(),
-        3 => rules::pages(),
-        4 => lowering::pages(),
-        5 => records::pages(),
-        _ => failures::pages(),
+/// In the order in which they are looked at.
+const TOPICS: [Topic; 7] = [
+    Topic::Text,
+    Topic::Grammar,
+    Topic::Classes,
+    Topic::Rules,
+    Topic::Lowering,
+    Topic::Records,
+    Topic::Failures,
+];
+
+/// The pages that tell of a topic.
+fn pages_of(topic: Topic) -> &'static [&'static str] {
+    match topic {
+        Topic::Text => text::pages(),
+        Topic::Grammar => grammar::pages(),
+        Topic::Classes => classes::pages(),
+        Topic::Rules => rules::pages(),
+        Topic::Lowering => lowering::pages(),
+        Topic::Records => records::pages(),
+        Topic::Failures => failures::pages(),
     }
 }
 
@@ -26,8 +46,8 @@ fn pages_of(group: usize) -> &'static [&'static str] {
 pub fn find(word: &str) -> Option<&'static str>
     ensures { IfSome result (λ page. IsPageOf page.now word.now) }
 {
-    for group in 0..GROUPS {
-        if let Some(page) = find_among(pages_of(group), word) {
+    for topic in TOPICS {
+        if let Some(page) = find_among(pages_of(topic), word) {
             return Some(page);
         }
     }
@@ -63,8 +83,8 @@ fn is_page_of(page: &str, word: &str) -> bool
 /// The first line of each page.
 pub fn list(alloc: Global) -> Result<String, AllocError> {
     let mut lines = String::new(alloc);
-    for group in 0..GROUPS {
-        push_headings(&mut lines, pages_of(group))?;
+    for topic in TOPICS {
+        push_headings(&mut lines, pages_of(topic))?;
     }
     Ok(lines)
 }
