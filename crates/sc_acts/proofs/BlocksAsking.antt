@@ -20,7 +20,8 @@ use Rattle.sc_region.specs.Frames.{PlainActivation, top_activation}
 use Rattle.sc_request.specs.Asked as asked
 use Rattle.sc_interp.specs.declared.act.Act.TheVariants as act
 use Rattle.sc_interp.specs.declared.act.Hop.TheVariants as hop
-use Rattle.sc_interp.specs.Entering.{handler_of, last_values}
+use Rattle.sc_region.specs.Calls.{last_values}
+use Rattle.sc_interp.specs.Entering.{handler_of}
 use Rattle.sc_interp.specs.Laws.{ProgramsServe}
 use Rattle.sc_interp.specs.RegionSteps.{names_of, numbering_by}
 use Rattle.sc_interp.specs.Standing as standing

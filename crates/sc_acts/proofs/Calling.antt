@@ -27,7 +27,8 @@ use Rattle.sc_interp.specs.declared.act.Act.TheVariants as act
 use Rattle.sc_interp.specs.declared.act.Calling.{Calling}
 use Rattle.sc_interp.specs.declared.act.Calling.TheVariants as calling
 use Rattle.sc_interp.specs.declared.act.Hop.TheVariants as hop
-use Rattle.sc_interp.specs.Entering.{HasCall, called, called_at, entered_if, has_operands, in_call, last_values, operands_of, routine_in}
+use Rattle.sc_region.specs.Calls.{in_call, last_values, on_top}
+use Rattle.sc_interp.specs.Entering.{HasCall, called, called_at, entered_if, has_operands, operands_of, routine_in}
 use Rattle.sc_interp.specs.Entering as entering
 use Rattle.sc_interp.specs.Hopping.{state_in}
 use Rattle.sc_interp.specs.Laws.{ProgramsServe}
@@ -36,7 +37,6 @@ use Rattle.sc_interp.specs.RegionSteps.{IsProgramFor}
 use Rattle.sc_interp.specs.RegionTurns.{Half, enters, enters_bound, turn, with_stack}
 use Rattle.sc_interp.specs.Serving.{version_in}
 use Rattle.sc_interp.specs.Standing.{actuals, name_at, without}
-use Rattle.sc_interp.specs.Turning.{on_top}
 use Rattle.sc_interp.specs.Values.{reference_of, values_of}
 use Rattle.sc_acts.specs.Acting.{CallsAreMade, Comes, Meets}
 use Rattle.sc_acts.proofs.Coming.{meets}

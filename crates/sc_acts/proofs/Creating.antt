@@ -38,7 +38,7 @@ use Rattle.sc_interp.specs.RegionHalves.{IsRegionOf, AreFrames}
 use Rattle.sc_interp.specs.RegionSteps.{IsProgramFor}
 use Rattle.sc_interp.specs.RegionTurns.{Half, turn}
 use Rattle.sc_interp.specs.Standing.{actuals, state_of, without}
-use Rattle.sc_interp.specs.Turning.{on_top, past, top_frame}
+use Rattle.sc_region.specs.Calls.{on_top, past, top_frame}
 use Rattle.sc_interp.specs.Values.{reference_of, value_of, values_of}
 use Rattle.sc_interp.proofs.Behind.{passes}
 use Rattle.sc_interp.proofs.Moving.{stays_after}

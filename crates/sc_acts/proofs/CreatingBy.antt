@@ -34,7 +34,8 @@ use Rattle.sc_region.specs.Stores.{PlainStore, born_for, entered, entered_at, ne
 use Rattle.sc_interp.specs.declared.act.Act.TheVariants as act
 use Rattle.sc_interp.specs.declared.act.Hop.TheVariants as hop
 use Rattle.sc_interp.specs.Creating.{created_at, created_by, has_room_in, made_if, with_reference}
-use Rattle.sc_interp.specs.Entering.{Has, entered_if, has_operands, in_call, last_values, routine_in}
+use Rattle.sc_region.specs.Calls.{in_call, last_values, on_top, top_frame}
+use Rattle.sc_interp.specs.Entering.{Has, entered_if, has_operands, routine_in}
 use Rattle.sc_interp.specs.Laws.{ProgramsServe}
 use Rattle.sc_interp.specs.Objects.{object_in, objects_in}
 use Rattle.sc_interp.specs.RegionHalves.{IsRegionOf, AreFrames}
@@ -42,7 +43,6 @@ use Rattle.sc_interp.specs.RegionSteps.{IsProgramFor}
 use Rattle.sc_interp.specs.RegionTurns.{Half, enters, turn, with_stack}
 use Rattle.sc_interp.specs.Serving.{version_in}
 use Rattle.sc_interp.specs.Standing.{actuals, name_at, state_of, without}
-use Rattle.sc_interp.specs.Turning.{on_top, top_frame}
 use Rattle.sc_interp.specs.Values.{reference_of, value_of, values_of}
 use Rattle.sc_interp.proofs.Behind.{passes}
 use Rattle.sc_interp.proofs.Playing.{some_same}

@@ -49,7 +49,7 @@ use Rattle.sc_interp.specs.RegionHalves.{IsRegionOf, AreFrames, IsFrame, StandsI
 use Rattle.sc_interp.specs.RegionSteps.{IsProgramFor}
 use Rattle.sc_interp.specs.RegionTurns as half
 use Rattle.sc_interp.specs.RegionTurns.{Half, acts, hands, leaves, settles, turn, with_stack}
-use Rattle.sc_interp.specs.Turning.{on_top}
+use Rattle.sc_region.specs.Calls.{on_top}
 use Rattle.sc_interp.specs.Values.{value_of}
 use Rattle.sc_interp.proofs.GoingOn.{less_is}
 use Rattle.sc_interp.proofs.Playing.{none_some, some_same}

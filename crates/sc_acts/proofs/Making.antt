@@ -21,7 +21,7 @@ use Rattle.sc_interp.specs.RegionHalves.{IsRegionOf, AreFrames, IsFrame, StandsI
 use Rattle.sc_interp.specs.RegionTurns as half
 use Rattle.sc_interp.specs.RegionTurns.{Made, begins, takes_made, with_stack}
 use Rattle.sc_interp.specs.Standing.{state_of}
-use Rattle.sc_interp.specs.Turning.{on_top}
+use Rattle.sc_region.specs.Calls.{on_top}
 use Rattle.sc_interp.specs.Values.{value_of, values_of}
 use Rattle.sc_interp.proofs.Playing.{none_some, some_same}
 use Rattle.sc_play.specs.Answering.{runs, told, told_on, told_value, told_values, top_stage}

@@ -33,7 +33,8 @@ use Rattle.sc_interp.specs.RegionHalves.{IsRegionOf, AreFrames, IsFrame, StandsI
 use Rattle.sc_interp.specs.RegionSteps.{IsProgramFor}
 use Rattle.sc_interp.specs.RegionTurns.{Half, acts, failed, goes_on, moved, turn, turn_on}
 use Rattle.sc_interp.specs.Standing.{Stays, listed, state_of, without}
-use Rattle.sc_interp.specs.Turning.{back, on_top, past, round_ended, top_frame}
+use Rattle.sc_region.specs.Calls.{on_top, past, top_frame}
+use Rattle.sc_interp.specs.Turning.{back, round_ended}
 use Rattle.sc_interp.proofs.Behind.{passes}
 use Rattle.sc_interp.proofs.Moving.{stays_after}
 use Rattle.sc_interp.proofs.Popping.{values_drop}

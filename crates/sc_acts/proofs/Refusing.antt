@@ -41,7 +41,7 @@ use Rattle.sc_interp.specs.RegionTurns as half
 use Rattle.sc_interp.specs.RegionTurns.{Half, acts, correctness_fails, false_clause, leaves, turn}
 use Rattle.sc_interp.specs.Hopping.{state_in}
 use Rattle.sc_interp.specs.Standing.{formals_at, without}
-use Rattle.sc_interp.specs.Turning.{on_top}
+use Rattle.sc_region.specs.Calls.{on_top}
 use Rattle.sc_interp.specs.Values.{value_of, values_of}
 use Rattle.sc_interp.proofs.Playing.{none_some, some_same}
 use Rattle.sc_acts.specs.Acting.{AreWhole, CallsAreRefused, Comes, IsNotWaitedFor, Meets}

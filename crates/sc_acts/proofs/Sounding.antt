@@ -29,13 +29,14 @@ use Rattle.sc_interp.specs.declared.act.Calling.{Calling}
 use Rattle.sc_interp.specs.declared.act.Hop.{Hop}
 use Rattle.sc_interp.specs.declared.act.Hop.TheVariants as hop
 use Rattle.sc_interp.specs.Creating.{created_at, given, has_room, has_room_in, made_if, with_reference, without_last}
-use Rattle.sc_interp.specs.Entering.{called_at, entered_if, has_operands, in_call, last_values, operands_of, origin_of, routine_in}
+use Rattle.sc_region.specs.Calls.{in_call, last_values, on_top, past, top_frame}
+use Rattle.sc_interp.specs.Entering.{called_at, entered_if, has_operands, operands_of, origin_of, routine_in}
 use Rattle.sc_interp.specs.Exiting.{exited_at, handed, handed_as, handed_at, handed_value, is_unset, is_untested, is_void, returned}
 use Rattle.sc_interp.specs.Refusing.{is_waited_for, refused_as, refused_at, waiting}
 use Rattle.sc_interp.specs.Serving.{version_in}
 use Rattle.sc_interp.specs.Standing.{formals_at}
 use Rattle.sc_interp.specs.Told.{IsTold}
-use Rattle.sc_interp.specs.Turning.{on_top, past, round_ended, top_frame}
+use Rattle.sc_interp.specs.Turning.{round_ended}
 use Rattle.sc_interp.proofs.Playing.{none_some}
 use Rattle.sc_play.specs.Acting.{acted}
 use Rattle.sc_play.specs.Answering.{block_granted, entry_granted, granted_in, replied_in, told_on, told_values, top_stage}

@@ -30,7 +30,7 @@ use Rattle.sc_interp.specs.declared.act.Act.TheVariants as act
 use Rattle.sc_interp.specs.declared.act.Hop.{Hop}
 use Rattle.sc_interp.specs.declared.act.Hop.TheVariants as hop
 use Rattle.sc_interp.specs.Creating.{with_reference, without_last}
-use Rattle.sc_interp.specs.Entering.{last_values, taken}
+use Rattle.sc_region.specs.Calls.{last_values, taken, next_place, on_top, past, top_frame}
 use Rattle.sc_interp.specs.Hopping.{state_in}
 use Rattle.sc_interp.specs.Laws.{ProgramsServe}
 use Rattle.sc_interp.specs.Objects.{objects_in}
@@ -39,7 +39,6 @@ use Rattle.sc_interp.specs.RegionSteps.{IsProgramFor}
 use Rattle.sc_interp.specs.RegionTurns.{Half, creates_handler, leaves_block, with_stack}
 use Rattle.sc_interp.specs.Standing as standing
 use Rattle.sc_interp.specs.Standing.{actuals, name_at, state_of, without}
-use Rattle.sc_interp.specs.Turning.{next_place, on_top, past, top_frame}
 use Rattle.sc_interp.specs.Values.{reference_of, value_of, values_of}
 use Rattle.sc_interp.proofs.Behind.{passes}
 use Rattle.sc_acts.specs.Acting.{BlocksBegin, BlocksEnd, Comes, HandlersAreCreated, HasBlock, HasNoBlock, Meets, NoBlockEnds, RequestsAreMade, awaiting_if, closing, creating, first_object, opening, sending, written}

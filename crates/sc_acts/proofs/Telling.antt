@@ -17,14 +17,14 @@ use Rattle.sc_interp.specs.declared.act.Calling.{Calling}
 use Rattle.sc_interp.specs.declared.act.Calling.TheVariants as calling
 use Rattle.sc_interp.specs.declared.act.Hop.TheVariants as hop
 use Rattle.sc_interp.specs.Creating.{has_room, with_reference, without_last}
-use Rattle.sc_interp.specs.Entering.{Has, HasCall, has_operands, last_values, operands_of, taken}
+use Rattle.sc_region.specs.Calls.{last_values, taken, on_top, past, top_frame}
+use Rattle.sc_interp.specs.Entering.{Has, HasCall, has_operands, operands_of}
 use Rattle.sc_interp.specs.Laws.{ProgramsServe}
 use Rattle.sc_interp.specs.RegionHalves.{IsRegionOf}
 use Rattle.sc_interp.specs.RegionSteps.{names_of}
 use Rattle.sc_interp.specs.RegionTurns.{turn}
 use Rattle.sc_interp.specs.Standing.{name_at}
 use Rattle.sc_interp.specs.Told.{HasName, HasProcedure, IsReady, IsReadyAt, IsTold, NamesCall, NamesCreation}
-use Rattle.sc_interp.specs.Turning.{on_top, past, top_frame}
 use Rattle.sc_interp.proofs.GoingOn.{less_is, more_is}
 use Rattle.sc_interp.proofs.Playing.{none_some, some_same}
 use Rattle.sc_play.specs.Acting.{acted}

@@ -31,7 +31,7 @@ use Rattle.sc_interp.specs.RegionHalves.{IsRegionOf, AreFrames, IsFrame, StandsI
 use Rattle.sc_interp.specs.RegionSteps.{IsProgramFor}
 use Rattle.sc_interp.specs.RegionTurns.{Half, false_clause, turn, waits_again}
 use Rattle.sc_interp.specs.Standing.{formals_at, state_of, without}
-use Rattle.sc_interp.specs.Turning.{on_top, top_frame}
+use Rattle.sc_region.specs.Calls.{on_top, top_frame}
 use Rattle.sc_interp.specs.Values.{reference_of, values_of}
 use Rattle.sc_acts.specs.Acting.{Comes, Meets}
 use Rattle.sc_acts.specs.Waiting.{IsInContract, IsVersion, IsWaitedFor, RefusesInContract, RoutinesWait}

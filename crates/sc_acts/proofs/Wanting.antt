@@ -38,7 +38,7 @@ use Rattle.sc_request.specs.Asked as asked
 use Rattle.sc_request.specs.Asked.{Numbering}
 use Rattle.sc_interp.specs.declared.act.Act.TheVariants as act
 use Rattle.sc_interp.specs.declared.act.Hop.TheVariants as hop
-use Rattle.sc_interp.specs.Entering.{last_values}
+use Rattle.sc_region.specs.Calls.{last_values, on_top}
 use Rattle.sc_interp.specs.Exiting as exiting
 use Rattle.sc_interp.specs.Exiting.{asks_exiting, exited, returned}
 use Rattle.sc_interp.specs.Laws.{ProgramsServe}
@@ -48,7 +48,7 @@ use Rattle.sc_interp.specs.RegionHalves.{IsRegionOf, calling_of, origin_of, requ
 use Rattle.sc_interp.specs.RegionSteps.{IsProgramFor, names_of, next_want, number_among, numbering_by}
 use Rattle.sc_interp.specs.RegionTurns.{Half, turn}
 use Rattle.sc_interp.specs.Standing.{actuals, formals_at, name_at}
-use Rattle.sc_interp.specs.Turning.{on_top, unless_failed}
+use Rattle.sc_interp.specs.Turning.{unless_failed}
 use Rattle.sc_interp.specs.Values.{reference_of, value_of, values_of}
 use Rattle.sc_interp.proofs.Playing.{some_same}
 use Rattle.sc_play.specs.Blocks.{asks_leaving, asks_left, innermost}

@@ -40,10 +40,11 @@ use Rattle.sc_interp.specs.RegionTurns.{Half, enters, turn}
 use Rattle.sc_interp.specs.Serving.{version_in}
 use Rattle.sc_interp.specs.Standing.{formals_at, hopped, listed}
 use Rattle.sc_interp.specs.Creating.{created, created_by, has_room_in, with_reference, without_last}
-use Rattle.sc_interp.specs.Entering.{Has, HasCall, called, entered_if, last_values, routine_in}
+use Rattle.sc_region.specs.Calls.{last_values, on_top, past}
+use Rattle.sc_interp.specs.Entering.{Has, HasCall, called, entered_if, routine_in}
 use Rattle.sc_interp.specs.Exiting.{exited}
 use Rattle.sc_interp.specs.Refusing.{is_waited_for, refused}
-use Rattle.sc_interp.specs.Turning.{on_top, past, round_ended, unless_failed}
+use Rattle.sc_interp.specs.Turning.{round_ended, unless_failed}
 use Rattle.sc_interp.specs.Values.{reference_of, values_of}
 
 -- ---- silent operations

@@ -5,7 +5,7 @@ use Rattle.sc_region.specs.declared.frame.Stage.TheVariants as stage
 use Rattle.sc_region.specs.Stores.{PlainStore}
 use Rattle.sc_interp.specs.RegionHalves.{IsRegionOf}
 use Rattle.sc_interp.specs.RegionTurns.{Half, Made, taken_turn, told_frames, with_stack}
-use Rattle.sc_interp.specs.Turning.{on_top}
+use Rattle.sc_region.specs.Calls.{on_top}
 use Rattle.sc_play.specs.Answering.{runs, told, top_stage}
 
 -- the half, whose topmost frame has been told the number of the handler that it made

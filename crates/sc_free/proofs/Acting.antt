@@ -26,12 +26,13 @@ use Rattle.sc_interp.specs.declared.act.Act.TheVariants as act
 use Rattle.sc_interp.specs.declared.act.Calling.{Calling}
 use Rattle.sc_interp.specs.declared.act.Calling.TheVariants as calling
 use Rattle.sc_interp.specs.Creating.{created_at, given, has_room, has_room_in, made_if, with_reference, without_last}
-use Rattle.sc_interp.specs.Entering.{asks_beginning, asks_reserving, asks_with, called_at, entered_if, has_operands, in_call, last_values, operands_of, origin_of, routine_in}
+use Rattle.sc_region.specs.Calls.{in_call, last_values, on_top, past}
+use Rattle.sc_interp.specs.Entering.{asks_beginning, asks_reserving, asks_with, called_at, entered_if, has_operands, operands_of, origin_of, routine_in}
 use Rattle.sc_interp.specs.Exiting.{asks_exiting, asks_releasing, asks_returning, exited_at, handed, handed_as, handed_at, handed_value, is_unset, is_untested, returned}
 use Rattle.sc_interp.specs.Refusing.{asks_refusing, is_waited_for, refused_as, refused_at, waiting}
 use Rattle.sc_interp.specs.Serving.{version_in}
 use Rattle.sc_interp.specs.Standing.{formals_at, listed}
-use Rattle.sc_interp.specs.Turning.{on_top, past, round_ended}
+use Rattle.sc_interp.specs.Turning.{round_ended}
 use Rattle.sc_play.specs.Acting.{acted, asks_acted}
 use Rattle.sc_play.specs.Blocks.{asks_left, asks_opened, closing, heads_in, innermost_in, left_with, opened_with, opening}
 use Rattle.sc_play.specs.CreatingHandlers as remote

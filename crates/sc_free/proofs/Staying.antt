@@ -12,7 +12,7 @@ use Rattle.sc_region.specs.Frames.{PlainActivation, PlainFrame, top_activation, 
 use Rattle.sc_region.specs.Objects.{object_numbered}
 use Rattle.sc_region.specs.Stores.{PlainStore, born, born_for, entered, entered_at, entry, failed, is_settled, left, left_to, max_frames, settled, with_new}
 use Rattle.sc_interp.specs.Playing.{Remains}
-use Rattle.sc_interp.specs.Turning.{on_top, top_frame}
+use Rattle.sc_region.specs.Calls.{on_top, top_frame}
 use Rattle.sc_free.specs.Serving.{Serve, served}
 
 -- It serves so many, unless it has failed.

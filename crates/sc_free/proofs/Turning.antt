@@ -25,7 +25,8 @@ use Rattle.sc_interp.specs.declared.act.Hop.TheVariants as hop
 use Rattle.sc_interp.specs.Entering.{asks_beginning, routine_in}
 use Rattle.sc_interp.specs.Exiting.{handed_as, is_void}
 use Rattle.sc_interp.specs.Serving.{version_in}
-use Rattle.sc_interp.specs.Turning.{on_top, unless_failed}
+use Rattle.sc_region.specs.Calls.{on_top}
+use Rattle.sc_interp.specs.Turning.{unless_failed}
 use Rattle.sc_play.specs.Acting.{acted, asks_acted}
 use Rattle.sc_play.specs.Answering.{block_granted, entry_granted, granted_in, replied_in, runs, told_on, top_stage}
 use Rattle.sc_play.specs.Regions.{EndsIn}

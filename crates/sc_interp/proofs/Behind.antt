@@ -5,7 +5,7 @@ use Rattle.sc_code.specs.Machine.{Act, State, Does, does}
 use Rattle.sc_model.specs.Objects.{Object}
 use Rattle.sc_region.specs.Frames.{PlainActivation}
 use Rattle.sc_interp.specs.Standing.{state_of, without}
-use Rattle.sc_interp.specs.Turning.{next_place, past}
+use Rattle.sc_region.specs.Calls.{next_place, past}
 use Rattle.sc_interp.specs.Values.{values_of}
 use Rattle.sc_interp.proofs.Popping.{values_drop}
 

@@ -9,9 +9,9 @@ use Rattle.sc_region.specs.declared.value.Value.{Value}
 use Rattle.sc_region.specs.Frames.{PlainActivation, PlainFrame, top_activation}
 use Rattle.sc_region.specs.Stores.{PlainStore, failed, made_for}
 use Rattle.sc_interp.specs.Creating.{created_at, created_by, has_room_in, made_if, with_reference, without_last}
-use Rattle.sc_interp.specs.Entering.{Calls, Has, has_operands, in_call, last_values, routine_in}
+use Rattle.sc_region.specs.Calls.{in_call, last_values, on_top, past, top_frame}
+use Rattle.sc_interp.specs.Entering.{Calls, Has, has_operands, routine_in}
 use Rattle.sc_interp.specs.Serving.{version_in}
-use Rattle.sc_interp.specs.Turning.{on_top, past, top_frame}
 use Rattle.sc_interp.proofs.Playing.{none_some, some_same}
 
 room_by : (a b : PlainActivation) (n : ℕ) → length a.operands.values < a.operands.depth → Some a ≡ Some b → length b.operands.values < b.operands.depth

@@ -6,9 +6,9 @@ use Rattle.sc_region.specs.declared.value.Value.{Value}
 use Rattle.sc_region.specs.declared.value.Value.TheVariants as value
 use Rattle.sc_region.specs.Frames.{PlainActivation, top_activation}
 use Rattle.sc_region.specs.Stores.{PlainStore, failed, made, made_for}
-use Rattle.sc_interp.specs.Entering.{has_operands, in_call, last_values, routine_in}
+use Rattle.sc_region.specs.Calls.{in_call, last_values, on_top, past}
+use Rattle.sc_interp.specs.Entering.{has_operands, routine_in}
 use Rattle.sc_interp.specs.Serving.{version_in}
-use Rattle.sc_interp.specs.Turning.{on_top, past}
 
 -- one more operand, the reference
 abbrev pub with_reference : Reference → PlainActivation → PlainActivation

@@ -1,5 +1,5 @@
 -- What a call of a routine makes of a store, and what it asks.
-use Rattle.std.specs.Prelude.{◌≡◌, ◌≤◌, ℕ, zero, suc, ◌+◌, Bool, true, false, not, ◌&&◌, List, [], ◌∷◌, Option, Some, None, length, nat_lt, take, slice_get, if◌then◌else◌}
+use Rattle.std.specs.Prelude.{◌≡◌, ◌≤◌, ℕ, ◌+◌, Bool, true, false, not, ◌&&◌, List, [], ◌∷◌, Option, Some, None, length, nat_lt, take, slice_get, if◌then◌else◌}
 use Rattle.std.specs.List.{filter_map}
 use Rattle.sc_model.specs.declared.cause.Cause.TheVariants as cause
 use Rattle.sc_code.specs.declared.program.Image.{Image}
@@ -9,31 +9,21 @@ use Rattle.sc_code.specs.declared.program.Version.TheVariants as version
 use Rattle.sc_region.specs.declared.frame.Origin.{Origin}
 use Rattle.sc_region.specs.declared.frame.Origin.TheVariants as origin
 use Rattle.sc_region.specs.declared.frame.Stage.{Stage}
-use Rattle.sc_region.specs.declared.frame.Stage.TheVariants as stage
 use Rattle.sc_region.specs.declared.job.Want.{Want}
 use Rattle.sc_region.specs.declared.job.Want.TheVariants as want
 use Rattle.sc_region.specs.declared.value.Reference.{Reference}
 use Rattle.sc_region.specs.declared.value.Value.{Value}
 use Rattle.sc_region.specs.declared.value.Value.TheVariants as value
 use Rattle.sc_region.specs.Classes.{routine_at}
+use Rattle.sc_region.specs.Calls.{in_call, last_values, on_top}
 use Rattle.sc_region.specs.Frames.{PlainActivation, top_activation}
 use Rattle.sc_region.specs.OperandList.{operands_onto}
 use Rattle.sc_region.specs.Stores.{PlainStore, failed, entered}
 use Rattle.sc_interp.specs.declared.act.Calling.{Calling}
 use Rattle.sc_interp.specs.declared.act.Calling.TheVariants as calling
 use Rattle.sc_interp.specs.Serving.{version_in}
-use Rattle.sc_interp.specs.Turning.{on_top, past}
 
 -- ---- operands
-
--- the last so many values, in the order of the text, before those given
-abbrev pub taken : ℕ → List Value → List Value → List Value
-taken zero us vs = us
-taken (suc n) us [] = us
-taken (suc n) us (v ∷ vs) = taken n (v ∷ us) vs
-
-abbrev pub last_values : ℕ → List Value → List Value
-last_values n vs = taken n [] vs
 
 -- There are so many operands, and a call takes as many: a routine has at most 16 formals, and a target lies under the actuals.
 abbrev pub has_operands : ℕ → PlainActivation → Bool
@@ -49,10 +39,6 @@ origin_of calling.Unqualified = origin.Unqualified
 origin_of calling.Qualified = origin.Qualified
 
 -- ---- the caller
-
--- it is in a call that took so many operands
-abbrev pub in_call : ℕ → Bool → PlainActivation → PlainActivation
-in_call n gives a = record (past n a) { stage = stage.InCall gives }
 
 -- it stands again as before the call
 abbrev pub resumed : List Value → ℕ → Stage → PlainActivation → PlainActivation

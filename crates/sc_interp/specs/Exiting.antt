@@ -18,7 +18,7 @@ use Rattle.sc_region.specs.Classes.{routine_at, object_meets}
 use Rattle.sc_region.specs.Objects.{object_numbered}
 use Rattle.sc_region.specs.Frames.{PlainActivation, top_current, top_activation}
 use Rattle.sc_region.specs.Stores.{PlainStore, failed, left}
-use Rattle.sc_interp.specs.Turning.{on_top}
+use Rattle.sc_region.specs.Calls.{on_top}
 
 -- ---- what is tested
 

@@ -12,7 +12,7 @@ use Rattle.sc_model.specs.Objects.{Object}
 use Rattle.sc_region.specs.Frames.{PlainActivation}
 use Rattle.sc_interp.specs.Serving.{Serves}
 use Rattle.sc_interp.specs.Standing.{state_of, without}
-use Rattle.sc_interp.specs.Turning.{past}
+use Rattle.sc_region.specs.Calls.{past}
 
 -- A silent operation goes ahead: less of the code lies behind its place than before.
 abbrev pub SilentOperationsFall : Type 0

@@ -1,6 +1,7 @@
 //! Visible operations that need nothing but the store: what each makes of it, and what the turn asks.
 
 mod beginning;
+mod caller;
 mod creating;
 mod entering;
 mod exiting;

@@ -5,3 +5,4 @@ pub mod Meeting
 pub mod Settling
 pub mod Filling
 pub mod Reaching
+pub mod Calling

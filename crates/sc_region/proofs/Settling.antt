@@ -12,7 +12,9 @@ use Rattle.sc_code.specs.declared.program.RoutineCode.{RoutineCode}
 use Rattle.sc_region.specs.declared.frame.Origin.{Origin}
 use Rattle.sc_region.specs.declared.frame.Origin.TheVariants as origin
 use Rattle.sc_region.specs.Objects.{PlainObject, object_numbered}
-use Rattle.sc_region.specs.Frames.{PlainFrame, is_current}
+use Rattle.sc_region.specs.Frames.{PlainActivation, PlainFrame, is_current}
+use Rattle.sc_region.specs.Calls.{calls, in_call, last_values, on_top, top_frame, top_operands}
+use Rattle.sc_region.specs.declared.frame.Call.{Call}
 use Rattle.sc_region.specs.Classes.{routine_at, fresh_object, MeetsInvariant, object_breaks}
 use Rattle.sc_region.specs.Stores.{PlainStore, max_objects, max_frames, new_store, is_settled, SettledObjectsMeet, failed, settled, written_to, written, entry, entered_at, entered, left_to, left, with_new, born, born_for, next_reference, made, made_for, printed}
 use Rattle.sc_region.specs.declared.frame.Activation.{Activation}
@@ -204,6 +206,19 @@ printed_keeps text x m = m
 pub either_keeps : {T E : Type 0} (r : Result T E) (x y z : PlainStore) → OnOk r (x ≡ y) → OnErr r (x ≡ z) → SettledObjectsMeet y → SettledObjectsMeet z → SettledObjectsMeet x
 either_keeps (Ok t) x y z ok err m n = subst SettledObjectsMeet (sym ok) m
 either_keeps (Err e) x y z ok err m n = subst SettledObjectsMeet (sym err) n
+
+-- ---- calls
+
+top_frame_settled : (number : ℕ) (f : PlainActivation → PlainActivation) (fs : List PlainFrame) → is_current number (top_frame f fs) ≡ is_current number fs
+top_frame_settled number f [] = refl
+top_frame_settled number f (t ∷ below) = refl
+
+on_top_keeps : (f : PlainActivation → PlainActivation) (x : PlainStore) → SettledObjectsMeet x → SettledObjectsMeet (on_top f x)
+on_top_keeps f x m k o e g = m k o (ap (λ b. is_none x.failure && not b) (sym (top_frame_settled k f x.frames)) ∙ e) g
+
+pub calls_keeps : (me : Reference) (routine : ℕ) (k : Call) (x : PlainStore) → SettledObjectsMeet x → SettledObjectsMeet (calls me routine k x)
+calls_keeps me routine k x m =
+    entered_keeps me routine k.origin (last_values k.actuals (top_operands x.frames)) (on_top (in_call k.operands k.gives) x) (on_top_keeps (in_call k.operands k.gives) x m)
 
 -- ---- the topmost routine
 

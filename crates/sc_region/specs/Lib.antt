@@ -5,4 +5,5 @@ pub mod Frames
 pub mod Classes
 pub mod Stores
 pub mod States
+pub mod Calls
 pub mod Lending

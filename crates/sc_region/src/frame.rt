@@ -1,5 +1,6 @@
 //! Where the routine of a frame stands.
-ghost use Rattle.std.specs.Prelude.{◌≡◌, ◌++◌, OnOk, replicate};
+ghost use Rattle.std.specs.Prelude.{◌≡◌, ◌++◌, ◌-◌, [], OnOk, replicate};
+ghost use Rattle.sc_region.specs.Calls.{in_call};
 ghost use Rattle.sc_region.specs.Stores.{beginning};
 ghost use Rattle.sc_region.specs.declared.value.Value.TheVariants.{Void};
 ghost use Rattle.sc_region.specs.Frames.{activation_of};
@@ -9,6 +10,7 @@ use crate::value::Value;
 use arrayvec::ArrayVec;
 use sc_code::RoutineCode;
 use std::alloc::{AllocError, Global};
+use std::mem::replace;
 
 /// What began a routine.
 #[derive(Clone, Copy, Debug, PartialEq, Eq)]
@@ -44,6 +46,18 @@ pub enum Stage {
         gives: bool,
         is_creation: bool,
     },
+}
+
+/// How a routine calls another one of the same handler.
+#[derive(Clone, Copy)]
+pub struct Call {
+    pub origin: Origin,
+    /// How many of the last operands are the actuals.
+    pub actuals: usize,
+    /// How many operands the call takes, with a target that lies under the actuals.
+    pub operands: usize,
+    /// Whether the call gives a value.
+    pub gives: bool,
 }
 
 /// What the turns of a routine change in its frame: where it stands, and the values of its entities and operands.
@@ -95,11 +109,19 @@ impl Activation {
     ) -> Result<(), AllocError>
         ensures { OnOk result (activation_of self.new ≡ beginning routine code.now origin actuals.now) }
     {
-        fill_slots(
-            &mut self.slots,
-            actuals,
-            code.slots.saturating_sub(code.formals),
-        )?;
+        fill_slots(&mut self.slots, code, actuals)?;
+        self.begin_so(routine, code, origin)
+    }
+
+    /// A routine begins here whose slots are filled. Err where there is no memory.
+    fn begin_so(
+        &mut self,
+        routine: usize,
+        code: &RoutineCode,
+        origin: Origin,
+    ) -> Result<(), AllocError>
+        ensures { OnOk result (activation_of self.new ≡ record (beginning routine code.now origin []) { slots = self.old.slots.items }) }
+    {
         self.olds.reset(code.olds)?;
         self.operands.reset(code.depth)?;
         self.blocks.clear();
@@ -116,16 +138,56 @@ impl Activation {
         self.result = code.result.map(|(default, _)| Value::of_default(default));
         Ok(())
     }
+
+    /// The memory of the slots, which are gone.
+    pub(crate) fn take_slots(&mut self, alloc: Global) -> Vec<Value> {
+        replace(&mut self.slots, Vec::new(alloc))
+    }
+
+    /// A routine begins here with these slots. Err where there is no memory.
+    pub(crate) fn begin_with(
+        &mut self,
+        routine: usize,
+        code: &RoutineCode,
+        origin: Origin,
+        slots: Vec<Value>,
+    ) -> Result<(), AllocError>
+        ensures { OnOk result (activation_of self.new ≡ record (beginning routine code.now origin []) { slots = slots.items }) }
+    {
+        self.slots = slots;
+        self.begin_so(routine, code, origin)
+    }
+
+    /// The routine is in a call that takes so many operands.
+    pub(crate) fn suspend(&mut self, operands: usize, gives: bool)
+        ensures { activation_of self.new ≡ in_call operands gives (activation_of self.old) }
+    {
+        self.operands.drop_last(operands);
+        self.place = self.place.saturating_add(1);
+        self.stage = Stage::InCall { gives };
+    }
 }
 
-/// The actuals, and so many slots that are Void.
-#[tactic(auto, using(crate::proofs::Filling::slot_more))]
-fn fill_slots(slots: &mut Vec<Value>, actuals: &[Value], others: usize) -> Result<(), AllocError>
-    ensures { OnOk result (slots.new.items ≡ actuals.now ++ replicate others Void) }
+/// The slots of a routine that begins: the actuals, and Void in the others.
+pub(crate) fn fill_slots(
+    slots: &mut Vec<Value>,
+    code: &RoutineCode,
+    actuals: &[Value],
+) -> Result<(), AllocError>
+    ensures { OnOk result (slots.new.items ≡ actuals.now ++ replicate (code.now.slots - code.now.formals) Void) }
 {
+    let others = code.slots.saturating_sub(code.formals);
     slots.clear();
     slots.reserve(actuals.len().saturating_add(others))?;
     slots.extend_from_slice(actuals)?;
+    add_slots(slots, others)
+}
+
+/// So many more slots, which are Void.
+#[tactic(auto, using(crate::proofs::Filling::slot_more))]
+fn add_slots(slots: &mut Vec<Value>, others: usize) -> Result<(), AllocError>
+    ensures { OnOk result (slots.new.items ≡ slots.old.items ++ replicate others Void) }
+{
     for _i in 0..others {
         slots.push(Value::Void)?;
     }

@@ -1,11 +1,12 @@
 //! The stack of a handler.
 ghost use Rattle.std.specs.List.{list_any};
 ghost use Rattle.std.specs.Option.{option_map};
-ghost use Rattle.std.specs.Prelude.{◌≡◌, ◌==◌, [], ◌∷◌, OnOk, OnErr, drop, length};
-ghost use Rattle.sc_region.specs.Frames.{activation_of, is_current, top_activation, top_current};
+ghost use Rattle.std.specs.Prelude.{◌≡◌, ◌<◌, ◌≤◌, ◌==◌, [], ◌∷◌, IfOk, OnOk, OnErr, drop, length, vec_capacity};
+ghost use Rattle.sc_region.specs.Calls.{called_on, top_operands};
+ghost use Rattle.sc_region.specs.Frames.{activation_of, frames_onto, is_current, top_activation, top_current};
 ghost use Rattle.sc_region.specs.Stores.{entry};
 
-use crate::frame::{Activation, Origin};
+use crate::frame::{Activation, Call, Origin, fill_slots};
 use crate::value::{Reference, Value};
 use sc_code::RoutineCode;
 use std::alloc::{AllocError, Global};
@@ -67,12 +68,36 @@ impl Stack {
         ensures ok { OnOk result (self.new ≡ entry current routine code.now origin actuals.now ∷ self.old) }
         ensures err { OnErr result (self.new ≡ self.old) }
     {
-        let height = self.currents.len();
-        self.currents.reserve(1)?;
-        if height == self.activations.len() {
-            self.activations.push(Activation::empty(alloc))?;
+        let place = place_above(&mut self.currents, &mut self.activations, alloc)?;
+        self.activations[place].begin(routine, code, origin, actuals)?;
+        match self.currents.push(current) {
+            Ok(()) => Ok(()),
+            Err(_) => unreachable!(),
         }
-        self.activations[height].begin(routine, code, origin, actuals)?;
+    }
+
+    /// The topmost routine calls one on an object. Err where there is no memory; nothing has changed then.
+    pub fn call(
+        &mut self,
+        alloc: Global,
+        current: Reference,
+        routine: usize,
+        code: &RoutineCode,
+        call: Call,
+    ) -> Result<(), AllocError>
+        requires caller { 0 < length self.old }
+        requires actuals { call.actuals ≤ length (top_operands self.old) }
+        ensures ok { OnOk result (self.new ≡ called_on current routine code.now call self.old) }
+        ensures err { OnErr result (self.new ≡ self.old) }
+    {
+        let place = place_above(&mut self.currents, &mut self.activations, alloc)?;
+        let mut slots = self.activations[place].take_slots(alloc);
+        let actuals = self.activations[place - 1]
+            .operands
+            .last_values(call.actuals);
+        fill_slots(&mut slots, code, actuals)?;
+        self.activations[place].begin_with(routine, code, call.origin, slots)?;
+        self.activations[place - 1].suspend(call.operands, call.gives);
         match self.currents.push(current) {
             Ok(()) => Ok(()),
             Err(_) => unreachable!(),
@@ -128,6 +153,28 @@ impl Stack {
     pub fn over(&self, height: usize) -> Option<&Activation> {
         self.activations.get(height)
     }
+}
+
+/// The place above the topmost frame, where there is room for one more, and an object too. Err where there is no memory.
+fn place_above(
+    currents: &mut Vec<Reference>,
+    activations: &mut Vec<Activation>,
+    alloc: Global,
+) -> Result<usize, AllocError>
+    requires { length currents.old.items ≤ length activations.old.items }
+    ensures place { IfOk result (λ place. place ≡ length currents.old.items) }
+    ensures above { IfOk result (λ place. place < length activations.new.items) }
+    ensures room { IfOk result (λ place. place < vec_capacity currents.new) }
+    ensures currents { currents.new.items ≡ currents.old.items }
+    ensures frames { frames_onto currents.old.items activations.new.items [] ≡ frames_onto currents.old.items activations.old.items [] }
+    ensures fit { length currents.old.items ≤ length activations.new.items }
+{
+    let place = currents.len();
+    currents.reserve(1)?;
+    if place == activations.len() {
+        activations.push(Activation::empty(alloc))?;
+    }
+    Ok(place)
 }
 
 /// Whether one of the objects has the number.

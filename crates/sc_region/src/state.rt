@@ -3,12 +3,14 @@ ghost use Rattle.std.specs.Prelude.{◌≡◌, ◌<◌, ◌≤◌, ◌+◌, ◌^
 ghost use Rattle.sc_formula.specs.Plain.{plain_formula};
 ghost use Rattle.sc_region.specs.Objects.{object_of, object_numbered};
 ghost use Rattle.sc_region.specs.Classes.{meets_invariant, all_hold, object_meets, object_breaks};
+ghost use Rattle.sc_region.specs.Calls.{calls, top_operands};
 ghost use Rattle.sc_region.specs.Stores.{failed, is_settled, settled, written, entered, left, with_new, born, born_for, made, made_for, printed};
 ghost use Rattle.sc_region.specs.States.{state_of};
 ghost use Rattle.sc_region.specs.Values.{atoms_of};
+ghost use Rattle.sc_code.specs.Cause.TheVariants as cause;
 
 use crate::breakdown::{Breakdown, BrokenInvariant, Point};
-use crate::frame::{Activation, Origin};
+use crate::frame::{Activation, Call, Origin};
 use crate::object::{Object, Objects};
 use crate::program::{class_at, routine_at};
 use crate::stack::Stack;
@@ -214,6 +216,43 @@ pub fn enter(
     state
         .stack
         .enter(state.alloc, current, routine, code, origin, actuals)
+}
+
+/// The topmost routine calls that of the number on an object.
+pub fn call(
+    state: &mut State<'_>,
+    current: Reference,
+    routine: usize,
+    call: Call,
+) -> Result<(), AllocError>
+    requires caller { 0 < length state.old.stack }
+    requires actuals { call.actuals ≤ length (top_operands state.old.stack) }
+    ensures ok { OnOk result (state_of state.new ≡ calls current routine call (state_of state.old)) }
+    ensures err { OnErr result (state_of state.new ≡ state_of state.old) }
+{
+    let Some(code) = routine_at(state.program, routine) else {
+        fail(state, Cause::BadCode);
+        return Ok(());
+    };
+    if call.actuals != code.formals {
+        fail(state, Cause::BadCode);
+        return Ok(());
+    }
+    if state.stack.height() >= MAX_FRAMES {
+        overflow(state, call);
+        return Ok(());
+    }
+    state.stack.call(state.alloc, current, routine, code, call)
+}
+
+/// The stack is full: the topmost routine fails in its call, not at it.
+fn overflow(state: &mut State<'_>, call: Call)
+    ensures { state_of state.new ≡ failed cause.StackFull (state_of state.old) }
+{
+    if let Some(activation) = state.stack.top_mut() {
+        activation.suspend(call.operands, call.gives);
+    }
+    fail(state, Cause::StackFull);
 }
 
 /// The topmost frame goes, and the one below it is the topmost now.

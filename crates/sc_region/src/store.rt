@@ -1,12 +1,13 @@
 //! The store of a handler.
-ghost use Rattle.std.specs.Prelude.{◌≡◌, ◌↔◌, ◌&&◌, OnOk, OnErr, IsTrue, is_some, length};
+ghost use Rattle.std.specs.Prelude.{◌≡◌, ◌<◌, ◌≤◌, ◌↔◌, ◌&&◌, OnOk, OnErr, IsTrue, is_some, length};
+ghost use Rattle.sc_region.specs.Calls.{calls, top_operands};
 ghost use Rattle.sc_region.specs.Objects.{PlainObject, object_numbered, attribute_of};
 ghost use Rattle.sc_region.specs.Classes.{MeetsAt};
 ghost use Rattle.sc_region.specs.Stores.{new_store, is_settled, failed, written, entered, left, born, born_for, made, made_for, printed};
 ghost use Rattle.sc_region.specs.declared.frame.Origin.TheVariants as origin;
 
 use crate::breakdown::Breakdown;
-use crate::frame::{Activation, Origin};
+use crate::frame::{Activation, Call, Origin};
 use crate::object::Objects;
 use crate::stack::Stack;
 use crate::state::{self, State};
@@ -173,6 +174,18 @@ impl<'p> Store<'p> {
         ensures err { OnErr result (self.new ≡ self.old) }
     {
         state::enter(&mut self.state, current, routine, origin, actuals)
+    }
+
+    /// The topmost routine calls that of the number on an object: its last operands are the actuals, in place. F16 where
+    /// there is no such routine, or it has another number of formals; F11 where the stack is full. Err where there is no
+    /// memory; nothing has changed then.
+    pub fn call(&mut self, current: Reference, routine: usize, call: Call) -> Result<(), AllocError>
+        requires caller { 0 < length self.old.frames }
+        requires actuals { call.actuals ≤ length (top_operands self.old.frames) }
+        ensures ok { OnOk result (self.new ≡ calls current routine call self.old) }
+        ensures err { OnErr result (self.new ≡ self.old) }
+    {
+        state::call(&mut self.state, current, routine, call)
     }
 
     /// The topmost frame goes, where there is one: F1 where its object is settled now and breaks its invariant.

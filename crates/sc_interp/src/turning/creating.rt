@@ -4,11 +4,13 @@ ghost use Rattle.sc_region.specs.Frames.{PlainActivation, activation_of, top_act
 ghost use Rattle.sc_region.specs.Stores.{made_for};
 ghost use Rattle.sc_region.specs.declared.job.Want.TheVariants as want;
 ghost use Rattle.sc_interp.specs.Creating.{created, created_by, given, has_room_in, with_reference, without_last};
-ghost use Rattle.sc_interp.specs.Entering.{Calls, asks_beginning, in_call};
-ghost use Rattle.sc_interp.specs.Turning.{on_top, unless_failed};
+ghost use Rattle.sc_region.specs.Calls.{in_call, on_top};
+ghost use Rattle.sc_interp.specs.Entering.{Calls, asks_beginning};
+ghost use Rattle.sc_interp.specs.Turning.{unless_failed};
 
 use crate::turning::beginning::ask_beginning;
-use crate::turning::entering::{Caller, look, no_caller, resume, routine_of, suspend};
+use crate::turning::caller::{Caller, look, no_caller, resume, suspend};
+use crate::turning::entering::routine_of;
 use crate::turning::steps::{pass, unless_failed};
 use sc_model::Cause;
 use sc_region::{Activation, Reference, Store, Value, Want};

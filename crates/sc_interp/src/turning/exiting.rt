@@ -5,7 +5,8 @@ ghost use Rattle.sc_region.specs.Objects.{object_numbered};
 ghost use Rattle.sc_region.specs.Frames.{activation_of, top_activation};
 ghost use Rattle.sc_region.specs.declared.job.Want.TheVariants as want;
 ghost use Rattle.sc_interp.specs.Exiting.{asks_exiting, asks_returning, exited, handed, is_unset, is_untested, returned};
-ghost use Rattle.sc_interp.specs.Turning.{on_top, unless_failed};
+ghost use Rattle.sc_region.specs.Calls.{on_top};
+ghost use Rattle.sc_interp.specs.Turning.{unless_failed};
 
 use crate::turning::steps::unless_failed;
 use arrayvec::ArrayVec;

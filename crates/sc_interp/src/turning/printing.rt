@@ -5,7 +5,7 @@ ghost use Rattle.sc_model.specs.Instructions.{boolean_text};
 ghost use Rattle.sc_code.specs.Programs.{pool_of};
 ghost use Rattle.sc_region.specs.Stores.{printed};
 ghost use Rattle.sc_interp.specs.Standing.{listed};
-ghost use Rattle.sc_interp.specs.Turning.{on_top, past};
+ghost use Rattle.sc_region.specs.Calls.{on_top, past};
 
 use crate::turning::steps::pass;
 use itoa::Buffer;

@@ -5,7 +5,8 @@ ghost use Rattle.sc_lockpass.specs.Rights.{is_among};
 ghost use Rattle.sc_region.specs.Frames.{activation_of, top_activation};
 ghost use Rattle.sc_interp.specs.Refusing.{asks_refusing, is_reserved, is_waited_for, refused, refused_as, waiting};
 ghost use Rattle.sc_interp.specs.Standing.{formals_at};
-ghost use Rattle.sc_interp.specs.Turning.{on_top, unless_failed};
+ghost use Rattle.sc_region.specs.Calls.{on_top};
+ghost use Rattle.sc_interp.specs.Turning.{unless_failed};
 
 use crate::turning::exiting::{copy_handlers, meets};
 use crate::turning::steps::unless_failed;

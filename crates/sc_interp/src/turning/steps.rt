@@ -3,7 +3,8 @@ ghost use Rattle.std.specs.Prelude.{◌≡◌};
 ghost use Rattle.sc_region.specs.Frames.{activation_of};
 ghost use Rattle.sc_region.specs.Stores.{failed};
 ghost use Rattle.sc_region.specs.declared.job.Want.TheVariants as want;
-ghost use Rattle.sc_interp.specs.Turning.{on_top, past, back, round_ended, unless_failed};
+ghost use Rattle.sc_region.specs.Calls.{on_top, past};
+ghost use Rattle.sc_interp.specs.Turning.{back, round_ended, unless_failed};
 
 use sc_model::Cause;
 use sc_region::{Activation, Store, Want};

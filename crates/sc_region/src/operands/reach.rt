@@ -1,5 +1,6 @@
 //! What lies deeper among the operands, and an `old` more than there was room for.
-ghost use Rattle.std.specs.Prelude.{◌≡◌, ◌++◌, [], ◌∷◌, OnOk, OnErr, length, drop, nat_lt, slice_get};
+ghost use Rattle.std.specs.Prelude.{◌≡◌, ◌≤◌, ◌++◌, [], ◌∷◌, OnOk, OnErr, length, drop, nat_lt, slice_get};
+ghost use Rattle.sc_region.specs.Calls.{last_values};
 
 use super::{Olds, Operands};
 use crate::value::Value;
@@ -23,6 +24,14 @@ impl Operands {
         } else {
             None
         }
+    }
+
+    /// The last so many operands, in the order of the text.
+    pub(crate) fn last_values(&self, count: usize) -> &[Value]
+        requires { count ≤ length self.now.values }
+        ensures { result.now ≡ last_values count self.now.values }
+    {
+        &self.items[self.items.len() - count..]
     }
 
     /// Whether there is room for one more where the last so many are gone.

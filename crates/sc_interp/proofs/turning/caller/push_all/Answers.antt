@@ -4,7 +4,7 @@ use Rattle.std.specs.Prelude.{take}
 use Rattle.sc_region.proofs.Stacks.{operands_length}
 use Rattle.sc_region.specs.OperandList.{OperandList}
 use Rattle.sc_interp.proofs.Resuming.{pushed_on}
-use Rattle.sc_interp.proofs.turning.entering.push_all.Goals as goal
+use Rattle.sc_interp.proofs.turning.caller.push_all.Goals as goal
 
 pub push-requires : goal.push-requires
 push-requires c =

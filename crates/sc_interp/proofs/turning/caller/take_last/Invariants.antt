@@ -1,7 +1,7 @@
 use Rattle.std.proofs.Common.{◌≡◌, length}
 use Rattle.sc_region.specs.Frames.{activation_of}
-use Rattle.sc_interp.specs.Entering.{last_values}
-use Rattle.sc_interp.proofs.turning.entering.take_last.Given as goal
+use Rattle.sc_region.specs.Calls.{last_values}
+use Rattle.sc_interp.proofs.turning.caller.take_last.Given as goal
 
 abbrev pub invariant-loop-passed : goal.invariant-loop-passed
 invariant-loop-passed l = record {

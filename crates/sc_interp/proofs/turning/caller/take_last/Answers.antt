@@ -1,7 +1,7 @@
 use Rattle.std.proofs.Common.{◌+◌, ◌∷◌, [], sym, ap, ◌∙◌}
 use Rattle.sc_region.specs.Frames.{activation_of}
 use Rattle.sc_interp.proofs.Resuming.{taken_more}
-use Rattle.sc_interp.proofs.turning.entering.take_last.Goals as goal
+use Rattle.sc_interp.proofs.turning.caller.take_last.Goals as goal
 
 pub loop-passed-preserved : goal.loop-passed-preserved
 loop-passed-preserved c = record {

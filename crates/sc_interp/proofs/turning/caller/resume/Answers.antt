@@ -2,7 +2,7 @@ use Rattle.std.proofs.Common.{MutBor, sym, ap, ◌∙◌}
 use Rattle.std.specs.Option.{option_map}
 use Rattle.sc_region.specs.declared.frame.Activation.{Activation}
 use Rattle.sc_region.specs.Frames.{activation_of}
-use Rattle.sc_interp.proofs.turning.entering.resume.Goals as goal
+use Rattle.sc_interp.proofs.turning.caller.resume.Goals as goal
 
 pub resume_on-requires : goal.resume_on-requires
 resume_on-requires c =
