@@ -35,3 +35,5 @@ mod tokens;
 mod trees;
 #[cfg(test)]
 mod types;
+#[cfg(test)]
+mod worklogs;
