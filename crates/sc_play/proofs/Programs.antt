@@ -30,12 +30,12 @@ use Rattle.sc_interp.specs.declared.act.Calling.{Calling}
 use Rattle.sc_interp.specs.declared.act.Hop.{Hop}
 use Rattle.sc_interp.specs.declared.act.Hop.TheVariants as hop
 use Rattle.sc_interp.specs.Creating.{created, created_at, given, has_room, has_room_in, made_if, with_reference}
-use Rattle.sc_interp.specs.Entering.{called_at, entered_if, has_operands, in_call, last_values, operands_of, origin_of, routine_in}
+use Rattle.sc_region.specs.Calls.{in_call, last_values, on_top, past}
+use Rattle.sc_interp.specs.Entering.{called_at, entered_if, has_operands, operands_of, origin_of, routine_in}
 use Rattle.sc_interp.specs.Exiting.{exited_at, is_unset, is_untested, is_void, returned}
 use Rattle.sc_interp.specs.Refusing.{is_waited_for, refused_as, refused_at, waiting}
 use Rattle.sc_interp.specs.Serving.{version_in}
 use Rattle.sc_interp.specs.Standing.{formals_at}
-use Rattle.sc_interp.specs.Turning.{on_top, past}
 use Rattle.sc_play.specs.declared.acts.creating_handlers.RemoteCreation.{RemoteCreation}
 use Rattle.sc_play.specs.declared.acts.requesting.RemoteCall.{RemoteCall}
 use Rattle.sc_play.specs.Acting.{acted}

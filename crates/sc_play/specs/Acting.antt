@@ -13,7 +13,8 @@ use Rattle.sc_interp.specs.Entering.{asks_beginning, called}
 use Rattle.sc_interp.specs.Exiting.{asks_exiting, exited}
 use Rattle.sc_interp.specs.Refusing.{asks_refusing, refused}
 use Rattle.sc_interp.specs.Standing.{formals_at, listed}
-use Rattle.sc_interp.specs.Turning.{on_top, past, round_ended, unless_failed}
+use Rattle.sc_region.specs.Calls.{on_top, past}
+use Rattle.sc_interp.specs.Turning.{round_ended, unless_failed}
 use Rattle.sc_play.specs.Requesting.{asks_requesting, call_of, requested}
 use Rattle.sc_play.specs.CreatingHandlers.{asks_creating, creation_with, handler_created}
 use Rattle.sc_play.specs.CreatingObjects.{asks_created, object_created}

@@ -8,8 +8,8 @@ use Rattle.sc_region.specs.declared.job.Want.TheVariants as want
 use Rattle.sc_region.specs.declared.value.Value.{Value}
 use Rattle.sc_region.specs.Frames.{PlainActivation, top_activation}
 use Rattle.sc_region.specs.Stores.{PlainStore, failed}
-use Rattle.sc_interp.specs.Entering.{handler_of, last_values}
-use Rattle.sc_interp.specs.Turning.{on_top, past}
+use Rattle.sc_region.specs.Calls.{last_values, on_top, past}
+use Rattle.sc_interp.specs.Entering.{handler_of}
 use Rattle.sc_play.specs.Operands.{has_actuals}
 
 -- ---- the heads of a block

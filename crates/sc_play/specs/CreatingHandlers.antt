@@ -8,8 +8,7 @@ use Rattle.sc_region.specs.declared.value.Reference.{Reference}
 use Rattle.sc_region.specs.Frames.{PlainActivation, top_activation}
 use Rattle.sc_region.specs.Stores.{PlainStore, failed}
 use Rattle.sc_interp.specs.Creating.{has_room, with_reference}
-use Rattle.sc_interp.specs.Entering.{last_values}
-use Rattle.sc_interp.specs.Turning.{on_top, past}
+use Rattle.sc_region.specs.Calls.{last_values, on_top, past}
 use Rattle.sc_play.specs.declared.acts.creating_handlers.RemoteCreation.{RemoteCreation}
 use Rattle.sc_play.specs.Requesting.{awaiting_if}
 use Rattle.sc_play.specs.Operands.{class_number, has_actuals, procedure_number}

@@ -11,8 +11,7 @@ use Rattle.sc_region.specs.declared.value.Reference.{Reference}
 use Rattle.sc_region.specs.Frames.{PlainActivation, top_activation}
 use Rattle.sc_region.specs.Stores.{PlainStore, failed}
 use Rattle.sc_interp.specs.Creating.{without_last}
-use Rattle.sc_interp.specs.Entering.{last_values}
-use Rattle.sc_interp.specs.Turning.{on_top, past}
+use Rattle.sc_region.specs.Calls.{last_values, on_top, past}
 use Rattle.sc_play.specs.declared.acts.requesting.RemoteCall.{RemoteCall}
 use Rattle.sc_play.specs.Operands.{has_call, name_number}
 

@@ -1,7 +1,8 @@
 //! How the topmost routine goes on behind a visible operation, and what is asked.
 ghost use Rattle.std.specs.Prelude.{◌≡◌};
 ghost use Rattle.sc_region.specs.Frames.{activation_of};
-ghost use Rattle.sc_interp.specs.Turning.{on_top, past, unless_failed};
+ghost use Rattle.sc_region.specs.Calls.{on_top, past};
+ghost use Rattle.sc_interp.specs.Turning.{unless_failed};
 
 use sc_region::{Activation, Store, Want};
 

@@ -18,7 +18,7 @@ use sc_code::Program;
 use sc_lockpass::Version;
 use sc_model::Status;
 use sc_play::Region;
-use sc_region::{Breakdown, Job, Outcome, Want};
+use sc_region::{Breakdown, Job, Want};
 use sc_request::{Core, Log};
 use std::alloc::{AllocError, Global};
 
@@ -314,22 +314,14 @@ fn play(
     ensures err { OnErr result (PutsBack handler job.now (center_of core.old) (center_of core.new) region.old region.new) }
     ensures version { core.new.state.rights.version ≡ core.old.state.rights.version }
 {
-    let Ok(outcome) = region.play(job, limit) else {
+    let Ok(mut outcome) = region.play(job, limit) else {
         core.put_back(handler);
         return Err(AllocError);
     };
-    let Outcome {
-        handler: _,
-        turns,
-        want,
-    } = outcome;
-    let cut_short = are_cut_short(limit, turns, &want);
-    let settled = core.settle(Outcome {
-        handler,
-        turns,
-        want,
-    });
-    if settled.is_err() {
+    outcome.handler = handler;
+    let turns = outcome.turns;
+    let cut_short = are_cut_short(limit, turns, &outcome.want);
+    if core.settle(outcome).is_err() {
         unreachable!();
     }
     Ok((turns, cut_short))

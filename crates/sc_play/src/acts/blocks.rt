@@ -4,7 +4,7 @@ ghost use Rattle.std.specs.List.{cons_option};
 ghost use Rattle.std.specs.Option.{option_map};
 ghost use Rattle.sc_region.specs.Frames.{PlainActivation, activation_of, top_activation};
 ghost use Rattle.sc_interp.specs.Entering.{handler_of};
-ghost use Rattle.sc_interp.specs.Turning.{on_top};
+ghost use Rattle.sc_region.specs.Calls.{on_top};
 ghost use Rattle.sc_play.specs.Blocks.{asks_leaving, asks_opening, block_left, closing, handlers_of, heads_in, heads_of, innermost, innermost_in, may_open, opened, opening, written};
 
 use crate::acts::operands::{has_actuals, last_values};
@@ -113,17 +113,20 @@ fn handlers_of(values: &[Value]) -> ArrayVec<u16, 16>
 
 /// A separate block begins, whose heads are the last operands, so many, and go into the slots from this one on: F16 where
 /// there aren't as many of both. The reserve step of their handlers comes next.
-pub fn open(store: &mut Store<'_>, first: usize, count: usize) -> Want
+///
+/// It stays a call, as `request` does.
+#[inline(never)]
+pub fn open(store: &mut Store<'_>, first: usize, count: usize, asked: &mut Want)
     ensures store { store.new ≡ opened first count store.old }
-    ensures want { result ≡ asks_opening first count (top_activation store.old.frames) }
+    ensures want { asked.new ≡ asks_opening first count (top_activation store.old.frames) }
 {
-    match heads_in(store, first, count) {
+    *asked = match heads_in(store, first, count) {
         Some(heads) => {
             open_top(store, first, heads.as_slice());
             Want::Reserve(handlers_of(heads.as_slice()))
         }
         None => misfit(store),
-    }
+    };
 }
 
 // ---- a block ends
@@ -152,12 +155,15 @@ fn close_top(store: &mut Store<'_>) -> Option<ArrayVec<u16, 16>>
 }
 
 /// The innermost separate block ends: F16 where none is open. What it newly reserved is released.
-pub fn leave(store: &mut Store<'_>) -> Want
+///
+/// It stays a call, as `request` does.
+#[inline(never)]
+pub fn leave(store: &mut Store<'_>, asked: &mut Want)
     ensures store { store.new ≡ block_left store.old }
-    ensures want { result ≡ asks_leaving (top_activation store.old.frames) }
+    ensures want { asked.new ≡ asks_leaving (top_activation store.old.frames) }
 {
-    match close_top(store) {
+    *asked = match close_top(store) {
         Some(handlers) => Want::Release(handlers),
         None => misfit(store),
-    }
+    };
 }

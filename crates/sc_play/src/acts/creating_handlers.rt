@@ -2,8 +2,8 @@
 ghost use Rattle.std.specs.Prelude.{◌≡◌, Some, true};
 ghost use Rattle.sc_region.specs.Frames.{PlainActivation, activation_of, top_activation};
 ghost use Rattle.sc_interp.specs.Creating.{has_room};
-ghost use Rattle.sc_interp.specs.Turning.{on_top};
-ghost use Rattle.sc_play.specs.CreatingHandlers.{asks_creating, creating, creation_in, creation_of, creation_with, handler_created, may_create};
+ghost use Rattle.sc_region.specs.Calls.{on_top};
+ghost use Rattle.sc_play.specs.CreatingHandlers.{asks_creating, creating, creation_in, creation_of, handler_created, may_create};
 
 use crate::acts::numbers::{class_number, procedure_number};
 use crate::acts::operands::{has_actuals, last_values};
@@ -13,13 +13,13 @@ use sc_region::{Activation, Reference, Store, Value, Want};
 
 /// The creation of a handler, with its first object. The actuals are the last operands.
 #[derive(Clone, Copy)]
-struct RemoteCreation {
-    class: usize,
+pub struct RemoteCreation {
+    pub class: usize,
     /// The number of the creation procedure's name, if it has one.
-    procedure: Option<usize>,
+    pub procedure: Option<usize>,
     /// How many actuals there are.
-    count: usize,
-    passes: bool,
+    pub count: usize,
+    pub passes: bool,
 }
 
 /// Whether the routine has the operands of the creation, and room for the reference in their place.
@@ -80,24 +80,27 @@ fn begin(store: &mut Store<'_>, first: Reference, creation: RemoteCreation)
 /// there are fewer operands than the creation takes, or more than a request has room for, or where the class or the name
 /// has no number there. The creator goes on with a reference to the object, which has the creator's number until that of
 /// the new handler is told; with lock passing it waits for the answer.
+///
+/// It stays a call, as `request` does.
+#[inline(never)]
 pub fn create_handler(
     store: &mut Store<'_>,
     handler: u16,
-    class: usize,
-    procedure: Option<usize>,
-    count: usize,
-    passes: bool,
-) -> Want
-    ensures store { store.new ≡ handler_created handler (creation_with class procedure count passes) store.old }
-    ensures want { result ≡ asks_creating (creation_with class procedure count passes) (top_activation store.old.frames) }
+    creation: RemoteCreation,
+    asked: &mut Want,
+)
+    ensures store { store.new ≡ handler_created handler creation store.old }
+    ensures want { asked.new ≡ asks_creating creation (top_activation store.old.frames) }
 {
-    let creation = RemoteCreation {
-        class,
-        procedure,
-        count,
-        passes,
-    };
-    let Some(class) = class_number(class) else {
+    *asked = want_creating(store, handler, creation);
+}
+
+/// The same, and what it asks.
+fn want_creating(store: &mut Store<'_>, handler: u16, creation: RemoteCreation) -> Want
+    ensures store { store.new ≡ handler_created handler creation store.old }
+    ensures want { result ≡ asks_creating creation (top_activation store.old.frames) }
+{
+    let Some(class) = class_number(creation.class) else {
         return misfit(store);
     };
     let Some(asked) = creation_in(store, class, creation) else {

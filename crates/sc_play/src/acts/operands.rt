@@ -1,7 +1,7 @@
 //! The operands that an operation takes.
 ghost use Rattle.std.specs.Prelude.{◌≡◌, ◌≤◌, ◌<◌, length};
 ghost use Rattle.sc_region.specs.Frames.{activation_of};
-ghost use Rattle.sc_interp.specs.Entering.{last_values};
+ghost use Rattle.sc_region.specs.Calls.{last_values};
 ghost use Rattle.sc_play.specs.Operands.{has_actuals, has_call};
 
 use arrayvec::ArrayVec;

@@ -1,8 +1,8 @@
 //! Calls on objects of other handlers.
 ghost use Rattle.std.specs.Prelude.{◌≡◌};
 ghost use Rattle.sc_region.specs.Frames.{activation_of, top_activation};
-ghost use Rattle.sc_interp.specs.Turning.{on_top};
-ghost use Rattle.sc_play.specs.Requesting.{asks_requesting, asks_sent, call_of, is_waited, request_in, request_of, requested, sending};
+ghost use Rattle.sc_region.specs.Calls.{on_top};
+ghost use Rattle.sc_play.specs.Requesting.{asks_requesting, asks_sent, is_waited, request_in, request_of, requested, sending};
 
 use crate::acts::numbers::name_number;
 use crate::acts::operands::{has_call, last_values};
@@ -12,13 +12,13 @@ use sc_region::{Activation, Errand, Reference, Request, Store, Want};
 
 /// A call on an object of another handler. Its actuals are the last operands, and the target lies under them.
 #[derive(Clone, Copy)]
-struct RemoteCall {
-    object: Reference,
-    name: usize,
+pub struct RemoteCall {
+    pub object: Reference,
+    pub name: usize,
     /// How many actuals there are.
-    count: usize,
-    gives: bool,
-    passes: bool,
+    pub count: usize,
+    pub gives: bool,
+    pub passes: bool,
 }
 
 /// Whether the answer is waited for: that of a query, and of a call that passes locks.
@@ -94,30 +94,18 @@ fn want_requesting(request: Request, passes: bool) -> Want
 /// A feature of an object of another handler is called by this one, by its name: F16 where there are fewer operands than the
 /// call takes, or more actuals than a request has room for, or the name has no number there. A query is waited for, and a
 /// call that passes locks.
-pub fn request(
-    store: &mut Store<'_>,
-    handler: u16,
-    object: Reference,
-    name: usize,
-    count: usize,
-    gives: bool,
-    passes: bool,
-) -> Want
-    ensures store { store.new ≡ requested handler (call_of object name count gives passes) store.old }
-    ensures want { result ≡ asks_requesting handler (call_of object name count gives passes) (top_activation store.old.frames) }
+///
+/// It stays a call: each turn would clear its request, if it stood where turns are done.
+#[inline(never)]
+pub fn request(store: &mut Store<'_>, handler: u16, call: RemoteCall, asked: &mut Want)
+    ensures store { store.new ≡ requested handler call store.old }
+    ensures want { asked.new ≡ asks_requesting handler call (top_activation store.old.frames) }
 {
-    let call = RemoteCall {
-        object,
-        name,
-        count,
-        gives,
-        passes,
-    };
-    match request_in(store, handler, call) {
+    *asked = match request_in(store, handler, call) {
         Some(request) => {
             send(store, call);
-            want_requesting(request, passes)
+            want_requesting(request, call.passes)
         }
         None => misfit(store),
-    }
+    };
 }

@@ -3,7 +3,7 @@ ghost use Rattle.std.specs.Prelude.{◌≡◌, OnOk, OnErr};
 ghost use Rattle.sc_region.specs.Frames.{activation_of};
 ghost use Rattle.sc_interp.specs.Exiting.{handed_as};
 ghost use Rattle.sc_region.specs.declared.job.Want.TheVariants as want;
-ghost use Rattle.sc_interp.specs.Turning.{on_top};
+ghost use Rattle.sc_region.specs.Calls.{on_top};
 ghost use Rattle.sc_play.specs.Turns.{Becomes};
 ghost use Rattle.sc_play.specs.Answering.{block_granted, entry_granted, granted, replied, runs, told, told_on, top_stage};
 

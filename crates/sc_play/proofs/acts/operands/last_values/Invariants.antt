@@ -1,6 +1,6 @@
 use Rattle.std.proofs.Common.{◌≡◌, length}
 use Rattle.sc_region.specs.Frames.{activation_of}
-use Rattle.sc_interp.specs.Entering.{last_values}
+use Rattle.sc_region.specs.Calls.{last_values}
 use Rattle.sc_play.proofs.acts.operands.last_values.Given as goal
 
 abbrev pub invariant-loop-passed : goal.invariant-loop-passed
