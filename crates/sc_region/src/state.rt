@@ -122,9 +122,16 @@ fn meets_clauses(clauses: &[Formula], attributes: &[Value]) -> bool
     requires { length attributes.now ≤ 256 }
     ensures { result ≡ all_hold (map plain_formula clauses.now) (atoms_of attributes.now) }
 {
-    if clauses.is_empty() {
-        return true;
-    }
+    clauses.is_empty() || meets_some(clauses, attributes)
+}
+
+/// The same where there are clauses. (A call of its own: there is room for all that an invariant may see, and it would be
+/// cleared for each class that has none.)
+#[inline(never)]
+fn meets_some(clauses: &[Formula], attributes: &[Value]) -> bool
+    requires { length attributes.now ≤ 256 }
+    ensures { result ≡ all_hold (map plain_formula clauses.now) (atoms_of attributes.now) }
+{
     let mut atoms = [Atom::Boolean(false); 256];
     fill(&mut atoms, attributes);
     sc_formula::meets(clauses, &atoms[..attributes.len()])
