@@ -1,5 +1,5 @@
 //! The end of a routine.
-ghost use Rattle.std.specs.Prelude.{◌≡◌, ◌||◌};
+ghost use Rattle.std.specs.Prelude.{◌≡◌, ◌||◌, false};
 ghost use Rattle.sc_region.specs.Classes.{object_meets};
 ghost use Rattle.sc_region.specs.Objects.{object_numbered};
 ghost use Rattle.sc_region.specs.Frames.{activation_of, top_activation};
@@ -106,17 +106,32 @@ fn ask_returning(
     match origin {
         Origin::Unqualified | Origin::Qualified | Origin::Creation => {
             if !reserved.is_empty() {
-                *asked = Want::Release(copy_handlers(reserved));
+                ask_release(reserved, asked);
             }
         }
-        Origin::Requested | Origin::RequestedCreation => {
-            *asked = Want::Done {
-                reply: value,
-                released: copy_handlers(reserved),
-                refused: false,
-            };
-        }
+        Origin::Requested | Origin::RequestedCreation => ask_done(value, reserved, asked),
     }
+}
+
+/// The release of these handlers is asked. (A call of its own, since most routines have none: what it makes is big, and
+/// would be cleared at the end of each.)
+#[inline(never)]
+fn ask_release(reserved: &ArrayVec<u16, 16>, asked: &mut Want)
+    ensures { asked.new ≡ want.Release (record { items = reserved.now.items }) }
+{
+    *asked = Want::Release(copy_handlers(reserved));
+}
+
+/// A request has ended with this reply, and the release of these handlers is asked. (A call of its own for the same.)
+#[inline(never)]
+fn ask_done(value: Option<Value>, reserved: &ArrayVec<u16, 16>, asked: &mut Want)
+    ensures { asked.new ≡ want.Done value (record { items = reserved.now.items }) false }
+{
+    *asked = Want::Done {
+        reply: value,
+        released: copy_handlers(reserved),
+        refused: false,
+    };
 }
 
 /// What the end of the topmost routine asks, unless it fails.

@@ -69,7 +69,16 @@ pub fn unless_failed(store: &Store<'_>, asked: &mut Want)
     ensures { asked.new ≡ unless_failed store.now.failure asked.old }
 {
     match store.failure() {
-        Some(why) => *asked = Want::Fail(why),
+        Some(why) => ask_failing(why, asked),
         None => (),
     }
+}
+
+/// The failure is asked. (A call of its own, since a turn seldom comes here: what it makes is big, and would be cleared in
+/// each turn.)
+#[inline(never)]
+fn ask_failing(why: Cause, asked: &mut Want)
+    ensures { asked.new ≡ want.Fail why }
+{
+    *asked = Want::Fail(why);
 }
