@@ -16,6 +16,7 @@ use Rattle.sc_region.specs.declared.job.Request.{Request}
 use Rattle.sc_region.specs.declared.job.Want.{Want}
 use Rattle.sc_region.specs.declared.job.Want.TheVariants as want
 use Rattle.sc_region.specs.Stores.{PlainStore}
+use Rattle.sc_request.specs.Candidates.{comes_again}
 use Rattle.sc_request.specs.Handlers.{Answer, Awaits, Handler, HasMade, Idle, Posted, Refused, Replied, Reserves, Runs, Stage, State, SupplierFailed, put}
 use Rattle.sc_request.specs.Logs.{Center, granted, next, pick_for, picked, settles}
 use Rattle.sc_request.specs.Picking.{job_answered, job_at, job_awaiting, job_idle, job_of, job_reserving, job_with}
@@ -25,7 +26,7 @@ use Rattle.sc_interp.specs.Turning.{unless_failed}
 use Rattle.sc_play.specs.Regions.{EndsIn, PlainRegion}
 use Rattle.sc_play.specs.Turns.{Becomes, FirstTurn, TurnOf, Turns, first, more}
 use Rattle.sc_play.proofs.Programs.{turns_keep}
-use Rattle.sc_runtime.specs.Rounds.{IsRefusedNext, MakesAll, StopsNext, more as one_more, none, turns_at_once}
+use Rattle.sc_runtime.specs.Rounds.{IsRefusedNext, MakesAll, StopsNext, more as one_more, none, turns_of_picked}
 use Rattle.sc_runtime.specs.Turning.{IsTurn, Makes, Runs as RunsBy, TurnsUnder}
 use Rattle.sc_runtime.specs.Worlds.{PlainWorld}
 use Rattle.sc_runtime.proofs.Freeing.{next_picks}
@@ -53,7 +54,7 @@ continue_fits zero (Awaits i b) (job.Made k) e = refl
 continue_fits zero stage job.Go e = refl
 
 -- its job has begun then, and no more
-settled_continue : (most h n : ℕ) (j : Job) (s : State) → goes_on j ≡ true → settled most h j (suc n) want.Continue s ≡ begun h j s
+pub settled_continue : (most h n : ℕ) (j : Job) (s : State) → goes_on j ≡ true → settled most h j (suc n) want.Continue s ≡ begun h j s
 settled_continue most h n j s e =
     ap (λ (b : Bool). asked_in b most h want.Continue (begun h j s)) (continue_fits n (s.handlers h).stage j e)
 
@@ -164,7 +165,7 @@ module _ (h : ℕ) (c : State) (r : Rights) where
       by (HasMade i) = own h (record (c.handlers h) { stage = Runs }) s (refl, lives)
       by (Reserves ks mark) = own h (record (c.handlers h) { stage = Runs }) s (refl, lives)
 
-  begun_goes : (j : Job) → job_of h c ≡ Some j → goes_on j ≡ true → GoesOn ((begun h j s).handlers h)
+  pub begun_goes : (j : Job) → job_of h c ≡ Some j → goes_on j ≡ true → GoesOn ((begun h j s).handlers h)
   begun_goes (job.Take q) is e =
       let at = job_here h c (job.Take q) is in
       let t = taking_goes h c (c.handlers h) (c.handlers h).stage q at.1 in
@@ -191,7 +192,7 @@ goes_job h t there e =
 -- ---- the core of turns that are made at once
 
 module _ (most h : ℕ) (j : Job) (c : Center) (picks : pick_for h c ≡ Some j) (more_comes : goes_on j ≡ true) where
-  is_job : job_of h c.state ≡ Some j
+  pub is_job : job_of h c.state ≡ Some j
   is_job = by (is_some (c.out h)) picks
     where
       by : (b : Bool) → (if b then None else job_of h c.state) ≡ Some j → job_of h c.state ≡ Some j
@@ -201,7 +202,7 @@ module _ (most h : ℕ) (j : Job) (c : Center) (picks : pick_for h c ≡ Some j)
   abbrev between : ℕ → Center
   between n = settles most h j (suc n) want.Continue (picked h j c)
 
-  picks_again : (n : ℕ) → pick_for h (between n) ≡ Some job.Go
+  pub picks_again : (n : ℕ) → pick_for h (between n) ≡ Some job.Go
   picks_again n =
       let t : State = begun h j (picked h j c).state in
       let state : (between n).state ≡ t = settled_continue most h n j (picked h j c).state more_comes in
@@ -403,8 +404,8 @@ all_run limit h j turns x y picks m =
 
 -- ---- rounds
 
-at_most_left : (left : ℕ) (x : PlainWorld) → 0 < left → turns_at_once left x ≤ left
-at_most_left left x some = by (x.center.state.count == 1)
+at_most_left : (left h : ℕ) (j : Job) (x : PlainWorld) → 0 < left → turns_of_picked left h j x ≤ left
+at_most_left left h j x some = by (comes_again j (picked h j x.center))
   where
     by : (b : Bool) → (if b then left else 1) ≤ left
     by true = omega arith
@@ -414,8 +415,8 @@ pub rounds_are_turns : RoundsAreTurns
 rounds_are_turns limit x _ _ none = let all : 0 + limit ≡ limit = omega arith in ([], all, refl)
 rounds_are_turns limit x _ _ (one_more {left = l} {turns = n} {y = y} {z = z} h j rounds some is all) =
     let before = rounds_are_turns limit x l y rounds in
-    let last = all_run (turns_at_once l y) h j n y z (next_picks h j y.center is) all in
-    let few : n ≤ l = omega (arith, all.makes.settles.count, all.makes.settles.plays.few, at_most_left l y some) in (
+    let last = all_run (turns_of_picked l h j y) h j n y z (next_picks h j y.center is) all in
+    let few : n ≤ l = omega (arith, all.makes.settles.count, all.makes.settles.plays.few, at_most_left l h j y some) in (
       before.0 ++ last.0,
       omega (arith, length-append before.0 last.0, before.1, last.1, few),
       runs_join before.0 last.0 x y z before.2 last.2,
@@ -432,7 +433,7 @@ stops_next (Some p) left x y none_out e (inl held) =
     ([], x, refl, inr (p.0, held_further p.0 p.1 x y picks held))
 stops_next (Some p) left x y none_out e (inr (turns, some)) =
     let picks = next_picks p.0 p.1 x.center e in
-    let limit = turns_at_once left x in
+    let limit = turns_of_picked left p.0 p.1 x in
     let made = turns_there limit p.0 p.1 turns x y picks some.makes in
     (made.0, there limit p.0 p.1 turns x y picks some.makes, made.2, inr (p.0, further_there limit p.0 p.1 turns x y picks some.makes))
 

@@ -38,7 +38,7 @@ none_joined (h ∷ hs) ks c e =
     let rest = none_joined hs ks c parts.1 in
     (ap (λ (o : Option Job). first_from h o (first_with_job hs c)) parts.0 ∙ rest.0, rest.1)
 
-none_has : (h : ℕ) (c : Center) → next c ≡ None → h < c.state.count → pick_for h c ≡ None
+pub none_has : (h : ℕ) (c : Center) → next c ≡ None → h < c.state.count → pick_for h c ≡ None
 none_has h c e few =
     let parts = none_joined (numbers_from (suc c.last) (c.state.count - suc c.last)) (numbers_from 0 (if nat_lt c.last c.state.count then suc c.last else c.state.count)) c e in
     elim (cases_lt c.last h) [

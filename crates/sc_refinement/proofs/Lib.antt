@@ -1,6 +1,7 @@
 mod Asked
 mod Assembling
 mod AtOnce
+mod ComingAgain
 mod Contracts
 mod Headlined
 mod Idling

@@ -1,6 +1,6 @@
 -- What is said of each world that turns lead to, from the opening of the program of an accepted system on.
 use Rattle.std.specs.List.{range_with_len}
-use Rattle.std.specs.Prelude.{◌≡◌, ◌⊎◌, ◌≤◌, ◌+◌, ℕ, Bool, true, false, List, Option, Some, None, Contains, length, map, take}
+use Rattle.std.specs.Prelude.{◌≡◌, ◌⊎◌, ◌≤◌, ◌+◌, ℕ, suc, Bool, true, false, List, Option, Some, None, Contains, length, map, take}
 use Rattle.sc_tree.specs.Plain.{System}
 use Rattle.sc_proctype.specs.declared.entity_type.EntityType.{EntityType}
 use Rattle.sc_proctype.specs.declared.tag.Reserved.{Reserved}
@@ -19,7 +19,12 @@ use Rattle.sc_model.specs.Values.{Attached, Reference, Value}
 use Rattle.sc_code.specs.declared.program.Image.{Image}
 use Rattle.sc_code.specs.Programs.{IsProgramOf}
 use Rattle.sc_code.specs.RequestRoom.{FitsRequests}
-use Rattle.sc_request.specs.Logs.{next}
+use Rattle.sc_region.specs.declared.job.Job.{Job}
+use Rattle.sc_region.specs.declared.job.Job.TheVariants as job
+use Rattle.sc_region.specs.declared.job.Want.TheVariants as want
+use Rattle.sc_request.specs.Candidates.{comes_again}
+use Rattle.sc_request.specs.Logs.{Center, next, pick_for, picked, settles}
+use Rattle.sc_request.specs.Settling.{goes_on}
 use Rattle.sc_laws.specs.Formals.{FormalsAreHeld, NamesAreHeld}
 use Rattle.sc_laws.specs.Headline.{CallbacksComeFirst, ChainsHold, OnlyWaitersAreTold, RepliesMeetNone, ReservedAreHeld, TargetsAreKept, WaitersAreTold}
 use Rattle.sc_values.specs.Places.{StandsAs}
@@ -108,6 +113,13 @@ abbrev pub RoundsAreTurns : Type 0
 RoundsAreTurns =
     (limit : ℕ) (x : PlainWorld) (left : ℕ) (y : PlainWorld) → Rounds limit x left y →
     (hs : List ℕ) × (length hs + left ≡ limit) × Runs hs x y
+
+-- A handler that makes several turns at once is the next one again after each that asks nothing, as it would be if each turn
+-- were made for itself.
+abbrev pub HandlersComeAgain : Type 0
+HandlersComeAgain =
+    (most h n : ℕ) (j : Job) (c : Center) → pick_for h c ≡ Some j → goes_on j ≡ true → comes_again j (picked h j c) ≡ true →
+    next (settles most h j (suc n) want.Continue (picked h j c)) ≡ Some (h, job.Go)
 
 -- Where no handler of the world has anything to do, none has a turn in the machine.
 abbrev pub IdleWorldIsIdle : Type 0

@@ -1,5 +1,5 @@
 //! Laws of the world that runs beside the machine, each the contract of a function that does nothing.
-ghost use Rattle.sc_refinement.specs.Refining.{IdleWorldIsIdle, RefusedTurnStaysNear, RoundsAreTurns, RoundsRunAsMachine, StandingWorldIsNear};
+ghost use Rattle.sc_refinement.specs.Refining.{HandlersComeAgain, IdleWorldIsIdle, RefusedTurnStaysNear, RoundsAreTurns, RoundsRunAsMachine, StandingWorldIsNear};
 ghost use Rattle.sc_refinement.specs.Refining.{StoppedRoundsStayNear, StoppedWorldStaysNear, WorldHasHeadline, WorldReportsAsMachine, WorldRunsAsMachine};
 
 use sc_acts::sound::{new_stores_are_sound, sound_jobs_are_taken};
@@ -94,6 +94,12 @@ pub fn idle_world_is_idle()
 /// Turns round and round, of which several may be made at once, are turns of handlers, one after the other.
 pub fn rounds_are_turns()
     ensures { RoundsAreTurns }
+{}
+
+/// And the turns that are made at once are those that would be made round and round: after each the handler is the next one
+/// again.
+pub fn handlers_come_again()
+    ensures { HandlersComeAgain }
 {}
 
 /// So rounds that end lead a program's world to one that stands for a state to which as many turns lead the machine, or

@@ -15,7 +15,7 @@ pub mod Halving
 mod Outs
 mod Rounds
 mod Bits
-mod Granting
+pub mod Granting
 mod Placing
 mod Counted
 pub mod Sounds
@@ -29,5 +29,5 @@ mod Reserving
 mod Elsewhere
 mod Posters
 mod Quiet
-mod Waking
+pub mod Waking
 mod Entries

@@ -155,6 +155,10 @@ none_from : (o : Option (ℕ × Job)) → None ≡ number_of o → None ≡ o
 none_from (Some p) e = cc
 none_from None e = refl
 
+pub some_numbered : (o : Option (ℕ × Job)) → is_some (number_of o) ≡ is_some o
+some_numbered (Some p) = refl
+some_numbered None = refl
+
 pub number_rest : (c : Center) (r : Option ℕ) → None ≡ number_of (first_with_job (numbers_from (c.last + 1) (c.state.count - (c.last + 1))) c) →
     r ≡ number_of (first_with_job (numbers_from 0 (min c.state.count (c.last + 1) - 0)) c) → r ≡ number_of (next c)
 number_rest c r none e = e ∙ ap number_of (round_rest c _ (none_from _ none) refl)

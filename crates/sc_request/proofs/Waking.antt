@@ -36,7 +36,7 @@ job_if false true false o o' e f is = cc
 job_if false false below' o o' e f is = cc
 
 -- one that the settlement doesn't touch had something to do before, unless it waits to reserve what may be free now
-had_job : (most h : ℕ) (j : Job) (turns : ℕ) (w : Want) (c : Center) (k : ℕ) → (k == h) ≡ false → touches h w c.state k ≡ false →
+pub had_job : (most h : ℕ) (j : Job) (turns : ℕ) (w : Want) (c : Center) (k : ℕ) → (k == h) ≡ false → touches h w c.state k ≡ false →
     ((settled most h j turns w c.state).handlers h).failure ≡ None →
     (frees j w && is_reserving ((settled most h j turns w c.state).handlers k).stage) ≡ false →
     is_some (pick_for k (settles most h j turns w c)) ≡ true → is_some (pick_for k c) ≡ true

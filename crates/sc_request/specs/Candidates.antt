@@ -1,5 +1,5 @@
 -- Who may have something to do: sets that have at least those who do.
-use Rattle.std.specs.Prelude.{◌≡◌, ◌≤◌, ◌<◌, ◌==◌, ◌||◌, ℕ, Bool, true, false, List, [], ◌∷◌, Option, Some, None, is_some, map, nat_lt}
+use Rattle.std.specs.Prelude.{◌≡◌, ◌≤◌, ◌<◌, ◌==◌, ◌||◌, ℕ, Bool, true, false, List, [], ◌∷◌, Option, Some, None, is_some, map, nat_lt, not, ◌&&◌}
 use Rattle.std.specs.List.{list_all}
 use Rattle.sc_lockpass.specs.Rights.{is_among, is_handler}
 use Rattle.sc_lockpass.specs.Tables.{is_member}
@@ -14,7 +14,7 @@ use Rattle.sc_request.specs.Handlers.{Posted, Stage, Idle, Runs, HasMade, Reserv
 use Rattle.sc_request.specs.Sessions.{to_list}
 use Rattle.sc_request.specs.Settling.{settled}
 use Rattle.sc_request.specs.Tables.{out_at}
-use Rattle.sc_request.specs.Logs.{Center, pick_for}
+use Rattle.sc_request.specs.Logs.{Center, next, pick_for}
 
 -- ---- sets as the bits of words
 
@@ -132,6 +132,11 @@ frees_by (Fail why) = false
 -- The settlement may free what another handler waits to reserve, unless the settled handler fails.
 abbrev pub frees : Job → Want → Bool
 frees j w = frees_under j || frees_by w
+
+-- Beside the handler that is out with the job no other one has anything to do, and the job frees nothing. So as long as
+-- its turns ask nothing, it is the next one again.
+abbrev pub comes_again : Job → Center → Bool
+comes_again j c = not (frees_under j) && not (is_some (next c))
 
 -- the handler, whatever the count of its sessions
 abbrev pub uncounted : Handler → Handler

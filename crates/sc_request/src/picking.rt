@@ -1,7 +1,7 @@
 //! Who goes on: handlers are picked with their jobs, and put back.
-ghost use Rattle.std.specs.Prelude.{◌≡◌, ◌≤◌, ◌+◌, ◌-◌, ◌<◌, ℕ, IfSome, Some};
+ghost use Rattle.std.specs.Prelude.{◌≡◌, ◌≤◌, ◌+◌, ◌-◌, ◌<◌, ℕ, IfSome, Some, is_some};
 ghost use Rattle.std.specs.Option.{option_map};
-ghost use Rattle.sc_request.specs.Candidates.{AreCandidates};
+ghost use Rattle.sc_request.specs.Candidates.{AreCandidates, comes_again};
 ghost use Rattle.sc_request.specs.Logs.{first_with_job, next, numbers_from, picked, picked_if, picks};
 ghost use Rattle.sc_request.specs.Logs as logs;
 
@@ -9,6 +9,7 @@ use crate::center::Core;
 use crate::copy::copy_job;
 use crate::grants::{release_granted, reserve_granted};
 use crate::handler_set::HandlerSet;
+use crate::touching::frees_under;
 use sc_region::Job;
 
 impl Core {
@@ -31,6 +32,32 @@ impl Core {
         let handler = found?;
         let job = self.pick_at(handler)?;
         Some((handler, job))
+    }
+
+    /// Whether the handler that is out with this job is the next one again, as long as its turns ask nothing: no other
+    /// one has anything to do, and the job frees nothing that one waits to reserve.
+    pub fn comes_again(&mut self, job: &Job) -> bool
+        ensures again { result ≡ comes_again job.now (center_of self.old) }
+        ensures center { center_of self.new ≡ center_of self.old }
+        ensures log { log_of self.new ≡ log_of self.old }
+        ensures room { (n : ℕ) → HasRoomFor n self.old → HasRoomFor n self.new }
+        ensures version { self.new.state.rights.version ≡ self.old.state.rights.version }
+    {
+        !frees_under(job) && !self.has_next()
+    }
+
+    /// Whether there is a handler that has something to do and isn't out.
+    fn has_next(&mut self) -> bool
+        ensures next { result ≡ is_some (next (center_of self.old)) }
+        ensures center { center_of self.new ≡ center_of self.old }
+        ensures log { log_of self.new ≡ log_of self.old }
+        ensures room { (n : ℕ) → HasRoomFor n self.old → HasRoomFor n self.new }
+        ensures version { self.new.state.rights.version ≡ self.old.state.rights.version }
+    {
+        let mut candidates = self.candidates;
+        let found = self.first_round(&mut candidates);
+        self.candidates = candidates;
+        found.is_some()
     }
 
     /// What this handler has to do, where it has something and isn't out. It is out from now on, and what its reserve

@@ -99,7 +99,8 @@ pub(crate) fn frees(job: &Job, want: &Want) -> bool
     frees_under(job) || frees_by(want)
 }
 
-fn frees_under(job: &Job) -> bool
+/// Whether the job itself may free that.
+pub(crate) fn frees_under(job: &Job) -> bool
     ensures { result ≡ frees_under job.now }
 {
     match job {

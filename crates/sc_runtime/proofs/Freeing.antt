@@ -17,7 +17,7 @@ use Rattle.sc_free.specs.Free.{AreLinked}
 use Rattle.sc_free.proofs.Linking as linking
 use Rattle.sc_free.proofs.Linking.{free_regions_rest, refused_turns_stay_linked, turns_stay_linked}
 use Rattle.sc_runtime.specs.Free.{FreeObjectMeets, IsLinked, OpeningsAreLinked, RoundsStayLinked, RunsStayLinked, StoppedRoundsStayLinked, StoppedRunsStayLinked}
-use Rattle.sc_runtime.specs.Rounds.{IsRefusedNext, Played, Rounds, StopsNext, TurnsOfNext, more, none, turns_at_once}
+use Rattle.sc_runtime.specs.Rounds.{IsRefusedNext, Played, Rounds, StopsNext, TurnsOfNext, more, none, turns_of_picked}
 use Rattle.sc_runtime.specs.Turning.{HeldUpUnder, IsHeldUp, IsRefusedTurn, IsTurn, Makes, PutsBack, Settles, TurnsUnder}
 use Rattle.sc_runtime.specs.Worlds.{PlainWorld, max_handlers, new_regions, opened}
 
@@ -104,7 +104,7 @@ next_picks h j c e = found_picks (round c.state.count c.last) c (h, j) e
 rounds_linked : (limit : ℕ) (x : PlainWorld) (left : ℕ) (y : PlainWorld) → IsLinked x → Rounds limit x left y → IsLinked y
 rounds_linked limit x left y linked none = linked
 rounds_linked limit x left z linked (more {left = l} {turns = n} {y = y} h j rounds some is all) =
-    makes_linked (turns_at_once l y) h j n y z (rounds_linked limit x l y linked rounds) (next_picks h j y.center is) all.makes
+    makes_linked (turns_of_picked l h j y) h j n y z (rounds_linked limit x l y linked rounds) (next_picks h j y.center is) all.makes
 
 pub rounds_stay_linked : RoundsStayLinked
 rounds_stay_linked limit x y linked ends = rounds_linked limit x ends.left y linked ends.rounds
@@ -113,7 +113,7 @@ stops_next_linked : (o : Option (ℕ × Job)) (left : ℕ) (x y : PlainWorld) �
 stops_next_linked None left x y is linked same = same_linked x y same linked
 stops_next_linked (Some p) left x y is linked (inl held) = held_up_linked p.0 p.1 x y linked held
 stops_next_linked (Some p) left x y is linked (inr (turns, some)) =
-    makes_linked (turns_at_once left x) p.0 p.1 turns x y linked (next_picks p.0 p.1 x.center is) some.makes
+    makes_linked (turns_of_picked left p.0 p.1 x) p.0 p.1 turns x y linked (next_picks p.0 p.1 x.center is) some.makes
 
 pub refused_next_linked : (left : ℕ) (x y : PlainWorld) → IsLinked x → IsRefusedNext left x y → IsLinked y
 refused_next_linked left x y linked (inl same) = same_linked x y same linked
@@ -125,7 +125,7 @@ stopped_rounds_stay_linked limit x y linked stops =
 
 of_next : (o : Option (ℕ × Job)) (left turns : ℕ) (x y : PlainWorld) → next x.center ≡ o → IsLinked x → TurnsOfNext o left turns x y → IsLinked y
 of_next None left turns x y is linked turned = same_linked x y turned.1 linked
-of_next (Some p) left turns x y is linked all = makes_linked (turns_at_once left x) p.0 p.1 turns x y linked (next_picks p.0 p.1 x.center is) all.makes
+of_next (Some p) left turns x y is linked all = makes_linked (turns_of_picked left p.0 p.1 x) p.0 p.1 turns x y linked (next_picks p.0 p.1 x.center is) all.makes
 
 pub turns_of_next_linked : (left turns : ℕ) (x y : PlainWorld) → IsLinked x → TurnsOfNext (next x.center) left turns x y → IsLinked y
 turns_of_next_linked left turns x y linked turned = of_next (next x.center) left turns x y refl linked turned

@@ -7,7 +7,7 @@ use Rattle.sc_region.specs.declared.job.Want.{Want}
 use Rattle.sc_region.specs.declared.job.Want.TheVariants as want
 use Rattle.sc_request.specs.Logs.{Center, next, picked}
 use Rattle.sc_play.specs.Regions.{PlainRegion}
-use Rattle.sc_runtime.specs.Rounds.{AreCutShort, EndsRounds, IsRefusedNext, MakesAll, MakesSome, Played, Rounds, StopsNext, TurnsOfNext, turns_at_once}
+use Rattle.sc_runtime.specs.Rounds.{AreCutShort, EndsRounds, IsRefusedNext, MakesAll, MakesSome, Played, Rounds, StopsNext, TurnsOfNext, turns_of_picked}
 use Rattle.sc_runtime.specs.Turning.{IsHeldUp, Makes}
 use Rattle.sc_runtime.specs.Worlds.{PlainWorld}
 
@@ -20,14 +20,14 @@ some-at-once false left some = omega arith
 pub next-none : (left : ℕ) (x y : PlainWorld) → None ≡ next x.center → y ≡ x → TurnsOfNext (next x.center) left 0 x y
 next-none left x y e same = subst (λ (o : Option (ℕ × Job)). TurnsOfNext o left 0 x y) e (refl, same)
 
-pub next-some : (h : ℕ) (j : Job) (left turns : ℕ) (x y : PlainWorld) → Some (h, j) ≡ next x.center → MakesAll (turns_at_once left x) h j turns x y →
+pub next-some : (h : ℕ) (j : Job) (left turns : ℕ) (x y : PlainWorld) → Some (h, j) ≡ next x.center → MakesAll (turns_of_picked left h j x) h j turns x y →
     TurnsOfNext (next x.center) left turns x y
 next-some h j left turns x y e all = subst (λ (o : Option (ℕ × Job)). TurnsOfNext o left turns x y) e all
 
 pub refused-next : (h : ℕ) (j : Job) (left : ℕ) (x y : PlainWorld) → Some (h, j) ≡ next x.center → IsHeldUp h j x y → IsRefusedNext left x y
 refused-next h j left x y e held = inr (subst (λ (o : Option (ℕ × Job)). StopsNext o left x y) e (inl held))
 
-pub refused-behind : (h : ℕ) (j : Job) (left turns : ℕ) (x y : PlainWorld) → Some (h, j) ≡ next x.center → MakesSome (turns_at_once left x) h j turns x y →
+pub refused-behind : (h : ℕ) (j : Job) (left turns : ℕ) (x y : PlainWorld) → Some (h, j) ≡ next x.center → MakesSome (turns_of_picked left h j x) h j turns x y →
     IsRefusedNext left x y
 refused-behind h j left turns x y e some = inr (subst (λ (o : Option (ℕ × Job)). StopsNext o left x y) e (inr (turns, some)))
 

@@ -158,8 +158,8 @@ impl<'p> World<'p> {
         Ok(())
     }
 
-    /// The next handler that has something to do makes a turn; or as many as are left, where it is the only handler.
-    /// Answers how many. Err where memory is refused to one of them, which may be behind others.
+    /// The next handler that has something to do makes a turn; or as many as are left, where it would be the next again
+    /// after each. Answers how many. Err where memory is refused to one of them, which may be behind others.
     fn next_turns(&mut self, left: u32) -> Result<u32, AllocError>
         requires { 1 ≤ left }
         ensures ok { IfOk result (λ turns.
@@ -167,28 +167,16 @@ impl<'p> World<'p> {
         ensures err { OnErr result (IsRefusedNext left (world_of self.old) (world_of self.new)) }
     {
         self.core.make_room()?;
-        let most = self.turns_at_once(left);
         match self.core.pick() {
             Some((handler, job)) => {
                 let region = &mut self.regions[handler as usize];
-                let (turns, cut_short) = play(&mut self.core, region, handler, &job, most)?;
+                let (turns, cut_short) = play_on(&mut self.core, region, handler, &job, left)?;
                 if cut_short {
                     return Err(AllocError);
                 }
                 Ok(turns)
             }
             None => Ok(0),
-        }
-    }
-
-    /// How many turns the next handler may make at once, of so many that are left: all where it is the only one.
-    fn turns_at_once(&self, left: u32) -> u32
-        ensures { result ≡ turns_at_once left (world_of self.now) }
-    {
-        if self.core.handler_count() == 1 {
-            left
-        } else {
-            1
         }
     }
 
@@ -290,6 +278,18 @@ fn regions<'p>(alloc: Global, program: &'p Program) -> Result<Vec<Region<'p>>, A
     Ok(regions)
 }
 
+/// How many turns the handler that is out with this job may make at once, of so many that are left: all where it is the
+/// next one again as long as they ask nothing.
+fn turns_at_once(core: &mut Core, job: &Job, left: u32) -> u32
+    ensures turns { result ≡ turns_at_once left job.now (center_of core.old) }
+    ensures center { center_of core.new ≡ center_of core.old }
+    ensures log { log_of core.new ≡ log_of core.old }
+    ensures room { (n : ℕ) → HasRoomFor n core.old → HasRoomFor n core.new }
+    ensures version { core.new.state.rights.version ≡ core.old.state.rights.version }
+{
+    if core.comes_again(job) { left } else { 1 }
+}
+
 /// Whether the turns that a handler made under its job were cut short: the last asks nothing, and there might be more.
 fn are_cut_short(limit: u32, turns: u32, asked: &Want) -> bool
     ensures { IsTrue result ↔ AreCutShort limit turns asked.now }
@@ -325,4 +325,24 @@ fn play(
         unreachable!();
     }
     Ok((turns, cut_short))
+}
+
+/// The handler plays as many turns under its job as it may make at once, of so many that are left.
+fn play_on(
+    core: &mut Core,
+    region: &mut Region<'_>,
+    handler: u16,
+    job: &Job,
+    left: u32,
+) -> Result<(u32, bool), AllocError>
+    requires some { 1 ≤ left }
+    requires out { (center_of core.old).out handler ≡ Some job.now }
+    requires room { HasRoomFor 0 core.old }
+    ensures ok { IfOk result (λ played.
+        Played (turns_at_once left job.now (center_of core.old)) handler job.now played.0 (most_handlers core.old.state.rights.version) (center_of core.old) (center_of core.new) region.old region.new played.1) }
+    ensures err { OnErr result (PutsBack handler job.now (center_of core.old) (center_of core.new) region.old region.new) }
+    ensures version { core.new.state.rights.version ≡ core.old.state.rights.version }
+{
+    let limit = turns_at_once(core, job, left);
+    play(core, region, handler, job, limit)
 }

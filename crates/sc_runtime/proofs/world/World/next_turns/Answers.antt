@@ -1,27 +1,22 @@
-use Rattle.std.proofs.Common.{◌≡◌, ◌==◌, length, ap, sym, ◌∙◌, arith}
-use Rattle.std.specs.Prelude.{if◌then◌else◌}
+use Rattle.std.proofs.Common.{◌≡◌, length, ap, sym, ◌∙◌, arith}
 use Rattle.std.proofs.lemmas.Option.{slice_get_read}
 use Rattle.sc_lockpass.specs.Versions.{most_handlers}
 use Rattle.sc_request.specs.Cores.{center_of}
-use Rattle.sc_request.specs.Logs.{Center, next, picked, picks}
+use Rattle.sc_request.specs.Logs.{next, picked, picks}
+use Rattle.sc_runtime.specs.Rounds.{turns_at_once}
 use Rattle.sc_runtime.proofs.Freeing.{linked_still, next_picks, played_linked}
 use Rattle.sc_runtime.proofs.Outs.{held-up, on-err, picked-out, world-is}
-use Rattle.sc_runtime.proofs.Rounding.{makes-all, makes-some, next-none, next-some, refused-behind, refused-next, some-at-once}
+use Rattle.sc_runtime.proofs.Rounding.{makes-all, makes-some, next-none, next-some, refused-behind, refused-next}
 use Rattle.sc_runtime.proofs.world.World.next_turns.Goals as goal
 
-pub play-requires-clause-some : goal.play-requires-clause-some
-play-requires-clause-some c =
-    let some = some-at-once ((center_of c.make_room.new.self).state.count == 1) c.args.left c.requires in
-    omega (arith, some, c.turns_at_once-most.ensures)
-
-pub play-requires-clause-out : goal.play-requires-clause-out
-play-requires-clause-out c =
+pub play_on-requires-clause-out : goal.play_on-requires-clause-out
+play_on-requires-clause-out c =
     let job = c.pick.ensures.job in
     picked-out c.in-Some.handler c.in-Some.job (center_of c.make_room.new.self) (center_of c.pick.new.self)
     (c.pick.ensures.center ∙ ap (λ o. picks o (center_of c.make_room.new.self)) (sym job ∙ c.in-Some.is))
 
-pub play-requires-clause-room : goal.play-requires-clause-room
-play-requires-clause-room c = c.pick.ensures.room 0 c.in_ok-make_room.ensures.room
+pub play_on-requires-clause-room : goal.play_on-requires-clause-room
+play_on-requires-clause-room c = c.pick.ensures.room 0 c.in_ok-make_room.ensures.room
 
 pub returns-else-cut_short-clause-ok : goal.returns-else-cut_short-clause-ok
 returns-else-cut_short-clause-ok c =
@@ -33,7 +28,7 @@ returns-else-cut_short-clause-ok c =
     let count : 512 ≡ length c.args.self.now.regions.items = omega (arith, c.args.self.now.places, c.args.self.now.regions.ok.0) in
     let stands = slice_get_read c.args.self.now.regions.items 512 h c.index_mut-region.result.now count c.in-Some.ensures.below c.index_mut-region.ensures.value in
     let version = c.pick.ensures.version ∙ c.in_ok-make_room.ensures.version in
-    let most = c.turns_at_once-most.ensures ∙ ap (λ (d : Center). if d.state.count == 1 then c.args.left else 1) room in
+    let most = ap (turns_at_once c.args.left j) out in
     let turns = c.in_ok-turns-in-Some.turns in
     next-some h j c.args.left turns _ _ (job ∙ ap next room)
     (makes-all _ _ h j turns _ _ _ _ _ _ _ _ _ c.in_ok-turns-in-Some.cut_short most stands (ap most_handlers version)
@@ -49,7 +44,7 @@ returns-then-cut_short-clause-err c =
     let count : 512 ≡ length c.args.self.now.regions.items = omega (arith, c.args.self.now.places, c.args.self.now.regions.ok.0) in
     let stands = slice_get_read c.args.self.now.regions.items 512 h c.index_mut-region.result.now count c.in-Some.ensures.below c.index_mut-region.ensures.value in
     let version = c.pick.ensures.version ∙ c.in_ok-make_room.ensures.version in
-    let most = c.turns_at_once-most.ensures ∙ ap (λ (d : Center). if d.state.count == 1 then c.args.left else 1) room in
+    let most = ap (turns_at_once c.args.left j) out in
     let turns = c.in_ok-turns-in-Some.turns in
     refused-behind h j c.args.left turns _ _ (job ∙ ap next room)
     (makes-some _ _ h j turns _ _ _ _ _ _ _ _ _ c.in_ok-turns-in-Some.cut_short most stands (ap most_handlers version)
@@ -77,8 +72,8 @@ returns-in-None-clause-ok c =
     next-none c.args.left _ _ (none ∙ ap next room)
     (world-is _ _ _ _ _ (ap most_handlers (c.pick.ensures.version ∙ c.in_ok-make_room.ensures.version)) (kept ∙ room))
 
-pub invariant_of-self-clause-linked : goal.invariant_of-self-clause-linked
-invariant_of-self-clause-linked c = linked_still _ _ _ c.make_room.ensures.center c.args.self.now.linked
+pub invariant_of-self : goal.invariant_of-self
+invariant_of-self c = record { places = c.args.self.now.places; linked = linked_still _ _ _ c.make_room.ensures.center c.args.self.now.linked }
 
 pub invariant_of-self-in-None-clause-linked : goal.invariant_of-self-in-None-clause-linked
 invariant_of-self-in-None-clause-linked c =
@@ -95,5 +90,5 @@ invariant_of-self-in-Some-clause-linked c =
     let out = c.pick.ensures.center ∙ ap (λ o. picks o (center_of c.make_room.new.self)) (sym job) ∙ ap (picked h j) room in
     let count : 512 ≡ length c.args.self.now.regions.items = omega (arith, c.args.self.now.places, c.args.self.now.regions.ok.0) in
     let stands = slice_get_read c.args.self.now.regions.items 512 h c.index_mut-region.result.now count c.in-Some.ensures.below c.index_mut-region.ensures.value in
-    played_linked _ h j _ (center_of c.args.self.now.core) _ _ c.args.self.now.regions.items _ _ c.play.result c.args.self.now.linked
-    (next_picks h j (center_of c.args.self.now.core) (sym (job ∙ ap next room))) stands out c.play.ensures.ok c.play.ensures.err
+    played_linked _ h j _ (center_of c.args.self.now.core) _ _ c.args.self.now.regions.items _ _ c.play_on.result c.args.self.now.linked
+    (next_picks h j (center_of c.args.self.now.core) (sym (job ∙ ap next room))) stands out c.play_on.ensures.ok c.play_on.ensures.err
