@@ -144,8 +144,7 @@ fn other(declared: &Name, name: &str, span: Span) -> Option<Span> {
 
 /// The class in which a part of the text stands, with its number.
 pub fn class_around(classes: &[Class], span: Span) -> Option<(usize, &Class)> {
-    for number in 0..classes.len() {
-        let class = classes.get(number)?;
+    for (number, class) in classes.iter().enumerate() {
         if class.span.start <= span.start && span.start < class.span.end {
             return Some((number, class));
         }

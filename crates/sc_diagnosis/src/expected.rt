@@ -108,10 +108,7 @@ fn may_follow(alloc: Global, before: &str, token: &str) -> Result<bool, AllocErr
 
 /// The text with the token behind it.
 fn joined(alloc: Global, before: &str, token: &str) -> Result<String, AllocError> {
-    let mut text = String::from_str(alloc, before)?;
-    text.push_str(" ")?;
-    text.push_str(token)?;
-    Ok(text)
+    format!(in alloc; "{before} {token}")
 }
 
 /// Whether a system begins with the tokens of a text of this length.

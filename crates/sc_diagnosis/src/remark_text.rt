@@ -7,7 +7,7 @@ use sc_class::ClassId;
 use sc_proctype::EntityType;
 use sc_text::Span;
 use sc_tree::{BinaryOperator, UnaryOperator};
-use std::alloc::{AllocError, Global};
+use std::alloc::AllocError;
 
 impl<'c, 't, 's> Scope<'c, 't, 's> {
     /// Adds what is said of the part of the text that is at fault, without a line feed.
@@ -86,9 +86,7 @@ impl<'c, 't, 's> Scope<'c, 't, 's> {
     /// Adds what is said of a name at fault.
     fn push_misfit(&self, lines: &mut String, misfit: Misfit) -> Result<(), AllocError> {
         match misfit {
-            Misfit::Arity(taken, given) => {
-                push_arity(self.routine.alloc, lines, self.part(), taken, given)
-            }
+            Misfit::Arity(taken, given) => push_arity(lines, self.part(), taken, given),
             Misfit::Lacking(class) => self.push_lacking(lines, class),
             Misfit::Unknown => {
                 lines.push_str("nothing that is known here has the name ")?;
@@ -186,7 +184,6 @@ fn spelling(operator: BinaryOperator) -> &'static str {
 
 /// Adds how many actuals are taken, and how many are given.
 fn push_arity(
-    alloc: Global,
     lines: &mut String,
     name: &str,
     taken: usize,
@@ -194,32 +191,24 @@ fn push_arity(
 ) -> Result<(), AllocError> {
     push_quoted(lines, name)?;
     lines.push_str(" takes ")?;
-    push_actuals(alloc, lines, taken)?;
+    push_actuals(lines, taken)?;
     lines.push_str(", and is given ")?;
-    push_given_number(alloc, lines, given)
+    push_given_number(lines, given)
 }
 
 /// Adds how many actuals are taken.
-fn push_actuals(alloc: Global, lines: &mut String, count: usize) -> Result<(), AllocError> {
+fn push_actuals(lines: &mut String, count: usize) -> Result<(), AllocError> {
     match count {
         0 => lines.push_str("no actuals"),
         1 => lines.push_str("1 actual"),
-        _ => {
-            push_number(alloc, lines, count)?;
-            lines.push_str(" actuals")
-        }
+        _ => write!(lines, "{count} actuals"),
     }
 }
 
 /// Adds how many are given.
-fn push_given_number(alloc: Global, lines: &mut String, count: usize) -> Result<(), AllocError> {
-    if count == 0 {
-        return lines.push_str("none");
+fn push_given_number(lines: &mut String, count: usize) -> Result<(), AllocError> {
+    match count {
+        0 => lines.push_str("none"),
+        _ => write!(lines, "{count}"),
     }
-    push_number(alloc, lines, count)
-}
-
-fn push_number(alloc: Global, lines: &mut String, number: usize) -> Result<(), AllocError> {
-    let digits = format!(in alloc; "{number}")?;
-    lines.push_str(&digits)
 }

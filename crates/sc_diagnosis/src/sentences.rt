@@ -10,7 +10,11 @@ pub struct Sentence {
 
 /// The sentence of this code, if there is one.
 pub fn sentence_of(code: &str) -> Option<&'static Sentence> {
-    for sentence in SENTENCES {
+    find(SENTENCES, code)
+}
+
+fn find<'t>(sentences: &'t [Sentence], code: &str) -> Option<&'t Sentence> {
+    for sentence in sentences {
         if sentence.code == code {
             return Some(sentence);
         }

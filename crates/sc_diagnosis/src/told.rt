@@ -9,7 +9,7 @@ use crate::walk::Walk;
 use sc_class::{ClassFault, ClassId, Root, Tables, tables};
 use sc_rules::Context;
 use sc_text::Span;
-use sc_tree::{Class, FeatureKind, Name, Routine, System};
+use sc_tree::{Class, Feature, FeatureKind, Name, Routine, System};
 use sc_typing::{Purity, RoutineContext, result_type};
 use std::alloc::{AllocError, Global};
 
@@ -36,15 +36,10 @@ const AIMS: [(&str, Kind); 7] = [
 impl<'c> Refused<'c> {
     /// What is looked for, where more can be said of the rule.
     pub fn aim(self) -> Option<Aim> {
-        for (code, kind) in &AIMS {
-            if *code == self.code {
-                return Some(Aim {
-                    kind: *kind,
-                    span: self.span,
-                });
-            }
-        }
-        None
+        Some(Aim {
+            kind: kind_at(&AIMS, self.code)?,
+            span: self.span,
+        })
     }
 
     /// Adds a sentence on this very fault, which is at a part that is aimed at, and what helps, and whether there is
@@ -245,9 +240,25 @@ impl<'c, 't, 's> Scope<'c, 't, 's> {
     }
 }
 
+/// The kind of the parts that the rule of this code fails at, if it is among these.
+fn kind_at(aims: &[(&str, Kind)], code: &str) -> Option<Kind> {
+    for (aimed, kind) in aims {
+        if *aimed == code {
+            return Some(*kind);
+        }
+    }
+    None
+}
+
 /// The routine that is the feature around a part of the text, if it is one.
 fn routine_around(class: &Class, span: Span) -> Option<&Routine> {
-    let feature = feature_around(class, span)?;
+    match feature_around(class, span) {
+        Some(feature) => routine_of(feature),
+        None => None,
+    }
+}
+
+fn routine_of(feature: &Feature) -> Option<&Routine> {
     match &feature.kind {
         FeatureKind::Attribute(_) => None,
         FeatureKind::Routine(text) => Some(text),
