@@ -4,7 +4,9 @@ use crate::excerpt::excerpt;
 use crate::history::{
     asked_last, created_last, failed_at_once, failed_behind, last_of, request_of,
 };
-use crate::words::{push_clause, push_quoted, push_routine, push_site, written};
+use crate::words::{
+    Phrase, clause_words, invariant_words, push_phrases, routine_words, site_words, written,
+};
 use sc_class::{ClassId, FeatureEntry, Tables};
 use sc_code::Program;
 use sc_model::{Cause, Status};
@@ -18,15 +20,15 @@ use std::alloc::{AllocError, Global};
 
 /// A run that was played once more, with the text that it is of.
 #[derive(Clone, Copy)]
-pub struct Rerun<'r, 'p, 's> {
+pub struct Rerun<'r> {
     pub alloc: Global,
     pub source: &'r Source,
-    pub tables: &'r Tables<'s>,
-    pub program: &'p Program,
-    pub world: &'r World<'p>,
+    pub tables: &'r Tables<'r>,
+    pub program: &'r Program,
+    pub world: &'r World<'r>,
 }
 
-impl<'r, 'p, 's> Rerun<'r, 'p, 's> {
+impl<'r> Rerun<'r> {
     /// Adds where a handler that has failed by this cause stood then, as far as that is known, and for whom it ran. Nothing
     /// where the handler hasn't failed so.
     pub fn push_breakdown(
@@ -77,19 +79,17 @@ impl<'r, 'p, 's> Rerun<'r, 'p, 's> {
         cause: Cause,
         last: &Settlement,
     ) -> Result<(), AllocError> {
-        let reserves = cause == Cause::SupplierFailed && point.place == 0;
         let Some(there) = self.whereabouts(point, cause, last) else {
             return Ok(());
         };
         let text = self.source.text();
-        let mut words = String::from_str(self.alloc, "in ")?;
-        push_routine(&mut words, text, there)?;
-        words.push_str(", ")?;
-        if reserves {
-            words.push_str("which reserves the handlers of its formals")?;
-            return self.push_place(lines, there.routine, &words);
+        let [routine, class] = routine_words(text, there);
+        if cause == Cause::SupplierFailed && point.place == 0 {
+            let reserves = Phrase::plain("which reserves the handlers of its formals");
+            return self.push_place(lines, there.routine, &[routine, class, reserves]);
         }
-        push_site(&mut words, text, there, cause)?;
+        let [operation, of, origin] = site_words(text, there, cause);
+        let words = [routine, class, operation, of, origin];
         self.push_place(lines, there.site.span, &words)
     }
 
@@ -122,25 +122,25 @@ impl<'r, 'p, 's> Rerun<'r, 'p, 's> {
             return Ok(());
         };
         let text = self.source.text();
-        let mut words = String::new(self.alloc);
-        push_clause(&mut words, text, clause.tag)?;
-        words.push_str(" of the invariant of ")?;
-        words.push_str(written(text, class.name.span))?;
-        if class.name.span != clause.class {
-            words.push_str(" from ")?;
-            words.push_str(written(text, clause.class))?;
-        }
-        words.push_str(" is false")?;
+        let [of, origin] = invariant_words(text, class.name.span, clause.class);
+        let words = [clause_words(text, clause.tag), of, origin];
         self.push_place(lines, clause.span, &words)
     }
 
     /// Adds a place of the text with what is said of it, and its line with carets.
-    fn push_place(self, lines: &mut Vec<u8>, span: Span, words: &String) -> Result<(), AllocError> {
+    fn push_place(
+        self,
+        lines: &mut Vec<u8>,
+        span: Span,
+        words: &[Phrase<'_>],
+    ) -> Result<(), AllocError> {
         let Some(Place { file, line, column }) = self.source.place_of(span.start) else {
             return Ok(());
         };
-        let told = format!(in self.alloc; "{file}:{line}:{column}: {words}\n")?;
-        lines.extend_from_slice(told.as_bytes())?;
+        let place = format!(in self.alloc; "{file}:{line}:{column}: ")?;
+        lines.extend_from_slice(place.as_bytes())?;
+        push_phrases(lines, words)?;
+        lines.push(b'\n')?;
         let shown = excerpt(self.alloc, self.source.text().as_bytes(), span)?;
         lines.extend_from_slice(shown.as_slice())
     }
@@ -163,11 +163,10 @@ impl<'r, 'p, 's> Rerun<'r, 'p, 's> {
         };
         let text = self.source.text();
         let span = declared.feature.name.span;
-        let mut words = String::new(self.alloc);
-        push_quoted(&mut words, written(text, span))?;
-        words.push_str(" of ")?;
-        words.push_str(written(text, class.name.span))?;
-        words.push_str(" is read")?;
+        let words = [
+            Phrase::around("`", written(text, span), "` of "),
+            Phrase::around("", written(text, class.name.span), " is read"),
+        ];
         self.push_place(lines, span, &words)
     }
 
@@ -214,37 +213,39 @@ impl<'r, 'p, 's> Rerun<'r, 'p, 's> {
         let Some(poster) = request.poster else {
             return lines.extend_from_slice(b"it was creating the root object\n");
         };
-        let mut words = format!(in self.alloc; "it served handler {poster}, which asked for ")?;
+        let begin = format!(in self.alloc; "it served handler {poster}, which asked for ")?;
+        lines.extend_from_slice(begin.as_bytes())?;
+        push_phrases(lines, &self.errand_words(request))?;
+        lines.push(b'\n')?;
+        Ok(())
+    }
+
+    /// What the request asks for.
+    fn errand_words(self, request: &Request) -> [Phrase<'r>; 2] {
         match request.errand {
-            Errand::Calls(name) => self.push_feature(&mut words, request, name)?,
-            Errand::Makes(None) => words.push_str("its creation")?,
-            Errand::Makes(Some(name)) => {
-                words.push_str("its creation by ")?;
-                self.push_feature(&mut words, request, name)?;
-            }
+            Errand::Calls(name) => [Phrase::plain(""), self.feature_words(request, name)],
+            Errand::Makes(None) => [Phrase::plain("its creation"), Phrase::plain("")],
+            Errand::Makes(Some(name)) => [
+                Phrase::plain("its creation by "),
+                self.feature_words(request, name),
+            ],
         }
-        words.push_str("\n")?;
-        lines.extend_from_slice(words.as_bytes())
     }
 
     /// The feature of the number that is asked for.
-    fn feature_asked(self, request: &Request, name: u32) -> Option<FeatureEntry<'s>> {
+    fn feature_asked(self, request: &Request, name: u32) -> Option<FeatureEntry<'r>> {
         let name = self.program.pool().names.get(name as usize)?;
         let class = ClassId::Declared(request.target.class as usize);
         self.tables.feature(class, name.as_str())
     }
 
-    /// Adds the feature of the number that is asked for, as the text has it.
-    fn push_feature(
-        self,
-        words: &mut String,
-        request: &Request,
-        name: u32,
-    ) -> Result<(), AllocError> {
+    /// The feature of the number that is asked for, as the text has it.
+    fn feature_words(self, request: &Request, name: u32) -> Phrase<'r> {
         match self.feature_asked(request, name) {
-            None => words.push_str("a feature"),
+            None => Phrase::plain("a feature"),
             Some(entry) => {
-                push_quoted(words, written(self.source.text(), entry.feature.name.span))
+                let span = entry.feature.name.span;
+                Phrase::around("`", written(self.source.text(), span), "`")
             }
         }
     }

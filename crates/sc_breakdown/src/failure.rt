@@ -43,13 +43,24 @@ pub fn failure_note(
     let Some(program) = program_of(alloc, &system, played.root)? else {
         return note(alloc, statuses, None);
     };
-    let mut world = World::open(alloc, &program, Version::Two)?;
+    note_of_rerun(alloc, played, statuses, &tables, &program)
+}
+
+/// The same, where the run is played once more with these tables and this program.
+fn note_of_rerun(
+    alloc: Global,
+    played: Played<'_>,
+    statuses: &[Status],
+    tables: &Tables<'_>,
+    program: &Program,
+) -> Result<Vec<u8>, AllocError> {
+    let mut world = World::open(alloc, program, Version::Two)?;
     world.rounds(played.turns)?;
     let rerun = Rerun {
         alloc,
         source: played.source,
-        tables: &tables,
-        program: &program,
+        tables,
+        program,
         world: &world,
     };
     note(alloc, statuses, Some(rerun))
@@ -109,7 +120,7 @@ fn program_of(alloc: Global, system: &System, root: &Root) -> Result<Option<Prog
 fn note(
     alloc: Global,
     statuses: &[Status],
-    rerun: Option<Rerun<'_, '_, '_>>,
+    rerun: Option<Rerun<'_>>,
 ) -> Result<Vec<u8>, AllocError> {
     let mut lines = Vec::new(alloc);
     for (handler, status) in statuses.iter().enumerate() {
@@ -126,7 +137,7 @@ fn push_failure(
     lines: &mut Vec<u8>,
     handler: usize,
     cause: Cause,
-    rerun: Option<Rerun<'_, '_, '_>>,
+    rerun: Option<Rerun<'_>>,
 ) -> Result<(), AllocError> {
     let code = code_of(cause);
     if let Some(page) = find(code) {

@@ -6,79 +6,113 @@ use sc_tree::{BinaryOperator, UnaryOperator};
 use sc_whereabouts::{Assertion, Kind, Whereabouts};
 use std::alloc::AllocError;
 
+/// A part of a text, and what is said around it.
+#[derive(Clone, Copy)]
+pub struct Phrase<'t> {
+    before: &'static str,
+    part: &'t str,
+    behind: &'static str,
+}
+
+impl<'t> Phrase<'t> {
+    /// Words alone, or none.
+    pub fn plain(words: &'static str) -> Phrase<'t> {
+        Phrase {
+            before: words,
+            part: "",
+            behind: "",
+        }
+    }
+
+    pub fn around(before: &'static str, part: &'t str, behind: &'static str) -> Phrase<'t> {
+        Phrase {
+            before,
+            part,
+            behind,
+        }
+    }
+}
+
+/// Adds the phrases, one behind the other.
+pub fn push_phrases(lines: &mut Vec<u8>, phrases: &[Phrase<'_>]) -> Result<(), AllocError> {
+    for phrase in phrases {
+        lines.extend_from_slice(phrase.before.as_bytes())?;
+        lines.extend_from_slice(phrase.part.as_bytes())?;
+        lines.extend_from_slice(phrase.behind.as_bytes())?;
+    }
+    Ok(())
+}
+
 /// The part of a text, with the letters that stand there.
 pub fn written(text: &str, span: Span) -> &str {
     text.get(span.start..span.end).unwrap_or("..")
 }
 
-/// Adds a part of a text in quotes.
-pub fn push_quoted(words: &mut String, part: &str) -> Result<(), AllocError> {
-    words.push_str("`")?;
-    words.push_str(part)?;
-    words.push_str("`")
+/// The name of a routine and that of the class in which it stands.
+pub fn routine_words(text: &str, there: Whereabouts) -> [Phrase<'_>; 2] {
+    [
+        Phrase::around("in `", written(text, there.routine), "` of "),
+        Phrase::around("", written(text, there.class), ", "),
+    ]
 }
 
-/// Adds the name of a routine and that of the class in which it stands.
-pub fn push_routine(words: &mut String, text: &str, there: Whereabouts) -> Result<(), AllocError> {
-    push_quoted(words, written(text, there.routine))?;
-    words.push_str(" of ")?;
-    words.push_str(written(text, there.class))
-}
-
-/// Adds what stands at a place where a handler failed by this cause.
-pub fn push_site(
-    words: &mut String,
-    text: &str,
-    there: Whereabouts,
-    cause: Cause,
-) -> Result<(), AllocError> {
+/// What stands at a place where a handler failed by this cause.
+pub fn site_words(text: &str, there: Whereabouts, cause: Cause) -> [Phrase<'_>; 3] {
+    let nothing = Phrase::plain("");
     match there.site.kind {
         Kind::Clause(assertion, tag) => {
-            push_clause(words, text, tag)?;
-            words.push_str(of_assertion(assertion))?;
-            if assertion != Assertion::Check && there.contract_class != there.class {
-                words.push_str(" from ")?;
-                words.push_str(written(text, there.contract_class))?;
-            }
-            words.push_str(" is false")
+            let is_own = assertion == Assertion::Check || there.contract_class == there.class;
+            let of = Phrase::plain(of_assertion(assertion));
+            let origin = origin_words(text, there.contract_class, is_own);
+            [clause_words(text, tag), of, origin]
         }
-        Kind::Name(name) | Kind::Call(name) => push_name(words, written(text, name), cause),
-        Kind::Unary(operator) => {
-            words.push_str("the operator ")?;
-            push_quoted(words, unary_spelling(operator))
-        }
-        Kind::Binary(operator) => {
-            words.push_str("the operator ")?;
-            push_quoted(words, binary_spelling(operator))
-        }
-        Kind::End => words.push_str(of_end(cause)),
-        kind => words.push_str(of_kind(kind)),
+        kind => [operation_words(text, kind, cause), nothing, nothing],
     }
 }
 
-/// Adds which clause it is, by its tag if it has one.
-pub fn push_clause(words: &mut String, text: &str, tag: Option<Span>) -> Result<(), AllocError> {
+/// The operation of this kind, with what it is made of.
+fn operation_words(text: &str, kind: Kind, cause: Cause) -> Phrase<'_> {
+    match kind {
+        Kind::Name(name) | Kind::Call(name) => name_words(written(text, name), cause),
+        Kind::Unary(operator) => Phrase::around("the operator `", unary_spelling(operator), "`"),
+        Kind::Binary(operator) => Phrase::around("the operator `", binary_spelling(operator), "`"),
+        Kind::End => Phrase::plain(of_end(cause)),
+        kind => Phrase::plain(of_kind(kind)),
+    }
+}
+
+/// Which clause it is, by its tag if it has one.
+pub fn clause_words(text: &str, tag: Option<Span>) -> Phrase<'_> {
     match tag {
-        None => words.push_str("a clause"),
-        Some(tag) => {
-            words.push_str("the clause ")?;
-            push_quoted(words, written(text, tag))
-        }
+        None => Phrase::plain("a clause"),
+        Some(tag) => Phrase::around("the clause `", written(text, tag), "`"),
     }
 }
 
-/// Adds what is done with a name: it is read, or called.
-fn push_name(words: &mut String, name: &str, cause: Cause) -> Result<(), AllocError> {
-    if cause == Cause::UnsetEntity {
-        push_quoted(words, name)?;
-        return words.push_str(" is read");
+/// Of which class's invariant a clause is false, and from which class it is.
+pub fn invariant_words(text: &str, class: Span, from: Span) -> [Phrase<'_>; 2] {
+    [
+        Phrase::around(" of the invariant of ", written(text, class), ""),
+        origin_words(text, from, class == from),
+    ]
+}
+
+/// From which class a clause is that is false, unless it is the one that is told anyway.
+fn origin_words(text: &str, class: Span, is_told: bool) -> Phrase<'_> {
+    if is_told {
+        Phrase::plain(" is false")
+    } else {
+        Phrase::around(" from ", written(text, class), " is false")
     }
-    words.push_str("the call of ")?;
-    push_quoted(words, name)?;
-    if cause == Cause::VoidTarget {
-        words.push_str(", whose target is Void")?;
+}
+
+/// What is done with a name: it is read, or called.
+fn name_words(name: &str, cause: Cause) -> Phrase<'_> {
+    match cause {
+        Cause::UnsetEntity => Phrase::around("`", name, "` is read"),
+        Cause::VoidTarget => Phrase::around("the call of `", name, "`, whose target is Void"),
+        _ => Phrase::around("the call of `", name, "`"),
     }
-    Ok(())
 }
 
 fn of_assertion(assertion: Assertion) -> &'static str {
