@@ -3,6 +3,7 @@
 use crate::reading::{root_of, system_of};
 use sc_class::{ClassId, Tables, tables};
 use std::alloc::{AllocError, Global};
+use std::process::Abort;
 use std::test::Fail;
 
 const SOURCE: &str = "class a create make feature make do end end
@@ -64,19 +65,23 @@ fn feature_text(
     }
 }
 
-#[test]
-fn tables_know_classes_and_features(rt: HostRuntime) -> Result<(), Fail> {
-    let alloc = rt.alloc();
-    let system = system_of(alloc, SOURCE)?;
-    let tables = tables(alloc, &system, &root_of(alloc, "a", "make")?)?;
+fn expect_classes<R: Abort + AllocGlobal>(rt: &R, tables: &Tables<'_>) -> Result<(), Fail> {
     for &(name, wanted) in &CLASSES {
-        let told = class_text(alloc, &tables, name)?;
+        let told = class_text(rt.alloc(), tables, name)?;
         assert_eq!(rt; told.as_str(), wanted, "of {name}");
     }
+    Ok(())
+}
+
+fn expect_features<R: Abort + AllocGlobal>(rt: &R, tables: &Tables<'_>) -> Result<(), Fail> {
     for &(class, name, wanted) in &FEATURES {
-        let told = feature_text(alloc, &tables, class, name)?;
+        let told = feature_text(rt.alloc(), tables, class, name)?;
         assert_eq!(rt; told.as_str(), wanted, "of {name}");
     }
+    Ok(())
+}
+
+fn expect_conformance<R: Abort>(rt: &R, tables: &Tables<'_>) {
     for &(from, to, wanted) in &CONFORMANCE {
         assert_eq!(rt;
             tables.class_conforms(from, to),
@@ -84,5 +89,15 @@ fn tables_know_classes_and_features(rt: HostRuntime) -> Result<(), Fail> {
             "{from:?} to {to:?}"
         );
     }
+}
+
+#[test]
+fn tables_know_classes_and_features(rt: HostRuntime) -> Result<(), Fail> {
+    let alloc = rt.alloc();
+    let system = system_of(alloc, SOURCE)?;
+    let tables = tables(alloc, &system, &root_of(alloc, "a", "make")?)?;
+    expect_classes(&rt, &tables)?;
+    expect_features(&rt, &tables)?;
+    expect_conformance(&rt, &tables);
     Ok(())
 }

@@ -98,10 +98,22 @@ impl Chart {
             return Ok(Some(after.saturating_sub(1)));
         }
         self.sets.truncate(start);
-        let mut items = match self.items.get(start) {
+        let items = match self.items.get(start) {
             Some(items) => items.to_vec(alloc)?,
             None => Vec::new(alloc),
         };
+        self.fault_behind(grammar, items, start, tokens, source)
+    }
+
+    /// The same, where these items may stand at the start.
+    fn fault_behind(
+        &mut self,
+        grammar: &Grammar,
+        mut items: Vec<Item>,
+        start: usize,
+        tokens: &[Token],
+        source: &str,
+    ) -> Result<Option<usize>, AllocError> {
         for (index, token) in tokens.iter().enumerate().skip(start) {
             let fit = grammar.fit(token, source)?;
             let set = grammar.complete(&self.sets, items, Some(&fit))?;
@@ -224,15 +236,44 @@ impl Charts {
         let wrong = self
             .any
             .fault_index(alloc, &self.grammar, place, &tokens, text)?;
-        let fault = fault_of(alloc, &tokens, MAX_NESTING)?;
-        assert_eq!(rt; fault, expected(&tokens, wrong, wrong), "{text}");
         let deep = self
             .shallow
             .fault_index(alloc, &self.grammar, place, &tokens, text)?;
-        let fault = fault_of(alloc, &tokens, SHALLOW)?;
-        assert_eq!(rt; fault, expected(&tokens, wrong, deep), "{text}");
+        let wanted = expected(&tokens, wrong, wrong);
+        expect_fault(rt, &tokens, MAX_NESTING, wanted, text)?;
+        let wanted = expected(&tokens, wrong, deep);
+        expect_fault(rt, &tokens, SHALLOW, wanted, text)
+    }
+
+    /// The same for four edits at a place, of which the first is the beginning up to there.
+    fn expect_at<R: Abort + AllocGlobal>(
+        &mut self,
+        rt: &R,
+        words: &[&'static str],
+        others: &[&'static str],
+        place: usize,
+        seed: &mut u64,
+    ) -> Result<(), Fail> {
+        for time in 0..4 {
+            let edit = if time == 0 { 3 } else { drawn(seed, 9) };
+            let text = edited(rt.alloc(), words, others, place, edit, seed)?;
+            self.expect(rt, place, &text)?;
+        }
         Ok(())
     }
+}
+
+/// Compares what the parser answers on the tokens of a text, within a nesting.
+fn expect_fault<R: Abort + AllocGlobal>(
+    rt: &R,
+    tokens: &[Token],
+    room: u8,
+    wanted: Option<ParseFault>,
+    text: &str,
+) -> Result<(), Fail> {
+    let fault = fault_of(rt.alloc(), tokens, room)?;
+    assert_eq!(rt; fault, wanted, "{text}");
+    Ok(())
 }
 
 /// Compares what is answered for a source and for edits at each of its places.
@@ -246,15 +287,10 @@ fn expect_edits<R: Abort + AllocGlobal>(
     let alloc = rt.alloc();
     let tokens = lex(alloc, source)?;
     assert_eq!(rt; words.len(), tokens.len(), "{source}");
-    assert_eq!(rt; fault_of(alloc, &tokens, MAX_NESTING)?, None, "{source}");
+    expect_fault(rt, &tokens, MAX_NESTING, None, source)?;
     let mut charts = Charts::new(alloc, source, &tokens)?;
     for place in (0..words.len()).rev() {
-        for time in 0..4 {
-            // First the beginning up to there.
-            let edit = if time == 0 { 3 } else { drawn(seed, 9) };
-            let text = edited(alloc, words, others, place, edit, seed)?;
-            charts.expect(rt, place, &text)?;
-        }
+        charts.expect_at(rt, words, others, place, seed)?;
     }
     Ok(())
 }

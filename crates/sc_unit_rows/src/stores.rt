@@ -271,42 +271,64 @@ fn told_frame(alloc: Global, store: &Store<'_>) -> Result<String, AllocError> {
     )
 }
 
-/// The store after these calls. One that is refused memory has changed nothing, so it is made once more.
+/// Makes a call. One that is refused memory has changed nothing, so it is made once more.
+fn expect_call<R: Abort + AllocGlobal>(
+    rt: &R,
+    store: &mut Store<'_>,
+    words: &str,
+) -> Result<(), Fail> {
+    let step = step_of(words)?;
+    let before = told(rt.alloc(), store)?;
+    if call(store, step).is_err() {
+        let after = told(rt.alloc(), store)?;
+        assert_eq!(rt;
+            after.as_str(),
+            before.as_str(),
+            "of {words}, refused memory"
+        );
+        call(store, step)?;
+    }
+    Ok(())
+}
+
+/// The store after these calls.
 fn play<'p>(
     rt: &(impl Abort + AllocGlobal),
     program: &'p Program,
     steps: &str,
 ) -> Result<Store<'p>, Fail> {
-    let alloc = rt.alloc();
-    let mut store = Store::new(alloc, program);
+    let mut store = Store::new(rt.alloc(), program);
     for words in steps.split(", ") {
         if words.is_empty() {
             break;
         }
-        let step = step_of(words)?;
-        let before = told(alloc, &store)?;
-        if call(&mut store, step).is_err() {
-            let after = told(alloc, &store)?;
-            assert_eq!(rt;
-                after.as_str(),
-                before.as_str(),
-                "of {words}, refused memory"
-            );
-            call(&mut store, step)?;
-        }
+        expect_call(rt, &mut store, words)?;
     }
     Ok(store)
+}
+
+fn expect_store<R: Abort + AllocGlobal>(rt: &R, program: &Program, row: &str) -> Result<(), Fail> {
+    let (steps, wanted) = row.split_once('|').ok_or("a row without a bar")?;
+    let store = play(rt, program, steps)?;
+    let told = told(rt.alloc(), &store)?;
+    assert_eq!(rt; told.as_str(), wanted, "of {steps}");
+    Ok(())
 }
 
 #[test]
 fn calls_leave_stores(rt: HostRuntime) -> Result<(), Fail> {
     let program = program_of(rt.alloc(), SOURCE, "low", "run")?;
     for row in STORES.lines() {
-        let (steps, wanted) = row.split_once('|').ok_or("a row without a bar")?;
-        let store = play(&rt, &program, steps)?;
-        let told = told(rt.alloc(), &store)?;
-        assert_eq!(rt; told.as_str(), wanted, "of {steps}");
+        expect_store(&rt, &program, row)?;
     }
+    Ok(())
+}
+
+fn expect_frame<R: Abort + AllocGlobal>(rt: &R, program: &Program, row: &str) -> Result<(), Fail> {
+    let (steps, wanted) = row.split_once('|').ok_or("a row without a bar")?;
+    let store = play(rt, program, steps)?;
+    let told = told_frame(rt.alloc(), &store)?;
+    assert_eq!(rt; told.as_str(), wanted, "of {steps}");
     Ok(())
 }
 
@@ -314,10 +336,7 @@ fn calls_leave_stores(rt: HostRuntime) -> Result<(), Fail> {
 fn routines_begin(rt: HostRuntime) -> Result<(), Fail> {
     let program = program_of(rt.alloc(), SOURCE, "low", "run")?;
     for row in FRAMES.lines() {
-        let (steps, wanted) = row.split_once('|').ok_or("a row without a bar")?;
-        let store = play(&rt, &program, steps)?;
-        let told = told_frame(rt.alloc(), &store)?;
-        assert_eq!(rt; told.as_str(), wanted, "of {steps}");
+        expect_frame(&rt, &program, row)?;
     }
     Ok(())
 }
@@ -331,18 +350,22 @@ fn make_objects(store: &mut Store<'_>, count: u32) -> Result<(), AllocError> {
     Ok(())
 }
 
-#[test]
-fn there_are_at_most_65536_objects(rt: HostRuntime) -> Result<(), Fail> {
-    let program = program_of(rt.alloc(), SOURCE, "low", "run")?;
-    let mut store = Store::new(rt.alloc(), &program);
-    make_objects(&mut store, 65_536)?;
+fn expect_most_objects<R: Abort>(rt: &R, store: &mut Store<'_>) -> Result<(), Fail> {
+    make_objects(store, 65_536)?;
     assert_eq!(rt; store.failure(), None);
     assert!(rt; store.settled(65_536));
-    make_objects(&mut store, 1)?;
+    make_objects(store, 1)?;
     assert_eq!(rt; store.failure(), Some(Cause::TooManyObjects));
     assert_eq!(rt; store.read(65_536, 0), Some(Value::Integer(0)));
     assert_eq!(rt; store.class_of(65_537), None);
     Ok(())
+}
+
+#[test]
+fn there_are_at_most_65536_objects(rt: HostRuntime) -> Result<(), Fail> {
+    let program = program_of(rt.alloc(), SOURCE, "low", "run")?;
+    let mut store = Store::new(rt.alloc(), &program);
+    expect_most_objects(&rt, &mut store)
 }
 
 fn push_frames(store: &mut Store<'_>, count: u32) -> Result<(), AllocError> {
@@ -352,17 +375,23 @@ fn push_frames(store: &mut Store<'_>, count: u32) -> Result<(), AllocError> {
     Ok(())
 }
 
+fn expect_told<R: Abort + AllocGlobal>(
+    rt: &R,
+    store: &Store<'_>,
+    wanted: &str,
+) -> Result<(), Fail> {
+    let told = told(rt.alloc(), store)?;
+    assert_eq!(rt; told.as_str(), wanted);
+    Ok(())
+}
+
 #[test]
 fn there_are_at_most_1024_frames(rt: HostRuntime) -> Result<(), Fail> {
     let program = program_of(rt.alloc(), SOURCE, "low", "run")?;
     let mut store = Store::new(rt.alloc(), &program);
     store.birth(LOW)?;
     push_frames(&mut store, 1_024)?;
-    assert_eq!(rt; store.failure(), None);
-    assert_eq!(rt; store.current(), Some(object(1, LOW)));
+    expect_told(&rt, &store, "runs on 1; open meets 0")?;
     push_frames(&mut store, 1)?;
-    assert_eq!(rt; store.failure(), Some(Cause::StackFull));
-    assert_eq!(rt; store.current(), None);
-    assert_eq!(rt; store.read(1, 0), Some(Value::Integer(0)));
-    Ok(())
+    expect_told(&rt, &store, "StackFull; open meets 0")
 }

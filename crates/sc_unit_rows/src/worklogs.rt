@@ -156,12 +156,7 @@ fn told_object(region: &LoggedRegion<'_>) -> &'static str {
 
 /// The job is played. Where memory is refused to its first turn nothing is noted, and it is played once more. Where it is
 /// refused to a later one the job ends before that, and the row is out of memory.
-fn play(
-    rt: &(impl Abort + AllocGlobal),
-    region: &mut LoggedRegion<'_>,
-    job: &Job,
-    limit: u32,
-) -> Result<(), Fail> {
+fn play(rt: &impl Abort, region: &mut LoggedRegion<'_>, job: &Job, limit: u32) -> Result<(), Fail> {
     if limit == 0 {
         return Err(Fail::new("a job without turns"));
     }
@@ -179,21 +174,37 @@ fn play(
     Ok(())
 }
 
+/// Plays the jobs that these words name, one after the other.
+fn play_jobs<R: Abort>(
+    rt: &R,
+    program: &Program,
+    region: &mut LoggedRegion<'_>,
+    steps: &str,
+) -> Result<(), Fail> {
+    for words in steps.split(", ") {
+        if words.is_empty() {
+            break;
+        }
+        let (job, limit) = job_of(program, words)?;
+        play(rt, region, &job, limit)?;
+    }
+    Ok(())
+}
+
+fn expect_log<R: Abort + AllocGlobal>(rt: &R, program: &Program, row: &str) -> Result<(), Fail> {
+    let (steps, wanted) = row.split_once('|').ok_or("a row without a bar")?;
+    let mut region = LoggedRegion::new(rt.alloc(), program, 0);
+    play_jobs(rt, program, &mut region, steps)?;
+    let told = told(rt.alloc(), &region)?;
+    assert_eq!(rt; told.as_str(), wanted, "of {steps}");
+    Ok(())
+}
+
 #[test]
 fn jobs_are_noted(rt: HostRuntime) -> Result<(), Fail> {
     let program = program_of(rt.alloc(), SOURCE, "root", "run")?;
     for row in LOGS.lines() {
-        let (steps, wanted) = row.split_once('|').ok_or("a row without a bar")?;
-        let mut region = LoggedRegion::new(rt.alloc(), &program, 0);
-        for words in steps.split(", ") {
-            if words.is_empty() {
-                break;
-            }
-            let (job, limit) = job_of(&program, words)?;
-            play(&rt, &mut region, &job, limit)?;
-        }
-        let told = told(rt.alloc(), &region)?;
-        assert_eq!(rt; told.as_str(), wanted, "of {steps}");
+        expect_log(&rt, &program, row)?;
     }
     Ok(())
 }

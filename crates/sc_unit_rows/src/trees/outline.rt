@@ -3,8 +3,8 @@
 use crate::reading::system_of;
 use sc_text::Span;
 use sc_tree::{
-    Call, Class, ClassMark, Clause, Declaration, DeclaredType, Expr, FeatureKind, HandlerTag,
-    Instr, Name, Routine, Variable,
+    Call, Class, ClassMark, Clause, Declaration, DeclaredType, Expr, Feature, FeatureKind,
+    HandlerTag, Instr, Name, Parent, Routine, Variable,
 };
 use std::alloc::{AllocError, Global};
 use std::test::Fail;
@@ -200,31 +200,44 @@ fn add_routine(text: &mut String, source: &str, routine: &Routine) -> Result<(),
     add_clauses(text, source, &routine.postcondition)
 }
 
+fn add_mark(text: &mut String, source: &str, mark: &ClassMark) -> Result<(), AllocError> {
+    match mark {
+        ClassMark::Deferred(span) | ClassMark::Expanded(span) | ClassMark::Frozen(span) => {
+            add_place(text, source, *span)
+        }
+    }
+}
+
+fn add_parent(text: &mut String, source: &str, parent: &Parent) -> Result<(), AllocError> {
+    text.push_str(" ")?;
+    add_place(text, source, parent.name.span)?;
+    add_names(text, source, &parent.redefined)
+}
+
+fn add_feature(text: &mut String, source: &str, feature: &Feature) -> Result<(), AllocError> {
+    text.push_str(" {")?;
+    add_names(text, source, &feature.exports)?;
+    text.push_str("}")?;
+    add_place(text, source, feature.name.span)?;
+    match &feature.kind {
+        FeatureKind::Attribute(declared) => add_type(text, source, declared),
+        FeatureKind::Routine(routine) => add_routine(text, source, routine),
+    }
+}
+
 fn add_class(text: &mut String, source: &str, class: &Class) -> Result<(), AllocError> {
     add_place(text, source, class.span)?;
-    match &class.mark {
-        None => (),
-        Some(ClassMark::Deferred(span)) => add_place(text, source, *span)?,
-        Some(ClassMark::Expanded(span)) => add_place(text, source, *span)?,
-        Some(ClassMark::Frozen(span)) => add_place(text, source, *span)?,
+    if let Some(mark) = &class.mark {
+        add_mark(text, source, mark)?;
     }
     add_place(text, source, class.name.span)?;
     for parent in &class.parents {
-        text.push_str(" ")?;
-        add_place(text, source, parent.name.span)?;
-        add_names(text, source, &parent.redefined)?;
+        add_parent(text, source, parent)?;
     }
     text.push_str(" ")?;
     add_names(text, source, &class.creators)?;
     for feature in &class.features {
-        text.push_str(" {")?;
-        add_names(text, source, &feature.exports)?;
-        text.push_str("}")?;
-        add_place(text, source, feature.name.span)?;
-        match &feature.kind {
-            FeatureKind::Attribute(declared) => add_type(text, source, declared)?,
-            FeatureKind::Routine(routine) => add_routine(text, source, routine)?,
-        }
+        add_feature(text, source, feature)?;
     }
     add_clauses(text, source, &class.invariant)
 }
