@@ -24,6 +24,7 @@ impl<'t> Phrase<'t> {
         }
     }
 
+    /// A part of a text between words.
     pub fn around(before: &'static str, part: &'t str, behind: &'static str) -> Phrase<'t> {
         Phrase {
             before,
