@@ -2,8 +2,8 @@
 
 use sc_model::Cause;
 use sc_text::Span;
-use sc_tree::{BinaryOperator, UnaryOperator};
-use sc_whereabouts::{Assertion, Kind, Whereabouts};
+use sc_tree::UnaryOperator;
+use sc_whereabouts::{Assertion, Kind, Whereabouts, binary_spelling};
 use std::alloc::AllocError;
 
 /// A part of a text, and what is said around it.
@@ -155,27 +155,5 @@ fn unary_spelling(operator: UnaryOperator) -> &'static str {
         UnaryOperator::Old => "old",
         UnaryOperator::Plus => "+",
         UnaryOperator::Minus => "-",
-    }
-}
-
-fn binary_spelling(operator: BinaryOperator) -> &'static str {
-    match operator {
-        BinaryOperator::Times => "*",
-        BinaryOperator::Quotient => "//",
-        BinaryOperator::Remainder => "\\\\",
-        BinaryOperator::Plus => "+",
-        BinaryOperator::Minus => "-",
-        BinaryOperator::Equal => "=",
-        BinaryOperator::NotEqual => "/=",
-        BinaryOperator::Less => "<",
-        BinaryOperator::Greater => ">",
-        BinaryOperator::LessEqual => "<=",
-        BinaryOperator::GreaterEqual => ">=",
-        BinaryOperator::And => "and",
-        BinaryOperator::AndThen => "and then",
-        BinaryOperator::Or => "or",
-        BinaryOperator::OrElse => "or else",
-        BinaryOperator::Xor => "xor",
-        BinaryOperator::Implies => "implies",
     }
 }

@@ -7,6 +7,7 @@ use sc_class::ClassId;
 use sc_proctype::EntityType;
 use sc_text::Span;
 use sc_tree::{BinaryOperator, UnaryOperator};
+use sc_whereabouts::binary_spelling;
 use std::alloc::AllocError;
 
 impl<'c, 't, 's> Scope<'c, 't, 's> {
@@ -112,7 +113,7 @@ impl<'c, 't, 's> Scope<'c, 't, 's> {
 fn push_operator(lines: &mut String, operator: BinaryOperator) -> Result<(), AllocError> {
     let parts = [
         "`",
-        spelling(operator),
+        binary_spelling(operator),
         "` takes two ",
         taken_by_binary(operator),
         ", and its operands are of type ",
@@ -157,28 +158,6 @@ fn taken_by_binary(operator: BinaryOperator) -> &'static str {
         BinaryOperator::Or | BinaryOperator::OrElse => "BOOLEANs",
         BinaryOperator::Xor | BinaryOperator::Implies => "BOOLEANs",
         _ => "INTEGERs",
-    }
-}
-
-fn spelling(operator: BinaryOperator) -> &'static str {
-    match operator {
-        BinaryOperator::Times => "*",
-        BinaryOperator::Quotient => "//",
-        BinaryOperator::Remainder => "\\\\",
-        BinaryOperator::Plus => "+",
-        BinaryOperator::Minus => "-",
-        BinaryOperator::Equal => "=",
-        BinaryOperator::NotEqual => "/=",
-        BinaryOperator::Less => "<",
-        BinaryOperator::Greater => ">",
-        BinaryOperator::LessEqual => "<=",
-        BinaryOperator::GreaterEqual => ">=",
-        BinaryOperator::And => "and",
-        BinaryOperator::AndThen => "and then",
-        BinaryOperator::Or => "or",
-        BinaryOperator::OrElse => "or else",
-        BinaryOperator::Xor => "xor",
-        BinaryOperator::Implies => "implies",
     }
 }
 
