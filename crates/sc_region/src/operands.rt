@@ -62,10 +62,7 @@ impl Operands {
         requires { length self.old.values < self.old.depth }
         ensures { self.new ≡ record self.old { values = value ∷ self.old.values } }
     {
-        match self.items.push(value) {
-            Ok(()) => (),
-            Err(_) => unreachable!(),
-        }
+        self.items.push_reserved(value)
     }
 
     /// The last operand goes, if there is one.
@@ -144,10 +141,7 @@ impl Olds {
         requires { length self.old.values < self.old.room }
         ensures { self.new ≡ record self.old { values = self.old.values ++ value ∷ [] } }
     {
-        match self.items.push(value) {
-            Ok(()) => (),
-            Err(_) => unreachable!(),
-        }
+        self.items.push_reserved(value)
     }
 
     /// The value at the place, from 0.

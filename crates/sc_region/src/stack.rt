@@ -70,10 +70,8 @@ impl Stack {
     {
         let place = place_above(&mut self.currents, &mut self.activations, alloc)?;
         self.activations[place].begin(routine, code, origin, actuals)?;
-        match self.currents.push(current) {
-            Ok(()) => Ok(()),
-            Err(_) => unreachable!(),
-        }
+        self.currents.push_reserved(current);
+        Ok(())
     }
 
     /// The topmost routine calls one on an object. Err where there is no memory; nothing has changed then.
@@ -98,10 +96,8 @@ impl Stack {
         fill_slots(&mut slots, code, actuals)?;
         self.activations[place].begin_with(routine, code, call.origin, slots)?;
         self.activations[place - 1].suspend(call.operands, call.gives);
-        match self.currents.push(current) {
-            Ok(()) => Ok(()),
-            Err(_) => unreachable!(),
-        }
+        self.currents.push_reserved(current);
+        Ok(())
     }
 
     /// The topmost frame goes, if there is one: the object that it ran on.

@@ -70,6 +70,6 @@ returns-clause-ok c =
     let operands = sym (operands_are (activation_of read) fs top_read) ∙ operands_are (activation_of stood) fs top in
     let filled = c.in_ok-fill_slots.ensures ∙ ap (λ (vs : List Value). vs ++ replicate (code.slots - code.formals) Void) c.last_values-actuals.ensures ∙ ap actuals operands in
     ap (λ (l : List Reference). frames_onto l (slice_set (slice_set (slice_set ts place t) place u) (place - 1) v) [])
-    (c.in-Ok.ensures.items ∙ ap (λ (l : List Reference). l ++ c.args.current ∷ []) c.place_above.ensures.currents)
+    (c.push_reserved.ensures.items ∙ ap (λ (l : List Reference). l ++ c.args.current ∷ []) c.place_above.ensures.currents)
     ∙ frames_calling rs ts place fs c.args.current t u v c.in_ok-place.ensures.place some c.in_ok-place.ensures.above same
     ∙ called_is c.args.current c.args.routine code k fs c.fill_slots.new.slots.items (activation_of stood) u v top filled c.in_ok-begin_with.ensures c.suspend.ensures

@@ -26,7 +26,7 @@ returns-clause-ok c =
     let r = c.args.current in
     let same = c.place_above.ensures.frames ∙ c.self.view_is in
     let room : length rs < length ts = omega (arith, c.in_ok-place.ensures.place, c.in_ok-place.ensures.above) in
-    ap (λ (l : List Reference). frames_onto l (slice_set ts place t) []) c.in-Ok.ensures.items
+    ap (λ (l : List Reference). frames_onto l (slice_set ts place t) []) c.push_reserved.ensures.items
     ∙ ap (λ (l : List Reference). frames_onto (l ++ r ∷ []) (slice_set ts place t) []) c.place_above.ensures.currents
     ∙ ap (λ n. frames_onto (rs ++ r ∷ []) (slice_set ts n t) []) c.in_ok-place.ensures.place
     ∙ frames_push rs ts r t [] room
