@@ -1,9 +1,7 @@
 -- What comes of a call of a routine of the same handler.
-use Rattle.std.proofs.Common.{get_or, get_or-set_other, length-set, ◌≡◌, ◌≢◌, ◌≤◌, ◌<◌, ℕ, zero, suc, ◌+◌, ◌-◌, List, [], ◌∷◌, ◌++◌, Some, Bool, true, false, length, refl, sym, ap, ◌∙◌, arith}
+use Rattle.std.proofs.Common.{get_or, ◌≡◌, ◌≢◌, ◌≤◌, ◌<◌, ℕ, zero, suc, List, [], ◌∷◌, ◌++◌, Some, Bool, true, false, length, refl, sym, ap, ◌∙◌, arith}
 use Rattle.std.proofs.lemmas.Bool.Decides.{nat_tests}
-use Rattle.std.proofs.lemmas.Option.{slice_get_read}
-use Rattle.std.specs.Prelude.{replicate, Result, Ok, Err, OnOk, ◌==◌, nat_lt, slice_set, if◌then◌else◌}
-use Rattle.std.specs.Option.{option_map}
+use Rattle.std.specs.Prelude.{Result, Ok, Err, OnOk, ◌==◌, nat_lt, slice_set, if◌then◌else◌}
 use Rattle.sc_code.specs.Cause.TheVariants as cause
 use Rattle.sc_code.specs.declared.program.RoutineCode.{RoutineCode}
 use Rattle.sc_region.specs.Calls.{called_on, calls, in_call, last_values, on_top, top_frame, top_operands}
@@ -15,9 +13,7 @@ use Rattle.sc_region.specs.declared.frame.Activation.{Activation}
 use Rattle.sc_region.specs.declared.frame.Call.{Call}
 use Rattle.sc_region.specs.declared.value.Reference.{Reference}
 use Rattle.sc_region.specs.declared.value.Value.{Value}
-use Rattle.sc_region.specs.declared.value.Value.TheVariants.{Void}
 use Rattle.sc_region.proofs.Reaching.{taken_length}
-use Rattle.sc_region.proofs.Stacks.{frames_top, frames_under}
 
 -- ---- whether it is made
 
@@ -69,15 +65,36 @@ frames_are (Err t) x z fs gs e h = tt
 
 -- ---- frames
 
--- one more frame, whose routine stands there, and the one that was topmost stands otherwise
-pub frames_call : (rs : List Reference) (ts : List Activation) (r : Reference) (n : ℕ) (t u : Activation) (rest : List PlainFrame) → length rs ≡ suc n → length rs < length ts →
-    frames_onto (rs ++ r ∷ []) (slice_set (slice_set ts (suc n) t) n u) rest ≡ frame_with r (activation_of t) ∷ with_top_activation u (frames_onto rs ts rest)
-frames_call [] ts r n t u rest e l = absurd (omega arith)
-frames_call (q ∷ rs) [] r n t u rest e l = absurd (omega arith)
-frames_call (q ∷ rs) (a ∷ []) r n t u rest e l = absurd (omega arith)
-frames_call (q ∷ []) (a ∷ b ∷ ts) r zero t u rest e l = refl
-frames_call (q ∷ p ∷ rs) (a ∷ b ∷ ts) r zero t u rest e l = absurd (omega arith)
-frames_call (q ∷ rs) (a ∷ b ∷ ts) r (suc n) t u rest e l = frames_call rs (b ∷ ts) r n t u (frame_with q (activation_of a) ∷ rest) (omega arith) (omega arith)
+-- The routines of the frames lie in front, the topmost last, and what is above them behind.
+
+-- the last routine in front is the topmost one
+pub frames_front : (rs : List Reference) (ts us : List Activation) (n : ℕ) (d : Activation) (rest : List PlainFrame) → length rs ≡ suc n → length ts ≡ suc n →
+    top_activation (frames_onto rs (ts ++ us) rest) ≡ Some (activation_of (get_or ts n d))
+frames_front [] ts us n d rest e l = absurd (omega arith)
+frames_front (r ∷ rs) [] us n d rest e l = absurd (omega arith)
+frames_front (r ∷ []) (a ∷ ts) us zero d rest e l = refl
+frames_front (r ∷ q ∷ rs) (a ∷ ts) us zero d rest e l = absurd (omega arith)
+frames_front (r ∷ rs) (a ∷ ts) us (suc n) d rest e l = frames_front rs ts us n d (frame_with r (activation_of a) ∷ rest) (omega arith) (omega arith)
+
+-- what is written behind doesn't matter
+pub frames_kept : (rs : List Reference) (ts us : List Activation) (n : ℕ) (d u : Activation) (rest : List PlainFrame) → length rs ≡ suc n → length ts ≡ suc n →
+    frames_onto rs (slice_set ts n (get_or ts n d) ++ slice_set us 0 u) rest ≡ frames_onto rs (ts ++ us) rest
+frames_kept [] ts us n d u rest e l = absurd (omega arith)
+frames_kept (r ∷ rs) [] us n d u rest e l = absurd (omega arith)
+frames_kept (r ∷ []) (a ∷ ts) us zero d u rest e l = refl
+frames_kept (r ∷ q ∷ rs) (a ∷ ts) us zero d u rest e l = absurd (omega arith)
+frames_kept (r ∷ rs) (a ∷ ts) us (suc n) d u rest e l = frames_kept rs ts us n d u (frame_with r (activation_of a) ∷ rest) (omega arith) (omega arith)
+
+-- one more frame, whose routine is the first behind, and the one that was topmost stands otherwise
+pub frames_call : (rs : List Reference) (ts us : List Activation) (r : Reference) (n : ℕ) (t u : Activation) (rest : List PlainFrame) → length rs ≡ suc n → length ts ≡ suc n → 0 < length us →
+    frames_onto (rs ++ r ∷ []) (slice_set ts n u ++ slice_set us 0 t) rest ≡ frame_with r (activation_of t) ∷ with_top_activation u (frames_onto rs (ts ++ us) rest)
+frames_call [] ts us r n t u rest e l some = absurd (omega arith)
+frames_call (q ∷ rs) [] us r n t u rest e l some = absurd (omega arith)
+frames_call (q ∷ []) (a ∷ []) [] r zero t u rest e l some = absurd (omega arith)
+frames_call (q ∷ []) (a ∷ []) (b ∷ us) r zero t u rest e l some = refl
+frames_call (q ∷ []) (a ∷ c ∷ ts) us r zero t u rest e l some = absurd (omega arith)
+frames_call (q ∷ p ∷ rs) (a ∷ ts) us r zero t u rest e l some = absurd (omega arith)
+frames_call (q ∷ rs) (a ∷ ts) us r (suc n) t u rest e l some = frames_call rs ts us r n t u (frame_with q (activation_of a) ∷ rest) (omega arith) (omega arith) some
 
 -- the routine that was topmost stands so
 pub top_is : (g : PlainActivation → PlainActivation) (u : Activation) (a : PlainActivation) (fs : List PlainFrame) → top_activation fs ≡ Some a → activation_of u ≡ g a → with_top_activation u fs ≡ top_frame g fs
@@ -90,39 +107,12 @@ pub operands_are : (a : PlainActivation) (fs : List PlainFrame) → top_activati
 operands_are a [] e = cc
 operands_are a (f ∷ below) e = let same : f.activation ≡ a = cc in ap (λ (b : PlainActivation). b.operands.values) same
 
--- the routine below the place above all is the topmost one
-pub below_is : (rs : List Reference) (ts : List Activation) (place : ℕ) (fs : List PlainFrame) (b : Activation) → place ≡ length rs → 0 < place → place < length ts → frames_onto rs ts [] ≡ fs →
-    b ≡ get_or ts (place - 1) b → top_activation fs ≡ Some (activation_of b)
-below_is rs ts place fs b e some above same is =
-    let last : length rs ≡ suc (place - 1) = omega arith in
-    let here : place - 1 < length ts = omega arith in
-    ap top_activation (sym same) ∙ frames_top rs ts (place - 1) [] last (omega arith) ∙ ap (option_map activation_of) (slice_get_read ts (length ts) (place - 1) b refl here is)
-
--- what is written above doesn't matter
-pub unchanged : (ts : List Activation) (place : ℕ) (t b : Activation) → 0 < place → b ≡ get_or (slice_set ts place t) (place - 1) b → b ≡ get_or ts (place - 1) b
-unchanged ts place t b some is = is ∙ get_or-set_other ts place (place - 1) t b (λ e. omega (arith, e))
-
--- one more frame at the place above all, written twice, and the one that was topmost stands otherwise
-pub frames_calling : (rs : List Reference) (ts : List Activation) (place : ℕ) (fs : List PlainFrame) (r : Reference) (t u v : Activation) →
-    place ≡ length rs → 0 < place → place < length ts → frames_onto rs ts [] ≡ fs →
-    frames_onto (rs ++ r ∷ []) (slice_set (slice_set (slice_set ts place t) place u) (place - 1) v) [] ≡ frame_with r (activation_of u) ∷ with_top_activation v fs
-frames_calling rs ts place fs r t u v e some above same =
-    let n = place - 1 in
-    let next : place ≡ suc n = omega arith in
-    let last : length rs ≡ suc n = omega arith in
-    let there : length rs < length (slice_set ts place t) = omega (arith, length-set ts place t) in
-    ap (λ m. frames_onto (rs ++ r ∷ []) (slice_set (slice_set (slice_set ts place t) m u) n v) []) next
-    ∙ frames_call rs (slice_set ts place t) r n u v [] last there
-    ∙ ap (λ gs. frame_with r (activation_of u) ∷ with_top_activation v gs) (frames_under rs ts place t [] (omega arith) ∙ same)
-
 -- The routine that was topmost is in the call, and the other one begins.
-pub called_is : (me : Reference) (routine : ℕ) (r : RoutineCode) (k : Call) (fs : List PlainFrame) (slots : List Value) (a : PlainActivation) (u v : Activation) → top_activation fs ≡ Some a →
-    slots ≡ last_values k.actuals a.operands.values ++ replicate (r.slots - r.formals) Void →
-    activation_of u ≡ record (beginning routine r k.origin []) { slots = slots } → activation_of v ≡ in_call k.operands k.gives a →
-    frame_with me (activation_of u) ∷ with_top_activation v fs ≡ called_on me routine r k fs
-called_is me routine r k fs slots a u v top filled begun called =
-    let begins : List Value → PlainActivation = λ us. record (beginning routine r k.origin []) { slots = us } in
-    ap (λ b. frame_with me b ∷ with_top_activation v fs) begun
-    ∙ ap (λ us. frame_with me (begins us) ∷ with_top_activation v fs) filled
-    ∙ ap (λ gs. frame_with me (begins (last_values k.actuals a.operands.values ++ replicate (r.slots - r.formals) Void)) ∷ gs) (top_is (in_call k.operands k.gives) v a fs top called)
+pub called_is : (me : Reference) (routine : ℕ) (r : RoutineCode) (k : Call) (fs : List PlainFrame) (us : List Value) (a : PlainActivation) (t u : Activation) → top_activation fs ≡ Some a →
+    us ≡ last_values k.actuals a.operands.values → activation_of t ≡ beginning routine r k.origin us → activation_of u ≡ in_call k.operands k.gives a →
+    frame_with me (activation_of t) ∷ with_top_activation u fs ≡ called_on me routine r k fs
+called_is me routine r k fs us a t u top actuals begun called =
+    ap (λ b. frame_with me b ∷ with_top_activation u fs) begun
+    ∙ ap (λ vs. entry me routine r k.origin vs ∷ with_top_activation u fs) actuals
+    ∙ ap (λ gs. entry me routine r k.origin (last_values k.actuals a.operands.values) ∷ gs) (top_is (in_call k.operands k.gives) u a fs top called)
     ∙ ap (λ vs. entry me routine r k.origin (last_values k.actuals vs) ∷ top_frame (in_call k.operands k.gives) fs) (sym (operands_are a fs top))

@@ -1,16 +1,15 @@
 //! Where the routine of a frame stands.
-ghost use Rattle.std.specs.Prelude.{◌≡◌, ◌++◌, ◌-◌, [], OnOk, replicate};
+ghost use Rattle.std.specs.Prelude.{◌≡◌, ◌≤◌, ◌+◌, ◌++◌, ◌-◌, [], OnOk, length, replicate, vec_capacity, vec_len};
 ghost use Rattle.sc_region.specs.Calls.{in_call};
 ghost use Rattle.sc_region.specs.Stores.{beginning};
 ghost use Rattle.sc_region.specs.declared.value.Value.TheVariants.{Void};
 ghost use Rattle.sc_region.specs.Frames.{activation_of};
 
-use crate::operands::{Olds, Operands};
+use crate::operands::{Olds, Operands, empty_for};
 use crate::value::Value;
 use arrayvec::ArrayVec;
 use sc_code::RoutineCode;
 use std::alloc::{AllocError, Global};
-use std::mem::replace;
 
 /// What began a routine.
 #[derive(Clone, Copy, Debug, PartialEq, Eq)]
@@ -110,22 +109,9 @@ impl Activation {
         ensures { OnOk result (activation_of self.new ≡ beginning routine code.now origin actuals.now) }
     {
         fill_slots(&mut self.slots, code, actuals)?;
-        self.begin_so(routine, code, origin)
-    }
-
-    /// A routine begins here whose slots are filled. Err where there is no memory.
-    fn begin_so(
-        &mut self,
-        routine: usize,
-        code: &RoutineCode,
-        origin: Origin,
-    ) -> Result<(), AllocError>
-        ensures { OnOk result (activation_of self.new ≡ record (beginning routine code.now origin []) { slots = self.old.slots.items }) }
-    {
         self.olds.reset(code.olds)?;
         self.operands.reset(code.depth)?;
-        self.blocks.clear();
-        self.blocks.reserve(code.blocks)?;
+        empty_blocks(&mut self.blocks, code.blocks)?;
         self.reserved.clear();
         self.routine = routine;
         self.origin = origin;
@@ -139,25 +125,6 @@ impl Activation {
         Ok(())
     }
 
-    /// The memory of the slots, which are gone.
-    pub(crate) fn take_slots(&mut self, alloc: Global) -> Vec<Value> {
-        replace(&mut self.slots, Vec::new(alloc))
-    }
-
-    /// A routine begins here with these slots. Err where there is no memory.
-    pub(crate) fn begin_with(
-        &mut self,
-        routine: usize,
-        code: &RoutineCode,
-        origin: Origin,
-        slots: Vec<Value>,
-    ) -> Result<(), AllocError>
-        ensures { OnOk result (activation_of self.new ≡ record (beginning routine code.now origin []) { slots = slots.items }) }
-    {
-        self.slots = slots;
-        self.begin_so(routine, code, origin)
-    }
-
     /// The routine is in a call that takes so many operands.
     pub(crate) fn suspend(&mut self, operands: usize, gives: bool)
         ensures { activation_of self.new ≡ in_call operands gives (activation_of self.old) }
@@ -169,7 +136,7 @@ impl Activation {
 }
 
 /// The slots of a routine that begins: the actuals, and Void in the others.
-pub(crate) fn fill_slots(
+fn fill_slots(
     slots: &mut Vec<Value>,
     code: &RoutineCode,
     actuals: &[Value],
@@ -177,19 +144,50 @@ pub(crate) fn fill_slots(
     ensures { OnOk result (slots.new.items ≡ actuals.now ++ replicate (code.now.slots - code.now.formals) Void) }
 {
     let others = code.slots.saturating_sub(code.formals);
-    slots.clear();
-    slots.reserve(actuals.len().saturating_add(others))?;
-    slots.extend_from_slice(actuals)?;
-    add_slots(slots, others)
+    let count = actuals.len().checked_add(others).ok_or(AllocError)?;
+    empty_for(slots, count)?;
+    add_actuals(slots, actuals);
+    add_others(slots, others);
+    Ok(())
 }
 
-/// So many more slots, which are Void.
+/// The actuals come into the first slots, for which there is room.
+fn add_actuals(slots: &mut Vec<Value>, actuals: &[Value])
+    requires { vec_len slots.old + length actuals.now ≤ vec_capacity slots.old }
+    ensures items { slots.new.items ≡ slots.old.items ++ actuals.now }
+    ensures capacity { vec_capacity slots.new ≡ vec_capacity slots.old }
+{
+    for actual in actuals {
+        slots.push_reserved(*actual);
+    }
+}
+
+/// So many more slots, for which there is room. They are Void.
 #[tactic(auto, using(crate::proofs::Filling::slot_more))]
-fn add_slots(slots: &mut Vec<Value>, others: usize) -> Result<(), AllocError>
-    ensures { OnOk result (slots.new.items ≡ slots.old.items ++ replicate others Void) }
+fn add_others(slots: &mut Vec<Value>, others: usize)
+    requires { vec_len slots.old + others ≤ vec_capacity slots.old }
+    ensures { slots.new.items ≡ slots.old.items ++ replicate others Void }
 {
     for _i in 0..others {
-        slots.push(Value::Void)?;
+        slots.push_reserved(Value::Void);
+    }
+}
+
+/// No open blocks any more, and room for so many. Err where there is no memory for them.
+fn empty_blocks(blocks: &mut Vec<ArrayVec<u16, 16>>, count: usize) -> Result<(), AllocError>
+    ensures { OnOk result (blocks.new.items ≡ []) }
+{
+    blocks.clear();
+    if blocks.capacity() < count {
+        grow_blocks(blocks, count)?;
     }
     Ok(())
+}
+
+/// Room for so many blocks. Err where there is no memory for them. (A call of its own: it is seldom made.)
+#[inline(never)]
+fn grow_blocks(blocks: &mut Vec<ArrayVec<u16, 16>>, count: usize) -> Result<(), AllocError>
+    ensures { blocks.new.items ≡ blocks.old.items }
+{
+    blocks.reserve(count)
 }

@@ -1,5 +1,5 @@
 //! The operands of a routine, and the values that its postcondition keeps from before the body.
-ghost use Rattle.std.specs.Prelude.{◌≡◌, ◌<◌, ◌≤◌, [], ◌∷◌, ◌++◌, ◌↔◌, OnOk, IfSome, IfNone, IsTrue, length, slice_get};
+ghost use Rattle.std.specs.Prelude.{◌≡◌, ◌<◌, ◌≤◌, [], ◌∷◌, ◌++◌, ◌↔◌, OnOk, IfSome, IfNone, IsTrue, length, slice_get, vec_capacity};
 ghost use Rattle.sc_region.specs.OperandList.{last};
 
 mod reach;
@@ -43,9 +43,8 @@ impl Operands {
     pub(crate) fn reset(&mut self, depth: usize) -> Result<(), AllocError>
         ensures { OnOk result (self.new ≡ record { depth = depth; values = [] }) }
     {
-        self.items.clear();
         self.depth = 0;
-        self.items.reserve(depth)?;
+        empty_for(&mut self.items, depth)?;
         self.depth = depth;
         Ok(())
     }
@@ -122,9 +121,8 @@ impl Olds {
     pub(crate) fn reset(&mut self, room: usize) -> Result<(), AllocError>
         ensures { OnOk result (self.new ≡ record { room = room; values = [] }) }
     {
-        self.items.clear();
         self.room = 0;
-        self.items.reserve(room)?;
+        empty_for(&mut self.items, room)?;
         self.room = room;
         Ok(())
     }
@@ -150,4 +148,26 @@ impl Olds {
     {
         self.items.get(place).copied()
     }
+}
+
+/// None of the values any more, and room for so many. Err where there is no memory for them.
+pub(crate) fn empty_for(items: &mut Vec<Value>, count: usize) -> Result<(), AllocError>
+    ensures empty { items.new.items ≡ [] }
+    ensures room { OnOk result (count ≤ vec_capacity items.new) }
+{
+    items.clear();
+    if items.capacity() < count {
+        grow(items, count)?;
+    }
+    Ok(())
+}
+
+/// Room for so many values that are still to come. Err where there is no memory for them. (A call of its own: it is seldom
+/// made, since the memory stays from one routine to the next.)
+#[inline(never)]
+fn grow(items: &mut Vec<Value>, count: usize) -> Result<(), AllocError>
+    ensures items { items.new.items ≡ items.old.items }
+    ensures room { OnOk result (count ≤ vec_capacity items.new) }
+{
+    items.reserve(count)
 }

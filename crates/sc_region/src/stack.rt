@@ -6,7 +6,7 @@ ghost use Rattle.sc_region.specs.Calls.{called_on, top_operands};
 ghost use Rattle.sc_region.specs.Frames.{activation_of, frames_onto, is_current, top_activation, top_current};
 ghost use Rattle.sc_region.specs.Stores.{entry};
 
-use crate::frame::{Activation, Call, Origin, fill_slots};
+use crate::frame::{Activation, Call, Origin};
 use crate::value::{Reference, Value};
 use sc_code::RoutineCode;
 use std::alloc::{AllocError, Global};
@@ -89,13 +89,11 @@ impl Stack {
         ensures err { OnErr result (self.new ≡ self.old) }
     {
         let place = place_above(&mut self.currents, &mut self.activations, alloc)?;
-        let mut slots = self.activations[place].take_slots(alloc);
-        let actuals = self.activations[place - 1]
-            .operands
-            .last_values(call.actuals);
-        fill_slots(&mut slots, code, actuals)?;
-        self.activations[place].begin_with(routine, code, call.origin, slots)?;
-        self.activations[place - 1].suspend(call.operands, call.gives);
+        let (frames, above) = self.activations.split_at_mut(place);
+        let caller = &mut frames[place - 1];
+        let actuals = caller.operands.last_values(call.actuals);
+        above[0].begin(routine, code, call.origin, actuals)?;
+        caller.suspend(call.operands, call.gives);
         self.currents.push_reserved(current);
         Ok(())
     }
@@ -166,11 +164,32 @@ fn place_above(
     ensures fit { length currents.old.items ≤ length activations.new.items }
 {
     let place = currents.len();
-    currents.reserve(1)?;
-    if place == activations.len() {
-        activations.push(Activation::empty(alloc))?;
+    if place == currents.capacity() || place == activations.len() {
+        add_place(currents, activations, alloc)?;
     }
     Ok(place)
+}
+
+/// Room for one more object, and a place for its routine where there is none above the frames. Err where there is no
+/// memory. (A call of its own: it is made only where the stack is as high as never before.)
+#[inline(never)]
+fn add_place(
+    currents: &mut Vec<Reference>,
+    activations: &mut Vec<Activation>,
+    alloc: Global,
+) -> Result<(), AllocError>
+    requires { length currents.old.items ≤ length activations.old.items }
+    ensures above { OnOk result (length currents.old.items < length activations.new.items) }
+    ensures room { OnOk result (length currents.old.items < vec_capacity currents.new) }
+    ensures currents { currents.new.items ≡ currents.old.items }
+    ensures frames { frames_onto currents.old.items activations.new.items [] ≡ frames_onto currents.old.items activations.old.items [] }
+    ensures fit { length currents.old.items ≤ length activations.new.items }
+{
+    currents.reserve(1)?;
+    if currents.len() == activations.len() {
+        activations.push(Activation::empty(alloc))?;
+    }
+    Ok(())
 }
 
 /// Whether one of the objects has the number.

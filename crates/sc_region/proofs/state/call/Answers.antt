@@ -2,7 +2,6 @@ use Rattle.std.proofs.Common.{◌<◌, ◌≤◌, Bor, length, sym, ap, ◌∙�
 use Rattle.std.specs.Option.{option_map}
 use Rattle.sc_code.specs.declared.program.RoutineCode.{RoutineCode}
 use Rattle.sc_region.specs.Calls.{called_on}
-use Rattle.sc_region.specs.Classes.{routine_at}
 use Rattle.sc_region.specs.Stores.{max_frames}
 use Rattle.sc_region.specs.States.{state_of}
 use Rattle.sc_region.proofs.Calling.{calls_misfit, calls_full, calls_made, frames_are}

@@ -2,7 +2,7 @@ use Rattle.std.proofs.Common.{[], List, ap, ◌∙◌}
 use Rattle.sc_region.specs.declared.frame.Activation.{Activation}
 use Rattle.sc_region.specs.Frames.{frames_onto}
 use Rattle.sc_region.proofs.Stacks.{frames_above}
-use Rattle.sc_region.proofs.stack.place_above.Goals as goal
+use Rattle.sc_region.proofs.stack.add_place.Goals as goal
 
 pub returns-in_ok-push-clause-frames : goal.returns-in_ok-push-clause-frames
 returns-in_ok-push-clause-frames c =
