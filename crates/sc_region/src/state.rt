@@ -269,8 +269,19 @@ pub fn leave(state: &mut State<'_>)
     let Some(current) = state.stack.pop() else {
         return;
     };
+    let number = current.number as usize;
+    if !is_on_top(state, number) {
+        settle_exited(state, number);
+    }
+}
+
+/// The same as [`settle`] for the object of a routine that has exited: a failure tells of that routine.
+#[inline(never)]
+fn settle_exited(state: &mut State<'_>, number: usize)
+    ensures { state_of state.new ≡ settled number (state_of state.old) }
+{
     let height = state.stack.height();
-    settle(state, current.number as usize);
+    settle(state, number);
     if state.failure.is_some() {
         // what has exited still stands over the frames that there were below it
         state.breakdown.point = state.stack.over(height).map(point_of);
