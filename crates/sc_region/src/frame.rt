@@ -108,11 +108,6 @@ impl Activation {
     ) -> Result<(), AllocError>
         ensures { OnOk result (activation_of self.new ≡ beginning routine code.now origin actuals.now) }
     {
-        fill_slots(&mut self.slots, code, actuals)?;
-        self.olds.reset(code.olds)?;
-        self.operands.reset(code.depth)?;
-        empty_blocks(&mut self.blocks, code.blocks)?;
-        self.reserved.clear();
         self.routine = routine;
         self.origin = origin;
         self.stage = if code.separate_formals.is_empty() {
@@ -122,7 +117,11 @@ impl Activation {
         };
         self.place = 0;
         self.result = code.result.map(|(default, _)| Value::of_default(default));
-        Ok(())
+        self.reserved.clear();
+        empty_blocks(&mut self.blocks, code.blocks)?;
+        self.olds.reset(code.olds)?;
+        self.operands.reset(code.depth)?;
+        fill_slots(&mut self.slots, code, actuals)
     }
 
     /// The routine is in a call that takes so many operands.

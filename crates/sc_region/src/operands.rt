@@ -43,7 +43,6 @@ impl Operands {
     pub(crate) fn reset(&mut self, depth: usize) -> Result<(), AllocError>
         ensures { OnOk result (self.new ≡ record { depth = depth; values = [] }) }
     {
-        self.depth = 0;
         empty_for(&mut self.items, depth)?;
         self.depth = depth;
         Ok(())
@@ -121,7 +120,6 @@ impl Olds {
     pub(crate) fn reset(&mut self, room: usize) -> Result<(), AllocError>
         ensures { OnOk result (self.new ≡ record { room = room; values = [] }) }
     {
-        self.room = 0;
         empty_for(&mut self.items, room)?;
         self.room = room;
         Ok(())
@@ -154,6 +152,7 @@ impl Olds {
 pub(crate) fn empty_for(items: &mut Vec<Value>, count: usize) -> Result<(), AllocError>
     ensures empty { items.new.items ≡ [] }
     ensures room { OnOk result (count ≤ vec_capacity items.new) }
+    ensures capacity { vec_capacity items.old ≤ vec_capacity items.new }
 {
     items.clear();
     if items.capacity() < count {
@@ -168,6 +167,7 @@ pub(crate) fn empty_for(items: &mut Vec<Value>, count: usize) -> Result<(), Allo
 fn grow(items: &mut Vec<Value>, count: usize) -> Result<(), AllocError>
     ensures items { items.new.items ≡ items.old.items }
     ensures room { OnOk result (count ≤ vec_capacity items.new) }
+    ensures capacity { vec_capacity items.old ≤ vec_capacity items.new }
 {
     items.reserve(count)
 }
