@@ -10,6 +10,7 @@ pub mod Assigning
 pub mod Targeting
 pub mod Moving
 pub mod Told
+pub mod Stepping
 pub mod Beginning
 pub mod Creating
 pub mod Behind

@@ -1,4 +1,6 @@
 //! Visible operations.
+ghost use Rattle.std.specs.Prelude.{◌≡◌};
+ghost use Rattle.sc_interp.specs.Standing.{stepped};
 
 use sc_model::Cause;
 use sc_region::Reference;
@@ -75,4 +77,14 @@ pub enum Hop {
     Failed(Cause),
     /// It is visible, and still to be done.
     Comes(Act),
+}
+
+/// What a silent operation comes to: it passed, or the handler fails.
+pub fn stepped(step: Result<(), Cause>) -> Hop
+    ensures { result ≡ stepped step }
+{
+    match step {
+        Ok(()) => Hop::Passed,
+        Err(why) => Hop::Failed(why),
+    }
 }

@@ -7,10 +7,8 @@ ghost use Rattle.sc_region.specs.Frames.{PlainActivation, top_activation};
 ghost use Rattle.sc_region.specs.Objects.{PlainObject, object_numbered};
 ghost use Rattle.sc_interp.specs.Playing.{IsAttribute, IsLast, Plays, Remains, written_if};
 ghost use Rattle.sc_interp.specs.Serving.{attribute_in, version_in};
-ghost use Rattle.sc_interp.specs.Standing.{listed};
-ghost use Rattle.sc_interp.specs.Told.{IsDone};
+ghost use Rattle.sc_interp.specs.Standing.{listed, stepped};
 
-use crate::act::Hop;
 use crate::calling::has_name;
 use crate::evaluation::read;
 use crate::passing::{pass_last, push_found};
@@ -61,18 +59,17 @@ pub fn push_attribute(
     count: usize,
     name: usize,
     is_attached: bool,
-) -> Hop
-    ensures plays { Plays me count (coded.PushAttribute is_attached name) result store.old store.new }
+) -> Result<(), Cause>
+    ensures plays { Plays me count (coded.PushAttribute is_attached name) (stepped result) store.old store.new }
     ensures remains { Remains store.old store.new }
-    ensures done { IsDone result }
 {
     if !is_name(store, name) {
-        return Hop::Failed(Cause::BadCode);
+        return Err(Cause::BadCode);
     }
     let value = attribute_value(store, me.number, name);
     match store.top_mut() {
         Some(activation) => push_found(activation, count, read(is_attached, value)),
-        None => Hop::Failed(Cause::BadCode),
+        None => Err(Cause::BadCode),
     }
 }
 
@@ -94,35 +91,44 @@ fn write_if(store: &mut Store<'_>, number: Option<usize>, value: Value)
 }
 
 /// The value, which is the last operand, goes into the attribute of Current, which is `me`.
-fn assign(store: &mut Store<'_>, me: Reference, count: usize, name: usize, value: Value) -> Hop
+fn assign(
+    store: &mut Store<'_>,
+    me: Reference,
+    count: usize,
+    name: usize,
+    value: Value,
+) -> Result<(), Cause>
     requires last { IsLast store.old value }
     requires named { slice_get (pool_of store.old.program.pool).names name ≡ Some (listed (pool_of store.old.program.pool).names name) }
-    ensures plays { Plays me count (coded.StoreAttribute name) result store.old store.new }
+    ensures plays { Plays me count (coded.StoreAttribute name) (stepped result) store.old store.new }
     ensures remains { Remains store.old store.new }
-    ensures done { IsDone result }
 {
     let number = attribute_number(store, me.number, name);
     match store.top_mut() {
         Some(activation) => {
-            let hop = pass_last(activation, count);
+            let step = pass_last(activation, count);
             write_if(store, number, value);
-            hop
+            step
         }
-        None => Hop::Failed(Cause::BadCode),
+        None => Err(Cause::BadCode),
     }
 }
 
 /// The last operand goes into an attribute of Current, which is `me`.
-pub fn store_attribute(store: &mut Store<'_>, me: Reference, count: usize, name: usize) -> Hop
-    ensures plays { Plays me count (coded.StoreAttribute name) result store.old store.new }
+pub fn store_attribute(
+    store: &mut Store<'_>,
+    me: Reference,
+    count: usize,
+    name: usize,
+) -> Result<(), Cause>
+    ensures plays { Plays me count (coded.StoreAttribute name) (stepped result) store.old store.new }
     ensures remains { Remains store.old store.new }
-    ensures done { IsDone result }
 {
     if !is_name(store, name) {
-        return Hop::Failed(Cause::BadCode);
+        return Err(Cause::BadCode);
     }
     match value_under(store, 0) {
         Some(value) => assign(store, me, count, name, value),
-        None => Hop::Failed(Cause::BadCode),
+        None => Err(Cause::BadCode),
     }
 }

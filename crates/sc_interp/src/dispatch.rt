@@ -1,7 +1,8 @@
 //! One operation that asks nothing of the attributes of objects.
-ghost use Rattle.std.specs.Prelude.{◌≡◌, IfOk, OnErr, true};
+ghost use Rattle.std.specs.Prelude.{◌≡◌, IfNone, IfOk, IfSome, OnErr, false, is_some, true};
+ghost use Rattle.sc_code.specs.declared.program.Image.{Image};
 ghost use Rattle.sc_region.specs.Frames.{activation_of};
-ghost use Rattle.sc_interp.specs.Standing.{Follows, Stays, is_simple};
+ghost use Rattle.sc_interp.specs.Standing.{Follows, Stays, is_simple, is_step, stepped};
 ghost use Rattle.sc_interp.specs.Told.{Tells};
 
 use crate::act::{Act, Hop};
@@ -15,11 +16,52 @@ use crate::silent::{
 use crate::testing::test;
 use crate::visible::{demand, end_loop, print, print_text};
 use sc_code::{Operation, Program};
+use sc_model::Cause;
 use sc_region::{Activation, Reference, Value};
 use std::alloc::AllocError;
 
-/// The operation, which isn't at its place in the code alone, of the routine that runs on `me`, whose code has `count`
-/// operations. Err where there is no memory; nothing has changed then.
+/// The operation of the routine that runs on `me`, whose code has `count` operations, where it is silent, needs no memory and
+/// asks nothing but of the routine itself. None where it is another one; nothing has changed then.
+pub fn step_on(
+    activation: &mut Activation,
+    me: Reference,
+    count: usize,
+    operation: Operation,
+) -> Option<Result<(), Cause>>
+    ensures follows { IfSome result (λ step. (p : Image) → Follows p me count operation (stepped step) (activation_of activation.old) (activation_of activation.new)) }
+    ensures stays { Stays (activation_of activation.old) (activation_of activation.new) }
+    ensures none { IfNone result (activation_of activation.new ≡ activation_of activation.old) }
+    ensures taken { is_some result ≡ is_step operation }
+{
+    match operation {
+        Operation::PushInteger(value) => Some(push(activation, count, Value::Integer(value))),
+        Operation::PushBoolean(value) => Some(push(activation, count, Value::Boolean(value))),
+        Operation::PushVoid => Some(push(activation, count, Value::Void)),
+        Operation::PushCurrent => Some(push(activation, count, Value::Attached(me))),
+        Operation::PushResult { is_attached } => Some(push_result(activation, count, is_attached)),
+        Operation::PushSlot { is_attached, slot } => Some(push_slot(
+            activation,
+            count,
+            slot,
+            is_attached,
+        )),
+        Operation::PushOld(number) => Some(push_old(activation, count, number)),
+        Operation::ApplyUnary(operator) => Some(apply_unary(activation, count, operator)),
+        Operation::ApplyBinary(operator) => Some(apply_binary(activation, count, operator)),
+        Operation::Decide { operator, passed } => Some(decide(activation, count, operator, passed)),
+        Operation::Conclude => Some(conclude(activation, count)),
+        Operation::StoreSlot(slot) => Some(store_slot(activation, count, slot)),
+        Operation::StoreResult => Some(store_result(activation, count)),
+        Operation::Initialize { value, slot } => Some(initialize(activation, count, slot, value)),
+        Operation::SkipIfFalse(passed) => Some(skip_if_false(activation, count, passed)),
+        Operation::Jump(passed) => Some(skip(activation, count, passed)),
+        Operation::Expect(why) => Some(expect(activation, count, why)),
+        _ => None,
+    }
+}
+
+/// An operation that asks nothing of the attributes of objects, and that `step_on` leaves. Err where there is no memory; nothing
+/// has changed then.
 pub fn hop_on(
     program: &Program,
     activation: &mut Activation,
@@ -27,39 +69,18 @@ pub fn hop_on(
     count: usize,
     operation: Operation,
 ) -> Result<Hop, AllocError>
-    requires { is_simple operation ≡ true }
+    requires simple { is_simple operation ≡ true }
+    requires other { is_step operation ≡ false }
     ensures follows { IfOk result (λ hop. Follows program.now.image me count operation hop (activation_of activation.old) (activation_of activation.new)) }
     ensures stays { Stays (activation_of activation.old) (activation_of activation.new) }
     ensures err { OnErr result (activation_of activation.new ≡ activation_of activation.old) }
     ensures told { IfOk result (λ hop. Tells program.now.image hop (activation_of activation.new)) }
 {
     match operation {
-        Operation::PushInteger(value) => Ok(push(activation, count, Value::Integer(value))),
-        Operation::PushBoolean(value) => Ok(push(activation, count, Value::Boolean(value))),
-        Operation::PushVoid => Ok(push(activation, count, Value::Void)),
-        Operation::PushCurrent => Ok(push(activation, count, Value::Attached(me))),
-        Operation::PushResult { is_attached } => Ok(push_result(activation, count, is_attached)),
-        Operation::PushSlot { is_attached, slot } => Ok(push_slot(
-            activation,
-            count,
-            slot,
-            is_attached,
-        )),
-        Operation::PushOld(number) => Ok(push_old(activation, count, number)),
-        Operation::ApplyUnary(operator) => Ok(apply_unary(activation, count, operator)),
-        Operation::ApplyBinary(operator) => Ok(apply_binary(activation, count, operator)),
-        Operation::Decide { operator, passed } => Ok(decide(activation, count, operator, passed)),
-        Operation::Conclude => Ok(conclude(activation, count)),
-        Operation::StoreSlot(slot) => Ok(store_slot(activation, count, slot)),
-        Operation::StoreResult => Ok(store_result(activation, count)),
-        Operation::Initialize { value, slot } => Ok(initialize(activation, count, slot, value)),
         Operation::KeepOld => keep_old(activation, count),
         Operation::Print => Ok(print(activation)),
         Operation::PrintText(text) => Ok(print_text(program, text)),
-        Operation::SkipIfFalse(passed) => Ok(skip_if_false(activation, count, passed)),
-        Operation::Jump(passed) => Ok(skip(activation, count, passed)),
         Operation::EndLoop(back) => Ok(end_loop(activation, back)),
-        Operation::Expect(why) => Ok(expect(activation, count, why)),
         Operation::Start => Ok(Hop::Comes(Act::Start)),
         Operation::Leave => Ok(Hop::Comes(Act::Leave)),
         Operation::Exit => Ok(Hop::Comes(Act::Exit)),

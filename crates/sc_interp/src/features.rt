@@ -13,7 +13,7 @@ ghost use Rattle.sc_interp.specs.Standing.{Stays, listed};
 ghost use Rattle.sc_interp.specs.Values.{reference_of, value_of};
 ghost use Rattle.sc_interp.specs.Told.{IsCallIn, IsDone, IsTold, Tells};
 
-use crate::act::{Act, Calling, Hop};
+use crate::act::{Act, Calling, Hop, stepped};
 use crate::attributes::{attribute_value, is_name, value_under, version_in};
 use crate::calling::has_room;
 use crate::evaluation::read;
@@ -97,7 +97,7 @@ fn read_in_place(
 {
     activation.operands.drop_last(site.count);
     match activation.operands.pop() {
-        Some(_target) => replace(activation, count, read(is_attached, value)),
+        Some(_target) => stepped(replace(activation, count, read(is_attached, value))),
         None => Hop::Failed(Cause::BadCode),
     }
 }

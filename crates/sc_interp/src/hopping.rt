@@ -1,30 +1,77 @@
 //! The operations of the topmost routine of a store, one by one.
-ghost use Rattle.std.specs.Prelude.{◌≡◌, ◌<◌, IfOk, OnErr, Some, true, length, slice_get};
+ghost use Rattle.std.specs.Prelude.{◌≡◌, ◌<◌, IfNone, IfOk, IfSome, OnErr, Some, false, true, length, slice_get};
 ghost use Rattle.std.specs.Option.{option_map, option_and_then};
 ghost use Rattle.sc_region.specs.Classes as at;
 ghost use Rattle.sc_region.specs.Frames.{PlainActivation, top_activation, top_current};
 ghost use Rattle.sc_interp.specs.Hopping.{ComesTo, HasCode, IsNext, LeadsTo, NextIs};
 ghost use Rattle.sc_interp.specs.Playing.{Plays, Remains};
-ghost use Rattle.sc_interp.specs.Standing.{is_simple};
+ghost use Rattle.sc_interp.specs.Standing.{is_simple, is_step, is_step_in, stepped};
 ghost use Rattle.sc_interp.specs.Told.{IsTold};
 
-use crate::act::Hop;
+use crate::act::{Hop, stepped};
 use crate::attributes::{push_attribute, store_attribute};
-use crate::dispatch::hop_on;
+use crate::dispatch::{hop_on, step_on};
 use crate::features::call_feature;
 use sc_code::{Operation, RoutineCode};
 use sc_model::Cause;
 use sc_region::{Reference, Store};
 use std::alloc::AllocError;
 
-/// An operation that asks nothing of the attributes of objects.
+// ---- operations
+
+/// The operation of the topmost routine, which runs on `me` and whose code has `count` operations, where it is silent, needs no
+/// memory and asks nothing but of the routine itself. None where it is another one; nothing has changed then.
+fn step_in_place(
+    store: &mut Store<'_>,
+    me: Reference,
+    count: usize,
+    operation: Operation,
+) -> Option<Result<(), Cause>>
+    ensures plays { IfSome result (λ step. Plays me count operation (stepped step) store.old store.new) }
+    ensures remains { Remains store.old store.new }
+    ensures none { IfNone result (store.new ≡ store.old) }
+    ensures other { IfNone result (is_step operation ≡ false) }
+{
+    match store.top_mut() {
+        Some(activation) => step_on(activation, me, count, operation),
+        None => Some(Err(Cause::BadCode)),
+    }
+}
+
+/// The same, where the operation may ask the attributes of Current too.
+fn step_by(
+    store: &mut Store<'_>,
+    me: Reference,
+    count: usize,
+    operation: Operation,
+) -> Option<Result<(), Cause>>
+    ensures plays { IfSome result (λ step. Plays me count operation (stepped step) store.old store.new) }
+    ensures remains { Remains store.old store.new }
+    ensures none { IfNone result (store.new ≡ store.old) }
+    ensures other { IfNone result (is_step_in operation ≡ false) }
+{
+    match operation {
+        Operation::PushAttribute { is_attached, name } => Some(push_attribute(
+            store,
+            me,
+            count,
+            name,
+            is_attached,
+        )),
+        Operation::StoreAttribute(name) => Some(store_attribute(store, me, count, name)),
+        _ => step_in_place(store, me, count, operation),
+    }
+}
+
+/// An operation that asks nothing of the attributes of objects, and that `step_in_place` leaves.
 fn hop_in_place(
     store: &mut Store<'_>,
     me: Reference,
     count: usize,
     operation: Operation,
 ) -> Result<Hop, AllocError>
-    requires { is_simple operation ≡ true }
+    requires simple { is_simple operation ≡ true }
+    requires other { is_step operation ≡ false }
     ensures plays { IfOk result (λ hop. Plays me count operation hop store.old store.new) }
     ensures remains { Remains store.old store.new }
     ensures err { OnErr result (store.new ≡ store.old) }
@@ -37,27 +84,20 @@ fn hop_in_place(
     }
 }
 
-/// The operation of the topmost routine, which runs on `me` and whose code has `count` operations.
+/// An operation of the topmost routine that `step_by` leaves.
 fn hop_by(
     store: &mut Store<'_>,
     me: Reference,
     count: usize,
     operation: Operation,
 ) -> Result<Hop, AllocError>
+    requires { is_step_in operation ≡ false }
     ensures plays { IfOk result (λ hop. Plays me count operation hop store.old store.new) }
     ensures remains { Remains store.old store.new }
     ensures err { OnErr result (store.new ≡ store.old) }
     ensures told { IfOk result (λ hop. IsTold hop store.new) }
 {
     match operation {
-        Operation::PushAttribute { is_attached, name } => Ok(push_attribute(
-            store,
-            me,
-            count,
-            name,
-            is_attached,
-        )),
-        Operation::StoreAttribute(name) => Ok(store_attribute(store, me, count, name)),
         Operation::CallFeature(number) => Ok(call_feature(store, me, count, number)),
         _ => hop_in_place(store, me, count, operation),
     }
@@ -114,7 +154,10 @@ fn hop_in(store: &mut Store<'_>, me: Reference, code: &RoutineCode) -> Result<Ho
 {
     match next_in(store, code) {
         None => Ok(Hop::Failed(Cause::BadCode)),
-        Some((count, operation)) => hop_by(store, me, count, operation),
+        Some((count, operation)) => match step_by(store, me, count, operation) {
+            Some(step) => Ok(stepped(step)),
+            None => hop_by(store, me, count, operation),
+        },
     }
 }
 
@@ -149,10 +192,17 @@ fn moves_in(store: &mut Store<'_>, me: Reference, code: &RoutineCode) -> Result<
 {
     let count = operation_count(code);
     for passed in 0..count + 1 {
-        match hop_in(store, me, code)? {
-            Hop::Passed => (),
-            Hop::Failed(why) => return Ok(Hop::Failed(why)),
-            Hop::Comes(act) => return Ok(Hop::Comes(act)),
+        let Some((count, operation)) = next_in(store, code) else {
+            return Ok(Hop::Failed(Cause::BadCode));
+        };
+        match step_by(store, me, count, operation) {
+            Some(Ok(())) => (),
+            Some(Err(why)) => return Ok(Hop::Failed(why)),
+            None => match hop_by(store, me, count, operation)? {
+                Hop::Passed => (),
+                Hop::Failed(why) => return Ok(Hop::Failed(why)),
+                Hop::Comes(act) => return Ok(Hop::Comes(act)),
+            },
         }
     }
     Ok(Hop::Failed(Cause::BadCode))

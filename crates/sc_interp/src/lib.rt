@@ -21,7 +21,5 @@ pub mod turning;
 mod visible;
 
 pub use act::{Act, Calling, Hop};
-pub use attributes::{push_attribute, store_attribute};
-pub use dispatch::hop_on;
 pub use features::{Feature, call_feature};
 pub use hopping::{hop, moves};

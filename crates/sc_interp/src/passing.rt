@@ -3,97 +3,106 @@ ghost use Rattle.std.specs.Prelude.{◌<◌, ◌∷◌, drop, length};
 ghost use Rattle.sc_code.specs.Machine as flat;
 ghost use Rattle.sc_region.specs.Frames.{activation_of};
 ghost use Rattle.sc_interp.specs.Values.{value_of, evaluated};
-ghost use Rattle.sc_interp.specs.Standing.{Passes, Stays};
-ghost use Rattle.sc_interp.specs.Told.{IsDone};
+ghost use Rattle.sc_interp.specs.Standing.{Passes, Stays, stepped};
 
-use crate::act::Hop;
 use sc_model::Cause;
 use sc_region::{Activation, Value};
 
 /// On past so many operations behind this one; F16 where the code, of `count` operations, has none there.
-pub fn skip(activation: &mut Activation, count: usize, passed: usize) -> Hop
-    ensures passes { Passes count (λ c f. flat.skips c passed f) result (activation_of activation.old) (activation_of activation.new) }
+pub fn skip(activation: &mut Activation, count: usize, passed: usize) -> Result<(), Cause>
+    ensures passes { Passes count (λ c f. flat.skips c passed f) (stepped result) (activation_of activation.old) (activation_of activation.new) }
     ensures stays { Stays (activation_of activation.old) (activation_of activation.new) }
-    ensures done { IsDone result }
 {
     let behind = count.saturating_sub(activation.place).saturating_sub(1);
     if passed < behind {
         activation.place += 1 + passed;
-        Hop::Passed
+        Ok(())
     } else {
-        Hop::Failed(Cause::BadCode)
+        Err(Cause::BadCode)
     }
 }
 
 /// One more operand, and on; F16 where there is no room.
-pub fn push(activation: &mut Activation, count: usize, value: Value) -> Hop
-    ensures passes { Passes count (λ c f. flat.push c (value_of value) f) result (activation_of activation.old) (activation_of activation.new) }
+pub fn push(activation: &mut Activation, count: usize, value: Value) -> Result<(), Cause>
+    ensures passes { Passes count (λ c f. flat.push c (value_of value) f) (stepped result) (activation_of activation.old) (activation_of activation.new) }
     ensures stays { Stays (activation_of activation.old) (activation_of activation.new) }
-    ensures done { IsDone result }
 {
     if activation.operands.is_full() {
-        return Hop::Failed(Cause::BadCode);
+        return Err(Cause::BadCode);
     }
     activation.operands.push(value);
     skip(activation, count, 0)
 }
 
 /// The value of an evaluation is one more operand, or the evaluation fails.
-pub fn push_found(activation: &mut Activation, count: usize, found: Result<Value, Cause>) -> Hop
-    ensures passes { Passes count (λ c f. flat.pushes c (evaluated found) f) result (activation_of activation.old) (activation_of activation.new) }
+pub fn push_found(
+    activation: &mut Activation,
+    count: usize,
+    found: Result<Value, Cause>,
+) -> Result<(), Cause>
+    ensures passes { Passes count (λ c f. flat.pushes c (evaluated found) f) (stepped result) (activation_of activation.old) (activation_of activation.new) }
     ensures stays { Stays (activation_of activation.old) (activation_of activation.new) }
-    ensures done { IsDone result }
 {
     match found {
         Ok(value) => push(activation, count, value),
-        Err(why) => Hop::Failed(why),
+        Err(why) => Err(why),
     }
 }
 
 /// The value comes in the place of operands that were popped, and so many operations are passed.
-pub fn put_past(activation: &mut Activation, count: usize, value: Value, passed: usize) -> Hop
+pub fn put_past(
+    activation: &mut Activation,
+    count: usize,
+    value: Value,
+    passed: usize,
+) -> Result<(), Cause>
     requires { length (activation_of activation.old).operands.values < (activation_of activation.old).operands.depth }
     ensures passes { Passes count (λ c f. flat.skips c passed (record f { values = value_of value ∷ f.values }))
-        result (activation_of activation.old) (activation_of activation.new) }
+        (stepped result) (activation_of activation.old) (activation_of activation.new) }
     ensures stays { Stays (activation_of activation.old) (activation_of activation.new) }
-    ensures done { IsDone result }
 {
     activation.operands.push(value);
     skip(activation, count, passed)
 }
 
 /// The value of an evaluation comes in the place of operands that were popped, or the evaluation fails.
-pub fn replace(activation: &mut Activation, count: usize, found: Result<Value, Cause>) -> Hop
+pub fn replace(
+    activation: &mut Activation,
+    count: usize,
+    found: Result<Value, Cause>,
+) -> Result<(), Cause>
     requires { length (activation_of activation.old).operands.values < (activation_of activation.old).operands.depth }
-    ensures passes { Passes count (λ c f. flat.replaces c (evaluated found) f) result (activation_of activation.old) (activation_of activation.new) }
+    ensures passes { Passes count (λ c f. flat.replaces c (evaluated found) f) (stepped result) (activation_of activation.old) (activation_of activation.new) }
     ensures stays { Stays (activation_of activation.old) (activation_of activation.new) }
-    ensures done { IsDone result }
 {
     match found {
         Ok(value) => put_past(activation, count, value, 0),
-        Err(why) => Hop::Failed(why),
+        Err(why) => Err(why),
     }
 }
 
 /// The last operand goes, and on.
-pub fn pass_last(activation: &mut Activation, count: usize) -> Hop
-    ensures passes { Passes count (λ c f. flat.goes_on c (record f { values = drop 1 f.values })) result (activation_of activation.old) (activation_of activation.new) }
+pub fn pass_last(activation: &mut Activation, count: usize) -> Result<(), Cause>
+    ensures passes { Passes count (λ c f. flat.goes_on c (record f { values = drop 1 f.values })) (stepped result) (activation_of activation.old) (activation_of activation.new) }
     ensures stays { Stays (activation_of activation.old) (activation_of activation.new) }
-    ensures done { IsDone result }
 {
     activation.operands.drop_last(1);
     skip(activation, count, 0)
 }
 
 /// The slot gets the value; F16 where there is no such slot.
-pub fn store(activation: &mut Activation, count: usize, slot: usize, value: Value) -> Hop
+pub fn store(
+    activation: &mut Activation,
+    count: usize,
+    slot: usize,
+    value: Value,
+) -> Result<(), Cause>
     ensures passes { Passes count (λ c f. flat.stores c slot (value_of value) f)
-        result (activation_of activation.old) (activation_of activation.new) }
+        (stepped result) (activation_of activation.old) (activation_of activation.new) }
     ensures stays { Stays (activation_of activation.old) (activation_of activation.new) }
-    ensures done { IsDone result }
 {
     if slot >= activation.slots.len() {
-        return Hop::Failed(Cause::BadCode);
+        return Err(Cause::BadCode);
     }
     activation.slots[slot] = value;
     skip(activation, count, 0)

@@ -4,10 +4,10 @@ ghost use Rattle.sc_region.specs.Frames.{activation_of};
 ghost use Rattle.sc_code.specs.Operations as flat;
 ghost use Rattle.sc_code.specs.View.{default_value};
 ghost use Rattle.sc_interp.specs.Values.{value_of};
-ghost use Rattle.sc_interp.specs.Standing.{Hops, Stays};
+ghost use Rattle.sc_interp.specs.Standing.{Hops, Stays, stepped};
 ghost use Rattle.sc_interp.specs.Told.{IsDone};
 
-use crate::act::Hop;
+use crate::act::{Hop, stepped};
 use crate::evaluation::{found, read};
 use crate::passing::{push_found, skip, store};
 use sc_code::DefaultValue;
@@ -16,10 +16,13 @@ use sc_region::{Activation, Value};
 use std::alloc::AllocError;
 
 /// Result is read.
-pub fn push_result(activation: &mut Activation, count: usize, is_attached: bool) -> Hop
-    ensures hops { Hops count (flat.PushResult is_attached) result (activation_of activation.old) (activation_of activation.new) }
+pub fn push_result(
+    activation: &mut Activation,
+    count: usize,
+    is_attached: bool,
+) -> Result<(), Cause>
+    ensures hops { Hops count (flat.PushResult is_attached) (stepped result) (activation_of activation.old) (activation_of activation.new) }
     ensures stays { Stays (activation_of activation.old) (activation_of activation.new) }
-    ensures done { IsDone result }
 {
     let value = read(is_attached, activation.result);
     push_found(activation, count, value)
@@ -34,10 +37,14 @@ fn value_at(slots: &[Value], slot: usize) -> Option<Value>
 
 /// A slot is read.
 #[tactic(auto, using(crate::proofs::GoingOn::values_get))]
-pub fn push_slot(activation: &mut Activation, count: usize, slot: usize, is_attached: bool) -> Hop
-    ensures hops { Hops count (flat.PushSlot slot is_attached) result (activation_of activation.old) (activation_of activation.new) }
+pub fn push_slot(
+    activation: &mut Activation,
+    count: usize,
+    slot: usize,
+    is_attached: bool,
+) -> Result<(), Cause>
+    ensures hops { Hops count (flat.PushSlot slot is_attached) (stepped result) (activation_of activation.old) (activation_of activation.new) }
     ensures stays { Stays (activation_of activation.old) (activation_of activation.new) }
-    ensures done { IsDone result }
 {
     let value = read(is_attached, value_at(&activation.slots, slot));
     push_found(activation, count, value)
@@ -45,10 +52,9 @@ pub fn push_slot(activation: &mut Activation, count: usize, slot: usize, is_atta
 
 /// A kept value is read.
 #[tactic(auto, using(crate::proofs::GoingOn::values_get))]
-pub fn push_old(activation: &mut Activation, count: usize, number: usize) -> Hop
-    ensures hops { Hops count (flat.PushOld number) result (activation_of activation.old) (activation_of activation.new) }
+pub fn push_old(activation: &mut Activation, count: usize, number: usize) -> Result<(), Cause>
+    ensures hops { Hops count (flat.PushOld number) (stepped result) (activation_of activation.old) (activation_of activation.new) }
     ensures stays { Stays (activation_of activation.old) (activation_of activation.new) }
-    ensures done { IsDone result }
 {
     let value = found(activation.olds.get(number));
     push_found(activation, count, value)
@@ -71,10 +77,9 @@ pub fn initialize(
     count: usize,
     slot: usize,
     value: DefaultValue,
-) -> Hop
-    ensures hops { Hops count (flat.Initialize slot (default_value value)) result (activation_of activation.old) (activation_of activation.new) }
+) -> Result<(), Cause>
+    ensures hops { Hops count (flat.Initialize slot (default_value value)) (stepped result) (activation_of activation.old) (activation_of activation.new) }
     ensures stays { Stays (activation_of activation.old) (activation_of activation.new) }
-    ensures done { IsDone result }
 {
     store(activation, count, slot, default_of(value))
 }
@@ -89,7 +94,7 @@ pub fn keep_old(activation: &mut Activation, count: usize) -> Result<Hop, AllocE
 {
     match activation.operands.pop() {
         Some(value) => match activation.olds.keep(value) {
-            Ok(()) => Ok(skip(activation, count, 0)),
+            Ok(()) => Ok(stepped(skip(activation, count, 0))),
             Err(error) => {
                 activation.operands.push(value);
                 Err(error)

@@ -4,10 +4,8 @@ ghost use Rattle.sc_region.specs.Frames.{activation_of};
 ghost use Rattle.sc_code.specs.Operations as flat;
 ghost use Rattle.sc_code.specs.Machine as machine;
 ghost use Rattle.sc_interp.specs.Values.{value_of};
-ghost use Rattle.sc_interp.specs.Standing.{Hops, Passes, Stays};
-ghost use Rattle.sc_interp.specs.Told.{IsDone};
+ghost use Rattle.sc_interp.specs.Standing.{Hops, Passes, Stays, stepped};
 
-use crate::act::Hop;
 use crate::evaluation::{binary_value, decided_by, unary_value};
 use crate::passing::{put_past, replace, skip, store};
 use sc_model::Cause;
@@ -15,26 +13,32 @@ use sc_region::{Activation, Value};
 use sc_tree::{BinaryOperator, UnaryOperator};
 
 /// The last operand is the operand of the operator.
-pub fn apply_unary(activation: &mut Activation, count: usize, operator: UnaryOperator) -> Hop
-    ensures hops { Hops count (flat.ApplyUnary operator) result (activation_of activation.old) (activation_of activation.new) }
+pub fn apply_unary(
+    activation: &mut Activation,
+    count: usize,
+    operator: UnaryOperator,
+) -> Result<(), Cause>
+    ensures hops { Hops count (flat.ApplyUnary operator) (stepped result) (activation_of activation.old) (activation_of activation.new) }
     ensures stays { Stays (activation_of activation.old) (activation_of activation.new) }
-    ensures done { IsDone result }
 {
     match activation.operands.pop() {
         Some(value) => replace(activation, count, unary_value(operator, value)),
-        None => Hop::Failed(Cause::BadCode),
+        None => Err(Cause::BadCode),
     }
 }
 
 /// The last two operands are those of the operator.
-pub fn apply_binary(activation: &mut Activation, count: usize, operator: BinaryOperator) -> Hop
-    ensures hops { Hops count (flat.ApplyBinary operator) result (activation_of activation.old) (activation_of activation.new) }
+pub fn apply_binary(
+    activation: &mut Activation,
+    count: usize,
+    operator: BinaryOperator,
+) -> Result<(), Cause>
+    ensures hops { Hops count (flat.ApplyBinary operator) (stepped result) (activation_of activation.old) (activation_of activation.new) }
     ensures stays { Stays (activation_of activation.old) (activation_of activation.new) }
-    ensures done { IsDone result }
 {
     match activation.operands.pop() {
         Some(right) => apply_to(activation, count, operator, right),
-        None => Hop::Failed(Cause::BadCode),
+        None => Err(Cause::BadCode),
     }
 }
 
@@ -44,18 +48,17 @@ fn apply_to(
     count: usize,
     operator: BinaryOperator,
     right: Value,
-) -> Hop
+) -> Result<(), Cause>
     requires { length (activation_of activation.old).operands.values < (activation_of activation.old).operands.depth }
     ensures passes { Passes count (λ c f. machine.applies c operator (value_of right) f.values (record f { values = value_of right ∷ f.values }))
-        result (activation_of activation.old) (activation_of activation.new) }
+        (stepped result) (activation_of activation.old) (activation_of activation.new) }
     ensures stays { Stays (activation_of activation.old) (activation_of activation.new) }
-    ensures done { IsDone result }
 {
     match activation.operands.pop() {
         Some(left) => replace(activation, count, binary_value(operator, left, right)),
         None => {
             activation.operands.push(right);
-            Hop::Failed(Cause::BadCode)
+            Err(Cause::BadCode)
         }
     }
 }
@@ -66,81 +69,75 @@ pub fn decide(
     count: usize,
     operator: BinaryOperator,
     passed: usize,
-) -> Hop
-    ensures hops { Hops count (flat.Decide operator passed) result (activation_of activation.old) (activation_of activation.new) }
+) -> Result<(), Cause>
+    ensures hops { Hops count (flat.Decide operator passed) (stepped result) (activation_of activation.old) (activation_of activation.new) }
     ensures stays { Stays (activation_of activation.old) (activation_of activation.new) }
-    ensures done { IsDone result }
 {
     match activation.operands.pop() {
         Some(left) => match decided_by(operator, left) {
             Some(value) => put_past(activation, count, Value::Boolean(value), passed),
             None => skip(activation, count, 0),
         },
-        None => Hop::Failed(Cause::BadCode),
+        None => Err(Cause::BadCode),
     }
 }
 
 /// The last operand is a truth value, and stays.
-pub fn conclude(activation: &mut Activation, count: usize) -> Hop
-    ensures hops { Hops count flat.Conclude result (activation_of activation.old) (activation_of activation.new) }
+pub fn conclude(activation: &mut Activation, count: usize) -> Result<(), Cause>
+    ensures hops { Hops count flat.Conclude (stepped result) (activation_of activation.old) (activation_of activation.new) }
     ensures stays { Stays (activation_of activation.old) (activation_of activation.new) }
-    ensures done { IsDone result }
 {
     match activation.operands.pop() {
         Some(Value::Boolean(value)) => put_past(activation, count, Value::Boolean(value), 0),
-        _ => Hop::Failed(Cause::BadCode),
+        _ => Err(Cause::BadCode),
     }
 }
 
 /// The last operand goes into the slot.
-pub fn store_slot(activation: &mut Activation, count: usize, slot: usize) -> Hop
-    ensures hops { Hops count (flat.StoreSlot slot) result (activation_of activation.old) (activation_of activation.new) }
+pub fn store_slot(activation: &mut Activation, count: usize, slot: usize) -> Result<(), Cause>
+    ensures hops { Hops count (flat.StoreSlot slot) (stepped result) (activation_of activation.old) (activation_of activation.new) }
     ensures stays { Stays (activation_of activation.old) (activation_of activation.new) }
-    ensures done { IsDone result }
 {
     match activation.operands.pop() {
         Some(value) => store(activation, count, slot, value),
-        None => Hop::Failed(Cause::BadCode),
+        None => Err(Cause::BadCode),
     }
 }
 
 /// The last operand is the Result.
-pub fn store_result(activation: &mut Activation, count: usize) -> Hop
-    ensures hops { Hops count flat.StoreResult result (activation_of activation.old) (activation_of activation.new) }
+pub fn store_result(activation: &mut Activation, count: usize) -> Result<(), Cause>
+    ensures hops { Hops count flat.StoreResult (stepped result) (activation_of activation.old) (activation_of activation.new) }
     ensures stays { Stays (activation_of activation.old) (activation_of activation.new) }
-    ensures done { IsDone result }
 {
     match activation.operands.pop() {
         Some(value) => {
             activation.result = Some(value);
             skip(activation, count, 0)
         }
-        None => Hop::Failed(Cause::BadCode),
+        None => Err(Cause::BadCode),
     }
 }
 
 /// Where the last operand is False, so many operations are passed.
-pub fn skip_if_false(activation: &mut Activation, count: usize, passed: usize) -> Hop
-    ensures hops { Hops count (flat.SkipIfFalse passed) result (activation_of activation.old) (activation_of activation.new) }
+pub fn skip_if_false(activation: &mut Activation, count: usize, passed: usize) -> Result<(), Cause>
+    ensures hops { Hops count (flat.SkipIfFalse passed) (stepped result) (activation_of activation.old) (activation_of activation.new) }
     ensures stays { Stays (activation_of activation.old) (activation_of activation.new) }
-    ensures done { IsDone result }
 {
     match activation.operands.pop() {
         Some(Value::Boolean(true)) => skip(activation, count, 0),
         Some(Value::Boolean(false)) => skip(activation, count, passed),
-        _ => Hop::Failed(Cause::BadCode),
+        _ => Err(Cause::BadCode),
     }
 }
 
 /// The last operand is True, or the handler fails so.
-pub fn expect(activation: &mut Activation, count: usize, why: Cause) -> Hop
-    ensures hops { Hops count (flat.Expect why) result (activation_of activation.old) (activation_of activation.new) }
+pub fn expect(activation: &mut Activation, count: usize, why: Cause) -> Result<(), Cause>
+    ensures hops { Hops count (flat.Expect why) (stepped result) (activation_of activation.old) (activation_of activation.new) }
     ensures stays { Stays (activation_of activation.old) (activation_of activation.new) }
-    ensures done { IsDone result }
 {
     match activation.operands.pop() {
         Some(Value::Boolean(true)) => skip(activation, count, 0),
-        Some(Value::Boolean(false)) => Hop::Failed(why),
-        _ => Hop::Failed(Cause::BadCode),
+        Some(Value::Boolean(false)) => Err(why),
+        _ => Err(Cause::BadCode),
     }
 }

@@ -16,7 +16,7 @@ ghost use Rattle.sc_interp.specs.Standing.{Follows, Passes, Stays, Tested};
 ghost use Rattle.sc_interp.specs.Values.{value_of, values_of};
 ghost use Rattle.sc_interp.specs.Told.{IsDone};
 
-use crate::act::Hop;
+use crate::act::{Hop, stepped};
 use crate::passing::{put_past, store};
 use sc_class::ClassId;
 use sc_code::{ObjectTest, Program, Residence, TestedType};
@@ -112,7 +112,7 @@ fn bind(activation: &mut Activation, count: usize, slot: usize, value: Value) ->
     ensures done { IsDone result }
 {
     activation.operands.push(Value::Boolean(true));
-    store(activation, count, slot, value)
+    stepped(store(activation, count, slot, value))
 }
 
 /// The answer of an object test is the last operand; where it is True, the slot gets the value.
@@ -131,7 +131,7 @@ fn bind_if(
     if is_tested {
         bind(activation, count, slot, value)
     } else {
-        put_past(activation, count, Value::Boolean(false), 0)
+        stepped(put_past(activation, count, Value::Boolean(false), 0))
     }
 }
 

@@ -8,7 +8,7 @@ ghost use Rattle.sc_code.specs.Operations as flat;
 ghost use Rattle.sc_interp.specs.Standing.{Demands, Follows, Hops, Stays};
 ghost use Rattle.sc_interp.specs.Told.{HasDemand, Tells};
 
-use crate::act::{Act, Hop};
+use crate::act::{Act, Hop, stepped};
 use crate::passing::skip;
 use sc_code::Program;
 use sc_model::Cause;
@@ -67,7 +67,7 @@ fn demand_on(activation: &mut Activation, count: usize, number: usize) -> Hop
     ensures told { (p : Image) → HasDemand p number → Tells p result (activation_of activation.new) }
 {
     match activation.operands.pop() {
-        Some(Value::Boolean(true)) => skip(activation, count, 0),
+        Some(Value::Boolean(true)) => stepped(skip(activation, count, 0)),
         Some(Value::Boolean(false)) => {
             activation.operands.push(Value::Boolean(false));
             Hop::Comes(Act::Refuse(number))

@@ -1,0 +1,11 @@
+use Rattle.std.proofs.Common.{MutBor, refl, sym, ap, ◌∙◌}
+use Rattle.std.specs.Option.{option_map}
+use Rattle.sc_region.specs.declared.frame.Activation.{Activation}
+use Rattle.sc_region.specs.Frames.{activation_of}
+use Rattle.sc_interp.proofs.Playing.{remains_top}
+use Rattle.sc_interp.proofs.hopping.step_in_place.Goals as goal
+
+pub returns-in-Some-clause-remains : goal.returns-in-Some-clause-remains
+returns-in-Some-clause-remains c =
+    remains_top c.args.store.now _ c.step_on.new.activation (activation_of c.in-Some.activation.now)
+    (sym c.top_mut.ensures.value ∙ ap (option_map (λ (m : MutBor Activation). activation_of m.now)) c.in-Some.is) refl c.step_on.ensures.stays
