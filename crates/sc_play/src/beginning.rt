@@ -2,6 +2,7 @@
 ghost use Rattle.std.specs.Prelude.{◌≡◌, ◌++◌, [], slice_get, take};
 ghost use Rattle.std.specs.List.{cons_option};
 ghost use Rattle.sc_region.specs.Frames.{top_activation};
+ghost use Rattle.sc_region.specs.declared.job.Want.TheVariants as want;
 ghost use Rattle.sc_interp.specs.Entering.{asks_beginning, asks_reserving, handler_of, handlers_in};
 
 use arrayvec::ArrayVec;
@@ -43,25 +44,25 @@ fn handlers_in(slots: &[Value], separate: &[usize]) -> ArrayVec<u16, 16>
 }
 
 /// What a routine asks that begins with these slots, which reserves the handlers of some.
-fn want_reserving(slots: &[Value], separate: &[usize]) -> Want
-    ensures { result ≡ asks_reserving separate.now slots.now }
+fn ask_reserving(slots: &[Value], separate: &[usize], asked: &mut Want)
+    requires { asked.old ≡ want.Continue }
+    ensures { asked.new ≡ asks_reserving separate.now slots.now }
 {
-    if separate.is_empty() {
-        Want::Continue
-    } else {
-        Want::Reserve(handlers_in(slots, separate))
+    if !separate.is_empty() {
+        *asked = Want::Reserve(handlers_in(slots, separate));
     }
 }
 
 /// What the topmost routine asks, where it begins: its reserve step, where it has attached separate formals.
-pub fn want_beginning(store: &Store<'_>) -> Want
-    ensures { result ≡ asks_beginning store.now.program (top_activation store.now.frames) }
+pub fn ask_beginning(store: &Store<'_>, asked: &mut Want)
+    requires { asked.old ≡ want.Continue }
+    ensures { asked.new ≡ asks_beginning store.now.program (top_activation store.now.frames) }
 {
     match store.top() {
-        None => Want::Continue,
+        None => (),
         Some(activation) => match store.program().routine(activation.routine) {
-            None => Want::Continue,
-            Some(code) => want_reserving(&activation.slots, &code.separate_formals),
+            None => (),
+            Some(code) => ask_reserving(&activation.slots, &code.separate_formals, asked),
         },
     }
 }

@@ -1,10 +1,11 @@
 //! Requests that a handler takes.
-ghost use Rattle.std.specs.Prelude.{◌≡◌, IfOk, OnOk, OnErr};
+ghost use Rattle.std.specs.Prelude.{◌≡◌, OnOk, OnErr};
 ghost use Rattle.sc_region.specs.Objects.{attribute_of};
+ghost use Rattle.sc_region.specs.declared.job.Want.TheVariants as want;
 ghost use Rattle.sc_play.specs.Turns.{Becomes};
 ghost use Rattle.sc_play.specs.Taking.{answered, asks_answering, asks_call, asks_creation, asks_taking, asks_version, attribute_at, born_by, taken, taken_call, taken_creation, taken_version};
 
-use crate::beginning::want_beginning;
+use crate::beginning::ask_beginning;
 use crate::steps::unless_failed;
 use crate::versions::{attribute_at, routine_of, version_in};
 use arrayvec::ArrayVec;
@@ -16,14 +17,17 @@ use std::alloc::AllocError;
 // ---- a query of an attribute
 
 /// The request ends with this value, or with none.
-fn done(value: Option<Value>) -> Want
-    ensures { result ≡ asks_answering value }
+///
+/// It stays a call: each request that is taken would clear what is asked here, if it stood where requests are taken.
+#[inline(never)]
+fn ask_done(value: Option<Value>, asked: &mut Want)
+    ensures { asked.new ≡ asks_answering value }
 {
-    Want::Done {
+    *asked = Want::Done {
         reply: value,
         released: ArrayVec::new(),
         refused: false,
-    }
+    };
 }
 
 /// An attribute with this value is answered: F7 where its type is attached and it is still Void.
@@ -43,14 +47,14 @@ fn answer(store: &mut Store<'_>, attribute: Option<AttributeCode>, value: Option
 // ---- a call
 
 /// The attribute of the number of the target is answered.
-fn answer_at(store: &mut Store<'_>, target: Reference, number: usize) -> Want
+fn answer_at(store: &mut Store<'_>, target: Reference, number: usize, asked: &mut Want)
     ensures store { store.new ≡ answered (attribute_at store.old.program target.class number) (attribute_of target.number number store.old.objects) store.old }
-    ensures want { result ≡ asks_answering (attribute_of target.number number store.old.objects) }
+    ensures want { asked.new ≡ asks_answering (attribute_of target.number number store.old.objects) }
 {
     let attribute = attribute_at(store.program(), target.class, number);
     let value = store.read(target.number, number);
     answer(store, attribute, value);
-    done(value)
+    ask_done(value, asked);
 }
 
 /// The version of the feature that is called. Err where there is no memory; nothing has changed then.
@@ -58,21 +62,28 @@ fn call_version(
     store: &mut Store<'_>,
     request: &Request,
     version: Option<Version>,
-) -> Result<Want, AllocError>
+    asked: &mut Want,
+) -> Result<(), AllocError>
+    requires { asked.old ≡ want.Continue }
     ensures ok { OnOk result (store.new ≡ taken_version request.now version store.old) }
-    ensures want { IfOk result (λ asked. asked ≡ asks_version request.now version store.old store.new) }
+    ensures want { OnOk result (asked.new ≡ asks_version request.now version store.old store.new) }
     ensures err { OnErr result (store.new ≡ store.old) }
+    ensures kept { OnErr result (asked.new ≡ asked.old) }
 {
     match version {
         Some(Version::Routine(routine)) => {
             let actuals = request.actuals.as_slice();
             store.push(request.target, routine, Origin::Requested, actuals)?;
-            Ok(want_beginning(store))
+            ask_beginning(store, asked);
+            Ok(())
         }
-        Some(Version::Attribute(number)) => Ok(answer_at(store, request.target, number)),
+        Some(Version::Attribute(number)) => {
+            answer_at(store, request.target, number, asked);
+            Ok(())
+        }
         None => {
             store.fail(Cause::BadCode);
-            Ok(Want::Continue)
+            Ok(())
         }
     }
 }
@@ -84,22 +95,25 @@ fn call(
     handler: u16,
     request: &Request,
     name: usize,
-) -> Result<Want, AllocError>
+    asked: &mut Want,
+) -> Result<(), AllocError>
+    requires { asked.old ≡ want.Continue }
     ensures ok { OnOk result (store.new ≡ taken_call handler request.now name store.old) }
-    ensures want { IfOk result (λ asked. asked ≡ asks_call handler request.now name store.old store.new) }
+    ensures want { OnOk result (asked.new ≡ asks_call handler request.now name store.old store.new) }
     ensures err { OnErr result (store.new ≡ store.old) }
+    ensures kept { OnErr result (asked.new ≡ asked.old) }
 {
     let target = request.target;
     if target.handler != handler {
         store.fail(Cause::ForeignObject);
-        return Ok(Want::Continue);
+        return Ok(());
     }
     if store.class_of(target.number).is_none() {
         store.fail(Cause::BadCode);
-        return Ok(Want::Continue);
+        return Ok(());
     }
     let version = version_in(store.program(), target.class, name);
-    call_version(store, request, version)
+    call_version(store, request, version, asked)
 }
 
 // ---- a creation
@@ -126,20 +140,25 @@ fn make(
     store: &mut Store<'_>,
     request: &Request,
     procedure: Option<u32>,
-) -> Result<Want, AllocError>
+    asked: &mut Want,
+) -> Result<(), AllocError>
+    requires { asked.old ≡ want.Continue }
     ensures ok { OnOk result (store.new ≡ taken_creation procedure request.now store.old) }
-    ensures want { IfOk result (λ asked. asked ≡ asks_creation procedure store.new) }
+    ensures want { OnOk result (asked.new ≡ asks_creation procedure store.new) }
     ensures err { OnErr result (store.new ≡ store.old) }
+    ensures kept { OnErr result (asked.new ≡ asked.old) }
 {
     match procedure {
         None => {
             store.birth(request.target.class)?;
-            Ok(done(None))
+            ask_done(None, asked);
+            Ok(())
         }
         Some(name) => {
             let routine = routine_of(store.program(), request.target.class, name as usize);
             bear(store, request, routine)?;
-            Ok(want_beginning(store))
+            ask_beginning(store, asked);
+            Ok(())
         }
     }
 }
@@ -147,14 +166,21 @@ fn make(
 // ---- requests
 
 /// The handler takes the request. Err where there is no memory; nothing has changed then.
-fn take_errand(store: &mut Store<'_>, handler: u16, request: &Request) -> Result<Want, AllocError>
+fn take_errand(
+    store: &mut Store<'_>,
+    handler: u16,
+    request: &Request,
+    asked: &mut Want,
+) -> Result<(), AllocError>
+    requires { asked.old ≡ want.Continue }
     ensures ok { OnOk result (store.new ≡ taken handler request.now store.old) }
-    ensures want { IfOk result (λ asked. asked ≡ asks_taking handler request.now store.old store.new) }
+    ensures want { OnOk result (asked.new ≡ asks_taking handler request.now store.old store.new) }
     ensures err { OnErr result (store.new ≡ store.old) }
+    ensures kept { OnErr result (asked.new ≡ asked.old) }
 {
     match request.errand {
-        Errand::Calls(name) => call(store, handler, request, name as usize),
-        Errand::Makes(procedure) => make(store, request, procedure),
+        Errand::Calls(name) => call(store, handler, request, name as usize, asked),
+        Errand::Makes(procedure) => make(store, request, procedure, asked),
     }
 }
 
@@ -168,11 +194,12 @@ pub fn take(
     request: &Request,
     asked: &mut Want,
 ) -> Result<(), AllocError>
+    requires { asked.old ≡ want.Continue }
     ensures ok { OnOk result (Becomes (taken handler request.now store.old) (asks_taking handler request.now store.old store.new) store.new asked.new) }
     ensures err { OnErr result (store.new ≡ store.old) }
     ensures kept { OnErr result (asked.new ≡ asked.old) }
 {
-    *asked = take_errand(store, handler, request)?;
+    take_errand(store, handler, request, asked)?;
     unless_failed(store, asked);
     Ok(())
 }
