@@ -61,7 +61,7 @@ impl<'p> Region<'p> {
     ghost use Rattle.sc_region.specs.Classes.{MeetsAt};
     ghost use Rattle.sc_region.specs.Objects.{object_numbered};
     ghost use Rattle.sc_region.specs.Stores.{is_settled};
-    ghost use Rattle.sc_play.specs.Regions.{IsRefused, Plays, new_region};
+    ghost use Rattle.sc_play.specs.Regions.{IsRefused, Plays, new_region, outcome};
 
     /// The region of the handler of a number, which was asked for nothing yet. What grows later takes its memory from this
     /// allocator.
@@ -84,15 +84,31 @@ impl<'p> Region<'p> {
         ensures err { OnErr result (IsRefused job.now self.old self.new) }
     {
         let mut want = Want::Continue;
-        match first_turn(&mut self.store, self.handler, job, self.is_told, &mut want) {
+        let turns = self.play_asking(job, limit, &mut want)?;
+        Ok(Outcome {
+            handler: self.handler,
+            turns,
+            want,
+        })
+    }
+
+    /// The same, where what is asked is written into a place: how many turns are made.
+    pub fn play_asking(
+        &mut self,
+        job: &Job,
+        limit: u32,
+        asked: &mut Want,
+    ) -> Result<u32, AllocError>
+        requires limit { 1 ≤ limit }
+        requires asked { asked.old ≡ want.Continue }
+        ensures ok { IfOk result (λ turns. Plays limit job.now self.old self.new (outcome self.old.handler turns asked.new)) }
+        ensures err { OnErr result (IsRefused job.now self.old self.new) }
+        ensures handler { self.new.handler ≡ self.old.handler }
+    {
+        match first_turn(&mut self.store, self.handler, job, self.is_told, asked) {
             Ok(()) => {
                 self.is_told = false;
-                let turns = play_on(&mut self.store, self.handler, limit, &mut want);
-                Ok(Outcome {
-                    handler: self.handler,
-                    turns,
-                    want,
-                })
+                Ok(play_on(&mut self.store, self.handler, limit, asked))
             }
             Err(error) => {
                 self.is_told = self.is_told || matches!(job, Job::Made(_));

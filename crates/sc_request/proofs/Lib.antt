@@ -21,6 +21,7 @@ mod Counted
 pub mod Sounds
 mod Releasing
 mod Settles
+mod Shapes
 mod Created
 mod Ended
 mod Fallen

@@ -5,7 +5,7 @@ use Rattle.std.specs.Option.{option_map}
 use Rattle.std.specs.Prelude.{is_some, not, nat_lt, ◌==◌, ◌&&◌, if◌then◌else◌}
 use Rattle.sc_lockpass.specs.Tables.{is_member}
 use Rattle.sc_region.specs.declared.job.Job.{Job}
-use Rattle.sc_request.specs.Logs.{Center, pick_for, numbers_from, first_from, first_with_job, next}
+use Rattle.sc_request.specs.Logs.{Center, pick_for, picked_if, picks, numbers_from, first_from, first_with_job, next}
 use Rattle.sc_request.specs.Candidates.{HasNoneIn, IsFirstIn, AreCandidates}
 
 none_is : (o : Option Job) → is_some o ≡ false → o ≡ None
@@ -191,3 +191,12 @@ next_is c h j e own = with_job_of h j (next c) c e own (has_job _ c)
 
 pub never_none : (c : Center) (h : ℕ) → Some h ≡ number_of (next c) → pick_for h c ≡ None → ⊥
 never_none c h e none = has_some h (next c) c e none (has_job _ c)
+
+-- The next one is picked: it has a job.
+pub picks_next : (c : Center) (h : ℕ) (o : Option Job) → pick_for h c ≡ o → Some h ≡ number_of (next c) → picked_if h (pick_for h c) c ≡ picks (next c) c
+picks_next c h (Some j) own e = ap (λ (o : Option Job). picked_if h o c) own ∙ ap (λ (o : Option (ℕ × Job)). picks o c) (next_is c h j e own)
+picks_next c h None own e = absurd (never_none c h e own)
+
+pub next_has : (c : Center) (h : ℕ) (o : Option Job) → pick_for h c ≡ o → Some h ≡ number_of (next c) → is_some o ≡ true
+next_has c h (Some j) own e = refl
+next_has c h None own e = absurd (never_none c h e own)

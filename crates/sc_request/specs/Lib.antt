@@ -7,6 +7,7 @@ pub mod Halves
 pub mod Logs
 pub mod Laws
 pub mod Tables
+pub mod Shapes
 pub mod Sound
 pub mod Places
 pub mod Cores

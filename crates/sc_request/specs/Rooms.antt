@@ -1,7 +1,7 @@
 -- Room for settlements: what one takes is kept for each handler that is out.
 use Rattle.std.specs.Prelude.{◌≤◌, ◌+◌, ◌*◌, ℕ, Bool, true, false, Result, Ok, Err, length, vec_len, vec_capacity}
 use Rattle.sc_region.specs.declared.job.Job.{Job}
-use Rattle.sc_region.specs.declared.job.Outcome.{Outcome}
+use Rattle.sc_region.specs.declared.job.Want.{Want}
 use Rattle.sc_request.specs.declared.center.Core as coded
 use Rattle.sc_request.specs.declared.settlement.Settlement.{Settlement}
 use Rattle.sc_request.specs.declared.settlement.SettleFault.{SettleFault}
@@ -19,19 +19,15 @@ pub record HasRoomFor (more : ℕ) (c : coded.Core) : Type 0 where
 
 abbrev pub is_not_out : Result Unit SettleFault → Bool
 is_not_out (Ok u) = false
-is_not_out (Err (NotOut o)) = true
-is_not_out (Err (OutOfMemory o)) = false
+is_not_out (Err NotOut) = true
+is_not_out (Err OutOfMemory) = false
 
 -- there was no memory for it
 abbrev pub is_short : Result Unit SettleFault → Bool
 is_short (Ok u) = false
-is_short (Err (NotOut o)) = false
-is_short (Err (OutOfMemory o)) = true
+is_short (Err NotOut) = false
+is_short (Err OutOfMemory) = true
 
-abbrev pub outcome_of : SettleFault → Outcome
-outcome_of (NotOut o) = o
-outcome_of (OutOfMemory o) = o
-
--- what the log has of the outcome of a handler that was out with the job
-abbrev pub settlement : Job → Outcome → Settlement
-settlement j o = record { handler = o.handler; job = j; turns = o.turns; want = o.want }
+-- what the log has of so many turns of a handler that was out with the job, the last of which asks this
+abbrev pub settlement : ℕ → Job → ℕ → Want → Settlement
+settlement h j turns w = record { handler = h; job = j; turns = turns; want = w }

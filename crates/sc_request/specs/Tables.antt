@@ -1,7 +1,7 @@
 -- How the state of the core lies in memory.
-use Rattle.std.specs.Prelude.{ℕ, ◌+◌, List, [], ◌∷◌, Option, Some, None, is_some, map, slice_get, slice_index, if◌then◌else◌}
+use Rattle.std.specs.Prelude.{ℕ, ◌+◌, Bool, List, [], ◌∷◌, Option, Some, None, is_some, map, slice_get, slice_index, if◌then◌else◌}
 use Rattle.std.specs.Option.{option_map, option_and_then}
-use Rattle.sc_lockpass.specs.Tables.{Table, rights_of, passed_of}
+use Rattle.sc_lockpass.specs.Tables.{Listing, Table, rights_of, passed_of}
 use Rattle.sc_waitcond.specs.declared.mark.Marked.{Marked}
 use Rattle.sc_region.specs.declared.job.Job.{Job}
 use Rattle.sc_region.specs.declared.job.Request.{Request}
@@ -31,6 +31,10 @@ stage_of entry mark stage.Runs = Runs
 stage_of entry mark (stage.HasMade k) = HasMade k
 stage_of entry mark stage.Reserves = Reserves entry mark
 stage_of entry mark (stage.Awaits k is_creation) = Awaits k is_creation
+
+-- the request as it is sent, which is waited for or not
+abbrev pub sent : Request → Bool → Option Listing → Posting
+sent r is_waited passed = record { request = record r { is_waited = is_waited }; passed = passed; over = stage.Idle }
 
 abbrev pub posting_of : Posting → Posted
 posting_of p = posted p.request (option_map passed_of p.passed)

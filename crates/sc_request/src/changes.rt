@@ -6,11 +6,13 @@ ghost use Rattle.sc_request.specs.Places.{first_of, without_first};
 ghost use Rattle.sc_request.specs.Handlers.{new_handler};
 ghost use Rattle.sc_request.specs.Sessions.{placed, answered, fallen};
 ghost use Rattle.sc_request.specs.Settling.{takes, takes_answer};
-ghost use Rattle.sc_request.specs.Tables.{answer_of, cleared, handler_with, posting_of, served, service_of};
+ghost use Rattle.sc_request.specs.Tables.{answer_of, cleared, handler_with, posting_of, sent, served, service_of};
 
 use crate::handler::{Answer, Handler, Posting, Stage};
 use crate::postings::{append, stand_over, take_all, take_first, write_first};
+use sc_lockpass::Passed;
 use sc_model::Cause;
+use sc_region::Request;
 use sc_waitcond::Mark;
 use std::collections::LinkedList;
 
@@ -82,19 +84,21 @@ impl Handler {
         }
     }
 
-    /// A request stands as its callback, or at its queue's end.
+    /// A request stands as its callback, or at its queue's end, in this node.
     pub(crate) fn place(
         &mut self,
         is_callback: bool,
         mut node: LinkedList<Posting>,
-        posting: Posting,
+        request: &Request,
+        is_waited: bool,
+        passed: Option<Passed>,
     )
         requires node { length node ≡ 1 }
         requires room { is_callback ≡ false → length self.old.queue + 1 < 2 ^ 63 }
-        ensures handler { (n : ℕ) → handler_with n self.new ≡ placed is_callback (posting_of posting) (handler_with n self.old) }
+        ensures handler { (n : ℕ) → handler_with n self.new ≡ placed is_callback (posting_of (sent request.now is_waited passed)) (handler_with n self.old) }
         ensures out { self.new.out ≡ self.old.out }
     {
-        write_first(&mut node, posting);
+        write_first(&mut node, request, is_waited, passed);
         if is_callback {
             self.callback = node;
         } else {

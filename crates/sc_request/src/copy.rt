@@ -2,7 +2,7 @@
 ghost use Rattle.std.specs.Prelude.{◌≡◌};
 
 use arrayvec::ArrayVec;
-use sc_region::{Job, Request, Value};
+use sc_region::{Request, Value};
 
 /// The same request once more.
 pub(crate) fn copy_request(request: &Request) -> Request
@@ -17,6 +17,24 @@ pub(crate) fn copy_request(request: &Request) -> Request
     }
 }
 
+/// Makes a request the same as another one, but that it is waited for or not.
+pub(crate) fn write_request(place: &mut Request, request: &Request, is_waited: bool)
+    ensures { place.new ≡ record request.now { is_waited = is_waited } }
+{
+    place.poster = request.poster;
+    place.target = request.target;
+    place.errand = request.errand;
+    write_values(&mut place.actuals, &request.actuals);
+    place.is_waited = is_waited;
+}
+
+fn write_values(place: &mut ArrayVec<Value, 16>, values: &ArrayVec<Value, 16>)
+    ensures { place.new ≡ values.now }
+{
+    place.clear();
+    let _ = place.try_extend_from_slice(values.as_slice());
+}
+
 pub(crate) fn copy_values(values: &ArrayVec<Value, 16>) -> ArrayVec<Value, 16>
     ensures { result ≡ values.now }
 {
@@ -25,21 +43,7 @@ pub(crate) fn copy_values(values: &ArrayVec<Value, 16>) -> ArrayVec<Value, 16>
     copy
 }
 
-/// The same job once more.
-pub(crate) fn copy_job(job: &Job) -> Job
-    ensures { result ≡ job.now }
-{
-    match job {
-        Job::Take(request) => Job::Take(copy_request(request)),
-        Job::Reply(value) => Job::Reply(*value),
-        Job::Failed => Job::Failed,
-        Job::Refused => Job::Refused,
-        Job::Granted(handlers) => Job::Granted(copy_handlers(handlers)),
-        Job::Made(made) => Job::Made(*made),
-        Job::Go => Job::Go,
-    }
-}
-
+/// The same handlers once more.
 pub(crate) fn copy_handlers(handlers: &ArrayVec<u16, 16>) -> ArrayVec<u16, 16>
     ensures { result ≡ handlers.now }
 {

@@ -2,41 +2,43 @@
 ghost use Rattle.std.specs.Prelude.{◌≡◌, ℕ, List};
 ghost use Rattle.sc_waitcond.specs.declared.mark.Marked.{Marked};
 ghost use Rattle.sc_request.specs.Settling.{fits_turns, fits_first, may_take, may_take_answer, goes_on, fails_by_supplier, fails_by_precondition, is_call, is_request_of};
+ghost use Rattle.sc_request.specs.Shapes.{of_shape};
 ghost use Rattle.sc_request.specs.Tables.{stage_of};
 
+use crate::begun::Shape;
 use crate::handler::Stage;
 use crate::state::State;
 use sc_model::Cause;
-use sc_region::{Errand, Job, Request, Want};
+use sc_region::{Errand, Request, Want};
 
 /// Whether the last of so many turns under the job may ask this, where the handler stood so before them.
-pub(crate) fn fits_turns(turns: u32, stage: Stage, job: &Job, want: &Want) -> bool
-    ensures { (entry : List ℕ) (mark : List Marked) → result ≡ fits_turns turns (stage_of entry mark stage) job.now want.now }
+pub(crate) fn fits_turns(turns: u32, stage: Stage, shape: &Shape, want: &Want) -> bool
+    ensures { (entry : List ℕ) (mark : List Marked) → result ≡ fits_turns turns (stage_of entry mark stage) (of_shape shape.now) want.now }
 {
     match turns {
         0 => false,
-        1 => fits_first(stage, job, want),
-        _ => goes_on(job),
+        1 => fits_first(stage, shape, want),
+        _ => goes_on(shape),
     }
 }
 
 /// Whether the first turn under the job may ask this, where the handler stood so.
-fn fits_first(stage: Stage, job: &Job, want: &Want) -> bool
-    ensures { (entry : List ℕ) (mark : List Marked) → result ≡ fits_first (stage_of entry mark stage) job.now want.now }
+fn fits_first(stage: Stage, shape: &Shape, want: &Want) -> bool
+    ensures { (entry : List ℕ) (mark : List Marked) → result ≡ fits_first (stage_of entry mark stage) (of_shape shape.now) want.now }
 {
-    match job {
-        Job::Take(_) => may_take(want),
-        Job::Reply(_) | Job::Granted(_) => may_take_answer(want),
-        Job::Failed => fails_by_supplier(want),
-        Job::Refused => fails_by_precondition(want),
-        Job::Made(_) => match stage {
+    match shape {
+        Shape::Take => may_take(want),
+        Shape::Reply | Shape::Granted(_) => may_take_answer(want),
+        Shape::Failed => fails_by_supplier(want),
+        Shape::Refused => fails_by_precondition(want),
+        Shape::Made => match stage {
             Stage::Awaits {
                 supplier: _,
                 is_creation: _,
             } => may_take_answer(want),
             _ => true,
         },
-        Job::Go => true,
+        Shape::Go => true,
     }
 }
 
@@ -84,11 +86,11 @@ fn fails_by_precondition(want: &Want) -> bool
 }
 
 /// Whether a further turn may come under the job.
-fn goes_on(job: &Job) -> bool
-    ensures { result ≡ goes_on job.now }
+fn goes_on(shape: &Shape) -> bool
+    ensures { result ≡ goes_on (of_shape shape.now) }
 {
-    match job {
-        Job::Failed | Job::Refused => false,
+    match shape {
+        Shape::Failed | Shape::Refused => false,
         _ => true,
     }
 }

@@ -125,6 +125,9 @@ fn append<T: Copy>(items: &mut Vec<T>, more: &[T])
     ensures len { vec_len items.new ≡ vec_len items.old + length more.now }
     ensures capacity { vec_capacity items.old ≤ vec_capacity items.new }
 {
+    if more.is_empty() {
+        return;
+    }
     let _ = items.extend_from_slice(more);
 }
 

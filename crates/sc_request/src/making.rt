@@ -85,7 +85,7 @@ impl State {
         };
         self.stand(handler as usize, stage);
         let passed = self.pass_if(true, handler, made);
-        self.send(false, made, request, passed, spare);
+        self.send(false, made, &request, request.is_waited, passed, spare);
     }
 
     /// The creator goes on, and releases the new handler at once.
@@ -107,7 +107,7 @@ impl State {
         ensures version { self.new.rights.version ≡ self.old.rights.version }
     {
         self.stand(handler as usize, Stage::HasMade(made));
-        self.send(false, made, request, None, spare);
+        self.send(false, made, &request, request.is_waited, None, spare);
         self.end_sessions(&[made]);
     }
 }

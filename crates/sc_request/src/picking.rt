@@ -1,12 +1,11 @@
 //! Who goes on: handlers are picked with their jobs, and put back.
-ghost use Rattle.std.specs.Prelude.{◌≡◌, ◌≤◌, ◌+◌, ◌-◌, ◌<◌, ℕ, IfSome, Some, is_some};
+ghost use Rattle.std.specs.Prelude.{◌≡◌, ◌≤◌, ◌+◌, ◌-◌, ◌<◌, ℕ, IfSome, IsTrue, Some, is_some};
 ghost use Rattle.std.specs.Option.{option_map};
-ghost use Rattle.sc_request.specs.Candidates.{AreCandidates, comes_again};
+ghost use Rattle.sc_request.specs.Candidates.{AreCandidates, comes_again, frees_under};
 ghost use Rattle.sc_request.specs.Logs.{first_with_job, next, numbers_from, picked, picked_if, picks};
 ghost use Rattle.sc_request.specs.Logs as logs;
 
 use crate::center::Core;
-use crate::copy::copy_job;
 use crate::grants::{release_granted, reserve_granted};
 use crate::handler_set::HandlerSet;
 use crate::touching::frees_under;
@@ -16,11 +15,11 @@ impl Core {
     ghost use Rattle.sc_request.specs.Cores.{center_of, log_of};
     ghost use Rattle.sc_request.specs.Rooms.{HasRoomFor};
 
-    /// The next handler that has something to do, after the one that was picked last and round the numbers, with its
-    /// job. It is out from now on, and what its reserve step is granted is reserved.
-    pub fn pick(&mut self) -> Option<(u16, Job)>
-        ensures job { result ≡ next (center_of self.old) }
-        ensures below { IfSome result (λ p. p.0 < 512) }
+    /// The next handler that has something to do, after the one that was picked last and round the numbers. It is out
+    /// with its job from now on, and what its reserve step is granted is reserved.
+    pub fn pick(&mut self) -> Option<u16>
+        ensures handler { result ≡ option_map (λ p. p.0) (next (center_of self.old)) }
+        ensures below { IfSome result (λ handler. handler < 512) }
         ensures center { center_of self.new ≡ picks (next (center_of self.old)) (center_of self.old) }
         ensures log { log_of self.new ≡ log_of self.old }
         ensures room { (n : ℕ) → HasRoomFor (n + 1) self.old → HasRoomFor n self.new }
@@ -30,20 +29,37 @@ impl Core {
         let found = self.first_round(&mut candidates);
         self.candidates = candidates;
         let handler = found?;
-        let job = self.pick_at(handler)?;
-        Some((handler, job))
+        let _ = self.pick_at(handler);
+        Some(handler)
     }
 
-    /// Whether the handler that is out with this job is the next one again, as long as its turns ask nothing: no other
-    /// one has anything to do, and the job frees nothing that one waits to reserve.
-    pub fn comes_again(&mut self, job: &Job) -> bool
-        ensures again { result ≡ comes_again job.now (center_of self.old) }
+    /// Whether a handler that is out is the next one again, as long as its turns ask nothing: no other one has anything
+    /// to do, and its job frees nothing that one waits to reserve.
+    pub fn comes_again(&mut self, handler: u16) -> bool
+        ensures again { (job : Job) → (center_of self.old).out handler ≡ Some job → result ≡ comes_again job (center_of self.old) }
         ensures center { center_of self.new ≡ center_of self.old }
         ensures log { log_of self.new ≡ log_of self.old }
         ensures room { (n : ℕ) → HasRoomFor n self.old → HasRoomFor n self.new }
         ensures version { self.new.state.rights.version ≡ self.old.state.rights.version }
     {
-        !frees_under(job) && !self.has_next()
+        !self.frees_out(handler) && !self.has_next()
+    }
+
+    /// Whether the job that a handler is out with frees what another one may wait to reserve.
+    fn frees_out(&self, handler: u16) -> bool
+        ensures { (job : Job) → (center_of self.now).out handler ≡ Some job → result ≡ frees_under job }
+    {
+        match self.job_out(handler) {
+            Some(job) => frees_under(job),
+            None => false,
+        }
+    }
+
+    /// The job that a handler is out with.
+    pub fn job_out(&self, handler: u16) -> Option<&Job>
+        ensures { option_map (λ job. job.now) result ≡ (center_of self.now).out handler }
+    {
+        self.state.job_out(handler)
     }
 
     /// Whether there is a handler that has something to do and isn't out.
@@ -60,19 +76,21 @@ impl Core {
         found.is_some()
     }
 
-    /// What this handler has to do, where it has something and isn't out. It is out from now on, and what its reserve
+    /// Whether this handler has something to do and isn't out. It is out with that from now on, and what its reserve
     /// step is granted is reserved.
-    pub fn pick_at(&mut self, handler: u16) -> Option<Job>
-        ensures job { result ≡ logs.pick_for handler (center_of self.old) }
-        ensures below { IfSome result (λ job. handler < 512) }
+    pub fn pick_at(&mut self, handler: u16) -> bool
+        ensures picked { result ≡ is_some (logs.pick_for handler (center_of self.old)) }
+        ensures below { IsTrue result → handler < 512 }
         ensures center { center_of self.new ≡ picked_if handler (logs.pick_for handler (center_of self.old)) (center_of self.old) }
         ensures log { log_of self.new ≡ log_of self.old }
         ensures room { (n : ℕ) → HasRoomFor (n + 1) self.old → HasRoomFor n self.new }
         ensures version { self.new.state.rights.version ≡ self.old.state.rights.version }
     {
-        let job = self.pick_for(handler)?;
-        self.send_out(handler, copy_job(&job));
-        Some(job)
+        let Some(job) = self.pick_for(handler) else {
+            return false;
+        };
+        self.send_out(handler, job);
+        true
     }
 
     /// Undoes the pick of a handler that is out. It is still the one that was picked last, where it was.

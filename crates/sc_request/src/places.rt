@@ -5,14 +5,16 @@ ghost use Rattle.sc_request.specs.Handlers.{Reserves, new_handler, put, with_sta
 ghost use Rattle.sc_request.specs.Places.{outs_of, plain};
 ghost use Rattle.sc_request.specs.Sessions.{answered, fallen, placed, to_list};
 ghost use Rattle.sc_request.specs.Settling.{reserves, takes, takes_answer};
-ghost use Rattle.sc_request.specs.Tables.{answer_of, posting_of, stage_of};
+ghost use Rattle.sc_request.specs.Tables.{answer_of, posting_of, sent, stage_of};
 
 use crate::changes::Dropped;
 use crate::copy::copy_handlers;
 use crate::handler::{Answer, Posting, Stage};
 use crate::state::State;
 use arrayvec::ArrayVec;
+use sc_lockpass::Passed;
 use sc_model::Cause;
+use sc_region::Request;
 use sc_waitcond::Mark;
 use std::collections::LinkedList;
 
@@ -96,17 +98,19 @@ impl State {
         handler: usize,
         is_callback: bool,
         node: LinkedList<Posting>,
-        posting: Posting,
+        request: &Request,
+        is_waited: bool,
+        passed: Option<Passed>,
     )
         requires there { handler < 512 }
         requires node { length node ≡ 1 }
         requires room { is_callback ≡ false → length ((plain self.old).handlers handler).queue + 1 < 2 ^ 63 }
-        ensures plain { plain self.new ≡ put handler (placed is_callback (posting_of posting) ((plain self.old).handlers handler)) (plain self.old) }
+        ensures plain { plain self.new ≡ put handler (placed is_callback (posting_of (sent request.now is_waited passed)) ((plain self.old).handlers handler)) (plain self.old) }
         ensures outs { outs_of self.new ≡ outs_of self.old }
         ensures rights { self.new.rights ≡ self.old.rights }
         ensures sessions { self.new.sessions ≡ self.old.sessions }
     {
-        self.handlers[handler].place(is_callback, node, posting);
+        self.handlers[handler].place(is_callback, node, request, is_waited, passed);
     }
 
     /// The handler has no frames and nothing that it is asked for, as it fails.

@@ -1,8 +1,11 @@
 //! Lists of requests. Nodes go from one list to another, and no memory is taken.
 ghost use Rattle.std.specs.Prelude.{◌≡◌, ◌<◌, ◌+◌, ◌^◌, ◌∷◌, ◌++◌, [], drop, take, length};
-ghost use Rattle.sc_request.specs.Tables.{over_first};
+ghost use Rattle.sc_request.specs.Tables.{over_first, sent};
 
+use crate::copy::write_request;
 use crate::handler::{Posting, Stage};
+use sc_lockpass::Passed;
+use sc_region::Request;
 use std::alloc::Global;
 use std::collections::LinkedList;
 use std::mem::replace;
@@ -29,13 +32,20 @@ pub(crate) fn append(list: &mut LinkedList<Posting>, others: &mut LinkedList<Pos
     }
 }
 
-/// Writes a request into the first node of a list.
-pub(crate) fn write_first(list: &mut LinkedList<Posting>, posting: Posting)
+/// Writes a request that is sent into the first node of a list.
+pub(crate) fn write_first(
+    list: &mut LinkedList<Posting>,
+    request: &Request,
+    is_waited: bool,
+    passed: Option<Passed>,
+)
     requires { 0 < length list.old }
-    ensures { list.new ≡ posting ∷ drop 1 list.old }
+    ensures { list.new ≡ sent request.now is_waited passed ∷ drop 1 list.old }
 {
     if let Some(first) = list.front_mut() {
-        *first = posting;
+        write_request(&mut first.request, request, is_waited);
+        first.passed = passed;
+        first.over = Stage::Idle;
     }
 }
 

@@ -11,7 +11,6 @@ ghost use Rattle.sc_request.specs.Sessions.{is_callback, passed_if, send};
 ghost use Rattle.sc_request.specs.Settling.{asks, awaits_if, sends};
 ghost use Rattle.sc_request.specs.Sound.{IsSound};
 
-use crate::copy::copy_request;
 use crate::failing::holds;
 use crate::handler::{Posting, Stage};
 use crate::postings::take_first;
@@ -78,8 +77,7 @@ impl State {
         let is_callback = self.is_callback(handler, target);
         self.await_if(is_waited, handler, target);
         let passed = self.pass_if(passes, handler, target);
-        let request = with_waited(request, is_waited);
-        self.send(is_callback, target, request, passed, spare);
+        self.send(is_callback, target, request, is_waited, passed, spare);
     }
 
     /// Whether a handler may push on the waiting stack of another one.
@@ -139,39 +137,33 @@ impl State {
         }
     }
 
-    /// A request stands as the callback of its target, or at the end of the queue.
+    /// A request, which is waited for or not, stands as the callback of its target, or at the end of the queue.
     pub(crate) fn send(
         &mut self,
         is_callback: bool,
         target: u16,
-        request: Request,
+        request: &Request,
+        is_waited: bool,
         passed: Option<Passed>,
         spare: &mut LinkedList<Posting>,
     )
         requires there { target < 512 }
         requires spare { 1 ≤ length spare.old }
         requires room { is_callback ≡ false → length ((plain self.old).handlers target).queue < max_queue }
-        ensures plain { plain self.new ≡ send is_callback target (posted request (option_map passed_of passed)) (plain self.old) }
+        ensures plain { plain self.new ≡ send is_callback target (posted (record request.now { is_waited = is_waited }) (option_map passed_of passed)) (plain self.old) }
         ensures places { length spare.old ≤ length spare.new + 1 }
         ensures outs { outs_of self.new ≡ outs_of self.old }
         ensures rights { self.new.rights ≡ self.old.rights }
         ensures sessions { self.new.sessions ≡ self.old.sessions }
     {
-        let posting = Posting {
-            request,
-            passed,
-            over: Stage::Idle,
-        };
         let node = take_first(spare);
-        self.place_at(target as usize, is_callback, node, posting);
+        self.place_at(
+            target as usize,
+            is_callback,
+            node,
+            request,
+            is_waited,
+            passed,
+        );
     }
-}
-
-/// The same request once more, which is waited for or not.
-fn with_waited(request: &Request, is_waited: bool) -> Request
-    ensures { result ≡ record request.now { is_waited = is_waited } }
-{
-    let mut copy = copy_request(request);
-    copy.is_waited = is_waited;
-    copy
 }

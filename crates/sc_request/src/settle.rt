@@ -1,83 +1,82 @@
 //! What a handler's turns came to is settled.
-ghost use Rattle.std.specs.Prelude.{◌≡◌, ◌++◌, ◌∷◌, ◌+◌, ◌<◌, ◌≤◌, ◌-◌, ◌^◌, ℕ, [], Some, IfErr, OnErr, OnOk, false, is_some, length, not};
+ghost use Rattle.std.specs.Prelude.{◌≡◌, ◌++◌, ◌∷◌, ◌+◌, ◌<◌, ◌≤◌, ◌-◌, ◌^◌, ℕ, [], Some, OnErr, OnOk, false, is_some, length, not, true};
 ghost use Rattle.std.specs.List.{All};
+ghost use Rattle.std.specs.Option.{option_map};
 ghost use Rattle.sc_lockpass.specs.Versions.{most_handlers};
 ghost use Rattle.sc_request.specs.Candidates.{granted_items};
 ghost use Rattle.sc_request.specs.Logged.{HasPlaces};
 ghost use Rattle.sc_request.specs.Logs.{settles};
 ghost use Rattle.sc_request.specs.Places.{outs_of, plain};
-ghost use Rattle.sc_request.specs.Rooms.{HasRoomFor, is_not_out, is_short, outcome_of, settlement};
+ghost use Rattle.sc_request.specs.Rooms.{HasRoomFor, is_not_out, is_short, settlement};
 ghost use Rattle.sc_request.specs.Settling.{asked_in, settled};
 ghost use Rattle.sc_request.specs.Sound.{IsSound};
+ghost use Rattle.sc_request.specs.Shapes.{of_shape};
 
+use crate::begun::{Shape, shape_of};
 use crate::center::Core;
-use crate::copy::copy_job;
 use crate::fits::fits_turns;
 use crate::handler::Posting;
 use crate::settlement::SettleFault;
 use crate::state::State;
 use crate::touching::frees;
 use sc_model::Cause;
-use sc_region::{Job, Outcome, Want};
+use sc_region::{Job, Want};
 use std::collections::LinkedList;
 
 impl Core {
     ghost use Rattle.sc_request.specs.Cores.{center_of, log_of};
 
-    /// Settles what the turns of a handler that is out came to. It isn't out from then on. An outcome that fits no case
-    /// for the job that was picked fails its handler: by F13 where it posts to a handler that isn't held, else by F16.
+    /// Settles so many turns of a handler that is out, the last of which asks this. It isn't out from then on. What fits
+    /// no case for the job that was picked fails its handler: by F13 where it posts to a handler that isn't held, else by
+    /// F16.
     ///
-    /// S1 where the handler isn't out, and S9 where there is no memory. The fault has the outcome, and nothing has
-    /// changed. S9 doesn't come where there is room for a settlement.
-    pub fn settle(&mut self, outcome: Outcome) -> Result<(), SettleFault>
-        ensures center { OnOk result ((job : Job) → (center_of self.old).out outcome.handler ≡ Some job → center_of self.new ≡ settles (most_handlers self.old.state.rights.version) outcome.handler job outcome.turns outcome.want (center_of self.old)) }
-        ensures log { OnOk result ((job : Job) → (center_of self.old).out outcome.handler ≡ Some job → log_of self.new ≡ log_of self.old ++ settlement job outcome ∷ []) }
-        ensures not_out { is_not_out result ≡ not (is_some ((center_of self.old).out outcome.handler)) }
+    /// S1 where the handler isn't out, and S9 where there is no memory. Nothing has changed then. S9 doesn't come where
+    /// there is room for a settlement.
+    pub fn settle(&mut self, handler: u16, turns: u32, want: &Want) -> Result<(), SettleFault>
+        ensures center { OnOk result ((job : Job) → (center_of self.old).out handler ≡ Some job → center_of self.new ≡ settles (most_handlers self.old.state.rights.version) handler job turns want.now (center_of self.old)) }
+        ensures log { OnOk result ((job : Job) → (center_of self.old).out handler ≡ Some job → log_of self.new ≡ log_of self.old ++ settlement handler job turns want.now ∷ []) }
+        ensures not_out { is_not_out result ≡ not (is_some ((center_of self.old).out handler)) }
         ensures short { HasRoomFor 0 self.old → is_short result ≡ false }
-        ensures handed_back { IfErr result (λ fault. outcome_of fault ≡ outcome) }
         ensures unchanged { OnErr result ((center_of self.new ≡ center_of self.old) × (log_of self.new ≡ log_of self.old)) }
         ensures room { (n : ℕ) → HasRoomFor n self.old → HasRoomFor n self.new }
         ensures version { self.new.state.rights.version ≡ self.old.state.rights.version }
     {
-        let Some(job) = self.job_out(outcome.handler) else {
-            return Err(SettleFault::NotOut(outcome));
-        };
-        if self.make_room_for_one().is_err() {
-            return Err(SettleFault::OutOfMemory(outcome));
+        if !self.is_out(handler) {
+            return Err(SettleFault::NotOut);
         }
-        self.settle_under(job, outcome);
+        if self.make_room_for_one().is_err() {
+            return Err(SettleFault::OutOfMemory);
+        }
+        self.settle_out(handler, turns, want);
         Ok(())
     }
 
-    /// The job that a handler is out with.
-    fn job_out(&self, handler: u16) -> Option<Job>
-        ensures { result ≡ (center_of self.now).out handler }
+    /// Whether a handler is out.
+    fn is_out(&self, handler: u16) -> bool
+        ensures { result ≡ is_some ((center_of self.now).out handler) }
     {
-        match &self.state.handlers.get(handler as usize)?.out {
-            Some(job) => Some(copy_job(job)),
-            None => None,
-        }
+        self.state.job_out(handler).is_some()
     }
 
-    /// Settles the outcome of a handler that is out with this job, where there is room.
-    fn settle_under(&mut self, job: Job, outcome: Outcome)
-        requires out { (center_of self.old).out outcome.handler ≡ Some job }
+    /// Settles so many turns of a handler that is out, where there is room.
+    fn settle_out(&mut self, handler: u16, turns: u32, want: &Want)
+        requires out { is_some ((center_of self.old).out handler) ≡ true }
         requires places { 1 ≤ length self.old.spare }
         requires entries { HasPlaces 1 self.old.log }
-        ensures center { center_of self.new ≡ settles (most_handlers self.old.state.rights.version) outcome.handler job outcome.turns outcome.want (center_of self.old) }
-        ensures log { log_of self.new ≡ log_of self.old ++ settlement job outcome ∷ [] }
+        ensures center { (job : Job) → (center_of self.old).out handler ≡ Some job → center_of self.new ≡ settles (most_handlers self.old.state.rights.version) handler job turns want.now (center_of self.old) }
+        ensures log { (job : Job) → (center_of self.old).out handler ≡ Some job → log_of self.new ≡ log_of self.old ++ settlement handler job turns want.now ∷ [] }
         ensures room { (n : ℕ) → HasRoomFor n self.old → HasRoomFor n self.new }
         ensures version { self.new.state.rights.version ≡ self.old.state.rights.version }
     {
-        let Outcome {
-            handler,
-            turns,
-            want,
-        } = outcome;
-        let is_freeing = frees(&job, &want);
-        self.state.touch(handler, &want, &mut self.candidates);
+        let Some(job) = self.state.job_out(handler) else {
+            unreachable!();
+        };
+        let shape = shape_of(job);
+        let is_freeing = frees(job, want);
+        self.log.push(handler, job, turns, want);
+        self.state.touch(handler, want, &mut self.candidates);
         self.state
-            .settle(handler, &job, turns, &want, &mut self.spare);
+            .settle(handler, &shape, turns, want, &mut self.spare);
         self.state.wake(
             handler,
             is_freeing,
@@ -86,33 +85,42 @@ impl Core {
         );
         self.state.handlers[handler as usize].out = None;
         self.outs -= 1;
-        self.log.push(handler, &job, turns, &want);
     }
 }
 
 impl State {
-    /// So many turns of a handler under a job, the last of which asks this. A request that is sent takes one of these
-    /// places.
+    /// The job that a handler is out with.
+    pub(crate) fn job_out(&self, handler: u16) -> Option<&Job>
+        ensures { option_map (λ job. job.now) result ≡ outs_of self.now handler }
+    {
+        match &self.handlers.get(handler as usize)?.out {
+            Some(job) => Some(job),
+            None => None,
+        }
+    }
+
+    /// So many turns of a handler under a job of this shape, the last of which asks this. A request that is sent takes
+    /// one of these places.
     fn settle(
         &mut self,
         handler: u16,
-        job: &Job,
+        shape: &Shape,
         turns: u32,
         want: &Want,
         spare: &mut LinkedList<Posting>,
     )
         requires there { handler < most_handlers self.old.rights.version }
         requires place { 1 ≤ length spare.old }
-        requires granted { All (λ k. k < most_handlers self.old.rights.version) (granted_items job.now) }
+        requires granted { All (λ k. k < most_handlers self.old.rights.version) (granted_items (of_shape shape.now)) }
         requires sound { IsSound (2 ^ 64 - 4) (2 ^ 63 - 2) (plain self.old) }
-        ensures plain { plain self.new ≡ settled (most_handlers self.old.rights.version) handler job.now turns want.now (plain self.old) }
+        ensures plain { plain self.new ≡ settled (most_handlers self.old.rights.version) handler (of_shape shape.now) turns want.now (plain self.old) }
         ensures outs { outs_of self.new ≡ outs_of self.old }
         ensures version { self.new.rights.version ≡ self.old.rights.version }
         ensures places { length spare.old ≤ length spare.new + 1 }
     {
         let stage = self.handlers[handler as usize].stage;
-        let fits = fits_turns(turns, stage, job, want);
-        self.begin(handler, job);
+        let fits = fits_turns(turns, stage, shape, want);
+        self.begin(handler, shape);
         self.ask_in(handler, fits, want, spare);
     }
 

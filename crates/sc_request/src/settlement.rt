@@ -1,6 +1,6 @@
 //! Settlements.
 
-use sc_region::{Job, Outcome, Want};
+use sc_region::{Job, Want};
 
 /// What a handler's turns under a job came to. It takes 640 bytes, and no memory beside.
 #[derive(Drop)]
@@ -14,11 +14,11 @@ pub struct Settlement {
     pub want: Want,
 }
 
-/// Why an outcome isn't settled. It has the outcome, which is as it was.
-#[derive(Drop)]
+/// Why turns aren't settled.
+#[derive(Clone, Copy, Debug, PartialEq, Eq)]
 pub enum SettleFault {
     /// S1: its handler isn't out.
-    NotOut(Outcome),
+    NotOut,
     /// S9: there is no memory for the settlement.
-    OutOfMemory(Outcome),
+    OutOfMemory,
 }

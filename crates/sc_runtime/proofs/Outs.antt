@@ -1,6 +1,7 @@
 -- Who is out.
-use Rattle.std.proofs.Common.{◌≡◌, ◌⊎◌, inl, inr, ℕ, List, Bool, true, false, Option, Some, None, Result, Ok, Err, OnErr, slice_get, slice_set, refl, ap, sym, subst, ◌∙◌, arith}
-use Rattle.std.specs.Prelude.{◌==◌, if◌then◌else◌}
+use Rattle.std.proofs.Common.{Bor, ◌≡◌, ◌⊎◌, inl, inr, ℕ, List, Bool, true, false, Option, Some, None, Result, Ok, Err, IfOk, OnErr, slice_get, slice_set, refl, ap, sym, subst, ◌∙◌, arith}
+use Rattle.std.specs.Prelude.{◌==◌, if◌then◌else◌, is_some}
+use Rattle.std.specs.Option.{option_map}
 use Rattle.sc_region.specs.declared.job.Job.{Job}
 use Rattle.sc_request.specs.Logs.{Center, pick_for, picked, picked_if, settles}
 use Rattle.sc_runtime.specs.Turning.{IsTurn, TurnsUnder, IsRefusedTurn, HeldUpUnder, IsHeldUp, Makes, PutsBack, Settles, turned_by}
@@ -76,3 +77,42 @@ held-up h j m n c b d rs x y stands kept out back =
 pub on-err : {T E : Type 0} (r : Result T E) (P : Type 0) → P → OnErr r P
 on-err (Ok t) P p = tt
 on-err (Err e) P p = p
+
+-- ---- the job that a handler is out with
+
+pub some-of : (o : Option Job) → is_some o ≡ true → (j : Job) × (o ≡ Some j)
+some-of None e = cc
+some-of (Some j) e = (j, refl)
+
+pub none-job : (o : Option Job) → is_some o ≡ false → None ≡ o
+none-job None e = refl
+none-job (Some j) e = cc
+
+same-some : (h k : ℕ) → Some h ≡ Some k → h ≡ k
+same-some h k e = cc
+
+-- the one that is next has a job
+pub next-of : (h : ℕ) (o : Option (ℕ × Job)) → Some h ≡ option_map (λ (p : ℕ × Job). p.0) o → (j : Job) × (o ≡ Some (h, j))
+next-of h None e = cc
+next-of h (Some (k, j)) e = (j, ap (λ (k : ℕ). Some (k, j)) (sym (same-some h k e)))
+
+pub none-of : (o : Option (ℕ × Job)) → None ≡ option_map (λ (p : ℕ × Job). p.0) o → None ≡ o
+none-of None e = refl
+none-of (Some p) e = cc
+
+-- what holds of each job that a handler is out with holds of this one
+pub ok-at : {T E : Type 0} (r : Result T E) (o : Option Job) (P : T → Job → Type 0) (j : Job) → o ≡ Some j →
+    IfOk r (λ t. (i : Job) → o ≡ Some i → P t i) → IfOk r (λ t. P t j)
+ok-at (Ok t) o P j e p = p j e
+ok-at (Err x) o P j e p = tt
+
+pub err-at : {T E : Type 0} (r : Result T E) (o : Option Job) (P : Job → Type 0) (j : Job) → o ≡ Some j →
+    OnErr r ((i : Job) → o ≡ Some i → P i) → OnErr r (P j)
+err-at (Ok t) o P j e p = tt
+err-at (Err x) o P j e p = p j e
+
+pub job-is : (o : Option Job) (r : Option (Bor Job)) (x : Bor Job) → option_map (λ (x : Bor Job). x.now) r ≡ o → r ≡ Some x → o ≡ Some x.now
+job-is o r x e is = sym e ∙ ap (λ (r : Option (Bor Job)). option_map (λ (x : Bor Job). x.now) r) is
+
+pub one-job : (i j : Job) → Some i ≡ Some j → i ≡ j
+one-job i j e = cc

@@ -1,5 +1,5 @@
 -- Turns of the handlers round and round.
-use Rattle.std.proofs.Common.{◌≡◌, ◌<◌, ◌≤◌, inl, inr, ◌-◌, ℕ, Bool, true, false, IsTrue, List, Option, Some, None, slice_get, slice_set, refl, ap, sym, subst, ◌∙◌, arith}
+use Rattle.std.proofs.Common.{◌≡◌, ◌<◌, ◌≤◌, inl, inr, ◌-◌, ℕ, Bool, true, false, IsTrue, List, Option, Some, None, Result, Ok, Err, IfOk, OnErr, slice_get, slice_set, refl, ap, sym, subst, ◌∙◌, arith}
 use Rattle.std.proofs.lemmas.Bool.{ltb-false, ltb-true}
 use Rattle.std.specs.Prelude.{nat_lt, if◌then◌else◌}
 use Rattle.sc_region.specs.declared.job.Job.{Job}
@@ -7,8 +7,8 @@ use Rattle.sc_region.specs.declared.job.Want.{Want}
 use Rattle.sc_region.specs.declared.job.Want.TheVariants as want
 use Rattle.sc_request.specs.Logs.{Center, next, picked}
 use Rattle.sc_play.specs.Regions.{PlainRegion}
-use Rattle.sc_runtime.specs.Rounds.{AreCutShort, EndsRounds, IsRefusedNext, MakesAll, MakesSome, Played, Rounds, StopsNext, TurnsOfNext, turns_of_picked}
-use Rattle.sc_runtime.specs.Turning.{IsHeldUp, Makes}
+use Rattle.sc_runtime.specs.Rounds.{AreCutShort, EndsRounds, IsRefusedNext, MakesAll, MakesSome, Played, Rounds, StopsNext, TurnsOfNext, turns_at_once, turns_of_picked}
+use Rattle.sc_runtime.specs.Turning.{IsHeldUp, Makes, PutsBack}
 use Rattle.sc_runtime.specs.Worlds.{PlainWorld}
 
 -- ---- the next handler's turns
@@ -87,3 +87,18 @@ ends-idle limit left turns x y z zero rounds some turned =
     let idle = idle-next (next y.center) left y z (subst (λ (n : ℕ). TurnsOfNext (next y.center) left n y z) zero turned) in
     let more = rounds-more (next y.center) limit left turns x y z refl rounds some turned in
     record { left = left - turns; rounds = more; ends = inr (ap (λ (w : PlainWorld). next w.center) idle.0 ∙ idle.1) }
+
+-- ---- what is played as many turns as there may be at once
+
+pub played-on : {E : Type 0} (r : Result (ℕ × Bool) E) (h left limit m m' : ℕ) (c b d : Center) (x y : PlainRegion) → b ≡ c → m' ≡ m →
+    ((j : Job) → c.out h ≡ Some j → limit ≡ turns_at_once left j c) → IfOk r (λ p. (j : Job) → b.out h ≡ Some j → Played limit h j p.0 m' b d x y p.1) →
+    IfOk r (λ p. (j : Job) → c.out h ≡ Some j → Played (turns_at_once left j c) h j p.0 m c d x y p.1)
+played-on (Ok p) h left limit m m' c b d x y same kept many played = λ j is.
+    subst (λ (z : Center). Played (turns_at_once left j c) h j p.0 m z d x y p.1) same
+    (subst (λ (n : ℕ). Played (turns_at_once left j c) h j p.0 n b d x y p.1) kept
+    (subst (λ (n : ℕ). Played n h j p.0 m' b d x y p.1) (many j is) (played j (ap (λ (z : Center). z.out h) same ∙ is))))
+played-on (Err e) h left limit m m' c b d x y same kept many played = tt
+
+pub back-on : {T E : Type 0} (r : Result T E) (h : ℕ) (c b d : Center) (x y : PlainRegion) → b ≡ c →
+    OnErr r ((j : Job) → b.out h ≡ Some j → PutsBack h j b d x y) → OnErr r ((j : Job) → c.out h ≡ Some j → PutsBack h j c d x y)
+back-on r h c b d x y same back = subst (λ (z : Center). OnErr r ((j : Job) → z.out h ≡ Some j → PutsBack h j z d x y)) same back

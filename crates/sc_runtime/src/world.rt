@@ -1,5 +1,5 @@
 //! The world, and its turns.
-ghost use Rattle.std.specs.Prelude.{◌≡◌, ◌≤◌, ◌↔◌, ℕ, IfOk, IsTrue, OnErr, OnOk, Some, length, replicate, vec_len};
+ghost use Rattle.std.specs.Prelude.{◌≡◌, ◌≤◌, ◌↔◌, ℕ, IfOk, IsTrue, OnErr, OnOk, Some, length, is_some, replicate, true, vec_len};
 ghost use Rattle.sc_free.proofs.Props.{linked_prop};
 ghost use Rattle.sc_free.specs.Free.{AreLinked};
 ghost use Rattle.sc_lockpass.specs.Versions.{most_handlers};
@@ -81,13 +81,12 @@ impl<'p> World<'p> {
         ensures err { OnErr result (IsRefusedTurn handler (world_of self.old) (world_of self.new)) }
     {
         self.core.make_room()?;
-        match self.core.pick_at(handler) {
-            Some(job) => {
-                let region = &mut self.regions[handler as usize];
-                play(&mut self.core, region, handler, &job, 1)?;
-                Ok(Turned::Moved)
-            }
-            None => Ok(Turned::Nothing),
+        if self.core.pick_at(handler) {
+            let region = &mut self.regions[handler as usize];
+            play(&mut self.core, region, handler, 1)?;
+            Ok(Turned::Moved)
+        } else {
+            Ok(Turned::Nothing)
         }
     }
 
@@ -168,9 +167,9 @@ impl<'p> World<'p> {
     {
         self.core.make_room()?;
         match self.core.pick() {
-            Some((handler, job)) => {
+            Some(handler) => {
                 let region = &mut self.regions[handler as usize];
-                let (turns, cut_short) = play_on(&mut self.core, region, handler, &job, left)?;
+                let (turns, cut_short) = play_on(&mut self.core, region, handler, left)?;
                 if cut_short {
                     return Err(AllocError);
                 }
@@ -278,16 +277,16 @@ fn regions<'p>(alloc: Global, program: &'p Program) -> Result<Vec<Region<'p>>, A
     Ok(regions)
 }
 
-/// How many turns the handler that is out with this job may make at once, of so many that are left: all where it is the
-/// next one again as long as they ask nothing.
-fn turns_at_once(core: &mut Core, job: &Job, left: u32) -> u32
-    ensures turns { result ≡ turns_at_once left job.now (center_of core.old) }
+/// How many turns a handler that is out may make at once, of so many that are left: all where it is the next one again as
+/// long as they ask nothing.
+fn turns_at_once(core: &mut Core, handler: u16, left: u32) -> u32
+    ensures turns { (job : Job) → (center_of core.old).out handler ≡ Some job → result ≡ turns_at_once left job (center_of core.old) }
     ensures center { center_of core.new ≡ center_of core.old }
     ensures log { log_of core.new ≡ log_of core.old }
     ensures room { (n : ℕ) → HasRoomFor n core.old → HasRoomFor n core.new }
     ensures version { core.new.state.rights.version ≡ core.old.state.rights.version }
 {
-    if core.comes_again(job) { left } else { 1 }
+    if core.comes_again(handler) { left } else { 1 }
 }
 
 /// Whether the turns that a handler made under its job were cut short: the last asks nothing, and there might be more.
@@ -297,52 +296,52 @@ fn are_cut_short(limit: u32, turns: u32, asked: &Want) -> bool
     turns < limit && matches!(asked, Want::Continue)
 }
 
-/// The handler, which is out with this job, plays at most so many turns under it, and is settled: how many it played, and
-/// whether memory was refused to the next. Err where it was refused to the first: the handler is put back.
+/// The handler, which is out, plays at most so many turns under its job, and is settled: how many it played, and whether
+/// memory was refused to the next. Err where it was refused to the first: the handler is put back.
 fn play(
     core: &mut Core,
     region: &mut Region<'_>,
     handler: u16,
-    job: &Job,
     limit: u32,
 ) -> Result<(u32, bool), AllocError>
     requires some { 1 ≤ limit }
-    requires out { (center_of core.old).out handler ≡ Some job.now }
+    requires out { is_some ((center_of core.old).out handler) ≡ true }
     requires room { HasRoomFor 0 core.old }
-    ensures ok { IfOk result (λ played.
-        Played limit handler job.now played.0 (most_handlers core.old.state.rights.version) (center_of core.old) (center_of core.new) region.old region.new played.1) }
-    ensures err { OnErr result (PutsBack handler job.now (center_of core.old) (center_of core.new) region.old region.new) }
+    ensures ok { IfOk result (λ played. (job : Job) → (center_of core.old).out handler ≡ Some job →
+        Played limit handler job played.0 (most_handlers core.old.state.rights.version) (center_of core.old) (center_of core.new) region.old region.new played.1) }
+    ensures err { OnErr result ((job : Job) → (center_of core.old).out handler ≡ Some job → PutsBack handler job (center_of core.old) (center_of core.new) region.old region.new) }
     ensures version { core.new.state.rights.version ≡ core.old.state.rights.version }
 {
-    let Ok(mut outcome) = region.play(job, limit) else {
+    let Some(job) = core.job_out(handler) else {
+        unreachable!();
+    };
+    let mut asked = Want::Continue;
+    let Ok(turns) = region.play_asking(job, limit, &mut asked) else {
         core.put_back(handler);
         return Err(AllocError);
     };
-    outcome.handler = handler;
-    let turns = outcome.turns;
-    let cut_short = are_cut_short(limit, turns, &outcome.want);
-    if core.settle(outcome).is_err() {
+    let cut_short = are_cut_short(limit, turns, &asked);
+    if core.settle(handler, turns, &asked).is_err() {
         unreachable!();
     }
     Ok((turns, cut_short))
 }
 
-/// The handler plays as many turns under its job as it may make at once, of so many that are left.
+/// The handler, which is out, plays as many turns under its job as it may make at once, of so many that are left.
 fn play_on(
     core: &mut Core,
     region: &mut Region<'_>,
     handler: u16,
-    job: &Job,
     left: u32,
 ) -> Result<(u32, bool), AllocError>
     requires some { 1 ≤ left }
-    requires out { (center_of core.old).out handler ≡ Some job.now }
+    requires out { is_some ((center_of core.old).out handler) ≡ true }
     requires room { HasRoomFor 0 core.old }
-    ensures ok { IfOk result (λ played.
-        Played (turns_at_once left job.now (center_of core.old)) handler job.now played.0 (most_handlers core.old.state.rights.version) (center_of core.old) (center_of core.new) region.old region.new played.1) }
-    ensures err { OnErr result (PutsBack handler job.now (center_of core.old) (center_of core.new) region.old region.new) }
+    ensures ok { IfOk result (λ played. (job : Job) → (center_of core.old).out handler ≡ Some job →
+        Played (turns_at_once left job (center_of core.old)) handler job played.0 (most_handlers core.old.state.rights.version) (center_of core.old) (center_of core.new) region.old region.new played.1) }
+    ensures err { OnErr result ((job : Job) → (center_of core.old).out handler ≡ Some job → PutsBack handler job (center_of core.old) (center_of core.new) region.old region.new) }
     ensures version { core.new.state.rights.version ≡ core.old.state.rights.version }
 {
-    let limit = turns_at_once(core, job, left);
-    play(core, region, handler, job, limit)
+    let limit = turns_at_once(core, handler, left);
+    play(core, region, handler, limit)
 }

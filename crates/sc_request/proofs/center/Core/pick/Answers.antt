@@ -1,34 +1,22 @@
-use Rattle.std.proofs.Common.{◌∙◌, Option, ap, sym}
+use Rattle.std.proofs.Common.{◌≡◌, ◌∙◌, ℕ, Option, Some, None, ap, sym, refl}
+use Rattle.std.specs.Option.{option_map}
 use Rattle.sc_region.specs.declared.job.Job.{Job}
 use Rattle.sc_request.specs.Cores.{center_of}
-use Rattle.sc_request.specs.Logs.{picked_if, picks}
-use Rattle.sc_request.proofs.Rounds.{never_none, next_is}
+use Rattle.sc_request.specs.Logs.{Center, next, pick_for, picked_if, picks}
+use Rattle.sc_request.proofs.Rounds.{next_has, picks_next}
 use Rattle.sc_request.proofs.center.Core.pick.Goals as goal
-
-pub returns-clause-job : goal.returns-clause-job
-returns-clause-job c =
-    next_is (center_of c.args.self.now) c.in_ok-handler.handler c.in_ok-job.job c.in_ok-handler.ensures.found (sym c.in_ok-job.ensures.job)
 
 pub returns-clause-center : goal.returns-clause-center
 returns-clause-center c =
     let s = center_of c.args.self.now in
     let h = c.in_ok-handler.handler in
-    let j = c.in_ok-job.job in
-    c.in_ok-job.ensures.center
-    ∙ ap (λ (o : Option Job). picked_if h o s) (sym c.in_ok-job.ensures.job)
-    ∙ ap (λ o. picks o s) (next_is s h j c.in_ok-handler.ensures.found (sym c.in_ok-job.ensures.job))
+    c.pick_at.ensures.center ∙ picks_next s h (pick_for h s) refl c.in_ok-handler.ensures.found
+
+pub returns-clause-below : goal.returns-clause-below
+returns-clause-below c =
+    let s = center_of c.args.self.now in
+    let h = c.in_ok-handler.handler in
+    c.pick_at.ensures.below (c.pick_at.ensures.picked ∙ next_has s h (pick_for h s) refl c.in_ok-handler.ensures.found)
 
 pub returns-clause-room : goal.returns-clause-room
-returns-clause-room c = λ n r. c.in_ok-job.ensures.room n (record { places = r.places; entries = r.entries; actuals = r.actuals; handlers = r.handlers })
-
-pub returns-in_err-job-clause-job : goal.returns-in_err-job-clause-job
-returns-in_err-job-clause-job c =
-    absurd (never_none (center_of c.args.self.now) c.in_ok-handler.handler c.in_ok-handler.ensures.found (sym c.pick_at.ensures.job ∙ c.in_err-job.was))
-
-pub returns-in_err-job-clause-center : goal.returns-in_err-job-clause-center
-returns-in_err-job-clause-center c =
-    absurd (never_none (center_of c.args.self.now) c.in_ok-handler.handler c.in_ok-handler.ensures.found (sym c.pick_at.ensures.job ∙ c.in_err-job.was))
-
-pub returns-in_err-job-clause-room : goal.returns-in_err-job-clause-room
-returns-in_err-job-clause-room c = λ n r.
-    absurd (never_none (center_of c.args.self.now) c.in_ok-handler.handler c.in_ok-handler.ensures.found (sym c.pick_at.ensures.job ∙ c.in_err-job.was))
+returns-clause-room c = λ n r. c.pick_at.ensures.room n (record { places = r.places; entries = r.entries; actuals = r.actuals; handlers = r.handlers })

@@ -23,4 +23,4 @@ returns-clause-plain c =
     let k = c.args.request.now.target.handler in
     let s = plain c.args.self.now in
     sent_by c.args.is_waited c.args.passes _ h k c.args.request.now _ s (plain c.await_if.new.self) (plain c.pass_if-passed.new.self) (plain c.send.new.self) _
-    c.is_callback-is_callback.ensures c.with_waited-request.ensures c.await_if.ensures.plain c.pass_if-passed.ensures.plain c.pass_if-passed.ensures.passed c.send.ensures.plain
+    c.is_callback-is_callback.ensures refl c.await_if.ensures.plain c.pass_if-passed.ensures.plain c.pass_if-passed.ensures.passed c.send.ensures.plain
