@@ -98,7 +98,7 @@ impl<'r> Rerun<'r> {
         let there = locate(self.tables, point.routine, point.place)?;
         let is_behind = match cause {
             Cause::StackFull => true,
-            Cause::TooManyObjects => there.site.kind != Kind::Creation,
+            Cause::TooManyObjects => !matches!(there.site.kind, Kind::Creation),
             _ => failed_behind(last),
         };
         if is_behind && point.place > 0 {

@@ -1,37 +1,10 @@
-// Routines with the contracts that they keep.
+// Routines and the contracts that they keep.
 
 use sc_class::{ClassId, FeatureEntry, Tables};
-use sc_text::Span;
 use sc_tree::{Class, FeatureKind, Name, Routine};
 
-/// A routine with the contract that it keeps.
-#[derive(Clone, Copy)]
-pub struct Source<'s> {
-    /// Where the name of the class stands, in whose text the routine is.
-    pub class: Span,
-    /// Where the routine's name stands.
-    pub name: Span,
-    pub routine: &'s Routine,
-    /// Where the name of the class stands that the routine has its contract from.
-    pub contract_class: Span,
-    pub contract: &'s Routine,
-}
-
-/// The routine that is the feature at this number of the text, if it is one.
-pub fn source_at<'s>(tables: &Tables<'s>, number: usize) -> Option<Source<'s>> {
-    let entry = feature_at(tables, number)?;
-    let origin = origin_of(tables, entry)?;
-    Some(Source {
-        class: tables.class(entry.class)?.name.span,
-        name: entry.feature.name.span,
-        routine: routine_of(entry)?,
-        contract_class: tables.class(origin.class)?.name.span,
-        contract: routine_of(origin)?,
-    })
-}
-
 /// The feature at this number, as they are numbered in the text.
-fn feature_at<'s>(tables: &Tables<'s>, number: usize) -> Option<FeatureEntry<'s>> {
+pub fn feature_at<'s>(tables: &Tables<'s>, number: usize) -> Option<FeatureEntry<'s>> {
     let mut left = number;
     for class in 0..tables.classes().len() {
         let features = &tables.class(class)?.features;
@@ -44,7 +17,7 @@ fn feature_at<'s>(tables: &Tables<'s>, number: usize) -> Option<FeatureEntry<'s>
 }
 
 /// The version of a feature that redefines no other: the routine has its contract.
-fn origin_of<'s>(tables: &Tables<'s>, entry: FeatureEntry<'s>) -> Option<FeatureEntry<'s>> {
+pub fn origin_of<'s>(tables: &Tables<'s>, entry: FeatureEntry<'s>) -> Option<FeatureEntry<'s>> {
     let name = entry.feature.name.text.as_str();
     for class in tables.ancestors(ClassId::Declared(entry.class)) {
         let text = tables.class(*class)?;
@@ -75,7 +48,8 @@ fn is_among(names: &[Name], wanted: &str) -> bool {
     false
 }
 
-fn routine_of<'s>(entry: FeatureEntry<'s>) -> Option<&'s Routine> {
+/// The routine that a feature is, if it is one.
+pub fn routine_of<'s>(entry: FeatureEntry<'s>) -> Option<&'s Routine> {
     match &entry.feature.kind {
         FeatureKind::Attribute(_) => None,
         FeatureKind::Routine(routine) => Some(routine),

@@ -2,42 +2,41 @@
 
 use crate::countdown::Countdown;
 use crate::expressions::{pass_expression, pass_expressions, pass_operands};
-use crate::site::{Assertion, Kind, Site, clause_span, tag_of};
+use crate::site::{Assertion, Kind, clause_span, tag_of};
 use sc_text::Span;
 use sc_tree::{Branch, Call, Clause, CreationCall, Expr, Head, Instr};
 
-/// Passes the operations of instructions, one after the other. Err where the one that is looked for is among them.
+/// Passes the operations of instructions, one after the other.
 #[cycle(instructions)]
-pub fn pass_instructions(left: &mut Countdown, instructions: &[Instr]) -> Result<(), Site> {
+pub fn pass_instructions(left: &mut Countdown, instructions: &[Instr]) {
     for instruction in instructions {
-        pass_instruction(left, instruction)?;
+        pass_instruction(left, instruction);
     }
-    Ok(())
 }
 
 #[cycle(instructions)]
-fn pass_instruction(left: &mut Countdown, instruction: &Instr) -> Result<(), Site> {
+fn pass_instruction(left: &mut Countdown, instruction: &Instr) {
     match instruction {
         Instr::If(span, condition, body, branches, other) => {
-            pass_branch(left, body, condition, *span)?;
-            pass_branches(left, branches, *span)?;
+            pass_branch(left, body, condition, *span);
+            pass_branches(left, branches, *span);
             pass_instructions(left, other)
         }
         Instr::Loop(span, initial, until, body) => {
-            pass_instructions(left, initial)?;
-            left.pass(*span, Kind::Jump)?;
-            pass_instructions(left, body)?;
-            pass_expression(left, until)?;
+            pass_instructions(left, initial);
+            left.pass(*span, Kind::Jump);
+            pass_instructions(left, body);
+            pass_expression(left, until);
             left.pass(until.span(), Kind::Until)
         }
         Instr::Block(span, heads, body) => {
-            pass_heads(left, heads)?;
-            left.pass(*span, Kind::Block)?;
-            pass_instructions(left, body)?;
+            pass_heads(left, heads);
+            left.pass(*span, Kind::Block);
+            pass_instructions(left, body);
             left.pass(*span, Kind::BlockEnd)
         }
         Instr::Assign(span, _, value) => {
-            pass_expression(left, value)?;
+            pass_expression(left, value);
             left.pass(*span, Kind::Assignment)
         }
         Instr::PrintText(span, _) => left.pass(*span, Kind::Print),
@@ -49,37 +48,30 @@ fn pass_instruction(left: &mut Countdown, instruction: &Instr) -> Result<(), Sit
 
 /// Passes those of a condition and of what stands under it.
 #[cycle(instructions)]
-fn pass_branch(
-    left: &mut Countdown,
-    body: &[Instr],
-    condition: &Expr,
-    span: Span,
-) -> Result<(), Site> {
-    pass_expression(left, condition)?;
-    left.pass(condition.span(), Kind::Condition)?;
-    pass_instructions(left, body)?;
+fn pass_branch(left: &mut Countdown, body: &[Instr], condition: &Expr, span: Span) {
+    pass_expression(left, condition);
+    left.pass(condition.span(), Kind::Condition);
+    pass_instructions(left, body);
     left.pass(span, Kind::Jump)
 }
 
 #[cycle(instructions)]
-fn pass_branches(left: &mut Countdown, branches: &[Branch], span: Span) -> Result<(), Site> {
+fn pass_branches(left: &mut Countdown, branches: &[Branch], span: Span) {
     for branch in branches {
-        pass_branch(left, &branch.body, &branch.condition, span)?;
+        pass_branch(left, &branch.body, &branch.condition, span);
     }
-    Ok(())
 }
 
 /// Passes those of the values that a separate block reserves.
-fn pass_heads(left: &mut Countdown, heads: &[Head]) -> Result<(), Site> {
+fn pass_heads(left: &mut Countdown, heads: &[Head]) {
     for head in heads {
-        pass_expression(left, &head.value)?;
+        pass_expression(left, &head.value);
     }
-    Ok(())
 }
 
 /// Passes those of a call that is an instruction.
-fn pass_procedure(left: &mut Countdown, call: &Call) -> Result<(), Site> {
-    pass_operands(left, call)?;
+fn pass_procedure(left: &mut Countdown, call: &Call) {
+    pass_operands(left, call);
     let kind = match &call.target {
         Some(_) => Kind::Call(call.name.span),
         None => {
@@ -94,27 +86,18 @@ fn pass_procedure(left: &mut Countdown, call: &Call) -> Result<(), Site> {
 }
 
 /// Passes those of a creation: its actuals', its own, and that which gives the variable its object.
-fn pass_creation(
-    left: &mut Countdown,
-    span: Span,
-    call: &Option<CreationCall>,
-) -> Result<(), Site> {
+fn pass_creation(left: &mut Countdown, span: Span, call: &Option<CreationCall>) {
     if let Some(call) = call {
-        pass_expressions(left, &call.actuals)?;
+        pass_expressions(left, &call.actuals);
     }
-    left.pass(span, Kind::Creation)?;
+    left.pass(span, Kind::Creation);
     left.pass(span, Kind::Created)
 }
 
 /// Passes those of clauses, each of which is tested behind its condition.
-pub fn pass_clauses(
-    left: &mut Countdown,
-    assertion: Assertion,
-    clauses: &[Clause],
-) -> Result<(), Site> {
+pub fn pass_clauses(left: &mut Countdown, assertion: Assertion, clauses: &[Clause]) {
     for clause in clauses {
-        pass_expression(left, &clause.condition)?;
-        left.pass(clause_span(clause), Kind::Clause(assertion, tag_of(clause)))?;
+        pass_expression(left, &clause.condition);
+        left.pass(clause_span(clause), Kind::Clause(assertion, tag_of(clause)));
     }
-    Ok(())
 }

@@ -1,6 +1,6 @@
 // Where in the text a routine stood.
 
-use crate::contract::source_at;
+use crate::contract::{feature_at, origin_of, routine_of};
 use crate::countdown::Countdown;
 use crate::routine::pass_routine;
 use crate::site::Site;
@@ -21,15 +21,18 @@ pub struct Whereabouts {
 /// What the operation at a place of the code of a routine was made of. Routines are numbered as the features of the text, and
 /// places from 0. None where there is no such operation.
 pub fn locate(tables: &Tables<'_>, routine: usize, place: usize) -> Option<Whereabouts> {
-    let source = source_at(tables, routine)?;
-    let mut left = Countdown { left: place };
-    match pass_routine(&mut left, &source) {
-        Ok(()) => None,
-        Err(site) => Some(Whereabouts {
-            class: source.class,
-            routine: source.name,
-            contract_class: source.contract_class,
-            site,
-        }),
-    }
+    let entry = feature_at(tables, routine)?;
+    let origin = origin_of(tables, entry)?;
+    let name = entry.feature.name.span;
+    let mut left = Countdown {
+        left: place,
+        found: None,
+    };
+    pass_routine(&mut left, name, routine_of(entry)?, routine_of(origin)?);
+    Some(Whereabouts {
+        class: tables.class(entry.class)?.name.span,
+        routine: name,
+        contract_class: tables.class(origin.class)?.name.span,
+        site: left.found?,
+    })
 }

@@ -11,7 +11,7 @@ pub struct Site {
 }
 
 /// What a clause is one of.
-#[derive(Clone, Copy, PartialEq, Eq)]
+#[derive(Clone, Copy)]
 pub enum Assertion {
     Precondition,
     Check,
@@ -19,7 +19,7 @@ pub enum Assertion {
 }
 
 /// What an operation does at its part of the text. A name is where it stands in the text.
-#[derive(Clone, Copy, PartialEq, Eq)]
+#[derive(Clone, Copy)]
 pub enum Kind {
     /// A clause is tested, which may have a tag.
     Clause(Assertion, Option<Span>),
