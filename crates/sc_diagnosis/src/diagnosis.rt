@@ -5,7 +5,7 @@ use crate::expected::expected;
 use crate::nearest::nearest_class;
 use crate::open::open_construct;
 use crate::reading::system_of;
-use crate::scope::part_of;
+use crate::scope::{part_of, push_all};
 use crate::sentences::{Sentence, sentence_of};
 use crate::told::Refused;
 use sc_class::Root;
@@ -13,7 +13,7 @@ use sc_text::Span;
 use std::alloc::{AllocError, Global};
 
 /// A part of the text that a fault goes with, and what it has to do with it.
-#[derive(Clone, Copy, Debug, PartialEq, Eq)]
+#[derive(Clone, Copy)]
 pub struct Related {
     pub what: &'static str,
     pub span: Span,
@@ -75,9 +75,7 @@ fn tell(
     push_told(&mut diagnosis.lines, sentence, part)?;
     match refused.code {
         "P1" => add_expected(alloc, diagnosis, refused),
-        "C1" => add_other(alloc, diagnosis, refused, true),
-        "C4" | "C5" => add_other(alloc, diagnosis, refused, false),
-        "V1" => add_nearest(alloc, diagnosis, refused),
+        "C1" | "C4" | "C5" | "V1" => add_declared(alloc, diagnosis, refused),
         _ => Ok(()),
     }
 }
@@ -105,31 +103,23 @@ fn add_expected(
     Ok(())
 }
 
-/// Adds the other declaration of the name at fault, which is a class's or another's.
-fn add_other(
+/// Adds the other declaration of the name at fault, which is a class's or another's, or the name of a class that is near to
+/// one that isn't known.
+fn add_declared(
     alloc: Global,
     diagnosis: &mut Diagnosis,
     refused: Refused<'_>,
-    is_class: bool,
 ) -> Result<(), AllocError> {
+    let Some(system) = system_of(alloc, refused.text)? else {
+        return Ok(());
+    };
     let name = part_of(refused.text, refused.span);
-    if let Some(system) = system_of(alloc, refused.text)? {
-        diagnosis.related = other_declaration(&system, is_class, name, refused.span);
+    if refused.code == "V1" {
+        return nearest_class(&mut diagnosis.lines, refused.text, &system, name);
     }
+    let is_class = refused.code == "C1";
+    diagnosis.related = other_declaration(&system, is_class, name, refused.span);
     Ok(())
-}
-
-/// Adds the name of a class that is near to one that isn't known.
-fn add_nearest(
-    alloc: Global,
-    diagnosis: &mut Diagnosis,
-    refused: Refused<'_>,
-) -> Result<(), AllocError> {
-    let name = part_of(refused.text, refused.span);
-    match system_of(alloc, refused.text)? {
-        None => Ok(()),
-        Some(system) => nearest_class(&mut diagnosis.lines, refused.text, &system, name),
-    }
 }
 
 /// Adds the sentence on a part of the text, and what helps where something does.
@@ -171,14 +161,7 @@ fn push_help(lines: &mut String, text: &str, part: &str) -> Result<(), AllocErro
 /// Adds a line of text with a part between two marks at its `#`.
 fn push_with(lines: &mut String, text: &str, mark: &str, part: &str) -> Result<(), AllocError> {
     match text.split_once('#') {
-        None => lines.push_str(text)?,
-        Some((before, after)) => {
-            lines.push_str(before)?;
-            lines.push_str(mark)?;
-            lines.push_str(part)?;
-            lines.push_str(mark)?;
-            lines.push_str(after)?;
-        }
+        None => push_all(lines, &[text, "\n"]),
+        Some((before, after)) => push_all(lines, &[before, mark, part, mark, after, "\n"]),
     }
-    lines.push_str("\n")
 }

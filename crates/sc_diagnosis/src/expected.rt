@@ -1,6 +1,7 @@
 // What could stand at a place at which no system goes on.
 
 use crate::reading::tokens_of;
+use crate::scope::push_all;
 use sc_parse::{ParseFault, parse};
 use sc_text::Token;
 use std::alloc::{AllocError, Global};
@@ -83,11 +84,20 @@ pub fn expected(
     length: usize,
 ) -> Result<(), AllocError> {
     let before = text.get(..length).unwrap_or(text);
+    push_expected(alloc, lines, before, TOKENS)
+}
+
+/// Adds the same of these tokens, behind this text.
+fn push_expected(
+    alloc: Global,
+    lines: &mut String,
+    before: &str,
+    tokens: &[(&str, &str)],
+) -> Result<(), AllocError> {
     let mut separator = "help: here may stand ";
-    for (name, token) in TOKENS {
+    for (name, token) in tokens {
         if may_follow(alloc, before, token)? {
-            lines.push_str(separator)?;
-            lines.push_str(name)?;
+            push_all(lines, &[separator, name])?;
             separator = ", ";
         }
     }

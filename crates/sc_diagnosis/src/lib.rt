@@ -17,6 +17,7 @@ mod sentences;
 mod site;
 mod told;
 mod types;
+mod untold;
 mod walk;
 
 pub use diagnosis::{Diagnosis, Related, diagnose};

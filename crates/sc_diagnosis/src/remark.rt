@@ -2,20 +2,17 @@
 
 use crate::scope::Scope;
 use crate::site::{Part, Site};
-use crate::types::{
-    Compared, Passed, assigned_types, class_of_created, head_types, meaning_of_call,
-    meaning_of_creation, passed_types, type_found, type_of_actual, type_of_value,
-};
+use crate::types::{Compared, Passed, type_found, type_of_actual};
+use crate::untold::Untold;
 use sc_class::ClassId;
 use sc_proctype::EntityType;
 use sc_rules::Context;
 use sc_text::Span;
 use sc_tree::{BinaryOperator, Call, CreationCall, Expr, UnaryOperator, Variable};
 use sc_typing::{
-    CheckFault, Formals, Meaning, Signature, Typing, is_boolean, judge_binary, judge_unary,
-    operand_context, operand_position, variable_span,
+    Formals, Meaning, Signature, Typing, is_boolean, judge_binary, judge_unary, operand_context,
+    operand_position, variable_span,
 };
-use std::alloc::AllocError;
 
 /// What is said of a fault.
 #[derive(Clone, Copy)]
@@ -62,9 +59,9 @@ pub enum Misfit {
     Procedure,
 }
 
-impl<'c, 't, 's> Scope<'c, 't, 's> {
+impl<'s> Scope<'s> {
     /// What is said of what stands there. Nothing where the types and numbers that are found there don't earn the fault.
-    pub fn remark(&mut self, site: Site<'s>) -> Result<Option<Remark>, AllocError> {
+    pub fn remark(&mut self, site: Site<'s>) -> Result<Remark, Untold> {
         match site.part {
             Part::Assigned(variable, value) => self.of_assigned(variable, value),
             Part::Head(value) => self.of_head(value),
@@ -75,55 +72,39 @@ impl<'c, 't, 's> Scope<'c, 't, 's> {
     }
 
     /// Of a part of a call or of a creation.
-    fn of_part(&self, context: Context, part: Part<'s>) -> Result<Option<Remark>, AllocError> {
+    fn of_part(&self, context: Context, part: Part<'s>) -> Result<Remark, Untold> {
         match part {
             Part::Actual(call, number) => self.of_actual(context, call, number),
             Part::CreationActual(created, call, number) => {
                 self.of_creation_actual(created, call, number)
             }
             Part::CallName(call) => self.of_call(context, call),
-            Part::CreationName(created, call) => Ok(self.of_creation(created, call)),
-            _ => Ok(self.of_unknown()),
+            Part::CreationName(created, call) => self.of_creation(created, call),
+            _ => self.of_unknown(),
         }
     }
 
-    fn of_assigned(&self, variable: &Variable, value: &Expr) -> Result<Option<Remark>, AllocError> {
-        match assigned_types(self.routine, &self.names, variable, value)? {
-            None => Ok(None),
-            Some(types) => Ok(Some(Remark::Assigned(types, variable_span(variable)))),
-        }
+    fn of_assigned(&self, variable: &Variable, value: &Expr) -> Result<Remark, Untold> {
+        let types = self.assigned_types(variable, value)?;
+        Ok(Remark::Assigned(types, variable_span(variable)))
     }
 
-    fn of_head(&self, value: &Expr) -> Result<Option<Remark>, AllocError> {
-        match head_types(self.routine, &self.names, value)? {
-            None => Ok(None),
-            Some(types) => Ok(Some(Remark::Given(types.given, Wanted::Reserved))),
-        }
+    fn of_head(&self, value: &Expr) -> Result<Remark, Untold> {
+        let types = self.head_types(value)?;
+        Ok(Remark::Given(types.given, Wanted::Reserved))
     }
 
-    fn of_condition(
-        &mut self,
-        context: Context,
-        e: &'s Expr,
-    ) -> Result<Option<Remark>, AllocError> {
+    fn of_condition(&mut self, context: Context, e: &'s Expr) -> Result<Remark, Untold> {
         let given = self.type_of_condition(context, e)?;
-        Ok(of_untrue(given))
+        of_untrue(given)
     }
 
     /// The type of a condition, if it has one; the names that it gives are known behind it.
-    fn type_of_condition(
-        &mut self,
-        context: Context,
-        e: &'s Expr,
-    ) -> Result<Option<EntityType>, AllocError> {
+    fn type_of_condition(&mut self, context: Context, e: &'s Expr) -> Result<EntityType, Untold> {
         type_found(self.routine.condition(context, &mut self.names, e))
     }
 
-    fn of_operation(
-        &mut self,
-        context: Context,
-        e: &'s Expr,
-    ) -> Result<Option<Remark>, AllocError> {
+    fn of_operation(&mut self, context: Context, e: &'s Expr) -> Result<Remark, Untold> {
         match e {
             Expr::Unary(span, operator, operand) => {
                 self.of_unary(context, *span, *operator, operand)
@@ -131,7 +112,7 @@ impl<'c, 't, 's> Scope<'c, 't, 's> {
             Expr::Binary(span, operator, left, right) => {
                 self.of_binary(context, *span, *operator, left, right)
             }
-            _ => Ok(None),
+            _ => Err(Untold::Nothing),
         }
     }
 
@@ -141,12 +122,9 @@ impl<'c, 't, 's> Scope<'c, 't, 's> {
         span: Span,
         operator: UnaryOperator,
         operand: &Expr,
-    ) -> Result<Option<Remark>, AllocError> {
-        let inside = operand_context(operator, context);
-        match type_of_value(self.routine, inside, &self.names, operand)? {
-            None => Ok(None),
-            Some(given) => Ok(of_operand(context, span, operator, given)),
-        }
+    ) -> Result<Remark, Untold> {
+        let given = self.type_of_value(operand_context(operator, context), operand)?;
+        of_operand(context, span, operator, given)
     }
 
     fn of_binary(
@@ -156,14 +134,10 @@ impl<'c, 't, 's> Scope<'c, 't, 's> {
         operator: BinaryOperator,
         left: &'s Expr,
         right: &'s Expr,
-    ) -> Result<Option<Remark>, AllocError> {
-        let Some(left) = self.operand(context, operator, left)? else {
-            return Ok(None);
-        };
-        match self.operand(context, operator, right)? {
-            None => Ok(None),
-            Some(right) => Ok(of_operands(span, operator, left, right)),
-        }
+    ) -> Result<Remark, Untold> {
+        let left = self.operand(context, operator, left)?;
+        let right = self.operand(context, operator, right)?;
+        of_operands(span, operator, left, right)
     }
 
     /// The type of an operand, if it has one; the names that it gives, in a condition, are known behind it.
@@ -172,7 +146,7 @@ impl<'c, 't, 's> Scope<'c, 't, 's> {
         context: Context,
         operator: BinaryOperator,
         operand: &'s Expr,
-    ) -> Result<Option<EntityType>, AllocError> {
+    ) -> Result<EntityType, Untold> {
         if operator.is_and_then() {
             return self.type_of_condition(context, operand);
         }
@@ -183,13 +157,8 @@ impl<'c, 't, 's> Scope<'c, 't, 's> {
         )
     }
 
-    fn of_actual(
-        &self,
-        context: Context,
-        call: &Call,
-        number: usize,
-    ) -> Result<Option<Remark>, AllocError> {
-        let meaning = meaning_of_call(self.routine, context, &self.names, call)?;
+    fn of_actual(&self, context: Context, call: &Call, number: usize) -> Result<Remark, Untold> {
+        let meaning = self.meaning_of_call(context, call)?;
         self.of_given(context, &meaning, &call.actuals, number)
     }
 
@@ -198,8 +167,9 @@ impl<'c, 't, 's> Scope<'c, 't, 's> {
         created: &Variable,
         call: &CreationCall,
         number: usize,
-    ) -> Result<Option<Remark>, AllocError> {
-        let meaning = meaning_of_creation(self.routine, &self.names, created, call);
+    ) -> Result<Remark, Untold> {
+        let created = self.type_of_variable(created)?;
+        let meaning = self.routine.qualified_meaning(created, &call.name.text);
         self.of_given(Context::Body, &meaning, &call.actuals, number)
     }
 
@@ -210,10 +180,10 @@ impl<'c, 't, 's> Scope<'c, 't, 's> {
         meaning: &Meaning<'s>,
         actuals: &[Expr],
         number: usize,
-    ) -> Result<Option<Remark>, AllocError> {
+    ) -> Result<Remark, Untold> {
         match meaning {
             Meaning::Named(signature) => self.of_taken(context, signature, actuals, number),
-            _ => Ok(None),
+            _ => Err(Untold::Nothing),
         }
     }
 
@@ -223,83 +193,77 @@ impl<'c, 't, 's> Scope<'c, 't, 's> {
         signature: &Signature<'s>,
         actuals: &[Expr],
         number: usize,
-    ) -> Result<Option<Remark>, AllocError> {
-        let found = match self.routine.judged_actuals(context, &self.names, actuals) {
-            Ok(found) => found,
-            Err(CheckFault::OutOfMemory) => return Err(AllocError),
-            Err(CheckFault::Refused(_)) => return Ok(None),
-        };
-        let formals = match signature.formals {
-            Formals::Declared(formals) => formals,
-            Formals::Printed => return Ok(of_printed(type_of_actual(&found, number))),
-        };
-        match passed_types(self.routine, &found, signature.target, formals, number)? {
-            None => Ok(None),
-            Some(passed) => Ok(Some(Remark::Passed(passed))),
+    ) -> Result<Remark, Untold> {
+        let found = self.routine.judged_actuals(context, &self.names, actuals)?;
+        match signature.formals {
+            Formals::Printed => of_printed(type_of_actual(&found, number)?),
+            Formals::Declared(formals) => {
+                let passed = self.passed_types(&found, signature.target, formals, number)?;
+                Ok(Remark::Passed(passed))
+            }
         }
     }
 
-    fn of_call(&self, context: Context, call: &Call) -> Result<Option<Remark>, AllocError> {
-        let meaning = meaning_of_call(self.routine, context, &self.names, call)?;
+    fn of_call(&self, context: Context, call: &Call) -> Result<Remark, Untold> {
+        let meaning = self.meaning_of_call(context, call)?;
         match self.of_name(&meaning, call.actuals.len()) {
-            Some(Remark::Name(Misfit::Unknown)) => self.of_unknown_call(context, call),
-            remark => Ok(remark),
+            Ok(Remark::Name(Misfit::Unknown)) => self.of_unknown_call(context, call),
+            remark => remark,
         }
     }
 
     /// Of a call whose name isn't known: in the class of its target, if it has one.
-    fn of_unknown_call(&self, context: Context, call: &Call) -> Result<Option<Remark>, AllocError> {
+    fn of_unknown_call(&self, context: Context, call: &Call) -> Result<Remark, Untold> {
         let Some(target) = &call.target else {
-            return Ok(Some(Remark::Name(Misfit::Unknown)));
+            return Ok(Remark::Name(Misfit::Unknown));
         };
-        match type_of_value(self.routine, context, &self.names, target)? {
-            None => Ok(None),
-            Some(target) => Ok(Some(Remark::Name(Misfit::Lacking(target.class)))),
-        }
+        let target = self.type_of_value(context, target)?;
+        Ok(Remark::Name(Misfit::Lacking(target.class)))
     }
 
-    fn of_creation(&self, created: &Variable, call: &CreationCall) -> Option<Remark> {
-        let meaning = meaning_of_creation(self.routine, &self.names, created, call);
+    fn of_creation(&self, created: &Variable, call: &CreationCall) -> Result<Remark, Untold> {
+        let created = self.type_of_variable(created)?;
+        let meaning = self.routine.qualified_meaning(created, &call.name.text);
         let remark = self.of_name(&meaning, call.actuals.len())?;
-        as_creation(remark, class_of_created(self.routine, &self.names, created))
+        Ok(as_creation(remark, created.class))
     }
 
-    fn of_unknown(&self) -> Option<Remark> {
+    fn of_unknown(&self) -> Result<Remark, Untold> {
         if self.code == "V1" {
-            Some(Remark::Name(Misfit::Unknown))
+            Ok(Remark::Name(Misfit::Unknown))
         } else {
-            None
+            Err(Untold::Nothing)
         }
     }
 
     /// Of a name with so many actuals that stands for this.
-    fn of_name(&self, meaning: &Meaning<'s>, actuals: usize) -> Option<Remark> {
+    fn of_name(&self, meaning: &Meaning<'s>, actuals: usize) -> Result<Remark, Untold> {
         match meaning {
             Meaning::Unknown => self.of_unknown(),
-            Meaning::TargetUntyped => None,
+            Meaning::TargetUntyped => Err(Untold::Nothing),
             Meaning::Named(signature) => of_signature(self.code, signature, actuals),
         }
     }
 }
 
 /// By the code of the fault, of a name with so many actuals that is called by this.
-fn of_signature(code: &str, signature: &Signature<'_>, actuals: usize) -> Option<Remark> {
+fn of_signature(code: &str, signature: &Signature<'_>, actuals: usize) -> Result<Remark, Untold> {
     match code {
         "V2" => of_arity(taken_by(signature), actuals),
         "V7" => match signature.gives {
-            Some(_) => Some(Remark::Name(Misfit::Query)),
-            None => Some(Remark::Name(Misfit::Procedure)),
+            Some(_) => Ok(Remark::Name(Misfit::Query)),
+            None => Ok(Remark::Name(Misfit::Procedure)),
         },
-        _ => None,
+        _ => Err(Untold::Nothing),
     }
 }
 
 /// What is said of the name of the creation of an object of a class, by what is said of that of a call.
-fn as_creation(remark: Remark, class: Option<ClassId>) -> Option<Remark> {
+fn as_creation(remark: Remark, class: ClassId) -> Remark {
     match remark {
-        Remark::Name(Misfit::Query) => Some(Remark::Name(Misfit::Creator)),
-        Remark::Name(Misfit::Unknown) => Some(Remark::Name(Misfit::Lacking(class?))),
-        _ => Some(remark),
+        Remark::Name(Misfit::Query) => Remark::Name(Misfit::Creator),
+        Remark::Name(Misfit::Unknown) => Remark::Name(Misfit::Lacking(class)),
+        _ => remark,
     }
 }
 
@@ -317,10 +281,10 @@ fn of_operand(
     span: Span,
     operator: UnaryOperator,
     given: EntityType,
-) -> Option<Remark> {
+) -> Result<Remark, Untold> {
     match judge_unary(context, span, operator, typing_of(given)) {
-        Ok(_) => None,
-        Err(_) => Some(Remark::Operand(operator, given)),
+        Ok(_) => Err(Untold::Nothing),
+        Err(_) => Ok(Remark::Operand(operator, given)),
     }
 }
 
@@ -330,30 +294,28 @@ fn of_operands(
     operator: BinaryOperator,
     left: EntityType,
     right: EntityType,
-) -> Option<Remark> {
+) -> Result<Remark, Untold> {
     match judge_binary(span, operator, typing_of(left), typing_of(right)) {
-        Ok(_) => None,
-        Err(_) => Some(Remark::Operands(operator, left, right)),
+        Ok(_) => Err(Untold::Nothing),
+        Err(_) => Ok(Remark::Operands(operator, left, right)),
     }
 }
 
 /// That a reference is printed.
-fn of_printed(given: Option<EntityType>) -> Option<Remark> {
-    let given = given?;
+fn of_printed(given: EntityType) -> Result<Remark, Untold> {
     if given.is_expanded() {
-        None
+        Err(Untold::Nothing)
     } else {
-        Some(Remark::Given(given, Wanted::Printed))
+        Ok(Remark::Given(given, Wanted::Printed))
     }
 }
 
 /// That a condition isn't BOOLEAN.
-fn of_untrue(given: Option<EntityType>) -> Option<Remark> {
-    let given = given?;
+fn of_untrue(given: EntityType) -> Result<Remark, Untold> {
     if is_boolean(given.class) {
-        None
+        Err(Untold::Nothing)
     } else {
-        Some(Remark::Given(given, Wanted::Condition))
+        Ok(Remark::Given(given, Wanted::Condition))
     }
 }
 
@@ -366,10 +328,10 @@ fn taken_by(signature: &Signature<'_>) -> usize {
 }
 
 /// That another number of actuals is given than is taken.
-fn of_arity(taken: usize, given: usize) -> Option<Remark> {
+fn of_arity(taken: usize, given: usize) -> Result<Remark, Untold> {
     if taken == given {
-        None
+        Err(Untold::Nothing)
     } else {
-        Some(Remark::Name(Misfit::Arity(taken, given)))
+        Ok(Remark::Name(Misfit::Arity(taken, given)))
     }
 }

@@ -10,7 +10,7 @@ use sc_tree::{BinaryOperator, UnaryOperator};
 use sc_whereabouts::binary_spelling;
 use std::alloc::AllocError;
 
-impl<'c, 't, 's> Scope<'c, 't, 's> {
+impl<'s> Scope<'s> {
     /// Adds what is said of the part of the text that is at fault, without a line feed.
     pub fn push_remark(&self, lines: &mut String, remark: Remark) -> Result<(), AllocError> {
         match remark {
@@ -38,13 +38,12 @@ impl<'c, 't, 's> Scope<'c, 't, 's> {
         &self,
         lines: &mut String,
         types: Compared,
-        and: &str,
+        and: &'static str,
         taker: Span,
     ) -> Result<(), AllocError> {
         self.push_given(lines, types.given, and)?;
-        push_quoted(lines, part_of(self.text, taker))?;
-        lines.push_str(" takes ")?;
-        self.push_type(lines, types.taken)
+        push_quoted(lines, "", part_of(self.text, taker), " takes ")?;
+        self.push_type(lines, types.taken, "")
     }
 
     /// Adds that the part of the text is of this type, and what stands behind that.
@@ -52,12 +51,10 @@ impl<'c, 't, 's> Scope<'c, 't, 's> {
         &self,
         lines: &mut String,
         given: EntityType,
-        behind: &str,
+        behind: &'static str,
     ) -> Result<(), AllocError> {
-        push_quoted(lines, self.part())?;
-        lines.push_str(" is of type ")?;
-        self.push_type(lines, given)?;
-        lines.push_str(behind)
+        push_quoted(lines, "", self.part(), " is of type ")?;
+        self.push_type(lines, given, behind)
     }
 
     fn push_operand(
@@ -68,7 +65,7 @@ impl<'c, 't, 's> Scope<'c, 't, 's> {
     ) -> Result<(), AllocError> {
         lines.push_str(taken_by_unary(operator))?;
         lines.push_str(", and its operand is of type ")?;
-        self.push_type(lines, given)
+        self.push_type(lines, given, "")
     }
 
     fn push_operands(
@@ -79,34 +76,28 @@ impl<'c, 't, 's> Scope<'c, 't, 's> {
         right: EntityType,
     ) -> Result<(), AllocError> {
         push_operator(lines, operator)?;
-        self.push_type(lines, left)?;
-        lines.push_str(" and of type ")?;
-        self.push_type(lines, right)
+        self.push_type(lines, left, " and of type ")?;
+        self.push_type(lines, right, "")
     }
 
     /// Adds what is said of a name at fault.
     fn push_misfit(&self, lines: &mut String, misfit: Misfit) -> Result<(), AllocError> {
+        let name = self.part();
         match misfit {
-            Misfit::Arity(taken, given) => push_arity(lines, self.part(), taken, given),
-            Misfit::Lacking(class) => self.push_lacking(lines, class),
+            Misfit::Arity(taken, given) => push_arity(lines, name, taken, given),
+            Misfit::Lacking(class) => push_lacking(lines, self.class_name(class), name),
             Misfit::Unknown => {
-                lines.push_str("nothing that is known here has the name ")?;
-                push_quoted(lines, self.part())
+                push_quoted(lines, "nothing that is known here has the name ", name, "")
             }
-            _ => {
-                push_quoted(lines, self.part())?;
-                lines.push_str(said_of_use(misfit))
-            }
+            _ => push_quoted(lines, "", name, said_of_use(misfit)),
         }
     }
+}
 
-    fn push_lacking(&self, lines: &mut String, class: ClassId) -> Result<(), AllocError> {
-        push_all(
-            lines,
-            &["the class `", self.class_name(class), "` has no feature "],
-        )?;
-        push_quoted(lines, self.part())
-    }
+/// Adds that a class has no feature of the name.
+fn push_lacking(lines: &mut String, class: &str, name: &str) -> Result<(), AllocError> {
+    push_all(lines, &["the class `", class])?;
+    push_quoted(lines, "` has no feature ", name, "")
 }
 
 /// Adds which operands an operator takes.
@@ -168,10 +159,8 @@ fn push_arity(
     taken: usize,
     given: usize,
 ) -> Result<(), AllocError> {
-    push_quoted(lines, name)?;
-    lines.push_str(" takes ")?;
+    push_quoted(lines, "", name, " takes ")?;
     push_actuals(lines, taken)?;
-    lines.push_str(", and is given ")?;
     push_given_number(lines, given)
 }
 
@@ -187,7 +176,7 @@ fn push_actuals(lines: &mut String, count: usize) -> Result<(), AllocError> {
 /// Adds how many are given.
 fn push_given_number(lines: &mut String, count: usize) -> Result<(), AllocError> {
     match count {
-        0 => lines.push_str("none"),
-        _ => write!(lines, "{count}"),
+        0 => lines.push_str(", and is given none"),
+        _ => write!(lines, ", and is given {count}"),
     }
 }

@@ -11,22 +11,38 @@ use std::alloc::AllocError;
 /// A part of a routine at which the rule of this code fails: the text of the system, the routine, and the names that are
 /// known there.
 #[derive(Drop)]
-pub struct Scope<'c, 't, 's> {
-    pub text: &'c str,
-    pub code: &'c str,
+pub struct Scope<'s> {
+    pub text: &'s str,
+    pub code: &'s str,
     pub span: Span,
-    pub routine: &'c RoutineContext<'t, 's>,
+    pub routine: &'s RoutineContext<'s, 's>,
     pub names: Vec<Entity<'s>>,
 }
 
-impl<'c, 't, 's> Scope<'c, 't, 's> {
-    /// Adds a type in quotes, as it is declared: with the name of the formal or the block whose handler it is of.
-    pub fn push_type(&self, lines: &mut String, given: EntityType) -> Result<(), AllocError> {
-        push_all(lines, &["`", mark_of(given), before_handler(given.tag)])?;
-        lines.push_str(self.handler_of(given.tag))?;
-        lines.push_str(behind_handler(given.tag))?;
+impl<'s> Scope<'s> {
+    /// Adds a type in quotes, as it is declared, and what stands behind it: with the name of the formal or the block whose
+    /// handler it is of.
+    pub fn push_type(
+        &self,
+        lines: &mut String,
+        given: EntityType,
+        behind: &'static str,
+    ) -> Result<(), AllocError> {
+        push_all(lines, &["`", mark_of(given)])?;
+        self.push_handler(lines, given.tag)?;
         lines.push_str(self.class_name(given.class))?;
-        push_all(lines, &["`", unknown_handler(given)])
+        push_all(lines, &["`", unknown_handler(given), behind])
+    }
+
+    /// Adds what stands in a type before the name of the class: whose handler it is of.
+    fn push_handler(&self, lines: &mut String, tag: Tag) -> Result<(), AllocError> {
+        match tag {
+            Tag::Own | Tag::None => Ok(()),
+            Tag::Any => lines.push_str("separate "),
+            Tag::With(reserved) => {
+                push_all(lines, &["separate <", self.name_of(reserved), ".handler> "])
+            }
+        }
     }
 
     /// The name of a class, as its text has it.
@@ -43,12 +59,11 @@ impl<'c, 't, 's> Scope<'c, 't, 's> {
         }
     }
 
-    /// The name of the formal or the block whose handler the tag is of, if it is one's.
-    fn handler_of(&self, tag: Tag) -> &str {
-        match tag {
-            Tag::With(Reserved::Formal(number)) => self.name_of_formal(number),
-            Tag::With(Reserved::BlockName(number)) => name_of_block(&self.names, number),
-            _ => "",
+    /// The name of a formal or a block.
+    fn name_of(&self, reserved: Reserved) -> &str {
+        match reserved {
+            Reserved::Formal(number) => self.name_of_formal(number),
+            Reserved::BlockName(number) => name_of_block(&self.names, number),
         }
     }
 
@@ -71,23 +86,6 @@ fn mark_of(given: EntityType) -> &'static str {
         ""
     } else {
         "detachable "
-    }
-}
-
-/// What stands in a type before the name that its handler has.
-fn before_handler(tag: Tag) -> &'static str {
-    match tag {
-        Tag::Own | Tag::None => "",
-        Tag::Any => "separate ",
-        Tag::With(_) => "separate <",
-    }
-}
-
-/// What stands in a type behind the name that its handler has.
-fn behind_handler(tag: Tag) -> &'static str {
-    match tag {
-        Tag::With(_) => ".handler> ",
-        _ => "",
     }
 }
 
@@ -148,10 +146,15 @@ pub fn push_all(lines: &mut String, parts: &[&str]) -> Result<(), AllocError> {
     Ok(())
 }
 
-/// Adds a part of the text in quotes, or `this` where there is none.
-pub fn push_quoted(lines: &mut String, part: &str) -> Result<(), AllocError> {
+/// Adds a part of the text in quotes, or `this` where there is none, between words.
+pub fn push_quoted(
+    lines: &mut String,
+    before: &str,
+    part: &str,
+    behind: &str,
+) -> Result<(), AllocError> {
     if part.is_empty() {
-        return lines.push_str("this");
+        return push_all(lines, &[before, "this", behind]);
     }
-    push_all(lines, &["`", part, "`"])
+    push_all(lines, &[before, "`", part, "`", behind])
 }

@@ -5,6 +5,7 @@ use crate::nearest::{nearest_entity, nearest_feature};
 use crate::remark::{Misfit, Remark};
 use crate::scope::{Scope, part_of};
 use crate::site::{Aim, Found, Kind, Search, Site};
+use crate::untold::Untold;
 use crate::walk::Walk;
 use sc_class::{ClassFault, ClassId, Root, Tables, tables};
 use sc_rules::Context;
@@ -15,10 +16,10 @@ use std::alloc::{AllocError, Global};
 
 /// A text that spells a system, and what is told of its refusal by a rule.
 #[derive(Clone, Copy)]
-pub struct Refused<'c> {
-    pub text: &'c str,
-    pub root: &'c Root,
-    pub code: &'c str,
+pub struct Refused<'s> {
+    pub text: &'s str,
+    pub root: &'s Root,
+    pub code: &'s str,
     pub span: Span,
 }
 
@@ -33,7 +34,7 @@ const AIMS: [(&str, Kind); 7] = [
     ("V9", Kind::Operation),
 ];
 
-impl<'c> Refused<'c> {
+impl<'s> Refused<'s> {
     /// What is looked for, where more can be said of the rule.
     pub fn aim(self) -> Option<Aim> {
         Some(Aim {
@@ -85,10 +86,10 @@ impl<'c> Refused<'c> {
     }
 
     /// Adds what is told of the part that is aimed at, where it stands in this class.
-    fn push_in_class<'s>(
+    fn push_in_class(
         self,
         lines: &mut String,
-        around: &RoutineContext<'_, 's>,
+        around: &'s RoutineContext<'s, 's>,
         aim: Aim,
         class: &'s Class,
     ) -> Result<bool, AllocError> {
@@ -102,10 +103,10 @@ impl<'c> Refused<'c> {
     }
 
     /// Adds what is told of the part that is aimed at, where it stands in this routine of the class.
-    fn push_in_routine<'s>(
+    fn push_in_routine(
         self,
         lines: &mut String,
-        class: &RoutineContext<'_, 's>,
+        class: &'s RoutineContext<'s, 's>,
         aim: Aim,
         text: &'s Routine,
     ) -> Result<Option<bool>, AllocError> {
@@ -124,10 +125,10 @@ impl<'c> Refused<'c> {
 
     /// Adds what is told of the part that is aimed at, where it stands in the invariant of the class or in its list of
     /// creators.
-    fn push_beside_routines<'s>(
+    fn push_beside_routines(
         self,
         lines: &mut String,
-        around: &RoutineContext<'_, 's>,
+        around: &'s RoutineContext<'s, 's>,
         aim: Aim,
         class: &'s Class,
     ) -> Result<bool, AllocError> {
@@ -140,10 +141,7 @@ impl<'c> Refused<'c> {
     }
 
     /// A walk through a text of this routine, in which no names are known as yet.
-    fn walk<'w, 't, 's>(self, routine: &'w RoutineContext<'t, 's>, aim: Aim) -> Walk<'w, 't, 's>
-    where
-        'c: 'w,
-    {
+    fn walk(self, routine: &'s RoutineContext<'s, 's>, aim: Aim) -> Walk<'s> {
         Walk {
             search: Search {
                 aim,
@@ -160,7 +158,7 @@ impl<'c> Refused<'c> {
     }
 }
 
-impl<'c, 't, 's> Walk<'c, 't, 's> {
+impl<'s> Walk<'s> {
     /// Adds what is told of what was looked for, and whether there is something; nothing where it wasn't found.
     fn push_found(&mut self, lines: &mut String) -> Result<Option<bool>, AllocError> {
         match self.search.found {
@@ -175,12 +173,13 @@ impl<'c, 't, 's> Walk<'c, 't, 's> {
     }
 }
 
-impl<'c, 't, 's> Scope<'c, 't, 's> {
+impl<'s> Scope<'s> {
     /// Adds what is told of what stands there, and whether there is something.
     fn push_at(&mut self, lines: &mut String, site: Site<'s>) -> Result<bool, AllocError> {
-        match self.remark(site)? {
-            None => Ok(false),
-            Some(remark) => self.push_lines(lines, remark),
+        match self.remark(site) {
+            Ok(remark) => self.push_lines(lines, remark),
+            Err(Untold::Nothing) => Ok(false),
+            Err(Untold::OutOfMemory) => Err(AllocError),
         }
     }
 

@@ -13,12 +13,12 @@ use std::alloc::AllocError;
 
 /// A walk: what is looked for, and what is known at the part that it has come to, or at that which was found.
 #[derive(Drop)]
-pub struct Walk<'c, 't, 's> {
+pub struct Walk<'s> {
     pub search: Search<'s>,
-    pub scope: Scope<'c, 't, 's>,
+    pub scope: Scope<'s>,
 }
 
-impl<'c, 't, 's> Walk<'c, 't, 's> {
+impl<'s> Walk<'s> {
     /// Passes a routine: its precondition, its body and its postcondition.
     pub fn pass_routine(&mut self, text: &'s Routine) {
         self.add_formals();
