@@ -91,7 +91,11 @@ pub fn list(alloc: Global) -> Result<String, AllocError> {
 
 fn push_headings(lines: &mut String, pages: &[&str]) -> Result<(), AllocError> {
     for page in pages {
-        lines.push_str(page.lines().next().unwrap_or(""))?;
+        let heading = match page.split_once('\n') {
+            None => page,
+            Some((heading, _)) => heading,
+        };
+        lines.push_str(heading)?;
         lines.push('\n')?;
     }
     Ok(())
