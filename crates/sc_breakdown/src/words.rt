@@ -62,7 +62,8 @@ pub fn site_words(text: &str, there: Whereabouts, cause: Cause) -> [Phrase<'_>; 
     let nothing = Phrase::plain("");
     match there.site.kind {
         Kind::Clause(assertion, tag) => {
-            let is_own = matches!(assertion, Assertion::Check) || there.contract_class == there.class;
+            let is_own = matches!(assertion, Assertion::Check)
+                || there.contract_class == there.class;
             let of = Phrase::plain(of_assertion(assertion));
             let origin = origin_words(text, there.contract_class, is_own);
             [clause_words(text, tag), of, origin]
