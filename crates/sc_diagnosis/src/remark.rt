@@ -63,9 +63,15 @@ impl<'s> Scope<'s> {
     /// What is said of what stands there. Nothing where the types and numbers that are found there don't earn the fault.
     pub fn remark(&mut self, site: Site<'s>) -> Result<Remark, Untold> {
         match site.part {
-            Part::Assigned(variable, value) => self.of_assigned(variable, value),
-            Part::Head(value) => self.of_head(value),
-            Part::Condition(e) => self.of_condition(site.context, e),
+            Part::Assigned(variable, value) => {
+                let types = self.assigned_types(variable, value)?;
+                Ok(Remark::Assigned(types, variable_span(variable)))
+            }
+            Part::Head(value) => {
+                let types = self.head_types(value)?;
+                Ok(Remark::Given(types.given, Wanted::Reserved))
+            }
+            Part::Condition(e) => of_untrue(self.type_of_condition(site.context, e)?),
             Part::Operation(e) => self.of_operation(site.context, e),
             part => self.of_part(site.context, part),
         }
@@ -80,23 +86,8 @@ impl<'s> Scope<'s> {
             }
             Part::CallName(call) => self.of_call(context, call),
             Part::CreationName(created, call) => self.of_creation(created, call),
-            _ => self.of_unknown(),
+            _ => of_unknown(self.code),
         }
-    }
-
-    fn of_assigned(&self, variable: &Variable, value: &Expr) -> Result<Remark, Untold> {
-        let types = self.assigned_types(variable, value)?;
-        Ok(Remark::Assigned(types, variable_span(variable)))
-    }
-
-    fn of_head(&self, value: &Expr) -> Result<Remark, Untold> {
-        let types = self.head_types(value)?;
-        Ok(Remark::Given(types.given, Wanted::Reserved))
-    }
-
-    fn of_condition(&mut self, context: Context, e: &'s Expr) -> Result<Remark, Untold> {
-        let given = self.type_of_condition(context, e)?;
-        of_untrue(given)
     }
 
     /// The type of a condition, if it has one; the names that it gives are known behind it.
@@ -158,8 +149,10 @@ impl<'s> Scope<'s> {
     }
 
     fn of_actual(&self, context: Context, call: &Call, number: usize) -> Result<Remark, Untold> {
-        let meaning = self.meaning_of_call(context, call)?;
-        self.of_given(context, &meaning, &call.actuals, number)
+        let target = self.type_of_target(context, call)?;
+        let routine = self.routine;
+        let meaning = routine.meaning_of(&self.names, &call.target, target, &call.name);
+        self.of_taken(context, &meaning, &call.actuals, number)
     }
 
     fn of_creation_actual(
@@ -170,30 +163,20 @@ impl<'s> Scope<'s> {
     ) -> Result<Remark, Untold> {
         let created = self.type_of_variable(created)?;
         let meaning = self.routine.qualified_meaning(created, &call.name.text);
-        self.of_given(Context::Body, &meaning, &call.actuals, number)
+        self.of_taken(Context::Body, &meaning, &call.actuals, number)
     }
 
     /// Of the actual at a number, where the name stands for this.
-    fn of_given(
+    fn of_taken(
         &self,
         context: Context,
         meaning: &Meaning<'s>,
         actuals: &[Expr],
         number: usize,
     ) -> Result<Remark, Untold> {
-        match meaning {
-            Meaning::Named(signature) => self.of_taken(context, signature, actuals, number),
-            _ => Err(Untold::Nothing),
-        }
-    }
-
-    fn of_taken(
-        &self,
-        context: Context,
-        signature: &Signature<'s>,
-        actuals: &[Expr],
-        number: usize,
-    ) -> Result<Remark, Untold> {
+        let Meaning::Named(signature) = meaning else {
+            return Err(Untold::Nothing);
+        };
         let found = self.routine.judged_actuals(context, &self.names, actuals)?;
         match signature.formals {
             Formals::Printed => of_printed(type_of_actual(&found, number)?),
@@ -205,44 +188,39 @@ impl<'s> Scope<'s> {
     }
 
     fn of_call(&self, context: Context, call: &Call) -> Result<Remark, Untold> {
-        let meaning = self.meaning_of_call(context, call)?;
-        match self.of_name(&meaning, call.actuals.len()) {
-            Ok(Remark::Name(Misfit::Unknown)) => self.of_unknown_call(context, call),
-            remark => remark,
+        let target = self.type_of_target(context, call)?;
+        let routine = self.routine;
+        let meaning = routine.meaning_of(&self.names, &call.target, target, &call.name);
+        let remark = of_name(self.code, &meaning, call.actuals.len())?;
+        match target {
+            None => Ok(remark),
+            Some(target) => Ok(in_class(remark, target.class)),
         }
-    }
-
-    /// Of a call whose name isn't known: in the class of its target, if it has one.
-    fn of_unknown_call(&self, context: Context, call: &Call) -> Result<Remark, Untold> {
-        let Some(target) = &call.target else {
-            return Ok(Remark::Name(Misfit::Unknown));
-        };
-        let target = self.type_of_value(context, target)?;
-        Ok(Remark::Name(Misfit::Lacking(target.class)))
     }
 
     fn of_creation(&self, created: &Variable, call: &CreationCall) -> Result<Remark, Untold> {
         let created = self.type_of_variable(created)?;
         let meaning = self.routine.qualified_meaning(created, &call.name.text);
-        let remark = self.of_name(&meaning, call.actuals.len())?;
-        Ok(as_creation(remark, created.class))
+        let remark = of_name(self.code, &meaning, call.actuals.len())?;
+        Ok(as_creation(in_class(remark, created.class)))
     }
+}
 
-    fn of_unknown(&self) -> Result<Remark, Untold> {
-        if self.code == "V1" {
-            Ok(Remark::Name(Misfit::Unknown))
-        } else {
-            Err(Untold::Nothing)
-        }
+/// Of what isn't known, by the code of the fault.
+fn of_unknown(code: &str) -> Result<Remark, Untold> {
+    if code == "V1" {
+        Ok(Remark::Name(Misfit::Unknown))
+    } else {
+        Err(Untold::Nothing)
     }
+}
 
-    /// Of a name with so many actuals that stands for this.
-    fn of_name(&self, meaning: &Meaning<'s>, actuals: usize) -> Result<Remark, Untold> {
-        match meaning {
-            Meaning::Unknown => self.of_unknown(),
-            Meaning::TargetUntyped => Err(Untold::Nothing),
-            Meaning::Named(signature) => of_signature(self.code, signature, actuals),
-        }
+/// By the code of the fault, of a name with so many actuals that stands for this.
+fn of_name(code: &str, meaning: &Meaning<'_>, actuals: usize) -> Result<Remark, Untold> {
+    match meaning {
+        Meaning::Unknown => of_unknown(code),
+        Meaning::TargetUntyped => Err(Untold::Nothing),
+        Meaning::Named(signature) => of_signature(code, signature, actuals),
     }
 }
 
@@ -258,11 +236,18 @@ fn of_signature(code: &str, signature: &Signature<'_>, actuals: usize) -> Result
     }
 }
 
-/// What is said of the name of the creation of an object of a class, by what is said of that of a call.
-fn as_creation(remark: Remark, class: ClassId) -> Remark {
+/// What is said of a name that is looked for in this class, by what is said of one that is looked for everywhere.
+fn in_class(remark: Remark, class: ClassId) -> Remark {
+    match remark {
+        Remark::Name(Misfit::Unknown) => Remark::Name(Misfit::Lacking(class)),
+        _ => remark,
+    }
+}
+
+/// What is said of the name of a creation, by what is said of that of a call.
+fn as_creation(remark: Remark) -> Remark {
     match remark {
         Remark::Name(Misfit::Query) => Remark::Name(Misfit::Creator),
-        Remark::Name(Misfit::Unknown) => Remark::Name(Misfit::Lacking(class)),
         _ => remark,
     }
 }

@@ -1,10 +1,8 @@
 // What is said of a fault, in words.
 
 use crate::remark::{Misfit, Remark, Wanted};
-use crate::scope::{Scope, part_of, push_all, push_quoted};
+use crate::scope::{Scope, TypeWords, part_of, push_all, push_quoted, push_type};
 use crate::types::Compared;
-use sc_class::ClassId;
-use sc_proctype::EntityType;
 use sc_text::Span;
 use sc_tree::{BinaryOperator, UnaryOperator};
 use sc_whereabouts::binary_spelling;
@@ -13,84 +11,75 @@ use std::alloc::AllocError;
 impl<'s> Scope<'s> {
     /// Adds what is said of the part of the text that is at fault, without a line feed.
     pub fn push_remark(&self, lines: &mut String, remark: Remark) -> Result<(), AllocError> {
+        let part = part_of(self.text, self.span);
         match remark {
-            Remark::Assigned(types, taker) => self.push_compared(lines, types, ", and ", taker),
+            Remark::Assigned(types, taker) => {
+                self.push_compared(lines, part, types, ", and ", taker)
+            }
             Remark::Passed(passed) => {
                 let taker = ", and here the formal ";
-                self.push_compared(lines, passed.compared, taker, passed.formal)
+                self.push_compared(lines, part, passed.compared, taker, passed.formal)
             }
-            Remark::Given(given, wanted) => self.push_given(lines, given, said_of_wanted(wanted)),
-            Remark::Operand(operator, given) => self.push_operand(lines, operator, given),
+            Remark::Given(given, wanted) => {
+                push_given(lines, part, self.words_of(given), said_of_wanted(wanted))
+            }
+            Remark::Operand(operator, given) => {
+                push_operand(lines, operator, self.words_of(given))
+            }
             Remark::Operands(operator, left, right) => {
-                self.push_operands(lines, operator, left, right)
+                push_operator(lines, operator)?;
+                push_type(lines, self.words_of(left), " and of type ")?;
+                push_type(lines, self.words_of(right), "")
             }
-            Remark::Name(misfit) => self.push_misfit(lines, misfit),
+            Remark::Name(Misfit::Lacking(class)) => {
+                push_lacking(lines, self.class_name(class), part)
+            }
+            Remark::Name(misfit) => push_misfit(lines, part, misfit),
         }
-    }
-
-    /// The part of the text that is at fault.
-    fn part(&self) -> &str {
-        part_of(self.text, self.span)
     }
 
     /// Adds that the part of the text is of one type, and what stands there takes another.
     fn push_compared(
         &self,
         lines: &mut String,
+        part: &str,
         types: Compared,
         and: &'static str,
         taker: Span,
     ) -> Result<(), AllocError> {
-        self.push_given(lines, types.given, and)?;
+        push_given(lines, part, self.words_of(types.given), and)?;
         push_quoted(lines, "", part_of(self.text, taker), " takes ")?;
-        self.push_type(lines, types.taken, "")
+        push_type(lines, self.words_of(types.taken), "")
     }
+}
 
-    /// Adds that the part of the text is of this type, and what stands behind that.
-    fn push_given(
-        &self,
-        lines: &mut String,
-        given: EntityType,
-        behind: &'static str,
-    ) -> Result<(), AllocError> {
-        push_quoted(lines, "", self.part(), " is of type ")?;
-        self.push_type(lines, given, behind)
-    }
+/// Adds that the part of the text is of this type, and what stands behind that.
+fn push_given(
+    lines: &mut String,
+    part: &str,
+    given: TypeWords<'_>,
+    behind: &'static str,
+) -> Result<(), AllocError> {
+    push_quoted(lines, "", part, " is of type ")?;
+    push_type(lines, given, behind)
+}
 
-    fn push_operand(
-        &self,
-        lines: &mut String,
-        operator: UnaryOperator,
-        given: EntityType,
-    ) -> Result<(), AllocError> {
-        lines.push_str(taken_by_unary(operator))?;
-        lines.push_str(", and its operand is of type ")?;
-        self.push_type(lines, given, "")
-    }
+fn push_operand(
+    lines: &mut String,
+    operator: UnaryOperator,
+    given: TypeWords<'_>,
+) -> Result<(), AllocError> {
+    lines.push_str(taken_by_unary(operator))?;
+    lines.push_str(", and its operand is of type ")?;
+    push_type(lines, given, "")
+}
 
-    fn push_operands(
-        &self,
-        lines: &mut String,
-        operator: BinaryOperator,
-        left: EntityType,
-        right: EntityType,
-    ) -> Result<(), AllocError> {
-        push_operator(lines, operator)?;
-        self.push_type(lines, left, " and of type ")?;
-        self.push_type(lines, right, "")
-    }
-
-    /// Adds what is said of a name at fault.
-    fn push_misfit(&self, lines: &mut String, misfit: Misfit) -> Result<(), AllocError> {
-        let name = self.part();
-        match misfit {
-            Misfit::Arity(taken, given) => push_arity(lines, name, taken, given),
-            Misfit::Lacking(class) => push_lacking(lines, self.class_name(class), name),
-            Misfit::Unknown => {
-                push_quoted(lines, "nothing that is known here has the name ", name, "")
-            }
-            _ => push_quoted(lines, "", name, said_of_use(misfit)),
-        }
+/// Adds what is said of a name at fault, whose class isn't told.
+fn push_misfit(lines: &mut String, name: &str, misfit: Misfit) -> Result<(), AllocError> {
+    match misfit {
+        Misfit::Arity(taken, given) => push_arity(lines, name, taken, given),
+        Misfit::Unknown => push_quoted(lines, "nothing that is known here has the name ", name, ""),
+        _ => push_quoted(lines, "", name, said_of_use(misfit)),
     }
 }
 

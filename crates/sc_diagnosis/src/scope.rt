@@ -4,7 +4,7 @@ use sc_class::ClassId;
 use sc_proctype::{EntityType, Reserved, Tag};
 use sc_rules::Role;
 use sc_text::Span;
-use sc_tree::Name;
+use sc_tree::Declaration;
 use sc_typing::{Entity, RoutineContext};
 use std::alloc::AllocError;
 
@@ -20,28 +20,12 @@ pub struct Scope<'s> {
 }
 
 impl<'s> Scope<'s> {
-    /// Adds a type in quotes, as it is declared, and what stands behind it: with the name of the formal or the block whose
-    /// handler it is of.
-    pub fn push_type(
-        &self,
-        lines: &mut String,
-        given: EntityType,
-        behind: &'static str,
-    ) -> Result<(), AllocError> {
-        push_all(lines, &["`", mark_of(given)])?;
-        self.push_handler(lines, given.tag)?;
-        lines.push_str(self.class_name(given.class))?;
-        push_all(lines, &["`", unknown_handler(given), behind])
-    }
-
-    /// Adds what stands in a type before the name of the class: whose handler it is of.
-    fn push_handler(&self, lines: &mut String, tag: Tag) -> Result<(), AllocError> {
-        match tag {
-            Tag::Own | Tag::None => Ok(()),
-            Tag::Any => lines.push_str("separate "),
-            Tag::With(reserved) => {
-                push_all(lines, &["separate <", self.name_of(reserved), ".handler> "])
-            }
+    /// A type, with the name of the formal or the block whose handler it is of.
+    pub fn words_of(&self, given: EntityType) -> TypeWords<'_> {
+        TypeWords {
+            given,
+            handler: self.handler_of(given.tag),
+            class: self.class_name(given.class),
         }
     }
 
@@ -54,29 +38,57 @@ impl<'s> Scope<'s> {
             ClassId::Boolean => "BOOLEAN",
             ClassId::Declared(number) => match self.routine.tables.class(number) {
                 None => "..",
-                Some(class) => self.written(&class.name),
+                Some(class) => part_of(self.text, class.name.span),
             },
         }
     }
 
-    /// The name of a formal or a block.
-    fn name_of(&self, reserved: Reserved) -> &str {
-        match reserved {
-            Reserved::Formal(number) => self.name_of_formal(number),
-            Reserved::BlockName(number) => name_of_block(&self.names, number),
+    /// The name of the formal or the block whose handler the tag is of, if it is one's.
+    fn handler_of(&self, tag: Tag) -> &str {
+        match tag {
+            Tag::With(Reserved::Formal(number)) => {
+                name_of_formal(self.text, self.routine.formals, number)
+            }
+            Tag::With(Reserved::BlockName(number)) => name_of_block(&self.names, number),
+            _ => "",
         }
     }
+}
 
-    fn name_of_formal(&self, number: usize) -> &str {
-        match self.routine.formals.get(number) {
-            None => "..",
-            Some(formal) => self.written(&formal.name),
-        }
+/// A type in words: the names of its handler and of its class, as the text has them.
+#[derive(Clone, Copy)]
+pub struct TypeWords<'n> {
+    given: EntityType,
+    handler: &'n str,
+    class: &'n str,
+}
+
+/// Adds a type in quotes, as it is declared, and what stands behind it.
+pub fn push_type(
+    lines: &mut String,
+    words: TypeWords<'_>,
+    behind: &'static str,
+) -> Result<(), AllocError> {
+    push_all(lines, &["`", mark_of(words.given)])?;
+    push_handler(lines, words.given.tag, words.handler)?;
+    lines.push_str(words.class)?;
+    push_all(lines, &["`", unknown_handler(words.given), behind])
+}
+
+/// Adds what stands in a type before the name of the class: whose handler it is of, which may have a name.
+fn push_handler(lines: &mut String, tag: Tag, name: &str) -> Result<(), AllocError> {
+    match tag {
+        Tag::Own | Tag::None => Ok(()),
+        Tag::Any => lines.push_str("separate "),
+        Tag::With(_) => push_all(lines, &["separate <", name, ".handler> "]),
     }
+}
 
-    /// A name with the letters of the text.
-    fn written(&self, name: &Name) -> &str {
-        part_of(self.text, name.span)
+/// The name of the formal at a number.
+fn name_of_formal<'n>(text: &'n str, formals: &[Declaration], number: usize) -> &'n str {
+    match formals.get(number) {
+        None => "..",
+        Some(formal) => part_of(text, formal.name.span),
     }
 }
 

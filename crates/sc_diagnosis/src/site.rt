@@ -2,8 +2,9 @@
 
 use sc_rules::Context;
 use sc_text::Span;
-use sc_tree::{Call, Clause, CreationCall, Expr, Variable};
-use sc_typing::operand_context;
+use sc_tree::{Call, Clause, CreationCall, Expr, Head, Instr, Variable};
+use sc_typing::{CheckFault, operand_context, variable_span};
+use std::alloc::AllocError;
 
 /// What is looked for: a part of this kind that stands there.
 #[derive(Clone, Copy)]
@@ -90,6 +91,21 @@ impl<'s> Search<'s> {
             self.found = Found::At(Site { context, part });
         }
     }
+
+    /// Keeps that memory ran out, if it did.
+    pub fn keep(&mut self, added: Result<(), AllocError>) {
+        if added.is_err() {
+            self.found = Found::OutOfMemory;
+        }
+    }
+
+    /// Ends the search by what isn't found in a part that it has come to.
+    pub fn stop(&mut self, fault: CheckFault) {
+        self.found = match fault {
+            CheckFault::OutOfMemory => Found::OutOfMemory,
+            CheckFault::Refused(_) => Found::Faulty,
+        };
+    }
 }
 
 /// Passes an expression.
@@ -113,7 +129,7 @@ pub fn pass_expression<'s>(search: &mut Search<'s>, context: Context, e: &'s Exp
 
 /// Passes a call: its name, its target and its actuals.
 #[cycle(expressions)]
-pub fn pass_call<'s>(search: &mut Search<'s>, context: Context, call: &'s Call) {
+fn pass_call<'s>(search: &mut Search<'s>, context: Context, call: &'s Call) {
     search.pass(Kind::Name, call.name.span, context, Part::CallName(call));
     if let Some(target) = &call.target {
         pass_expression(search, context, target);
@@ -130,7 +146,7 @@ pub fn pass_call<'s>(search: &mut Search<'s>, context: Context, call: &'s Call) 
 }
 
 /// Passes the call that an entity is created by.
-pub fn pass_creation<'s>(search: &mut Search<'s>, created: &'s Variable, call: &'s CreationCall) {
+fn pass_creation<'s>(search: &mut Search<'s>, created: &'s Variable, call: &'s CreationCall) {
     let context = Context::Body;
     let part = Part::CreationName(created, call);
     search.pass(Kind::Name, call.name.span, context, part);
@@ -152,4 +168,41 @@ pub fn pass_clauses<'s>(search: &mut Search<'s>, context: Context, clauses: &'s 
 pub fn pass_condition<'s>(search: &mut Search<'s>, context: Context, e: &'s Expr) {
     search.pass(Kind::Condition, e.span(), context, Part::Condition(e));
     pass_expression(search, context, e)
+}
+
+/// Passes an instruction that has no others in it.
+pub fn pass_simple<'s>(search: &mut Search<'s>, instruction: &'s Instr) {
+    match instruction {
+        Instr::Assign(_, variable, value) => pass_assignment(search, variable, value),
+        Instr::Call(call) => pass_call(search, Context::Body, call),
+        Instr::Create(_, variable, None) => pass_variable(search, variable),
+        Instr::Create(_, variable, Some(call)) => {
+            pass_variable(search, variable);
+            pass_creation(search, variable, call)
+        }
+        Instr::Check(_, clauses) => pass_clauses(search, Context::Check, clauses),
+        _ => {}
+    }
+}
+
+fn pass_assignment<'s>(search: &mut Search<'s>, variable: &'s Variable, value: &'s Expr) {
+    let part = Part::Assigned(variable, value);
+    search.pass(Kind::Assigned, value.span(), Context::Body, part);
+    pass_variable(search, variable);
+    pass_expression(search, Context::Body, value)
+}
+
+/// Passes the entity that is assigned or created.
+fn pass_variable(search: &mut Search<'_>, variable: &Variable) {
+    let span = variable_span(variable);
+    search.pass(Kind::Name, span, Context::Body, Part::Assignee)
+}
+
+/// Passes the heads of a separate block, in each of which none of its names is known.
+pub fn pass_heads<'s>(search: &mut Search<'s>, heads: &'s [Head]) {
+    for head in heads {
+        let part = Part::Head(&head.value);
+        search.pass(Kind::Actual, head.value.span(), Context::Body, part);
+        pass_expression(search, Context::Body, &head.value);
+    }
 }

@@ -4,7 +4,7 @@ use crate::declared::{class_around, feature_around};
 use crate::nearest::{nearest_entity, nearest_feature};
 use crate::remark::{Misfit, Remark};
 use crate::scope::{Scope, part_of};
-use crate::site::{Aim, Found, Kind, Search, Site};
+use crate::site::{Aim, Found, Kind, Search, Site, pass_clauses};
 use crate::untold::Untold;
 use crate::walk::Walk;
 use sc_class::{ClassFault, ClassId, Root, Tables, tables};
@@ -133,7 +133,7 @@ impl<'s> Refused<'s> {
         class: &'s Class,
     ) -> Result<bool, AllocError> {
         let mut walk = self.walk(around, aim);
-        walk.pass_clauses(Context::Invariant, &class.invariant);
+        pass_clauses(&mut walk.search, Context::Invariant, &class.invariant);
         match walk.push_found(lines)? {
             Some(is_told) => Ok(is_told),
             None => walk.scope.push_creator(lines, &class.creators),
@@ -189,15 +189,10 @@ impl<'s> Scope<'s> {
             return Ok(false);
         }
         let misfit = match self.code {
-            "V1" => Misfit::Lacking(self.class()),
+            "V1" => Misfit::Lacking(ClassId::Declared(self.routine.class)),
             _ => Misfit::Creator,
         };
         self.push_lines(lines, Remark::Name(misfit))
-    }
-
-    /// The class in which this is.
-    fn class(&self) -> ClassId {
-        ClassId::Declared(self.routine.class)
     }
 
     /// Adds a remark, and what helps.
@@ -223,7 +218,7 @@ impl<'s> Scope<'s> {
         if nearest_entity(lines, &self.names, name)? {
             return Ok(());
         }
-        self.push_nearest_feature(lines, self.class(), name)
+        self.push_nearest_feature(lines, ClassId::Declared(self.routine.class), name)
     }
 
     /// Adds a feature of the class whose name is near to one that isn't known.

@@ -12,7 +12,7 @@ use sc_proctype::{EntityType, Tag, conforms};
 use sc_rules::{Context, Position};
 use sc_text::Span;
 use sc_tree::{Call, Declaration, Expr, Variable};
-use sc_typing::{Assignee, CheckFault, JudgedActual, Meaning, Typing, declared_type, judged_type};
+use sc_typing::{Assignee, CheckFault, JudgedActual, Typing, declared_type, judged_type};
 use std::alloc::{AllocError, Global};
 
 /// What is given, and what would be taken.
@@ -147,13 +147,15 @@ impl<'s> Scope<'s> {
         }
     }
 
-    /// What the name of a call stands for, where its target, if it has one, has a type.
-    pub fn meaning_of_call(&self, context: Context, call: &Call) -> Result<Meaning<'s>, Untold> {
-        let target = match &call.target {
-            None => None,
-            Some(target) => Some(self.type_of_value(context, target)?),
-        };
-        let routine = self.routine;
-        Ok(routine.meaning_of(&self.names, &call.target, target, &call.name))
+    /// The type of the target of a call, if it has one.
+    pub fn type_of_target(
+        &self,
+        context: Context,
+        call: &Call,
+    ) -> Result<Option<EntityType>, Untold> {
+        match &call.target {
+            None => Ok(None),
+            Some(target) => Ok(Some(self.type_of_value(context, target)?)),
+        }
     }
 }

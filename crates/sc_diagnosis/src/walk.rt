@@ -2,14 +2,12 @@
 
 use crate::scope::Scope;
 use crate::site::{
-    Found, Kind, Part, Search, pass_call, pass_clauses, pass_condition, pass_creation,
-    pass_expression,
+    Kind, Part, Search, pass_clauses, pass_condition, pass_expression, pass_heads, pass_simple,
 };
 use sc_proctype::EntityType;
 use sc_rules::{Context, Position, Role};
-use sc_tree::{Branch, Clause, Declaration, Expr, Head, Instr, Routine, Variable};
-use sc_typing::{CheckFault, Entity, add_formals, add_locals, block_type, blocks, variable_span};
-use std::alloc::AllocError;
+use sc_tree::{Branch, Declaration, Expr, Head, Instr, Routine};
+use sc_typing::{CheckFault, Entity, add_formals, add_locals, block_type, blocks};
 
 /// A walk: what is looked for, and what is known at the part that it has come to, or at that which was found.
 #[derive(Drop)]
@@ -22,23 +20,18 @@ impl<'s> Walk<'s> {
     /// Passes a routine: its precondition, its body and its postcondition.
     pub fn pass_routine(&mut self, text: &'s Routine) {
         self.add_formals();
-        self.pass_clauses(Context::Require, &text.precondition);
+        pass_clauses(&mut self.search, Context::Require, &text.precondition);
         let known = self.scope.names.len();
         self.add_locals(&text.locals);
         self.pass_instructions(&text.body);
         self.forget(known);
-        self.pass_clauses(Context::Ensure, &text.postcondition)
-    }
-
-    /// Passes clauses, in which no more names are known than around them.
-    pub fn pass_clauses(&mut self, context: Context, clauses: &'s [Clause]) {
-        pass_clauses(&mut self.search, context, clauses)
+        pass_clauses(&mut self.search, Context::Ensure, &text.postcondition)
     }
 
     fn add_formals(&mut self) {
         let routine = self.scope.routine;
         let added = add_formals(routine.tables, routine.formals, &mut self.scope.names);
-        self.keep(added)
+        self.search.keep(added)
     }
 
     fn add_locals(&mut self, locals: &'s [Declaration]) {
@@ -46,14 +39,7 @@ impl<'s> Walk<'s> {
             let routine = self.scope.routine;
             let names = &mut self.scope.names;
             let added = add_locals(routine.tables, routine.formals, locals, names);
-            self.keep(added)
-        }
-    }
-
-    /// Keeps that memory ran out, if it did.
-    fn keep(&mut self, added: Result<(), AllocError>) {
-        if added.is_err() {
-            self.search.found = Found::OutOfMemory;
+            self.search.keep(added)
         }
     }
 
@@ -88,43 +74,13 @@ impl<'s> Walk<'s> {
             }
             Instr::Block(_, heads, body) => {
                 let known = self.scope.names.len();
-                self.pass_heads(heads);
+                pass_heads(&mut self.search, heads);
                 self.add_block_names(heads);
                 self.pass_instructions(body);
                 self.forget(known)
             }
-            _ => self.pass_simple(instruction),
+            _ => pass_simple(&mut self.search, instruction),
         }
-    }
-
-    /// Passes an instruction that has no others in it.
-    fn pass_simple(&mut self, instruction: &'s Instr) {
-        match instruction {
-            Instr::Assign(_, variable, value) => self.pass_assignment(variable, value),
-            Instr::Call(call) => pass_call(&mut self.search, Context::Body, call),
-            Instr::Create(_, variable, None) => self.pass_variable(variable),
-            Instr::Create(_, variable, Some(call)) => {
-                self.pass_variable(variable);
-                pass_creation(&mut self.search, variable, call)
-            }
-            Instr::Check(_, clauses) => self.pass_clauses(Context::Check, clauses),
-            _ => {}
-        }
-    }
-
-    fn pass_assignment(&mut self, variable: &'s Variable, value: &'s Expr) {
-        let part = Part::Assigned(variable, value);
-        self.search
-            .pass(Kind::Assigned, value.span(), Context::Body, part);
-        self.pass_variable(variable);
-        pass_expression(&mut self.search, Context::Body, value)
-    }
-
-    /// Passes the entity that is assigned or created.
-    fn pass_variable(&mut self, variable: &Variable) {
-        let span = variable_span(variable);
-        self.search
-            .pass(Kind::Name, span, Context::Body, Part::Assignee)
     }
 
     #[cycle(instructions)]
@@ -143,16 +99,6 @@ impl<'s> Walk<'s> {
         self.forget(known)
     }
 
-    /// Passes the heads of a separate block, in each of which none of its names is known.
-    fn pass_heads(&mut self, heads: &'s [Head]) {
-        for head in heads {
-            let part = Part::Head(&head.value);
-            self.search
-                .pass(Kind::Actual, head.value.span(), Context::Body, part);
-            pass_expression(&mut self.search, Context::Body, &head.value);
-        }
-    }
-
     /// Makes the names of a separate block known.
     fn add_block_names(&mut self, heads: &'s [Head]) {
         let known = self.scope.names.len();
@@ -168,7 +114,7 @@ impl<'s> Walk<'s> {
             let routine = self.scope.routine;
             match routine.expression(Context::Body, Position::Plain, outer, &head.value) {
                 Ok(typing) => self.push_block_name(head, typing.entity_type),
-                Err(fault) => self.stop(fault),
+                Err(fault) => self.search.stop(fault),
             }
         }
     }
@@ -181,16 +127,8 @@ impl<'s> Walk<'s> {
             role: Role::Block,
         });
         if added.is_err() {
-            self.search.found = Found::OutOfMemory;
+            self.search.stop(CheckFault::OutOfMemory)
         }
-    }
-
-    /// Ends the search by what isn't found in a part that it has come to.
-    fn stop(&mut self, fault: CheckFault) {
-        self.search.found = match fault {
-            CheckFault::OutOfMemory => Found::OutOfMemory,
-            CheckFault::Refused(_) => Found::Faulty,
-        };
     }
 
     /// Passes the condition of an `if`. Behind it the names that it gives are known.
@@ -225,7 +163,7 @@ impl<'s> Walk<'s> {
         if self.search.is_open() {
             let routine = self.scope.routine;
             if let Err(fault) = routine.condition(Context::Body, &mut self.scope.names, e) {
-                self.stop(fault)
+                self.search.stop(fault)
             }
         }
     }
