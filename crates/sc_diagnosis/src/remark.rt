@@ -6,11 +6,11 @@ use crate::types::{Compared, Passed, type_found, type_of_actual};
 use crate::untold::Untold;
 use sc_class::ClassId;
 use sc_proctype::EntityType;
-use sc_rules::Context;
+use sc_rules::{Context, Position};
 use sc_text::Span;
 use sc_tree::{BinaryOperator, Call, CreationCall, Expr, UnaryOperator, Variable};
 use sc_typing::{
-    Formals, Meaning, Signature, Typing, is_boolean, judge_binary, judge_unary, operand_context,
+    Formals, Meaning, Typing, is_boolean, judge_binary, judge_unary, operand_context,
     operand_position, variable_span,
 };
 
@@ -59,6 +59,23 @@ pub enum Misfit {
     Procedure,
 }
 
+/// What a name is looked up for: the class that it is looked for in, where it stands behind a target, and what it is called
+/// by, if it is known.
+#[derive(Clone, Copy)]
+struct Called<'s> {
+    class: Option<ClassId>,
+    callee: Option<Callee<'s>>,
+}
+
+/// What a name is called by.
+#[derive(Clone, Copy)]
+struct Callee<'s> {
+    target: EntityType,
+    formals: Formals<'s>,
+    /// Whether it gives a value.
+    is_query: bool,
+}
+
 impl<'s> Scope<'s> {
     /// What is said of what stands there. Nothing where the types and numbers that are found there don't earn the fault.
     pub fn remark(&mut self, site: Site<'s>) -> Result<Remark, Untold> {
@@ -80,13 +97,20 @@ impl<'s> Scope<'s> {
     /// Of a part of a call or of a creation.
     fn of_part(&self, context: Context, part: Part<'s>) -> Result<Remark, Untold> {
         match part {
-            Part::Actual(call, number) => self.of_actual(context, call, number),
-            Part::CreationActual(created, call, number) => {
-                self.of_creation_actual(created, call, number)
+            Part::Actual(call, number) => {
+                self.of_actual(context, self.called(context, call)?, &call.actuals, number)
             }
-            Part::CallName(call) => self.of_call(context, call),
-            Part::CreationName(created, call) => self.of_creation(created, call),
-            _ => of_unknown(self.code),
+            Part::CreationActual(created, call, number) => {
+                let called = self.creator(created, call)?;
+                self.of_actual(Context::Body, called, &call.actuals, number)
+            }
+            Part::CallName(call) => {
+                of_called(self.code, self.called(context, call)?, call.actuals.len())
+            }
+            Part::CreationName(created, call) => {
+                of_creator(self.code, self.creator(created, call)?, call.actuals.len())
+            }
+            _ => of_unknown(self.code, None),
         }
     }
 
@@ -98,149 +122,128 @@ impl<'s> Scope<'s> {
     fn of_operation(&mut self, context: Context, e: &'s Expr) -> Result<Remark, Untold> {
         match e {
             Expr::Unary(span, operator, operand) => {
-                self.of_unary(context, *span, *operator, operand)
+                let around = operand_context(*operator, context);
+                let given = self.type_of(around, Position::Plain, operand)?;
+                of_operand(context, *span, *operator, given)
             }
             Expr::Binary(span, operator, left, right) => {
-                self.of_binary(context, *span, *operator, left, right)
+                let left = self.type_of_operand(context, *operator, left)?;
+                let right = self.type_of_operand(context, *operator, right)?;
+                of_operands(*span, *operator, left, right)
             }
             _ => Err(Untold::Nothing),
         }
     }
 
-    fn of_unary(
-        &self,
-        context: Context,
-        span: Span,
-        operator: UnaryOperator,
-        operand: &Expr,
-    ) -> Result<Remark, Untold> {
-        let given = self.type_of_value(operand_context(operator, context), operand)?;
-        of_operand(context, span, operator, given)
-    }
-
-    fn of_binary(
-        &mut self,
-        context: Context,
-        span: Span,
-        operator: BinaryOperator,
-        left: &'s Expr,
-        right: &'s Expr,
-    ) -> Result<Remark, Untold> {
-        let left = self.operand(context, operator, left)?;
-        let right = self.operand(context, operator, right)?;
-        of_operands(span, operator, left, right)
-    }
-
     /// The type of an operand, if it has one; the names that it gives, in a condition, are known behind it.
-    fn operand(
+    fn type_of_operand(
         &mut self,
         context: Context,
         operator: BinaryOperator,
         operand: &'s Expr,
     ) -> Result<EntityType, Untold> {
         if operator.is_and_then() {
-            return self.type_of_condition(context, operand);
+            self.type_of_condition(context, operand)
+        } else {
+            self.type_of(context, operand_position(operator), operand)
         }
-        let position = operand_position(operator);
-        type_found(
-            self.routine
-                .expression(context, position, &self.names, operand),
-        )
     }
 
-    fn of_actual(&self, context: Context, call: &Call, number: usize) -> Result<Remark, Untold> {
+    /// What the name of a call is looked up for.
+    fn called(&self, context: Context, call: &Call) -> Result<Called<'s>, Untold> {
         let target = self.type_of_target(context, call)?;
         let routine = self.routine;
         let meaning = routine.meaning_of(&self.names, &call.target, target, &call.name);
-        self.of_taken(context, &meaning, &call.actuals, number)
+        called_by(&meaning, class_of(target))
     }
 
-    fn of_creation_actual(
-        &self,
-        created: &Variable,
-        call: &CreationCall,
-        number: usize,
-    ) -> Result<Remark, Untold> {
+    /// What the name of the call is looked up for that an entity is created by.
+    fn creator(&self, created: &Variable, call: &CreationCall) -> Result<Called<'s>, Untold> {
         let created = self.type_of_variable(created)?;
         let meaning = self.routine.qualified_meaning(created, &call.name.text);
-        self.of_taken(Context::Body, &meaning, &call.actuals, number)
+        called_by(&meaning, Some(created.class))
     }
 
-    /// Of the actual at a number, where the name stands for this.
-    fn of_taken(
+    /// Of the actual at a number of what is called.
+    fn of_actual(
         &self,
         context: Context,
-        meaning: &Meaning<'s>,
+        called: Called<'s>,
         actuals: &[Expr],
         number: usize,
     ) -> Result<Remark, Untold> {
-        let Meaning::Named(signature) = meaning else {
+        let Some(callee) = called.callee else {
             return Err(Untold::Nothing);
         };
         let found = self.routine.judged_actuals(context, &self.names, actuals)?;
-        match signature.formals {
+        match callee.formals {
             Formals::Printed => of_printed(type_of_actual(&found, number)?),
             Formals::Declared(formals) => {
-                let passed = self.passed_types(&found, signature.target, formals, number)?;
+                let passed = self.passed_types(&found, callee.target, formals, number)?;
                 Ok(Remark::Passed(passed))
             }
         }
     }
+}
 
-    fn of_call(&self, context: Context, call: &Call) -> Result<Remark, Untold> {
-        let target = self.type_of_target(context, call)?;
-        let routine = self.routine;
-        let meaning = routine.meaning_of(&self.names, &call.target, target, &call.name);
-        let remark = of_name(self.code, &meaning, call.actuals.len())?;
-        match target {
-            None => Ok(remark),
-            Some(target) => Ok(in_class(remark, target.class)),
-        }
-    }
-
-    fn of_creation(&self, created: &Variable, call: &CreationCall) -> Result<Remark, Untold> {
-        let created = self.type_of_variable(created)?;
-        let meaning = self.routine.qualified_meaning(created, &call.name.text);
-        let remark = of_name(self.code, &meaning, call.actuals.len())?;
-        Ok(as_creation(in_class(remark, created.class)))
+/// The class of the type, if there is one.
+fn class_of(given: Option<EntityType>) -> Option<ClassId> {
+    match given {
+        None => None,
+        Some(given) => Some(given.class),
     }
 }
 
-/// Of what isn't known, by the code of the fault.
-fn of_unknown(code: &str) -> Result<Remark, Untold> {
-    if code == "V1" {
-        Ok(Remark::Name(Misfit::Unknown))
-    } else {
-        Err(Untold::Nothing)
-    }
-}
-
-/// By the code of the fault, of a name with so many actuals that stands for this.
-fn of_name(code: &str, meaning: &Meaning<'_>, actuals: usize) -> Result<Remark, Untold> {
+/// What a name of this meaning is looked up for in the class. Nothing where its target has no type.
+fn called_by<'s>(meaning: &Meaning<'s>, class: Option<ClassId>) -> Result<Called<'s>, Untold> {
     match meaning {
-        Meaning::Unknown => of_unknown(code),
+        Meaning::Unknown => Ok(Called {
+            class,
+            callee: None,
+        }),
         Meaning::TargetUntyped => Err(Untold::Nothing),
-        Meaning::Named(signature) => of_signature(code, signature, actuals),
+        Meaning::Named(signature) => Ok(Called {
+            class,
+            callee: Some(Callee {
+                target: signature.target,
+                formals: signature.formals,
+                is_query: signature.gives.is_some(),
+            }),
+        }),
     }
+}
+
+/// By the code of the fault, of a name that isn't known, or that the class hasn't.
+fn of_unknown(code: &str, class: Option<ClassId>) -> Result<Remark, Untold> {
+    if code != "V1" {
+        return Err(Untold::Nothing);
+    }
+    match class {
+        None => Ok(Remark::Name(Misfit::Unknown)),
+        Some(class) => Ok(Remark::Name(Misfit::Lacking(class))),
+    }
+}
+
+/// By the code of the fault, of the name of a call with so many actuals.
+fn of_called(code: &str, called: Called<'_>, actuals: usize) -> Result<Remark, Untold> {
+    match called.callee {
+        None => of_unknown(code, called.class),
+        Some(callee) => of_callee(code, callee, actuals),
+    }
+}
+
+/// By the code of the fault, of the name of a creation with so many actuals.
+fn of_creator(code: &str, called: Called<'_>, actuals: usize) -> Result<Remark, Untold> {
+    Ok(as_creation(of_called(code, called, actuals)?))
 }
 
 /// By the code of the fault, of a name with so many actuals that is called by this.
-fn of_signature(code: &str, signature: &Signature<'_>, actuals: usize) -> Result<Remark, Untold> {
+fn of_callee(code: &str, callee: Callee<'_>, actuals: usize) -> Result<Remark, Untold> {
     match code {
-        "V2" => of_arity(taken_by(signature), actuals),
-        "V7" => match signature.gives {
-            Some(_) => Ok(Remark::Name(Misfit::Query)),
-            None => Ok(Remark::Name(Misfit::Procedure)),
-        },
+        "V2" => of_arity(taken_by(callee.formals), actuals),
+        "V7" if callee.is_query => Ok(Remark::Name(Misfit::Query)),
+        "V7" => Ok(Remark::Name(Misfit::Procedure)),
         _ => Err(Untold::Nothing),
-    }
-}
-
-/// What is said of a name that is looked for in this class, by what is said of one that is looked for everywhere.
-fn in_class(remark: Remark, class: ClassId) -> Remark {
-    match remark {
-        Remark::Name(Misfit::Unknown) => Remark::Name(Misfit::Lacking(class)),
-        _ => remark,
     }
 }
 
@@ -305,8 +308,8 @@ fn of_untrue(given: EntityType) -> Result<Remark, Untold> {
 }
 
 /// How many actuals are taken.
-fn taken_by(signature: &Signature<'_>) -> usize {
-    match signature.formals {
+fn taken_by(formals: Formals<'_>) -> usize {
+    match formals {
         Formals::Declared(formals) => formals.len(),
         Formals::Printed => 1,
     }

@@ -1,6 +1,7 @@
 // The types that a rule compares at a part of the text.
 
-ghost use Rattle.std.specs.Prelude.{IfOk};
+ghost use Rattle.std.specs.Prelude.{◌≡◌, false, IfOk};
+ghost use Rattle.sc_rules.specs.Positions.{is_condition};
 ghost use Rattle.sc_class.specs.SystemIn.{system_in};
 ghost use Rattle.sc_diagnosis.specs.Mismatch.{IsMismatch};
 
@@ -81,22 +82,16 @@ impl<'s> Scope<'s> {
     pub fn assigned_types(&self, variable: &Variable, value: &Expr) -> Result<Compared, Untold>
         ensures { IfOk result (IsMismatch (system_in self.now.routine.now.tables.now)) }
     {
-        let routine = self.routine;
         let taken = self.type_of_variable(variable)?;
-        let given = type_found(routine.expression(
-            Context::Body,
-            Position::Source,
-            &self.names,
-            value,
-        ))?;
-        mismatch(routine.tables, given, taken)
+        let given = self.type_of(Context::Body, Position::Source, value)?;
+        mismatch(self.routine.tables, given, taken)
     }
 
     /// The types of the head of a separate block and of what a block takes, where they don't conform.
     pub fn head_types(&self, value: &Expr) -> Result<Compared, Untold>
         ensures { IfOk result (IsMismatch (system_in self.now.routine.now.tables.now)) }
     {
-        let given = self.type_of_value(Context::Body, value)?;
+        let given = self.type_of(Context::Body, Position::Plain, value)?;
         let taken = EntityType {
             attached: true,
             tag: Tag::Any,
@@ -131,12 +126,16 @@ impl<'s> Scope<'s> {
         })
     }
 
-    /// The type of an expression that is no right side, no actual and no operand of `=`, if it has one.
-    pub fn type_of_value(&self, context: Context, e: &Expr) -> Result<EntityType, Untold> {
-        type_found(
-            self.routine
-                .expression(context, Position::Plain, &self.names, e),
-        )
+    /// The type of an expression at this position, which is no condition's, if it has one.
+    pub fn type_of(
+        &self,
+        context: Context,
+        position: Position,
+        e: &Expr,
+    ) -> Result<EntityType, Untold>
+        requires { is_condition position ≡ false }
+    {
+        type_found(self.routine.expression(context, position, &self.names, e))
     }
 
     /// The type of an entity that is assigned or created, if it has one.
@@ -155,7 +154,7 @@ impl<'s> Scope<'s> {
     ) -> Result<Option<EntityType>, Untold> {
         match &call.target {
             None => Ok(None),
-            Some(target) => Ok(Some(self.type_of_value(context, target)?)),
+            Some(target) => Ok(Some(self.type_of(context, Position::Plain, target)?)),
         }
     }
 }
