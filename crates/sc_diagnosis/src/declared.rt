@@ -37,13 +37,20 @@ fn other_class(system: &System, name: &str, span: Span) -> Option<Span> {
 
 fn other_entity(system: &System, name: &str, span: Span) -> Option<Span> {
     let (_, class) = class_around(&system.classes, span)?;
-    if let Some(found) = other_inherited(system, class, name, span) {
-        return Some(found);
+    let inherited = other_inherited(system, class, name, span);
+    if inherited.is_some() {
+        return inherited;
     }
     let around = feature_around(class, span)?;
-    if around.name.span != span {
-        return other_in_routine(around, name, span);
+    if around.name.span == span {
+        other_in_heirs(system, class, name, span)
+    } else {
+        other_in_routine(around, name, span)
     }
+}
+
+/// The place of a formal or a local of the name, of the class or an heir.
+fn other_in_heirs(system: &System, class: &Class, name: &str, span: Span) -> Option<Span> {
     for heir in system.classes.iter() {
         if inherits(system, heir, class) {
             let found = other_in_routines(heir, name, span);

@@ -73,6 +73,15 @@ fn tell(
     }
     let part = part_of(refused.text, refused.span);
     push_told(&mut diagnosis.lines, sentence, part)?;
+    add_more(alloc, diagnosis, refused)
+}
+
+/// Adds what more helps, and another place of the text, where there is one.
+fn add_more(
+    alloc: Global,
+    diagnosis: &mut Diagnosis,
+    refused: Refused<'_>,
+) -> Result<(), AllocError> {
     match refused.code {
         "P1" => add_expected(alloc, diagnosis, refused),
         "C1" | "C4" | "C5" | "V1" => add_declared(alloc, diagnosis, refused),

@@ -1,5 +1,6 @@
 // A text read again for what is said of it. What is wrong with it was told before; want of memory is told here.
 
+use sc_class::{ClassFault, Root, Tables, tables};
 use sc_parse::{ParseFault, parse};
 use sc_text::{LexFault, Token, lex};
 use sc_tree::System;
@@ -22,6 +23,19 @@ pub fn system_of(alloc: Global, text: &str) -> Result<Option<System>, AllocError
     match parse(alloc, &tokens) {
         Ok(system) => Ok(Some(system)),
         Err(ParseFault::OutOfMemory) => Err(AllocError),
+        Err(_) => Ok(None),
+    }
+}
+
+/// The tables of a system that is run from this root, if it has no fault.
+pub fn tables_of<'s>(
+    alloc: Global,
+    system: &'s System,
+    root: &Root,
+) -> Result<Option<Tables<'s>>, AllocError> {
+    match tables(alloc, system, root) {
+        Ok(tables) => Ok(Some(tables)),
+        Err(ClassFault::OutOfMemory) => Err(AllocError),
         Err(_) => Ok(None),
     }
 }

@@ -10,7 +10,7 @@ use sc_rules::{Context, Position};
 use sc_text::Span;
 use sc_tree::{BinaryOperator, Call, CreationCall, Expr, UnaryOperator, Variable};
 use sc_typing::{
-    Formals, Meaning, Typing, is_boolean, judge_binary, judge_unary, operand_context,
+    Formals, JudgedActual, Meaning, Typing, is_boolean, judge_binary, judge_unary, operand_context,
     operand_position, variable_span,
 };
 
@@ -80,38 +80,60 @@ impl<'s> Scope<'s> {
     /// What is said of what stands there. Nothing where the types and numbers that are found there don't earn the fault.
     pub fn remark(&mut self, site: Site<'s>) -> Result<Remark, Untold> {
         match site.part {
-            Part::Assigned(variable, value) => {
-                let types = self.assigned_types(variable, value)?;
-                Ok(Remark::Assigned(types, variable_span(variable)))
-            }
-            Part::Head(value) => {
-                let types = self.head_types(value)?;
-                Ok(Remark::Given(types.given, Wanted::Reserved))
-            }
+            Part::Assigned(variable, value) => self.of_assigned(variable, value),
+            Part::Head(value) => self.of_head(value),
             Part::Condition(e) => of_untrue(self.type_of_condition(site.context, e)?),
             Part::Operation(e) => self.of_operation(site.context, e),
             part => self.of_part(site.context, part),
         }
     }
 
+    fn of_assigned(&self, variable: &Variable, value: &Expr) -> Result<Remark, Untold> {
+        let types = self.assigned_types(variable, value)?;
+        Ok(Remark::Assigned(types, variable_span(variable)))
+    }
+
+    fn of_head(&self, value: &Expr) -> Result<Remark, Untold> {
+        let types = self.head_types(value)?;
+        Ok(Remark::Given(types.given, Wanted::Reserved))
+    }
+
     /// Of a part of a call or of a creation.
     fn of_part(&self, context: Context, part: Part<'s>) -> Result<Remark, Untold> {
         match part {
-            Part::Actual(call, number) => {
-                self.of_actual(context, self.called(context, call)?, &call.actuals, number)
-            }
+            Part::Actual(call, number) => self.of_actual(context, call, number),
             Part::CreationActual(created, call, number) => {
-                let called = self.creator(created, call)?;
-                self.of_actual(Context::Body, called, &call.actuals, number)
+                self.of_creation_actual(created, call, number)
             }
-            Part::CallName(call) => {
-                of_called(self.code, self.called(context, call)?, call.actuals.len())
-            }
-            Part::CreationName(created, call) => {
-                of_creator(self.code, self.creator(created, call)?, call.actuals.len())
-            }
+            Part::CallName(call) => self.of_call(context, call),
+            Part::CreationName(created, call) => self.of_creation(created, call),
             _ => of_unknown(self.code, None),
         }
+    }
+
+    fn of_actual(&self, context: Context, call: &Call, number: usize) -> Result<Remark, Untold> {
+        let called = self.called(context, call)?;
+        self.of_taken(context, called, &call.actuals, number)
+    }
+
+    fn of_creation_actual(
+        &self,
+        created: &Variable,
+        call: &CreationCall,
+        number: usize,
+    ) -> Result<Remark, Untold> {
+        let called = self.creator(created, call)?;
+        self.of_taken(Context::Body, called, &call.actuals, number)
+    }
+
+    fn of_call(&self, context: Context, call: &Call) -> Result<Remark, Untold> {
+        let called = self.called(context, call)?;
+        of_called(self.code, called, call.actuals.len())
+    }
+
+    fn of_creation(&self, created: &Variable, call: &CreationCall) -> Result<Remark, Untold> {
+        let called = self.creator(created, call)?;
+        of_creator(self.code, called, call.actuals.len())
     }
 
     /// The type of a condition, if it has one; the names that it gives are known behind it.
@@ -165,21 +187,34 @@ impl<'s> Scope<'s> {
     }
 
     /// Of the actual at a number of what is called.
-    fn of_actual(
+    fn of_taken(
         &self,
         context: Context,
         called: Called<'s>,
         actuals: &[Expr],
         number: usize,
     ) -> Result<Remark, Untold> {
-        let Some(callee) = called.callee else {
-            return Err(Untold::Nothing);
-        };
-        let found = self.routine.judged_actuals(context, &self.names, actuals)?;
+        match called.callee {
+            None => Err(Untold::Nothing),
+            Some(callee) => {
+                let found = self.routine.judged_actuals(context, &self.names, actuals)?;
+                self.of_found(&found, callee, number)
+            }
+        }
+    }
+
+    /// Of the actual at a number of those that were judged.
+    fn of_found(
+        &self,
+        found: &[JudgedActual],
+        callee: Callee<'s>,
+        number: usize,
+    ) -> Result<Remark, Untold> {
+        let given = type_of_actual(found, number)?;
         match callee.formals {
-            Formals::Printed => of_printed(type_of_actual(&found, number)?),
+            Formals::Printed => of_printed(given),
             Formals::Declared(formals) => {
-                let passed = self.passed_types(&found, callee.target, formals, number)?;
+                let passed = self.passed_types(found, callee.target, formals, number, given)?;
                 Ok(Remark::Passed(passed))
             }
         }

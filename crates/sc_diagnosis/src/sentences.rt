@@ -10,7 +10,13 @@ pub struct Sentence {
 
 /// The sentence of this code, if there is one.
 pub fn sentence_of(code: &str) -> Option<&'static Sentence> {
-    find(SENTENCES, code)
+    for sentences in [of_texts(), of_classes(), of_types(), of_uses()] {
+        let found = find(sentences, code);
+        if found.is_some() {
+            return found;
+        }
+    }
+    None
 }
 
 fn find<'t>(sentences: &'t [Sentence], code: &str) -> Option<&'t Sentence> {
@@ -22,8 +28,12 @@ fn find<'t>(sentences: &'t [Sentence], code: &str) -> Option<&'t Sentence> {
     None
 }
 
-/// The sentences, in the order in which what they tell of is looked for.
-const SENTENCES: &[Sentence] = &[
+/// The sentences on a text and its tokens.
+fn of_texts() -> &'static [Sentence] {
+    OF_TEXTS
+}
+
+const OF_TEXTS: &[Sentence] = &[
     Sentence {
         code: "L1",
         text: "# begins no token",
@@ -59,6 +69,14 @@ const SENTENCES: &[Sentence] = &[
         text: "# has more than 64 constructs around it",
         help: "give a part a name: a local, or a routine of its own",
     },
+];
+
+/// Those on what classes declare.
+fn of_classes() -> &'static [Sentence] {
+    OF_CLASSES
+}
+
+const OF_CLASSES: &[Sentence] = &[
     Sentence {
         code: "C1",
         text: "the name # is a class's already",
@@ -99,6 +117,14 @@ const SENTENCES: &[Sentence] = &[
         text: "# begins a part of Eiffel that is left out",
         help: "",
     },
+];
+
+/// Those on names and types in a class.
+fn of_types() -> &'static [Sentence] {
+    OF_TYPES
+}
+
+const OF_TYPES: &[Sentence] = &[
     Sentence {
         code: "V1",
         text: "nothing that may stand here has the name #",
@@ -149,6 +175,14 @@ const SENTENCES: &[Sentence] = &[
         text: "nothing is assigned to #",
         help: "",
     },
+];
+
+/// Those on what else may not stand in a class.
+fn of_uses() -> &'static [Sentence] {
+    OF_USES
+}
+
+const OF_USES: &[Sentence] = &[
     Sentence {
         code: "V11",
         text: "# creates no object of this class",

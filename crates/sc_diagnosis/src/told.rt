@@ -2,12 +2,13 @@
 
 use crate::declared::{class_around, feature_around};
 use crate::nearest::{nearest_entity, nearest_feature};
+use crate::reading::tables_of;
 use crate::remark::{Misfit, Remark};
 use crate::scope::{Scope, part_of};
 use crate::site::{Aim, Found, Kind, Search, Site, pass_clauses};
 use crate::untold::Untold;
 use crate::walk::Walk;
-use sc_class::{ClassFault, ClassId, Root, Tables, tables};
+use sc_class::{ClassId, Root, Tables};
 use sc_rules::Context;
 use sc_text::Span;
 use sc_tree::{Class, Feature, FeatureKind, Name, Routine, System};
@@ -37,10 +38,18 @@ const AIMS: [(&str, Kind); 7] = [
 impl<'s> Refused<'s> {
     /// What is looked for, where more can be said of the rule.
     pub fn aim(self) -> Option<Aim> {
+        if self.is_print() {
+            return None;
+        }
         Some(Aim {
             kind: kind_at(&AIMS, self.code)?,
             span: self.span,
         })
+    }
+
+    /// Whether `print` isn't known. Every class has it, so it stands in a place that no class gives it.
+    fn is_print(self) -> bool {
+        self.code == "V1" && part_of(self.text, self.span).eq_ignore_ascii_case("print")
     }
 
     /// Adds a sentence on this very fault, which is at a part that is aimed at, and what helps, and whether there is
@@ -52,14 +61,9 @@ impl<'s> Refused<'s> {
         system: &System,
         aim: Aim,
     ) -> Result<bool, AllocError> {
-        // Every class has `print`: where it isn't known it stands in a place that no class gives it.
-        if self.code == "V1" && part_of(self.text, self.span).eq_ignore_ascii_case("print") {
-            return Ok(false);
-        }
-        match tables(alloc, system, self.root) {
-            Ok(tables) => self.push_found(alloc, lines, &tables, aim),
-            Err(ClassFault::OutOfMemory) => Err(AllocError),
-            Err(_) => Ok(false),
+        match tables_of(alloc, system, self.root)? {
+            None => Ok(false),
+            Some(tables) => self.push_found(alloc, lines, &tables, aim),
         }
     }
 
@@ -71,18 +75,14 @@ impl<'s> Refused<'s> {
         tables: &Tables<'_>,
         aim: Aim,
     ) -> Result<bool, AllocError> {
-        let Some((number, class)) = class_around(tables.classes(), self.span) else {
-            return Ok(false);
-        };
-        let around = RoutineContext {
-            alloc,
-            tables,
-            class: number,
-            formals: &[],
-            result: None,
-            purity: &Purity::NotAsked,
-        };
-        self.push_in_class(lines, &around, aim, class)
+        match class_around(tables.classes(), self.span) {
+            None => Ok(false),
+            Some((number, class)) => {
+                let purity = Purity::NotAsked;
+                let around = around_class(alloc, tables, number, &purity);
+                self.push_in_class(lines, &around, aim, class)
+            }
+        }
     }
 
     /// Adds what is told of the part that is aimed at, where it stands in this class.
@@ -110,15 +110,19 @@ impl<'s> Refused<'s> {
         aim: Aim,
         text: &'s Routine,
     ) -> Result<Option<bool>, AllocError> {
-        let routine = RoutineContext {
-            alloc: class.alloc,
-            tables: class.tables,
-            class: class.class,
-            formals: &text.formals,
-            result: result_type(class.tables, &text.result_type),
-            purity: class.purity,
-        };
-        let mut walk = self.walk(&routine, aim);
+        let routine = routine_in(class, text);
+        self.push_passed(lines, &routine, aim, text)
+    }
+
+    /// Adds what is told of the part that is aimed at, where a walk through this text of a routine comes to it.
+    fn push_passed(
+        self,
+        lines: &mut String,
+        routine: &'s RoutineContext<'s, 's>,
+        aim: Aim,
+        text: &'s Routine,
+    ) -> Result<Option<bool>, AllocError> {
+        let mut walk = self.walk(routine, aim);
         walk.pass_routine(text);
         walk.push_found(lines)
     }
@@ -231,6 +235,35 @@ impl<'s> Scope<'s> {
         let routine = self.routine;
         let features = routine.tables.features(routine.alloc, class)?;
         nearest_feature(lines, &features, name)
+    }
+}
+
+/// What is outside of the routines of the class at a number: its invariant.
+fn around_class<'t, 's>(
+    alloc: Global,
+    tables: &'t Tables<'s>,
+    class: usize,
+    purity: &'t Purity<'t, 's>,
+) -> RoutineContext<'t, 's> {
+    RoutineContext {
+        alloc,
+        tables,
+        class,
+        formals: &[],
+        result: None,
+        purity,
+    }
+}
+
+/// A routine of this text in a class.
+fn routine_in<'s>(class: &RoutineContext<'s, 's>, text: &'s Routine) -> RoutineContext<'s, 's> {
+    RoutineContext {
+        alloc: class.alloc,
+        tables: class.tables,
+        class: class.class,
+        formals: &text.formals,
+        result: result_type(class.tables, &text.result_type),
+        purity: class.purity,
     }
 }
 

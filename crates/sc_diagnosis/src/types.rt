@@ -100,30 +100,42 @@ impl<'s> Scope<'s> {
         mismatch(self.routine.tables, given, taken)
     }
 
-    /// The types of an actual and of its formal, where they don't conform.
+    /// The types of an actual, which is given, and of its formal, where they don't conform.
     pub fn passed_types(
         &self,
         found: &[JudgedActual],
         target: EntityType,
         formals: &[Declaration],
         number: usize,
+        given: EntityType,
     ) -> Result<Passed, Untold>
         ensures { IfOk result (λ it. IsMismatch (system_in self.now.routine.now.tables.now) it.compared) }
     {
-        let routine = self.routine;
         let Some(formal) = formals.get(number) else {
             return Err(Untold::Nothing);
         };
-        let given = type_of_actual(found, number)?;
-        let Some(declared) = declared_type(routine.tables, formals, &formal.declared_type) else {
-            return Err(Untold::Nothing);
-        };
-        let known = known_handlers(routine.alloc, found)?;
-        let taken = combine_argument(target, declared, &known);
+        let taken = self.type_taken(found, target, formals, formal)?;
         Ok(Passed {
-            compared: mismatch(routine.tables, given, taken)?,
+            compared: mismatch(self.routine.tables, given, taken)?,
             formal: formal.name.span,
         })
+    }
+
+    /// The type that a formal takes, behind a target and beside these actuals, if it has one.
+    fn type_taken(
+        &self,
+        found: &[JudgedActual],
+        target: EntityType,
+        formals: &[Declaration],
+        formal: &Declaration,
+    ) -> Result<EntityType, Untold> {
+        match declared_type(self.routine.tables, formals, &formal.declared_type) {
+            None => Err(Untold::Nothing),
+            Some(declared) => {
+                let known = known_handlers(self.routine.alloc, found)?;
+                Ok(combine_argument(target, declared, &known))
+            }
+        }
     }
 
     /// The type of an expression at this position, which is no condition's, if it has one.

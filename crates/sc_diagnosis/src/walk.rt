@@ -72,15 +72,19 @@ impl<'s> Walk<'s> {
                 pass_condition(&mut self.search, Context::Body, until);
                 self.pass_instructions(body)
             }
-            Instr::Block(_, heads, body) => {
-                let known = self.scope.names.len();
-                pass_heads(&mut self.search, heads);
-                self.add_block_names(heads);
-                self.pass_instructions(body);
-                self.forget(known)
-            }
+            Instr::Block(_, heads, body) => self.pass_block(heads, body),
             _ => pass_simple(&mut self.search, instruction),
         }
+    }
+
+    /// Passes a separate block. Behind it its names are unknown.
+    #[cycle(instructions)]
+    fn pass_block(&mut self, heads: &'s [Head], body: &'s [Instr]) {
+        let known = self.scope.names.len();
+        pass_heads(&mut self.search, heads);
+        self.add_block_names(heads);
+        self.pass_instructions(body);
+        self.forget(known)
     }
 
     #[cycle(instructions)]
