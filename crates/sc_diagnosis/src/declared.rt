@@ -36,16 +36,21 @@ fn other_class(system: &System, name: &str, span: Span) -> Option<Span> {
 }
 
 fn other_entity(system: &System, name: &str, span: Span) -> Option<Span> {
-    let (_, class) = class_around(&system.classes, span)?;
+    match class_around(&system.classes, span) {
+        None => None,
+        Some((_, class)) => other_in_class(system, class, name, span),
+    }
+}
+
+fn other_in_class(system: &System, class: &Class, name: &str, span: Span) -> Option<Span> {
     let inherited = other_inherited(system, class, name, span);
     if inherited.is_some() {
         return inherited;
     }
-    let around = feature_around(class, span)?;
-    if around.name.span == span {
-        other_in_heirs(system, class, name, span)
-    } else {
-        other_in_routine(around, name, span)
+    match feature_around(class, span) {
+        None => None,
+        Some(around) if around.name.span == span => other_in_heirs(system, class, name, span),
+        Some(around) => other_in_routine(around, name, span),
     }
 }
 

@@ -10,6 +10,7 @@ use crate::sentences::{Sentence, sentence_of};
 use crate::told::Refused;
 use sc_class::Root;
 use sc_text::Span;
+use sc_tree::System;
 use std::alloc::{AllocError, Global};
 
 /// A part of the text that a fault goes with, and what it has to do with it.
@@ -94,9 +95,10 @@ fn is_told(alloc: Global, lines: &mut String, refused: Refused<'_>) -> Result<bo
     let Some(aim) = refused.aim() else {
         return Ok(false);
     };
-    match system_of(alloc, refused.text)? {
-        None => Ok(false),
-        Some(system) => refused.push_told(alloc, lines, &system, aim),
+    match system_of(alloc, refused.text) {
+        Ok(None) => Ok(false),
+        Ok(Some(system)) => refused.push_told(alloc, lines, &system, aim),
+        Err(error) => Err(error),
     }
 }
 
@@ -119,15 +121,25 @@ fn add_declared(
     diagnosis: &mut Diagnosis,
     refused: Refused<'_>,
 ) -> Result<(), AllocError> {
-    let Some(system) = system_of(alloc, refused.text)? else {
-        return Ok(());
-    };
+    match system_of(alloc, refused.text) {
+        Ok(None) => Ok(()),
+        Ok(Some(system)) => add_name(diagnosis, refused, &system),
+        Err(error) => Err(error),
+    }
+}
+
+/// Adds the same of a text that spells this system.
+fn add_name(
+    diagnosis: &mut Diagnosis,
+    refused: Refused<'_>,
+    system: &System,
+) -> Result<(), AllocError> {
     let name = part_of(refused.text, refused.span);
     if refused.code == "V1" {
-        return nearest_class(&mut diagnosis.lines, refused.text, &system, name);
+        return nearest_class(&mut diagnosis.lines, refused.text, system, name);
     }
     let is_class = refused.code == "C1";
-    diagnosis.related = other_declaration(&system, is_class, name, refused.span);
+    diagnosis.related = other_declaration(system, is_class, name, refused.span);
     Ok(())
 }
 

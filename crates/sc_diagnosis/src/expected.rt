@@ -109,10 +109,18 @@ fn push_expected(
 
 /// Whether a system begins with the text and the token.
 fn may_follow(alloc: Global, before: &str, token: &str) -> Result<bool, AllocError> {
-    let text = joined(alloc, before, token)?;
-    match tokens_of(alloc, &text)? {
-        None => Ok(false),
-        Some(tokens) => may_begin(alloc, &tokens, text.len()),
+    match joined(alloc, before, token) {
+        Ok(text) => is_begun(alloc, &text),
+        Err(error) => Err(error),
+    }
+}
+
+/// Whether a system begins with the text.
+fn is_begun(alloc: Global, text: &str) -> Result<bool, AllocError> {
+    match tokens_of(alloc, text) {
+        Ok(None) => Ok(false),
+        Ok(Some(tokens)) => may_begin(alloc, &tokens, text.len()),
+        Err(error) => Err(error),
     }
 }
 

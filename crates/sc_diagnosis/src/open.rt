@@ -12,12 +12,18 @@ pub fn open_construct(
     length: usize,
 ) -> Result<Option<Related>, AllocError> {
     let before = text.get(..length).unwrap_or(text);
-    let Some(tokens) = tokens_of(alloc, before)? else {
-        return Ok(None);
-    };
+    match tokens_of(alloc, before) {
+        Ok(None) => Ok(None),
+        Ok(Some(tokens)) => open_after(alloc, &tokens),
+        Err(error) => Err(error),
+    }
+}
+
+/// The innermost construct that has begun in these tokens and hasn't ended there.
+fn open_after(alloc: Global, tokens: &[Token]) -> Result<Option<Related>, AllocError> {
     let mut open: Vec<Opening> = Vec::new(alloc);
     let mut last = None;
-    for token in tokens.iter() {
+    for token in tokens {
         let terminal = terminal_of(token);
         if let Some(terminal) = terminal {
             let step = step_of(terminal, last, open.last());

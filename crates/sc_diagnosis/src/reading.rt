@@ -17,10 +17,16 @@ pub fn tokens_of(alloc: Global, text: &str) -> Result<Option<Vec<Token>>, AllocE
 
 /// The system of a text, if it spells one.
 pub fn system_of(alloc: Global, text: &str) -> Result<Option<System>, AllocError> {
-    let Some(tokens) = tokens_of(alloc, text)? else {
-        return Ok(None);
-    };
-    match parse(alloc, &tokens) {
+    match tokens_of(alloc, text) {
+        Ok(None) => Ok(None),
+        Ok(Some(tokens)) => parsed(alloc, &tokens),
+        Err(error) => Err(error),
+    }
+}
+
+/// The system of these tokens, if they spell one.
+fn parsed(alloc: Global, tokens: &[Token]) -> Result<Option<System>, AllocError> {
+    match parse(alloc, tokens) {
         Ok(system) => Ok(Some(system)),
         Err(ParseFault::OutOfMemory) => Err(AllocError),
         Err(_) => Ok(None),

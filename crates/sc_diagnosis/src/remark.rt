@@ -194,12 +194,12 @@ impl<'s> Scope<'s> {
         actuals: &[Expr],
         number: usize,
     ) -> Result<Remark, Untold> {
-        match called.callee {
-            None => Err(Untold::Nothing),
-            Some(callee) => {
-                let found = self.routine.judged_actuals(context, &self.names, actuals)?;
-                self.of_found(&found, callee, number)
-            }
+        let Some(callee) = called.callee else {
+            return Err(Untold::Nothing);
+        };
+        match self.routine.judged_actuals(context, &self.names, actuals) {
+            Ok(found) => self.of_found(&found, callee, number),
+            Err(fault) => Err(Untold::from(fault)),
         }
     }
 

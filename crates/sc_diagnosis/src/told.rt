@@ -61,9 +61,10 @@ impl<'s> Refused<'s> {
         system: &System,
         aim: Aim,
     ) -> Result<bool, AllocError> {
-        match tables_of(alloc, system, self.root)? {
-            None => Ok(false),
-            Some(tables) => self.push_found(alloc, lines, &tables, aim),
+        match tables_of(alloc, system, self.root) {
+            Ok(None) => Ok(false),
+            Ok(Some(tables)) => self.push_found(alloc, lines, &tables, aim),
+            Err(error) => Err(error),
         }
     }
 
