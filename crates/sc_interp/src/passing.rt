@@ -13,7 +13,7 @@ pub fn skip(activation: &mut Activation, count: usize, passed: usize) -> Result<
     ensures passes { Passes count (λ c f. flat.skips c passed f) (stepped result) (activation_of activation.old) (activation_of activation.new) }
     ensures stays { Stays (activation_of activation.old) (activation_of activation.new) }
 {
-    let behind = count.saturating_sub(activation.place).saturating_sub(1);
+    let behind = count.saturating_sub(1).saturating_sub(activation.place);
     if passed < behind {
         activation.place += 1 + passed;
         Ok(())
