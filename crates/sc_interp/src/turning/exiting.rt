@@ -93,23 +93,18 @@ fn give_back(store: &mut Store<'_>, origin: Origin, value: Option<Value>)
     }
 }
 
-/// What the end of a routine asks that began so.
-fn ask_returning(
-    origin: Origin,
-    value: Option<Value>,
-    reserved: &ArrayVec<u16, 16>,
-    asked: &mut Want,
-)
+/// What the end of a routine asks that stands so.
+fn ask_returning(activation: &Activation, asked: &mut Want)
     requires { asked.old ≡ want.Continue }
-    ensures { asked.new ≡ asks_returning origin value reserved.now.items }
+    ensures { asked.new ≡ asks_returning activation.now.origin activation.now.result activation.now.reserved.items }
 {
-    match origin {
+    match activation.origin {
         Origin::Unqualified | Origin::Qualified | Origin::Creation => {
-            if !reserved.is_empty() {
-                ask_release(reserved, asked);
+            if !activation.reserved.is_empty() {
+                ask_release(&activation.reserved, asked);
             }
         }
-        Origin::Requested | Origin::RequestedCreation => ask_done(value, reserved, asked),
+        Origin::Requested | Origin::RequestedCreation => ask_done(activation, asked),
     }
 }
 
@@ -122,14 +117,15 @@ fn ask_release(reserved: &ArrayVec<u16, 16>, asked: &mut Want)
     *asked = Want::Release(copy_handlers(reserved));
 }
 
-/// A request has ended with this reply, and the release of these handlers is asked. (A call of its own for the same.)
+/// A request has ended with the Result, and the release of what the entry newly reserved is asked. (A call of its own for the
+/// same.)
 #[inline(never)]
-fn ask_done(value: Option<Value>, reserved: &ArrayVec<u16, 16>, asked: &mut Want)
-    ensures { asked.new ≡ want.Done value (record { items = reserved.now.items }) false }
+fn ask_done(activation: &Activation, asked: &mut Want)
+    ensures { asked.new ≡ want.Done activation.now.result (record { items = activation.now.reserved.items }) false }
 {
     *asked = Want::Done {
-        reply: value,
-        released: copy_handlers(reserved),
+        reply: activation.result,
+        released: copy_handlers(&activation.reserved),
         refused: false,
     };
 }
@@ -141,12 +137,7 @@ fn ask_exiting(store: &Store<'_>, asked: &mut Want)
 {
     match store.top() {
         None => (),
-        Some(activation) => ask_returning(
-            activation.origin,
-            activation.result,
-            &activation.reserved,
-            asked,
-        ),
+        Some(activation) => ask_returning(activation, asked),
     }
 }
 
