@@ -1,5 +1,5 @@
 //! How the topmost routine goes on behind a visible operation.
-ghost use Rattle.std.specs.Prelude.{◌≡◌};
+ghost use Rattle.std.specs.Prelude.{◌≡◌, drop};
 ghost use Rattle.sc_region.specs.Frames.{activation_of};
 ghost use Rattle.sc_region.specs.Stores.{failed};
 ghost use Rattle.sc_region.specs.declared.job.Want.TheVariants as want;
@@ -7,7 +7,7 @@ ghost use Rattle.sc_region.specs.Calls.{on_top, past};
 ghost use Rattle.sc_interp.specs.Turning.{back, round_ended, unless_failed};
 
 use sc_model::Cause;
-use sc_region::{Activation, Store, Want};
+use sc_region::{Activation, Operands, Store, Want};
 
 /// So many operands go, and the next operation comes.
 pub fn go_past(activation: &mut Activation, count: usize)
@@ -27,11 +27,21 @@ pub fn pass(store: &mut Store<'_>, count: usize)
     }
 }
 
+/// The last operand goes, if there is one.
+fn drop_operand(operands: &mut Operands)
+    ensures { operands.new ≡ record operands.old { values = drop 1 operands.old.values } }
+{
+    match operands.pop() {
+        Some(_value) => (),
+        None => (),
+    }
+}
+
 /// The last operand goes, and the operation comes that is so many back.
 fn go_back(activation: &mut Activation, count: usize)
     ensures { activation_of activation.new ≡ back count (activation_of activation.old) }
 {
-    activation.operands.drop_last(1);
+    drop_operand(&mut activation.operands);
     activation.place = activation.place.saturating_sub(count);
 }
 
