@@ -1,5 +1,5 @@
 -- The request that a handler serves ends.
-use Rattle.std.proofs.Common.{◌≡◌, ◌==◌, ℕ, Bool, true, false, List, [], ◌∷◌, Option, Some, None, refl, sym, ap, subst, ◌∙◌, inl, inr}
+use Rattle.std.proofs.Common.{◌≡◌, ◌<◌, ◌==◌, ℕ, Bool, true, false, List, [], ◌∷◌, Option, Some, None, refl, sym, ap, subst, ◌∙◌, inl, inr, length, take, slice_index_or, arith}
 use Rattle.std.proofs.Math.Path.{fun_ext}
 use Rattle.std.proofs.lemmas.Bool.{cases_eq, eq-eqb, ne_eqb}
 use Rattle.std.proofs.lemmas.List.Elements.{All-head}
@@ -11,7 +11,7 @@ use Rattle.sc_request.specs.declared.handler.Posting.{Posting}
 use Rattle.sc_request.specs.declared.handler.Stage as coded_stage
 use Rattle.sc_request.specs.declared.handler.Stage.TheVariants as stage
 use Rattle.sc_request.specs.Candidates.{reserves_at}
-use Rattle.sc_request.specs.Handlers.{Answer, Replied, Refused, Service, Handler, State, put}
+use Rattle.sc_request.specs.Handlers.{Answer, Replied, Refused, Service, State, put}
 use Rattle.sc_request.specs.Places.{first_of, without_first}
 use Rattle.sc_request.specs.Sessions.{fail, finish, release}
 use Rattle.sc_request.specs.Settling.{ends}
@@ -28,6 +28,19 @@ over_not (stage.Awaits k c) e = refl
 pub stands_over : (ps : List Posting) → AreServed (map service_of ps) → IfSome (slice_get ps 0) (λ p. reserves_at p.over ≡ false)
 stands_over [] e = tt
 stands_over (p ∷ ps) e = over_not p.over (All-head IsServed (service_of p) (map service_of ps) e).over
+
+-- the first of them with its node
+pub first_taken : (ps : List Posting) → first_of (map service_of (take 1 ps)) ≡ first_of (map service_of ps)
+first_taken [] = refl
+first_taken (p ∷ ps) = refl
+
+pub none_first : (ps : List Posting) → (0 < length ps → ⊥) → None ≡ first_of (map service_of ps)
+none_first [] never = refl
+none_first (p ∷ ps) never = absurd (never (omega arith))
+
+pub one_first : (ps : List Posting) (p : Posting) → 0 < length ps → p ≡ slice_index_or ps 0 p → Some (service_of p) ≡ first_of (map service_of ps)
+one_first [] p some is = absurd (omega (arith, some))
+one_first (q ∷ qs) p some is = ap (λ (r : Posting). Some (service_of r)) is
 
 pub put_same : (h : ℕ) (s : State) → put h (s.handlers h) s ≡ s
 put_same h s = λ i. record { count = s.count; handlers = fun_ext (λ k. same_at k) i; rights = s.rights }

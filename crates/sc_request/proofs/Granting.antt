@@ -13,11 +13,11 @@ use Rattle.sc_region.specs.declared.job.Job.TheVariants as job
 use Rattle.sc_request.specs.declared.handler.Handler as coded
 use Rattle.sc_request.specs.Handlers.{State}
 use Rattle.sc_request.specs.Picking.{job_of}
-use Rattle.sc_request.specs.Logs.{Center, pick_for, granted, ungranted, put_back}
+use Rattle.sc_request.specs.Logs.{Center, pick_for, granted, ungranted}
 use Rattle.sc_request.specs.Sound.{IsHeldBelow, IsSound}
 use Rattle.sc_request.specs.Tables.{center, fresh, handler_at, handler_in, out_at, state_of}
 use Rattle.sc_request.specs.Candidates.{AreCandidates, AreReserving, HasGrantsBelow, HasOutsBelow, entry_below, granted_items, is_granted, is_granting, is_reserving}
-use Rattle.sc_request.proofs.Outs.{IsGrant, all_among_below, back_with, grant_is, out_is, out_set, picked_center, same_handler, stays, with_job}
+use Rattle.sc_request.proofs.Outs.{IsGrant, all_among_below, back_with, grant_is, out_is, out_set, picked_center, with_job}
 use Rattle.sc_request.proofs.Sounds.{release_below, reserve_below}
 use Rattle.sc_request.proofs.Elsewhere.{same_job}
 
@@ -66,23 +66,6 @@ grants_there count xs sessions t last h j within all is =
     let x = slice_index_or xs h fresh in
     let e = slice_get-get_or xs h fresh (omega (arith, below, within)) in
     grants_of count xs sessions t last h x j e (entry_there count xs sessions h x e all) is
-
-same_out : (xs : List coded.Handler) (h k : ℕ) (x : coded.Handler) → slice_get xs h ≡ Some x → x.out ≡ None → out_at (slice_set xs h (with_job None x)) k ≡ out_at xs k
-same_out xs h k x e none = elim (cases_eq k h) [
-  | inl is ↦ rw is (out_set xs h h x None e ∙ rw (eq-eqb h h refl) (sym (out_is xs h x e ∙ none)))
-  | inr apart ↦ out_set xs h k x None e ∙ rw (ne_eqb k h apart) refl
-]
-
--- a handler that isn't out stays as it is
-pub back_none : (count : ℕ) (xs : List coded.Handler) (sessions : List ℕ) (t : Table) (last h : ℕ) (x : coded.Handler) → slice_get xs h ≡ Some x → x.out ≡ None →
-    center count (slice_set xs h (with_job None x)) sessions t last ≡ put_back h (center count xs sessions t last)
-back_none count xs sessions t last h x e none =
-    (λ i. record {
-      state = record { count = count; handlers = fun_ext (λ k. same_handler xs sessions h k x None e) i; rights = rights_of t };
-      out = fun_ext (λ k. same_out xs h k x e none) i;
-      last = last;
-    })
-    ∙ stays count xs sessions t last h (out_is xs h x e ∙ none)
 
 -- ---- who is out
 

@@ -1,13 +1,13 @@
 -- The tables of a core where a handler goes out with a job, or comes back from it.
-use Rattle.std.proofs.Common.{◌≡◌, ◌+◌, ◌<◌, ◌≤◌, ◌==◌, ◌&&◌, ℕ, zero, suc, Bool, true, false, List, [], ◌∷◌, Option, Some, None, refl, sym, ap, subst, ◌∙◌, ◌⊎◌, inl, inr, length, slice_set, arith}
+use Rattle.std.proofs.Common.{◌≡◌, ◌+◌, ◌<◌, ◌≤◌, ◌==◌, ℕ, zero, suc, Bool, true, false, List, [], ◌∷◌, Option, Some, None, refl, sym, ap, ◌∙◌, inl, inr, length, slice_set, arith}
 use Rattle.std.proofs.Math.Path.{fun_ext}
 use Rattle.std.proofs.lemmas.Bool.{cases_Bool, cases_eq, eq-eqb, ne_eqb, eqb-true, and_parts, or_left, or_right, ltb-true}
 use Rattle.std.proofs.lemmas.List.Elements.{All-nil, All-cons}
 use Rattle.std.specs.Prelude.{is_some, map, slice_get, slice_index, nat_lt, if◌then◌else◌}
 use Rattle.std.specs.List.{All, list_all, list_any}
 use Rattle.std.specs.Option.{option_and_then}
-use Rattle.sc_lockpass.specs.Rights.{Rights, held, is_among, reserve, release}
-use Rattle.sc_lockpass.specs.Tables.{Table, rights_of, is_member}
+use Rattle.sc_lockpass.specs.Rights.{is_among}
+use Rattle.sc_lockpass.specs.Tables.{Table, rights_of}
 use Rattle.sc_waitcond.specs.Laws.{is_on}
 use Rattle.sc_waitcond.specs.Reservations.{may_reserve}
 use Rattle.sc_waitcond.specs.declared.mark.Marked.{Marked}
@@ -20,14 +20,14 @@ use Rattle.sc_request.specs.declared.handler.Stage as coded_stage
 use Rattle.sc_request.specs.declared.handler.Stage.TheVariants as stage
 use Rattle.sc_request.specs.declared.handler.Handler as coded
 use Rattle.sc_request.specs.Handlers.{Posted, Answer, Replied, SupplierFailed, Refused, Handler, State, standing_in}
-use Rattle.sc_request.specs.Picking.{needs, job_reserving, job_idle, job_awaiting, job_at, job_with, job_of}
-use Rattle.sc_request.specs.Logs.{pick_for, granted, ungranted, picked, put_back_with, put_back}
-use Rattle.sc_request.specs.Tables.{handler_in, handler_at, state_of, stage_of, center, out_at, out_total}
-use Rattle.sc_request.specs.Candidates.{entry_below, granted_items}
+use Rattle.sc_request.specs.Picking.{needs, job_for_entry, job_reserving, job_idle, job_awaiting, job_at, job_with, job_of}
+use Rattle.sc_request.specs.Logs.{Center, pick_for, granted, ungranted, picked, put_back_with, put_back}
+use Rattle.sc_request.specs.Tables.{handler_in, handler_at, handler_with, state_of, stage_of, center, out_at, out_total}
+use Rattle.sc_request.specs.Candidates.{entry_below, granted_items, is_reserving}
 
 -- ---- one element of a list is changed
 
-some_is : {A : Type 0} (x y : A) → Some x ≡ Some y → x ≡ y
+pub some_is : {A : Type 0} (x y : A) → Some x ≡ Some y → x ≡ y
 some_is x y e = cc
 
 pub get_same : {A : Type 0} (xs : List A) (h : ℕ) (x y : A) → slice_get xs h ≡ Some x → slice_get (slice_set xs h y) h ≡ Some y
@@ -60,6 +60,20 @@ pub same_handler : (xs : List coded.Handler) (sessions : List ℕ) (h k : ℕ) (
 same_handler xs sessions h k x o e =
     kept_at (λ (z : Option coded.Handler). record (handler_in z) { sessions = slice_index sessions k }) xs h k x (with_job o x) e refl
 
+own_handler : (xs : List coded.Handler) (sessions : List ℕ) (h : ℕ) (x : coded.Handler) → slice_get xs h ≡ Some x →
+    handler_at xs sessions h ≡ handler_with (slice_index sessions h) x
+own_handler xs sessions h x e = ap (λ (o : Option coded.Handler). record (handler_in o) { sessions = slice_index sessions h }) e
+
+-- the handler is out with what it has to do as it stands
+pub stands_out : (xs : List coded.Handler) (sessions : List ℕ) (h : ℕ) (x y z : coded.Handler) (s : State) → slice_get xs h ≡ Some x → slice_get xs h ≡ Some y →
+    z ≡ with_job (job_at h (handler_with (slice_index sessions h) y).stage (handler_with (slice_index sessions h) y) s) y →
+    slice_set xs h z ≡ slice_set xs h (with_job (job_at h (handler_at xs sessions h).stage (handler_at xs sessions h) s) x)
+stands_out xs sessions h x y z s ex ey ez =
+    ap (λ (w : coded.Handler). slice_set xs h w)
+    (ez
+    ∙ ap (λ (v : Handler). with_job (job_at h v.stage v s) y) (sym (own_handler xs sessions h y ey))
+    ∙ ap (λ (w : coded.Handler). with_job (job_at h (handler_at xs sessions h).stage (handler_at xs sessions h) s) w) (some_is y x (sym ey ∙ ex)))
+
 pub out_of : Option coded.Handler → Option Job
 out_of o = option_and_then (λ (x : coded.Handler). x.out) o
 
@@ -74,6 +88,13 @@ out_set xs h k x o e = elim (cases_eq k h) [
 pub out_is : (xs : List coded.Handler) (h : ℕ) (x : coded.Handler) → slice_get xs h ≡ Some x → out_at xs h ≡ x.out
 unfolding out_of
 out_is xs h x e = ap out_of e
+
+-- the handler that goes out with a job is out with it
+pub out_now : (xs ys : List coded.Handler) (h : ℕ) (x y : coded.Handler) (j : Job) → slice_get xs h ≡ Some x → ys ≡ slice_set xs h (with_job (Some j) x) →
+    slice_get ys h ≡ Some y → y.out ≡ Some j
+out_now xs ys h x y j e set read =
+    ap (λ (w : coded.Handler). w.out)
+    (some_is y (with_job (Some j) x) (sym read ∙ ap (λ (zs : List coded.Handler). slice_get zs h) set ∙ get_same xs h x (with_job (Some j) x) e))
 
 -- ---- how many are out
 
@@ -134,6 +155,29 @@ pub stays : (count : ℕ) (xs : List coded.Handler) (sessions : List ℕ) (t : T
     center count xs sessions t last ≡ put_back h (center count xs sessions t last)
 stays count xs sessions t last h none = ap (λ (o : Option Job). put_back_with h o (center count xs sessions t last)) (sym none)
 
+-- ---- what a handler has to do
+
+reserving_stage : (h : ℕ) (st : coded_stage.Stage) (es : List ℕ) (mark : List Marked) (y : Handler) (s : State) → is_reserving (stage_of es mark st) ≡ true →
+    job_at h (stage_of es mark st) y s ≡ job_for_entry (needs h es s.rights) mark s
+reserving_stage h stage.Idle es mark y s is = cc
+reserving_stage h stage.Runs es mark y s is = cc
+reserving_stage h (stage.HasMade k) es mark y s is = cc
+reserving_stage h stage.Reserves es mark y s is = refl
+reserving_stage h (stage.Awaits k c) es mark y s is = cc
+
+-- a handler whose next step is a reserve step has that to do
+pub stands_reserving : (xs : List coded.Handler) (sessions : List ℕ) (h : ℕ) (x : coded.Handler) (s : State) → slice_get xs h ≡ Some x →
+    is_reserving (handler_at xs sessions h).stage ≡ true →
+    job_for_entry (needs h x.entry.items s.rights) x.mark s ≡ job_at h (handler_with (slice_index sessions h) x).stage (handler_with (slice_index sessions h) x) s
+stands_reserving xs sessions h x s e is =
+    sym (reserving_stage h x.stage x.entry.items x.mark (handler_with (slice_index sessions h) x) s
+    (ap (λ (v : Handler). is_reserving v.stage) (sym (own_handler xs sessions h x e)) ∙ is))
+
+-- and any other one stands so
+pub stands_otherwise : (xs : List coded.Handler) (sessions : List ℕ) (h : ℕ) (x : coded.Handler) → slice_get xs h ≡ Some x →
+    is_reserving (handler_at xs sessions h).stage ≡ false → is_reserving (handler_with (slice_index sessions h) x).stage ≡ false
+stands_otherwise xs sessions h x e is = ap (λ (v : Handler). is_reserving v.stage) (sym (own_handler xs sessions h x e)) ∙ is
+
 -- ---- what a pick reserves
 
 all_among : (P : ℕ → Type 0) (ks : List ℕ) → ((k : ℕ) → is_among k ks ≡ true → P k) → All P ks
@@ -191,6 +235,12 @@ some_unless false o j e = e
 some_with : (h : ℕ) (why : Option Cause) (y : Handler) (s : State) (j : Job) → job_with h why y s ≡ Some j → job_at h y.stage y s ≡ Some j
 some_with h (Some why) y s j e = cc
 some_with h None y s j e = e
+
+-- a handler that has something to do has it as it stands
+pub job_stands : (h : ℕ) (c : Center) (j : Job) → pick_for h c ≡ Some j → job_at h (c.state.handlers h).stage (c.state.handlers h) c.state ≡ Some j
+job_stands h c j is =
+    let y = c.state.handlers h in
+    some_with h y.failure y c.state j (some_if (nat_lt h c.state.count) (job_with h y.failure y c.state) j (some_unless (is_some (c.out h)) (job_of h c.state) j is))
 
 pub grant_is : (count : ℕ) (xs : List coded.Handler) (sessions : List ℕ) (t : Table) (last h : ℕ) (x : coded.Handler) (ks : ArrayVec ℕ) →
     slice_get xs h ≡ Some x → entry_below count x ≡ true → pick_for h (center count xs sessions t last) ≡ Some (job.Granted ks) →

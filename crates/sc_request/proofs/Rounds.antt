@@ -69,6 +69,11 @@ passed_over words c a b h all is e =
 
 -- ---- the round
 
+-- who was picked last doesn't matter
+pub any_last : (xs : List ℕ) (c : Center) (n : ℕ) → first_with_job xs (record c { last = n }) ≡ first_with_job xs c
+any_last [] c n = refl
+any_last (x ∷ xs) c n = ap (λ (r : Option (ℕ × Job)). first_from x (pick_for x c) r) (any_last xs c n)
+
 found_first : (x : ℕ) (o : Option Job) (r r' : Option (ℕ × Job)) (p : ℕ × Job) → (r ≡ Some p → r' ≡ Some p) → first_from x o r ≡ Some p → first_from x o r' ≡ Some p
 found_first x (Some j) r r' p f e = e
 found_first x None r r' p f e = f e

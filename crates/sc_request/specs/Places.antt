@@ -7,7 +7,8 @@ use Rattle.sc_request.specs.declared.state.State as coded
 use Rattle.sc_request.specs.Handlers.{Posted, Stage, Idle, Runs, HasMade, Reserves, Awaits, Service, Handler, State}
 use Rattle.sc_request.specs.Sessions.{is_waited_by, session_ended, told}
 use Rattle.sc_request.specs.Settling.{counted_refusal}
-use Rattle.sc_request.specs.Tables.{state_of, out_at}
+use Rattle.sc_request.specs.Logs.{Center}
+use Rattle.sc_request.specs.Tables.{center, state_of, out_at}
 
 abbrev pub plain : coded.State → State
 plain s = state_of s.count s.handlers.items s.sessions.items s.rights
@@ -15,6 +16,10 @@ plain s = state_of s.count s.handlers.items s.sessions.items s.rights
 -- the job that each handler is out with
 abbrev pub outs_of : coded.State → ℕ → Option Job
 outs_of s = out_at s.handlers.items
+
+-- the center, where this handler was picked last
+abbrev pub center_at : ℕ → coded.State → Center
+center_at last s = center s.count s.handlers.items s.sessions.items s.rights last
 
 -- ---- parts of settlements
 

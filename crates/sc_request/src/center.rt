@@ -1,12 +1,11 @@
 //! The core.
-ghost use Rattle.std.specs.Prelude.{◌≡◌, ◌≤◌, ◌*◌, ◌∷◌, IfOk, Some, length, map, replicate, true, vec_len};
+ghost use Rattle.std.specs.Prelude.{◌≡◌, ◌≤◌, ◌*◌, ◌∷◌, IfOk, Some, replicate, vec_len};
 ghost use Rattle.sc_lockpass.specs.Versions.{most_handlers};
 ghost use Rattle.sc_request.specs.Candidates.{AreCandidates, AreReserving, HasGrantsBelow, HasOutsBelow};
 ghost use Rattle.sc_request.specs.Logs.{root_of};
 ghost use Rattle.sc_request.specs.Places.{plain};
 ghost use Rattle.sc_request.specs.Sound.{IsSound};
 ghost use Rattle.sc_request.specs.Tables.{out_total, asked, center, fresh, handler_at};
-ghost use Rattle.sc_lockpass.specs.Tables.{rights_of};
 
 use crate::handler::{Handler, Posting, Stage};
 use crate::handler_set::HandlerSet;
@@ -15,8 +14,7 @@ use crate::state::State;
 use arrayvec::ArrayVec;
 use sc_lockpass::{Rights, Version};
 use sc_model::Status;
-use sc_region::{Errand, Job, Reference, Request};
-use sc_waitcond::Entry;
+use sc_region::{Errand, Reference, Request};
 use std::alloc::{AllocError, Global};
 use std::collections::LinkedList;
 
@@ -56,10 +54,6 @@ impl Core {
     ghost use Rattle.sc_request.specs.Logs.{opened};
     ghost use Rattle.sc_request.specs.Logs as logs;
     ghost use Rattle.std.specs.Prelude.{is_some, nat_lt, None, if◌then◌else◌};
-    ghost use Rattle.std.specs.List.{list_all};
-    ghost use Rattle.sc_waitcond.specs.Reservations.{reserve_fails, may_be_reserved, is_lost};
-    ghost use Rattle.sc_request.specs.Handlers.{standing_in};
-    ghost use Rattle.sc_request.specs.Picking.{needs, job_for_entry};
     ghost use Rattle.sc_request.specs.Cores.{state_of, center_of, log_of};
     ghost use Rattle.sc_request.specs.Logged.{settlements_of};
 
@@ -107,59 +101,7 @@ impl Core {
     pub fn has_job(&self, handler: u16) -> bool
         ensures { result ≡ is_some (logs.pick_for handler (center_of self.now)) }
     {
-        if (handler as usize) >= self.state.count {
-            return false;
-        }
-        let place = &self.state.handlers[handler as usize];
-        if place.out.is_some() || place.failure.is_some() {
-            return false;
-        }
-        match place.stage {
-            Stage::Idle => place.is_asked(),
-            Stage::Runs | Stage::HasMade(_) => true,
-            Stage::Reserves => self.is_enabled(handler, place),
-            Stage::Awaits {
-                supplier: _,
-                is_creation: _,
-            } => place.is_called(),
-        }
-    }
-
-    /// What a handler has to do, where it has something and isn't out.
-    pub fn pick_for(&self, handler: u16) -> Option<Job>
-        ensures { result ≡ logs.pick_for handler (center_of self.now) }
-    {
-        if (handler as usize) >= self.state.count {
-            return None;
-        }
-        let place = &self.state.handlers[handler as usize];
-        if place.out.is_some() || place.failure.is_some() {
-            return None;
-        }
-        match place.stage {
-            Stage::Idle => place.job_idle(),
-            Stage::Runs => Some(Job::Go),
-            Stage::HasMade(made) => Some(Job::Made(made)),
-            Stage::Reserves => self.job_for_entry(handler, place),
-            Stage::Awaits {
-                supplier,
-                is_creation,
-            } => place.job_awaiting(supplier, is_creation),
-        }
-    }
-
-    /// What the reserve step of a handler comes to, where it may be taken.
-    fn job_for_entry(&self, handler: u16, place: &Handler) -> Option<Job>
-        ensures { result ≡ job_for_entry (needs handler place.now.entry.items (rights_of self.now.state.rights)) place.now.mark (state_of self.now) }
-    {
-        let needed = self.needed(handler, place);
-        if self.is_any_lost(needed.as_slice()) {
-            return Some(Job::Failed);
-        }
-        if self.are_free(needed.as_slice()) && place.mark.allows(self.state.sessions.as_slice()) {
-            return Some(Job::Granted(needed));
-        }
-        None
+        self.state.has_job(handler)
     }
 
     /// How a handler stands, or None where there is no such handler. One that is out is busy.
@@ -179,61 +121,6 @@ impl Core {
         match place.stage {
             Stage::Idle => Some(Status::Free),
             _ => Some(Status::Waiting),
-        }
-    }
-
-    /// Whether the reserve step of a handler may be taken.
-    fn is_enabled(&self, handler: u16, place: &Handler) -> bool
-        ensures { result ≡ is_some (job_for_entry (needs handler place.now.entry.items (rights_of self.now.state.rights)) place.now.mark (state_of self.now)) }
-    {
-        let needed = self.needed(handler, place);
-        self.is_any_lost(needed.as_slice())
-            || (self.are_free(needed.as_slice())
-                && place.mark.allows(self.state.sessions.as_slice()))
-    }
-
-    /// What a handler doesn't hold of the handlers of its entry.
-    fn needed(&self, handler: u16, place: &Handler) -> ArrayVec<u16, 16>
-        ensures { result.items ≡ needs handler place.now.entry.items (rights_of self.now.state.rights) }
-    {
-        let values = values_of(place.entry.as_slice());
-        Entry::new(handler).needed(values.as_slice(), &self.state.rights)
-    }
-
-    /// Whether one of these can never be reserved again.
-    fn is_any_lost(&self, handlers: &[u16]) -> bool
-        ensures { result ≡ reserve_fails (standing_in (state_of self.now)) (rights_of self.now.state.rights) handlers.now }
-    {
-        handlers.iter().any(|k| self.is_lost(*k))
-    }
-
-    /// Whether all of these may be reserved.
-    fn are_free(&self, handlers: &[u16]) -> bool
-        ensures { result ≡ list_all (λ k. may_be_reserved (standing_in (state_of self.now) k) ((rights_of self.now.state.rights).queue k)) handlers.now }
-    {
-        handlers.iter().all(|k| self.is_free(*k))
-    }
-
-    /// Whether a handler has failed, and is nobody's.
-    fn is_lost(&self, handler: u16) -> bool
-        ensures { result ≡ is_lost (standing_in (state_of self.now) handler) ((rights_of self.now.state.rights).queue handler) }
-    {
-        match self.state.handlers.get(handler as usize) {
-            Some(place) => place.failure.is_some() && self.state.rights.queue(handler).is_none(),
-            None => false,
-        }
-    }
-
-    /// Whether a handler is idle with an empty queue, and nobody's.
-    fn is_free(&self, handler: u16) -> bool
-        ensures { result ≡ may_be_reserved (standing_in (state_of self.now) handler) ((rights_of self.now.state.rights).queue handler) }
-    {
-        if self.state.rights.queue(handler).is_some() {
-            return false;
-        }
-        match self.state.handlers.get(handler as usize) {
-            Some(place) => place.is_idle(),
-            None => true,
         }
     }
 
@@ -285,18 +172,6 @@ fn root_request(class: u8, procedure: u32) -> Request
         actuals: ArrayVec::new(),
         is_waited: false,
     }
-}
-
-/// The handlers, as those of values.
-fn values_of(handlers: &[u16]) -> ArrayVec<Option<u16>, 16>
-    requires { length handlers.now ≤ 16 }
-    ensures { result.items ≡ map Some handlers.now }
-{
-    let mut values = ArrayVec::new();
-    for handler in handlers {
-        values.push(Some(*handler));
-    }
-    values
 }
 
 /// A handler that is asked for this, and places for so many others.

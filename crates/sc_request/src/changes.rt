@@ -1,8 +1,7 @@
 //! What settlements change of a handler.
 ghost use Rattle.std.specs.Prelude.{◌≡◌, ◌≤◌, ◌<◌, ◌+◌, ◌^◌, ◌∷◌, ℕ, [], IfSome, false, length, map, slice_get, take};
-ghost use Rattle.std.specs.Option.{option_map};
 ghost use Rattle.sc_request.specs.Candidates.{reserves_at};
-ghost use Rattle.sc_request.specs.Places.{first_of, without_first};
+ghost use Rattle.sc_request.specs.Places.{without_first};
 ghost use Rattle.sc_request.specs.Handlers.{new_handler};
 ghost use Rattle.sc_request.specs.Sessions.{placed, answered, fallen};
 ghost use Rattle.sc_request.specs.Settling.{takes, takes_answer};
@@ -91,11 +90,11 @@ impl Handler {
         mut node: LinkedList<Posting>,
         request: &Request,
         is_waited: bool,
-        passed: Option<Passed>,
+        passed: &mut Option<Passed>,
     )
         requires node { length node ≡ 1 }
         requires room { is_callback ≡ false → length self.old.queue + 1 < 2 ^ 63 }
-        ensures handler { (n : ℕ) → handler_with n self.new ≡ placed is_callback (posting_of (sent request.now is_waited passed)) (handler_with n self.old) }
+        ensures handler { (n : ℕ) → handler_with n self.new ≡ placed is_callback (posting_of (sent request.now is_waited passed.old)) (handler_with n self.old) }
         ensures out { self.new.out ≡ self.old.out }
     {
         write_first(&mut node, request, is_waited, passed);
@@ -126,21 +125,24 @@ impl Handler {
         }
     }
 
-    /// Takes the request that it serves, and stands as it did when it took that. A refusal is counted where nobody
-    /// waits.
-    pub(crate) fn pop_service(&mut self, refused: bool) -> Option<Posting>
+    /// Takes the request that it serves, with its node, and stands as it did when it took that. A refusal is counted where
+    /// nobody waits.
+    pub(crate) fn pop_service(&mut self, refused: bool) -> LinkedList<Posting>
         requires counted { self.old.refused + 1 < 2 ^ 64 }
         requires over { IfSome (slice_get self.old.services 0) (λ p. reserves_at p.over ≡ false) }
-        ensures service { option_map service_of result ≡ first_of (map service_of self.old.services) }
+        ensures service { result ≡ take 1 self.old.services }
         ensures handler { (n : ℕ) → handler_with n self.new ≡ without_first refused (map service_of self.old.services) (handler_with n self.old) }
         ensures out { self.new.out ≡ self.old.out }
     {
-        let service = self.services.pop_front()?;
-        self.stage = service.over;
-        if refused && !service.request.is_waited {
+        let service = take_first(&mut self.services);
+        let Some(first) = service.front() else {
+            return service;
+        };
+        self.stage = first.over;
+        if refused && !first.request.is_waited {
             self.refused += 1;
         }
-        Some(service)
+        service
     }
 
     /// It is as one that nobody has asked for anything.

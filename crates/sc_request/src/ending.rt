@@ -1,5 +1,5 @@
 //! Requests end.
-ghost use Rattle.std.specs.Prelude.{◌≡◌, ◌<◌, ◌-◌, ◌^◌, true, if◌then◌else◌};
+ghost use Rattle.std.specs.Prelude.{◌≡◌, ◌≤◌, ◌<◌, ◌-◌, ◌^◌, true, length, map, if◌then◌else◌};
 ghost use Rattle.std.specs.Option.{option_map};
 ghost use Rattle.sc_lockpass.specs.Tables.{passed_of};
 ghost use Rattle.sc_request.specs.Handlers.{Refused, Replied, put};
@@ -10,20 +10,23 @@ ghost use Rattle.sc_request.specs.Sound.{IsSound, placed_poster};
 ghost use Rattle.sc_request.specs.Tables.{answer_of, posting_of, service_of};
 
 use crate::handler::{Answer, Posting};
+use crate::postings::recycle;
 use crate::state::State;
 use sc_lockpass::Passed;
 use sc_model::Cause;
 use sc_region::Value;
+use std::collections::LinkedList;
 
 impl State {
     /// The request that a handler serves ends, with a value or none, or refused. What its entry newly reserved is
-    /// released.
+    /// released. The node of the request comes to `spare`.
     pub(crate) fn end(
         &mut self,
         handler: u16,
         reply: Option<Value>,
         released: &[u16],
         refused: bool,
+        spare: &mut LinkedList<Posting>,
     )
         requires there { handler < 512 }
         requires sound { IsSound (2 ^ 64 - 2) (2 ^ 63) (plain self.old) }
@@ -31,22 +34,25 @@ impl State {
         ensures plain { plain self.new ≡ ends handler reply released.now refused ((plain self.old).handlers handler).services (plain self.old) }
         ensures outs { outs_of self.new ≡ outs_of self.old }
         ensures version { self.new.rights.version ≡ self.old.rights.version }
+        ensures places { length spare.old ≤ length spare.new }
     {
-        let Some(service) = self.pop_service(handler as usize, refused) else {
+        let mut service = self.pop_service(handler as usize, refused);
+        let Some(first) = service.front_mut() else {
             self.fail(handler, Cause::BadCode);
             return;
         };
         self.end_sessions(released);
         let answer = answer_by(reply, refused);
-        self.finish(service, answer);
+        self.finish(first, answer);
+        recycle(spare, service);
     }
 
     /// Takes the request that a handler serves, which stands then as it did when it took that. A refusal is counted
     /// where nobody waits.
-    fn pop_service(&mut self, handler: usize, refused: bool) -> Option<Posting>
+    fn pop_service(&mut self, handler: usize, refused: bool) -> LinkedList<Posting>
         requires there { handler < 512 }
         requires sound { IsSound (2 ^ 64 - 2) (2 ^ 63) (plain self.old) }
-        ensures service { option_map service_of result ≡ first_of ((plain self.old).handlers handler).services }
+        ensures service { first_of (map service_of result) ≡ first_of ((plain self.old).handlers handler).services }
         ensures plain { let x = (plain self.old).handlers handler in plain self.new ≡ put handler (without_first refused x.services x) (plain self.old) }
         ensures outs { outs_of self.new ≡ outs_of self.old }
         ensures rights { self.new.rights ≡ self.old.rights }
@@ -56,28 +62,35 @@ impl State {
     }
 
     /// What was passed with a request returns, and its poster hears the answer, if it waits.
-    fn finish(&mut self, service: Posting, answer: Answer)
-        requires { placed_poster service.request.poster ≡ true }
-        ensures plain { plain self.new ≡ finish (posting_of service) (answer_of answer) (plain self.old) }
+    fn finish(&mut self, service: &mut Posting, answer: Answer)
+        requires { placed_poster service.old.request.poster ≡ true }
+        ensures plain { plain self.new ≡ finish (posting_of service.old) (answer_of answer) (plain self.old) }
         ensures outs { outs_of self.new ≡ outs_of self.old }
         ensures version { self.new.rights.version ≡ self.old.rights.version }
     {
-        let Posting {
-            request,
-            passed,
-            over: _,
-        } = service;
-        self.return_rights(passed);
-        self.answer_to(&request, answer);
+        self.return_rights(&mut service.passed);
+        self.answer_to(&service.request, answer);
     }
 
-    /// What was passed with a request returns.
-    fn return_rights(&mut self, passed: Option<Passed>)
-        ensures plain { plain self.new ≡ return_rights (option_map passed_of passed) (plain self.old) }
+    /// What was passed with a request returns. Mostly there is nothing, and then nothing is moved.
+    fn return_rights(&mut self, passed: &mut Option<Passed>)
+        ensures plain { plain self.new ≡ return_rights (option_map passed_of passed.old) (plain self.old) }
         ensures outs { outs_of self.new ≡ outs_of self.old }
         ensures version { self.new.rights.version ≡ self.old.rights.version }
     {
-        match passed {
+        if passed.is_some() {
+            self.give_back(passed);
+        }
+    }
+
+    /// What was passed returns, where it was.
+    #[inline(never)]
+    fn give_back(&mut self, passed: &mut Option<Passed>)
+        ensures plain { plain self.new ≡ return_rights (option_map passed_of passed.old) (plain self.old) }
+        ensures outs { outs_of self.new ≡ outs_of self.old }
+        ensures version { self.new.rights.version ≡ self.old.rights.version }
+    {
+        match passed.take() {
             Some(passed) => self.rights.give_back(passed),
             None => {}
         }

@@ -1,15 +1,16 @@
 //! What the core keeps of a handler.
-ghost use Rattle.std.specs.Prelude.{◌≡◌, ◌&&◌, ◌||◌, not, IfOk, map, is_some};
+ghost use Rattle.std.specs.Prelude.{◌≡◌, ◌&&◌, ◌||◌, ℕ, not, false, IfOk, Some, map, is_some};
 ghost use Rattle.sc_waitcond.specs.Reservations.{is_idle};
-ghost use Rattle.sc_request.specs.Handlers.{has_requests, standing_of};
-ghost use Rattle.sc_request.specs.Picking.{job_idle, job_answered, job_awaiting};
-ghost use Rattle.sc_request.specs.Tables.{answer_of, fresh, asked, handler_of, posting_of, first_posted, answers_of};
+ghost use Rattle.sc_request.specs.Candidates.{is_reserving};
+ghost use Rattle.sc_request.specs.Handlers.{State, has_requests, standing_of};
+ghost use Rattle.sc_request.specs.Picking.{job_answered, job_at, job_awaiting, job_idle};
+ghost use Rattle.sc_request.specs.Tables.{answer_of, fresh, asked, handler_of, handler_with, posting_of, first_posted, answers_of};
 
-use crate::copy::copy_request;
+use crate::job_slot::JobSlot;
 use arrayvec::ArrayVec;
 use sc_lockpass::Passed;
 use sc_model::Cause;
-use sc_region::{Errand, Job, Reference, Request, Value};
+use sc_region::{Errand, Reference, Request, Value};
 use sc_waitcond::Mark;
 use std::alloc::{AllocError, Global};
 use std::collections::LinkedList;
@@ -90,7 +91,7 @@ pub(crate) struct Handler {
     /// How many requests it refused for which nobody waited.
     pub(crate) refused: u64,
     /// The job that it is out with.
-    pub(crate) out: Option<Job>,
+    pub(crate) out: JobSlot,
 }
 
 impl Handler {
@@ -108,7 +109,7 @@ impl Handler {
             answer: None,
             failure: None,
             refused: 0,
-            out: None,
+            out: JobSlot::new(),
         }
     }
 
@@ -146,43 +147,60 @@ impl Handler {
         !self.callback.is_empty() || self.answer.is_some()
     }
 
-    /// The next of its queue.
-    pub(crate) fn job_idle(&self) -> Option<Job>
-        ensures { result ≡ job_idle (map posting_of self.now.queue) }
+    /// It is out with what it has to do, but where that is a reserve step.
+    pub(crate) fn set_own(&mut self)
+        ensures { (n h : ℕ) (s : State) → is_reserving (handler_with n self.old).stage ≡ false → self.new ≡ record self.old { out = job_at h (handler_with n self.old).stage (handler_with n self.old) s } }
     {
-        match self.queue.front() {
-            Some(posting) => Some(Job::Take(copy_request(&posting.request))),
-            None => None,
+        match self.stage {
+            Stage::Idle => self.set_idle(),
+            Stage::Runs => self.out.set_go(),
+            Stage::HasMade(made) => self.out.set_made(made),
+            Stage::Reserves => {}
+            Stage::Awaits {
+                supplier,
+                is_creation,
+            } => self.set_awaiting(supplier, is_creation),
         }
     }
 
-    /// Its callback, or the answer that has come from the supplier.
-    pub(crate) fn job_awaiting(&self, supplier: u16, is_creation: bool) -> Option<Job>
-        ensures { result ≡ job_awaiting supplier is_creation (first_posted self.now.callback) (answers_of self.now.answer) }
+    /// It is out with the next of its queue.
+    fn set_idle(&mut self)
+        ensures { self.new ≡ record self.old { out = job_idle (map posting_of self.old.queue) } }
+    {
+        match self.queue.front() {
+            Some(posting) => self.out.set_take(&posting.request),
+            None => self.out.clear(),
+        }
+    }
+
+    /// It is out with its callback, or with the answer that has come from the supplier.
+    fn set_awaiting(&mut self, supplier: u16, is_creation: bool)
+        ensures { self.new ≡ record self.old { out = job_awaiting supplier is_creation (first_posted self.old.callback) (answers_of self.old.answer) } }
     {
         if let Some(posting) = self.callback.front() {
-            return Some(Job::Take(copy_request(&posting.request)));
+            self.out.set_take(&posting.request);
+            return;
         }
         match self.answer {
-            Some(answer) => Some(job_answered(supplier, is_creation, answer)),
-            None => None,
+            Some(answer) => set_answered(&mut self.out, supplier, is_creation, answer),
+            None => self.out.clear(),
         }
     }
 }
 
 /// What a handler takes an answer by.
-fn job_answered(supplier: u16, is_creation: bool, answer: Answer) -> Job
-    ensures { result ≡ job_answered supplier is_creation (answer_of answer) }
+fn set_answered(out: &mut JobSlot, supplier: u16, is_creation: bool, answer: Answer)
+    ensures { out.new ≡ Some (job_answered supplier is_creation (answer_of answer)) }
 {
     match answer {
         Answer::Replied(value) => {
             if is_creation {
-                Job::Made(supplier)
+                out.set_made(supplier);
             } else {
-                Job::Reply(value)
+                out.set_reply(value);
             }
         }
-        Answer::SupplierFailed => Job::Failed,
-        Answer::Refused => Job::Refused,
+        Answer::SupplierFailed => out.set_failed(),
+        Answer::Refused => out.set_refused(),
     }
 }

@@ -15,6 +15,8 @@ mod fits;
 mod grants;
 mod handler;
 mod handler_set;
+mod job_slot;
+mod jobs;
 pub mod laws;
 mod logged;
 mod making;

@@ -36,7 +36,7 @@ pub struct Log {
 }
 
 impl Log {
-    ghost use Rattle.std.specs.Prelude.{◌∷◌, [], ℕ, OnErr, OnOk, slice_get};
+    ghost use Rattle.std.specs.Prelude.{◌∷◌, ◌↔◌, [], ℕ, IsTrue, OnErr, OnOk, slice_get};
     ghost use Rattle.std.specs.Option.{option_map};
     ghost use Rattle.sc_request.specs.Logged.{HasPlaces, settlements_of};
 
@@ -90,6 +90,32 @@ impl Log {
         ensures len { vec_len self.new.entries ≡ vec_len self.old.entries }
         ensures kept { (n : ℕ) → HasPlaces n self.old → HasPlaces n self.new }
     {
+        if self.has_places(more) {
+            return Ok(());
+        }
+        self.grow(more)
+    }
+
+    /// Whether there is room for so many settlements.
+    fn has_places(&self, more: usize) -> bool
+        requires few { more ≤ 1024 }
+        ensures { IsTrue result ↔ HasPlaces more self.now }
+    {
+        self.entries.capacity() - self.entries.len() >= more
+            && self.actuals.capacity() - self.actuals.len() >= 32 * more
+            && self.handlers.capacity() - self.handlers.len() >= 32 * more
+    }
+
+    /// Takes memory for so many settlements.
+    #[inline(never)]
+    fn grow(&mut self, more: usize) -> Result<(), AllocError>
+        requires few { more ≤ 1024 }
+        ensures ok { OnOk result (HasPlaces more self.new) }
+        ensures err { OnErr result (HasPlaces more self.old → ⊥) }
+        ensures settlements { settlements_of self.new ≡ settlements_of self.old }
+        ensures len { vec_len self.new.entries ≡ vec_len self.old.entries }
+        ensures kept { (n : ℕ) → HasPlaces n self.old → HasPlaces n self.new }
+    {
         self.entries.reserve(more)?;
         self.actuals.reserve(32 * more)?;
         self.handlers.reserve(32 * more)
@@ -128,6 +154,16 @@ fn append<T: Copy>(items: &mut Vec<T>, more: &[T])
     if more.is_empty() {
         return;
     }
+    append_some(items, more);
+}
+
+#[inline(never)]
+fn append_some<T: Copy>(items: &mut Vec<T>, more: &[T])
+    requires { vec_len items.old + length more.now ≤ vec_capacity items.old }
+    ensures items { items.new.items ≡ items.old.items ++ more.now }
+    ensures len { vec_len items.new ≡ vec_len items.old + length more.now }
+    ensures capacity { vec_capacity items.old ≤ vec_capacity items.new }
+{
     let _ = items.extend_from_slice(more);
 }
 

@@ -84,8 +84,8 @@ impl State {
             is_creation: true,
         };
         self.stand(handler as usize, stage);
-        let passed = self.pass_if(true, handler, made);
-        self.send(false, made, &request, request.is_waited, passed, spare);
+        let mut passed = self.pass_if(true, handler, made);
+        self.send(false, made, &request, request.is_waited, &mut passed, spare);
     }
 
     /// The creator goes on, and releases the new handler at once.
@@ -107,7 +107,7 @@ impl State {
         ensures version { self.new.rights.version ≡ self.old.rights.version }
     {
         self.stand(handler as usize, Stage::HasMade(made));
-        self.send(false, made, &request, request.is_waited, None, spare);
+        self.send(false, made, &request, request.is_waited, &mut None, spare);
         self.end_sessions(&[made]);
     }
 }

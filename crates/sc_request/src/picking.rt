@@ -1,13 +1,12 @@
 //! Who goes on: handlers are picked with their jobs, and put back.
-ghost use Rattle.std.specs.Prelude.{◌≡◌, ◌≤◌, ◌+◌, ◌-◌, ◌<◌, ℕ, IfSome, IsTrue, Some, is_some};
+ghost use Rattle.std.specs.Prelude.{◌≡◌, ◌+◌, ◌<◌, ℕ, IfSome, IsTrue, is_some, true};
 ghost use Rattle.std.specs.Option.{option_map};
-ghost use Rattle.sc_request.specs.Candidates.{AreCandidates, comes_again, frees_under};
-ghost use Rattle.sc_request.specs.Logs.{first_with_job, next, numbers_from, picked, picked_if, picks};
+ghost use Rattle.sc_request.specs.Candidates.{comes_again, frees_under};
+ghost use Rattle.sc_request.specs.Logs.{next, picked_if, picks};
 ghost use Rattle.sc_request.specs.Logs as logs;
 
 use crate::center::Core;
 use crate::grants::{release_granted, reserve_granted};
-use crate::handler_set::HandlerSet;
 use crate::touching::frees_under;
 use sc_region::Job;
 
@@ -25,11 +24,8 @@ impl Core {
         ensures room { (n : ℕ) → HasRoomFor (n + 1) self.old → HasRoomFor n self.new }
         ensures version { self.new.state.rights.version ≡ self.old.state.rights.version }
     {
-        let mut candidates = self.candidates;
-        let found = self.first_round(&mut candidates);
-        self.candidates = candidates;
-        let handler = found?;
-        let _ = self.pick_at(handler);
+        let handler = self.state.first_round(self.last, &mut self.candidates)?;
+        self.send_out(handler);
         Some(handler)
     }
 
@@ -70,9 +66,7 @@ impl Core {
         ensures room { (n : ℕ) → HasRoomFor n self.old → HasRoomFor n self.new }
         ensures version { self.new.state.rights.version ≡ self.old.state.rights.version }
     {
-        let mut candidates = self.candidates;
-        let found = self.first_round(&mut candidates);
-        self.candidates = candidates;
+        let found = self.state.first_round(self.last, &mut self.candidates);
         found.is_some()
     }
 
@@ -86,10 +80,10 @@ impl Core {
         ensures room { (n : ℕ) → HasRoomFor (n + 1) self.old → HasRoomFor n self.new }
         ensures version { self.new.state.rights.version ≡ self.old.state.rights.version }
     {
-        let Some(job) = self.pick_for(handler) else {
+        if !self.has_job(handler) {
             return false;
-        };
-        self.send_out(handler, job);
+        }
+        self.send_out(handler);
         true
     }
 
@@ -104,70 +98,44 @@ impl Core {
         if at >= self.state.handlers.len() {
             return;
         }
-        let Some(job) = self.state.handlers[at].out.take() else {
+        let state = &mut self.state;
+        let Some(job) = state.handlers[at].out.get() else {
             return;
         };
         self.outs -= 1;
         release_granted(
-            &mut self.state.rights,
+            &mut state.rights,
             &mut self.candidates,
             &self.reserving,
-            &job,
+            job,
         );
+        state.handlers[at].out.clear();
         self.candidates.insert(at);
     }
 
     /// The handler is out with the job that it has.
-    fn send_out(&mut self, handler: u16, job: Job)
-        requires { logs.pick_for handler (center_of self.old) ≡ Some job }
-        ensures center { center_of self.new ≡ picked handler job (center_of self.old) }
+    fn send_out(&mut self, handler: u16)
+        requires { is_some (logs.pick_for handler (center_of self.old)) ≡ true }
+        ensures center { center_of self.new ≡ picked_if handler (logs.pick_for handler (center_of self.old)) (center_of self.old) }
         ensures log { log_of self.new ≡ log_of self.old }
         ensures room { (n : ℕ) → HasRoomFor (n + 1) self.old → HasRoomFor n self.new }
         ensures version { self.new.state.rights.version ≡ self.old.state.rights.version }
     {
         let at = handler as usize;
+        let state = &mut self.state;
+        state.set_out(handler);
+        let Some(job) = state.handlers[at].out.get() else {
+            unreachable!();
+        };
         reserve_granted(
-            &mut self.state.rights,
+            &mut state.rights,
             &mut self.candidates,
             &self.reserving,
             handler,
-            &job,
+            job,
         );
         self.candidates.remove(at);
-        self.state.handlers[at].out = Some(job);
         self.outs += 1;
         self.last = handler;
-    }
-
-    /// The next handler that has something to do. What has nothing to do leaves the candidates.
-    fn first_round(&self, candidates: &mut HandlerSet) -> Option<u16>
-        requires { AreCandidates candidates.old.words (center_of self.now) }
-        ensures found { result ≡ option_map (λ p. p.0) (next (center_of self.now)) }
-        ensures kept { AreCandidates candidates.new.words (center_of self.now) }
-    {
-        let after = self.last as usize + 1;
-        match self.first_in(candidates, after, self.state.count) {
-            Some(found) => Some(found),
-            None => self.first_in(candidates, 0, self.state.count.min(after)),
-        }
-    }
-
-    /// The first from a number on, and below another one.
-    fn first_in(&self, candidates: &mut HandlerSet, from: usize, to: usize) -> Option<u16>
-        requires within { to ≤ self.now.state.count }
-        requires candidates { AreCandidates candidates.old.words (center_of self.now) }
-        ensures found { result ≡ option_map (λ p. p.0) (first_with_job (numbers_from from (to - from)) (center_of self.now)) }
-        ensures kept { AreCandidates candidates.new.words (center_of self.now) }
-    {
-        let mut at = from;
-        for _turn in from..to {
-            let handler = candidates.next_in(at, to)?;
-            if self.has_job(handler as u16) {
-                return Some(handler as u16);
-            }
-            candidates.remove(handler);
-            at = handler + 1;
-        }
-        None
     }
 }

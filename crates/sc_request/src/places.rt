@@ -100,12 +100,12 @@ impl State {
         node: LinkedList<Posting>,
         request: &Request,
         is_waited: bool,
-        passed: Option<Passed>,
+        passed: &mut Option<Passed>,
     )
         requires there { handler < 512 }
         requires node { length node ≡ 1 }
         requires room { is_callback ≡ false → length ((plain self.old).handlers handler).queue + 1 < 2 ^ 63 }
-        ensures plain { plain self.new ≡ put handler (placed is_callback (posting_of (sent request.now is_waited passed)) ((plain self.old).handlers handler)) (plain self.old) }
+        ensures plain { plain self.new ≡ put handler (placed is_callback (posting_of (sent request.now is_waited passed.old)) ((plain self.old).handlers handler)) (plain self.old) }
         ensures outs { outs_of self.new ≡ outs_of self.old }
         ensures rights { self.new.rights ≡ self.old.rights }
         ensures sessions { self.new.sessions ≡ self.old.sessions }

@@ -1,5 +1,5 @@
 //! Lists of requests. Nodes go from one list to another, and no memory is taken.
-ghost use Rattle.std.specs.Prelude.{◌≡◌, ◌<◌, ◌+◌, ◌^◌, ◌∷◌, ◌++◌, [], drop, take, length};
+ghost use Rattle.std.specs.Prelude.{◌≡◌, ◌<◌, ◌≤◌, ◌+◌, ◌^◌, ◌∷◌, ◌++◌, [], drop, take, length};
 ghost use Rattle.sc_request.specs.Tables.{over_first, sent};
 
 use crate::copy::write_request;
@@ -37,16 +37,32 @@ pub(crate) fn write_first(
     list: &mut LinkedList<Posting>,
     request: &Request,
     is_waited: bool,
-    passed: Option<Passed>,
+    passed: &mut Option<Passed>,
 )
     requires { 0 < length list.old }
-    ensures { list.new ≡ sent request.now is_waited passed ∷ drop 1 list.old }
+    ensures { list.new ≡ sent request.now is_waited passed.old ∷ drop 1 list.old }
 {
     if let Some(first) = list.front_mut() {
         write_request(&mut first.request, request, is_waited);
-        first.passed = passed;
+        hand_over(&mut first.passed, passed);
         first.over = Stage::Idle;
     }
+}
+
+/// What was passed comes into its place. Mostly there is nothing, and then nothing is moved.
+fn hand_over(place: &mut Option<Passed>, passed: &mut Option<Passed>)
+    ensures { place.new ≡ passed.old }
+{
+    if place.is_some() || passed.is_some() {
+        move_over(place, passed);
+    }
+}
+
+#[inline(never)]
+fn move_over(place: &mut Option<Passed>, passed: &mut Option<Passed>)
+    ensures { place.new ≡ passed.old }
+{
+    *place = passed.take();
 }
 
 /// Writes over which stage the first request of a list was taken.
@@ -56,6 +72,13 @@ pub(crate) fn stand_over(list: &mut LinkedList<Posting>, over: Stage)
     if let Some(first) = list.front_mut() {
         first.over = over;
     }
+}
+
+/// Adds nodes that are no longer needed to the places for what is posted.
+pub(crate) fn recycle(spare: &mut LinkedList<Posting>, mut nodes: LinkedList<Posting>)
+    ensures { length spare.old ≤ length spare.new }
+{
+    let _ = spare.append(&mut nodes);
 }
 
 /// Takes all of a list.

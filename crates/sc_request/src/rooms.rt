@@ -47,6 +47,19 @@ fn add_places(spare: &mut LinkedList<Posting>, wanted: usize) -> Result<(), Allo
     ensures kept { length spare.old ≤ length spare.new }
     ensures err { OnErr result (length spare.old < wanted) }
 {
+    if wanted <= spare.len() {
+        return Ok(());
+    }
+    push_places(spare, wanted)
+}
+
+/// Adds places up to so many.
+#[inline(never)]
+fn push_places(spare: &mut LinkedList<Posting>, wanted: usize) -> Result<(), AllocError>
+    ensures ok { OnOk result (wanted ≤ length spare.new) }
+    ensures kept { length spare.old ≤ length spare.new }
+    ensures err { OnErr result (length spare.old < wanted) }
+{
     for _place in spare.len()..wanted {
         spare.push_back(Posting::blank())?;
     }

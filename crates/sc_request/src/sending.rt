@@ -76,8 +76,8 @@ impl State {
         let target = request.target.handler;
         let is_callback = self.is_callback(handler, target);
         self.await_if(is_waited, handler, target);
-        let passed = self.pass_if(passes, handler, target);
-        self.send(is_callback, target, request, is_waited, passed, spare);
+        let mut passed = self.pass_if(passes, handler, target);
+        self.send(is_callback, target, request, is_waited, &mut passed, spare);
     }
 
     /// Whether a handler may push on the waiting stack of another one.
@@ -144,13 +144,13 @@ impl State {
         target: u16,
         request: &Request,
         is_waited: bool,
-        passed: Option<Passed>,
+        passed: &mut Option<Passed>,
         spare: &mut LinkedList<Posting>,
     )
         requires there { target < 512 }
         requires spare { 1 ≤ length spare.old }
         requires room { is_callback ≡ false → length ((plain self.old).handlers target).queue < max_queue }
-        ensures plain { plain self.new ≡ send is_callback target (posted (record request.now { is_waited = is_waited }) (option_map passed_of passed)) (plain self.old) }
+        ensures plain { plain self.new ≡ send is_callback target (posted (record request.now { is_waited = is_waited }) (option_map passed_of passed.old)) (plain self.old) }
         ensures places { length spare.old ≤ length spare.new + 1 }
         ensures outs { outs_of self.new ≡ outs_of self.old }
         ensures rights { self.new.rights ≡ self.old.rights }

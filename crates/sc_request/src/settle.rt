@@ -83,7 +83,7 @@ impl Core {
             &mut self.reserving,
             &mut self.candidates,
         );
-        self.state.handlers[handler as usize].out = None;
+        self.state.handlers[handler as usize].out.clear();
         self.outs -= 1;
     }
 }
@@ -93,10 +93,7 @@ impl State {
     pub(crate) fn job_out(&self, handler: u16) -> Option<&Job>
         ensures { option_map (λ job. job.now) result ≡ outs_of self.now handler }
     {
-        match &self.handlers.get(handler as usize)?.out {
-            Some(job) => Some(job),
-            None => None,
-        }
+        self.handlers.get(handler as usize)?.out.get()
     }
 
     /// So many turns of a handler under a job of this shape, the last of which asks this. A request that is sent takes

@@ -40,7 +40,7 @@ impl State {
                 reply,
                 released,
                 refused,
-            } => self.end(handler, *reply, released.as_slice(), *refused),
+            } => self.end(handler, *reply, released.as_slice(), *refused, spare),
             Want::Fail(why) => self.fail(handler, *why),
         }
     }

@@ -74,7 +74,7 @@ impl State {
     }
 
     /// Whether the next step of a handler is a reserve step.
-    fn is_reserving(&self, handler: usize) -> bool
+    pub(crate) fn is_reserving(&self, handler: usize) -> bool
         requires { handler < 512 }
         ensures { result ≡ is_reserving ((plain self.now).handlers handler).stage }
     {

@@ -1,4 +1,4 @@
-use Rattle.std.proofs.Common.{◌∙◌, ◌++◌, ◌∷◌, [], ap, ◌≡◌, ◌≤◌, ◌<◌, ◌==◌, ◌&&◌, ◌||◌, ◌+◌, ℕ, None, arith, length, refl, slice_set, subst, sym}
+use Rattle.std.proofs.Common.{◌∙◌, ◌++◌, ◌∷◌, [], ap, ◌≡◌, ◌≤◌, ◌<◌, ◌==◌, ◌&&◌, ◌||◌, ◌+◌, ℕ, None, Option, arith, length, refl, slice_set, subst, sym}
 use Rattle.std.proofs.lemmas.Option.{slice_get_read}
 use Rattle.std.specs.Prelude.{if◌then◌else◌, is_some, vec_len}
 use Rattle.sc_lockpass.specs.Tables.{is_member}
@@ -6,15 +6,16 @@ use Rattle.sc_lockpass.proofs.Listings.{most_handlers-le}
 use Rattle.sc_lockpass.specs.Versions.{most_handlers}
 use Rattle.sc_request.specs.Places.{outs_of, plain}
 use Rattle.sc_request.specs.Settling.{settled}
-use Rattle.sc_request.specs.Tables.{center, out_at, out_total}
+use Rattle.sc_request.specs.Tables.{center, handler_at, out_at, out_total, state_of}
 use Rattle.std.specs.List.{All}
 use Rattle.sc_region.specs.declared.job.Job.{Job}
 use Rattle.sc_request.specs.Logs.{settles}
 use Rattle.sc_request.specs.Rooms.{settlement}
 use Rattle.sc_request.proofs.Shapes.{granted_shape, job_is, one_job, settled_shape}
-use Rattle.sc_request.specs.Candidates.{AreCandidates, AreReserving, frees, is_reserving}
+use Rattle.sc_request.specs.Candidates.{AreCandidates, AreReserving, HasGrantsBelow, HasOutsBelow, frees, is_reserving}
 use Rattle.sc_request.specs.Cores.{center_of, log_of}
 use Rattle.sc_request.specs.Handlers.{State}
+use Rattle.sc_request.specs.Sound.{IsSound}
 use Rattle.sc_request.proofs.Granting.{granted_below}
 use Rattle.sc_request.proofs.Reserving.{same_reserving, settled_reserving}
 use Rattle.sc_request.proofs.Waking.{settled_candidates}
@@ -84,18 +85,24 @@ invariant_of-self-2 c =
     let reserving = settled_reserving m h j c.args.turns c.args.want.now (plain s.state) s.reserving.words c.wake.new.reserving.words s.waiting
     (subst (λ (z : State). (k : ℕ) → is_member c.wake.new.reserving.words k ≡ (if k == h then is_reserving (z.handlers h).stage else is_member s.reserving.words k))
     same c.wake.ensures.reserving) in
+    let none = sym c.clear.ensures in
     record {
-      counted = omega (arith, total, counted);
-      there = rw c.settle.ensures.version there;
-      grants = rw c.settle.ensures.version grants;
-      sound = sound;
-      tried = subst (AreCandidates c.wake.new.candidates.words) (sym (settled_center t.count xs t.sessions.items t.rights s.last h x u (out_at ys) e plain_is c.settle.ensures.outs))
+      counted = omega (arith, total, counted) ∙ ap (λ (o : Option Job). out_total (slice_set xs h (with_job o x))) none;
+      there = rw c.settle.ensures.version (subst (λ (o : Option Job). HasOutsBelow m (slice_set xs h (with_job o x))) none there);
+      grants = rw c.settle.ensures.version (subst (λ (o : Option Job). HasGrantsBelow m (slice_set xs h (with_job o x))) none grants);
+      sound = subst (λ (o : Option Job). IsSound (vec_len c.push.new.self.entries) (vec_len c.push.new.self.entries)
+          (state_of t.count (slice_set xs h (with_job o x)) t.sessions.items t.rights)) none sound;
+      tried = subst (λ (o : Option Job). AreCandidates c.wake.new.candidates.words
+          (center t.count (slice_set xs h (with_job o x)) t.sessions.items t.rights s.last)) none
+          (subst (AreCandidates c.wake.new.candidates.words) (sym (settled_center t.count xs t.sessions.items t.rights s.last h x u (out_at ys) e plain_is c.settle.ensures.outs))
           (settled_candidates m h j c.args.turns c.args.want.now (center_of s) s.candidates.words c.touch.new.candidates.words
           c.wake.new.reserving.words c.wake.new.candidates.words (subst (λ (z : State). z.count ≤ 512) same sound.within) s.tried reserving c.touch.ensures
           (subst (λ (z : State). (k : ℕ) → k < 512 → is_member c.wake.new.candidates.words k ≡
           (is_some (z.handlers h).failure || (is_member c.touch.new.candidates.words k || (frees j c.args.want.now && is_member c.wake.new.reserving.words k)))) same
-          (rw c.frees-is_freeing.ensures at c.wake.ensures.candidates)));
-      waiting = same_reserving c.wake.new.reserving.words xs t.sessions.items h x None e (subst (λ (z : State). AreReserving c.wake.new.reserving.words z.handlers) (sym same) reserving);
+          (rw c.frees-is_freeing.ensures at c.wake.ensures.candidates))));
+      waiting = subst (λ (o : Option Job). AreReserving c.wake.new.reserving.words (handler_at (slice_set xs h (with_job o x)) t.sessions.items)) none
+          (same_reserving c.wake.new.reserving.words xs t.sessions.items h x None e
+          (subst (λ (z : State). AreReserving c.wake.new.reserving.words z.handlers) (sym same) reserving));
     }
 
 pub returns-clause-center : goal.returns-clause-center
@@ -118,7 +125,8 @@ returns-clause-center c = λ i is.
     let e = slice_get_read xs (length xs) h x refl (omega (arith, below, most, own, all)) c.index_mut.ensures.value in
     let total = settled_total xs ys h x j e (omega (arith, own, all, first, whole)) c.settle.ensures.outs out in
     let counted = s.counted in
-    settled_center t.count xs t.sessions.items t.rights s.last h x
+    ap (λ (o : Option Job). center t.count (slice_set xs h (with_job o x)) t.sessions.items t.rights s.last) c.clear.ensures
+    ∙ settled_center t.count xs t.sessions.items t.rights s.last h x
     (settled (most_handlers s.state.rights.version) h j c.args.turns c.args.want.now (plain s.state)) (out_at ys) e plain_is c.settle.ensures.outs
     ∙ ap (λ (k : Job). settles (most_handlers s.state.rights.version) h k c.args.turns c.args.want.now (center_of s)) (one_job j i (sym out ∙ is))
 

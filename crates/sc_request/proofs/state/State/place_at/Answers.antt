@@ -1,9 +1,9 @@
-use Rattle.std.proofs.Common.{length, refl, arith, ◌∙◌, ap, sym}
+use Rattle.std.proofs.Common.{length, refl, arith}
 use Rattle.std.proofs.lemmas.Option.{slice_get_read}
-use Rattle.sc_request.specs.Handlers.{Handler, Stage, Reserves}
+use Rattle.sc_request.specs.Handlers.{Handler}
 use Rattle.sc_request.specs.Sessions.{placed}
 use Rattle.sc_request.specs.Tables.{posting_of, sent}
-use Rattle.sc_request.proofs.Placing.{changed, outs_kept, stands, reserves_next}
+use Rattle.sc_request.proofs.Placing.{changed, outs_kept}
 use Rattle.sc_request.proofs.state.State.place_at.Goals as goal
 
 pub returns-clause-plain : goal.returns-clause-plain
@@ -16,7 +16,7 @@ returns-clause-plain c =
     let own = s.handlers.ok.0 in
     let all = s.places in
     let e = slice_get_read xs (length xs) h x refl (omega (arith, below, own, all)) c.index_mut.ensures.value in
-    changed s.count xs s.sessions.items s.rights h x c.place.new.self (λ (z : Handler). placed c.args.is_callback (posting_of (sent c.args.request.now c.args.is_waited c.args.passed)) z) e (c.place.ensures.handler)
+    changed s.count xs s.sessions.items s.rights h x c.place.new.self (λ (z : Handler). placed c.args.is_callback (posting_of (sent c.args.request.now c.args.is_waited c.args.passed.now)) z) e (c.place.ensures.handler)
 
 pub returns-clause-outs : goal.returns-clause-outs
 returns-clause-outs c =

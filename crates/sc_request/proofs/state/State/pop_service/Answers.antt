@@ -1,11 +1,13 @@
-use Rattle.std.proofs.Common.{Option, length, refl, arith, ◌∙◌, ap, subst, sym}
+use Rattle.std.proofs.Common.{List, Option, length, refl, arith, ◌∙◌, ap, subst, sym}
 use Rattle.std.proofs.lemmas.Option.{slice_get_read}
+use Rattle.std.specs.Prelude.{map}
 use Rattle.sc_request.specs.declared.handler.Handler as coded
+use Rattle.sc_request.specs.declared.handler.Posting.{Posting}
 use Rattle.sc_request.specs.Handlers.{Handler}
 use Rattle.sc_request.specs.Places.{first_of, without_first}
 use Rattle.sc_request.specs.Sound.{AreServed}
-use Rattle.sc_request.specs.Tables.{handler_in}
-use Rattle.sc_request.proofs.Ended.{stands_over}
+use Rattle.sc_request.specs.Tables.{handler_in, service_of}
+use Rattle.sc_request.proofs.Ended.{first_taken, stands_over}
 use Rattle.sc_request.proofs.Placing.{changed, outs_kept}
 use Rattle.sc_request.proofs.state.State.pop_service.Goals as goal
 
@@ -31,7 +33,9 @@ returns-clause-service c =
     let own = s.handlers.ok.0 in
     let all = s.places in
     let e = slice_get_read xs (length xs) h x refl (omega (arith, below, own, all)) c.index_mut.ensures.value in
-    c.pop_service.ensures.service ∙ ap (λ (o : Option coded.Handler). first_of (handler_in o).services) (sym e)
+    ap (λ (ps : List Posting). first_of (map service_of ps)) c.pop_service.ensures.service
+    ∙ first_taken x.services
+    ∙ ap (λ (o : Option coded.Handler). first_of (handler_in o).services) (sym e)
 
 pub returns-clause-plain : goal.returns-clause-plain
 returns-clause-plain c =

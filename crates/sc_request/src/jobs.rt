@@ -1,0 +1,184 @@
+//! What handlers have to do.
+ghost use Rattle.std.specs.Prelude.{◌≡◌, ◌≤◌, ◌<◌, ◌-◌, Some, is_some, length, map, slice_get, slice_set, true};
+ghost use Rattle.std.specs.List.{list_all};
+ghost use Rattle.std.specs.Option.{option_map};
+ghost use Rattle.sc_lockpass.specs.Tables.{rights_of};
+ghost use Rattle.sc_waitcond.specs.Reservations.{is_lost, may_be_reserved, reserve_fails};
+ghost use Rattle.sc_request.specs.Candidates.{AreCandidates, is_reserving};
+ghost use Rattle.sc_request.specs.Handlers.{standing_in};
+ghost use Rattle.sc_request.specs.Logs.{first_with_job, next, numbers_from, pick_for};
+ghost use Rattle.sc_request.specs.Picking.{job_at, job_for_entry, needs};
+ghost use Rattle.sc_request.specs.Places.{center_at, plain};
+
+use crate::handler::{Handler, Stage};
+use crate::handler_set::HandlerSet;
+use crate::state::State;
+use arrayvec::ArrayVec;
+use sc_region::Job;
+use sc_waitcond::Entry;
+
+impl State {
+    /// Whether a handler has something to do and isn't out.
+    pub(crate) fn has_job(&self, handler: u16) -> bool
+        ensures { result ≡ is_some (pick_for handler (center_at 0 self.now)) }
+    {
+        if (handler as usize) >= self.count {
+            return false;
+        }
+        let place = &self.handlers[handler as usize];
+        if place.out.is_some() || place.failure.is_some() {
+            return false;
+        }
+        match place.stage {
+            Stage::Idle => place.is_asked(),
+            Stage::Runs | Stage::HasMade(_) => true,
+            Stage::Reserves => self.is_enabled(handler, place),
+            Stage::Awaits {
+                supplier: _,
+                is_creation: _,
+            } => place.is_called(),
+        }
+    }
+
+    /// The next handler that has something to do, behind the one that was picked last. What has nothing to do leaves the
+    /// candidates.
+    pub(crate) fn first_round(&self, last: u16, candidates: &mut HandlerSet) -> Option<u16>
+        requires { AreCandidates candidates.old.words (center_at last self.now) }
+        ensures found { result ≡ option_map (λ p. p.0) (next (center_at last self.now)) }
+        ensures kept { AreCandidates candidates.new.words (center_at last self.now) }
+    {
+        let after = last as usize + 1;
+        match self.first_in(candidates, after, self.count) {
+            Some(found) => Some(found),
+            None => self.first_in(candidates, 0, self.count.min(after)),
+        }
+    }
+
+    /// The first from a number on, and below another one.
+    fn first_in(&self, candidates: &mut HandlerSet, from: usize, to: usize) -> Option<u16>
+        requires within { to ≤ self.now.count }
+        requires candidates { AreCandidates candidates.old.words (center_at 0 self.now) }
+        ensures found { result ≡ option_map (λ p. p.0) (first_with_job (numbers_from from (to - from)) (center_at 0 self.now)) }
+        ensures kept { AreCandidates candidates.new.words (center_at 0 self.now) }
+    {
+        let mut at = from;
+        for _turn in from..to {
+            let handler = candidates.next_in(at, to)?;
+            if self.has_job(handler as u16) {
+                return Some(handler as u16);
+            }
+            candidates.remove(handler);
+            at = handler + 1;
+        }
+        None
+    }
+
+    /// A handler is out with what it has to do, as it stands.
+    pub(crate) fn set_out(&mut self, handler: u16)
+        requires there { handler < 512 }
+        ensures handlers { let y = (plain self.old).handlers handler in (x : Handler) → slice_get self.old.handlers.items handler ≡ Some x → self.new.handlers.items ≡ slice_set self.old.handlers.items handler (record x { out = job_at handler y.stage y (plain self.old) }) }
+        ensures count { self.new.count ≡ self.old.count }
+        ensures rights { self.new.rights ≡ self.old.rights }
+        ensures sessions { self.new.sessions ≡ self.old.sessions }
+    {
+        if self.is_reserving(handler as usize) {
+            self.set_reserving(handler);
+        } else {
+            self.handlers[handler as usize].set_own();
+        }
+    }
+
+    /// A handler is out with what its reserve step comes to.
+    #[inline(never)]
+    fn set_reserving(&mut self, handler: u16)
+        requires there { handler < 512 }
+        requires reserves { is_reserving ((plain self.old).handlers handler).stage ≡ true }
+        ensures handlers { let y = (plain self.old).handlers handler in (x : Handler) → slice_get self.old.handlers.items handler ≡ Some x → self.new.handlers.items ≡ slice_set self.old.handlers.items handler (record x { out = job_at handler y.stage y (plain self.old) }) }
+        ensures count { self.new.count ≡ self.old.count }
+        ensures rights { self.new.rights ≡ self.old.rights }
+        ensures sessions { self.new.sessions ≡ self.old.sessions }
+    {
+        let job = self.job_for_entry(handler, &self.handlers[handler as usize]);
+        self.handlers[handler as usize].out.put(job);
+    }
+
+    /// What the reserve step of a handler comes to, where it may be taken.
+    fn job_for_entry(&self, handler: u16, place: &Handler) -> Option<Job>
+        ensures { result ≡ job_for_entry (needs handler place.now.entry.items (rights_of self.now.rights)) place.now.mark (plain self.now) }
+    {
+        let needed = self.needed(handler, place);
+        if self.is_any_lost(needed.as_slice()) {
+            return Some(Job::Failed);
+        }
+        if self.are_free(needed.as_slice()) && place.mark.allows(self.sessions.as_slice()) {
+            return Some(Job::Granted(needed));
+        }
+        None
+    }
+
+    /// Whether the reserve step of a handler may be taken.
+    fn is_enabled(&self, handler: u16, place: &Handler) -> bool
+        ensures { result ≡ is_some (job_for_entry (needs handler place.now.entry.items (rights_of self.now.rights)) place.now.mark (plain self.now)) }
+    {
+        let needed = self.needed(handler, place);
+        self.is_any_lost(needed.as_slice())
+            || (self.are_free(needed.as_slice()) && place.mark.allows(self.sessions.as_slice()))
+    }
+
+    /// What a handler doesn't hold of the handlers of its entry.
+    fn needed(&self, handler: u16, place: &Handler) -> ArrayVec<u16, 16>
+        ensures { result.items ≡ needs handler place.now.entry.items (rights_of self.now.rights) }
+    {
+        let values = values_of(place.entry.as_slice());
+        Entry::new(handler).needed(values.as_slice(), &self.rights)
+    }
+
+    /// Whether one of these can never be reserved again.
+    fn is_any_lost(&self, handlers: &[u16]) -> bool
+        ensures { result ≡ reserve_fails (standing_in (plain self.now)) (rights_of self.now.rights) handlers.now }
+    {
+        handlers.iter().any(|k| self.is_lost(*k))
+    }
+
+    /// Whether all of these may be reserved.
+    fn are_free(&self, handlers: &[u16]) -> bool
+        ensures { result ≡ list_all (λ k. may_be_reserved (standing_in (plain self.now) k) ((rights_of self.now.rights).queue k)) handlers.now }
+    {
+        handlers.iter().all(|k| self.is_free(*k))
+    }
+
+    /// Whether a handler has failed, and is nobody's.
+    fn is_lost(&self, handler: u16) -> bool
+        ensures { result ≡ is_lost (standing_in (plain self.now) handler) ((rights_of self.now.rights).queue handler) }
+    {
+        match self.handlers.get(handler as usize) {
+            Some(place) => place.failure.is_some() && self.rights.queue(handler).is_none(),
+            None => false,
+        }
+    }
+
+    /// Whether a handler is idle with an empty queue, and nobody's.
+    fn is_free(&self, handler: u16) -> bool
+        ensures { result ≡ may_be_reserved (standing_in (plain self.now) handler) ((rights_of self.now.rights).queue handler) }
+    {
+        if self.rights.queue(handler).is_some() {
+            return false;
+        }
+        match self.handlers.get(handler as usize) {
+            Some(place) => place.is_idle(),
+            None => true,
+        }
+    }
+}
+
+/// The handlers, as those of values.
+fn values_of(handlers: &[u16]) -> ArrayVec<Option<u16>, 16>
+    requires { length handlers.now ≤ 16 }
+    ensures { result.items ≡ map Some handlers.now }
+{
+    let mut values = ArrayVec::new();
+    for handler in handlers {
+        values.push(Some(*handler));
+    }
+    values
+}
