@@ -14,7 +14,7 @@ use crate::state::State;
 use arrayvec::ArrayVec;
 use sc_lockpass::{Rights, Version};
 use sc_model::Status;
-use sc_region::{Errand, Reference, Request};
+use sc_region::{Errand, Job, Reference, Request};
 use std::alloc::{AllocError, Global};
 use std::collections::LinkedList;
 
@@ -102,6 +102,29 @@ impl Core {
         ensures { result ≡ is_some (logs.pick_for handler (center_of self.now)) }
     {
         self.state.has_job(handler)
+    }
+
+    /// What a handler has to do, where it has something and isn't out.
+    pub fn pick_for(&self, handler: u16) -> Option<Job>
+        ensures { result ≡ logs.pick_for handler (center_of self.now) }
+    {
+        if (handler as usize) >= self.state.count {
+            return None;
+        }
+        let place = &self.state.handlers[handler as usize];
+        if place.out.is_some() || place.failure.is_some() {
+            return None;
+        }
+        match place.stage {
+            Stage::Idle => place.job_idle(),
+            Stage::Runs => Some(Job::Go),
+            Stage::HasMade(made) => Some(Job::Made(made)),
+            Stage::Reserves => self.state.job_for_entry(handler, place),
+            Stage::Awaits {
+                supplier,
+                is_creation,
+            } => place.job_awaiting(supplier, is_creation),
+        }
     }
 
     /// How a handler stands, or None where there is no such handler. One that is out is busy.

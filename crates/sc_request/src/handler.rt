@@ -6,11 +6,12 @@ ghost use Rattle.sc_request.specs.Handlers.{State, has_requests, standing_of};
 ghost use Rattle.sc_request.specs.Picking.{job_answered, job_at, job_awaiting, job_idle};
 ghost use Rattle.sc_request.specs.Tables.{answer_of, fresh, asked, handler_of, handler_with, posting_of, first_posted, answers_of};
 
+use crate::copy::copy_request;
 use crate::job_slot::JobSlot;
 use arrayvec::ArrayVec;
 use sc_lockpass::Passed;
 use sc_model::Cause;
-use sc_region::{Errand, Reference, Request, Value};
+use sc_region::{Errand, Job, Reference, Request, Value};
 use sc_waitcond::Mark;
 use std::alloc::{AllocError, Global};
 use std::collections::LinkedList;
@@ -147,6 +148,29 @@ impl Handler {
         !self.callback.is_empty() || self.answer.is_some()
     }
 
+    /// The next of its queue.
+    pub(crate) fn job_idle(&self) -> Option<Job>
+        ensures { result ≡ job_idle (map posting_of self.now.queue) }
+    {
+        match self.queue.front() {
+            Some(posting) => Some(Job::Take(copy_request(&posting.request))),
+            None => None,
+        }
+    }
+
+    /// Its callback, or the answer that has come from the supplier.
+    pub(crate) fn job_awaiting(&self, supplier: u16, is_creation: bool) -> Option<Job>
+        ensures { result ≡ job_awaiting supplier is_creation (first_posted self.now.callback) (answers_of self.now.answer) }
+    {
+        if let Some(posting) = self.callback.front() {
+            return Some(Job::Take(copy_request(&posting.request)));
+        }
+        match self.answer {
+            Some(answer) => Some(job_answered(supplier, is_creation, answer)),
+            None => None,
+        }
+    }
+
     /// It is out with what it has to do, but where that is a reserve step.
     pub(crate) fn set_own(&mut self)
         ensures { (n h : ℕ) (s : State) → is_reserving (handler_with n self.old).stage ≡ false → self.new ≡ record self.old { out = job_at h (handler_with n self.old).stage (handler_with n self.old) s } }
@@ -189,6 +213,23 @@ impl Handler {
 }
 
 /// What a handler takes an answer by.
+fn job_answered(supplier: u16, is_creation: bool, answer: Answer) -> Job
+    ensures { result ≡ job_answered supplier is_creation (answer_of answer) }
+{
+    match answer {
+        Answer::Replied(value) => {
+            if is_creation {
+                Job::Made(supplier)
+            } else {
+                Job::Reply(value)
+            }
+        }
+        Answer::SupplierFailed => Job::Failed,
+        Answer::Refused => Job::Refused,
+    }
+}
+
+/// The same, written into the place of the job that it is out with.
 fn set_answered(out: &mut JobSlot, supplier: u16, is_creation: bool, answer: Answer)
     ensures { out.new ≡ Some (job_answered supplier is_creation (answer_of answer)) }
 {

@@ -103,7 +103,7 @@ impl State {
     }
 
     /// What the reserve step of a handler comes to, where it may be taken.
-    fn job_for_entry(&self, handler: u16, place: &Handler) -> Option<Job>
+    pub(crate) fn job_for_entry(&self, handler: u16, place: &Handler) -> Option<Job>
         ensures { result ≡ job_for_entry (needs handler place.now.entry.items (rights_of self.now.rights)) place.now.mark (plain self.now) }
     {
         let needed = self.needed(handler, place);
