@@ -11,7 +11,7 @@ use Rattle.sc_lockpass.specs.Tables.{Table, rights_of}
 use Rattle.sc_waitcond.specs.declared.session.Release.TheVariants as release_at
 use Rattle.sc_region.specs.declared.job.Request.{Request}
 use Rattle.sc_request.specs.declared.handler.Handler as coded
-use Rattle.sc_request.specs.Handlers.{Posted, posted, Stage, Idle, Runs, HasMade, Reserves, Awaits, Handler, State, new_handler, put, with_stage}
+use Rattle.sc_request.specs.Handlers.{Posted, posted, Stage, Idle, Runs, HasMade, Reserves, Awaits, State, new_handler, put, with_stage}
 use Rattle.sc_request.specs.Places.{awaited}
 use Rattle.sc_request.specs.Sessions.{given_to, is_callback, passed_if, passes, release, send, with_handler}
 use Rattle.sc_request.specs.Settling.{awaits_if, creates, creates_with, creation, made_at, sends, takes_answer}

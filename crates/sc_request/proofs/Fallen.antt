@@ -1,18 +1,18 @@
 -- A handler fails, and those that wait for it are told.
-use Rattle.std.proofs.Common.{◌≡◌, ◌+◌, ◌==◌, ◌||◌, ◌&&◌, ℕ, Bool, true, false, List, [], ◌∷◌, ◌++◌, Option, Some, None, refl, sym, ap, subst, ◌∙◌, inl, inr}
+use Rattle.std.proofs.Common.{◌≡◌, ◌+◌, ◌==◌, ◌||◌, ◌&&◌, ℕ, Bool, true, false, List, [], ◌∷◌, ◌++◌, Option, Some, None, refl, sym, ap, ◌∙◌, inl, inr}
 use Rattle.std.proofs.Math.Path.{fun_ext}
 use Rattle.std.proofs.lemmas.Bool.{cases_eq, eq-eqb, ne_eqb}
 use Rattle.std.proofs.lemmas.List.Elements.{All-nil, All-cons, All-head, All-tail}
 use Rattle.std.specs.Prelude.{map, slice_get, slice_index, if◌then◌else◌}
 use Rattle.std.specs.List.{list_any}
-use Rattle.sc_lockpass.specs.Rights.{Rights, is_handler, release_all}
+use Rattle.sc_lockpass.specs.Rights.{is_handler, release_all}
 use Rattle.sc_lockpass.specs.Tables.{Table, rights_of}
 use Rattle.sc_model.specs.declared.cause.Cause.{Cause}
 use Rattle.sc_request.specs.declared.handler.Posting.{Posting}
 use Rattle.sc_request.specs.declared.handler.Handler as coded
 use Rattle.sc_request.specs.Handlers.{Answer, SupplierFailed, Posted, Service, Handler, State, put}
 use Rattle.sc_request.specs.Places.{lets_go, tells}
-use Rattle.sc_request.specs.Sessions.{answer_to, answered, fail, fallen, heard, is_waited_by, session_ended, to_list, told}
+use Rattle.sc_request.specs.Sessions.{answer_to, fail, fallen, heard, is_waited_by, session_ended, to_list, told}
 use Rattle.sc_request.specs.Sound.{AreServed, ArePlaced, IsPlaced, IsServed}
 use Rattle.sc_request.specs.Tables.{handler_in, posting_of, service_of, state_of}
 

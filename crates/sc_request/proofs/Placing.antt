@@ -1,5 +1,5 @@
 -- The tables of a core where one handler is changed.
-use Rattle.std.proofs.Common.{◌≡◌, ◌<◌, ◌==◌, ℕ, Bool, true, false, List, [], Option, Some, None, refl, sym, ap, ◌∙◌, inl, inr, length, slice_set, arith}
+use Rattle.std.proofs.Common.{◌≡◌, ◌==◌, ℕ, false, List, [], Option, Some, refl, sym, ap, ◌∙◌, inl, inr, slice_set}
 use Rattle.std.proofs.Math.Path.{fun_ext}
 use Rattle.std.proofs.lemmas.Bool.{cases_eq, eq-eqb, ne_eqb}
 use Rattle.std.specs.Prelude.{slice_get, slice_index, if◌then◌else◌}
@@ -12,7 +12,7 @@ use Rattle.sc_waitcond.specs.declared.mark.Marked.{Marked}
 use Rattle.sc_request.specs.declared.handler.Stage as coded_stage
 use Rattle.sc_request.specs.declared.handler.Stage.TheVariants as stage
 use Rattle.sc_request.specs.Candidates.{reserves_at}
-use Rattle.sc_request.specs.Handlers.{Handler, State, put, Reserves}
+use Rattle.sc_request.specs.Handlers.{Handler, put, Reserves}
 use Rattle.sc_request.specs.Tables.{handler_in, handler_at, handler_with, stage_of, state_of, out_at}
 use Rattle.sc_request.proofs.Outs.{get_same, get_other, kept_at}
 

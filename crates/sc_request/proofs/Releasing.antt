@@ -1,7 +1,7 @@
 -- Rights are released and reserved one by one, and sessions end.
-use Rattle.std.proofs.Common.{◌≡◌, ◌+◌, ◌==◌, ◌||◌, ◌&&◌, ℕ, Bool, true, false, List, [], ◌∷◌, Option, Some, None, refl, sym, ap, ◌∙◌, inl, inr}
+use Rattle.std.proofs.Common.{◌≡◌, ◌+◌, ◌==◌, ◌||◌, ℕ, Bool, true, false, List, [], ◌∷◌, Option, Some, None, refl, sym, ap, ◌∙◌, inl, inr}
 use Rattle.std.proofs.Math.Path.{fun_ext}
-use Rattle.std.proofs.lemmas.Bool.{cases_Bool, cases_eq, eq-eqb, ne_eqb, or_left, or_right}
+use Rattle.std.proofs.lemmas.Bool.{cases_eq, eq-eqb, ne_eqb, or_left, or_right}
 use Rattle.std.proofs.lemmas.List.Elements.{All-nil, All-cons}
 use Rattle.std.specs.Prelude.{is_some, slice_get, slice_index, if◌then◌else◌}
 use Rattle.std.specs.List.{All}
@@ -14,9 +14,9 @@ use Rattle.sc_request.specs.declared.handler.Handler as coded
 use Rattle.sc_waitcond.specs.Reservations.{mark_of}
 use Rattle.sc_waitcond.specs.declared.mark.Marked.{Marked}
 use Rattle.sc_request.specs.Settling.{waits_again}
-use Rattle.sc_request.specs.Handlers.{Handler, State, Reserves, with_stage}
+use Rattle.sc_request.specs.Handlers.{State, Reserves, with_stage}
 use Rattle.sc_request.specs.Sessions.{given_to, release, session_ended}
-use Rattle.sc_request.specs.Tables.{handler_in, handler_at, state_of}
+use Rattle.sc_request.specs.Tables.{handler_in, state_of}
 
 pub all_listed : (P : ℕ → Type 0) (ks : List ℕ) → ((k : ℕ) → is_among k ks ≡ true → P k) → All P ks
 all_listed P [] f = All-nil P

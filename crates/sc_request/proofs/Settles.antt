@@ -1,5 +1,5 @@
 -- The tables of a core where a handler that was out is settled.
-use Rattle.std.proofs.Common.{◌≡◌, ◌+◌, ◌<◌, ◌≤◌, ◌==◌, ℕ, zero, suc, Bool, true, false, List, [], ◌∷◌, Option, Some, None, refl, sym, ap, subst, ◌∙◌, inl, inr, length, slice_set, arith}
+use Rattle.std.proofs.Common.{◌≡◌, ◌+◌, ◌<◌, ◌≤◌, ◌==◌, ℕ, zero, suc, List, [], ◌∷◌, Option, Some, None, refl, sym, ap, subst, ◌∙◌, inl, inr, length, slice_set, arith}
 use Rattle.std.proofs.Math.Path.{fun_ext}
 use Rattle.std.proofs.lemmas.Bool.{cases_Bool}
 use Rattle.std.specs.Prelude.{is_some, slice_get, if◌then◌else◌}
@@ -10,7 +10,7 @@ use Rattle.sc_region.specs.declared.job.Want.{Want}
 use Rattle.sc_request.specs.declared.handler.Handler as coded
 use Rattle.sc_request.specs.Handlers.{State}
 use Rattle.sc_request.specs.Settling.{settled}
-use Rattle.sc_request.specs.Logs.{Center, settles, with_out}
+use Rattle.sc_request.specs.Logs.{with_out}
 use Rattle.sc_request.specs.Sound.{IsSound}
 use Rattle.sc_request.specs.Tables.{center, out_at, out_total, state_of}
 use Rattle.sc_request.specs.Candidates.{HasGrantsBelow, HasOutsBelow, granted_items, is_granted}

@@ -1,5 +1,5 @@
 -- Settlements look at nothing of a job but its shape.
-use Rattle.std.proofs.Common.{Bor, ◌≡◌, ◌∙◌, ℕ, zero, suc, Bool, true, List, Option, Some, None, refl, ap, sym}
+use Rattle.std.proofs.Common.{Bor, ◌≡◌, ◌∙◌, ℕ, zero, suc, Bool, true, Option, Some, None, refl, ap, sym}
 use Rattle.std.specs.Prelude.{is_some}
 use Rattle.std.specs.Option.{option_map}
 use Rattle.sc_region.specs.declared.job.Job.{Job}

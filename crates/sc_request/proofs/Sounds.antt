@@ -1,7 +1,7 @@
 -- The states that settlements come to are sound.
-use Rattle.std.proofs.Common.{◌≡◌, ◌+◌, ◌<◌, ◌≤◌, ◌==◌, ◌&&◌, ◌||◌, ◌++◌, ℕ, zero, suc, Bool, true, false, not, List, [], ◌∷◌, Option, Some, None, refl, sym, ap, subst, ◌∙◌, inl, inr, length, arith}
-use Rattle.std.proofs.lemmas.Bool.{cases_Bool, cases_eq, and_parts, or_cases, ltb-true, ltb-false, lt-ltb, eqb-true, ne_eqb}
-use Rattle.std.specs.Prelude.{is_some, map, nat_lt, if◌then◌else◌}
+use Rattle.std.proofs.Common.{◌≡◌, ◌+◌, ◌<◌, ◌≤◌, ◌==◌, ◌&&◌, ◌||◌, ◌++◌, ℕ, Bool, true, false, not, List, [], ◌∷◌, Option, Some, None, refl, sym, ap, subst, ◌∙◌, inl, inr, length, arith}
+use Rattle.std.proofs.lemmas.Bool.{cases_Bool, and_parts, or_cases, ltb-true, ltb-false, lt-ltb, eqb-true, ne_eqb}
+use Rattle.std.specs.Prelude.{is_some, nat_lt, if◌then◌else◌}
 use Rattle.std.specs.List.{All, list_all, list_any}
 use Rattle.std.proofs.lemmas.List.Elements.{All-nil, All-cons, All-head, All-tail}
 use Rattle.arrayvec.specs.ArrayVec.{ArrayVec}
@@ -24,7 +24,7 @@ use Rattle.sc_region.specs.declared.job.Want.TheVariants as want
 use Rattle.sc_request.specs.Candidates.{granted_items}
 use Rattle.sc_request.specs.Handlers.{Posted, posted, Answer, Replied, SupplierFailed, Refused, Stage, Idle, Runs, HasMade, Reserves, Awaits, Service, service, Handler, State, new_handler, put, with_stage}
 use Rattle.sc_request.specs.Sessions.{session_ended, release, passed_if, passes, placed, send, is_callback, given_to, with_handler, answered, answer_to, return_rights, finish, to_list, requests_at, is_waited_by, told, fallen, fail}
-use Rattle.sc_request.specs.Settling.{serves, takes_next, takes_callback, takes, takes_answer, made_at, begun, reserves, waits_again, awaits_if, sends, asks_of, asks, creation, creates_with, creates, counted_refusal, ends_service, ends, done, posts_unheld, is_request_of, is_call, are_handlers, may_ask, done_if, asked_in, fits_turns, settled}
+use Rattle.sc_request.specs.Settling.{takes_next, takes_callback, takes, takes_answer, made_at, begun, reserves, awaits_if, sends, asks_of, creation, creates_with, creates, counted_refusal, ends_service, ends, done, posts_unheld, is_request_of, is_call, may_ask, done_if, asked_in, fits_turns, settled}
 use Rattle.sc_request.specs.Sound.{IsHeldBelow, IsListedBelow, PassesBelow, placed_poster, IsPlaced, ArePlaced, AreServed, IsServed, awaits_placed, may_take_over, IsSoundHandler, IsSound}
 
 -- ---- rights

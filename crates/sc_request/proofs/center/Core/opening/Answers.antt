@@ -1,4 +1,4 @@
-use Rattle.std.proofs.Common.{List, ◌*◌, ◌∙◌, ap, subst, sym}
+use Rattle.std.proofs.Common.{List, ◌∙◌, ap, subst, sym}
 use Rattle.std.specs.Prelude.{◌-◌, vec_len}
 use Rattle.sc_lockpass.specs.Versions.{most_handlers}
 use Rattle.sc_region.specs.declared.job.Request.{Request}

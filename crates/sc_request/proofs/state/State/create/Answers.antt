@@ -1,4 +1,4 @@
-use Rattle.std.proofs.Common.{ℕ, Bool, ◌≡◌, ◌<◌, ◌^◌, ◌-◌, arith, ◌∙◌, ap, sym}
+use Rattle.std.proofs.Common.{Bool, ◌<◌, ◌^◌, ◌-◌, arith, ◌∙◌, ap, sym}
 use Rattle.sc_lockpass.specs.Versions.{most_handlers}
 use Rattle.sc_lockpass.specs.declared.version.Version.{Version}
 use Rattle.sc_request.specs.Handlers.{State}

@@ -1,4 +1,4 @@
-use Rattle.std.proofs.Common.{◌≡◌, ℕ, List, [], ◌∷◌, None, arith, ◌∙◌, ap, false, length}
+use Rattle.std.proofs.Common.{List, [], ◌∷◌, None, arith, ◌∙◌, ap, false, length}
 use Rattle.sc_waitcond.specs.declared.session.Release.TheVariants as release_at
 use Rattle.sc_request.specs.Handlers.{HasMade, Posted, State, posted}
 use Rattle.sc_request.specs.Places.{plain}

@@ -1,5 +1,4 @@
-use Rattle.std.proofs.Common.{◌≡◌, ℕ, List, [], arith, ◌∙◌, ap, true, false, length, refl}
-use Rattle.sc_lockpass.specs.Versions.{most_handlers}
+use Rattle.std.proofs.Common.{List, arith, ◌∙◌, ap, true, false, length, refl}
 use Rattle.sc_request.specs.Handlers.{Awaits, Posted, State, with_stage}
 use Rattle.sc_request.specs.Places.{plain}
 use Rattle.sc_request.proofs.Created.{pass_queue, sent_all, stage_queue}

@@ -1,4 +1,4 @@
-use Rattle.std.proofs.Common.{arith, map, subst, sym, ◌∙◌, ap, List}
+use Rattle.std.proofs.Common.{arith, map, subst, sym, List}
 use Rattle.sc_request.specs.Handlers.{Posted}
 use Rattle.sc_request.specs.Places.{plain}
 use Rattle.sc_request.specs.Sound.{ArePlaced}

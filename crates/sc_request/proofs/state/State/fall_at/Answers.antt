@@ -6,9 +6,9 @@ use Rattle.sc_request.specs.Tables.{handler_in, posting_of}
 use Rattle.sc_request.proofs.Fallen.{postings_served}
 use Rattle.std.proofs.Common.{length, refl, arith, ◌∙◌, ap, sym}
 use Rattle.std.proofs.lemmas.Option.{slice_get_read}
-use Rattle.sc_request.specs.Handlers.{Handler, Stage, Reserves}
+use Rattle.sc_request.specs.Handlers.{Handler}
 use Rattle.sc_request.specs.Sessions.{fallen}
-use Rattle.sc_request.proofs.Placing.{changed, outs_kept, stands, reserves_next}
+use Rattle.sc_request.proofs.Placing.{changed, outs_kept}
 use Rattle.sc_request.proofs.state.State.fall_at.Goals as goal
 
 pub returns-clause-plain : goal.returns-clause-plain

@@ -1,9 +1,7 @@
-use Rattle.std.proofs.Common.{◌≡◌, ◌<◌, ℕ, List, ◌∙◌, ap, sym, subst, false, length, refl, arith}
-use Rattle.sc_model.specs.Limits.{max_queue}
+use Rattle.std.proofs.Common.{List, ◌∙◌, ap, sym, length, refl, arith}
 use Rattle.sc_request.specs.Handlers.{Posted, State}
 use Rattle.sc_request.specs.Places.{plain}
-use Rattle.sc_request.specs.Settling.{awaits_if}
-use Rattle.sc_request.proofs.Created.{await_queue, await_rights, pass_queue, sent_by}
+use Rattle.sc_request.proofs.Created.{await_queue, pass_queue, sent_by}
 use Rattle.sc_request.proofs.state.State.send_on.Goals as goal
 
 pub send-requires-clause-room : goal.send-requires-clause-room

@@ -1,9 +1,9 @@
-use Rattle.std.proofs.Common.{length, refl, arith, ◌∙◌, ap, sym}
+use Rattle.std.proofs.Common.{length, refl, arith}
 use Rattle.std.proofs.lemmas.Option.{slice_get_read}
-use Rattle.sc_request.specs.Handlers.{Handler, Stage, Reserves}
+use Rattle.sc_request.specs.Handlers.{Handler}
 use Rattle.std.proofs.Common.{[]}
 use Rattle.sc_request.specs.Tables.{stage_of}
-use Rattle.sc_request.proofs.Placing.{changed, outs_kept, stands, reserves_next}
+use Rattle.sc_request.proofs.Placing.{changed, outs_kept, stands}
 use Rattle.sc_request.proofs.state.State.stand.Goals as goal
 
 pub returns-clause-plain : goal.returns-clause-plain

@@ -2,9 +2,7 @@ use Rattle.std.proofs.Common.{◌≡◌, ℕ, List, rules}
 use Rattle.std.specs.Prelude.{slice_index}
 use Rattle.sc_waitcond.specs.Reservations.{mark_of}
 use Rattle.std.proofs.Common.{◌∙◌, ap}
-use Rattle.sc_lockpass.specs.Rights.{Rights}
 use Rattle.sc_lockpass.specs.Tables.{rights_of}
-use Rattle.sc_request.specs.Handlers.{Reserves, with_stage}
 use Rattle.sc_request.specs.Places.{plain}
 use Rattle.sc_request.proofs.Releasing.{released, waits}
 use Rattle.sc_request.proofs.state.State.wait_again.Goals as goal
