@@ -1,8 +1,11 @@
+pub mod Adding
 pub mod Ahead
 pub mod Allowed
+pub mod Asked
 pub mod Created
 pub mod Failed
 pub mod Going
+pub mod Making
 pub mod Playing
 pub mod Programs
 pub mod Slots

@@ -7,7 +7,7 @@ use Rattle.sc_region.specs.declared.job.Outcome.{Outcome}
 use Rattle.sc_region.specs.declared.job.Want.{Want}
 use Rattle.sc_region.specs.declared.job.Want.TheVariants as want
 use Rattle.sc_region.specs.Stores.{PlainStore, new_store}
-use Rattle.sc_play.specs.Turns.{Turns, IsAhead, begun}
+use Rattle.sc_play.specs.Turns.{AreMade, Turns, IsAhead, begun}
 
 pub record PlainRegion : Type 0 where
   pub handler : ℕ
@@ -24,13 +24,21 @@ outcome h turns w = record { handler = h; turns = turns; want = w }
 abbrev pub EndsIn : ℕ → ℕ → PlainStore → Want → PlainStore → Type 0
 EndsIn n limit x w y = (y ≡ x) ⊎ ((n < limit) × (w ≡ want.Continue) × IsAhead x y)
 
--- Further turns of the handler lead from the first store to the second, where the first of all was made and asked this. With it they are so many, at most the
--- limit, and the last asks this.
-pub record PlaysOn (limit : ℕ) (h : ℕ) (x : PlainStore) (v : Want) (y : PlainStore) (n : ℕ) (w : Want) : Type 0 where
+-- Further turns of the handler lead from the first store to the second, where so many were made, and the last of those asked this. With them they are so many, at
+-- most the limit, and the last asks this.
+pub record PlaysOn (made limit : ℕ) (h : ℕ) (x : PlainStore) (v : Want) (y : PlainStore) (n : ℕ) (w : Want) : Type 0 where
   pub few : n ≤ limit
   pub some : 0 < n
   pub last : PlainStore
-  pub turns : (is_told : Bool) (j : Job) (z : PlainStore) → Turns h is_told j z 1 x v → Turns h is_told j z n last w
+  pub turns : (is_told : Bool) (j : Job) (z : PlainStore) → AreMade made h is_told j z x v → Turns h is_told j z n last w
+  pub ends : EndsIn n limit last w y
+
+-- So many turns under the job, at most the limit, lead from the first store to the second, and the last of them asks this.
+pub record PlaysUnder (limit : ℕ) (h : ℕ) (is_told : Bool) (j : Job) (x y : PlainStore) (n : ℕ) (w : Want) : Type 0 where
+  pub few : n ≤ limit
+  pub some : 0 < n
+  pub last : PlainStore
+  pub turns : Turns h is_told j x n last w
   pub ends : EndsIn n limit last w y
 
 -- So many turns as the outcome says, at most the limit, lead from one region to the other, and the last asks what it says. None of those before it asks

@@ -1,5 +1,5 @@
 -- Turns of a handler on its store.
-use Rattle.std.specs.Prelude.{◌≡◌, ◌⊎◌, ℕ, ◌+◌, Bool, true, false, Option, Some, None}
+use Rattle.std.specs.Prelude.{◌≡◌, ◌⊎◌, ℕ, zero, suc, ◌+◌, Bool, true, false, Option, Some, None}
 use Rattle.sc_model.specs.declared.cause.Cause.TheVariants as cause
 use Rattle.sc_region.specs.declared.frame.Stage.{Stage}
 use Rattle.sc_region.specs.declared.frame.Stage.TheVariants as stage
@@ -47,6 +47,15 @@ pub record GoesOn (h : ℕ) (x y : PlainStore) (w : Want) : Type 0 where
   pub told : IsTold operation before
   pub does : y ≡ done h operation before
   pub want : w ≡ asks_done h operation before y
+
+-- what a turn makes of the store where the topmost routine, in this stage, doesn't go on
+abbrev pub rested : Option Stage → PlainStore → PlainStore
+rested None x = x
+rested (Some stage.Runs) x = x
+rested (Some stage.Reserves) x = x
+rested (Some stage.ReservesBlock) x = x
+rested (Some (stage.InCall gives)) x = failed cause.BadCode x
+rested (Some (stage.Awaits k gives is_creation)) x = x
 
 -- the turn of a handler whose topmost routine is in this stage
 abbrev pub TurnIn : Option Stage → ℕ → PlainStore → PlainStore → Want → Type 0
@@ -101,12 +110,22 @@ TurnUnder h job.Go x y w = TurnOf h x y w
 abbrev pub FirstTurn : ℕ → Bool → Job → PlainStore → PlainStore → Want → Type 0
 FirstTurn h is_told j x y w = TurnUnder h j (begun is_told j x) y w
 
+-- The first turn was made, as this says of the store that it leads to and of what it asks; or nothing was done, and any turn of the handler is that turn.
+abbrev pub Begins : Bool → ℕ → (PlainStore → Want → Type 0) → PlainStore → PlainStore → Want → Type 0
+Begins true h First x y w = First y w
+Begins false h First x y w = (y ≡ x) × (w ≡ want.Continue) × ((z : PlainStore) (v : Want) → TurnOf h x z v → First z v)
+
 -- ---- turns
 
 -- So many turns under the job lead from the first store to this one, and the last of them asks this. None before it asks anything.
 pub data Turns (h : ℕ) (is_told : Bool) (j : Job) (x : PlainStore) : ℕ → PlainStore → Want → Type 0 where
   first : {y : PlainStore} {w : Want} → FirstTurn h is_told j x y w → Turns h is_told j x 1 y w
   more : {n : ℕ} {y z : PlainStore} {w : Want} → Turns h is_told j x n y want.Continue → TurnOf h y z w → Turns h is_told j x (n + 1) z w
+
+-- So many turns under the job lead to this store, and the last of them asks this. Where none was made, any turn of the handler is the first.
+abbrev pub AreMade : ℕ → ℕ → Bool → Job → PlainStore → PlainStore → Want → Type 0
+AreMade zero h is_told j x y w = (w ≡ want.Continue) × ((z : PlainStore) (v : Want) → TurnOf h y z v → FirstTurn h is_told j x z v)
+AreMade (suc n) h is_told j x y w = Turns h is_told j x (suc n) y w
 
 -- ---- refused memory
 

@@ -49,8 +49,18 @@ fn ask_reserving(slots: &[Value], separate: &[usize], asked: &mut Want)
     ensures { asked.new ≡ asks_reserving separate.now slots.now }
 {
     if !separate.is_empty() {
-        *asked = Want::Reserve(handlers_in(slots, separate));
+        ask_handlers(slots, separate, asked);
     }
+}
+
+/// The handlers of the values in these slots are to be reserved.
+///
+/// It stays a call: most routines reserve none, and each would clear what is asked here as it begins.
+#[inline(never)]
+fn ask_handlers(slots: &[Value], separate: &[usize], asked: &mut Want)
+    ensures { asked.new ≡ want.Reserve (record { items = handlers_in slots.now separate.now }) }
+{
+    *asked = Want::Reserve(handlers_in(slots, separate));
 }
 
 /// What the topmost routine asks, where it begins: its reserve step, where it has attached separate formals.

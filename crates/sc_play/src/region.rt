@@ -1,7 +1,8 @@
 //! Regions.
-ghost use Rattle.std.specs.Prelude.{◌≡◌, ◌<◌, ◌≤◌, IfOk, OnErr, IsTrue};
+ghost use Rattle.std.specs.Prelude.{◌≡◌, ◌<◌, ◌≤◌, ◌↔◌, IfOk, OnErr, IsTrue};
 ghost use Rattle.sc_region.specs.declared.job.Want.TheVariants as want;
-ghost use Rattle.sc_play.specs.Regions.{PlaysOn};
+ghost use Rattle.sc_play.specs.Regions.{PlaysOn, PlaysUnder};
+ghost use Rattle.sc_play.specs.Turns.{IsAhead, begun};
 
 use crate::turn::{first_turn, turn};
 use sc_code::Program;
@@ -33,31 +34,69 @@ impl<'p> Model for Region<'p> {
 
 /// Whether nothing is asked.
 fn is_continue(asked: &Want) -> bool
-    ensures { IsTrue result → asked.now ≡ want.Continue }
+    ensures { IsTrue result ↔ asked.now ≡ want.Continue }
 {
     matches!(asked, Want::Continue)
 }
 
-/// Further turns, as long as nothing is asked and fewer than `limit` are made: how many turns are made then, with the one
-/// that asked what was `asked`, which is now what the last of them asks. Where memory is refused, they end before that turn.
-fn play_on(store: &mut Store<'_>, handler: u16, limit: u32, asked: &mut Want) -> u32
-    requires { 1 ≤ limit }
-    ensures { PlaysOn limit handler store.old asked.old store.new result asked.new }
+/// Further turns, as long as nothing is asked and fewer than `limit` are made: how many turns are made then, with those
+/// that were `made` already, the last of which asked what was `asked`, which is now what the last of all asks. Where memory
+/// is refused, they end before that turn; Err where none is made.
+///
+/// It stays a call, in which all turns are made that are any turn of the handler.
+#[inline(never)]
+fn play_on(
+    store: &mut Store<'_>,
+    handler: u16,
+    made: u32,
+    limit: u32,
+    asked: &mut Want,
+) -> Result<u32, AllocError>
+    requires few { made ≤ limit }
+    requires some { 1 ≤ limit }
+    requires asked { made ≡ 0 → asked.old ≡ want.Continue }
+    ensures ok { IfOk result (λ turns. PlaysOn made limit handler store.old asked.old store.new turns asked.new) }
+    ensures none { OnErr result (made ≡ 0) }
+    ensures err { OnErr result (IsAhead store.old store.new) }
 {
-    for turns in 1..limit {
+    for turns in made..limit {
         if !is_continue(asked) {
-            return turns;
+            return Ok(turns);
         }
         match turn(store, handler, asked) {
             Ok(()) => (),
-            Err(_) => return turns,
+            Err(error) => return if turns == 0 { Err(error) } else { Ok(turns) },
         }
     }
-    limit
+    Ok(limit)
+}
+
+/// The first turn under the job, and further ones, as long as nothing is asked and fewer than `limit` are made: how many
+/// turns are made. Where memory is refused to a further one, they end before it. Err where it is refused to the first.
+#[tactic(auto, using(crate::proofs::Going::stays_so))]
+fn play_under(
+    store: &mut Store<'_>,
+    handler: u16,
+    job: &Job,
+    is_told: bool,
+    limit: u32,
+    asked: &mut Want,
+) -> Result<u32, AllocError>
+    requires limit { 1 ≤ limit }
+    requires asked { asked.old ≡ want.Continue }
+    ensures ok { IfOk result (λ turns. PlaysUnder limit handler is_told job.now store.old store.new turns asked.new) }
+    ensures err { OnErr result (IsAhead (begun is_told job.now store.old) store.new) }
+{
+    let made = first_turn(store, handler, job, is_told, asked)?;
+    if made {
+        play_on(store, handler, 1, limit, asked)
+    } else {
+        play_on(store, handler, 0, limit, asked)
+    }
 }
 
 impl<'p> Region<'p> {
-    ghost use Rattle.std.specs.Prelude.{◌↔◌, ◌&&◌, is_some, length};
+    ghost use Rattle.std.specs.Prelude.{◌&&◌, is_some, length};
     ghost use Rattle.sc_region.specs.Classes.{MeetsAt};
     ghost use Rattle.sc_region.specs.Objects.{object_numbered};
     ghost use Rattle.sc_region.specs.Stores.{is_settled};
@@ -105,10 +144,17 @@ impl<'p> Region<'p> {
         ensures err { OnErr result (IsRefused job.now self.old self.new) }
         ensures handler { self.new.handler ≡ self.old.handler }
     {
-        match first_turn(&mut self.store, self.handler, job, self.is_told, asked) {
-            Ok(()) => {
+        match play_under(
+            &mut self.store,
+            self.handler,
+            job,
+            self.is_told,
+            limit,
+            asked,
+        ) {
+            Ok(turns) => {
                 self.is_told = false;
-                Ok(play_on(&mut self.store, self.handler, limit, asked))
+                Ok(turns)
             }
             Err(error) => {
                 self.is_told = self.is_told || matches!(job, Job::Made(_));

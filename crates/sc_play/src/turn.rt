@@ -2,11 +2,11 @@
 //!
 //! A turn is given what is asked so far, which is nothing, and writes there what it asks: where a turn asks nothing, as most
 //! do, nothing is written. Where memory is refused, it stays nothing.
-ghost use Rattle.std.specs.Prelude.{◌≡◌, OnOk, OnErr};
+ghost use Rattle.std.specs.Prelude.{◌≡◌, ℕ, IfOk, OnOk, OnErr};
 ghost use Rattle.sc_play.specs.Answering.{top_stage};
 ghost use Rattle.sc_region.specs.Stores.{failed};
 ghost use Rattle.sc_region.specs.declared.job.Want.TheVariants as want;
-ghost use Rattle.sc_play.specs.Turns.{Becomes, FirstTurn, GoesOn, IsAhead, TurnIn, TurnMade, TurnOf, TurnUnder, asks_done, begun, done};
+ghost use Rattle.sc_play.specs.Turns.{Becomes, Begins, FirstTurn, GoesOn, IsAhead, TurnMade, TurnOf, TurnUnder, asks_done, begun, done, rested};
 
 use crate::acts::act_on;
 use crate::jobs::{grant, reply, resume, take, tell, top_stage};
@@ -17,6 +17,9 @@ use sc_region::{Job, Stage, Store, Want};
 use std::alloc::AllocError;
 
 /// An operation that isn't silent is done. Err where there is no memory; nothing has changed then.
+///
+/// It is part of a turn, and no call.
+#[inline(always)]
 fn do_operation(
     store: &mut Store<'_>,
     handler: u16,
@@ -42,6 +45,9 @@ fn do_operation(
 
 /// The topmost routine goes on, up to an operation that isn't silent, which is done. Err where there is no memory: silent
 /// operations may be done then.
+///
+/// It is part of a turn, and no call.
+#[inline(always)]
 fn run_on(store: &mut Store<'_>, handler: u16, asked: &mut Want) -> Result<(), AllocError>
     requires { asked.old ≡ want.Continue }
     ensures ok { OnOk result (GoesOn handler store.old store.new asked.new) }
@@ -69,55 +75,50 @@ fn fail(store: &mut Store<'_>, why: Cause, asked: &mut Want)
     unless_failed(store, asked);
 }
 
-/// A turn of a handler whose topmost routine is in this stage. Err where there is no memory: silent operations may be
-/// done then.
-fn turn_in(
-    store: &mut Store<'_>,
-    handler: u16,
-    stage: Option<Stage>,
-    asked: &mut Want,
-) -> Result<(), AllocError>
+/// What a turn does where the topmost routine, in this stage, doesn't go on.
+///
+/// It stays a call: a turn seldom comes here.
+#[inline(never)]
+fn stay_in(store: &mut Store<'_>, stage: Option<Stage>, asked: &mut Want)
     requires { asked.old ≡ want.Continue }
-    ensures ok { OnOk result (TurnIn stage handler store.old store.new asked.new) }
-    ensures err { OnErr result (IsAhead store.old store.new) }
-    ensures kept { OnErr result (asked.new ≡ asked.old) }
+    ensures { Becomes (rested stage store.old) want.Continue store.new asked.new }
 {
     match stage {
-        Some(Stage::Runs) => run_on(store, handler, asked),
-        Some(Stage::InCall { .. }) => {
-            fail(store, Cause::BadCode, asked);
-            Ok(())
-        }
-        Some(Stage::Reserves | Stage::ReservesBlock | Stage::Awaits { .. }) | None => {
-            wait(store, asked);
-            Ok(())
-        }
+        Some(Stage::InCall { .. }) => fail(store, Cause::BadCode, asked),
+        Some(Stage::Runs | Stage::Reserves | Stage::ReservesBlock | Stage::Awaits { .. }) | None =>
+            wait(store, asked),
     }
 }
 
 /// A turn of the handler. Err where there is no memory: silent operations may be done then.
+///
+/// It is part of the loop of turns, and no call, so that what it needs is laid out once for many.
+#[inline(always)]
 pub fn turn(store: &mut Store<'_>, handler: u16, asked: &mut Want) -> Result<(), AllocError>
     requires { asked.old ≡ want.Continue }
     ensures ok { OnOk result (TurnOf handler store.old store.new asked.new) }
     ensures err { OnErr result (IsAhead store.old store.new) }
     ensures kept { OnErr result (asked.new ≡ asked.old) }
 {
-    let stage = top_stage(store);
-    turn_in(store, handler, stage, asked)
+    match top_stage(store) {
+        Some(Stage::Runs) => run_on(store, handler, asked),
+        stage => {
+            stay_in(store, stage, asked);
+            Ok(())
+        }
+    }
 }
 
-/// A handler was made for the topmost routine, which has been told its number. Where it waits for the answer it goes on in
-/// its next turn, else in this one. Err where there is no memory: silent operations may be done then.
-fn turn_made(store: &mut Store<'_>, handler: u16, asked: &mut Want) -> Result<(), AllocError>
+/// A handler was made for the topmost routine, which has been told its number. Where it waits for the answer this is its
+/// turn, and it goes on in its next, else in any turn: whether the turn was made.
+fn turn_made(store: &mut Store<'_>, asked: &mut Want) -> bool
     requires { asked.old ≡ want.Continue }
-    ensures ok { OnOk result (TurnMade (top_stage store.old) handler store.old store.new asked.new) }
-    ensures err { OnErr result (IsAhead store.old store.new) }
-    ensures kept { OnErr result (asked.new ≡ asked.old) }
+    ensures { (handler : ℕ) → Begins result handler (λ z v. TurnMade (top_stage store.old) handler store.old z v) store.old store.new asked.new }
 {
     match top_stage(store) {
         None => {
             fail(store, Cause::BadCode, asked);
-            Ok(())
+            true
         }
         Some(
             Stage::Awaits {
@@ -126,42 +127,56 @@ fn turn_made(store: &mut Store<'_>, handler: u16, asked: &mut Want) -> Result<()
             },
         ) => {
             resume(store, asked);
-            Ok(())
+            true
         }
-        stage => turn_in(store, handler, stage, asked),
+        Some(
+            Stage::Runs
+            | Stage::Reserves
+            | Stage::ReservesBlock
+            | Stage::InCall { .. }
+            | Stage::Awaits {
+                is_creation: false,
+                ..
+            },
+        ) => false,
     }
 }
 
-/// The first turn under a job that has begun. Err where there is no memory: silent operations may be done then.
-#[tactic(auto, using(crate::proofs::Going::stays_so))]
+/// The first turn under a job that has begun, where it isn't any turn of the handler: whether it was made. Err where there
+/// is no memory; nothing has changed then.
 fn turn_under(
     store: &mut Store<'_>,
     handler: u16,
     job: &Job,
     asked: &mut Want,
-) -> Result<(), AllocError>
+) -> Result<bool, AllocError>
     requires { asked.old ≡ want.Continue }
-    ensures ok { OnOk result (TurnUnder handler job.now store.old store.new asked.new) }
-    ensures err { OnErr result (IsAhead store.old store.new) }
-    ensures kept { OnErr result (asked.new ≡ asked.old) }
+    ensures ok { IfOk result (λ made. Begins made handler (λ z v. TurnUnder handler job.now store.old z v) store.old store.new asked.new) }
+    ensures err { OnErr result (store.new ≡ store.old) }
 {
     match job {
-        Job::Take(request) => take(store, handler, request, asked),
+        Job::Take(request) => {
+            take(store, handler, request, asked)?;
+            Ok(true)
+        }
         Job::Reply(value) => {
             reply(store, *value, asked);
-            Ok(())
+            Ok(true)
         }
         Job::Failed => {
             fail(store, Cause::SupplierFailed, asked);
-            Ok(())
+            Ok(true)
         }
         Job::Refused => {
             fail(store, Cause::Precondition, asked);
-            Ok(())
+            Ok(true)
         }
-        Job::Granted(handlers) => grant(store, handlers, asked),
-        Job::Made(_) => turn_made(store, handler, asked),
-        Job::Go => turn(store, handler, asked),
+        Job::Granted(handlers) => {
+            grant(store, handlers, asked)?;
+            Ok(true)
+        }
+        Job::Made(_) => Ok(turn_made(store, asked)),
+        Job::Go => Ok(false),
     }
 }
 
@@ -179,19 +194,18 @@ fn begin(store: &mut Store<'_>, job: &Job, is_told: bool)
     }
 }
 
-/// The first turn under the job. `is_told` says that the creator of a handler was told its number already. Err where there
-/// is no memory: the job has begun then, and silent operations may be done.
+/// The first turn under the job, where it isn't any turn of the handler: whether it was made. `is_told` says that the
+/// creator of a handler was told its number already. Err where there is no memory: the job has begun then.
 pub fn first_turn(
     store: &mut Store<'_>,
     handler: u16,
     job: &Job,
     is_told: bool,
     asked: &mut Want,
-) -> Result<(), AllocError>
+) -> Result<bool, AllocError>
     requires { asked.old ≡ want.Continue }
-    ensures ok { OnOk result (FirstTurn handler is_told job.now store.old store.new asked.new) }
-    ensures err { OnErr result (IsAhead (begun is_told job.now store.old) store.new) }
-    ensures kept { OnErr result (asked.new ≡ asked.old) }
+    ensures ok { IfOk result (λ made. Begins made handler (λ z v. FirstTurn handler is_told job.now store.old z v) (begun is_told job.now store.old) store.new asked.new) }
+    ensures err { OnErr result (store.new ≡ begun is_told job.now store.old) }
 {
     begin(store, job, is_told);
     turn_under(store, handler, job, asked)

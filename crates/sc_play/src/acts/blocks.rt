@@ -120,13 +120,13 @@ pub fn open(store: &mut Store<'_>, first: usize, count: usize, asked: &mut Want)
     ensures store { store.new ≡ opened first count store.old }
     ensures want { asked.new ≡ asks_opening first count (top_activation store.old.frames) }
 {
-    *asked = match heads_in(store, first, count) {
+    match heads_in(store, first, count) {
         Some(heads) => {
             open_top(store, first, heads.as_slice());
-            Want::Reserve(handlers_of(heads.as_slice()))
+            *asked = Want::Reserve(handlers_of(heads.as_slice()));
         }
-        None => misfit(store),
-    };
+        None => misfit(store, asked),
+    }
 }
 
 // ---- a block ends
@@ -162,8 +162,8 @@ pub fn leave(store: &mut Store<'_>, asked: &mut Want)
     ensures store { store.new ≡ block_left store.old }
     ensures want { asked.new ≡ asks_leaving (top_activation store.old.frames) }
 {
-    *asked = match close_top(store) {
-        Some(handlers) => Want::Release(handlers),
-        None => misfit(store),
-    };
+    match close_top(store) {
+        Some(handlers) => *asked = Want::Release(handlers),
+        None => misfit(store, asked),
+    }
 }

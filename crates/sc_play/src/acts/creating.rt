@@ -96,7 +96,7 @@ pub fn create_object(
     match class_number(class) {
         Some(class) => create_by_number(store, handler, class, procedure, count, asked),
         None => {
-            *asked = misfit(store);
+            misfit(store, asked);
             Ok(())
         }
     }

@@ -3,7 +3,7 @@ ghost use Rattle.std.specs.Prelude.{◌≡◌, Some, true};
 ghost use Rattle.sc_region.specs.Frames.{PlainActivation, activation_of, top_activation};
 ghost use Rattle.sc_interp.specs.Creating.{has_room};
 ghost use Rattle.sc_region.specs.Calls.{on_top};
-ghost use Rattle.sc_play.specs.CreatingHandlers.{asks_creating, creating, creation_in, creation_of, handler_created, may_create};
+ghost use Rattle.sc_play.specs.CreatingHandlers.{asks_creating, creating, creation_in, creation_of, creation_with, handler_created, may_create};
 
 use crate::acts::numbers::{class_number, procedure_number};
 use crate::acts::operands::{has_actuals, last_values};
@@ -76,6 +76,28 @@ fn begin(store: &mut Store<'_>, first: Reference, creation: RemoteCreation)
     }
 }
 
+/// The creation is made, where it may be: F16 where it may not.
+fn create_by(store: &mut Store<'_>, handler: u16, creation: RemoteCreation, asked: &mut Want)
+    ensures store { store.new ≡ handler_created handler creation store.old }
+    ensures want { asked.new ≡ asks_creating creation (top_activation store.old.frames) }
+{
+    let Some(class) = class_number(creation.class) else {
+        misfit(store, asked);
+        return;
+    };
+    let Some(want) = creation_in(store, class, creation) else {
+        misfit(store, asked);
+        return;
+    };
+    let first = Reference {
+        handler,
+        number: 1,
+        class,
+    };
+    begin(store, first, creation);
+    *asked = want;
+}
+
 /// A handler is created by this one, with an object of the class, by the procedure of the name or without one: F16 where
 /// there are fewer operands than the creation takes, or more than a request has room for, or where the class or the name
 /// has no number there. The creator goes on with a reference to the object, which has the creator's number until that of
@@ -86,31 +108,20 @@ fn begin(store: &mut Store<'_>, first: Reference, creation: RemoteCreation)
 pub fn create_handler(
     store: &mut Store<'_>,
     handler: u16,
-    creation: RemoteCreation,
+    class: usize,
+    procedure: Option<usize>,
+    count: usize,
+    passes: bool,
     asked: &mut Want,
 )
-    ensures store { store.new ≡ handler_created handler creation store.old }
-    ensures want { asked.new ≡ asks_creating creation (top_activation store.old.frames) }
+    ensures store { store.new ≡ handler_created handler (creation_with class procedure count passes) store.old }
+    ensures want { asked.new ≡ asks_creating (creation_with class procedure count passes) (top_activation store.old.frames) }
 {
-    *asked = want_creating(store, handler, creation);
-}
-
-/// The same, and what it asks.
-fn want_creating(store: &mut Store<'_>, handler: u16, creation: RemoteCreation) -> Want
-    ensures store { store.new ≡ handler_created handler creation store.old }
-    ensures want { result ≡ asks_creating creation (top_activation store.old.frames) }
-{
-    let Some(class) = class_number(creation.class) else {
-        return misfit(store);
-    };
-    let Some(asked) = creation_in(store, class, creation) else {
-        return misfit(store);
-    };
-    let first = Reference {
-        handler,
-        number: 1,
+    let creation = RemoteCreation {
         class,
+        procedure,
+        count,
+        passes,
     };
-    begin(store, first, creation);
-    asked
+    create_by(store, handler, creation, asked);
 }

@@ -1,13 +1,15 @@
 //! Calls on objects of other handlers.
-ghost use Rattle.std.specs.Prelude.{◌≡◌};
+ghost use Rattle.std.specs.Prelude.{◌≡◌, ◌<◌, ◌≤◌, IsTrue, is_some, length, true, false};
+ghost use Rattle.sc_region.specs.declared.job.Want.TheVariants as want;
 ghost use Rattle.sc_region.specs.Frames.{activation_of, top_activation};
 ghost use Rattle.sc_region.specs.Calls.{on_top};
-ghost use Rattle.sc_play.specs.Requesting.{asks_requesting, asks_sent, is_waited, request_in, request_of, requested, sending};
+ghost use Rattle.sc_play.specs.Requesting.{asks_requesting, asks_sending, asks_sent, call_of, is_waited, request_by, request_in, request_of, requested, sending};
 
 use crate::acts::numbers::name_number;
-use crate::acts::operands::{has_call, last_values};
+use crate::acts::operands::{add_last_values, has_call};
 use crate::acts::stages::{await_if, misfit};
 use crate::steps::go_past;
+use arrayvec::ArrayVec;
 use sc_region::{Activation, Errand, Reference, Request, Store, Want};
 
 /// A call on an object of another handler. Its actuals are the last operands, and the target lies under them.
@@ -28,39 +30,93 @@ fn is_waited(call: RemoteCall) -> bool
     call.passes || call.gives
 }
 
-/// The request that the call of the routine is, where its name has a number and its operands are there.
-fn request_of(activation: &Activation, poster: u16, call: RemoteCall) -> Option<Request>
-    ensures { result ≡ request_of poster call (activation_of activation.now) }
+/// The call of the routine is asked, and waited for.
+fn ask_waited(activation: &Activation, poster: u16, call: RemoteCall, name: u32, asked: &mut Want)
+    requires few { call.count < 17 }
+    requires enough { call.count ≤ length (activation_of activation.now).operands.values }
+    ensures { asked.new ≡ want.Ask (record (request_by poster call name (activation_of activation.now)) { is_waited = true }) call.passes }
 {
-    let name = name_number(call.name)?;
-    if !has_call(activation, call.count) {
-        return None;
+    *asked = Want::Ask {
+        request: Request {
+            poster: Some(poster),
+            target: call.object,
+            errand: Errand::Calls(name),
+            actuals: ArrayVec::new(),
+            is_waited: true,
+        },
+        passes: call.passes,
+    };
+    if let Want::Ask { request, .. } = asked {
+        add_last_values(&mut request.actuals, activation, call.count);
     }
-    Some(Request {
+}
+
+/// The call of the routine is asked, and not waited for.
+fn ask_posted(activation: &Activation, poster: u16, call: RemoteCall, name: u32, asked: &mut Want)
+    requires few { call.count < 17 }
+    requires enough { call.count ≤ length (activation_of activation.now).operands.values }
+    ensures { asked.new ≡ want.Post (record (request_by poster call name (activation_of activation.now)) { is_waited = false }) }
+{
+    *asked = Want::Post(Request {
         poster: Some(poster),
         target: call.object,
         errand: Errand::Calls(name),
-        actuals: last_values(activation, call.count),
-        is_waited: is_waited(call),
-    })
+        actuals: ArrayVec::new(),
+        is_waited: false,
+    });
+    if let Want::Post(request) = asked {
+        add_last_values(&mut request.actuals, activation, call.count);
+    }
+}
+
+/// The call of the routine is asked, by its name's number.
+#[tactic(auto, using(crate::proofs::Asked::asks_waited, crate::proofs::Asked::asks_posted))]
+fn ask_by(activation: &Activation, poster: u16, call: RemoteCall, name: u32, asked: &mut Want)
+    requires few { call.count < 17 }
+    requires enough { call.count ≤ length (activation_of activation.now).operands.values }
+    ensures { asked.new ≡ asks_sent (request_by poster call name (activation_of activation.now)) call.passes }
+{
+    if is_waited(call) {
+        ask_waited(activation, poster, call, name, asked);
+    } else {
+        ask_posted(activation, poster, call, name, asked);
+    }
+}
+
+/// The call of the routine is asked, where its name has a number and its operands are there: whether it is.
+fn ask_of(activation: &Activation, poster: u16, call: RemoteCall, asked: &mut Want) -> bool
+    ensures told { result ≡ is_some (request_of poster call (activation_of activation.now)) }
+    ensures few { IsTrue result → call.count < 17 }
+    ensures want { IsTrue result → asked.new ≡ asks_sending (request_of poster call (activation_of activation.now)) call.passes }
+{
+    let Some(name) = name_number(call.name) else {
+        return false;
+    };
+    if !has_call(activation, call.count) {
+        return false;
+    }
+    ask_by(activation, poster, call, name, asked);
+    true
 }
 
 /// The same of the topmost routine.
-fn request_in(store: &Store<'_>, poster: u16, call: RemoteCall) -> Option<Request>
-    ensures { result ≡ request_in poster call (top_activation store.now.frames) }
+fn ask_in(store: &Store<'_>, poster: u16, call: RemoteCall, asked: &mut Want) -> bool
+    ensures told { result ≡ is_some (request_in poster call (top_activation store.now.frames)) }
+    ensures few { IsTrue result → call.count < 17 }
+    ensures want { IsTrue result → asked.new ≡ asks_sending (request_in poster call (top_activation store.now.frames)) call.passes }
 {
     match store.top() {
-        Some(activation) => request_of(activation, poster, call),
-        None => None,
+        Some(activation) => ask_of(activation, poster, call, asked),
+        None => false,
     }
 }
 
 /// The operands of the call go, and the routine waits where the answer is waited for.
 fn send_on(activation: &mut Activation, call: RemoteCall)
+    requires { call.count < 17 }
     ensures { activation_of activation.new ≡ sending call (activation_of activation.old) }
 {
-    go_past(activation, call.count);
-    activation.operands.drop_last(1);
+    go_past(activation, call.count + 1);
     await_if(
         activation,
         is_waited(call),
@@ -72,6 +128,7 @@ fn send_on(activation: &mut Activation, call: RemoteCall)
 
 /// The same of the topmost routine.
 fn send(store: &mut Store<'_>, call: RemoteCall)
+    requires { call.count < 17 }
     ensures { store.new ≡ on_top (sending call) store.old }
 {
     match store.top_mut() {
@@ -80,14 +137,16 @@ fn send(store: &mut Store<'_>, call: RemoteCall)
     }
 }
 
-/// What the call asks that is this request.
-fn want_requesting(request: Request, passes: bool) -> Want
-    ensures { result ≡ asks_sent request passes }
+/// The call is made, where it may be: F16 where it may not.
+#[tactic(auto, using(crate::proofs::Asked::sent_some, crate::proofs::Asked::sent_none, crate::proofs::Asked::asks_none))]
+fn request_by(store: &mut Store<'_>, handler: u16, call: RemoteCall, asked: &mut Want)
+    ensures store { store.new ≡ requested handler call store.old }
+    ensures want { asked.new ≡ asks_requesting handler call (top_activation store.old.frames) }
 {
-    if request.is_waited {
-        Want::Ask { request, passes }
+    if ask_in(store, handler, call, asked) {
+        send(store, call);
     } else {
-        Want::Post(request)
+        misfit(store, asked);
     }
 }
 
@@ -97,15 +156,25 @@ fn want_requesting(request: Request, passes: bool) -> Want
 ///
 /// It stays a call: each turn would clear its request, if it stood where turns are done.
 #[inline(never)]
-pub fn request(store: &mut Store<'_>, handler: u16, call: RemoteCall, asked: &mut Want)
-    ensures store { store.new ≡ requested handler call store.old }
-    ensures want { asked.new ≡ asks_requesting handler call (top_activation store.old.frames) }
+pub fn request(
+    store: &mut Store<'_>,
+    handler: u16,
+    object: Reference,
+    name: usize,
+    count: usize,
+    gives: bool,
+    passes: bool,
+    asked: &mut Want,
+)
+    ensures store { store.new ≡ requested handler (call_of object name count gives passes) store.old }
+    ensures want { asked.new ≡ asks_requesting handler (call_of object name count gives passes) (top_activation store.old.frames) }
 {
-    *asked = match request_in(store, handler, call) {
-        Some(request) => {
-            send(store, call);
-            want_requesting(request, call.passes)
-        }
-        None => misfit(store),
+    let call = RemoteCall {
+        object,
+        name,
+        count,
+        gives,
+        passes,
     };
+    request_by(store, handler, call, asked);
 }

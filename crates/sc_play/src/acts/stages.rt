@@ -29,11 +29,14 @@ pub fn await_if(
     }
 }
 
-/// No case fits: the store ends in F16.
-pub fn misfit(store: &mut Store<'_>) -> Want
+/// No case fits: the store ends in F16, and that is asked.
+///
+/// It stays a call, as `request` does.
+#[inline(never)]
+pub fn misfit(store: &mut Store<'_>, asked: &mut Want)
     ensures store { store.new ≡ failed cause.BadCode store.old }
-    ensures want { result ≡ want.Fail cause.BadCode }
+    ensures want { asked.new ≡ want.Fail cause.BadCode }
 {
     store.fail(Cause::BadCode);
-    Want::Fail(Cause::BadCode)
+    *asked = Want::Fail(Cause::BadCode);
 }

@@ -1,9 +1,13 @@
-use Rattle.std.proofs.Common.{Bool}
+use Rattle.std.proofs.Common.{◌≡◌, Bool}
 use Rattle.sc_region.specs.declared.job.Job.{Job}
+use Rattle.sc_region.specs.declared.job.Want.TheVariants as want
 use Rattle.sc_region.specs.Stores.{PlainStore}
-use Rattle.sc_play.specs.Turns.{Turns}
+use Rattle.sc_play.specs.Turns.{AreMade}
 use Rattle.sc_play.proofs.region.play_on.Given as goal
 
 abbrev pub invariant-loop-turns : goal.invariant-loop-turns
-invariant-loop-turns l =
-    (t : Bool) (j : Job) (z : PlainStore) → Turns l.handler t j z 1 l.fn.store l.fn.asked → Turns l.handler t j z l.turns l.store l.asked
+invariant-loop-turns l = record {
+  made : (t : Bool) (j : Job) (z : PlainStore) → AreMade l.made l.handler t j z l.fn.store l.fn.asked → AreMade l.turns l.handler t j z l.store l.asked;
+  asked : l.turns ≡ 0 → l.asked ≡ want.Continue;
+  store : l.turns ≡ 0 → l.store ≡ l.fn.store;
+}
