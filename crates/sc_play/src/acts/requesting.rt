@@ -154,7 +154,8 @@ fn request_by(store: &mut Store<'_>, handler: u16, call: RemoteCall, asked: &mut
 /// call takes, or more actuals than a request has room for, or the name has no number there. A query is waited for, and a
 /// call that passes locks.
 ///
-/// It stays a call: each turn would clear its request, if it stood where turns are done.
+/// It stays a call, which is given the parts of the remote call one by one: each turn would clear the request, and the
+/// remote call, if they were made where turns are done.
 #[inline(never)]
 pub fn request(
     store: &mut Store<'_>,
