@@ -1,7 +1,9 @@
 // What is said of handlers that have failed, beside the report.
 
-use crate::breakdown::Rerun;
-use sc_check::{CheckFault, check};
+use crate::breakdown::Origin;
+use crate::failing::failing_in;
+use crate::words::{Phrase, push_phrases};
+use sc_check::{CheckFault, Checked, check};
 use sc_class::{ClassFault, Root, Tables, tables};
 use sc_code::Program;
 use sc_explain::find;
@@ -11,7 +13,7 @@ use sc_model::{Cause, Status};
 use sc_parse::{ParseFault, parse};
 use sc_runtime::{World, code_of};
 use sc_source::source::Source;
-use sc_text::{LexFault, lex};
+use sc_text::{LexFault, Token, lex};
 use sc_tree::System;
 use std::alloc::{AllocError, Global};
 
@@ -21,6 +23,13 @@ pub struct Played<'r> {
     pub source: &'r Source,
     pub root: &'r Root,
     pub turns: u32,
+}
+
+/// A run that was played once more, with what it is of.
+#[derive(Clone, Copy)]
+struct Rerun<'r> {
+    origin: Origin<'r>,
+    world: &'r World<'r>,
 }
 
 /// What the failure of each handler that has failed in a run is, in words, and where and for whom it ran, as far as that is
@@ -33,37 +42,72 @@ pub fn failure_note(
     if !have_failed(statuses) {
         return Ok(Vec::new(alloc));
     }
-    let text = played.source.text();
-    let Some(system) = system_of(alloc, text)? else {
-        return note(alloc, statuses, None);
-    };
-    let Some(tables) = tables_of(alloc, &system, played.root)? else {
-        return note(alloc, statuses, None);
-    };
-    let Some(program) = program_of(alloc, &system, played.root)? else {
-        return note(alloc, statuses, None);
-    };
-    note_of_rerun(alloc, played, statuses, &tables, &program)
+    match system_of(alloc, played.source.text()) {
+        Ok(None) => note(alloc, statuses, None),
+        Ok(Some(system)) => note_of_system(alloc, played, statuses, &system),
+        Err(error) => Err(error),
+    }
 }
 
-/// The same, where the run is played once more with these tables and this program.
-fn note_of_rerun(
+/// The same, of the system of the text.
+fn note_of_system(
+    alloc: Global,
+    played: Played<'_>,
+    statuses: &[Status],
+    system: &System,
+) -> Result<Vec<u8>, AllocError> {
+    match tables_of(alloc, system, played.root) {
+        Ok(None) => note(alloc, statuses, None),
+        Ok(Some(tables)) => note_of_tables(alloc, played, statuses, system, &tables),
+        Err(error) => Err(error),
+    }
+}
+
+/// The same, with the tables of the system.
+fn note_of_tables(
+    alloc: Global,
+    played: Played<'_>,
+    statuses: &[Status],
+    system: &System,
+    tables: &Tables<'_>,
+) -> Result<Vec<u8>, AllocError> {
+    match program_of(alloc, system, played.root) {
+        Ok(None) => note(alloc, statuses, None),
+        Ok(Some(program)) => note_of_program(alloc, played, statuses, tables, &program),
+        Err(error) => Err(error),
+    }
+}
+
+/// The same, with the program of the system.
+fn note_of_program(
     alloc: Global,
     played: Played<'_>,
     statuses: &[Status],
     tables: &Tables<'_>,
     program: &Program,
 ) -> Result<Vec<u8>, AllocError> {
-    let mut world = World::open(alloc, program, Version::Two)?;
-    world.rounds(played.turns)?;
-    let rerun = Rerun {
+    let origin = Origin {
         alloc,
         source: played.source,
         tables,
-        program,
-        world: &world,
+        names: program.pool().names.as_slice(),
     };
-    note(alloc, statuses, Some(rerun))
+    match World::open(alloc, program, Version::Two) {
+        Ok(mut world) => note_of_rerun(origin, statuses, &mut world, played.turns),
+        Err(error) => Err(error),
+    }
+}
+
+/// The same, where the run is played once more from this opening, for so many turns at most.
+fn note_of_rerun(
+    origin: Origin<'_>,
+    statuses: &[Status],
+    world: &mut World<'_>,
+    turns: u32,
+) -> Result<Vec<u8>, AllocError> {
+    world.rounds(turns)?;
+    let rerun = Rerun { origin, world };
+    note(origin.alloc, statuses, Some(rerun))
 }
 
 fn have_failed(statuses: &[Status]) -> bool {
@@ -74,12 +118,16 @@ fn have_failed(statuses: &[Status]) -> bool {
 
 /// The system of a text, if it spells one.
 fn system_of(alloc: Global, text: &str) -> Result<Option<System>, AllocError> {
-    let tokens = match lex(alloc, text) {
-        Ok(tokens) => tokens,
-        Err(LexFault::OutOfMemory) => return Err(AllocError),
-        Err(_) => return Ok(None),
-    };
-    match parse(alloc, &tokens) {
+    match lex(alloc, text) {
+        Ok(tokens) => parsed(alloc, &tokens),
+        Err(LexFault::OutOfMemory) => Err(AllocError),
+        Err(_) => Ok(None),
+    }
+}
+
+/// The system of these tokens, if they spell one.
+fn parsed(alloc: Global, tokens: &[Token]) -> Result<Option<System>, AllocError> {
+    match parse(alloc, tokens) {
         Ok(system) => Ok(Some(system)),
         Err(ParseFault::OutOfMemory) => Err(AllocError),
         Err(_) => Ok(None),
@@ -101,14 +149,24 @@ fn tables_of<'s>(
 
 /// The program of a system, if it is sound and its code isn't too long.
 fn program_of(alloc: Global, system: &System, root: &Root) -> Result<Option<Program>, AllocError> {
-    let Some(tables) = tables_of(alloc, system, root)? else {
-        return Ok(None);
-    };
-    let checked = match check(alloc, tables) {
-        Ok(checked) => checked,
-        Err(CheckFault::OutOfMemory) => return Err(AllocError),
-        Err(_) => return Ok(None),
-    };
+    match tables_of(alloc, system, root) {
+        Ok(None) => Ok(None),
+        Ok(Some(tables)) => checked_program(alloc, tables),
+        Err(error) => Err(error),
+    }
+}
+
+/// The program of the system of these tables, if it is sound and its code isn't too long.
+fn checked_program(alloc: Global, tables: Tables<'_>) -> Result<Option<Program>, AllocError> {
+    match check(alloc, tables) {
+        Ok(checked) => lowered(alloc, checked),
+        Err(CheckFault::OutOfMemory) => Err(AllocError),
+        Err(_) => Ok(None),
+    }
+}
+
+/// The program of a sound system, if its code isn't too long.
+fn lowered(alloc: Global, checked: Checked<'_>) -> Result<Option<Program>, AllocError> {
     match lower(alloc, checked) {
         Ok(program) => Ok(Some(program)),
         Err(Lowering::OutOfMemory(_)) => Err(AllocError),
@@ -141,16 +199,30 @@ fn push_failure(
 ) -> Result<(), AllocError> {
     let code = code_of(cause);
     if let Some(page) = find(code) {
-        let begin = format!(in alloc; "handler {handler} has failed by ")?;
-        lines.extend_from_slice(begin.as_bytes())?;
-        push_beginning(lines, page)?;
+        push_heading(alloc, lines, handler, page)?;
     }
     if let Some(rerun) = rerun {
         let number = handler.min(u16::MAX as usize) as u16;
-        rerun.push_breakdown(lines, number, cause)?;
+        if let Some(failing) = failing_in(rerun.world, number, cause) {
+            rerun.origin.push_failing(lines, failing)?;
+        }
     }
-    let more = format!(in alloc; "`scoop explain {code}` says more\n")?;
-    lines.extend_from_slice(more.as_bytes())
+    push_phrases(
+        lines,
+        &[Phrase::around("`scoop explain ", code, "` says more\n")],
+    )
+}
+
+/// Adds by what a handler has failed: the heading of a page, and what it says first.
+fn push_heading(
+    alloc: Global,
+    lines: &mut Vec<u8>,
+    handler: usize,
+    page: &str,
+) -> Result<(), AllocError> {
+    let begin = format!(in alloc; "handler {handler} has failed by ")?;
+    lines.extend_from_slice(begin.as_bytes())?;
+    push_beginning(lines, page)
 }
 
 /// Adds the heading of a page and what it says first.

@@ -7,6 +7,7 @@
 
 mod breakdown;
 pub mod excerpt;
+mod failing;
 mod failure;
 mod history;
 mod words;
