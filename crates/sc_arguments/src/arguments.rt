@@ -1,4 +1,4 @@
-// The arguments of a command line: what is asked for, and of which files.
+//! The arguments of a command line: what is asked for, and of which files.
 
 mod root_option;
 

@@ -1,4 +1,4 @@
-// Where a handler failed, and for whom it ran, in words.
+//! Where a handler failed, and for whom it ran, in words.
 
 use crate::excerpt::excerpt;
 use crate::failing::Failing;

@@ -1,4 +1,4 @@
-// The line of a source text in which a part of it begins.
+//! The line of a source text in which a part of it begins.
 
 use sc_text::Span;
 use std::alloc::{AllocError, Global};

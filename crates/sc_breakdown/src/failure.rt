@@ -1,4 +1,4 @@
-// What is said of handlers that have failed, beside the report.
+//! What is said of handlers that have failed, beside the report.
 
 use crate::breakdown::Origin;
 use crate::failing::failing_in;

@@ -1,4 +1,4 @@
-// What the settlements of a run tell of one handler.
+//! What the settlements of a run tell of one handler.
 
 use sc_region::{Errand, Job, Request, Want};
 use sc_request::{Log, Settlement};

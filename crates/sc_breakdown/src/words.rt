@@ -1,4 +1,4 @@
-// What stands at a place of a routine, in words.
+//! What stands at a place of a routine, in words.
 
 use sc_model::Cause;
 use sc_text::Span;

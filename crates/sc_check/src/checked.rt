@@ -1,4 +1,4 @@
-// A system in which no rule fails.
+//! A system in which no rule fails.
 
 ghost use Rattle.std.specs.Prelude.{◌≡◌};
 ghost use Rattle.sc_class.specs.SystemIn.{system_in};

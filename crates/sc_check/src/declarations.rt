@@ -1,4 +1,4 @@
-// Features and classes: the first rule that fails (ECMA-367, 8.5, 8.8 and 8.20).
+//! Features and classes: the first rule that fails (ECMA-367, 8.5, 8.8 and 8.20).
 
 ghost use Rattle.std.specs.Prelude.{◌≡◌, map};
 ghost use Rattle.sc_tree.specs.Plain as plain;

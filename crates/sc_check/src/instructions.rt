@@ -1,4 +1,4 @@
-// Instructions: the first rule that fails (ECMA-367, 8.17 and 8.24).
+//! Instructions: the first rule that fails (ECMA-367, 8.17 and 8.24).
 
 ghost use Rattle.std.specs.Prelude.{◌≡◌, OnOk, map};
 ghost use Rattle.sc_tree.specs.View.{branches_of, expr_of, exprs_of, head_of, instr_of, instrs_of, name_of, target_of};

@@ -1,4 +1,4 @@
-// The classes that every system has.
+//! The classes that every system has.
 
 ghost use Rattle.std.specs.Prelude.{◌≡◌};
 ghost use Rattle.sc_class.specs.ClassNames as class_names;

@@ -1,4 +1,4 @@
-// Whether a system has tables.
+//! Whether a system has tables.
 
 ghost use Rattle.std.specs.Prelude.{◌≡◌, ◌⊎◌, IfOk, IfErr, OnOk};
 ghost use Rattle.sc_tree.specs.View.{system_of};

@@ -1,4 +1,4 @@
-// The tables of a system's classes.
+//! The tables of a system's classes.
 
 ghost use Rattle.std.specs.Prelude.{◌≡◌, ◌<◌, ℕ, length};
 ghost use Rattle.sc_tree.specs.View.{system_of};

@@ -1,4 +1,4 @@
-// Why a system has no tables.
+//! Why a system has no tables.
 
 ghost use Rattle.std.specs.Prelude.{◌≡◌};
 ghost use Rattle.sc_class.specs.declared.fault.ClassFault.TheVariants.{OutOfMemory};

@@ -1,4 +1,4 @@
-// What is at fault in the classes of a system.
+//! What is at fault in the classes of a system.
 
 pub mod class_clashes;
 pub mod cycles;

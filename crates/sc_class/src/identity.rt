@@ -1,4 +1,4 @@
-// What a class is known by.
+//! What a class is known by.
 
 ghost use Rattle.std.specs.Prelude.{◌≡◌};
 ghost use Rattle.sc_class.specs.Tables.Conformance as conformance;

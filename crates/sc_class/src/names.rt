@@ -1,4 +1,4 @@
-// Names, and names in order, each of which is found by hash.
+//! Names, and names in order, each of which is found by hash.
 
 ghost use Rattle.std.specs.Prelude.{◌≡◌, ◌++◌, ◌-◌, [], ◌∷◌, List, OnOk, OnErr, bytes_eq, length, take};
 ghost use Rattle.sc_tree.specs.Plain as plain;

@@ -1,4 +1,4 @@
-// What a system is run from.
+//! What a system is run from.
 
 ghost use Rattle.std.specs.Prelude.{◌≡◌, IfOk};
 ghost use Rattle.sc_class.specs.View.{root_of};

@@ -1,4 +1,4 @@
-// Operations of flat code.
+//! Operations of flat code.
 
 ghost use Rattle.std.specs.Prelude.{◌≡◌};
 ghost use Rattle.sc_model.specs.Values.{default_of};

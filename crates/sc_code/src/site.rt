@@ -1,4 +1,4 @@
-// What operations name that has no room in them.
+//! What operations name that has no room in them.
 
 use sc_class::ClassId;
 

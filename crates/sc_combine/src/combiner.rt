@@ -1,4 +1,4 @@
-// The two combiners.
+//! The two combiners.
 
 ghost use Rattle.std.specs.Prelude.{◌≡◌};
 ghost use Rattle.sc_combine.specs.Combiners as combiners;

@@ -1,4 +1,4 @@
-// What is known of the handlers of actuals.
+//! What is known of the handlers of actuals.
 
 ghost use Rattle.std.specs.Prelude.{◌≡◌};
 ghost use Rattle.sc_combine.specs.Combiners.{known_of, known_tag};

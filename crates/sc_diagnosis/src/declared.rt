@@ -1,4 +1,4 @@
-// The names that a system declares.
+//! The names that a system declares.
 
 use crate::diagnosis::Related;
 use sc_text::Span;

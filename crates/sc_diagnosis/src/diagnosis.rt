@@ -1,4 +1,4 @@
-// What is said of one refusal.
+//! What is said of one refusal.
 
 use crate::declared::other_declaration;
 use crate::expected::expected;

@@ -1,4 +1,4 @@
-// What could stand at a place at which no system goes on.
+//! What could stand at a place at which no system goes on.
 
 use crate::reading::tokens_of;
 use crate::scope::push_all;

@@ -1,4 +1,4 @@
-// Which construct is still open at a place.
+//! Which construct is still open at a place.
 
 use crate::diagnosis::Related;
 use crate::reading::tokens_of;

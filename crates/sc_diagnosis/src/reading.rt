@@ -1,4 +1,4 @@
-// A text read again for what is said of it. What is wrong with it was told before; want of memory is told here.
+//! A text read again for what is said of it. What is wrong with it was told before; want of memory is told here.
 
 use sc_class::{ClassFault, Root, Tables, tables};
 use sc_parse::{ParseFault, parse};

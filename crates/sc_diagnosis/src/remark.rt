@@ -1,4 +1,4 @@
-// What can be said of one fault, with the types that are compared or the numbers that differ.
+//! What can be said of one fault, with the types that are compared or the numbers that differ.
 
 use crate::scope::Scope;
 use crate::site::{Part, Site};

@@ -1,4 +1,4 @@
-// What is said of a fault, in words.
+//! What is said of a fault, in words.
 
 use crate::remark::{Misfit, Remark, Wanted};
 use crate::scope::{Scope, TypeWords, part_of, push_all, push_quoted, push_type};

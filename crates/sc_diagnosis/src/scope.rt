@@ -1,4 +1,4 @@
-// Types and names in words, as they are seen at a part of a routine.
+//! Types and names in words, as they are seen at a part of a routine.
 
 use sc_class::ClassId;
 use sc_proctype::{EntityType, Reserved, Tag};

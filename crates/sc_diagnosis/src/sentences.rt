@@ -1,4 +1,4 @@
-// A sentence for each code, and what helps.
+//! A sentence for each code, and what helps.
 
 /// What is said of a refusal. A `#` stands for the part of the text that is at fault.
 pub struct Sentence {

@@ -1,4 +1,4 @@
-// What stands at the part of a text that a rule fails at.
+//! What stands at the part of a text that a rule fails at.
 
 use sc_rules::Context;
 use sc_text::Span;

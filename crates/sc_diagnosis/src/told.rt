@@ -1,4 +1,4 @@
-// A sentence on one fault, with the types and names that are found in the checked tables.
+//! A sentence on one fault, with the types and names that are found in the checked tables.
 
 use crate::declared::{class_around, feature_around};
 use crate::nearest::{nearest_entity, nearest_feature};

@@ -1,4 +1,4 @@
-// The types that a rule compares at a part of the text.
+//! The types that a rule compares at a part of the text.
 
 ghost use Rattle.std.specs.Prelude.{◌≡◌, false, IfOk};
 ghost use Rattle.sc_rules.specs.Positions.{is_condition};

@@ -1,4 +1,4 @@
-// Why nothing is said of a part.
+//! Why nothing is said of a part.
 
 use sc_typing::CheckFault;
 use std::alloc::AllocError;

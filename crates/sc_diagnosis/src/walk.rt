@@ -1,4 +1,4 @@
-// The walk through the text of a class to the part that a rule fails at, with the names that are known there.
+//! The walk through the text of a class to the part that a rule fails at, with the names that are known there.
 
 use crate::scope::Scope;
 use crate::site::{

@@ -1,4 +1,4 @@
-// What is done with a source text: its check, its run and its canonical text.
+//! What is done with a source text: its check, its run and its canonical text.
 
 ghost use Rattle.std.specs.Prelude.{◌≡◌, IfErr, IfOk, IsOk, MatchResult, OnOk};
 ghost use Rattle.sc_tree.specs.Bare.{bare_system};

@@ -1,4 +1,4 @@
-// Why nothing is made of a source text.
+//! Why nothing is made of a source text.
 
 ghost use Rattle.std.specs.Prelude.{◌≡◌};
 ghost use Rattle.sc_execution.specs.Rejection as spec;

@@ -1,4 +1,4 @@
-// What the classes of a system are refused for: C1 to C8.
+//! What the classes of a system are refused for: C1 to C8.
 
 /// A page for each code.
 pub fn pages() -> &'static [&'static str] {

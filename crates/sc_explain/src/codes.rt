@@ -1,4 +1,4 @@
-// The pages, and how one is found.
+//! The pages, and how one is found.
 
 ghost use Rattle.std.specs.Prelude.{IfSome, IsTrue};
 ghost use Rattle.sc_explain.specs.Page.{IsPageOf};

@@ -1,4 +1,4 @@
-// What a handler fails for in a run: F1 to F16.
+//! What a handler fails for in a run: F1 to F16.
 
 /// A page for each code.
 pub fn pages() -> &'static [&'static str] {

@@ -1,4 +1,4 @@
-// What a list of tokens is refused for: P1 and P2.
+//! What a list of tokens is refused for: P1 and P2.
 
 /// A page for each code.
 pub fn pages() -> &'static [&'static str] {

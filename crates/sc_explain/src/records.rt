@@ -1,4 +1,4 @@
-// What a record is refused for: A1.
+//! What a record is refused for: A1.
 
 /// A page for each code.
 pub fn pages() -> &'static [&'static str] {

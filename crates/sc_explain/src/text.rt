@@ -1,4 +1,4 @@
-// What a text is refused for before its grammar: L1 to L5.
+//! What a text is refused for before its grammar: L1 to L5.
 
 /// A page for each code.
 pub fn pages() -> &'static [&'static str] {

@@ -1,4 +1,4 @@
-// Images: systems in flat code.
+//! Images: systems in flat code.
 
 ghost use Rattle.std.specs.Prelude.{◌≡◌, ◌≤◌, ◌<◌, ℕ, Some, IfErr, IfOk};
 ghost use Rattle.sc_class.specs.declared.identity.ClassId.TheVariants as class_id;

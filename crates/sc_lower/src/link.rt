@@ -1,4 +1,4 @@
-// Links operations: what an operation names gets its number in the tables.
+//! Links operations: what an operation names gets its number in the tables.
 
 ghost use Rattle.std.specs.Prelude.{◌≡◌, ◌<◌, true, Some, IfOk, OnOk, map, slice_get};
 ghost use Rattle.std.specs.Option.{option_map, option_and_then, option_copied};

@@ -1,4 +1,4 @@
-// The names of a program, each with a number.
+//! The names of a program, each with a number.
 
 ghost use Rattle.std.specs.Prelude.{◌≡◌, ℕ, List, [], Some, IfOk, OnOk, map, slice_get, string_bytes};
 ghost use Rattle.sc_code.specs.RequestRoom.{AreDistinct};

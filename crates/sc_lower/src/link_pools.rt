@@ -1,4 +1,4 @@
-// Lists that grow at their end.
+//! Lists that grow at their end.
 
 ghost use Rattle.std.specs.Prelude.{◌≡◌, ◌++◌, [], ◌∷◌, Some, IfOk, OnErr, OnOk, slice_get};
 ghost use Rattle.sc_lower.specs.Growing.{Extends};

@@ -1,4 +1,4 @@
-// Gives the names, texts and sites of operations their numbers.
+//! Gives the names, texts and sites of operations their numbers.
 
 ghost use Rattle.std.specs.Prelude.{◌≡◌, [], IfOk};
 ghost use Rattle.sc_code.specs.Programs.{pool_of};

@@ -1,4 +1,4 @@
-// The tables of a program: the code of routines, and what classes have.
+//! The tables of a program: the code of routines, and what classes have.
 
 pub mod attributes;
 pub mod class_code;

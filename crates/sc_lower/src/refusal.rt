@@ -1,4 +1,4 @@
-// Why a system isn't lowered.
+//! Why a system isn't lowered.
 
 ghost use Rattle.std.specs.Prelude.{◌≡◌};
 ghost use Rattle.sc_lower.specs.declared.refusal.Refusal.TheVariants.{OutOfMemory};

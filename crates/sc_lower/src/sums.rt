@@ -1,4 +1,4 @@
-// Numbers that may not fit.
+//! Numbers that may not fit.
 
 ghost use Rattle.std.specs.Prelude.{◌≡◌, ◌≤◌, IfOk};
 

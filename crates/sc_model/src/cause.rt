@@ -1,4 +1,4 @@
-// Why a handler fails.
+//! Why a handler fails.
 
 /// Why a handler has failed.
 #[derive(Clone, Copy, Debug, PartialEq, Eq)]

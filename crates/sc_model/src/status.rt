@@ -1,4 +1,4 @@
-// How a handler stands.
+//! How a handler stands.
 
 use crate::cause::Cause;
 

@@ -1,4 +1,4 @@
-// Assertions (ECMA-367, 8.9).
+//! Assertions (ECMA-367, 8.9).
 
 ghost use Rattle.std.specs.Prelude.{◌≡◌, ℕ, [], IfOk, length};
 ghost use Rattle.sc_parse.specs.Reading.Assertions as spec;

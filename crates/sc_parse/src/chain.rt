@@ -1,4 +1,4 @@
-// Chains of calls with their actuals, and object tests of them (ECMA-367, 8.23 and 8.24).
+//! Chains of calls with their actuals, and object tests of them (ECMA-367, 8.23 and 8.24).
 
 ghost use Rattle.std.specs.Prelude.{◌≡◌, ◌≤◌, ◌<◌, IfOk};
 ghost use Rattle.sc_parse.specs.Reading.Looks.{left};

@@ -1,4 +1,4 @@
-// Classes (ECMA-367, 8.4, 8.6, 8.10 and 8.20).
+//! Classes (ECMA-367, 8.4, 8.6, 8.10 and 8.20).
 
 ghost use Rattle.std.specs.Prelude.{◌≡◌, ◌∷◌, [], IfOk, IsTrue};
 ghost use Rattle.sc_tree.specs.Grammar.Classes as grammar;

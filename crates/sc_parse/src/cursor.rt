@@ -1,4 +1,4 @@
-// The tokens that are still to be read, and how they are read one by one.
+//! The tokens that are still to be read, and how they are read one by one.
 
 ghost use Rattle.std.specs.Prelude.{◌≡◌, ◌∷◌, [], Ok, Err, MatchOption, MatchResult};
 ghost use Rattle.sc_parse.specs.Reading.Looks as spec;

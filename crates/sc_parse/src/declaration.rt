@@ -1,4 +1,4 @@
-// Formal arguments, locals and result types (ECMA-367, 8.5 and 8.8).
+//! Formal arguments, locals and result types (ECMA-367, 8.5 and 8.8).
 
 ghost use Rattle.std.specs.Prelude.{◌≡◌, [], IfOk, map};
 ghost use Rattle.sc_parse.specs.Reading.Looks.{left};

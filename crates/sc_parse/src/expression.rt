@@ -1,4 +1,4 @@
-// Expressions (ECMA-367, 8.28).
+//! Expressions (ECMA-367, 8.28).
 
 ghost use Rattle.std.specs.Prelude.{◌≡◌, ◌≤◌, ◌<◌, max, IfOk};
 ghost use Rattle.sc_parse.specs.Reading.Looks.{left};

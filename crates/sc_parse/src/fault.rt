@@ -1,4 +1,4 @@
-// Why tokens are refused.
+//! Why tokens are refused.
 
 ghost use Rattle.std.specs.Prelude.{◌≡◌};
 ghost use Rattle.sc_parse.specs.declared.fault.ParseFault.TheVariants.{OutOfMemory};

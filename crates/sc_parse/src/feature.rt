@@ -1,4 +1,4 @@
-// Features, and whom they are exported to (ECMA-367, 8.5, 8.7 and 8.8).
+//! Features, and whom they are exported to (ECMA-367, 8.5, 8.7 and 8.8).
 
 ghost use Rattle.std.specs.Prelude.{◌≡◌, ◌∷◌, ℕ, [], IfOk, IsTrue, map};
 ghost use Rattle.sc_parse.specs.Reading.Looks.{left};

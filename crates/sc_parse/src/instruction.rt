@@ -1,4 +1,4 @@
-// Instructions (ECMA-367, 8.9, 8.17, 8.20, 8.22 and 8.23), and separate blocks.
+//! Instructions (ECMA-367, 8.9, 8.17, 8.20, 8.22 and 8.23), and separate blocks.
 
 ghost use Rattle.std.specs.Prelude.{◌≡◌};
 ghost use Rattle.sc_tree.specs.Plain.{no_branches};

@@ -1,4 +1,4 @@
-// What holds of places themselves.
+//! What holds of places themselves.
 
 ghost use Rattle.sc_parse.specs.Laws.{OnePlacedTree};
 

@@ -1,4 +1,4 @@
-// Looks at the next tokens, which read none of them.
+//! Looks at the next tokens, which read none of them.
 
 ghost use Rattle.std.specs.Prelude.{◌≡◌};
 ghost use Rattle.sc_text.specs.Kind.{kind_of, kinds_of};

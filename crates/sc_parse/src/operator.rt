@@ -1,4 +1,4 @@
-// Operators, and how they bind (ECMA-367, 8.28).
+//! Operators, and how they bind (ECMA-367, 8.28).
 
 ghost use Rattle.std.specs.Prelude.{◌≡◌};
 ghost use Rattle.sc_tree.specs.Grammar.Operators as grammar;

@@ -1,4 +1,4 @@
-// Systems of classes (ECMA-367, 8.3).
+//! Systems of classes (ECMA-367, 8.3).
 
 ghost use Rattle.std.specs.Prelude.{ℕ, ◌≤◌, IfOk};
 ghost use Rattle.sc_text.specs.Kind.{kinds_of};

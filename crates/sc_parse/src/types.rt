@@ -1,4 +1,4 @@
-// Names, and the types that entities are declared with (ECMA-367, 8.8 and 8.11).
+//! Names, and the types that entities are declared with (ECMA-367, 8.8 and 8.11).
 
 ghost use Rattle.std.specs.Prelude.{◌≡◌, ◌∷◌, [], IfOk};
 ghost use Rattle.sc_parse.specs.Reading.Looks.{left};

@@ -1,4 +1,4 @@
-// Conformance of types.
+//! Conformance of types.
 
 ghost use Rattle.std.specs.Prelude.{◌≡◌};
 ghost use Rattle.sc_class.specs.SystemIn.{system_in};

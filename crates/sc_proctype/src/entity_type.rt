@@ -1,4 +1,4 @@
-// Types of entities and expressions.
+//! Types of entities and expressions.
 
 ghost use Rattle.std.specs.Prelude.{◌≡◌};
 ghost use Rattle.sc_class.specs.Tables.Conformance.{is_expanded};

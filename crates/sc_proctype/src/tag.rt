@@ -1,4 +1,4 @@
-// Tags: on which handler the objects of a type lie.
+//! Tags: on which handler the objects of a type lie.
 
 ghost use Rattle.std.specs.Prelude.{◌≡◌};
 ghost use Rattle.sc_proctype.specs.Tags.{tag_conforms};

@@ -1,4 +1,4 @@
-// What is done in instructions that bears on purity.
+//! What is done in instructions that bears on purity.
 
 ghost use Rattle.std.specs.Prelude.{◌≡◌, false, map, IfErr, IfOk, OnOk};
 ghost use Rattle.sc_tree.specs.View.{branches_of, clause_of, creation_call_of, expr_of, exprs_of, head_of, instr_of, instrs_of, name_of, target_of};

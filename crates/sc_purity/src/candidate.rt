@@ -1,4 +1,4 @@
-// Functions without attached separate formals, and what is done in the body of a routine.
+//! Functions without attached separate formals, and what is done in the body of a routine.
 
 ghost use Rattle.std.specs.Prelude.{◌≡◌, not, map, IfOk, IfErr};
 ghost use Rattle.std.specs.List.{list_all};

@@ -1,4 +1,4 @@
-// What is done that bears on purity.
+//! What is done that bears on purity.
 
 ghost use Rattle.std.specs.Prelude.{◌≡◌, map, IfOk};
 ghost use Rattle.std.specs.Option.{option_map};

@@ -1,4 +1,4 @@
-// The search for the features that aren't pure functions, through all features.
+//! The search for the features that aren't pure functions, through all features.
 
 ghost use Rattle.std.specs.Prelude.{◌≡◌, ◌<◌, ◌+◌, ℕ, OnOk, IfErr, IfOk, length, Some, All, Contains};
 ghost use Rattle.sc_typing.specs.FeatureNumbers.{all_features, pure_by};

@@ -1,5 +1,5 @@
-// The search for the features that aren't pure functions: from those that are impure themselves to those that may run
-// them.
+//! The search for the features that aren't pure functions: from those that are impure themselves to those that may run
+//! them.
 
 ghost use Rattle.std.specs.Prelude.{◌≡◌, ◌<◌, ◌++◌, ℕ, [], ◌∷◌, OnOk, IfOk, length, if◌then◌else◌, ◌==◌};
 ghost use Rattle.sc_class.specs.Internal.Search.{IsSeen};

@@ -1,4 +1,4 @@
-// What is done in expressions that bears on purity, found by the walk that types them.
+//! What is done in expressions that bears on purity, found by the walk that types them.
 
 ghost use Rattle.std.specs.Prelude.{◌≡◌, false, map, IfOk, OnOk};
 ghost use Rattle.sc_tree.specs.View.{expr_of, exprs_of, name_of, target_of, type_if_any};

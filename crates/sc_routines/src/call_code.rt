@@ -1,4 +1,4 @@
-// Calls with no target.
+//! Calls with no target.
 
 ghost use Rattle.std.specs.Prelude.{◌≡◌, ◌+◌, ◌++◌, IfOk, OnOk, length, map, max};
 ghost use Rattle.std.specs.Option.{option_and_then};

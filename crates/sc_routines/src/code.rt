@@ -1,4 +1,4 @@
-// The code of a routine while it is written.
+//! The code of a routine while it is written.
 
 ghost use Rattle.std.specs.Prelude.{◌≡◌, ◌<◌, ◌++◌, [], ◌∷◌, List, OnOk, length, map, slice_set};
 ghost use Rattle.sc_code.specs.Operations as plain;

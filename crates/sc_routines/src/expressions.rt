@@ -1,4 +1,4 @@
-// The code of expressions.
+//! The code of expressions.
 
 ghost use Rattle.std.specs.Prelude.{◌≡◌, ◌+◌, ◌++◌, IfOk, OnOk, length, map};
 ghost use Rattle.sc_tree.specs.View.{expr_of, exprs_of};

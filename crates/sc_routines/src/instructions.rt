@@ -1,4 +1,4 @@
-// Instructions (ECMA-367, 8.17): their code, and what it needs.
+//! Instructions (ECMA-367, 8.17): their code, and what it needs.
 
 ghost use Rattle.std.specs.Prelude.{◌≡◌, ◌+◌, ◌++◌, [], ◌∷◌, IfOk, OnOk, length, map, max, suc};
 ghost use Rattle.sc_tree.specs.View.{branches_of, expr_of, head_of, instr_of, instrs_of};

@@ -1,4 +1,4 @@
-// In which slots names stand, and where an object has to lie that is tested.
+//! In which slots names stand, and where an object has to lie that is tested.
 
 ghost use Rattle.std.specs.Prelude.{◌≡◌, map, slice_get};
 ghost use Rattle.std.specs.Option.{option_map};

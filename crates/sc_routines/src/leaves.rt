@@ -1,4 +1,4 @@
-// The code of what has no parts, and what stands behind the operand of an object test.
+//! The code of what has no parts, and what stands behind the operand of an object test.
 
 ghost use Rattle.std.specs.Prelude.{◌≡◌, ◌+◌, ◌++◌, ◌∷◌, [], IfOk, OnOk, Some, length, map, slice_get};
 ghost use Rattle.std.specs.Option.{option_and_then, option_map};

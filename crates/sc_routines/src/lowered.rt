@@ -1,4 +1,4 @@
-// What is told of expressions that are lowered.
+//! What is told of expressions that are lowered.
 
 use sc_proctype::EntityType;
 

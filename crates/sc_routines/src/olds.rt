@@ -1,4 +1,4 @@
-// The operands of `old` in an expression.
+//! The operands of `old` in an expression.
 
 ghost use Rattle.std.specs.Prelude.{◌≡◌, ◌++◌, IfOk, OnOk, length};
 ghost use Rattle.sc_tree.specs.View.{expr_of, exprs_of, name_of, target_of};

@@ -1,4 +1,4 @@
-// Operators.
+//! Operators.
 
 ghost use Rattle.std.specs.Prelude.{◌≡◌, ◌<◌, ◌++◌, ◌∷◌, [], IfOk, List, OnOk, length, max, take, true, false, Some};
 ghost use Rattle.sc_model.specs.Operators as model;

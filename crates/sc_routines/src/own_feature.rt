@@ -1,4 +1,4 @@
-// What a name of a class is to its own text.
+//! What a name of a class is to its own text.
 
 use sc_proctype::EntityType;
 

@@ -1,4 +1,4 @@
-// A whole routine: its precondition, its `old`s, its locals' defaults, its body, its postcondition and its exit.
+//! A whole routine: its precondition, its `old`s, its locals' defaults, its body, its postcondition and its exit.
 
 ghost use Rattle.std.specs.Prelude.{◌≡◌, ◌++◌, IfOk, OnOk, length, map, max};
 ghost use Rattle.sc_tree.specs.View.{clause_of, declaration_of, type_if_any};

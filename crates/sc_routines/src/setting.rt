@@ -1,4 +1,4 @@
-// Where code is emitted.
+//! Where code is emitted.
 
 use sc_proctype::EntityType;
 use sc_typing::RoutineContext;

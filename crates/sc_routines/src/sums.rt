@@ -1,4 +1,4 @@
-// Sums that may not fit.
+//! Sums that may not fit.
 
 ghost use Rattle.std.specs.Prelude.{◌≡◌, ◌+◌, IfOk};
 

@@ -1,4 +1,4 @@
-// Operations as they are lowered from the trees: what they name stands in them, and no table yet.
+//! Operations as they are lowered from the trees: what they name stands in them, and no table yet.
 
 use sc_code::{DefaultValue, TestedType};
 use sc_model::Cause;

@@ -1,4 +1,4 @@
-// The source text of files, one after the other.
+//! The source text of files, one after the other.
 
 use sc_source::{SourceFault, join_sources};
 use sc_text::MAX_SOURCE_BYTES;

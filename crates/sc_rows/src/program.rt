@@ -1,4 +1,4 @@
-// Calls of the program with files and writers that stand in the test.
+//! Calls of the program with files and writers that stand in the test.
 
 mod class_faults;
 mod command_line;

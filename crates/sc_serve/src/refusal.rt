@@ -1,4 +1,4 @@
-// Refusals of a source text, and the line that tells one.
+//! Refusals of a source text, and the line that tells one.
 
 ghost use Rattle.std.specs.Prelude.{◌≡◌, IfOk, Some, string_bytes};
 ghost use Rattle.std.specs.Option.{option_map};

@@ -1,4 +1,4 @@
-// One call of the program, from its arguments to its status.
+//! One call of the program, from its arguments to its status.
 
 ghost use Rattle.std.specs.Prelude.{◌≡◌, [], ◌∷◌, IfErr, IfOk, OnOk, map};
 ghost use Rattle.sc_serve.specs.Answer as spec;

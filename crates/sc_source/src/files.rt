@@ -1,4 +1,4 @@
-// Files by name.
+//! Files by name.
 
 ghost use Rattle.std.specs.Prelude.{◌≡◌, ◌<◌, ◌⊎◌, ℕ, List, Option, None, Some, IfErr, IfOk, IfSome, IsErr, MatchResult, length, map};
 ghost use Rattle.sc_text.specs.Spelling.{max_source_bytes};

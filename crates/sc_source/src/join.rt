@@ -1,4 +1,4 @@
-// The source text of files, one after the other.
+//! The source text of files, one after the other.
 
 ghost use Rattle.std.specs.Prelude.{◌≡◌, ◌<◌, ℕ, List, IfErr, IsErr, MatchResult, OnOk, length, map, string_bytes};
 ghost use Rattle.std.specs.List.{All};

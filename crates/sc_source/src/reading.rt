@@ -1,4 +1,4 @@
-// The text of one file, read to its end or until it is too long.
+//! The text of one file, read to its end or until it is too long.
 
 ghost use Rattle.std.specs.Prelude.{◌≡◌, ◌+◌, ◌-◌, ◌<◌, ◌≤◌, ◌++◌, ℕ, List, length, take, IfErr, IfOk, IfSome, IsErr, OnErr, OnOk, string_bytes};
 ghost use Rattle.sc_text.specs.Spelling.{max_source_bytes};

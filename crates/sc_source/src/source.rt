@@ -1,4 +1,4 @@
-// The source text of a system: the texts of its files, one after the other.
+//! The source text of a system: the texts of its files, one after the other.
 
 ghost use Rattle.std.specs.Prelude.{◌≡◌, ◌+◌, ◌<◌, ◌≤◌, ◌∷◌, ◌++◌, [], ℕ, List, IfErr, IfOk, IfSome, IsErr, MatchResult, OnOk, OnErr, drop, get_or, length, map, option_map, string_bytes};
 ghost use Rattle.std.specs.List.{All};

@@ -1,4 +1,4 @@
-// The characters of a text by what they may be part of.
+//! The characters of a text by what they may be part of.
 
 ghost use Rattle.std.specs.Prelude.{◌≡◌};
 ghost use Rattle.sc_text.specs.Characters.{ends_line, escape, is_comment_part, is_name_part, is_white_space};

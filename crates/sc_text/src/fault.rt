@@ -1,4 +1,4 @@
-// Why a text is refused.
+//! Why a text is refused.
 
 ghost use Rattle.std.specs.Prelude.{◌≡◌};
 ghost use Rattle.sc_text.specs.declared.fault.LexFault.TheVariants.{OutOfMemory};

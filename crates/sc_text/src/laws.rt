@@ -1,4 +1,4 @@
-// What holds of spelling itself.
+//! What holds of spelling itself.
 
 ghost use Rattle.sc_text.specs.Spelling.{OneSpelling, OneFault, NoSpellingOfFaults};
 

@@ -1,4 +1,4 @@
-// A text's tokens, one after the other.
+//! A text's tokens, one after the other.
 
 ghost use Rattle.std.specs.Prelude.{◌≡◌, ◌≤◌, ◌<◌, ◌+◌, ◌↔◌, false, List, [], drop, length, map, slice_index, string_bytes, IfErr, IfOk, IsErrOf, IsSome, IsTrue, MatchResult};
 ghost use Rattle.std.specs.Char.{to_ascii_lowercase};

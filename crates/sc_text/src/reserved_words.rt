@@ -1,4 +1,4 @@
-// The reserved words.
+//! The reserved words.
 
 ghost use Rattle.std.specs.Prelude.{◌≡◌, map};
 ghost use Rattle.std.specs.Str.{str_eq_ignore_ascii_case};

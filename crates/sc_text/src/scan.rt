@@ -1,4 +1,4 @@
-// How far the parts of a text go.
+//! How far the parts of a text go.
 
 ghost use Rattle.std.specs.Prelude.{◌≡◌, ◌≤◌, ◌<◌, false, length, slice_index, IfSome};
 ghost use Rattle.std.specs.List.{prefix_len};

@@ -1,4 +1,4 @@
-// The special symbols.
+//! The special symbols.
 
 ghost use Rattle.std.specs.Prelude.{◌≡◌};
 ghost use Rattle.sc_text.specs.Words.{long_symbol, short_symbol};

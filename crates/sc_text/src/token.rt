@@ -1,4 +1,4 @@
-// What a source text is read as: tokens, each with the place where it stands.
+//! What a source text is read as: tokens, each with the place where it stands.
 
 /// A range of bytes of the source text, from `start` up to but not including `end`.
 #[derive(Clone, Copy, Debug, PartialEq, Eq)]

@@ -1,4 +1,4 @@
-// Types, and the entities that are declared with them (ECMA-367, 8.8 and 8.11).
+//! Types, and the entities that are declared with them (ECMA-367, 8.8 and 8.11).
 
 use crate::expression::Name;
 use sc_text::Span;

@@ -1,4 +1,4 @@
-// Names and expressions (ECMA-367, 8.23, 8.24 and 8.28).
+//! Names and expressions (ECMA-367, 8.23, 8.24 and 8.28).
 
 ghost use Rattle.std.specs.Prelude.{◌≡◌, string_bytes};
 ghost use Rattle.sc_tree.specs.Properties as properties;

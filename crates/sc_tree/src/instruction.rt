@@ -1,4 +1,4 @@
-// Instructions (ECMA-367, 8.17, 8.20, 8.22 and 8.23) and assertion clauses (8.9).
+//! Instructions (ECMA-367, 8.17, 8.20, 8.22 and 8.23) and assertion clauses (8.9).
 
 use crate::expression::{Call, Expr, Name};
 use sc_text::Span;

@@ -1,4 +1,4 @@
-// Laws of the grammar, each the contract of a function that does nothing.
+//! Laws of the grammar, each the contract of a function that does nothing.
 
 ghost use Rattle.sc_tree.specs.Laws.{EachTokenHasDepth, NestingIsDepth, OneNesting, OneTree};
 

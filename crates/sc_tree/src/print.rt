@@ -1,4 +1,4 @@
-// Canonical text, token by token and line by line.
+//! Canonical text, token by token and line by line.
 
 ghost use Rattle.std.specs.Prelude.{◌≡◌, ◌+◌, ◌∷◌, ◌++◌, [], false, true, length, map, not, replicate, string_bytes, IfOk, OnOk};
 ghost use Rattle.std.specs.Char.{to_ascii_uppercase};

@@ -1,4 +1,4 @@
-// Systems, classes and features (ECMA-367, 8.3 to 8.8, 8.10 and 8.20).
+//! Systems, classes and features (ECMA-367, 8.3 to 8.8, 8.10 and 8.20).
 
 ghost use Rattle.std.specs.Prelude.{IsTrue};
 ghost use Rattle.sc_tree.specs.Sections.{share_lists};

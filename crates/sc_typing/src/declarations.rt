@@ -1,4 +1,4 @@
-// What is declared: types, the names that are known, and what can be assigned.
+//! What is declared: types, the names that are known, and what can be assigned.
 
 pub mod assignee;
 pub mod names;

@@ -1,4 +1,4 @@
-// Expressions: what is found, or the first rule that fails (ECMA-367, 8.23, 8.24 and 8.28).
+//! Expressions: what is found, or the first rule that fails (ECMA-367, 8.23, 8.24 and 8.28).
 
 ghost use Rattle.std.specs.Prelude.{◌≡◌, false, IfOk, Ok, map};
 ghost use Rattle.sc_tree.specs.View.{expr_of, exprs_of, name_of, target_of, type_if_any};

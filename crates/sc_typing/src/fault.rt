@@ -1,4 +1,4 @@
-// Why a system is refused.
+//! Why a system is refused.
 
 ghost use Rattle.std.specs.Prelude.{◌≡◌};
 ghost use Rattle.sc_rules.specs.Judging as judging;

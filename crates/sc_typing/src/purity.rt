@@ -1,4 +1,4 @@
-// Which functions are pure.
+//! Which functions are pure.
 
 ghost use Rattle.std.specs.Prelude.{◌≡◌};
 ghost use Rattle.sc_typing.specs.Marks.{is_marked};

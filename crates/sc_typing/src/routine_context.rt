@@ -1,4 +1,4 @@
-// What the names of a text stand for (ECMA-367, 8.5, 8.8, 8.19 and 8.23).
+//! What the names of a text stand for (ECMA-367, 8.5, 8.8, 8.19 and 8.23).
 
 ghost use Rattle.std.specs.Prelude.{◌≡◌, map, string_bytes};
 ghost use Rattle.std.specs.Option.{option_map};

@@ -1,4 +1,4 @@
-// What the checker says of a source text.
+//! What the checker says of a source text.
 
 use crate::reading::{root_of, system_of};
 use sc_check::{CheckFault, check};

@@ -1,4 +1,4 @@
-// What the checker says of whole sources: each rule where it fails, and the first of several faults.
+//! What the checker says of whole sources: each rule where it fails, and the first of several faults.
 
 mod calls;
 mod texts;

@@ -1,4 +1,4 @@
-// What the checker lends of a well-formed system, and what it says of another.
+//! What the checker lends of a well-formed system, and what it says of another.
 
 use crate::reading::{root_of, system_of};
 use sc_check::{CheckFault, Checked, check};

@@ -1,4 +1,4 @@
-// The tables of a system of two classes, of which the second inherits from the first.
+//! The tables of a system of two classes, of which the second inherits from the first.
 
 use crate::reading::{root_of, system_of};
 use sc_class::{ClassId, Tables, tables};

@@ -1,4 +1,4 @@
-// Which tokens are parsed, and which fault stands where, against a plain recogniser of the written grammar.
+//! Which tokens are parsed, and which fault stands where, against a plain recogniser of the written grammar.
 
 use crate::grammar::{ENDLESS, Fit, Grammar, Item, Set};
 use sc_parse::{MAX_NESTING, ParseFault, parse_within};

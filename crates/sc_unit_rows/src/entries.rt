@@ -1,4 +1,4 @@
-// Rights at the edges of their tables, and the entries of a buffer of size 1 with a consumer and a producer.
+//! Rights at the edges of their tables, and the entries of a buffer of size 1 with a consumer and a producer.
 use sc_lockpass::{Passed, Rights, Version};
 use sc_waitcond::{ClauseKind, ClauseResult, Entry, Mark, Release, Verdict};
 use std::alloc::AllocError;

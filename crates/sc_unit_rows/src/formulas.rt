@@ -1,4 +1,4 @@
-// Arithmetic, and formulas as they stand in the text of a class.
+//! Arithmetic, and formulas as they stand in the text of a class.
 
 ghost use Rattle.std.specs.Prelude.{[], IfOk};
 ghost use Rattle.sc_formula.specs.Fit.{IsFit};

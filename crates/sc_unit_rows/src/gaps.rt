@@ -1,5 +1,5 @@
-// Rows of the rules that nothing else stands for. In each source with a mark the rule fails where the mark stands, and
-// the source below it is the nearest that is accepted.
+//! Rows of the rules that nothing else stands for. In each source with a mark the rule fails where the mark stands, and
+//! the source below it is the nearest that is accepted.
 
 use crate::answer::expect_answers;
 use std::test::Fail;

@@ -1,4 +1,4 @@
-// The grammar as it is written in the language's description, and which beginnings of its texts there are.
+//! The grammar as it is written in the language's description, and which beginnings of its texts there are.
 
 use sc_text::{Token, TokenKind};
 use std::alloc::{AllocError, Global};

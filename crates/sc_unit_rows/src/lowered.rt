@@ -1,4 +1,4 @@
-// Source texts, and what their code is.
+//! Source texts, and what their code is.
 
 use crate::reading::{root_of, system_of};
 use sc_check::{CheckFault, Checked, check};

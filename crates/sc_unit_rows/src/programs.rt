@@ -1,4 +1,4 @@
-// The programs of source texts.
+//! The programs of source texts.
 
 use crate::reading::{root_of, system_of};
 use sc_check::{CheckFault, Checked, check};

@@ -1,4 +1,4 @@
-// The systems of source texts, and what they are run from.
+//! The systems of source texts, and what they are run from.
 
 use sc_class::Root;
 use sc_parse::parse;

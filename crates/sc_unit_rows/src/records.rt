@@ -1,4 +1,4 @@
-// Texts of records, what they are read as, and readers and writers that fail.
+//! Texts of records, what they are read as, and readers and writers that fail.
 
 use sc_audit::{ReadFault, RecordLine, read_record, write_record};
 use sc_lockpass::Version;

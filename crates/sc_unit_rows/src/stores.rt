@@ -1,4 +1,4 @@
-// Stores of a handler: what calls leave of one, step by step, and how much it has room for.
+//! Stores of a handler: what calls leave of one, step by step, and how much it has room for.
 
 use crate::programs::program_of;
 use sc_code::Program;

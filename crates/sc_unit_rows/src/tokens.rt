@@ -1,4 +1,4 @@
-// Tokens of source texts, each with its place, and the first fault in a text that has none.
+//! Tokens of source texts, each with its place, and the first fault in a text that has none.
 
 use sc_text::{LexFault, Span, TokenKind, lex};
 use std::alloc::{AllocError, Global};

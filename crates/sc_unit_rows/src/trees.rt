@@ -1,4 +1,4 @@
-// Which tree comes of which source, and where each node of it stands: from its first token to its last.
+//! Which tree comes of which source, and where each node of it stands: from its first token to its last.
 
 mod outline;
 

@@ -1,4 +1,4 @@
-// Which tags, marks and types conform, and which types are seen through a call.
+//! Which tags, marks and types conform, and which types are seen through a call.
 
 use crate::reading::{root_of, system_of};
 use sc_class::{ClassId, tables};

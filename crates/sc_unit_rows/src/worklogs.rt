@@ -1,4 +1,4 @@
-// A handler with its log: what jobs leave of it, and what is noted of them.
+//! A handler with its log: what jobs leave of it, and what is noted of them.
 
 use crate::programs::program_of;
 use arrayvec::ArrayVec;

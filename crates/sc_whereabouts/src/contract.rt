@@ -1,4 +1,4 @@
-// Routines and the contracts that they keep.
+//! Routines and the contracts that they keep.
 
 use sc_class::{ClassId, FeatureEntry, Tables};
 use sc_tree::{Class, FeatureKind, Name, Routine};

@@ -1,4 +1,4 @@
-// Operations, passed one by one.
+//! Operations, passed one by one.
 
 use crate::site::{Kind, Site};
 use sc_text::Span;

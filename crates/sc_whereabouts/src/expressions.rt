@@ -1,4 +1,4 @@
-// The operations of expressions.
+//! The operations of expressions.
 
 use crate::countdown::Countdown;
 use crate::site::Kind;

@@ -1,4 +1,4 @@
-// The operations of instructions.
+//! The operations of instructions.
 
 use crate::countdown::Countdown;
 use crate::expressions::{pass_expression, pass_expressions, pass_operands};

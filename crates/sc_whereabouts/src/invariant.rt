@@ -1,4 +1,4 @@
-// The clauses of class invariants.
+//! The clauses of class invariants.
 
 use crate::site::{clause_span, tag_of};
 use sc_class::{ClassId, Tables};

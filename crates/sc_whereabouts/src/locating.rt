@@ -1,4 +1,4 @@
-// Where in the text a routine stood.
+//! Where in the text a routine stood.
 
 use crate::contract::{feature_at, origin_of, routine_of};
 use crate::countdown::Countdown;

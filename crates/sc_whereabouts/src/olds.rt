@@ -1,4 +1,4 @@
-// The operations by which a routine keeps what its postcondition says `old` of.
+//! The operations by which a routine keeps what its postcondition says `old` of.
 
 use crate::countdown::Countdown;
 use crate::expressions::pass_expression;

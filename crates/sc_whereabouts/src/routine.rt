@@ -1,4 +1,4 @@
-// The operations of a routine.
+//! The operations of a routine.
 
 use crate::countdown::Countdown;
 use crate::instructions::{pass_clauses, pass_instructions};

@@ -1,4 +1,4 @@
-// What an operation was made of.
+//! What an operation was made of.
 
 use sc_text::Span;
 use sc_tree::{BinaryOperator, Clause, UnaryOperator};

@@ -1,4 +1,4 @@
-// How operators are spelt.
+//! How operators are spelt.
 
 use sc_tree::BinaryOperator;
 

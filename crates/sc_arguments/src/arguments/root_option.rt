@@ -1,4 +1,4 @@
-// The value of `--root`: a class and a procedure, with a dot between.
+//! The value of `--root`: a class and a procedure, with a dot between.
 
 ghost use Rattle.std.specs.Prelude.{◌≡◌, ◌≤◌, ◌↔◌, List, ℕ, length, map, IfOk, IfSome, IsSome, option_map, string_bytes};
 ghost use Rattle.std.specs.Char.{to_ascii_lowercase};

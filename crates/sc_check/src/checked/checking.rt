@@ -1,4 +1,4 @@
-// Whether a system is well formed.
+//! Whether a system is well formed.
 
 ghost use Rattle.std.specs.Prelude.{◌≡◌, IfErr, IfOk, OnOk};
 ghost use Rattle.sc_rules.specs.JudgingSystem as judging_system;

@@ -1,4 +1,4 @@
-// The form of a class's invariant (ECMA-367, 8.9).
+//! The form of a class's invariant (ECMA-367, 8.9).
 
 ghost use Rattle.std.specs.Prelude.{◌≡◌, true};
 ghost use Rattle.sc_tree.specs.Plain as plain;

@@ -1,4 +1,4 @@
-// Assignments: the first rule that fails (ECMA-367, 8.22).
+//! Assignments: the first rule that fails (ECMA-367, 8.22).
 
 ghost use Rattle.std.specs.Prelude.{◌≡◌, map};
 ghost use Rattle.sc_tree.specs.View.{expr_of, variable_of};

@@ -1,4 +1,4 @@
-// Separate blocks: the heads, and the names that they give.
+//! Separate blocks: the heads, and the names that they give.
 
 ghost use Rattle.std.specs.Prelude.{◌≡◌, map};
 ghost use Rattle.sc_tree.specs.View.{head_of};

@@ -1,4 +1,4 @@
-// Conditions and clauses: the first rule that fails (ECMA-367, 8.9 and 8.17).
+//! Conditions and clauses: the first rule that fails (ECMA-367, 8.9 and 8.17).
 
 ghost use Rattle.std.specs.Prelude.{◌≡◌, OnOk, Ok, map};
 ghost use Rattle.sc_tree.specs.View.{clause_of, expr_of};

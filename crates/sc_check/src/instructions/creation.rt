@@ -1,4 +1,4 @@
-// Creations of objects: the first rule that fails (ECMA-367, 8.20).
+//! Creations of objects: the first rule that fails (ECMA-367, 8.20).
 
 ghost use Rattle.std.specs.Prelude.{◌≡◌, map};
 ghost use Rattle.sc_tree.specs.View.{creation_call_of, exprs_of, name_of};

@@ -1,4 +1,4 @@
-// A class with its ancestors.
+//! A class with its ancestors.
 
 ghost use Rattle.std.specs.Prelude.{◌≡◌, ◌<◌, ℕ, IfOk, length, map};
 ghost use Rattle.std.specs.Option.{option_map};

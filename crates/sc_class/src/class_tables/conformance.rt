@@ -1,4 +1,4 @@
-// Conformance of classes, and of types as they are declared.
+//! Conformance of classes, and of types as they are declared.
 
 ghost use Rattle.std.specs.Prelude.{◌≡◌};
 ghost use Rattle.sc_tree.specs.View.{handler_tag_of, type_of};

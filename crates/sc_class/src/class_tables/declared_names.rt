@@ -1,4 +1,4 @@
-// The names of what a class declares itself.
+//! The names of what a class declares itself.
 
 ghost use Rattle.std.specs.Prelude.{◌≡◌, ◌++◌, [], IfOk, OnOk, map};
 ghost use Rattle.sc_tree.specs.View.{name_of, feature_of, class_of};

@@ -1,4 +1,4 @@
-// A feature and the class that declares it, and its formals and locals.
+//! A feature and the class that declares it, and its formals and locals.
 
 ghost use Rattle.std.specs.Prelude.{◌≡◌, map};
 ghost use Rattle.sc_tree.specs.View.{declaration_of};

@@ -1,4 +1,4 @@
-// The classes of a system, their names and their parents.
+//! The classes of a system, their names and their parents.
 
 ghost use Rattle.std.specs.Prelude.{◌≡◌, IfOk, map};
 ghost use Rattle.sc_tree.specs.View.{class_of, system_of};

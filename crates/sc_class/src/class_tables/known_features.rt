@@ -1,4 +1,4 @@
-// The features of a class, found by name.
+//! The features of a class, found by name.
 
 ghost use Rattle.std.specs.Prelude.{◌≡◌, IfOk, map};
 ghost use Rattle.std.specs.Option.{option_map};

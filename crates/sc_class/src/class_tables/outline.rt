@@ -1,4 +1,4 @@
-// What each class declares itself, by name.
+//! What each class declares itself, by name.
 
 ghost use Rattle.std.specs.Prelude.{◌≡◌, ◌<◌, ◌++◌, ℕ, List, IfOk, OnOk, map, length, slice_get};
 ghost use Rattle.std.specs.Option.{option_map, option_copied};

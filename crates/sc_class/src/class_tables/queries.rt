@@ -1,4 +1,4 @@
-// What the tables of a system's classes tell.
+//! What the tables of a system's classes tell.
 
 ghost use Rattle.std.specs.Prelude.{◌≡◌, ◌++◌, IfOk, OnOk, map, slice_get};
 ghost use Rattle.std.specs.Option.{option_map, option_copied};

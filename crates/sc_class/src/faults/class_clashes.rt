@@ -1,4 +1,4 @@
-// Names of features that clash in the classes of a system.
+//! Names of features that clash in the classes of a system.
 
 ghost use Rattle.std.specs.Prelude.{◌≡◌, [], IfOk, Some, Any, map, slice_get};
 ghost use Rattle.sc_tree.specs.View.{class_of, clause_of, feature_of};

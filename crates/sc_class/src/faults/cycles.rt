@@ -1,4 +1,4 @@
-// Classes that inherit from themselves.
+//! Classes that inherit from themselves.
 
 ghost use Rattle.std.specs.Prelude.{◌≡◌, ◌<◌, ◌↔◌, ℕ, [], IfOk, IsTrue, OnOk, map, length, slice_get, unwrap_or};
 ghost use Rattle.std.specs.Bool.{OnTrue};

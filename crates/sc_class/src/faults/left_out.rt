@@ -1,4 +1,4 @@
-// What the grammar has and this language leaves out.
+//! What the grammar has and this language leaves out.
 
 ghost use Rattle.std.specs.Prelude.{◌≡◌, Any, map};
 ghost use Rattle.sc_tree.specs.View.{name_of, feature_of, class_of, mark_of};

@@ -1,4 +1,4 @@
-// How many classes and features there are.
+//! How many classes and features there are.
 
 ghost use Rattle.std.specs.Prelude.{◌≡◌, ◌↔◌, IfOk, IsTrue};
 ghost use Rattle.sc_class.specs.Faults.Limits as limits;

@@ -1,4 +1,4 @@
-// The names of classes and of parents that are refused.
+//! The names of classes and of parents that are refused.
 
 ghost use Rattle.std.specs.Prelude.{◌≡◌, ◌||◌, [], Some, None, Any, map, nat_eq, not, if◌then◌else◌};
 ghost use Rattle.std.specs.Option.{option_eq};

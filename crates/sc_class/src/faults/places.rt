@@ -1,4 +1,4 @@
-// Of two places of faults, the one that is answered.
+//! Of two places of faults, the one that is answered.
 
 ghost use Rattle.std.specs.Prelude.{◌≡◌};
 ghost use Rattle.sc_class.specs.Names as names;

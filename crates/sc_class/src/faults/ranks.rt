@@ -1,5 +1,5 @@
-// Ranks of classes: where no class inherits from itself, each stands above its parents; classes that lead to each
-// other have the same rank.
+//! Ranks of classes: where no class inherits from itself, each stands above its parents; classes that lead to each
+//! other have the same rank.
 
 use crate::class_tables::hierarchy::Hierarchy;
 use sc_tree::Parent;

@@ -1,4 +1,4 @@
-// The class and the procedure that a system is run from.
+//! The class and the procedure that a system is run from.
 
 ghost use Rattle.std.specs.Prelude.{◌≡◌, IfOk};
 ghost use Rattle.sc_tree.specs.View.{kind_of};

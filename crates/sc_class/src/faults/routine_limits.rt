@@ -1,4 +1,4 @@
-// How large routines are.
+//! How large routines are.
 
 ghost use Rattle.std.specs.Prelude.{◌≡◌, ◌+◌, ◌↔◌, Any, IsTrue, map, min, true};
 ghost use Rattle.sc_tree.specs.View.{branches_of, feature_of, instr_of, instrs_of, kind_of};

@@ -1,4 +1,4 @@
-// The names of formals, locals, object tests and blocks that clash with another one of their scope.
+//! The names of formals, locals, object tests and blocks that clash with another one of their scope.
 
 mod expressions;
 mod features;

@@ -1,4 +1,4 @@
-// Checked systems in flat code, and what they lend. Each is found at once.
+//! Checked systems in flat code, and what they lend. Each is found at once.
 
 ghost use Rattle.std.specs.Option.{option_map, option_map_or, option_and_then};
 ghost use Rattle.std.specs.Prelude.{◌≡◌, slice_get};

@@ -1,4 +1,4 @@
-// The attributes of a class.
+//! The attributes of a class.
 
 ghost use Rattle.std.specs.Prelude.{◌≡◌, ◌<◌, IfOk, IfSome, length, map, position};
 ghost use Rattle.std.specs.Option.{option_map};

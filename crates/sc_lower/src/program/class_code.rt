@@ -1,4 +1,4 @@
-// The tables of classes.
+//! The tables of classes.
 
 ghost use Rattle.std.specs.Prelude.{◌≡◌, ◌<◌, ◌≤◌, IfOk, length, map, string_bytes};
 ghost use Rattle.std.specs.List.{range_with_len};

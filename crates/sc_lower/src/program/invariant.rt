@@ -1,4 +1,4 @@
-// Class invariants as formulas.
+//! Class invariants as formulas.
 
 ghost use Rattle.std.specs.Prelude.{◌≡◌, ◌≤◌, ◌<◌, Some, length, map, IfOk, IfSome};
 ghost use Rattle.std.specs.Option.{option_map};

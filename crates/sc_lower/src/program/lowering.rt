@@ -1,4 +1,4 @@
-// Lowers checked systems to programs.
+//! Lowers checked systems to programs.
 
 ghost use Rattle.std.specs.Prelude.{◌≤◌, ◌^◌, IfErr, IfOk};
 ghost use Rattle.sc_code.specs.RequestRoom.{FitsRequests};

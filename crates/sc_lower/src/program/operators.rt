@@ -1,4 +1,4 @@
-// The operators of the language, as those of integers and of truth values.
+//! The operators of the language, as those of integers and of truth values.
 
 ghost use Rattle.std.specs.Prelude.{◌≡◌};
 ghost use Rattle.sc_model.specs.Operators.{arithmetic_of, comparison_of, connective_of};

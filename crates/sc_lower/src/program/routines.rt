@@ -1,4 +1,4 @@
-// The code of all routines of a system.
+//! The code of all routines of a system.
 
 ghost use Rattle.std.specs.Prelude.{◌≡◌, ◌≤◌, ◌<◌, ◌+◌, ◌++◌, None, IfErr, IfOk, IfSome, OnOk, length, map};
 ghost use Rattle.std.specs.Option.{option_map, option_map_or};

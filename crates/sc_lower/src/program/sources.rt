@@ -1,4 +1,4 @@
-// Routines with the contracts that they keep.
+//! Routines with the contracts that they keep.
 
 ghost use Rattle.std.specs.Prelude.{◌≡◌, map};
 ghost use Rattle.std.specs.Borrow.{Bor};

@@ -1,4 +1,4 @@
-// What names are in a class.
+//! What names are in a class.
 
 ghost use Rattle.std.specs.Prelude.{◌≡◌, IfOk, map, string_bytes};
 ghost use Rattle.sc_class.specs.SystemIn.{system_in};

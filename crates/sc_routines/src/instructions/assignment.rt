@@ -1,4 +1,4 @@
-// Assignments (ECMA-367, 8.22).
+//! Assignments (ECMA-367, 8.22).
 
 ghost use Rattle.std.specs.Prelude.{◌≡◌, ◌++◌, IfOk, OnOk, map};
 ghost use Rattle.sc_tree.specs.Plain.{Named, ResultVariable};

@@ -1,4 +1,4 @@
-// Calls that are instructions (ECMA-367, 8.23), and `print`.
+//! Calls that are instructions (ECMA-367, 8.23), and `print`.
 
 ghost use Rattle.std.specs.Prelude.{◌≡◌, ◌++◌, [], IfOk, OnOk, map, max, suc};
 ghost use Rattle.sc_tree.specs.View.{expr_of, exprs_of, instr_of, name_of};

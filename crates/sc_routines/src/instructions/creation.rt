@@ -1,4 +1,4 @@
-// Creations of objects (ECMA-367, 8.20).
+//! Creations of objects (ECMA-367, 8.20).
 
 ghost use Rattle.std.specs.Prelude.{◌≡◌, ◌++◌, IfOk, OnOk, map, max};
 ghost use Rattle.std.specs.Option.{option_copied};

@@ -1,4 +1,4 @@
-// Jumps that are written before it is known how far they go.
+//! Jumps that are written before it is known how far they go.
 
 ghost use Rattle.std.specs.Prelude.{◌≡◌, ◌<◌, All, length};
 ghost use Rattle.sc_routines.specs.Jumps.{landed};

@@ -1,4 +1,4 @@
-// Ends of loops (ECMA-367, 8.17).
+//! Ends of loops (ECMA-367, 8.17).
 
 ghost use Rattle.std.specs.Prelude.{◌≡◌, ◌<◌, ◌+◌, ◌-◌, ◌++◌, [], ◌∷◌, IfOk, OnOk, length, map, slice_set};
 ghost use Rattle.sc_tree.specs.View.{expr_of};

@@ -1,4 +1,4 @@
-// What the code of instructions needs.
+//! What the code of instructions needs.
 
 ghost use Rattle.std.specs.Prelude.{◌≡◌, max};
 

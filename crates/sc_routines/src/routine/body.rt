@@ -1,4 +1,4 @@
-// The locals and the body of a routine (ECMA-367, 8.8 and 8.19).
+//! The locals and the body of a routine (ECMA-367, 8.8 and 8.19).
 
 ghost use Rattle.std.specs.Prelude.{◌≡◌, ◌+◌, ◌++◌, IfOk, OnOk, length, map, max};
 ghost use Rattle.sc_tree.specs.View.{declaration_of, instrs_of};

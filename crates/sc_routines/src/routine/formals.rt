@@ -1,4 +1,4 @@
-// The formals that a clause of a precondition names.
+//! The formals that a clause of a precondition names.
 
 ghost use Rattle.std.specs.Prelude.{◌≡◌, ◌++◌, [], ◌∷◌, IfOk, OnOk, map};
 ghost use Rattle.std.specs.List.{filter_map};

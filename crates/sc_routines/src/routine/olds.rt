@@ -1,4 +1,4 @@
-// The values that a postcondition compares with (ECMA-367, 8.9).
+//! The values that a postcondition compares with (ECMA-367, 8.9).
 
 ghost use Rattle.std.specs.Prelude.{◌≡◌, ◌++◌, IfOk, OnOk, map};
 ghost use Rattle.sc_tree.specs.View.{clause_of};

@@ -1,4 +1,4 @@
-// Postconditions (ECMA-367, 8.9).
+//! Postconditions (ECMA-367, 8.9).
 
 ghost use Rattle.std.specs.Prelude.{◌≡◌, ◌++◌, IfOk, OnOk, map};
 ghost use Rattle.sc_tree.specs.View.{clause_of};

@@ -1,4 +1,4 @@
-// Routines as they are lowered.
+//! Routines as they are lowered.
 
 use sc_tree::Routine;
 

@@ -1,4 +1,4 @@
-// Each class fault, and its place. In each source a mark stands before the name that is told; with no mark there is no place.
+//! Each class fault, and its place. In each source a mark stands before the name that is told; with no mark there is no place.
 
 use super::columns;
 use super::refusals::expect_line;

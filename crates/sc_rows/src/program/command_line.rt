@@ -1,4 +1,4 @@
-// The arguments of the command line.
+//! The arguments of the command line.
 
 use super::{Wanted, call, done, expect_of, line_of, usage};
 use crate::program::fake::FakeFile;

@@ -1,4 +1,4 @@
-// The pages of the codes.
+//! The pages of the codes.
 
 use super::{Wanted, call, done, expect, expect_of, usage};
 use std::test::Fail;

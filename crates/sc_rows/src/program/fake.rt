@@ -1,4 +1,4 @@
-// Files for tests, which stand in the test itself.
+//! Files for tests, which stand in the test itself.
 
 use sc_source::files::Files;
 use std::io::{self, ErrorKind, Read, Sink};

@@ -1,5 +1,5 @@
-// Rows of what nothing else stands for: columns in bytes, export lists, bounds, operators and white space. In each source
-// with a mark the system is refused where the mark stands, and the source below it is the nearest that is accepted.
+//! Rows of what nothing else stands for: columns in bytes, export lists, bounds, operators and white space. In each source
+//! with a mark the system is refused where the mark stands, and the source below it is the nearest that is accepted.
 
 use super::refusals::{CHECK, names};
 use super::{columns, done, expect, refused};

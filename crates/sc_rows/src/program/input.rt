@@ -1,4 +1,4 @@
-// Files that can't be read.
+//! Files that can't be read.
 
 use super::{columns, expect_of, refused, usage};
 use crate::program::fake::FakeFile;

@@ -1,4 +1,4 @@
-// Limits of runs: how many handlers there may be, and how many requests in a queue.
+//! Limits of runs: how many handlers there may be, and how many requests in a queue.
 
 use super::systems::MANY_HANDLERS;
 use super::{Outcome, call};

@@ -1,4 +1,4 @@
-// Systems of many handlers: what lists of turns, and runs, leave of them.
+//! Systems of many handlers: what lists of turns, and runs, leave of them.
 
 use super::sources::{BLOCK, BUFFER, CALLBACK, HANDLER_TESTS, SEPARATE_CALL};
 use super::systems::{BROKEN_CALLBACK, DRAIN, MUTUAL_WAIT, RELAY};

@@ -1,4 +1,4 @@
-// What operators, instructions, defaults and invariants mean, each row worked out by hand from the language's rules.
+//! What operators, instructions, defaults and invariants mean, each row worked out by hand from the language's rules.
 
 use super::{Wanted, columns, expect};
 use std::process::Abort;

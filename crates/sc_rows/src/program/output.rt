@@ -1,4 +1,4 @@
-// Writers that fail.
+//! Writers that fail.
 
 use super::line_of;
 use crate::program::fake::{FakeFile, FakeFiles};

@@ -1,4 +1,4 @@
-// Canonical text.
+//! Canonical text.
 
 use super::sources::{
     ANOTHER_LAYOUT, BLOCK, BUFFER, CALLBACK, CANONICAL, HANDLER_TESTS, SEPARATE_CALL, TRAITOR,

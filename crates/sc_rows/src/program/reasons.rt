@@ -1,4 +1,4 @@
-// The second lines that say why a file can't be read.
+//! The second lines that say why a file can't be read.
 
 use sc_serve::serve::{Exit, serve};
 use sc_source::files::Files;

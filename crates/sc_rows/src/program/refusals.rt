@@ -1,4 +1,4 @@
-// Each rule that a source text can break, and where.
+//! Each rule that a source text can break, and where.
 
 use super::{columns, done, expect, expect_of, refused};
 use crate::program::fake::FakeFile;

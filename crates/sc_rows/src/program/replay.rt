@@ -1,4 +1,4 @@
-// Replays of records, and what is at fault in one.
+//! Replays of records, and what is at fault in one.
 
 use super::sources::SEPARATE_CALL;
 use super::{Wanted, call, expect_of, refused, usage};

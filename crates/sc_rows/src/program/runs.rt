@@ -1,4 +1,4 @@
-// Runs of whole systems, and what is reported of them.
+//! Runs of whole systems, and what is reported of them.
 
 use super::{Wanted, done, expect, refused};
 use std::test::Fail;

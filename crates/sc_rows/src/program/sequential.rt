@@ -1,4 +1,4 @@
-// Systems of one handler with parents, formals, locals, results and contracts: their runs, and refusals before any.
+//! Systems of one handler with parents, formals, locals, results and contracts: their runs, and refusals before any.
 
 use super::refusals::CHECK;
 use super::sources::TRAITOR;

@@ -1,4 +1,4 @@
-// Source texts of the whole language.
+//! Source texts of the whole language.
 
 /// Each construct of the language, in canonical layout.
 pub const CANONICAL: &str = "deferred class ITEM

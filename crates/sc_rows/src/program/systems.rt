@@ -1,4 +1,4 @@
-// What a check answers of whole systems: those that are accepted, and those in which a rule fails.
+//! What a check answers of whole systems: those that are accepted, and those in which a rule fails.
 
 use super::refusals::expect_line;
 use super::sources::{BLOCK, BUFFER, CALLBACK, HANDLER_TESTS, SEPARATE_CALL};

@@ -1,4 +1,4 @@
-// What `--explain` says of a fault with types, numbers and names, and of a failure.
+//! What `--explain` says of a fault with types, numbers and names, and of a failure.
 
 use super::{FakeFile, call};
 use std::process::Abort;

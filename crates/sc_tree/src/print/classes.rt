@@ -1,4 +1,4 @@
-// Features and classes in canonical text.
+//! Features and classes in canonical text.
 
 ghost use Rattle.std.specs.Prelude.{◌≡◌, ◌∷◌, [], map, IsTrue, OnOk};
 ghost use Rattle.sc_tree.specs.Canonical.Layout.{line};

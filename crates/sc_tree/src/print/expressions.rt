@@ -1,4 +1,4 @@
-// Types and expressions in canonical text.
+//! Types and expressions in canonical text.
 
 ghost use Rattle.std.specs.Prelude.{◌≡◌, ◌++◌, ◌∷◌, [], map, OnOk};
 ghost use Rattle.sc_text.specs.declared.token.Terminal.TheVariants as terminal;

@@ -1,4 +1,4 @@
-// Clauses and instructions in canonical text.
+//! Clauses and instructions in canonical text.
 
 ghost use Rattle.std.specs.Prelude.{◌≡◌, ◌+◌, ◌++◌, ◌∷◌, [], map, string_bytes, IfOk, OnOk};
 ghost use Rattle.sc_tree.specs.Bare.{nowhere};

@@ -1,4 +1,4 @@
-// What holds of canonical text.
+//! What holds of canonical text.
 
 ghost use Rattle.sc_tree.specs.CanonicalLaws.{CanonicalTextSpells, CanonicalTextStays, CanonicalTokensSpell};
 

@@ -1,4 +1,4 @@
-// Operators, what they are spelled by and how they bind.
+//! Operators, what they are spelled by and how they bind.
 
 ghost use Rattle.std.specs.Prelude.{◌≡◌, ◌≤◌};
 ghost use Rattle.sc_tree.specs.Canonical.Expressions.{class_of_expr, left_class};

@@ -1,4 +1,4 @@
-// Reserved words and special symbols in canonical text.
+//! Reserved words and special symbols in canonical text.
 
 ghost use Rattle.std.specs.Prelude.{◌≡◌};
 ghost use Rattle.sc_tree.specs.Canonical.Layout.{is_closing, is_opening};

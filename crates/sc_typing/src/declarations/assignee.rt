@@ -1,4 +1,4 @@
-// What is assigned or created (ECMA-367, 8.20 and 8.22).
+//! What is assigned or created (ECMA-367, 8.20 and 8.22).
 
 ghost use Rattle.std.specs.Prelude.{◌≡◌, map};
 ghost use Rattle.sc_tree.specs.View.{kind_of, variable_of};

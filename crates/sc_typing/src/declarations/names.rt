@@ -1,4 +1,4 @@
-// The names that are known in a part of a routine (ECMA-367, 8.8, 8.19 and 8.24).
+//! The names that are known in a part of a routine (ECMA-367, 8.8, 8.19 and 8.24).
 
 ghost use Rattle.std.specs.Prelude.{◌≡◌, ◌++◌, OnOk, map};
 ghost use Rattle.std.specs.Option.{option_map};

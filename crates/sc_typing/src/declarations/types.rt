@@ -1,4 +1,4 @@
-// Types as they are declared (ECMA-367, 8.11).
+//! Types as they are declared (ECMA-367, 8.11).
 
 ghost use Rattle.std.specs.Prelude.{◌≡◌, [], map};
 ghost use Rattle.std.specs.Option.{option_map};

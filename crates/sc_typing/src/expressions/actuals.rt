@@ -1,4 +1,4 @@
-// Actuals and formals (ECMA-367, 8.23).
+//! Actuals and formals (ECMA-367, 8.23).
 
 ghost use Rattle.std.specs.Prelude.{◌≡◌, false, IfOk, drop, length, map, slice_get};
 ghost use Rattle.sc_tree.specs.Plain as plain;

@@ -1,4 +1,4 @@
-// Calls: what is judged at the target and at the name (ECMA-367, 8.7, 8.22 and 8.23).
+//! Calls: what is judged at the target and at the name (ECMA-367, 8.7, 8.22 and 8.23).
 
 ghost use Rattle.std.specs.Prelude.{◌≡◌, ◌&&◌, map, not};
 ghost use Rattle.std.specs.Option.{option_map};

@@ -1,4 +1,4 @@
-// The types that operators take (ECMA-367, 8.28).
+//! The types that operators take (ECMA-367, 8.28).
 
 ghost use Rattle.std.specs.Prelude.{◌≡◌};
 ghost use Rattle.sc_rules.specs.Types as types;

@@ -1,4 +1,4 @@
-// Where an expression stands, and where its parts do.
+//! Where an expression stands, and where its parts do.
 
 ghost use Rattle.std.specs.Prelude.{◌≡◌};
 ghost use Rattle.sc_rules.specs.Positions as positions;

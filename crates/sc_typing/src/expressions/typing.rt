@@ -1,4 +1,4 @@
-// What is found of expressions.
+//! What is found of expressions.
 
 ghost use Rattle.std.specs.Prelude.{◌≡◌, ◌||◌};
 ghost use Rattle.sc_rules.specs.Typing as spec;

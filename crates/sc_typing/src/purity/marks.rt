@@ -1,4 +1,4 @@
-// Marks of the features that aren't pure functions.
+//! Marks of the features that aren't pure functions.
 
 ghost use Rattle.std.specs.Prelude.{◌≡◌};
 ghost use Rattle.sc_typing.specs.FeatureNumbers.{pure_by};

@@ -1,4 +1,4 @@
-// The features of a system by number, in the order of the text.
+//! The features of a system by number, in the order of the text.
 
 ghost use Rattle.std.specs.Prelude.{◌≡◌, ◌<◌, ◌++◌, ℕ, Some, IfOk, OnOk, map, length, slice_get};
 ghost use Rattle.std.specs.Option.{option_map};

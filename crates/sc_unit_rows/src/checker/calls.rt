@@ -1,5 +1,5 @@
-// The rules of names, calls and contracts. In each source with a mark the rule fails where the mark stands, and the source below
-// it is the nearest that is accepted.
+//! The rules of names, calls and contracts. In each source with a mark the rule fails where the mark stands, and the source below
+//! it is the nearest that is accepted.
 
 /// A type whose class is none of the system's, in each place of a type.
 const UNKNOWN_CLASSES: &str = "\

@@ -1,5 +1,5 @@
-// The rules of types, instructions, conditions and invariants. In each source with a mark the rule fails where the mark stands,
-// and the source below it is the nearest that is accepted.
+//! The rules of types, instructions, conditions and invariants. In each source with a mark the rule fails where the mark stands,
+//! and the source below it is the nearest that is accepted.
 
 /// A right side of another class or mark than the left side's.
 const ASSIGNED_TYPES: &str = "\

@@ -1,4 +1,4 @@
-// What a tree is: its nodes in order, each with the text where it stands.
+//! What a tree is: its nodes in order, each with the text where it stands.
 
 use crate::reading::system_of;
 use sc_text::Span;

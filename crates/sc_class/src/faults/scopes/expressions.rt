@@ -1,4 +1,4 @@
-// Expressions: where the name of an object test clashes.
+//! Expressions: where the name of an object test clashes.
 
 ghost use Rattle.std.specs.Prelude.{◌≡◌, ◌++◌, IfOk, OnOk, map};
 ghost use Rattle.sc_tree.specs.View.{name_of, expr_of, target_of, exprs_of, clause_of, head_of};

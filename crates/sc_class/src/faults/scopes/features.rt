@@ -1,4 +1,4 @@
-// The features of a class, by name.
+//! The features of a class, by name.
 
 ghost use Rattle.std.specs.Prelude.{◌≡◌, List};
 ghost use Rattle.sc_tree.specs.Plain as plain;

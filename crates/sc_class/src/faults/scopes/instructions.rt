@@ -1,5 +1,5 @@
-// Instructions: where the name of an object test or of a block's head clashes. What they make known is
-// known no more behind them.
+//! Instructions: where the name of an object test or of a block's head clashes. What they make known is
+//! known no more behind them.
 
 ghost use Rattle.std.specs.Prelude.{◌≡◌, ◌++◌, IfOk, OnOk, map};
 ghost use Rattle.sc_tree.specs.View.{expr_of, creation_call_of, head_of, instr_of, instrs_of, branches_of};

@@ -1,4 +1,4 @@
-// Names that can't stand behind those that are known.
+//! Names that can't stand behind those that are known.
 
 ghost use Rattle.std.specs.Prelude.{◌≡◌, ◌++◌, ◌∷◌, [], IfOk, OnOk, map};
 ghost use Rattle.std.specs.Option.{option_map};

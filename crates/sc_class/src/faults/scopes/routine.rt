@@ -1,4 +1,4 @@
-// Routines: where the name of a formal, a local, an object test or a block's head clashes.
+//! Routines: where the name of a formal, a local, an object test or a block's head clashes.
 
 ghost use Rattle.std.specs.Prelude.{◌≡◌, [], IfOk};
 ghost use Rattle.sc_tree.specs.View.{kind_of};
