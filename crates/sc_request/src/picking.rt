@@ -1,5 +1,5 @@
 //! Who goes on: handlers are picked with their jobs, and put back.
-ghost use Rattle.std.specs.Prelude.{◌≡◌, ◌+◌, ◌<◌, ℕ, IfSome, IsTrue, is_some, true};
+ghost use Rattle.std.specs.Prelude.{◌≡◌, ◌+◌, ◌<◌, ℕ, IfSome, IsTrue, false, is_some, not, true};
 ghost use Rattle.std.specs.Option.{option_map};
 ghost use Rattle.sc_request.specs.Candidates.{comes_again, frees_under};
 ghost use Rattle.sc_request.specs.Logs.{next, picked_if, picks};
@@ -30,9 +30,11 @@ impl Core {
     }
 
     /// Whether a handler that is out is the next one again, as long as its turns ask nothing: no other one has anything
-    /// to do, and its job frees nothing that one waits to reserve.
+    /// to do, and its job frees nothing that one waits to reserve. Of one that isn't out, whether no other one has
+    /// anything to do.
     pub fn comes_again(&mut self, handler: u16) -> bool
         ensures again { (job : Job) → (center_of self.old).out handler ≡ Some job → result ≡ comes_again job (center_of self.old) }
+        ensures home { (center_of self.old).out handler ≡ None → result ≡ not (is_some (next (center_of self.old))) }
         ensures center { center_of self.new ≡ center_of self.old }
         ensures log { log_of self.new ≡ log_of self.old }
         ensures room { (n : ℕ) → HasRoomFor n self.old → HasRoomFor n self.new }
@@ -44,6 +46,7 @@ impl Core {
     /// Whether the job that a handler is out with frees what another one may wait to reserve.
     fn frees_out(&self, handler: u16) -> bool
         ensures { (job : Job) → (center_of self.now).out handler ≡ Some job → result ≡ frees_under job }
+        ensures home { (center_of self.now).out handler ≡ None → result ≡ false }
     {
         match self.job_out(handler) {
             Some(job) => frees_under(job),

@@ -6,8 +6,8 @@ ghost use Rattle.sc_interp.specs.Turning.{unless_failed};
 
 use crate::acts::blocks::{leave, open};
 use crate::acts::creating::create_object;
-use crate::acts::creating_handlers::create_handler;
-use crate::acts::requesting::request;
+use crate::acts::creating_handlers::{RemoteCreation, create_handler};
+use crate::acts::requesting::{RemoteCall, request};
 use crate::steps::unless_failed;
 use sc_interp::Act;
 use sc_interp::turning::{
@@ -52,7 +52,14 @@ fn dispatch(
             gives,
             passes,
         } => {
-            request(store, handler, object, name, count, gives, passes, asked);
+            let call = RemoteCall {
+                object,
+                name,
+                count,
+                gives,
+                passes,
+            };
+            request(store, handler, call, asked);
             Ok(())
         }
         Act::Create {
@@ -66,7 +73,13 @@ fn dispatch(
             count,
             passes,
         } => {
-            create_handler(store, handler, class, procedure, count, passes, asked);
+            let creation = RemoteCreation {
+                class,
+                procedure,
+                count,
+                passes,
+            };
+            create_handler(store, handler, creation, asked);
             Ok(())
         }
         Act::Start => {

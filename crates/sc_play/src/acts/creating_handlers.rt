@@ -3,7 +3,7 @@ ghost use Rattle.std.specs.Prelude.{◌≡◌, Some, true};
 ghost use Rattle.sc_region.specs.Frames.{PlainActivation, activation_of, top_activation};
 ghost use Rattle.sc_interp.specs.Creating.{has_room};
 ghost use Rattle.sc_region.specs.Calls.{on_top};
-ghost use Rattle.sc_play.specs.CreatingHandlers.{asks_creating, creating, creation_in, creation_of, creation_with, handler_created, may_create};
+ghost use Rattle.sc_play.specs.CreatingHandlers.{asks_creating, creating, creation_in, creation_of, handler_created, may_create};
 
 use crate::acts::numbers::{class_number, procedure_number};
 use crate::acts::operands::{has_actuals, last_values};
@@ -76,8 +76,19 @@ fn begin(store: &mut Store<'_>, first: Reference, creation: RemoteCreation)
     }
 }
 
-/// The creation is made, where it may be: F16 where it may not.
-fn create_by(store: &mut Store<'_>, handler: u16, creation: RemoteCreation, asked: &mut Want)
+/// A handler is created by this one, with an object of the class, by the procedure of the name or without one: F16 where
+/// there are fewer operands than the creation takes, or more than a request has room for, or where the class or the name
+/// has no number there. The creator goes on with a reference to the object, which has the creator's number until that of
+/// the new handler is told; with lock passing it waits for the answer.
+///
+/// It stays a call, as `request` does.
+#[inline(never)]
+pub fn create_handler(
+    store: &mut Store<'_>,
+    handler: u16,
+    creation: RemoteCreation,
+    asked: &mut Want,
+)
     ensures store { store.new ≡ handler_created handler creation store.old }
     ensures want { asked.new ≡ asks_creating creation (top_activation store.old.frames) }
 {
@@ -96,32 +107,4 @@ fn create_by(store: &mut Store<'_>, handler: u16, creation: RemoteCreation, aske
     };
     begin(store, first, creation);
     *asked = want;
-}
-
-/// A handler is created by this one, with an object of the class, by the procedure of the name or without one: F16 where
-/// there are fewer operands than the creation takes, or more than a request has room for, or where the class or the name
-/// has no number there. The creator goes on with a reference to the object, which has the creator's number until that of
-/// the new handler is told; with lock passing it waits for the answer.
-///
-/// It stays a call, as `request` does.
-#[inline(never)]
-pub fn create_handler(
-    store: &mut Store<'_>,
-    handler: u16,
-    class: usize,
-    procedure: Option<usize>,
-    count: usize,
-    passes: bool,
-    asked: &mut Want,
-)
-    ensures store { store.new ≡ handler_created handler (creation_with class procedure count passes) store.old }
-    ensures want { asked.new ≡ asks_creating (creation_with class procedure count passes) (top_activation store.old.frames) }
-{
-    let creation = RemoteCreation {
-        class,
-        procedure,
-        count,
-        passes,
-    };
-    create_by(store, handler, creation, asked);
 }

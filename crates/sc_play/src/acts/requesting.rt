@@ -3,7 +3,7 @@ ghost use Rattle.std.specs.Prelude.{◌≡◌, ◌<◌, ◌≤◌, IsTrue, is_so
 ghost use Rattle.sc_region.specs.declared.job.Want.TheVariants as want;
 ghost use Rattle.sc_region.specs.Frames.{activation_of, top_activation};
 ghost use Rattle.sc_region.specs.Calls.{on_top};
-ghost use Rattle.sc_play.specs.Requesting.{asks_requesting, asks_sending, asks_sent, call_of, is_waited, request_by, request_in, request_of, requested, sending};
+ghost use Rattle.sc_play.specs.Requesting.{asks_requesting, asks_sending, asks_sent, is_waited, request_by, request_in, request_of, requested, sending};
 
 use crate::acts::numbers::name_number;
 use crate::acts::operands::{add_last_values, has_call};
@@ -137,9 +137,14 @@ fn send(store: &mut Store<'_>, call: RemoteCall)
     }
 }
 
-/// The call is made, where it may be: F16 where it may not.
+/// A feature of an object of another handler is called by this one, by its name: F16 where there are fewer operands than the
+/// call takes, or more actuals than a request has room for, or the name has no number there. A query is waited for, and a
+/// call that passes locks.
+///
+/// It stays a call: each turn would clear the request, if it were made where turns are done.
+#[inline(never)]
 #[tactic(auto, using(crate::proofs::Asked::sent_some, crate::proofs::Asked::sent_none, crate::proofs::Asked::asks_none))]
-fn request_by(store: &mut Store<'_>, handler: u16, call: RemoteCall, asked: &mut Want)
+pub fn request(store: &mut Store<'_>, handler: u16, call: RemoteCall, asked: &mut Want)
     ensures store { store.new ≡ requested handler call store.old }
     ensures want { asked.new ≡ asks_requesting handler call (top_activation store.old.frames) }
 {
@@ -148,34 +153,4 @@ fn request_by(store: &mut Store<'_>, handler: u16, call: RemoteCall, asked: &mut
     } else {
         misfit(store, asked);
     }
-}
-
-/// A feature of an object of another handler is called by this one, by its name: F16 where there are fewer operands than the
-/// call takes, or more actuals than a request has room for, or the name has no number there. A query is waited for, and a
-/// call that passes locks.
-///
-/// It stays a call, which is given the parts of the remote call one by one: each turn would clear the request, and the
-/// remote call, if they were made where turns are done.
-#[inline(never)]
-pub fn request(
-    store: &mut Store<'_>,
-    handler: u16,
-    object: Reference,
-    name: usize,
-    count: usize,
-    gives: bool,
-    passes: bool,
-    asked: &mut Want,
-)
-    ensures store { store.new ≡ requested handler (call_of object name count gives passes) store.old }
-    ensures want { asked.new ≡ asks_requesting handler (call_of object name count gives passes) (top_activation store.old.frames) }
-{
-    let call = RemoteCall {
-        object,
-        name,
-        count,
-        gives,
-        passes,
-    };
-    request_by(store, handler, call, asked);
 }
