@@ -45,7 +45,7 @@ impl Core {
 
     /// Whether the job that a handler is out with frees what another one may wait to reserve.
     fn frees_out(&self, handler: u16) -> bool
-        ensures { (job : Job) → (center_of self.now).out handler ≡ Some job → result ≡ frees_under job }
+        ensures out { (job : Job) → (center_of self.now).out handler ≡ Some job → result ≡ frees_under job }
         ensures home { (center_of self.now).out handler ≡ None → result ≡ false }
     {
         match self.job_out(handler) {
