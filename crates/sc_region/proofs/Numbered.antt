@@ -5,7 +5,7 @@ use Rattle.std.specs.Prelude.{◌==◌, slice_get, slice_set, if◌then◌else�
 use Rattle.sc_region.specs.declared.value.Value.{Value}
 use Rattle.sc_region.specs.Objects.{PlainObject, object_numbered, with_slot, with_object, with_attribute}
 
-get_set_other : {A : Type 0} (xs : List A) (i j : ℕ) (v : A) → i ≢ j → slice_get (slice_set xs i v) j ≡ slice_get xs j
+pub get_set_other : {A : Type 0} (xs : List A) (i j : ℕ) (v : A) → i ≢ j → slice_get (slice_set xs i v) j ≡ slice_get xs j
 get_set_other [] i j v ne = refl
 get_set_other (x ∷ xs) zero zero v ne = absurd (ne refl)
 get_set_other (x ∷ xs) zero (suc j) v ne = refl

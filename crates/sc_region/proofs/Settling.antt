@@ -1,7 +1,7 @@
 -- What a store's calls do keeps that each settled object meets its class invariant.
 use Rattle.std.proofs.Common.{◌≡◌, ◌≢◌, ◌⊎◌, ⊎_elim, inl, inr, ℕ, zero, suc, ◌+◌, List, [], ◌∷◌, Option, Some, None, Bool, true, false, not, length, refl, sym, ap, ◌∙◌, subst, arith}
 use Rattle.std.proofs.lemmas.Bool.Decides.{nat_tests}
-use Rattle.std.specs.Prelude.{◌&&◌, ◌||◌, ◌==◌, nat_lt, Result, Ok, Err, OnOk, OnErr, if◌then◌else◌}
+use Rattle.std.specs.Prelude.{◌&&◌, ◌||◌, ◌==◌, nat_lt, slice_set, Result, Ok, Err, OnOk, OnErr, if◌then◌else◌}
 use Rattle.std.specs.Option.{is_none}
 use Rattle.sc_code.specs.Cause.{Cause}
 use Rattle.sc_code.specs.Cause.TheVariants as cause
@@ -12,7 +12,7 @@ use Rattle.sc_code.specs.declared.program.RoutineCode.{RoutineCode}
 use Rattle.sc_region.specs.declared.frame.Origin.{Origin}
 use Rattle.sc_region.specs.declared.frame.Origin.TheVariants as origin
 use Rattle.sc_region.specs.Objects.{PlainObject, object_numbered}
-use Rattle.sc_region.specs.Frames.{PlainActivation, PlainFrame, is_current}
+use Rattle.sc_region.specs.Frames.{PlainActivation, PlainFrame, is_current, top_current}
 use Rattle.sc_region.specs.Calls.{calls, in_call, last_values, on_top, top_frame, top_operands}
 use Rattle.sc_region.specs.declared.frame.Call.{Call}
 use Rattle.sc_region.specs.Classes.{routine_at, fresh_object, MeetsInvariant, object_breaks}
@@ -20,9 +20,10 @@ use Rattle.sc_region.specs.Stores.{PlainStore, max_objects, max_frames, new_stor
 use Rattle.sc_region.specs.declared.frame.Activation.{Activation}
 use Rattle.sc_region.specs.declared.state.State.{State}
 use Rattle.sc_region.specs.States.{state_of}
-use Rattle.sc_region.specs.Lending.{with_top_activation}
+use Rattle.sc_region.specs.Lending.{with_object_there, with_top_activation}
 use Rattle.sc_region.proofs.Meeting.{and_left, and_right, unbroken_meets}
-use Rattle.sc_region.proofs.Numbered.{numbered_suc, numbered_other, numbered_push}
+use Rattle.sc_region.proofs.Numbered.{get_set_other, numbered_suc, numbered_other, numbered_push}
+use Rattle.sc_region.proofs.Placed.{there_suc}
 
 -- ---- truth values
 
@@ -103,6 +104,27 @@ written_to_keeps (f ∷ below) slot v x e m = λ k o s g.
 
 pub written_keeps : (slot : ℕ) (v : Value) (x : PlainStore) → SettledObjectsMeet x → SettledObjectsMeet (written slot v x)
 written_keeps slot v x m = written_to_keeps x.frames slot v x refl m
+
+-- ---- the stack and the attributes of Current at once
+
+current_is_other : (k : ℕ) (x : PlainStore) (me : Reference) (fs : List PlainFrame) → x.frames ≡ fs → top_current fs ≡ Some me → is_settled k x ≡ true → me.number ≢ k
+current_is_other k x me [] e t s = cc
+current_is_other k x me (f ∷ below) e t s = λ same.
+    let here : f.current ≡ me = cc in
+    top_is_other k x f below e s (ap (λ (r : Reference). r.number) here ∙ same)
+
+there_other : (os : List PlainObject) (i j : ℕ) (o : PlainObject) → i ≢ j → object_numbered j (with_object_there i o os) ≡ object_numbered j os
+there_other os i zero o ne = refl
+there_other os zero (suc j) o ne = refl
+there_other os (suc i) (suc j) o ne =
+    ap (object_numbered (suc j)) (there_suc i o os) ∙ numbered_suc j (slice_set os i o)
+    ∙ get_set_other os i j o (λ e. ne (ap suc e)) ∙ sym (numbered_suc j os)
+
+pub lent_keeps : (x : PlainStore) (me : Reference) (o : PlainObject) (fs : List PlainFrame) → top_current x.frames ≡ Some me → ((number : ℕ) → is_current number fs ≡ is_current number x.frames)
+    → SettledObjectsMeet x → SettledObjectsMeet (record x { frames = fs; objects = with_object_there me.number o x.objects })
+lent_keeps x me o fs t same m = λ k p s g.
+    let before : is_settled k x ≡ true = ap (λ b. is_none x.failure && not b) (sym (same k)) ∙ s in
+    m k p before (sym (there_other x.objects me.number k o (current_is_other k x me x.frames refl t before)) ∙ g)
 
 -- ---- frames
 

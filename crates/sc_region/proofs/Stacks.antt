@@ -1,8 +1,10 @@
 -- The topmost element, which is the last of a `Vec`, comes first in the model.
-use Rattle.std.proofs.Common.{◌≡◌, ℕ, zero, suc, ◌+◌, ◌-◌, ◌<◌, ◌≤◌, List, [], ◌∷◌, ◌++◌, Option, Some, None, Bool, true, false, length, length-append, drop, get_or, refl, sym, ap, ◌∙◌, arith}
+use Rattle.std.proofs.Common.{◌≡◌, ℕ, zero, suc, ◌+◌, ◌-◌, ◌<◌, ◌≤◌, List, [], ◌∷◌, ◌++◌, Option, Some, None, Bool, true, false, length, length-append, drop, take, get_or, refl, sym, ap, ◌∙◌, arith}
 use Rattle.std.specs.Prelude.{◌||◌, ◌==◌, nat_lt, slice_get, slice_set}
 use Rattle.std.specs.Option.{option_map, option_to_list, is_some, IsSome, IfSome}
 use Rattle.std.proofs.lemmas.Option.{slice_get_past, slice_get_read}
+use Rattle.std.proofs.lemmas.List.{length-take-le, take_more_set}
+use Rattle.std.proofs.Math.Seq.{take-suc}
 use Rattle.std.proofs.lemmas.Bool.Decides.{nat_tests}
 use Rattle.std.specs.List.{list_any}
 use Rattle.sc_region.specs.declared.value.Value.{Value}
@@ -25,6 +27,18 @@ operands_last [] n default rest e = absurd (omega arith)
 operands_last (v ∷ []) zero default rest e = refl
 operands_last (v ∷ w ∷ vs) zero default rest e = absurd (omega arith)
 operands_last (v ∷ vs) (suc n) default rest e = operands_last vs n default (v ∷ rest) (omega arith)
+
+-- the first so many of a list, the last one first
+pub filled_length : (vs : List Value) (n : ℕ) → n ≤ length vs → length (operands_onto (take n vs) []) ≡ n
+filled_length vs n l = omega (arith, operands_length (take n vs) [], length-take-le n vs l)
+
+pub filled_push : (vs : List Value) (n : ℕ) (v : Value) → n < length vs → operands_onto (take (n + 1) (slice_set vs n v)) [] ≡ v ∷ operands_onto (take n vs) []
+filled_push vs n v l = ap (λ ws. operands_onto ws []) (take_more_set vs n v l) ∙ operands_push (take n vs) v []
+
+pub filled_pop : (vs : List Value) (n : ℕ) (d : Value) → n < length vs → operands_onto (take (n + 1) vs) [] ≡ get_or vs n d ∷ operands_onto (take n vs) []
+filled_pop vs n d l =
+    let next : n + 1 ≡ suc n = omega arith in
+    ap (λ k. operands_onto (take k vs) []) next ∙ ap (λ ws. operands_onto ws []) (take-suc vs n d l) ∙ operands_push (take n vs) (get_or vs n d) []
 
 -- ---- frames
 
@@ -80,6 +94,24 @@ frames_top (r ∷ []) (t ∷ ts) zero rest e l = refl
 frames_top (r ∷ q ∷ rs) (t ∷ ts) zero rest e l = absurd (omega arith)
 frames_top (r ∷ rs) (t ∷ ts) (suc n) rest e l = frames_top rs ts n (frame_with r (activation_of t) ∷ rest) (omega arith) (omega arith)
 
+-- the object that the one under it runs on is the last but one
+pub frames_below : (rs : List Reference) (ts : List Activation) (n : ℕ) (d : Reference) (rest : List PlainFrame) → length rs ≡ suc (suc n) → length rs ≤ length ts →
+    top_current (drop 1 (frames_onto rs ts rest)) ≡ Some (get_or rs n d)
+frames_below [] ts n d rest e l = absurd (omega arith)
+frames_below (r ∷ rs) [] n d rest e l = absurd (omega arith)
+frames_below (r ∷ []) (t ∷ ts) n d rest e l = absurd (omega arith)
+frames_below (r ∷ q ∷ rs) (t ∷ []) n d rest e l = absurd (omega arith)
+frames_below (r ∷ q ∷ []) (t ∷ u ∷ ts) zero d rest e l = refl
+frames_below (r ∷ q ∷ p ∷ rs) (t ∷ u ∷ ts) zero d rest e l = absurd (omega arith)
+frames_below (r ∷ q ∷ rs) (t ∷ u ∷ ts) (suc n) d rest e l = frames_below (q ∷ rs) (u ∷ ts) n d (frame_with r (activation_of t) ∷ rest) (omega arith) (omega arith)
+
+-- there is none under one
+pub none_below : (rs : List Reference) (ts : List Activation) → length rs < 2 → length rs ≤ length ts → top_current (drop 1 (frames_onto rs ts [])) ≡ None
+none_below [] ts e l = refl
+none_below (r ∷ []) [] e l = absurd (omega arith)
+none_below (r ∷ []) (t ∷ ts) e l = refl
+none_below (r ∷ q ∷ rs) ts e l = absurd (omega arith)
+
 -- its routine stands otherwise
 pub frames_set : (rs : List Reference) (ts : List Activation) (n : ℕ) (t : Activation) (rest : List PlainFrame) → length rs ≡ suc n → length rs ≤ length ts →
     frames_onto rs (slice_set ts n t) rest ≡ with_top_activation t (frames_onto rs ts rest)
@@ -118,14 +150,14 @@ popped [] (q ∷ qs) ts None e some l = let wrong : 0 ≡ suc (length (qs ++ [])
 popped (r ∷ rs) qs ts None e some l = let wrong : false ≡ true = some (omega arith) in absurd (cc)
 
 -- what is found at a place
-pub found_at : {R : Type 0} (now : R → Activation) (ts : List Activation) (n : ℕ) (o : Option R) → is_some o ≡ nat_lt n (length ts) → IfSome o (λ r. now r ≡ get_or ts n (now r)) →
-    option_map (λ r. activation_of (now r)) o ≡ option_map activation_of (slice_get ts n)
-found_at now ts n None e is =
+pub found_at : {R A B : Type 0} (f : A → B) (now : R → A) (ts : List A) (n : ℕ) (o : Option R) → is_some o ≡ nat_lt n (length ts) → IfSome o (λ r. now r ≡ get_or ts n (now r)) →
+    option_map (λ r. f (now r)) o ≡ option_map f (slice_get ts n)
+found_at f now ts n None e is =
     let past : length ts ≤ n = grind (arith, nat_tests, e) in
-    ap (option_map activation_of) (sym (slice_get_past ts n past))
-found_at now ts n (Some r) e is =
+    ap (option_map f) (sym (slice_get_past ts n past))
+found_at f now ts n (Some r) e is =
     let here : n < length ts = grind (arith, nat_tests, e) in
-    ap (option_map activation_of) (sym (slice_get_read ts (length ts) n (now r) refl here is))
+    ap (option_map f) (sym (slice_get_read ts (length ts) n (now r) refl here is))
 
 -- ---- the objects that frames run on
 

@@ -5,7 +5,7 @@ ghost use Rattle.sc_region.specs.Stores.{beginning};
 ghost use Rattle.sc_region.specs.declared.value.Value.TheVariants.{Void};
 ghost use Rattle.sc_region.specs.Frames.{activation_of};
 
-use crate::operands::{Olds, Operands, empty_for};
+use crate::operands::{Olds, Operands, add_voids, empty_for};
 use crate::value::Value;
 use arrayvec::ArrayVec;
 use sc_code::RoutineCode;
@@ -125,6 +125,7 @@ impl Activation {
     }
 
     /// The routine is in a call that takes so many operands.
+    #[inline(always)]
     pub(crate) fn suspend(&mut self, operands: usize, gives: bool)
         ensures { activation_of self.new ≡ in_call operands gives (activation_of self.old) }
     {
@@ -146,7 +147,7 @@ fn fill_slots(
     let count = actuals.len().checked_add(others).ok_or(AllocError)?;
     empty_for(slots, count)?;
     add_actuals(slots, actuals);
-    add_others(slots, others);
+    add_voids(slots, others);
     Ok(())
 }
 
@@ -158,17 +159,6 @@ fn add_actuals(slots: &mut Vec<Value>, actuals: &[Value])
 {
     for actual in actuals {
         slots.push_reserved(*actual);
-    }
-}
-
-/// So many more slots, for which there is room. They are Void.
-#[tactic(auto, using(crate::proofs::Filling::slot_more))]
-fn add_others(slots: &mut Vec<Value>, others: usize)
-    requires { vec_len slots.old + others ≤ vec_capacity slots.old }
-    ensures { slots.new.items ≡ slots.old.items ++ replicate others Void }
-{
-    for _i in 0..others {
-        slots.push_reserved(Value::Void);
     }
 }
 

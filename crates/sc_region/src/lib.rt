@@ -20,5 +20,7 @@ pub use breakdown::{Breakdown, BrokenInvariant, Point};
 pub use frame::{Activation, Call, Origin, Stage};
 pub use job::{Errand, Job, Outcome, Request, Want};
 pub use operands::{Olds, Operands};
+pub use stack::Stack;
+pub use state::MAX_FRAMES;
 pub use store::Store;
 pub use value::{Reference, Value};

@@ -60,6 +60,8 @@ impl Model for Objects {
 impl Objects {
     ghost use Rattle.std.specs.Prelude.{◌≡◌, ◌-◌, ◌++◌, [], ◌∷◌, OnOk, OnErr, length, take};
     ghost use Rattle.std.specs.Option.{option_map};
+    ghost use Rattle.std.specs.Borrow.{sem};
+    ghost use Rattle.sc_region.specs.Lending.{LendsObject};
     ghost use Rattle.sc_region.specs.Objects.{PlainObject, object_of, object_numbered, attribute_of, with_attribute};
 
     pub fn new(alloc: Global) -> Objects
@@ -100,6 +102,15 @@ impl Objects {
             return None;
         }
         self.items.get(number - 1)
+    }
+
+    /// The object of the number, to be changed.
+    pub fn get_mut(&mut self, number: usize) -> Option<&mut Object>
+        ensures* writes_back { sem 𝓛 (LendsObject self.entry number result) }
+        ensures value { option_map (λ object. object_of object.now) result ≡ object_numbered number self.old }
+    {
+        let place = number.wrapping_sub(1);
+        self.items.get_mut(place)
     }
 
     /// The class of the object of the number.

@@ -1,5 +1,6 @@
 //! The operands of a routine, and the values that its postcondition keeps from before the body.
-ghost use Rattle.std.specs.Prelude.{◌≡◌, ◌<◌, ◌≤◌, [], ◌∷◌, ◌++◌, ◌↔◌, OnOk, IfSome, IfNone, IsTrue, length, slice_get, vec_capacity};
+ghost use Rattle.std.specs.Prelude.{◌≡◌, ◌<◌, ◌≤◌, ◌+◌, [], ◌∷◌, ◌++◌, ◌↔◌, OnOk, IfSome, IfNone, IsTrue, length, replicate, slice_get, vec_capacity, vec_len};
+ghost use Rattle.sc_region.specs.declared.value.Value.TheVariants.{Void};
 ghost use Rattle.sc_region.specs.OperandList.{last};
 
 mod reach;
@@ -12,22 +13,24 @@ use std::marker::Model;
 #[derive(Drop)]
 pub struct Operands {
     depth: usize,
-    /// The last operand is the last of the `Vec`.
+    /// How many there are.
+    count: usize,
+    /// They come first, the last one last. What stands behind them is left of others.
     items: Vec<Value>,
 }
 
 impl Model for Operands {
-    ghost use Rattle.std.specs.Prelude.{[], ◌≤◌, vec_capacity, length};
+    ghost use Rattle.std.specs.Prelude.{[], ◌≤◌, length, take};
     ghost use Rattle.sc_region.specs.OperandList.{OperandList, operands_onto};
 
     ghost Value = { OperandList };
 
-    ghost view = { λ o. record { depth = o.depth; values = operands_onto o.items.items [] } };
+    ghost view = { λ o. record { depth = o.depth; values = operands_onto (take o.count o.items.items) [] } };
 
-    ghost invariant = { λ o. (length o.items.items ≤ o.depth) × (o.depth ≤ vec_capacity o.items) };
+    ghost invariant = { λ o. (o.count ≤ o.depth) × (o.depth ≤ length o.items.items) };
 }
 
-#[tactic(auto, using(crate::proofs::Stacks::operands_push, crate::proofs::Stacks::operands_length))]
+#[tactic(auto, using(crate::proofs::Stacks::filled_length, crate::proofs::Stacks::filled_push, crate::proofs::Stacks::filled_pop))]
 impl Operands {
     /// No operands, and no room for any.
     pub(crate) fn empty(alloc: Global) -> Operands
@@ -35,6 +38,7 @@ impl Operands {
     {
         Operands {
             depth: 0,
+            count: 0,
             items: Vec::new(alloc),
         }
     }
@@ -43,46 +47,83 @@ impl Operands {
     pub(crate) fn reset(&mut self, depth: usize) -> Result<(), AllocError>
         ensures { OnOk result (self.new ≡ record { depth = depth; values = [] }) }
     {
-        empty_for(&mut self.items, depth)?;
+        if self.items.len() < depth {
+            fill(&mut self.items, depth)?;
+        }
         self.depth = depth;
+        self.count = 0;
         Ok(())
     }
 
     /// Whether there is no room for one more.
+    #[inline(always)]
     pub fn is_full(&self) -> bool
         ensures { IsTrue result ↔ (self.now.depth ≤ length self.now.values) }
     {
-        self.items.len() >= self.depth
+        self.count >= self.depth
     }
 
     /// One more operand, which takes no memory.
+    #[inline(always)]
     pub fn push(&mut self, value: Value)
         requires { length self.old.values < self.old.depth }
         ensures { self.new ≡ record self.old { values = value ∷ self.old.values } }
     {
-        self.items.push_reserved(value)
+        self.items[self.count] = value;
+        self.count += 1;
     }
 
     /// The last operand goes, if there is one.
+    #[inline(always)]
     pub fn pop(&mut self) -> Option<Value>
         ensures depth { self.new.depth ≡ self.old.depth }
         ensures room { IfSome result (λ value. length self.new.values < self.new.depth) }
         ensures some { IfSome result (λ value. self.old.values ≡ value ∷ self.new.values) }
         ensures none { IfNone result ((self.old.values ≡ []) × (self.new.values ≡ [])) }
     {
-        self.items.pop()
+        if self.count == 0 {
+            None
+        } else {
+            self.count -= 1;
+            Some(self.items[self.count])
+        }
     }
 
     /// The last operand.
+    #[inline(always)]
     pub fn last(&self) -> Option<Value>
         ensures { result ≡ last self.now.values }
     {
-        let count = self.items.len();
-        if count == 0 {
+        if self.count == 0 {
             None
         } else {
-            Some(self.items[count - 1])
+            Some(self.items[self.count - 1])
         }
+    }
+}
+
+/// Room for so many values, each of which is there. Err where there is no memory for them. (A call of its own: it is seldom
+/// made, since the memory stays from one routine to the next.)
+#[inline(never)]
+fn fill(items: &mut Vec<Value>, count: usize) -> Result<(), AllocError>
+    requires { vec_len items.old ≤ count }
+    ensures filled { OnOk result (count ≤ vec_len items.new) }
+    ensures longer { vec_len items.old ≤ vec_len items.new }
+{
+    let more = count - items.len();
+    items.reserve(more)?;
+    add_voids(items, more);
+    Ok(())
+}
+
+/// So many more values, for which there is room. They are Void.
+#[tactic(auto, using(crate::proofs::Filling::slot_more))]
+pub(crate) fn add_voids(items: &mut Vec<Value>, count: usize)
+    requires { vec_len items.old + count ≤ vec_capacity items.old }
+    ensures { items.new.items ≡ items.old.items ++ replicate count Void }
+{
+    for _i in 0..count {
+        items.push_reserved(Value::Void);
     }
 }
 
@@ -126,6 +167,7 @@ impl Olds {
     }
 
     /// Whether there is no room for one more.
+    #[inline(always)]
     pub fn is_full(&self) -> bool
         ensures { IsTrue result ↔ (self.now.room ≤ length self.now.values) }
     {
@@ -133,6 +175,7 @@ impl Olds {
     }
 
     /// One more value, which takes no memory.
+    #[inline(always)]
     pub fn push(&mut self, value: Value)
         requires { length self.old.values < self.old.room }
         ensures { self.new ≡ record self.old { values = self.old.values ++ value ∷ [] } }

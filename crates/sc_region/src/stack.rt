@@ -49,6 +49,7 @@ impl Stack {
     }
 
     /// How many frames there are.
+    #[inline(always)]
     pub fn height(&self) -> usize
         ensures { result ≡ length self.now }
     {
@@ -75,6 +76,7 @@ impl Stack {
     }
 
     /// The topmost routine calls one on an object. Err where there is no memory; nothing has changed then.
+    #[inline(always)]
     pub fn call(
         &mut self,
         alloc: Global,
@@ -99,6 +101,7 @@ impl Stack {
     }
 
     /// The topmost frame goes, if there is one: the object that it ran on.
+    #[inline(always)]
     pub fn pop(&mut self) -> Option<Reference>
         ensures current { result ≡ top_current self.old }
         ensures below { self.new ≡ drop 1 self.old }
@@ -121,13 +124,28 @@ impl Stack {
     }
 
     /// The object that the topmost frame runs on, if there is one.
+    #[inline(always)]
     pub fn current(&self) -> Option<Reference>
         ensures { result ≡ top_current self.now }
     {
         self.currents.last().copied()
     }
 
+    /// The object that the frame under the topmost one runs on, if there is one.
+    #[inline(always)]
+    pub fn below(&self) -> Option<Reference>
+        ensures { result ≡ top_current (drop 1 self.now) }
+    {
+        let height = self.currents.len();
+        if height < 2 {
+            None
+        } else {
+            Some(self.currents[height - 2])
+        }
+    }
+
     /// Where the routine of the topmost frame stands, if there is one.
+    #[inline(always)]
     pub fn top(&self) -> Option<&Activation>
         ensures { option_map (λ activation. activation_of activation.now) result ≡ top_activation self.now }
     {
@@ -135,6 +153,7 @@ impl Stack {
     }
 
     /// The same, to be changed.
+    #[inline(always)]
     pub fn top_mut(&mut self) -> Option<&mut Activation>
         ensures* writes_back { sem 𝓛 (LendsTopOfStack self.entry result) }
         ensures value { option_map (λ activation. activation_of activation.now) result ≡ top_activation self.old }
@@ -150,6 +169,7 @@ impl Stack {
 }
 
 /// The place above the topmost frame, where there is room for one more, and an object too. Err where there is no memory.
+#[inline(always)]
 fn place_above(
     currents: &mut Vec<Reference>,
     activations: &mut Vec<Activation>,

@@ -23,7 +23,7 @@ use std::alloc::{AllocError, Global};
 const MAX_OBJECTS: usize = 65_536;
 
 /// The most frames of a handler.
-const MAX_FRAMES: usize = 1024;
+pub const MAX_FRAMES: usize = 1024;
 
 /// The objects, frames and output of a handler, and its failure.
 #[derive(Drop)]

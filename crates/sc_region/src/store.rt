@@ -1,5 +1,5 @@
 //! The store of a handler.
-ghost use Rattle.std.specs.Prelude.{◌≡◌, ◌<◌, ◌≤◌, ◌↔◌, ◌&&◌, OnOk, OnErr, IsTrue, is_some, length};
+ghost use Rattle.std.specs.Prelude.{◌≡◌, ◌<◌, ◌≤◌, ◌↔◌, ◌&&◌, IfNone, IfSome, OnOk, OnErr, IsTrue, is_some, length};
 ghost use Rattle.sc_region.specs.Calls.{calls, top_operands};
 ghost use Rattle.sc_region.specs.Objects.{PlainObject, object_numbered, attribute_of};
 ghost use Rattle.sc_region.specs.Classes.{MeetsAt};
@@ -20,7 +20,7 @@ use std::marker::Model;
 ///
 /// Each settled object meets its class invariant: one that no frame has as Current, as long as the store hasn't ended in
 /// a failure. There may be 65,536 objects and 1,024 frames. An object takes 32 bytes and 16 for each attribute; a frame
-/// takes 212 bytes, 16 for each slot, for each `old` and for each operand that its routine may have at once, and 40 for
+/// takes 220 bytes, 16 for each slot, for each `old` and for each operand that its routine may have at once, and 40 for
 /// each separate block. A frame stands where it began until its routine exits, so that a call moves nothing but its
 /// actuals; what it took serves later ones, so that calls take no memory once the stack has been as high.
 #[derive(Drop)]
@@ -49,7 +49,7 @@ impl<'p> Store<'p> {
     ghost use Rattle.std.specs.Option.{option_map};
     ghost use Rattle.std.specs.Borrow.{sem};
     ghost use Rattle.sc_region.specs.Frames.{activation_of, top_current, top_activation};
-    ghost use Rattle.sc_region.specs.Lending.{LendsTop};
+    ghost use Rattle.sc_region.specs.Lending.{KeepsCurrents, LendsTop, Ran};
 
     /// A store of a program, with no objects and no frames. What grows later takes its memory from this allocator.
     pub fn new(alloc: Global, program: &'p Program) -> Store<'p>
@@ -73,6 +73,11 @@ impl<'p> Store<'p> {
         ensures { result.now.image ≡ self.now.program }
     {
         self.state.program
+    }
+
+    /// The allocator that what grows takes its memory from.
+    pub fn alloc(&self) -> Global {
+        self.state.alloc
     }
 
     /// The number of the class of an object, or None where there is no object. It takes constant time.
@@ -247,6 +252,21 @@ impl<'p> Store<'p> {
         ensures value { option_map (λ activation. activation_of activation.now) result ≡ top_activation self.old.frames }
     {
         self.state.stack.top_mut()
+    }
+
+    /// The stack and the attributes of Current are lent at once, where there is a frame and Current is there: what the
+    /// function gives, which changes no object that a frame has as Current for another.
+    #[inline(always)]
+    pub fn with_current<R, F: FnOnce(&mut Stack, &mut [Value]) -> R>(&mut self, run: F) -> Option<R>
+        requires callable { F.IsAlwaysCallable run }
+        requires keeps { KeepsCurrents F.FnOnce run self.old }
+        ensures some { IfSome result (λ r. Ran F.FnOnce run self.old r self.new) }
+        ensures none { IfNone result (self.new ≡ self.old) }
+    {
+        let state = &mut self.state;
+        let current = state.stack.current()?;
+        let object = state.objects.get_mut(current.number as usize)?;
+        Some(run(&mut state.stack, &mut object.attributes))
     }
 
     /// What was printed.

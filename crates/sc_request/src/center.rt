@@ -98,7 +98,7 @@ impl Core {
     }
 
     /// Whether a handler has something to do and isn't out.
-    pub fn has_job(&self, handler: u16) -> bool
+    pub(crate) fn has_job(&self, handler: u16) -> bool
         ensures { result ≡ is_some (logs.pick_for handler (center_of self.now)) }
     {
         self.state.has_job(handler)

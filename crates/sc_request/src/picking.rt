@@ -30,8 +30,8 @@ impl Core {
     }
 
     /// Whether a handler that is out is the next one again, as long as its turns ask nothing: no other one has anything
-    /// to do, and its job frees nothing that one waits to reserve. Of one that isn't out, whether no other one has
-    /// anything to do.
+    /// to do, and its job frees nothing that one waits to reserve. Of one that isn't out, whether nobody has anything
+    /// to do.
     pub fn comes_again(&mut self, handler: u16) -> bool
         ensures again { (job : Job) → (center_of self.old).out handler ≡ Some job → result ≡ comes_again job (center_of self.old) }
         ensures home { (center_of self.old).out handler ≡ None → result ≡ not (is_some (next (center_of self.old))) }

@@ -1,52 +1,83 @@
 //! What lies deeper among the operands, and an `old` more than there was room for.
 ghost use Rattle.std.specs.Prelude.{◌≡◌, ◌≤◌, ◌++◌, [], ◌∷◌, OnOk, OnErr, length, drop, nat_lt, slice_get};
 ghost use Rattle.sc_region.specs.Calls.{last_values};
+ghost use Rattle.sc_region.specs.OperandList.{last_integers};
 
 use super::{Olds, Operands};
 use crate::value::Value;
 use std::alloc::AllocError;
 
-#[tactic(auto, using(crate::proofs::Stacks::operands_length))]
+#[tactic(auto, using(crate::proofs::Stacks::filled_length))]
 impl Operands {
+    /// The last two operands, where both are integers, the last one second.
+    #[inline(always)]
+    pub fn integers(&self) -> Option<(i64, i64)>
+        ensures { result ≡ last_integers self.now.values }
+    {
+        match self.under(1) {
+            Some(Value::Integer(left)) => match self.last() {
+                Some(Value::Integer(right)) => Some((left, right)),
+                _ => None,
+            },
+            _ => None,
+        }
+    }
+
+    /// The value comes in the place of the last so many operands, of which there is one at least.
+    #[inline(always)]
+    pub fn replace(&mut self, count: usize, value: Value)
+        requires some { 1 ≤ count }
+        requires many { count ≤ length self.old.values }
+        ensures { self.new ≡ record self.old { values = value ∷ drop count self.old.values } }
+    {
+        let left = self.count - count;
+        self.items[left] = value;
+        self.count = left + 1;
+    }
+
     /// How many operands there are.
+    #[inline(always)]
     pub fn len(&self) -> usize
         ensures { result ≡ length self.now.values }
     {
-        self.items.len()
+        self.count
     }
 
     /// The operand under the last so many.
+    #[inline(always)]
     pub fn under(&self, count: usize) -> Option<Value>
         ensures { result ≡ slice_get self.now.values count }
     {
-        if count < self.items.len() {
-            Some(self.items[self.items.len() - 1 - count])
+        if count < self.count {
+            Some(self.items[self.count - 1 - count])
         } else {
             None
         }
     }
 
     /// The last so many operands, in the order of the text.
+    #[inline(always)]
     pub(crate) fn last_values(&self, count: usize) -> &[Value]
         requires { count ≤ length self.now.values }
         ensures { result.now ≡ last_values count self.now.values }
     {
-        &self.items[self.items.len() - count..]
+        &self.items[self.count - count..self.count]
     }
 
     /// Whether there is room for one more where the last so many are gone.
+    #[inline(always)]
     pub fn has_room_under(&self, count: usize) -> bool
         ensures { result ≡ nat_lt (length (drop count self.now.values)) self.now.depth }
     {
-        self.items.len().saturating_sub(count) < self.depth
+        self.count.saturating_sub(count) < self.depth
     }
 
     /// The last so many operands go.
+    #[inline(always)]
     pub fn drop_last(&mut self, count: usize)
         ensures { self.new ≡ record self.old { values = drop count self.old.values } }
     {
-        let left = self.items.len().saturating_sub(count);
-        self.items.truncate(left);
+        self.count = self.count.saturating_sub(count);
     }
 }
 

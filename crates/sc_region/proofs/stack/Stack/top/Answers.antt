@@ -14,6 +14,6 @@ returns c =
     let n : ℕ = (c.len.result + 18446744073709551615) % 18446744073709551616 in
     let none : length rs ≡ 0 → length ts ≤ n = λ e. omega (arith, c.len.ensures, s.currents.ok.0, s.activations.ok, s.activations.small) in
     let some : 0 < length rs → length rs ≡ n + 1 = λ l. omega (arith, c.len.ensures, c.len.type_inv, s.currents.ok.0) in
-    found_at (λ (a : Bor Activation). a.now) c.deref.result.now n c.get.result c.get.ensures.lookup.0 c.get.ensures.lookup.1
+    found_at activation_of (λ (a : Bor Activation). a.now) c.deref.result.now n c.get.result c.get.ensures.lookup.0 c.get.ensures.lookup.1
     ∙ ap (λ (l : List Activation). option_map activation_of (slice_get l n)) c.deref.ensures.value
     ∙ top_at rs ts n c.self.invariant none some ∙ ap top_activation c.self.view_is

@@ -2,7 +2,7 @@ use Rattle.std.proofs.Common.{◌≡◌, ◌+◌, ◌%◌, ◌<◌, ◌≤◌, �
 use Rattle.std.specs.Option.{ghost_name_of}
 use borrow.Follows.Closed.{read_of}
 use Rattle.sc_region.specs.declared.frame.Activation.{Activation}
-use Rattle.sc_region.specs.Frames.{frames_onto}
+use Rattle.sc_region.specs.Frames.{activation_of, frames_onto}
 use Rattle.sc_region.proofs.Stacks.{top_at, set_at, found_at}
 use Rattle.sc_region.proofs.stack.Stack.top_mut.Goals as goal
 
@@ -19,7 +19,7 @@ returns c =
       record {
         writes_back = tt;
         value =
-            found_at (λ (a : MutBor Activation). a.now) ts n c.get_mut.result c.get_mut.ensures.item.0 c.get_mut.ensures.item.1
+            found_at activation_of (λ (a : MutBor Activation). a.now) ts n c.get_mut.result c.get_mut.ensures.item.0 c.get_mut.ensures.item.1
             ∙ top_at rs ts n c.self.invariant none some;
       },
     )
