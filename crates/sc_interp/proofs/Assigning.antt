@@ -62,7 +62,7 @@ remains_written x m v w a ta k = remains_written_if x m v (with_top x w) (remain
 
 -- ---- the assignment
 
-first_of : (vs : List code.Value) (v : code.Value) → slice_get vs 0 ≡ Some v → vs ≡ v ∷ drop 1 vs
+pub first_of : (vs : List code.Value) (v : code.Value) → slice_get vs 0 ≡ Some v → vs ≡ v ∷ drop 1 vs
 first_of [] v e = none_some v e
 first_of (u ∷ us) v e = ap (λ w. w ∷ us) (some_same u v e)
 

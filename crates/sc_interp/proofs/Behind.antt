@@ -1,7 +1,7 @@
 -- Where a routine stands behind a visible operation.
 use Rattle.std.proofs.Common.{◌≡◌, ℕ, ◌+◌, ◌<◌, ◌≤◌, List, drop, sym, ap, ◌∙◌, arith}
 use Rattle.std.proofs.Math.Nat.{min-eq_left}
-use Rattle.sc_code.specs.Machine.{Act, State, Does, does}
+use Rattle.sc_code.specs.Machine.{Act, Does, does}
 use Rattle.sc_model.specs.Objects.{Object}
 use Rattle.sc_region.specs.Frames.{PlainActivation}
 use Rattle.sc_interp.specs.Standing.{state_of, without}

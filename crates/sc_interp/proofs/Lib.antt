@@ -20,4 +20,14 @@ pub mod Serving
 pub mod RegionOpening
 pub mod RegionSame
 pub mod RegionPlays
+pub mod Onward
+pub mod Staying
+pub mod Shown
+pub mod Here
+pub mod GoingHere
+pub mod Turned
+pub mod Joining
+pub mod Rounding
+pub mod Switching
+pub mod OneObject
 mod RegionRows

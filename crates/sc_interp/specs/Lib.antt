@@ -15,3 +15,5 @@ pub mod Laws
 pub mod RegionTurns
 pub mod RegionHalves
 pub mod RegionSteps
+pub mod Running
+pub mod Joining

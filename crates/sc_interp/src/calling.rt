@@ -31,7 +31,7 @@ fn has_procedure(pool: &ConstantPool, procedure: Option<usize>) -> bool
 }
 
 /// The call's site of the number, where it and its name are there.
-fn call_at(program: &Program, number: usize) -> Option<CallSite>
+pub fn call_at(program: &Program, number: usize) -> Option<CallSite>
     ensures site { let pool = pool_of program.now.image.pool in
         option_map (call_in pool) result ≡ option_and_then (call_of pool) (slice_get pool.calls number) }
     ensures there { IfSome result (λ site. IsCallIn program.now.image site) }

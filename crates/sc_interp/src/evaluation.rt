@@ -6,7 +6,7 @@ ghost use Rattle.sc_model.specs.Expressions.{decided_by, is_same_object};
 ghost use Rattle.sc_code.specs.Machine as flat;
 ghost use Rattle.sc_interp.specs.Values.{value_of, reference_of, evaluated};
 
-use sc_formula::{ArithmeticFault, ArithmeticOperator, Comparison, Connective, arithmetic};
+use sc_formula::{ArithmeticFault, Connective, arithmetic};
 use sc_model::Cause;
 use sc_region::{Reference, Value};
 use sc_tree::{BinaryOperator, UnaryOperator};
@@ -37,6 +37,7 @@ pub fn found(value: Option<Value>) -> Result<Value, Cause>
     value.ok_or(Cause::BadCode)
 }
 
+#[inline(always)]
 fn outcome(found: Result<i64, ArithmeticFault>) -> Result<Value, Cause>
     ensures { evaluated result ≡ flat.outcome found }
 {
@@ -56,35 +57,6 @@ pub fn unary_value(operator: UnaryOperator, operand: Value) -> Result<Value, Cau
         (UnaryOperator::Plus, Value::Integer(value)) => Ok(Value::Integer(value)),
         (UnaryOperator::Minus, Value::Integer(value)) => outcome(arithmetic::opposite(value)),
         _ => Err(Cause::BadCode),
-    }
-}
-
-/// The operator on two integers that gives an integer, if it is one.
-fn arithmetic_of(operator: BinaryOperator) -> Option<ArithmeticOperator>
-    ensures { result ≡ operators.arithmetic_of operator }
-{
-    match operator {
-        BinaryOperator::Times => Some(ArithmeticOperator::Times),
-        BinaryOperator::Quotient => Some(ArithmeticOperator::Quotient),
-        BinaryOperator::Remainder => Some(ArithmeticOperator::Remainder),
-        BinaryOperator::Plus => Some(ArithmeticOperator::Plus),
-        BinaryOperator::Minus => Some(ArithmeticOperator::Minus),
-        _ => None,
-    }
-}
-
-/// The operator on two integers that gives a truth value, if it is one.
-fn comparison_of(operator: BinaryOperator) -> Option<Comparison>
-    ensures { result ≡ operators.comparison_of operator }
-{
-    match operator {
-        BinaryOperator::Equal => Some(Comparison::Equal),
-        BinaryOperator::NotEqual => Some(Comparison::NotEqual),
-        BinaryOperator::Less => Some(Comparison::Less),
-        BinaryOperator::Greater => Some(Comparison::Greater),
-        BinaryOperator::LessEqual => Some(Comparison::LessOrEqual),
-        BinaryOperator::GreaterEqual => Some(Comparison::GreaterOrEqual),
-        _ => None,
     }
 }
 
@@ -131,15 +103,25 @@ fn truth(found: Option<bool>) -> Result<Value, Cause>
     }
 }
 
-fn of_integers(operator: BinaryOperator, left: i64, right: i64) -> Result<Value, Cause>
+/// What a binary operator gives of two integers: F16 where it takes none. (One choice over the operator, in place: it is done most
+/// often.)
+#[inline(always)]
+pub fn of_integers(operator: BinaryOperator, left: i64, right: i64) -> Result<Value, Cause>
     ensures { evaluated result ≡ flat.of_integers (operators.arithmetic_of operator) (operators.comparison_of operator) left right }
 {
-    match arithmetic_of(operator) {
-        Some(arithmetic) => outcome(arithmetic.apply(left, right)),
-        None => match comparison_of(operator) {
-            Some(comparison) => Ok(Value::Boolean(comparison.holds(left, right))),
-            None => Err(Cause::BadCode),
-        },
+    match operator {
+        BinaryOperator::Times => outcome(arithmetic::product(left, right)),
+        BinaryOperator::Quotient => outcome(arithmetic::quotient(left, right)),
+        BinaryOperator::Remainder => outcome(arithmetic::remainder(left, right)),
+        BinaryOperator::Plus => outcome(arithmetic::sum(left, right)),
+        BinaryOperator::Minus => outcome(arithmetic::difference(left, right)),
+        BinaryOperator::Equal => Ok(Value::Boolean(left == right)),
+        BinaryOperator::NotEqual => Ok(Value::Boolean(left != right)),
+        BinaryOperator::Less => Ok(Value::Boolean(left < right)),
+        BinaryOperator::Greater => Ok(Value::Boolean(left > right)),
+        BinaryOperator::LessEqual => Ok(Value::Boolean(left <= right)),
+        BinaryOperator::GreaterEqual => Ok(Value::Boolean(left >= right)),
+        _ => Err(Cause::BadCode),
     }
 }
 

@@ -115,7 +115,7 @@ fn top_code<'p>(store: &Store<'p>) -> Option<&'p RoutineCode>
 }
 
 /// How many operations a code has.
-fn operation_count(code: &RoutineCode) -> usize
+pub fn operation_count(code: &RoutineCode) -> usize
     ensures count { result ≡ length code.now.operations.items }
     ensures few { result < 18446744073709551615 }
 {
@@ -123,7 +123,7 @@ fn operation_count(code: &RoutineCode) -> usize
 }
 
 /// The operation at the place of a code.
-fn operation_at(code: &RoutineCode, place: usize) -> Option<Operation>
+pub fn operation_at(code: &RoutineCode, place: usize) -> Option<Operation>
     ensures { result ≡ slice_get code.now.operations.items place }
 {
     code.operations.get(place).copied()

@@ -1,14 +1,18 @@
 //! Operations that pass on in the code: in place, on the activation.
-ghost use Rattle.std.specs.Prelude.{◌<◌, ◌∷◌, drop, length};
+ghost use Rattle.std.specs.Prelude.{◌≡◌, ◌<◌, ◌+◌, ◌∷◌, ◌↔◌, IsTrue, drop, false, length};
 ghost use Rattle.sc_code.specs.Machine as flat;
-ghost use Rattle.sc_region.specs.Frames.{activation_of};
+ghost use Rattle.sc_region.specs.Frames.{PlainActivation, activation_of};
 ghost use Rattle.sc_interp.specs.Values.{value_of, evaluated};
+ghost use Rattle.sc_interp.specs.declared.act.Hop.TheVariants.{Passed};
+ghost use Rattle.sc_interp.specs.Joining.{GoesOnTo};
+ghost use Rattle.sc_interp.specs.Running.{at};
 ghost use Rattle.sc_interp.specs.Standing.{Passes, Stays, stepped};
 
 use sc_model::Cause;
-use sc_region::{Activation, Value};
+use sc_region::{Activation, Operands, Value};
 
 /// On past so many operations behind this one; F16 where the code, of `count` operations, has none there.
+#[inline(always)]
 pub fn skip(activation: &mut Activation, count: usize, passed: usize) -> Result<(), Cause>
     ensures passes { Passes count (λ c f. flat.skips c passed f) (stepped result) (activation_of activation.old) (activation_of activation.new) }
     ensures stays { Stays (activation_of activation.old) (activation_of activation.new) }
@@ -23,6 +27,7 @@ pub fn skip(activation: &mut Activation, count: usize, passed: usize) -> Result<
 }
 
 /// One more operand, and on; F16 where there is no room.
+#[inline(always)]
 pub fn push(activation: &mut Activation, count: usize, value: Value) -> Result<(), Cause>
     ensures passes { Passes count (λ c f. flat.push c (value_of value) f) (stepped result) (activation_of activation.old) (activation_of activation.new) }
     ensures stays { Stays (activation_of activation.old) (activation_of activation.new) }
@@ -34,7 +39,33 @@ pub fn push(activation: &mut Activation, count: usize, value: Value) -> Result<(
     skip(activation, count, 0)
 }
 
+/// Whether a code of `count` operations has one behind this place.
+#[inline(always)]
+pub fn has_next(place: usize, count: usize) -> bool
+    ensures { IsTrue result ↔ (place + 1 < count) }
+{
+    place < count && place + 1 < count
+}
+
+/// One more operand, and on from this place, where there is room and an operation behind it: whether it is so. Where it isn't
+/// nothing has changed.
+#[inline(always)]
+pub fn push_pass(operands: &mut Operands, place: &mut usize, count: usize, value: Value) -> bool
+    ensures passes { IsTrue result → (a : PlainActivation) → Passes count (λ c f. flat.push c (value_of value) f) Passed (at place.old operands.old a) (at place.new operands.new a) }
+    ensures on { IsTrue result → GoesOnTo count place.old place.new }
+    ensures none { result ≡ false → (place.new ≡ place.old) × (operands.new ≡ operands.old) }
+    ensures depth { operands.new.depth ≡ operands.old.depth }
+{
+    if operands.is_full() || !has_next(*place, count) {
+        return false;
+    }
+    operands.push(value);
+    *place += 1;
+    true
+}
+
 /// The value of an evaluation is one more operand, or the evaluation fails.
+#[inline(always)]
 pub fn push_found(
     activation: &mut Activation,
     count: usize,

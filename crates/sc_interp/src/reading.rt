@@ -29,6 +29,7 @@ pub fn push_result(
 }
 
 /// The value in a slot.
+#[inline(always)]
 fn value_at(slots: &[Value], slot: usize) -> Option<Value>
     ensures { result ≡ slice_get slots.now slot }
 {

@@ -1,5 +1,7 @@
 //! Visible operations: what they name is told, and the routine stays as it is.
-ghost use Rattle.std.specs.Prelude.{ℕ};
+ghost use Rattle.std.specs.Prelude.{ℕ, IfSome};
+ghost use Rattle.sc_interp.specs.declared.act.Act.TheVariants as act;
+ghost use Rattle.sc_interp.specs.declared.act.Hop.TheVariants as outcome;
 ghost use Rattle.sc_code.specs.declared.operation.Operation.TheVariants as coded;
 ghost use Rattle.sc_code.specs.declared.program.Image.{Image};
 ghost use Rattle.sc_region.specs.declared.value.Reference as code;
@@ -86,5 +88,17 @@ pub fn demand(program: &Program, activation: &mut Activation, count: usize, numb
         demand_on(activation, count, number)
     } else {
         Hop::Failed(Cause::BadCode)
+    }
+}
+
+/// What the `until` comes to whose value is the last operand, where that is a truth value: the loop ends, or so many
+/// operations come again.
+pub fn until(activation: &Activation, back: usize) -> Option<Option<usize>>
+    ensures hops { IfSome result (λ next. (count : ℕ) → Hops count (flat.EndLoop back) (outcome.Comes (act.Test next)) (activation_of activation.now) (activation_of activation.now)) }
+    ensures told { IfSome result (λ next. (p : Image) → Tells p (outcome.Comes (act.Test next)) (activation_of activation.now)) }
+{
+    match activation.operands.last() {
+        Some(Value::Boolean(ends)) => Some(if ends { None } else { Some(back) }),
+        _ => None,
     }
 }

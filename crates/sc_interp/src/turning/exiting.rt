@@ -24,7 +24,7 @@ pub fn copy_handlers(handlers: &ArrayVec<u16, 16>) -> ArrayVec<u16, 16>
 }
 
 /// Whether the Result is of an attached type, and still Void.
-fn is_unset(program: &Program, activation: &Activation) -> bool
+pub fn is_unset(program: &Program, activation: &Activation) -> bool
     ensures { result ≡ is_unset program.now.image (activation_of activation.now) }
 {
     match activation.result {
@@ -59,7 +59,7 @@ fn may_end(store: &Store<'_>, origin: Origin, object: u32) -> bool
 }
 
 /// A routine that is in a call goes on, with the value, where the call gives one and there is one.
-fn hand_to(activation: &mut Activation, value: Option<Value>)
+pub fn hand_to(activation: &mut Activation, value: Option<Value>)
     ensures { activation_of activation.new ≡ handed value (activation_of activation.old) }
 {
     if let Stage::InCall { gives } = activation.stage {

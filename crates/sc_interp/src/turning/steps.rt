@@ -52,15 +52,22 @@ pub fn start(store: &mut Store<'_>)
     pass(store, 0);
 }
 
-/// An `until` was evaluated: the loop ends, or its body comes again, so many operations back. Nothing is asked.
+/// An `until` was evaluated: the loop ends, or its body comes again, so many operations back.
+pub fn end_round_on(activation: &mut Activation, back: Option<usize>)
+    ensures { activation_of activation.new ≡ round_ended back (activation_of activation.old) }
+{
+    match back {
+        None => go_past(activation, 1),
+        Some(count) => go_back(activation, count),
+    }
+}
+
+/// The same of the topmost routine. Nothing is asked.
 pub fn end_round(store: &mut Store<'_>, back: Option<usize>)
     ensures { store.new ≡ on_top (round_ended back) store.old }
 {
     match store.top_mut() {
-        Some(activation) => match back {
-            None => go_past(activation, 1),
-            Some(count) => go_back(activation, count),
-        },
+        Some(activation) => end_round_on(activation, back),
         None => (),
     }
 }
