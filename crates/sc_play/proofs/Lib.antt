@@ -9,3 +9,4 @@ pub mod Making
 pub mod Playing
 pub mod Programs
 pub mod Slots
+pub mod OneObject

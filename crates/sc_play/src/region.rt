@@ -1,11 +1,14 @@
 //! Regions.
 ghost use Rattle.std.specs.Prelude.{◌≡◌, ◌<◌, ◌≤◌, ◌↔◌, IfOk, OnErr, IsTrue};
 ghost use Rattle.sc_region.specs.declared.job.Want.TheVariants as want;
+ghost use Rattle.sc_region.specs.Stores.{failed};
 ghost use Rattle.sc_play.specs.Regions.{PlaysOn, PlaysUnder};
 ghost use Rattle.sc_play.specs.Turns.{IsAhead, begun};
 
 use crate::turn::{first_turn, turn};
 use sc_code::Program;
+use sc_interp::run_current;
+use sc_model::Cause;
 use sc_region::{Breakdown, Job, Outcome, Store, Want};
 use std::alloc::{AllocError, Global};
 use std::marker::Model;
@@ -39,6 +42,15 @@ fn is_continue(asked: &Want) -> bool
     matches!(asked, Want::Continue)
 }
 
+/// The handler fails.
+fn fail(store: &mut Store<'_>, why: Cause, asked: &mut Want)
+    ensures store { store.new ≡ failed why store.old }
+    ensures want { asked.new ≡ want.Fail why }
+{
+    store.fail(why);
+    *asked = Want::Fail(why);
+}
+
 /// Further turns, as long as nothing is asked and fewer than `limit` are made: how many turns are made then, with those
 /// that were `made` already, the last of which asked what was `asked`, which is now what the last of all asks. Where memory
 /// is refused, they end before that turn; Err where none is made.
@@ -59,16 +71,24 @@ fn play_on(
     ensures none { OnErr result (made ≡ 0) }
     ensures err { OnErr result (IsAhead store.old store.new) }
 {
-    for turns in made..limit {
+    let mut turns = made;
+    while turns < limit {
         if !is_continue(asked) {
             return Ok(turns);
         }
-        match turn(store, handler, asked) {
-            Ok(()) => (),
-            Err(error) => return if turns == 0 { Err(error) } else { Ok(turns) },
+        let (now, step) = run_current(store, turns, limit - 1);
+        match step {
+            Ok(()) => match turn(store, handler, asked) {
+                Ok(()) => turns = now + 1,
+                Err(error) => return if now == 0 { Err(error) } else { Ok(now) },
+            },
+            Err(why) => {
+                fail(store, why, asked);
+                return Ok(now + 1);
+            }
         }
     }
-    Ok(limit)
+    Ok(turns)
 }
 
 /// The first turn under the job, and further ones, as long as nothing is asked and fewer than `limit` are made: how many
