@@ -49,7 +49,7 @@ impl<'p> Store<'p> {
     ghost use Rattle.std.specs.Option.{option_map};
     ghost use Rattle.std.specs.Borrow.{sem};
     ghost use Rattle.sc_region.specs.Frames.{activation_of, top_current, top_activation};
-    ghost use Rattle.sc_region.specs.Lending.{KeepsCurrents, LendsTop, Ran};
+    ghost use Rattle.sc_region.specs.Lending.{KeepsCurrents, LendsTop, Ran, current_object};
 
     /// A store of a program, with no objects and no frames. What grows later takes its memory from this allocator.
     pub fn new(alloc: Global, program: &'p Program) -> Store<'p>
@@ -260,6 +260,7 @@ impl<'p> Store<'p> {
     pub fn with_current<R, F: FnOnce(&mut Stack, &mut [Value]) -> R>(&mut self, run: F) -> Option<R>
         requires callable { F.IsAlwaysCallable run }
         requires keeps { KeepsCurrents F.FnOnce run self.old }
+        ensures there { is_some result ≡ is_some (current_object self.old) }
         ensures some { IfSome result (λ r. Ran F.FnOnce run self.old r self.new) }
         ensures none { IfNone result (self.new ≡ self.old) }
     {

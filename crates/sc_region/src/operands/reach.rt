@@ -1,5 +1,5 @@
 //! What lies deeper among the operands, and an `old` more than there was room for.
-ghost use Rattle.std.specs.Prelude.{◌≡◌, ◌≤◌, ◌++◌, [], ◌∷◌, OnOk, OnErr, length, drop, nat_lt, slice_get};
+ghost use Rattle.std.specs.Prelude.{◌≡◌, ◌≤◌, ◌+◌, ◌++◌, ◌↔◌, [], ◌∷◌, IsTrue, OnOk, OnErr, length, drop, nat_lt, slice_get};
 ghost use Rattle.sc_region.specs.Calls.{last_values};
 ghost use Rattle.sc_region.specs.OperandList.{last_integers};
 
@@ -62,6 +62,14 @@ impl Operands {
         ensures { result.now ≡ last_values count self.now.values }
     {
         &self.items[self.count - count..self.count]
+    }
+
+    /// Whether there is room for so many more.
+    #[inline(always)]
+    pub fn has_room(&self, count: usize) -> bool
+        ensures { IsTrue result ↔ (length self.now.values + count ≤ self.now.depth) }
+    {
+        self.depth - self.count >= count
     }
 
     /// Whether there is room for one more where the last so many are gone.
