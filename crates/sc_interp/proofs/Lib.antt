@@ -27,6 +27,7 @@ pub mod Here
 pub mod GoingHere
 pub mod Turned
 pub mod Joining
+pub mod Rows
 pub mod Rounding
 pub mod Switching
 pub mod OneObject
