@@ -7,7 +7,7 @@ use Rattle.sc_tree.specs.Plain.{System, Class, Feature, Expr, Instr}
 use Rattle.sc_model.specs.declared.cause.Cause.TheVariants.{Invariant, Check, Precondition, UnsetEntity, SupplierFailed}
 use Rattle.sc_model.specs.declared.status.Status.TheVariants.{Failed, Busy, Waiting, Free}
 use Rattle.sc_model.specs.Runs.{has_turn}
-use Rattle.sc_model.proofs.Texts.{detachable, the_result, void, old, block, ensuring, heir_of, own, separate, integer, declared, number, truth, the_current, entity, on, both, assign, assign_result, call, print, call_on, create, create_by, check, attribute, routine, procedure, class, application, system}
+use Rattle.sc_model.proofs.Texts.{detachable, the_result, void, old, block, block_of_two, ensuring, heir_of, own, separate, integer, declared, number, truth, the_current, entity, on, both, assign, assign_result, call, print, call_on, create, create_by, check, attribute, routine, procedure, class, application, system}
 use Rattle.sc_model.specs.Values.{Boolean}
 use Rattle.sc_model.specs.Handlers.{World}
 use Rattle.sc_model.specs.Clauses.{Comes}
@@ -83,6 +83,15 @@ pub result_is_unset :
     outcome (played (giving_void (codes "f" ∷ []) (routine (codes "f") [] (Some (own (codes "base"))) [] [] ∷ [])) (0 ∷ 0 ∷ 0 ∷ []))
     ≡ (false, (Failed UnsetEntity, 0, []) ∷ [])
 result_is_unset = refl
+
+-- an heir meets the invariant that it inherits
+pub inherited_invariant_fails :
+    outcome (played (system (
+        heir_of (codes "base") [] (application
+            (procedure (codes "make") [] (assign (codes "n") (both (entity (codes "n")) binary.Minus (number (pos 1))) ∷ []) ∷ []) [])
+        ∷ class (codes "base") [] (attribute (codes "n") integer ∷ []) (both (entity (codes "n")) binary.GreaterEqual (number (pos 0)) ∷ []) ∷ [])) (0 ∷ 0 ∷ []))
+    ≡ (false, (Failed Invariant, 0, []) ∷ [])
+inherited_invariant_fails = refl
 
 -- ---- two handlers
 
@@ -193,6 +202,19 @@ block_holds = refl
 
 pub block_releases : (played blocking (0 ∷ 0 ∷ 0 ∷ 1 ∷ 0 ∷ 0 ∷ 0 ∷ 1 ∷ 1 ∷ 1 ∷ 1 ∷ 0 ∷ 0 ∷ 0 ∷ [])).rights.queue 1 ≡ None
 block_releases = refl
+
+-- a block reserves the handlers of all its names at once
+abbrev blocking_two : System
+blocking_two = system (application
+    (attribute (codes "b") (separate (codes "buffer")) ∷ attribute (codes "c") (separate (codes "buffer"))
+    ∷ procedure (codes "make") [] (create (codes "b") ∷ create (codes "c")
+        ∷ block_of_two (entity (codes "b")) (codes "x") (entity (codes "c")) (codes "y") (call_on (codes "x") (codes "put") (number (pos 7) ∷ []) ∷ []) ∷ []) ∷ []) []
+    ∷ buffer ∷ [])
+
+-- the turns of handler 0 are: take, create, create, open, reserve
+pub block_holds_both :
+    (let w : World = played blocking_two (0 ∷ 0 ∷ 0 ∷ 1 ∷ 2 ∷ 0 ∷ 0 ∷ []) in (w.rights.queue 1, w.rights.queue 2)) ≡ (Some 0, Some 0)
+block_holds_both = refl
 
 -- ---- callbacks
 

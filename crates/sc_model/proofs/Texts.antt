@@ -109,6 +109,11 @@ check e = tree.Check nowhere (clause e ∷ [])
 abbrev pub block : Expr → List ℕ → List Instr → Instr
 block e x is = tree.block_instr nowhere (record { heads = record { value = e; name = named x } ∷ []; body = body is })
 
+-- a separate block of two names
+abbrev pub block_of_two : Expr → List ℕ → Expr → List ℕ → List Instr → Instr
+block_of_two e x d y is =
+    tree.block_instr nowhere (record { heads = record { value = e; name = named x } ∷ record { value = d; name = named y } ∷ []; body = body is })
+
 -- ---- features and classes
 
 abbrev pub attribute : List ℕ → DeclaredType → Feature
