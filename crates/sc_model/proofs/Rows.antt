@@ -212,9 +212,11 @@ blocking_two = system (application
     ∷ buffer ∷ [])
 
 -- the turns of handler 0 are: take, create, create, open, reserve
-pub block_holds_both :
-    (let w : World = played blocking_two (0 ∷ 0 ∷ 0 ∷ 1 ∷ 2 ∷ 0 ∷ 0 ∷ []) in (w.rights.queue 1, w.rights.queue 2)) ≡ (Some 0, Some 0)
-block_holds_both = refl
+pub block_holds_the_first : (played blocking_two (0 ∷ 0 ∷ 0 ∷ 1 ∷ 2 ∷ 0 ∷ 0 ∷ [])).rights.queue 1 ≡ Some 0
+block_holds_the_first = refl
+
+pub block_holds_the_second : (played blocking_two (0 ∷ 0 ∷ 0 ∷ 1 ∷ 2 ∷ 0 ∷ 0 ∷ [])).rights.queue 2 ≡ Some 0
+block_holds_the_second = refl
 
 -- ---- callbacks
 
