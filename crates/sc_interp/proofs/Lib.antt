@@ -1,6 +1,7 @@
 pub mod GoingOn
 pub mod Ahead
 pub mod Popping
+pub mod Lending
 pub mod Listing
 pub mod Opening
 pub mod Tests

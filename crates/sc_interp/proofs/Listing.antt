@@ -1,14 +1,20 @@
 -- What stands at a number of a constant pool.
-use Rattle.std.proofs.Common.{◌≡◌, ◌⊎◌, inl, inr, ℕ, zero, suc, ◌<◌, ◌≤◌, List, [], ◌∷◌, Some, None, length, Bool, true, false, refl, sym, ap, ◌∙◌, arith}
+use Rattle.std.proofs.Common.{◌≡◌, ◌⊎◌, inl, inr, ℕ, zero, suc, ◌<◌, ◌≤◌, List, [], ◌∷◌, Option, Some, None, length, Bool, true, false, refl, sym, ap, subst, ◌∙◌, arith}
 use Rattle.std.proofs.lemmas.Bool.{cases_lt}
 use Rattle.std.proofs.lemmas.Option.{slice_get_past}
-use Rattle.std.specs.Prelude.{nat_lt, slice_get, if◌then◌else◌}
-use Rattle.std.specs.Option.{option_map}
+use Rattle.std.specs.Prelude.{nat_lt, slice_get, if◌then◌else◌, IfSome}
+use Rattle.std.specs.Option.{option_map, option_and_then}
+use Rattle.sc_code.specs.declared.program.ConstantPool.{ConstantPool}
+use Rattle.sc_code.specs.declared.program.Image.{Image}
 use Rattle.sc_code.specs.declared.site.CallSite as call
 use Rattle.sc_code.specs.declared.site.CreationSite as creation
 use Rattle.sc_code.specs.Operations as plain
 use Rattle.sc_code.specs.View.{Pool, named, call_of, creation_with, creation_of}
+use Rattle.sc_code.specs.Programs.{pool_of}
+use Rattle.sc_region.specs.Stores.{PlainStore}
+use Rattle.sc_interp.specs.Features.{IsSite}
 use Rattle.sc_interp.specs.Standing.{listed, call_in, creation_in}
+use Rattle.sc_interp.specs.Told.{HasProcedure, IsCallIn}
 use Rattle.sc_interp.proofs.GoingOn.{less_is, more_is}
 
 pub listed_is : (xs : List (List ℕ)) (k : ℕ) → k < length xs → slice_get xs k ≡ Some (listed xs k)
@@ -47,3 +53,33 @@ pub creation_by : (p : Pool) (site : creation.CreationSite) (b : Bool) →
     creation_of p site ≡ (if b then Some (creation_in p site) else None)
 creation_by p site true e = ap (option_map (creation_with site)) e
 creation_by p site false e = ap (option_map (creation_with site)) e
+
+-- what a table of names says of a number, also where it is known by another name
+pub name_told : (p q : ConstantPool) (k : ℕ) (b d : Bool) → q ≡ p → b ≡ d → slice_get (pool_of q).names k ≡ (if b then Some (listed (pool_of q).names k) else None) →
+    slice_get (pool_of p).names k ≡ (if d then Some (listed (pool_of p).names k) else None)
+name_told p q k b d same is e =
+    subst (λ (r : ConstantPool). slice_get (pool_of r).names k ≡ (if b then Some (listed (pool_of r).names k) else None)) same e
+    ∙ ap (λ (b : Bool). if b then Some (listed (pool_of p).names k) else None) is
+
+-- the same of a procedure's name, if there is one
+pub procedure_told : (p q : ConstantPool) (o : Option ℕ) (b d : Bool) → q ≡ p → b ≡ d →
+    named (pool_of q).names o ≡ (if b then Some (option_map (listed (pool_of q).names) o) else None) →
+    named (pool_of p).names o ≡ (if d then Some (option_map (listed (pool_of p).names) o) else None)
+procedure_told p q o b d same is e =
+    subst (λ (r : ConstantPool). named (pool_of r).names o ≡ (if b then Some (option_map (listed (pool_of r).names) o) else None)) same e
+    ∙ ap (λ (b : Bool). if b then Some (option_map (listed (pool_of p).names) o) else None) is
+
+pub procedure_there : (p : Image) (o : Option ℕ) → named (pool_of p.pool).names o ≡ Some (option_map (listed (pool_of p.pool).names) o) → HasProcedure p o
+procedure_there p None e = tt
+procedure_there p (Some x) e = by (slice_get (pool_of p.pool).names x) e
+  where
+    by : (o : Option (List ℕ)) → option_map (λ (name : List ℕ). Some name) o ≡ Some (Some (listed (pool_of p.pool).names x)) → o ≡ Some (listed (pool_of p.pool).names x)
+    by None e = cc
+    by (Some name) e = cc
+
+-- the site of a qualified call, by what the tables say of its number
+pub site_by : (x : PlainStore) (k : ℕ) (o : Option call.CallSite) →
+    option_map (call_in (pool_of x.program.pool)) o ≡ option_and_then (call_of (pool_of x.program.pool)) (slice_get (pool_of x.program.pool).calls k) →
+    IfSome o (λ site. IsCallIn x.program site) → IsSite x k o
+site_by x k None e there = ap (option_map plain.CallFeature) (sym e)
+site_by x k (Some site) e there = (ap (option_map plain.CallFeature) (sym e), there.named)

@@ -14,8 +14,8 @@ ghost use Rattle.sc_interp.specs.Values.{reference_of, value_of};
 ghost use Rattle.sc_interp.specs.Told.{IsCallIn, IsDone, IsTold, Tells};
 
 use crate::act::{Act, Calling, Hop, stepped};
-use crate::attributes::{attribute_value, is_name, value_under, version_in};
-use crate::calling::has_room;
+use crate::attributes::{attribute_value, value_under, version_in};
+use crate::calling::{call_at, has_room};
 use crate::evaluation::read;
 use crate::passing::replace;
 use sc_code::{CallSite, Version};
@@ -222,12 +222,7 @@ fn site_at(store: &Store<'_>, number: usize) -> Option<CallSite>
     ensures site { IsSite store.now number result }
     ensures there { IfSome result (λ site. IsCallIn store.now.program site) }
 {
-    let site = *store.program().pool().calls.get(number)?;
-    if is_name(store, site.name) {
-        Some(site)
-    } else {
-        None
-    }
+    call_at(store.program(), number)
 }
 
 /// The call is made on the target, which lies under its actuals.
