@@ -1,7 +1,7 @@
 -- Turns of a handler that are made at once are its turns, one after the other.
-use Rattle.std.proofs.Common.{◌≡◌, ◌<◌, ◌≤◌, ◌+◌, ◌==◌, ◌&&◌, ◌⊎◌, inl, inr, ℕ, zero, suc, Bool, true, false, List, [], ◌∷◌, ◌++◌, Option, Some, None, is_some, length, slice_get, slice_set, refl, sym, ap, subst, ◌∙◌, arith}
+use Rattle.std.proofs.Common.{◌≡◌, ◌<◌, ◌≤◌, ◌+◌, ◌==◌, ◌&&◌, ◌⊎◌, inl, inr, ℕ, zero, suc, Bool, true, false, List, [], ◌∷◌, ◌++◌, Option, Some, None, is_some, length, replicate, slice_get, slice_set, refl, sym, ap, subst, ◌∙◌, arith}
 use Rattle.std.proofs.lemmas.Bool.{eq-eqb}
-use Rattle.std.proofs.lemmas.List.{length-append}
+use Rattle.std.proofs.lemmas.List.{length-append, length-replicate}
 use Rattle.std.proofs.Math.Path.{fun_ext}
 use Rattle.std.specs.Prelude.{nat_lt, if◌then◌else◌}
 use Rattle.sc_lockpass.specs.Rights.{Rights, is_among}
@@ -270,11 +270,12 @@ turns_some h b j x _ _ _ (first {y} {w} t) = (0, refl)
 turns_some h b j x _ _ _ (more {n} {y} {z} {w} ts t) = let e : n + 1 ≡ suc n = omega arith in (n, e)
 
 module _ (h : ℕ) (j : Job) (x : PlainWorld) (r : PlainRegion) (stands : slice_get x.regions h ≡ Some r) (picks : pick_for h x.center ≡ Some j) where
-  abbrev region : PlainStore → PlainRegion
+  -- its region with another store
+  abbrev pub region : PlainStore → PlainRegion
   region y = record r { store = y; is_told = false }
 
   -- the world after so many turns, the last of which asks this
-  abbrev after : ℕ → PlainStore → Want → PlainWorld
+  abbrev pub after : ℕ → PlainStore → Want → PlainWorld
   after n y w = record { most = x.most; center = settles x.most h j n w (picked h j x.center); regions = slice_set x.regions h (region y) }
 
   first_turn : (y : PlainStore) (w : Want) → FirstTurn r.handler r.is_told j r.store y w → IsTurn h x (after 1 y w)
@@ -330,17 +331,19 @@ module _ (h : ℕ) (j : Job) (x : PlainWorld) (r : PlainRegion) (stands : slice_
         most = refl;
       }))
 
-  one_longer : (hs : List ℕ) (n : ℕ) → length hs ≡ n → length (hs ++ h ∷ []) ≡ n + 1
-  one_longer hs n e = let one : length (h ∷ []) ≡ 1 = refl in omega (arith, length-append hs (h ∷ []), e, one)
+  replicate_more : (n : ℕ) → replicate n h ++ h ∷ [] ≡ replicate (suc n) h
+  replicate_more zero = refl
+  replicate_more (suc n) = ap (λ (hs : List ℕ). h ∷ hs) (replicate_more n)
 
-  all_turns : (n : ℕ) (y : PlainStore) (w : Want) → Turns r.handler r.is_told j r.store n y w → (hs : List ℕ) × (length hs ≡ n) × RunsBy hs x (after n y w)
-  all_turns _ _ _ (first {y} {w} t) = (h ∷ [], refl, (after 1 y w, first_turn y w t, refl))
+  replicate_one : (n : ℕ) → replicate n h ++ h ∷ [] ≡ replicate (n + 1) h
+  replicate_one n = let e : suc n ≡ n + 1 = omega arith in replicate_more n ∙ ap (λ (k : ℕ). replicate k h) e
+
+  -- turns of its store are as many turns of its own, one after the other
+  pub all_turns : (n : ℕ) (y : PlainStore) (w : Want) → Turns r.handler r.is_told j r.store n y w → RunsBy (replicate n h) x (after n y w)
+  all_turns _ _ _ (first {y} {w} t) = (after 1 y w, first_turn y w t, refl)
   all_turns _ _ _ (more {n} {y} {z} {w} ts t) =
-      let before = all_turns n y want.Continue ts in (
-        before.0 ++ h ∷ [],
-        one_longer before.0 n before.1,
-        join_runs before.0 h x (after n y want.Continue) (after (n + 1) z w) before.2 (further_turn n y z w ts t),
-      )
+      subst (λ (hs : List ℕ). RunsBy hs x (after (n + 1) z w)) (replicate_one n)
+      (join_runs (replicate n h) h x (after n y want.Continue) (after (n + 1) z w) (all_turns n y want.Continue ts) (further_turn n y z w ts t))
 
 module _ (limit h : ℕ) (j : Job) (turns : ℕ) (x y : PlainWorld) (picks : pick_for h x.center ≡ Some j) (m : Makes limit h j turns x y) where
   abbrev played : Outcome
@@ -357,7 +360,7 @@ module _ (limit h : ℕ) (j : Job) (turns : ℕ) (x y : PlainWorld) (picks : pic
   turns_there : (hs : List ℕ) × (length hs ≡ turns) × RunsBy hs x there
   turns_there =
       let all = all_turns h j x m.before m.stands picks played.turns m.settles.plays.last played.want m.settles.plays.turns in
-      (all.0, all.1 ∙ m.settles.count, all.2)
+      (replicate played.turns h, length-replicate played.turns h ∙ m.settles.count, all)
 
   center_there : y.center ≡ there.center
   center_there = m.settles.center ∙ ap (λ (n : ℕ). settles x.most h j n played.want (picked h j x.center)) (sym m.settles.count)

@@ -1,15 +1,15 @@
 mod Asked
 mod Assembling
-mod AtOnce
+pub mod AtOnce
 mod ComingAgain
 mod Contracts
 mod Headlined
 mod Idling
 mod Meeting
 mod Naming
-mod Opening
-mod Picking
-mod PuttingBack
+pub mod Opening
+pub mod Picking
+pub mod PuttingBack
 mod Reaching
 mod Refined
 mod Reporting

@@ -34,7 +34,8 @@ reserved_again h ks r = ap (λ (q : ℕ → Option ℕ). let all : Rights = reco
     again true holder = refl
     again false holder = refl
 
-begun_again : (h : ℕ) (j : Job) (s : State) → begun h j (record s { rights = granted h j s.rights }) ≡ begun h j s
+-- so its job has begun as where it wasn't
+pub begun_again : (h : ℕ) (j : Job) (s : State) → begun h j (record s { rights = granted h j s.rights }) ≡ begun h j s
 begun_again h (job.Granted ks) s = ap (λ (r : Rights). let t : State = record (with_stage h Runs s) { rights = r } in t) (reserved_again h ks.items s.rights)
 begun_again h (job.Take r) s = refl
 begun_again h (job.Reply v) s = refl

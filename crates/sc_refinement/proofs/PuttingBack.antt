@@ -158,7 +158,7 @@ set_same [] h x y e = cc
 set_same (r ∷ rs) zero x y e = refl
 set_same (r ∷ rs) (suc h) x y e = set_same rs h x y e
 
-set_other : (rs : List PlainRegion) (h k : ℕ) (y : PlainRegion) → (k ≡ h → ⊥) → slice_get (slice_set rs h y) k ≡ slice_get rs k
+pub set_other : (rs : List PlainRegion) (h k : ℕ) (y : PlainRegion) → (k ≡ h → ⊥) → slice_get (slice_set rs h y) k ≡ slice_get rs k
 set_other [] h k y apart = refl
 set_other (r ∷ rs) zero zero y apart = absurd (apart refl)
 set_other (r ∷ rs) zero (suc k) y apart = refl
