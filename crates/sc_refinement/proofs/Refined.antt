@@ -112,36 +112,38 @@ module _ (picks : PicksWhereTurns) (halves : HalvesWhereReached) (remembered : E
       (asked s root faultless well p program fits most) (kept s root faultless well p program fits most) (λ h k w stage past few. created most s h k w stage past few)
       (settled_here s root faultless well p program fits most) (end_there s root faultless well p program fits most) picks halves remembered hs y runs
 
-  pub stopped_world_stays_near : StoppedWorldStaysNear
-  stopped_world_stays_near s root faultless well p v n hs y program fits stops =
-      let w = run (most_handlers v) s (take n hs) (opening s root) in
-      refused_turn_stays_near s p stops.next w stops.before y (world_runs_as_machine s root faultless well p v (take n hs) stops.before program fits stops.runs) stops.refused
+-- ---- what follows of that alone
 
-  pub world_has_headline : WorldHasHeadline
-  world_has_headline s root faultless well p v hs y program fits runs =
-      let w : machine.World = run (most_handlers v) s hs (opening s root) in
-      let reached : IsReached (most_handlers v) s root w = record { numbers = hs; run_is = refl } in (
-        w,
-        reached,
-        world_runs_as_machine s root faultless well p v hs y program fits runs,
-        headlined s root faultless well (most_handlers v) w reached (settled s root faultless well (most_handlers v) w reached),
-      )
+pub stopped_world_stays_near : WorldRunsAsMachine → StoppedWorldStaysNear
+stopped_world_stays_near runs_as s root faultless well p v n hs y program fits stops =
+    let w = run (most_handlers v) s (take n hs) (opening s root) in
+    refused_turn_stays_near s p stops.next w stops.before y (runs_as s root faultless well p v (take n hs) stops.before program fits stops.runs) stops.refused
 
-  pub rounds_run_as_machine : RoundsRunAsMachine
-  rounds_run_as_machine s root faultless well p v limit y program fits ends =
-      let turns = rounds_are_turns limit (opened p v) ends.left y ends.rounds in
-      let w : machine.World = run (most_handlers v) s turns.0 (opening s root) in
-      let stands = world_runs_as_machine s root faultless well p v turns.0 y program fits turns.2 in
-      let within : IsRunWithin limit turns.0 w = record {
-        few = omega (arith, turns.1);
-        ends = ended (length turns.0) ends.left limit (next y.center) w turns.1 ends.ends (λ none. idle_world_is_idle picks s p w y stands none);
-      } in
-      (turns.0, stands, within)
+pub world_has_headline : WorldRunsAsMachine → SettledMeetWhereReached → WorldHasHeadline
+world_has_headline runs_as settled s root faultless well p v hs y program fits runs =
+    let w : machine.World = run (most_handlers v) s hs (opening s root) in
+    let reached : IsReached (most_handlers v) s root w = record { numbers = hs; run_is = refl } in (
+      w,
+      reached,
+      runs_as s root faultless well p v hs y program fits runs,
+      headlined s root faultless well (most_handlers v) w reached (settled s root faultless well (most_handlers v) w reached),
+    )
 
-  pub stopped_rounds_stay_near : StoppedRoundsStayNear
-  stopped_rounds_stay_near s root faultless well p v limit y program fits stops =
-      let before = rounds_are_turns limit (opened p v) stops.left stops.before stops.rounds in
-      let none_out = (world_runs_as_machine s root faultless well p v before.0 stops.before program fits before.2).none_out in
-      let behind = stops_join before.0 (opened p v) stops.before y before.2 (refused_next_stops stops.left stops.before y none_out stops.refused) in
-      let stands = world_runs_as_machine s root faultless well p v behind.0 behind.1 program fits behind.2 in
-      (behind.0, same_or_further_near s p (run (most_handlers v) s behind.0 (opening s root)) behind.1 y stands behind.3)
+pub rounds_run_as_machine : WorldRunsAsMachine → PicksWhereTurns → RoundsRunAsMachine
+rounds_run_as_machine runs_as picks s root faultless well p v limit y program fits ends =
+    let turns = rounds_are_turns limit (opened p v) ends.left y ends.rounds in
+    let w : machine.World = run (most_handlers v) s turns.0 (opening s root) in
+    let stands = runs_as s root faultless well p v turns.0 y program fits turns.2 in
+    let within : IsRunWithin limit turns.0 w = record {
+      few = omega (arith, turns.1);
+      ends = ended (length turns.0) ends.left limit (next y.center) w turns.1 ends.ends (λ none. idle_world_is_idle picks s p w y stands none);
+    } in
+    (turns.0, stands, within)
+
+pub stopped_rounds_stay_near : WorldRunsAsMachine → StoppedRoundsStayNear
+stopped_rounds_stay_near runs_as s root faultless well p v limit y program fits stops =
+    let before = rounds_are_turns limit (opened p v) stops.left stops.before stops.rounds in
+    let none_out = (runs_as s root faultless well p v before.0 stops.before program fits before.2).none_out in
+    let behind = stops_join before.0 (opened p v) stops.before y before.2 (refused_next_stops stops.left stops.before y none_out stops.refused) in
+    let stands = runs_as s root faultless well p v behind.0 behind.1 program fits behind.2 in
+    (behind.0, same_or_further_near s p (run (most_handlers v) s behind.0 (opening s root)) behind.1 y stands behind.3)

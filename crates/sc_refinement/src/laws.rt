@@ -34,36 +34,15 @@ pub fn world_runs_as_machine()
 pub fn stopped_world_stays_near()
     ensures { StoppedWorldStaysNear }
 {
-    core_picks_where_the_machine_turns();
-    core_settles_as_half_where_reached();
-    entries_are_remembered();
-    settled_objects_meet();
-    regions_follow();
-    regions_ask();
-    others_keep_halves();
-    created_are_new();
-    openings_are_in_order();
-    turns_keep_order();
-    new_stores_are_sound();
-    sound_jobs_are_taken();
+    world_runs_as_machine();
 }
 
 /// So each world that turns lead to stands for a state that the machine reaches, of which the headline holds.
 pub fn world_has_headline()
     ensures { WorldHasHeadline }
 {
-    core_picks_where_the_machine_turns();
-    core_settles_as_half_where_reached();
-    entries_are_remembered();
+    world_runs_as_machine();
     settled_objects_meet();
-    regions_follow();
-    regions_ask();
-    others_keep_halves();
-    created_are_new();
-    openings_are_in_order();
-    turns_keep_order();
-    new_stores_are_sound();
-    sound_jobs_are_taken();
 }
 
 /// A world that stands for a state is near it.
@@ -107,34 +86,13 @@ pub fn handlers_come_again()
 pub fn rounds_run_as_machine()
     ensures { RoundsRunAsMachine }
 {
+    world_runs_as_machine();
     core_picks_where_the_machine_turns();
-    core_settles_as_half_where_reached();
-    entries_are_remembered();
-    settled_objects_meet();
-    regions_follow();
-    regions_ask();
-    others_keep_halves();
-    created_are_new();
-    openings_are_in_order();
-    turns_keep_order();
-    new_stores_are_sound();
-    sound_jobs_are_taken();
 }
 
 /// Where memory was refused to one of their turns, the world is near the state to which those before it lead the machine.
 pub fn stopped_rounds_stay_near()
     ensures { StoppedRoundsStayNear }
 {
-    core_picks_where_the_machine_turns();
-    core_settles_as_half_where_reached();
-    entries_are_remembered();
-    settled_objects_meet();
-    regions_follow();
-    regions_ask();
-    others_keep_halves();
-    created_are_new();
-    openings_are_in_order();
-    turns_keep_order();
-    new_stores_are_sound();
-    sound_jobs_are_taken();
+    world_runs_as_machine();
 }
