@@ -6,7 +6,7 @@ ghost use Rattle.sc_class.specs.View.{root_of};
 use std::alloc::AllocError;
 
 /// A class, and the procedure of its `create` list that makes the first object. Both names are in lower case.
-#[derive(Debug, Drop)]
+#[derive(Drop)]
 pub struct Root {
     pub class: String,
     pub procedure: String,

@@ -4,7 +4,7 @@ use crate::rule::Rule;
 use sc_text::Span;
 
 /// A rule that fails, and where.
-#[derive(Clone, Copy, Debug, PartialEq, Eq)]
+#[derive(Clone, Copy, Debug)]
 pub struct Fault {
     /// The rule that fails.
     pub rule: Rule,

@@ -1,7 +1,7 @@
 //! Where an expression stands, and what a name stands for.
 
 /// The part of a class's text in which an expression stands.
-#[derive(Clone, Copy, Debug, PartialEq, Eq)]
+#[derive(Clone, Copy)]
 pub enum Context {
     /// A routine's body.
     Body,
@@ -18,7 +18,7 @@ pub enum Context {
 }
 
 /// What an expression is used as, where that matters.
-#[derive(Clone, Copy, Debug, PartialEq, Eq)]
+#[derive(Clone, Copy)]
 pub enum Position {
     /// Nothing special: neither of the others.
     Plain,
@@ -30,7 +30,7 @@ pub enum Position {
 }
 
 /// What a call is used as.
-#[derive(Clone, Copy, Debug, PartialEq, Eq)]
+#[derive(Clone, Copy)]
 pub enum Use {
     /// As an expression.
     Value,
@@ -39,7 +39,7 @@ pub enum Use {
 }
 
 /// What a name of a routine is.
-#[derive(Clone, Copy, Debug, PartialEq, Eq)]
+#[derive(Clone, Copy, PartialEq, Eq)]
 pub enum Role {
     /// A formal argument.
     Formal,

@@ -14,7 +14,7 @@ use sc_text::{LexFault, Span};
 use std::alloc::{AllocError, Global};
 
 /// How a refusal is told: its code, its name, and the part of the source text that is at fault, if there is one.
-#[derive(Clone, Copy, Debug, PartialEq, Eq)]
+#[derive(Clone, Copy)]
 pub struct Refusal {
     pub code: &'static str,
     pub name: &'static str,

@@ -28,7 +28,7 @@ use std::convert::AsStr;
 use std::io::{self, ErrorKind, Write};
 
 /// What the program ends with. Where several fit, the first in this list.
-#[derive(Clone, Copy, Debug, PartialEq, Eq)]
+#[derive(Clone, Copy)]
 pub enum Exit {
     /// Memory ran out.
     OutOfMemory = 5,

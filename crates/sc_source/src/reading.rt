@@ -12,7 +12,7 @@ use std::io::{self, ErrorKind, Read};
 use std::str::Utf8Error;
 
 /// Why the text of a file isn't had.
-#[derive(Debug, Drop)]
+#[derive(Drop)]
 pub enum FileFault {
     /// Its reader failed, with this error.
     Unreadable(io::Error),

@@ -25,7 +25,7 @@ pub struct Source {
 }
 
 /// Why files have no source text.
-#[derive(Debug, Drop)]
+#[derive(Drop)]
 pub struct JoinFault {
     /// The number of the file at fault, from 0.
     pub file: usize,
@@ -60,7 +60,7 @@ struct SourceFile {
 }
 
 /// Where something stands in the files: the line and the column count from 1, and a column is a byte.
-#[derive(Debug, Drop, PartialEq, Eq)]
+#[derive(Drop)]
 pub struct Place<'s> {
     pub file: &'s str,
     pub line: usize,
