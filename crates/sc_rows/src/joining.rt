@@ -118,62 +118,6 @@ fn joins_the_texts_of_files(rt: HostRuntime) -> Result<(), Fail> {
     Ok(())
 }
 
-/// So many spaces, between a beginning and an end.
-fn spaces<H: AllocGlobal>(
-    rt: &H,
-    before: &[u8],
-    count: usize,
-    after: &[u8],
-) -> Result<Vec<u8>, Fail> {
-    let mut bytes = Vec::from_slice(rt.alloc(), before)?;
-    for _ in 0..count {
-        bytes.push(b' ')?;
-    }
-    bytes.extend_from_slice(after)?;
-    Ok(bytes)
-}
-
-const MOST: usize = MAX_SOURCE_BYTES - 1;
-
-const MARK: &[u8] = b"\xef\xbb\xbf";
-
-/// What stands before and behind so many spaces in the first file, and whether it can be joined.
-const LONG: [(&[u8], usize, &[u8], Option<SourceFault>); 10] = [
-    (b"", MOST, b"", None),
-    (b"", MOST, b" ", Some(SourceFault::SourceTooLong)),
-    (MARK, MOST, b"", None),
-    (MARK, MOST, b" ", Some(SourceFault::SourceTooLong)),
-    (
-        b"",
-        MOST - 1,
-        b"\xff",
-        Some(SourceFault::NotUtf8 { file: 0 }),
-    ),
-    (b"", MOST, b"\xff", Some(SourceFault::SourceTooLong)),
-    (b"\xff", MOST, b"", Some(SourceFault::SourceTooLong)),
-    (
-        b"\xff",
-        MOST - 1,
-        b"",
-        Some(SourceFault::NotUtf8 { file: 0 }),
-    ),
-    (b"", MOST - 2, b"\xc3\xa9", None),
-    (b"", MOST - 1, b"\xc3\xa9", Some(SourceFault::SourceTooLong)),
-];
-
-#[test]
-fn joins_no_more_than_a_source_may_be_long(rt: HostRuntime) -> Result<(), Fail> {
-    for &(before, count, after, wanted) in &LONG {
-        let bytes = spaces(&rt, before, count, after)?;
-        let joined = join_sources(rt.alloc(), &mut [bytes.as_slice()]);
-        if let Err(SourceFault::OutOfMemory) = joined {
-            return Err(Fail::new("out of memory"));
-        }
-        assert_eq!(rt; joined.err(), wanted, "for {count} spaces after {before:?}");
-    }
-    Ok(())
-}
-
 /// Joins these files, of which the reader of one may fail at its end, and compares what is at fault.
 fn expect_fault<R: Abort + AllocGlobal>(
     rt: &R,
@@ -192,43 +136,18 @@ fn expect_fault<R: Abort + AllocGlobal>(
 
 #[test]
 fn finds_the_first_file_at_fault(rt: HostRuntime) -> Result<(), Fail> {
-    let long = spaces(&rt, b"", MAX_SOURCE_BYTES, b"\xff")?;
-    let long = long.as_slice();
-    let first = Some(SourceFault::NotUtf8 { file: 0 });
-    expect_fault(&rt, &[b"\xff", long], None, first)?;
-    expect_fault(
-        &rt,
-        &[long, b"\xff"],
-        None,
-        Some(SourceFault::SourceTooLong),
-    )?;
-    expect_fault(&rt, &[long], Some(0), Some(SourceFault::SourceTooLong))?;
+    let long = " ".repeat(rt.alloc(), MAX_SOURCE_BYTES)?;
+    let too_long = Some(SourceFault::SourceTooLong);
+    expect_fault(&rt, &[long.as_bytes()], Some(0), too_long)?;
+    // With its line feed the second file is just too long.
+    let rest = &long.as_bytes()[2..];
+    expect_fault(&rt, &[rest, b"", b""], Some(2), too_long)?;
     let second = Some(SourceFault::Unreadable { file: 1 });
     expect_fault(&rt, &[b"a", b"b"], Some(1), second)?;
     let first = Some(SourceFault::Unreadable { file: 0 });
     expect_fault(&rt, &[b"a\xff", b"b"], Some(0), first)?;
     let first = Some(SourceFault::NotUtf8 { file: 0 });
     expect_fault(&rt, &[b"a\xff", b"b"], Some(1), first)
-}
-
-/// With its line feed each of these files is just too long, or just not.
-#[test]
-fn counts_the_line_feed_of_each_file(rt: HostRuntime) -> Result<(), Fail> {
-    let rest = spaces(&rt, b"", MAX_SOURCE_BYTES - 2, b"")?;
-    let rest = rest.as_slice();
-    expect_fault(&rt, &[rest, b""], None, None)?;
-    expect_fault(
-        &rt,
-        &[rest, b"", b""],
-        None,
-        Some(SourceFault::SourceTooLong),
-    )?;
-    expect_fault(
-        &rt,
-        &[rest, b"", b""],
-        Some(2),
-        Some(SourceFault::SourceTooLong),
-    )
 }
 
 #[test]

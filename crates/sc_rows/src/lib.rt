@@ -1,4 +1,4 @@
-//! Tests alone: rows of source texts, and what a call of the program makes of them.
+//! Tests alone: readers and writers that fail, and how files are joined.
 #![tactic(auto)]
 
 #[cfg(test)]

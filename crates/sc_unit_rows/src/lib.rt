@@ -2,23 +2,11 @@
 #![tactic(auto)]
 
 #[cfg(test)]
-mod answer;
-#[cfg(test)]
-mod checker;
-#[cfg(test)]
-mod checks;
-#[cfg(test)]
 mod class_tables;
-#[cfg(test)]
-mod edited;
 #[cfg(test)]
 mod entries;
 #[cfg(test)]
 mod formulas;
-#[cfg(test)]
-mod gaps;
-#[cfg(test)]
-mod grammar;
 #[cfg(test)]
 mod lowered;
 #[cfg(test)]

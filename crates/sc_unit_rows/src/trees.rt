@@ -3,10 +3,6 @@
 mod outline;
 
 use crate::trees::outline::outline_of;
-use sc_parse::{ParseFault, parse};
-use sc_text::{Span, lex};
-use std::alloc::Global;
-use std::process::Abort;
 use std::test::Fail;
 
 /// Sources, and the nodes of their trees, each with the text where it stands.
@@ -65,92 +61,11 @@ const TREES: [(&str, &str); 10] = [
     ),
 ];
 
-/// How often, what stands before, in the middle and after in an expression, and what is answered.
-const EXPRESSIONS: [(usize, &str, &str, &str, &str); 12] = [
-    (64, "( ", "1", " )", "ok"),
-    (65, "( ", "1", " )", "TooDeep 154..155"),
-    (10000, "( ", "", "", "TooDeep 154..155"),
-    (64, "", "1", " + 1", "ok"),
-    (65, "", "1", " + 1", "TooDeep 284..285"),
-    (64, "not ", "x", "", "ok"),
-    (65, "not ", "x", "", "TooDeep 282..285"),
-    (65, "", "x", " or else x", "TooDeep 668..670"),
-    (64, "", "x", ".f", "ok"),
-    (65, "", "x", ".f", "TooDeep 155..156"),
-    (64, "f(", "x", ")", "ok"),
-    (65, "f(", "x", ")", "TooDeep 155..156"),
-];
-
-/// What stands inside 64 `if`s, after which place 661 comes, and what is answered.
-const INSTRUCTIONS: [(&str, &str); 16] = [
-    ("", "ok"),
-    ("check end", "ok"),
-    ("check ; end", "TooDeep 667..668"),
-    ("check x end", "TooDeep 667..668"),
-    ("attached := 1", "NotInGrammar 661..669"),
-    ("x := attached { b } x as y", "ok"),
-    ("x . f", "TooDeep 663..664"),
-    ("create x", "ok"),
-    ("create x . f", "TooDeep 670..671"),
-    ("print ( \"s\" )", "TooDeep 667..668"),
-    ("f ( )", "TooDeep 663..664"),
-    ("if )", "TooDeep 661..663"),
-    ("from end", "TooDeep 661..665"),
-    ("separate )", "TooDeep 661..669"),
-    ("x := not )", "TooDeep 666..669"),
-    ("x := x + )", "TooDeep 668..669"),
-];
-
 #[test]
 fn nodes_stand_where_their_words_do(rt: HostRuntime) -> Result<(), Fail> {
     for &(source, wanted) in &TREES {
         let outline = outline_of(rt.alloc(), source)?;
         assert_eq!(rt; outline.as_str(), wanted, "of {source}");
-    }
-    Ok(())
-}
-
-/// What is answered for a source: `ok`, or the fault and the token that is at fault.
-fn answer_of(alloc: Global, source: &str) -> Result<String, Fail> {
-    let tokens = lex(alloc, source)?;
-    let (name, span) = match parse(alloc, &tokens) {
-        Ok(_) => return Ok(String::from_str(alloc, "ok")?),
-        Err(ParseFault::NotInGrammar { span }) => ("NotInGrammar", span),
-        Err(ParseFault::TooDeep { span }) => ("TooDeep", span),
-        Err(ParseFault::OutOfMemory) => return Err(Fail::new("out of memory")),
-    };
-    let Span { start, end } = span;
-    Ok(format!(in alloc; "{name} {start}..{end}")?)
-}
-
-fn expect_answer<R: Abort + AllocGlobal>(
-    rt: &R,
-    body: &str,
-    row: &str,
-    wanted: &str,
-) -> Result<(), Fail> {
-    let alloc = rt.alloc();
-    let source = format!(in alloc; "class a feature f do {body} end end")?;
-    let answer = answer_of(alloc, &source)?;
-    assert_eq!(rt; answer.as_str(), wanted, "of {row}");
-    Ok(())
-}
-
-#[test]
-fn nesting_is_limited(rt: HostRuntime) -> Result<(), Fail> {
-    let alloc = rt.alloc();
-    for &(count, before, middle, after, wanted) in &EXPRESSIONS {
-        let left = before.repeat(alloc, count)?;
-        let right = after.repeat(alloc, count)?;
-        let body = format!(in alloc; "n := {left}{middle}{right}")?;
-        let row = format!(in alloc; "{count} times {before}{middle}{after}")?;
-        expect_answer(&rt, &body, &row, wanted)?;
-    }
-    let ifs = "if x then ".repeat(alloc, 64)?;
-    let ends = " end".repeat(alloc, 64)?;
-    for &(inner, wanted) in &INSTRUCTIONS {
-        let body = format!(in alloc; "{ifs}{inner}{ends}")?;
-        expect_answer(&rt, &body, inner, wanted)?;
     }
     Ok(())
 }

@@ -33,6 +33,15 @@ impl<'a> FakeFile<'a> {
             is_broken: false,
         }
     }
+
+    /// A file of that name whose reader fails behind these bytes.
+    pub fn broken(name: &'a str, bytes: &'a [u8]) -> Self {
+        FakeFile {
+            name,
+            bytes,
+            is_broken: true,
+        }
+    }
 }
 
 impl<'a> Files for FakeFiles<'a> {
