@@ -1,4 +1,5 @@
-//! Tests alone: rows of texts, types and steps, and what each crate below the program makes of them.
+//! Tests alone: rows of texts, types and steps, and what each crate below the program makes of them where the program
+//! doesn't show it.
 #![tactic(auto)]
 
 #[cfg(test)]
@@ -19,8 +20,6 @@ mod records;
 mod stores;
 #[cfg(test)]
 mod tokens;
-#[cfg(test)]
-mod trees;
 #[cfg(test)]
 mod types;
 #[cfg(test)]

@@ -91,31 +91,8 @@ fn texts_are_read_or_have_a_line_at_fault(rt: HostRuntime) -> Result<(), Fail> {
     Ok(())
 }
 
-/// A small record, of which each byte is altered in each way.
+/// A small record.
 const SMALL: &[u8; 25] = b"scoop record 1\n0 5\nend 1\n";
-
-#[test]
-fn altered_texts_are_told_apart(rt: HostRuntime) -> Result<(), Fail> {
-    let mut records = 0usize;
-    let mut others = 0usize;
-    for (place, byte) in SMALL.iter().enumerate() {
-        for other in 0..=u8::MAX {
-            let mut text = *SMALL;
-            text[place] = other;
-            let mut reader = text.as_slice();
-            match outcome_of(rt.alloc(), &mut reader) {
-                _ if other == *byte => {}
-                Outcome::Record(..) => records = records.saturating_add(1),
-                Outcome::Bad(_) => others = others.saturating_add(1),
-                Outcome::OutOfMemory => return Err(Fail::new("out of memory")),
-                Outcome::Unreadable => assert!(rt; false, "unreadable at {place}"),
-            }
-        }
-    }
-    // The version, nine other handlers and eight other numbers of turns.
-    assert_eq!(rt; (records, others), (18, 6357));
-    Ok(())
-}
 
 /// A reader that gives one byte a call, and fails from some call on.
 #[derive(Drop)]
