@@ -3,8 +3,6 @@
 #![tactic(auto)]
 
 #[cfg(test)]
-mod class_tables;
-#[cfg(test)]
 mod entries;
 #[cfg(test)]
 mod formulas;
