@@ -84,6 +84,26 @@ pub result_is_unset :
     ≡ (false, (Failed UnsetEntity, 0, []) ∷ [])
 result_is_unset = refl
 
+-- an object of the same handler meets its invariant as a call on it ends
+abbrev dipping : System
+dipping = system (application
+    (attribute (codes "c") (own (codes "cell")) ∷ procedure (codes "make") [] (create (codes "c") ∷ call_on (codes "c") (codes "dip") [] ∷ []) ∷ []) []
+    ∷ class (codes "cell") []
+        (attribute (codes "n") integer ∷ procedure (codes "dip") [] (assign (codes "n") (both (entity (codes "n")) binary.Minus (number (pos 1))) ∷ []) ∷ [])
+        (both (entity (codes "n")) binary.GreaterEqual (number (pos 0)) ∷ []) ∷ [])
+
+-- the turns are: take, create, enter `dip`, exit
+pub qualified_call_fails : outcome (played dipping (0 ∷ 0 ∷ 0 ∷ 0 ∷ [])) ≡ (false, (Failed Invariant, 0, []) ∷ [])
+qualified_call_fails = refl
+
+-- the object of a creation that is refused meets its invariant
+pub refused_creation_fails :
+    outcome (played (system (application
+        (attribute (codes "n") integer ∷ routine (codes "make") [] None (is_equal (entity (codes "n")) (pos 1) ∷ []) [] ∷ [])
+        (is_equal (entity (codes "n")) (pos 1) ∷ []) ∷ [])) (0 ∷ 0 ∷ []))
+    ≡ (false, (Failed Invariant, 0, []) ∷ [])
+refused_creation_fails = refl
+
 -- an heir meets the invariant that it inherits
 pub inherited_invariant_fails :
     outcome (played (system (
