@@ -1,6 +1,7 @@
 mod Plays
 mod Rows
 mod Turns
+mod SameValues
 pub mod Opening
 mod Filling
 mod Kept

@@ -5,6 +5,7 @@
 //! the half of.
 #![tactic(auto)]
 
+mod agreement;
 mod begun;
 mod center;
 mod changes;

@@ -1,8 +1,10 @@
 //! The log of settlements.
-ghost use Rattle.std.specs.Prelude.{◌≡◌, ◌≤◌, ◌+◌, ◌++◌, ◌==◌, length, vec_capacity, vec_len};
+ghost use Rattle.std.specs.Prelude.{◌≡◌, ◌≤◌, ◌+◌, ◌++◌, ◌==◌, ◌↔◌, IsTrue, drop, length, vec_capacity, vec_len};
 ghost use Rattle.std.specs.List.{All};
 ghost use Rattle.sc_request.specs.Entries.{IsWithin, settlement_in};
+ghost use Rattle.sc_request.specs.Packed.{actuals_in_job, handlers_in_job};
 
+use crate::agreement::{Beside, same_job, same_want};
 use crate::packed::{
     PackedJob, PackedWant, job_actuals, job_handlers, pack_job, pack_want, want_actuals,
     want_handlers,
@@ -36,7 +38,7 @@ pub struct Log {
 }
 
 impl Log {
-    ghost use Rattle.std.specs.Prelude.{◌∷◌, ◌↔◌, [], ℕ, IsTrue, OnErr, OnOk, slice_get};
+    ghost use Rattle.std.specs.Prelude.{◌∷◌, [], ℕ, OnErr, OnOk, slice_get};
     ghost use Rattle.std.specs.Option.{option_map};
     ghost use Rattle.sc_request.specs.Logged.{HasPlaces, settlements_of};
 
@@ -79,6 +81,30 @@ impl Log {
     {
         let entry = *self.entries.get(place)?;
         Some(settlement_at(entry, self.actuals.as_slice(), self.handlers.as_slice()))
+    }
+
+    /// Whether the settlement at a place is that at a place of another log. Where there is none at both, it is, too.
+    pub fn agrees_at(&self, place: usize, other: &Log, its_place: usize) -> bool
+        ensures { IsTrue result ↔ slice_get (settlements_of self.now) place ≡ slice_get (settlements_of other.now) its_place }
+    {
+        match (self.entries.get(place), other.entries.get(its_place)) {
+            (Some(entry), Some(its_entry)) => {
+                same_settlement(entry, self.beside(), its_entry, other.beside())
+            }
+            (None, None) => true,
+            _ => false,
+        }
+    }
+
+    /// What lies beside all its entries.
+    fn beside(&self) -> Beside<'_>
+        ensures actuals { result.actuals.now ≡ self.now.actuals.items }
+        ensures handlers { result.handlers.now ≡ self.now.handlers.items }
+    {
+        Beside {
+            actuals: self.actuals.as_slice(),
+            handlers: self.handlers.as_slice(),
+        }
     }
 
     /// Makes room for so many settlements. Err where there is no memory.
@@ -181,5 +207,41 @@ fn settlement_at(entry: LogEntry, actuals: &[Value], handlers: &[u16]) -> Settle
         job: entry.job.unpack(job_actuals, job_handlers),
         turns: entry.turns,
         want: entry.want.unpack(want_actuals, want_handlers),
+    }
+}
+
+/// Whether two entries tell the same, each with the actuals and the handlers of all entries of its log.
+fn same_settlement(a: &LogEntry, all: Beside<'_>, b: &LogEntry, its: Beside<'_>) -> bool
+    requires within { IsWithin (length all.actuals.now) (length all.handlers.now) a.now }
+    requires its_within { IsWithin (length its.actuals.now) (length its.handlers.now) b.now }
+    ensures { IsTrue result ↔ settlement_in all.entry.actuals.now all.entry.handlers.now a.now ≡ settlement_in its.entry.actuals.now its.entry.handlers.now b.now }
+{
+    a.handler == b.handler
+        && a.turns == b.turns
+        && same_job(&a.job, beside_job(a, all), &b.job, beside_job(b, its))
+        && same_want(&a.want, beside_want(a, all), &b.want, beside_want(b, its))
+}
+
+/// What lies beside an entry, from where that of its job begins.
+fn beside_job<'a>(entry: &LogEntry, all: Beside<'a>) -> Beside<'a>
+    requires { IsWithin (length all.actuals.now) (length all.handlers.now) entry.now }
+    ensures actuals { result.actuals.now ≡ drop entry.now.first_actual all.entry.actuals.now }
+    ensures handlers { result.handlers.now ≡ drop entry.now.first_handler all.entry.handlers.now }
+{
+    Beside {
+        actuals: &all.actuals[entry.first_actual..],
+        handlers: &all.handlers[entry.first_handler..],
+    }
+}
+
+/// What lies beside an entry, from where that of its want begins.
+fn beside_want<'a>(entry: &LogEntry, all: Beside<'a>) -> Beside<'a>
+    requires { IsWithin (length all.actuals.now) (length all.handlers.now) entry.now }
+    ensures actuals { result.actuals.now ≡ drop (entry.now.first_actual + actuals_in_job entry.now.job) all.entry.actuals.now }
+    ensures handlers { result.handlers.now ≡ drop (entry.now.first_handler + handlers_in_job entry.now.job) all.entry.handlers.now }
+{
+    Beside {
+        actuals: &all.actuals[entry.first_actual + entry.job.actuals()..],
+        handlers: &all.handlers[entry.first_handler + entry.job.handlers()..],
     }
 }

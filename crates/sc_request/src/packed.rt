@@ -9,11 +9,11 @@ use sc_region::{Errand, Job, Reference, Request, Value, Want};
 /// A request without its actuals, of which there are so many.
 #[derive(Clone, Copy)]
 pub(crate) struct PackedRequest {
-    poster: Option<u16>,
-    target: Reference,
-    errand: Errand,
-    actuals: u8,
-    is_waited: bool,
+    pub(crate) poster: Option<u16>,
+    pub(crate) target: Reference,
+    pub(crate) errand: Errand,
+    pub(crate) actuals: u8,
+    pub(crate) is_waited: bool,
 }
 
 /// A job without its actuals, or its handlers, of which there are so many.
