@@ -1,11 +1,12 @@
 //! A region with its log.
 ghost use Rattle.std.specs.Prelude.{◌≡◌, ◌++◌, ◌∷◌, []};
+ghost use Rattle.sc_play.specs.Regions.{outcome};
 ghost use Rattle.sc_request.specs.Logged.{HasPlaces, settlements_of};
 ghost use Rattle.sc_worklog.specs.Replaying.{Replays, entry_of};
 
 use sc_code::Program;
 use sc_play::Region;
-use sc_region::{Job, Outcome};
+use sc_region::{Job, Outcome, Want};
 use sc_request::Log;
 use std::alloc::{AllocError, Global};
 
@@ -16,20 +17,23 @@ use std::alloc::{AllocError, Global};
 #[derive(Drop)]
 pub struct LoggedRegion<'p> {
     region: Region<'p>,
+    handler: u16,
     log: Log,
+    pub ghost numbered: { region.handler ≡ handler },
     pub ghost replays: { ∥ Replays region.store.program region.handler (settlements_of log) region ∥₁ },
 }
 
-/// Notes what a job came to, where there is room.
-fn note(log: &mut Log, job: &Job, outcome: &Outcome)
+/// Notes so many turns of a handler under a job, the last of which asked this, where there is room.
+fn note(log: &mut Log, handler: u16, job: &Job, turns: u32, asked: &Want)
     requires { HasPlaces 1 log.old }
-    ensures { settlements_of log.new ≡ settlements_of log.old ++ entry_of job.now outcome.now ∷ [] }
+    ensures { settlements_of log.new ≡ settlements_of log.old ++ entry_of job.now (outcome handler turns asked.now) ∷ [] }
 {
-    log.push(outcome.handler, job, outcome.turns, &outcome.want);
+    log.push(handler, job, turns, asked);
 }
 
 impl<'p> LoggedRegion<'p> {
     ghost use Rattle.std.specs.Prelude.{◌⊎◌, ◌↔◌, ◌≤◌, ◌&&◌, IfOk, IsTrue, OnErr, is_some, length};
+    ghost use Rattle.sc_region.specs.declared.job.Want.TheVariants as want;
     ghost use Rattle.sc_region.specs.Classes.{MeetsAt};
     ghost use Rattle.sc_region.specs.Objects.{object_numbered};
     ghost use Rattle.sc_region.specs.Stores.{is_settled};
@@ -44,6 +48,7 @@ impl<'p> LoggedRegion<'p> {
     {
         LoggedRegion {
             region: Region::new(alloc, program, handler),
+            handler,
             log: Log::new(alloc),
         }
     }
@@ -64,10 +69,44 @@ impl<'p> LoggedRegion<'p> {
             ((region_of self.new ≡ region_of self.old) ⊎ IsRefused job.now (region_of self.old) (region_of self.new)) }
         ensures kept { OnErr result (entries_of self.new ≡ entries_of self.old) }
     {
+        let mut want = Want::Continue;
+        let turns = self.play_asking(job, limit, &mut want)?;
+        Ok(Outcome {
+            handler: self.handler,
+            turns,
+            want,
+        })
+    }
+
+    /// The same, where what is asked is written into a place: how many turns are made.
+    pub fn play_asking(
+        &mut self,
+        job: &Job,
+        limit: u32,
+        asked: &mut Want,
+    ) -> Result<u32, AllocError>
+        requires limit { 1 ≤ limit }
+        requires asked { asked.old ≡ want.Continue }
+        ensures ok { IfOk result (λ turns.
+            Plays limit job.now (region_of self.old) (region_of self.new) (outcome (region_of self.old).handler turns asked.new)) }
+        ensures logged { IfOk result (λ turns.
+            entries_of self.new ≡ entries_of self.old ++ entry_of job.now (outcome (region_of self.old).handler turns asked.new) ∷ []) }
+        ensures err { OnErr result
+            ((region_of self.new ≡ region_of self.old) ⊎ IsRefused job.now (region_of self.old) (region_of self.new)) }
+        ensures kept { OnErr result (entries_of self.new ≡ entries_of self.old) }
+        ensures handler { (region_of self.new).handler ≡ (region_of self.old).handler }
+    {
         self.log.reserve(1)?;
-        let outcome = self.region.play(job, limit)?;
-        note(&mut self.log, job, &outcome);
-        Ok(outcome)
+        let turns = self.region.play_asking(job, limit, asked)?;
+        note(&mut self.log, self.handler, job, turns, asked);
+        Ok(turns)
+    }
+
+    /// The number of the handler.
+    pub fn handler(&self) -> u16
+        ensures { result ≡ (region_of self.now).handler }
+    {
+        self.handler
     }
 
     /// The entries, which replay to the region.
