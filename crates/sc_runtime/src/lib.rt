@@ -9,5 +9,5 @@ pub mod laws;
 mod report;
 mod world;
 
-pub use report::code_of;
+pub use report::{code_of, is_busy, push_end, push_handler};
 pub use world::{Turned, World};

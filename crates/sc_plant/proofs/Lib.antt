@@ -1,0 +1,10 @@
+mod Comparing
+mod Crossing
+mod AtOnce
+mod Dues
+mod OneThread
+mod Openings
+mod Reporting
+mod Sames
+mod Slots
+mod Threaded

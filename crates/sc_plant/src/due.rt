@@ -1,0 +1,118 @@
+//! The core's calls as the workers make them: what is granted is settled at once, and what is settled is what is due.
+ghost use Rattle.std.specs.Prelude.{◌≡◌, IfOk, IfSome, IfNone, OnOk, OnErr, Some, is_some, true};
+ghost use Rattle.sc_lockpass.specs.declared.version.Version.TheVariants.{Two};
+ghost use Rattle.sc_request.specs.Candidates.{is_granting};
+ghost use Rattle.sc_request.specs.Cores.{center_of};
+ghost use Rattle.sc_request.specs.Rooms.{HasRoomFor};
+ghost use Rattle.sc_plant.specs.Due.{GrantsNone, IsSettled, SendsOut, Settled, Stays};
+
+use crate::copies::write_job;
+use sc_region::{Job, Want};
+use sc_request::Core;
+use std::alloc::AllocError;
+
+/// Why turns of a handler aren't settled.
+#[derive(Clone, Copy)]
+pub enum Undue {
+    /// It has nothing to do.
+    Idle,
+    /// There is no memory.
+    OutOfMemory,
+}
+
+/// The handler isn't out any more. So many turns of it, the last of which asks this, are settled under the job that it has
+/// to do now: the one that it was out with, where they were played of that.
+pub fn settle_due(core: &mut Core, handler: u16, turns: u32, want: &Want) -> Result<(), Undue>
+    requires none { GrantsNone (center_of core.old) }
+    requires version { core.old.state.rights.version ≡ Two }
+    ensures settled { OnOk result (Settled handler turns want.now core.old core.new) }
+    ensures stays { OnErr result (Stays core.old core.new) }
+    ensures none { GrantsNone (center_of core.new) }
+    ensures version { core.new.state.rights.version ≡ Two }
+{
+    core.put_back(handler);
+    if core.make_room().is_err() {
+        return Err(Undue::OutOfMemory);
+    }
+    if core.pick_at(handler) {
+        settle_out(core, handler, turns, want);
+        Ok(())
+    } else {
+        Err(Undue::Idle)
+    }
+}
+
+/// A handler that is out is settled.
+fn settle_out(core: &mut Core, handler: u16, turns: u32, want: &Want)
+    requires out { is_some ((center_of core.old).out handler) ≡ true }
+    requires room { HasRoomFor 0 core.old }
+    requires version { core.old.state.rights.version ≡ Two }
+    ensures settled { (job : Job) → (center_of core.old).out handler ≡ Some job → IsSettled handler job turns want.now core.old core.new }
+    ensures version { core.new.state.rights.version ≡ Two }
+{
+    if core.settle(handler, turns, want).is_err() {
+        unreachable!();
+    }
+}
+
+/// The next handler that has something to do, whose job is written into a place. Where its reserve step is granted, that
+/// turn is settled; else the handler is out with its job. None where no handler has anything to do.
+///
+/// # Errors
+/// Where there is no memory. Then no handler goes out.
+pub fn pick_due(core: &mut Core, place: &mut Job) -> Result<Option<u16>, AllocError>
+    requires none { GrantsNone (center_of core.old) }
+    requires version { core.old.state.rights.version ≡ Two }
+    ensures some { IfOk result (λ picked. IfSome picked (λ handler. SendsOut (is_granting place.new) handler core.old core.new)) }
+    ensures idle { IfOk result (λ picked. IfNone picked (Stays core.old core.new)) }
+    ensures stays { OnErr result (Stays core.old core.new) }
+    ensures none { GrantsNone (center_of core.new) }
+    ensures version { core.new.state.rights.version ≡ Two }
+{
+    core.make_room()?;
+    let Some(handler) = core.pick() else {
+        return Ok(None);
+    };
+    let Some(job) = core.job_out(handler) else {
+        unreachable!();
+    };
+    write_job(place, job);
+    if is_granting(place) {
+        let want = Want::Continue;
+        settle_out(core, handler, 1, &want);
+        return Ok(Some(handler));
+    }
+    Ok(Some(handler))
+}
+
+/// Whether the job is what a reserve step was granted.
+pub fn is_granting(job: &Job) -> bool
+    ensures { result ≡ is_granting job.now }
+{
+    matches!(job, Job::Granted(_))
+}
+
+/// A handler that has something to do is out with it: its job. None where it has nothing to do, where its reserve step is
+/// granted, or where there is no memory. Then it isn't out.
+pub fn pick_again(core: &mut Core, handler: u16) -> Option<Job>
+    requires none { GrantsNone (center_of core.old) }
+    requires version { core.old.state.rights.version ≡ Two }
+    ensures stays { Stays core.old core.new }
+    ensures none { GrantsNone (center_of core.new) }
+    ensures version { core.new.state.rights.version ≡ Two }
+{
+    if core.make_room().is_err() {
+        return None;
+    }
+    let Some(job) = core.pick_for(handler) else {
+        return None;
+    };
+    if is_granting(&job) {
+        return None;
+    }
+    if core.pick_at(handler) {
+        Some(job)
+    } else {
+        None
+    }
+}

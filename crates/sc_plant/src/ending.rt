@@ -1,0 +1,57 @@
+//! Whether a run is over.
+ghost use Rattle.std.specs.Prelude.{◌≡◌, IfSome};
+ghost use Rattle.std.specs.Bool.{OnTrue};
+ghost use Rattle.sc_request.specs.Cores.{center_of, log_of};
+ghost use Rattle.sc_plant.specs.Left.{IsOver, turns_in};
+
+use crate::of_program::OfProgram;
+use crate::recorded_core::RecordedCore;
+use crate::scheduler::MOST_LINES;
+use sc_audit::RecordLine;
+use sc_request::Core;
+
+/// Whether no handler is out, and nothing can be picked, or no more may be.
+pub fn is_over<P: OfProgram>(recorded: &mut RecordedCore<P>, limit: u32) -> bool
+    ensures over { OnTrue result (IsOver limit (center_of recorded.new.core) recorded.new.lines.items) }
+    ensures lines { recorded.new.lines ≡ recorded.old.lines }
+{
+    let RecordedCore { core, lines, .. } = recorded;
+    is_idle_or_full(core, lines.as_slice(), limit)
+}
+
+/// The same, of a core and its record.
+fn is_idle_or_full(core: &mut Core, lines: &[RecordLine], limit: u32) -> bool
+    ensures over { OnTrue result (IsOver limit (center_of core.new) lines.now) }
+    ensures center { center_of core.new ≡ center_of core.old }
+    ensures log { log_of core.new ≡ log_of core.old }
+    ensures version { core.new.state.rights.version ≡ core.old.state.rights.version }
+{
+    let is_idle = core.comes_again(0);
+    if core.out_count() > 0 {
+        return false;
+    }
+    if is_idle {
+        return true;
+    }
+    if lines.len() == MOST_LINES {
+        return true;
+    }
+    let Some(turns) = turns_in(lines) else {
+        return false;
+    };
+    if turns == limit {
+        return true;
+    }
+    false
+}
+
+/// How many turns there are in the lines of a record, where that is below 2^32.
+fn turns_in(lines: &[RecordLine]) -> Option<u32>
+    ensures { IfSome result (λ n. n ≡ turns_in lines.now) }
+{
+    let mut turns = 0u32;
+    for line in lines {
+        turns = turns.checked_add(line.turns)?;
+    }
+    Some(turns)
+}

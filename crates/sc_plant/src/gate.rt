@@ -1,0 +1,11 @@
+//! Who is told of a run on its way.
+
+/// Is told as a worker begins to play a handler's turns, and as it has played them. The worker holds the region of the handler
+/// then, and nothing else.
+pub trait Gate: Sync {
+    /// The region of the handler was locked.
+    fn began(&self, handler: u16);
+
+    /// The region of the handler is let go next.
+    fn ended(&self, handler: u16);
+}

@@ -1,0 +1,67 @@
+//! What a run on several threads leaves.
+ghost use Rattle.std.specs.Prelude.{◌≡◌, IfOk, slice_get};
+ghost use Rattle.sc_runtime.specs.Reports as told;
+ghost use Rattle.sc_plant.specs.Left.{world_of};
+
+use sc_audit::RecordLine;
+use sc_lockpass::Version;
+use sc_request::Core;
+use sc_runtime::{is_busy, push_end, push_handler};
+use sc_worklog::LoggedRegion;
+use std::alloc::{AllocError, Global};
+
+/// What a run leaves: the region of each handler by number, with regions for those that there may be, and the core.
+#[derive(Drop)]
+pub struct Left<'p> {
+    pub regions: Vec<LoggedRegion<'p>>,
+    pub core: Core,
+    /// Which handler made how many turns, in the order in which they were settled.
+    pub lines: Vec<RecordLine>,
+    pub version: Version,
+}
+
+/// Why a run isn't done.
+#[derive(Drop)]
+pub enum RunFault<'p> {
+    /// U1: memory was refused. What the run left then; or none, where it was refused as the run began, or to a turn that was
+    /// settled already.
+    OutOfMemory(Option<Left<'p>>),
+    /// U2: a thread was refused.
+    ThreadRefused,
+    /// U3: the region of this handler played other jobs, or turns, than were settled of it. The workers never cause this.
+    LogsDiffer(u16, Left<'p>),
+}
+
+impl<'p> Left<'p> {
+    /// Each handler's line and output, and how the run has ended.
+    ///
+    /// # Errors
+    /// Where there is no memory.
+    pub fn report(&self, alloc: Global) -> Result<Vec<u8>, AllocError>
+        ensures { IfOk result (λ report. report.items ≡ told.report (world_of self.now)) }
+    {
+        let mut report = Vec::new(alloc);
+        let mut ends_busy = false;
+        for handler in 0..self.core.handler_count() {
+            let Some(status) = self.core.status(handler as u16) else {
+                break;
+            };
+            let refused = self.core.refused(handler as u16).unwrap_or(0);
+            let output = self.output(handler);
+            push_handler(alloc, &mut report, handler, status, refused, output)?;
+            ends_busy = ends_busy || is_busy(status);
+        }
+        push_end(&mut report, ends_busy)?;
+        Ok(report)
+    }
+
+    /// What a handler printed.
+    fn output(&self, handler: usize) -> &[u8]
+        ensures { result.now ≡ told.output_in (slice_get (world_of self.now).regions handler) }
+    {
+        match self.regions.get(handler) {
+            Some(region) => region.output(),
+            None => &[],
+        }
+    }
+}

@@ -1,0 +1,32 @@
+//! Runs of a program on several threads.
+//!
+//! [`run`] plays the handlers of a program by several workers. A worker picks a handler with its job from the core, plays the
+//! handler's region, and settles what that came to. The core lies under one lock, each region under one of its own, and no
+//! worker holds two.
+//!
+//! What lies under a lock keeps what is known of it: the settlements of the core lead from the opening to its state, and the
+//! turns of a region's log lead to the region. When the workers have ended, the logs are compared. So what is [`Left`] is
+//! what one thread makes of the turns of the record, as [`laws`] say.
+#![tactic(auto)]
+
+mod compare;
+mod copies;
+mod due;
+mod ending;
+mod gate;
+pub mod laws;
+mod leaving;
+mod left;
+mod of_program;
+mod opening;
+mod recorded_core;
+mod running;
+mod same;
+mod scheduler;
+mod slot;
+mod task;
+mod workers;
+
+pub use gate::Gate;
+pub use left::{Left, RunFault};
+pub use running::run;

@@ -1,0 +1,164 @@
+//! Which handler a worker plays next: what lies under the lock of the core.
+use crate::due::Undue;
+use crate::of_program::OfProgram;
+use crate::recorded_core::RecordedCore;
+use crate::task::{Played, Task};
+use sc_region::Job;
+use std::mem;
+
+/// The most turns of a task.
+const MOST_TURNS: u32 = 256;
+
+/// The most lines of a record.
+pub const MOST_LINES: usize = 1_000_000;
+
+/// Why the workers end before there is nothing to do.
+#[derive(Clone, Copy, PartialEq, Eq)]
+pub enum Stop {
+    /// There was no memory. What was played is settled, and who was refused is put back.
+    OutOfMemory,
+    /// There was no memory for a turn that is settled, or to settle turns that were played.
+    Lost,
+    /// There was no thread.
+    ThreadRefused,
+}
+
+/// What a worker does next.
+#[derive(Clone, Copy)]
+pub enum Next {
+    /// It plays its task.
+    Play,
+    /// There is nothing to do, until some handler that is out comes back.
+    Wait,
+    /// There is nothing to do, and no handler is out; or nothing more may be done.
+    End,
+}
+
+/// The core with its record, how many turns are left to be picked, how many workers sleep, and why all of them end, if they
+/// are to.
+#[derive(Drop)]
+pub struct Scheduler<P: OfProgram> {
+    pub recorded: RecordedCore<P>,
+    pub turns: u32,
+    pub asleep: u32,
+    pub stop: Option<Stop>,
+}
+
+impl<P: OfProgram> Scheduler<P> {
+    /// The workers are to end. That a settled turn is lost goes before other reasons.
+    pub fn stop_for(&mut self, why: Stop) {
+        if self.stop.is_none() || why == Stop::Lost {
+            self.stop = Some(why);
+        }
+    }
+
+    /// What a task came to is taken in.
+    pub fn take_in(&mut self, task: &Task, played: Played) {
+        match played {
+            Played::Nothing => self.put_back(task),
+            Played::Made(turns) => self.settle(task, turns),
+            Played::CutShort(turns) => {
+                self.settle(task, turns);
+                self.stop_for(Stop::OutOfMemory);
+            }
+            Played::Refused => {
+                self.put_back(task);
+                self.stop_for(Stop::OutOfMemory);
+            }
+            Played::Lost => {
+                self.put_back(task);
+                self.stop_for(Stop::Lost);
+            }
+        }
+    }
+
+    /// The handler of a task isn't out any more, and nothing of its job is settled.
+    fn put_back(&mut self, task: &Task) {
+        if task.is_out {
+            self.recorded.put_back(task.handler);
+        }
+        self.give_back(task.turns);
+    }
+
+    /// Settles so many turns of the job of a task. Where its handler has nothing to do, they aren't settled: then its region's
+    /// log has more than its settlements, which the comparison of the logs tells.
+    fn settle(&mut self, task: &Task, turns: u32) {
+        match self.recorded.settle(task.handler, turns, &task.asked) {
+            Ok(()) => self.give_back(task.turns.saturating_sub(turns)),
+            Err(Undue::Idle) => self.give_back(task.turns),
+            Err(Undue::OutOfMemory) => self.stop_for(Stop::Lost),
+        }
+    }
+
+    fn give_back(&mut self, turns: u32) {
+        self.turns = self.turns.saturating_add(turns);
+    }
+
+    /// Whether no more may be picked.
+    fn is_full(&self) -> bool {
+        let out = self.recorded.core.out_count();
+        self.turns == 0 || self.recorded.lines.len().saturating_add(out) >= MOST_LINES
+    }
+
+    /// What comes next for a worker, whose task is written over.
+    pub fn next(&mut self, task: &mut Task) -> Next {
+        if self.stop.is_none() && !self.is_full() {
+            match self.recorded.pick(&mut task.job) {
+                Ok(Some(handler)) => {
+                    self.send(handler, task);
+                    return Next::Play;
+                }
+                Ok(None) => {}
+                Err(_) => self.stop_for(Stop::OutOfMemory),
+            }
+        }
+        if self.stop.is_none() && self.recorded.core.out_count() > 0 {
+            Next::Wait
+        } else {
+            Next::End
+        }
+    }
+
+    /// Completes the task of a handler that was picked.
+    fn send(&mut self, handler: u16, task: &mut Task) {
+        task.handler = handler;
+        task.is_out = true;
+        if task.granted.is_some() {
+            task.granted = None;
+        }
+        if let Job::Granted(_) = &task.job {
+            self.send_granted(handler, task);
+        }
+        task.turns = self.turns.min(MOST_TURNS);
+        self.turns = self.turns.saturating_sub(task.turns);
+    }
+
+    /// A handler whose reserve step was granted goes out with the job behind it, so that no other worker picks it before that
+    /// turn is played.
+    fn send_granted(&mut self, handler: u16, task: &mut Task) {
+        self.turns = self.turns.saturating_sub(1);
+        match self.recorded.pick_again(handler) {
+            Some(job) => task.granted = Some(mem::replace(&mut task.job, job)),
+            None => {
+                task.granted = Some(mem::replace(&mut task.job, Job::Go));
+                task.is_out = false;
+                self.stop_for(Stop::OutOfMemory);
+            }
+        }
+    }
+
+    /// Whether a worker that sleeps may find something to do, beside the handler that goes out.
+    pub fn wakes(&mut self, handler: u16) -> bool {
+        self.asleep > 0 && !self.recorded.is_idle(handler)
+    }
+
+    /// A worker goes to sleep.
+    pub fn falls_asleep(&mut self) {
+        self.asleep = self.asleep.saturating_add(1);
+    }
+
+    /// A worker has slept.
+    pub fn wakes_up(&mut self) {
+        self.asleep = self.asleep.saturating_sub(1);
+    }
+}

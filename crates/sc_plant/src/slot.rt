@@ -1,0 +1,93 @@
+//! A region under its lock.
+ghost use Rattle.std.specs.Prelude.{◌≡◌, ◌≤◌, ◌↔◌, IsTrue, Some, false};
+ghost use Rattle.sc_region.specs.declared.job.Want.TheVariants as want;
+ghost use Rattle.std.specs.Coded.{codes};
+ghost use Rattle.sc_formula.specs.contracts.formula.Formula as formula;
+ghost use Rattle.sc_formula.specs.contracts.term.Term as term;
+ghost use Rattle.sc_worklog.specs.LoggedRegions.{region_of};
+ghost use Rattle.sc_plant.specs.Regions.{IsMadeByLog};
+
+use crate::copies::clear_want;
+use crate::of_program::OfProgram;
+use crate::task::{Played, Task};
+use sc_code::Program;
+use sc_region::{Job, Want};
+use sc_worklog::LoggedRegion;
+use std::alloc::Global;
+use std::marker::PhantomData;
+
+/// The region of a handler of a run's program. Where memory was refused to none of its turns, the turns of its log lead to
+/// it.
+#[derive(Drop)]
+pub struct Slot<'p, P: OfProgram> {
+    pub region: LoggedRegion<'p>,
+    /// Memory was refused to a turn.
+    pub is_refused: bool,
+    pub of: PhantomData<P>,
+    pub ghost program: { P.image ≡ Some (region_of region).store.program } by { Prim.hlevel (codes, term.the_row.coded, formula.the_row.coded) },
+    pub ghost made: { is_refused ≡ false → ∥ IsMadeByLog region ∥₁ },
+}
+
+impl<'p, P: OfProgram> Slot<'p, P> {
+    /// The region of the handler of a number, which played nothing yet.
+    pub fn new(alloc: Global, program: &'p Program, handler: u16) -> Slot<'p, P>
+        requires { P.image ≡ Some program.now.image }
+    {
+        Slot {
+            region: LoggedRegion::new(alloc, program, handler),
+            is_refused: false,
+            of: PhantomData,
+        }
+    }
+
+    /// Plays a task: the turn that was granted, and then the job.
+    pub fn play(&mut self, task: &mut Task) -> Played {
+        let Task {
+            granted,
+            is_out,
+            job,
+            turns,
+            asked,
+            ..
+        } = task;
+        if let Some(granted) = granted {
+            match self.play_job(granted, 1, asked) {
+                Played::Made(_) => {}
+                _ => return Played::Lost,
+            }
+        }
+        if *is_out && *turns > 0 {
+            self.play_job(job, *turns, asked)
+        } else {
+            Played::Nothing
+        }
+    }
+
+    /// Plays a job, for so many turns at most.
+    fn play_job(&mut self, job: &Job, limit: u32, asked: &mut Want) -> Played
+        requires { 1 ≤ limit }
+    {
+        clear_want(asked);
+        match self.region.play_asking(job, limit, asked) {
+            Ok(turns) => {
+                if turns < limit && is_continue(asked) {
+                    self.is_refused = true;
+                    Played::CutShort(turns)
+                } else {
+                    Played::Made(turns)
+                }
+            }
+            Err(_) => {
+                self.is_refused = true;
+                Played::Refused
+            }
+        }
+    }
+}
+
+/// Whether the last turn asks nothing.
+fn is_continue(asked: &Want) -> bool
+    ensures { IsTrue result ↔ asked.now ≡ want.Continue }
+{
+    matches!(asked, Want::Continue)
+}
