@@ -1,1 +1,2 @@
 mod Headed
+mod Threaded

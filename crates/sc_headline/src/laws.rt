@@ -1,6 +1,8 @@
 //! Laws of worlds and replays, from the bytes of a source text on, each the contract of a function that does nothing.
 ghost use Rattle.sc_headline.specs.Headline.{Headline, ReplaysAreTheMachines, RunsAreTheMachines};
+ghost use Rattle.sc_headline.specs.ThreadsHeadline.{ThreadsHaveHeadline, ThreadsReportAsMachine};
 
+use sc_plant::laws::runs_are_one_threads;
 use sc_refinement::laws::{
     rounds_run_as_machine, standing_world_is_near, world_has_headline, world_reports_as_machine,
     world_runs_as_machine,
@@ -33,4 +35,22 @@ pub fn runs_are_the_machines()
     rounds_run_as_machine();
     standing_world_is_near();
     world_reports_as_machine();
+}
+
+/// For every source text that is accepted, and in whatever order the threads of a run come to their turns: what the run leaves
+/// is what one thread leaves that makes the turns of the record's lines. It stands for a state that the machine on trees
+/// reaches, and of that state the headline holds.
+pub fn threads_have_headline()
+    ensures { ThreadsHaveHeadline }
+{
+    headline();
+    runs_are_one_threads();
+}
+
+/// What a run on several threads leaves is what the machine on trees reports after the turns of the record's lines.
+pub fn threads_report_as_machine()
+    ensures { ThreadsReportAsMachine }
+{
+    replays_are_the_machines();
+    runs_are_one_threads();
 }

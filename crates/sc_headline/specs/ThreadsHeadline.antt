@@ -1,0 +1,38 @@
+-- What is claimed of what a run on several threads leaves, from the bytes of a source text on.
+use Rattle.std.specs.Prelude.{ℕ, List, map}
+use Rattle.sc_class.specs.ClassNames.{Root}
+use Rattle.sc_lockpass.specs.declared.version.Version.TheVariants.{Two}
+use Rattle.sc_code.specs.declared.program.Image.{Image}
+use Rattle.sc_request.specs.Cores.{log_of, state_of}
+use Rattle.sc_worklog.specs.LoggedRegions.{region_of}
+use Rattle.sc_runtime.specs.Reports as told
+use Rattle.sc_runtime.specs.Turning.{Runs}
+use Rattle.sc_runtime.specs.Worlds.{PlainWorld, opened}
+use Rattle.sc_plant.specs.declared.left.Left.{Left}
+use Rattle.sc_plant.specs.Left.{IsRun, world_of}
+use Rattle.sc_plant.specs.OneThread.{EndsIn}
+use Rattle.sc_plant.specs.Recorded.{turns_of}
+use Rattle.sc_execution.specs.Execution.{IsLoaded}
+use Rattle.sc_headline.specs.Headline.{IsMachineRun, StandsForReached}
+
+-- One thread that makes the turns of the record's lines, from the opening of the program, ends in a world with just the core
+-- and the regions that are left. It stands for a state that the machine reaches, of which the headline holds.
+pub record HasThreadsHeadline (text : List ℕ) (root : Root) (program : Image) (left : Left) : Type 0 where
+  pub world : PlainWorld
+  pub runs : Runs (turns_of (log_of left.core)) (opened program Two) world
+  pub ends : EndsIn world (state_of left.core) (map region_of left.regions.items)
+  pub reached : StandsForReached text root program Two world
+
+-- Of each run of a text's program, in whatever order its threads came to their turns.
+abbrev pub ThreadsHaveHeadline : Type 0
+ThreadsHaveHeadline =
+    (text : List ℕ) (root : Root) (program : Image) (limit : ℕ) (left : Left) →
+    IsLoaded text root program → IsRun program limit left →
+    ∥ HasThreadsHeadline text root program left ∥₁
+
+-- The report of what is left, and how its handlers stand, is what the machine reports after the turns of the record's lines.
+abbrev pub ThreadsReportAsMachine : Type 0
+ThreadsReportAsMachine =
+    (text : List ℕ) (root : Root) (program : Image) (limit : ℕ) (left : Left) →
+    IsLoaded text root program → IsRun program limit left →
+    ∥ IsMachineRun text root Two (turns_of (log_of left.core)) (told.report (world_of left)) (told.statuses (world_of left)) ∥₁
