@@ -5,6 +5,5 @@ mod Dues
 mod OneThread
 mod Openings
 mod Reporting
-mod Sames
 mod Slots
 mod Threaded

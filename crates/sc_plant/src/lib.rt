@@ -21,7 +21,6 @@ mod of_program;
 mod opening;
 mod recorded_core;
 mod running;
-mod same;
 mod scheduler;
 mod slot;
 mod task;
