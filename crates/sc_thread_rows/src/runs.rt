@@ -1,0 +1,80 @@
+//! A run by several workers, beside a world that plays its record.
+
+use sc_class::Root;
+use sc_code::Program;
+use sc_execution::load_text;
+use sc_plant::{Gate, Left, RunFault, run};
+use sc_runtime::World;
+use std::alloc::{AllocError, Global};
+use std::process::Abort;
+use std::sync::Wait;
+use std::test::Fail;
+use std::thread::Threads;
+
+/// A gate that lets all pass.
+pub struct Open;
+
+impl Gate for Open {
+    fn began(&self, _handler: u16) {}
+
+    fn ended(&self, _handler: u16) {}
+}
+
+/// The program of a system that is sound.
+pub fn load<R: Abort>(rt: &R, alloc: Global, text: &str) -> Result<Program, Fail> {
+    let root = Root {
+        class: String::from_str(alloc, "application")?,
+        procedure: String::from_str(alloc, "make")?,
+    };
+    match load_text(alloc, text, &root) {
+        Ok(program) => Ok(program),
+        Err(why) => {
+            assert_eq!(rt; format!(in alloc; "{why:?}")?.as_str(), "a program");
+            Err(Fail::from(AllocError))
+        }
+    }
+}
+
+/// What a run leaves: its report is that of a world which plays the record, also where memory was refused on the way.
+pub fn leave<R: Abort + Threads + Wait + Sync, G: Gate>(
+    rt: &R,
+    alloc: Global,
+    program: &Program,
+    workers: u8,
+    limit: u32,
+    gate: &G,
+) -> Result<String, Fail> {
+    match run(rt, alloc, program, workers, limit, gate) {
+        Ok(left) => replayed(rt, alloc, program, &left),
+        Err(RunFault::OutOfMemory(Some(left))) => {
+            replayed(rt, alloc, program, &left)?;
+            Err(Fail::from(AllocError))
+        }
+        Err(RunFault::LogsDiffer(handler, _)) => panic!(rt; "the logs of handler {handler} differ"),
+        Err(_) => Err(Fail::from(AllocError)),
+    }
+}
+
+/// The report of what is left, which a world tells too that plays the record.
+fn replayed<R: Abort>(
+    rt: &R,
+    alloc: Global,
+    program: &Program,
+    left: &Left<'_>,
+) -> Result<String, Fail> {
+    let mut world = World::open(alloc, program, left.version)?;
+    for line in &left.lines {
+        world.turns_of(line.handler, line.turns)?;
+    }
+    let report = text_of(left.report(alloc)?)?;
+    let told = text_of(world.report()?)?;
+    assert_eq!(rt; report.as_str(), told.as_str());
+    Ok(report)
+}
+
+fn text_of(bytes: Vec<u8>) -> Result<String, Fail> {
+    match String::from_utf8(bytes) {
+        Ok(text) => Ok(text),
+        Err(_) => Err(Fail::from("a report that is no text")),
+    }
+}
