@@ -44,10 +44,13 @@ impl<P: OfProgram> RecordedCore<P> {
     /// The next handler that has something to do, whose job is written into a place. Where its reserve step is granted, that
     /// turn is settled and recorded; else the handler is out with its job. None where no handler has anything to do.
     ///
+    /// There is room in the record then for all that are out, and for what comes behind a granted turn.
+    ///
     /// # Errors
     /// Where there is no memory. Then no handler goes out.
     pub fn pick(&mut self, place: &mut Job) -> Result<Option<u16>, AllocError> {
-        self.lines.reserve(1)?;
+        let wanted = self.core.out_count().saturating_add(2);
+        self.lines.reserve(wanted)?;
         let Some(handler) = due::pick_due(&mut self.core, place)? else {
             return Ok(None);
         };

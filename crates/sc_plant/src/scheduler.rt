@@ -94,10 +94,15 @@ impl<P: OfProgram> Scheduler<P> {
         self.turns = self.turns.saturating_add(turns);
     }
 
+    /// How many lines the record has once all that are out are settled.
+    fn lines_to_come(&self) -> usize {
+        let out = self.recorded.core.out_count();
+        self.recorded.lines.len().saturating_add(out)
+    }
+
     /// Whether no more may be picked.
     fn is_full(&self) -> bool {
-        let out = self.recorded.core.out_count();
-        self.turns == 0 || self.recorded.lines.len().saturating_add(out) >= MOST_LINES
+        self.turns == 0 || self.lines_to_come() >= MOST_LINES
     }
 
     /// What comes next for a worker, whose task is written over.
@@ -129,7 +134,11 @@ impl<P: OfProgram> Scheduler<P> {
         if let Job::Granted(_) = &task.job {
             self.send_granted(handler, task);
         }
-        task.turns = self.turns.min(MOST_TURNS);
+        task.turns = if self.lines_to_come() > MOST_LINES {
+            0
+        } else {
+            self.turns.min(MOST_TURNS)
+        };
         self.turns = self.turns.saturating_sub(task.turns);
     }
 
