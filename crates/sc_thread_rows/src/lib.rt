@@ -1,4 +1,4 @@
-//! Tests alone: systems that several workers run, and what their records leave where one thread plays them.
+//! Tests alone: systems that several workers run, beside replays of their records.
 #![tactic(auto)]
 
 #[cfg(test)]

@@ -1,10 +1,10 @@
-//! A run by several workers, beside a world that plays its record.
+//! A run by several workers, beside the replay of its record.
 
+use sc_audit::Record;
 use sc_class::Root;
 use sc_code::Program;
-use sc_execution::load_text;
+use sc_execution::{Outcome, load_text, replay};
 use sc_plant::{Gate, Left, RunFault, run};
-use sc_runtime::World;
 use std::alloc::{AllocError, Global};
 use std::process::Abort;
 use std::sync::Wait;
@@ -35,7 +35,7 @@ pub fn load<R: Abort>(rt: &R, alloc: Global, text: &str) -> Result<Program, Fail
     }
 }
 
-/// What a run leaves: its report is that of a world which plays the record, also where memory was refused on the way.
+/// The report of what a run leaves. A replay of its record reports the same, also where memory was refused on the way.
 pub fn leave<R: Abort + Threads + Wait + Sync, G: Gate>(
     rt: &R,
     alloc: Global,
@@ -45,9 +45,9 @@ pub fn leave<R: Abort + Threads + Wait + Sync, G: Gate>(
     gate: &G,
 ) -> Result<String, Fail> {
     match run(rt, alloc, program, workers, limit, gate) {
-        Ok(left) => replayed(rt, alloc, program, &left),
+        Ok(left) => replayed(rt, alloc, program, left),
         Err(RunFault::OutOfMemory(Some(left))) => {
-            replayed(rt, alloc, program, &left)?;
+            replayed(rt, alloc, program, left)?;
             Err(Fail::from(AllocError))
         }
         Err(RunFault::LogsDiffer(handler, _)) => panic!(rt; "the logs of handler {handler} differ"),
@@ -55,19 +55,18 @@ pub fn leave<R: Abort + Threads + Wait + Sync, G: Gate>(
     }
 }
 
-/// The report of what is left, which a world tells too that plays the record.
+/// The report of what is left, which a replay of its record tells too.
 fn replayed<R: Abort>(
     rt: &R,
     alloc: Global,
     program: &Program,
-    left: &Left<'_>,
+    left: Left<'_>,
 ) -> Result<String, Fail> {
-    let mut world = World::open(alloc, program, left.version)?;
-    for line in &left.lines {
-        world.turns_of(line.handler, line.turns)?;
-    }
     let report = text_of(left.report(alloc)?)?;
-    let told = text_of(world.report()?)?;
+    let Left { lines, version, .. } = left;
+    let record = Record { version, lines };
+    let Outcome { report: told, .. } = replay(alloc, program, &record)?;
+    let told = text_of(told)?;
     assert_eq!(rt; report.as_str(), told.as_str());
     Ok(report)
 }
