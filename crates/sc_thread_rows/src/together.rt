@@ -10,8 +10,9 @@ use std::thread;
 use std::thread::Threads;
 use std::time::{Clock, Duration};
 
-/// Looks at most so often whether it may go on, with a millisecond after each look.
-const LOOKS: u32 = 10_000;
+/// Looks at most so often whether it may go on, with a millisecond after each look. Where memory is refused to another worker it
+/// looks in vain.
+const LOOKS: u32 = 3_000;
 
 /// A handler that waits, as a worker begins to play it, until others were played.
 #[derive(Clone, Copy)]
