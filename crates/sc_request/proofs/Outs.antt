@@ -123,6 +123,28 @@ outs_within (x ∷ xs) = let rest = outs_within xs in elim (cases_Bool (is_some 
   | inr b ↦ rw b (omega (arith, rest))
 ]
 
+none_if : (o : Option Job) (n : ℕ) → (if is_some o then n + 1 else n) ≡ 0 → (o ≡ None) × (n ≡ 0)
+none_if None n e = (refl, e)
+none_if (Some j) n e = absurd (omega (arith, e))
+
+-- where nobody counts as out, nobody is
+pub none_out : (xs : List coded.Handler) (h : ℕ) → out_total xs ≡ 0 → out_at xs h ≡ None
+none_out [] h e = refl
+none_out (x ∷ xs) zero e = (none_if x.out (out_total xs) e).0
+none_out (x ∷ xs) (suc h) e = none_out xs h (none_if x.out (out_total xs) e).1
+
+-- one that is out counts
+pub is_counted : (xs : List coded.Handler) (h : ℕ) → is_some (out_at xs h) ≡ true → 1 ≤ out_total xs
+is_counted [] h is = cc
+is_counted (x ∷ xs) zero is = rw is (omega arith)
+is_counted (x ∷ xs) (suc h) is = let rest = is_counted xs h is in elim (cases_Bool (is_some x.out)) [
+  | inl b ↦ rw b (omega arith)
+  | inr b ↦ rw b rest
+]
+
+pub none_is_out : {o : Option Job} → o ≡ None → is_some o ≡ true → ⊥
+none_is_out none is = let bad : false ≡ true = sym (ap is_some none) ∙ is in cc
+
 -- ---- the center
 
 pub picked_center : (count : ℕ) (xs : List coded.Handler) (sessions : List ℕ) (t t' : Table) (last h : ℕ) (x : coded.Handler) (j : Job) →

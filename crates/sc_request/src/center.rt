@@ -1,5 +1,5 @@
 //! The core.
-ghost use Rattle.std.specs.Prelude.{◌≡◌, ◌≤◌, ◌*◌, ◌∷◌, IfOk, Some, replicate, vec_len};
+ghost use Rattle.std.specs.Prelude.{◌≡◌, ◌≤◌, ◌*◌, ◌∷◌, ℕ, IfOk, Some, replicate, vec_len};
 ghost use Rattle.sc_lockpass.specs.Versions.{most_handlers};
 ghost use Rattle.sc_request.specs.Candidates.{AreCandidates, AreReserving, HasGrantsBelow, HasOutsBelow};
 ghost use Rattle.sc_request.specs.Logs.{root_of};
@@ -167,7 +167,9 @@ impl Core {
 
     /// How many handlers are out.
     pub fn out_count(&self) -> usize
-        ensures { result ≡ out_total self.now.state.handlers.items }
+        ensures total { result ≡ out_total self.now.state.handlers.items }
+        ensures outs { result ≡ self.now.outs }
+        ensures none { result ≡ 0 → (h : ℕ) → (center_of self.now).out h ≡ None }
     {
         self.outs
     }

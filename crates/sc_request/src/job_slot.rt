@@ -3,7 +3,7 @@ ghost use Rattle.std.specs.Prelude.{◌≡◌, None, Some, is_some};
 ghost use Rattle.std.specs.Option.{option_map};
 ghost use Rattle.sc_region.specs.declared.job.Job.TheVariants as job;
 
-use crate::copy::{copy_request, write_request};
+use crate::copy::{copy_handlers, copy_request, write_request};
 use sc_region::{Job, Request, Value};
 use std::marker::Model;
 
@@ -119,6 +119,33 @@ impl JobSlot {
         self.job = Job::Refused;
         self.is_full = true;
     }
+}
+
+/// Makes a job the same as another one. Where both are of one kind no large value is moved.
+pub fn write_job(place: &mut Job, job: &Job)
+    ensures { place.new ≡ job.now }
+{
+    match job {
+        Job::Take(request) => write_take(place, request),
+        Job::Reply(value) => write_reply(place, *value),
+        Job::Go => write_go(place),
+        _ => renew_job(place, job),
+    }
+}
+
+#[inline(never)]
+fn renew_job(place: &mut Job, job: &Job)
+    ensures { place.new ≡ job.now }
+{
+    *place = match job {
+        Job::Take(request) => Job::Take(copy_request(request)),
+        Job::Reply(value) => Job::Reply(*value),
+        Job::Failed => Job::Failed,
+        Job::Refused => Job::Refused,
+        Job::Granted(handlers) => Job::Granted(copy_handlers(handlers)),
+        Job::Made(made) => Job::Made(*made),
+        Job::Go => Job::Go,
+    };
 }
 
 fn write_take(place: &mut Job, request: &Request)

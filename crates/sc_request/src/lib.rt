@@ -35,5 +35,6 @@ mod steps;
 mod touching;
 
 pub use center::Core;
+pub use job_slot::write_job;
 pub use logged::Log;
 pub use settlement::{SettleFault, Settlement};

@@ -21,6 +21,7 @@ impl Core {
         ensures below { IfSome result (λ handler. handler < 512) }
         ensures center { center_of self.new ≡ picks (next (center_of self.old)) (center_of self.old) }
         ensures log { log_of self.new ≡ log_of self.old }
+        ensures outs { IfSome result (λ handler. self.new.outs ≡ self.old.outs + 1) }
         ensures room { (n : ℕ) → HasRoomFor (n + 1) self.old → HasRoomFor n self.new }
         ensures version { self.new.state.rights.version ≡ self.old.state.rights.version }
     {
@@ -37,6 +38,7 @@ impl Core {
         ensures home { (center_of self.old).out handler ≡ None → result ≡ not (is_some (next (center_of self.old))) }
         ensures center { center_of self.new ≡ center_of self.old }
         ensures log { log_of self.new ≡ log_of self.old }
+        ensures outs { self.new.outs ≡ self.old.outs }
         ensures room { (n : ℕ) → HasRoomFor n self.old → HasRoomFor n self.new }
         ensures version { self.new.state.rights.version ≡ self.old.state.rights.version }
     {
@@ -62,10 +64,11 @@ impl Core {
     }
 
     /// Whether there is a handler that has something to do and isn't out.
-    fn has_next(&mut self) -> bool
+    pub fn has_next(&mut self) -> bool
         ensures next { result ≡ is_some (next (center_of self.old)) }
         ensures center { center_of self.new ≡ center_of self.old }
         ensures log { log_of self.new ≡ log_of self.old }
+        ensures outs { self.new.outs ≡ self.old.outs }
         ensures room { (n : ℕ) → HasRoomFor n self.old → HasRoomFor n self.new }
         ensures version { self.new.state.rights.version ≡ self.old.state.rights.version }
     {
@@ -80,6 +83,7 @@ impl Core {
         ensures below { IsTrue result → handler < 512 }
         ensures center { center_of self.new ≡ picked_if handler (logs.pick_for handler (center_of self.old)) (center_of self.old) }
         ensures log { log_of self.new ≡ log_of self.old }
+        ensures outs { IsTrue result → self.new.outs ≡ self.old.outs + 1 }
         ensures room { (n : ℕ) → HasRoomFor (n + 1) self.old → HasRoomFor n self.new }
         ensures version { self.new.state.rights.version ≡ self.old.state.rights.version }
     {
@@ -95,6 +99,8 @@ impl Core {
         ensures center { center_of self.new ≡ logs.put_back handler (center_of self.old) }
         ensures log { log_of self.new ≡ log_of self.old }
         ensures room { (n : ℕ) → HasRoomFor n self.old → HasRoomFor n self.new }
+        ensures home { is_some ((center_of self.old).out handler) ≡ true → (n : ℕ) → HasRoomFor n self.old → HasRoomFor (n + 1) self.new }
+        ensures outs { is_some ((center_of self.old).out handler) ≡ true → self.old.outs ≡ self.new.outs + 1 }
         ensures version { self.new.state.rights.version ≡ self.old.state.rights.version }
     {
         let at = handler as usize;
@@ -121,6 +127,7 @@ impl Core {
         requires { is_some (logs.pick_for handler (center_of self.old)) ≡ true }
         ensures center { center_of self.new ≡ picked_if handler (logs.pick_for handler (center_of self.old)) (center_of self.old) }
         ensures log { log_of self.new ≡ log_of self.old }
+        ensures outs { self.new.outs ≡ self.old.outs + 1 }
         ensures room { (n : ℕ) → HasRoomFor (n + 1) self.old → HasRoomFor n self.new }
         ensures version { self.new.state.rights.version ≡ self.old.state.rights.version }
     {

@@ -17,6 +17,7 @@ impl Core {
         ensures room { OnOk result (HasRoomFor 1 self.new) }
         ensures center { center_of self.new ≡ center_of self.old }
         ensures log { log_of self.new ≡ log_of self.old }
+        ensures outs { self.new.outs ≡ self.old.outs }
         ensures kept { (n : ℕ) → HasRoomFor n self.old → HasRoomFor n self.new }
         ensures version { self.new.state.rights.version ≡ self.old.state.rights.version }
     {

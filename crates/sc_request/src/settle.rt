@@ -38,6 +38,7 @@ impl Core {
         ensures not_out { is_not_out result ≡ not (is_some ((center_of self.old).out handler)) }
         ensures short { HasRoomFor 0 self.old → is_short result ≡ false }
         ensures unchanged { OnErr result ((center_of self.new ≡ center_of self.old) × (log_of self.new ≡ log_of self.old)) }
+        ensures outs { OnOk result (self.old.outs ≡ self.new.outs + 1) }
         ensures room { (n : ℕ) → HasRoomFor n self.old → HasRoomFor n self.new }
         ensures version { self.new.state.rights.version ≡ self.old.state.rights.version }
     {
@@ -65,6 +66,7 @@ impl Core {
         requires entries { HasPlaces 1 self.old.log }
         ensures center { (job : Job) → (center_of self.old).out handler ≡ Some job → center_of self.new ≡ settles (most_handlers self.old.state.rights.version) handler job turns want.now (center_of self.old) }
         ensures log { (job : Job) → (center_of self.old).out handler ≡ Some job → log_of self.new ≡ log_of self.old ++ settlement handler job turns want.now ∷ [] }
+        ensures outs { self.old.outs ≡ self.new.outs + 1 }
         ensures room { (n : ℕ) → HasRoomFor n self.old → HasRoomFor n self.new }
         ensures version { self.new.state.rights.version ≡ self.old.state.rights.version }
     {

@@ -7,7 +7,7 @@ use Rattle.sc_region.specs.declared.job.Job.{Job}
 use Rattle.sc_request.specs.Candidates.{AreCandidates, AreReserving, HasGrantsBelow, HasOutsBelow}
 use Rattle.sc_request.specs.Sound.{IsSound}
 use Rattle.sc_request.specs.Tables.{center, handler_at, out_total, state_of}
-use Rattle.sc_request.proofs.Outs.{back_center, fewer_out, out_is, stays, with_job}
+use Rattle.sc_request.proofs.Outs.{back_center, fewer_out, is_counted, none_is_out, out_is, stays, with_job}
 use Rattle.sc_request.proofs.Granting.{candidates_back, grants_back, outs_back, sound_back}
 use Rattle.sc_request.proofs.Reserving.{same_reserving}
 use Rattle.sc_request.proofs.Shapes.{job_is}
@@ -94,3 +94,50 @@ returns-clause-center c =
     let some = sym (out_is xs h x e) ∙ out_is xs h y read ∙ job_is y.out c.get.result c.in-Some.job c.get.ensures c.in-Some.is in
     ap (λ (o : Option Job). center s.state.count (slice_set xs h (with_job o x)) s.state.sessions.items c.release_granted.new.rights s.last) c.clear.ensures
     ∙ back_center s.state.count xs s.state.sessions.items s.state.rights c.release_granted.new.rights s.last h x j e some c.release_granted.ensures.rights
+
+pub returns-in_default-clause-home : goal.returns-in_default-clause-home
+returns-in_default-clause-home c = λ is.
+    let s = c.args.self.now in
+    let xs = s.state.handlers.items in
+    let h = c.args.handler in
+    let x = c.index.result.now in
+    let below = c.if-at-len.false in
+    let own = s.state.handlers.ok.0 in
+    let all = c.len.ensures in
+    let e = slice_get_read xs (length xs) h x refl (omega (arith, below, own, all)) c.index.ensures in
+    absurd (none_is_out (out_is xs h x e ∙ sym c.get.ensures ∙ ap (λ (r : Option (Bor Job)). option_map (λ (j : Bor Job). j.now) r) c.in_default.is) is)
+
+pub returns-in_default-clause-outs : goal.returns-in_default-clause-outs
+returns-in_default-clause-outs c = λ is.
+    let s = c.args.self.now in
+    let xs = s.state.handlers.items in
+    let h = c.args.handler in
+    let x = c.index.result.now in
+    let below = c.if-at-len.false in
+    let own = s.state.handlers.ok.0 in
+    let all = c.len.ensures in
+    let e = slice_get_read xs (length xs) h x refl (omega (arith, below, own, all)) c.index.ensures in
+    absurd (none_is_out (out_is xs h x e ∙ sym c.get.ensures ∙ ap (λ (r : Option (Bor Job)). option_map (λ (j : Bor Job). j.now) r) c.in_default.is) is)
+
+pub returns-clause-home : goal.returns-clause-home
+returns-clause-home c = λ is n r.
+    let s = c.args.self.now in
+    let some = is_counted s.state.handlers.items c.args.handler is in
+    let counted = s.counted in
+    let places = r.places in
+    let entries = r.entries in
+    let actuals = r.actuals in
+    let handlers = r.handlers in
+    record {
+      places = omega (arith, counted, some, places);
+      entries = omega (arith, counted, some, entries);
+      actuals = omega (arith, counted, some, actuals);
+      handlers = omega (arith, counted, some, handlers);
+    }
+
+pub returns-clause-outs : goal.returns-clause-outs
+returns-clause-outs c = λ is.
+    let s = c.args.self.now in
+    let some = is_counted s.state.handlers.items c.args.handler is in
+    let counted = s.counted in
+    omega (arith, counted, some)

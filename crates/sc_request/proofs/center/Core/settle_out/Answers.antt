@@ -19,7 +19,7 @@ use Rattle.sc_request.specs.Sound.{IsSound}
 use Rattle.sc_request.proofs.Granting.{granted_below}
 use Rattle.sc_request.proofs.Reserving.{same_reserving, settled_reserving}
 use Rattle.sc_request.proofs.Waking.{settled_candidates}
-use Rattle.sc_request.proofs.Settles.{settled_center, settled_grants, settled_outs, settled_sound, settled_total}
+use Rattle.sc_request.proofs.Settles.{out_counted, settled_center, settled_grants, settled_outs, settled_sound, settled_total}
 use Rattle.sc_request.proofs.Outs.{with_job}
 use Rattle.sc_request.proofs.center.Core.settle_out.Goals as goal
 
@@ -172,3 +172,11 @@ returns-clause-room c = λ n r.
       actuals = omega (arith, total, counted, rest.actuals);
       handlers = omega (arith, total, counted, rest.handlers);
     }
+
+pub returns-clause-outs : goal.returns-clause-outs
+returns-clause-outs c =
+    let s = c.args.self.now in
+    let out = job_is (outs_of s.state c.args.handler) c.job_out.result c.in-Some.job c.job_out.ensures c.in-Some.is in
+    let some = out_counted s.state.handlers.items c.args.handler c.in-Some.job.now out in
+    let counted = s.counted in
+    omega (arith, counted, some)
