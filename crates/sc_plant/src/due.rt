@@ -6,9 +6,8 @@ ghost use Rattle.sc_request.specs.Cores.{center_of};
 ghost use Rattle.sc_request.specs.Rooms.{HasRoomFor};
 ghost use Rattle.sc_plant.specs.Due.{GrantsNone, IsSettled, SendsOut, Settled, Stays};
 
-use crate::copies::write_job;
 use sc_region::{Job, Want};
-use sc_request::Core;
+use sc_request::{Core, write_job};
 use std::alloc::AllocError;
 
 /// Why turns of a handler aren't settled.

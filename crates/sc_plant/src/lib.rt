@@ -10,7 +10,6 @@
 #![tactic(auto)]
 
 mod compare;
-mod copies;
 mod due;
 mod ending;
 mod gate;
@@ -24,6 +23,7 @@ mod running;
 mod scheduler;
 mod slot;
 mod task;
+mod wants;
 mod workers;
 
 pub use gate::Gate;

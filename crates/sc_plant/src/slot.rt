@@ -7,9 +7,9 @@ ghost use Rattle.sc_formula.specs.contracts.term.Term as term;
 ghost use Rattle.sc_worklog.specs.LoggedRegions.{region_of};
 ghost use Rattle.sc_plant.specs.Regions.{IsMadeByLog};
 
-use crate::copies::clear_want;
 use crate::of_program::OfProgram;
 use crate::task::{Played, Task};
+use crate::wants::clear_want;
 use sc_code::Program;
 use sc_region::{Job, Want};
 use sc_worklog::LoggedRegion;

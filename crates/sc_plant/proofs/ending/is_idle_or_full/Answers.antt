@@ -8,7 +8,7 @@ use Rattle.sc_plant.proofs.ending.is_idle_or_full.Goals as goal
 pub returns-then-is_idle-clause-over : goal.returns-then-is_idle-clause-over
 returns-then-is_idle-clause-over c =
     let few = c.if-out_count-gt0.false in
-    let total = c.out_count.ensures in
+    let total = c.out_count.ensures.total in
     let core = c.comes_again-is_idle.new.self in
     let none : out_total core.state.handlers.items ≡ 0 = omega (arith, few, total) in
     let same = c.comes_again-is_idle.ensures.center in
@@ -21,7 +21,7 @@ returns-then-is_idle-clause-over c =
 pub returns-then-lines-eq-MOST_LINES-clause-over : goal.returns-then-lines-eq-MOST_LINES-clause-over
 returns-then-lines-eq-MOST_LINES-clause-over c =
     let few = c.if-out_count-gt0.false in
-    let total = c.out_count.ensures in
+    let total = c.out_count.ensures.total in
     let core = c.comes_again-is_idle.new.self in
     let none : out_total core.state.handlers.items ≡ 0 = omega (arith, few, total) in
     record { home = none_out core none; ends = inr (inr c.if-lines-eq-MOST_LINES.true) }
@@ -29,7 +29,7 @@ returns-then-lines-eq-MOST_LINES-clause-over c =
 pub returns-then-turns-limit-clause-over : goal.returns-then-turns-limit-clause-over
 returns-then-turns-limit-clause-over c =
     let few = c.if-out_count-gt0.false in
-    let total = c.out_count.ensures in
+    let total = c.out_count.ensures.total in
     let core = c.comes_again-is_idle.new.self in
     let none : out_total core.state.handlers.items ≡ 0 = omega (arith, few, total) in
     record { home = none_out core none; ends = inr (inl (sym c.in-Some.ensures ∙ c.if-turns-limit.true)) }
