@@ -89,8 +89,8 @@ abbrev dipping : System
 dipping = system (application
     (attribute (codes "c") (own (codes "cell")) ∷ procedure (codes "make") [] (create (codes "c") ∷ call_on (codes "c") (codes "dip") [] ∷ []) ∷ []) []
     ∷ class (codes "cell") []
-        (attribute (codes "n") integer ∷ procedure (codes "dip") [] (assign (codes "n") (both (entity (codes "n")) binary.Minus (number (pos 1))) ∷ []) ∷ [])
-        (both (entity (codes "n")) binary.GreaterEqual (number (pos 0)) ∷ []) ∷ [])
+    (attribute (codes "n") integer ∷ procedure (codes "dip") [] (assign (codes "n") (both (entity (codes "n")) binary.Minus (number (pos 1))) ∷ []) ∷ [])
+    (both (entity (codes "n")) binary.GreaterEqual (number (pos 0)) ∷ []) ∷ [])
 
 -- the turns are: take, create, enter `dip`, exit
 pub qualified_call_fails : outcome (played dipping (0 ∷ 0 ∷ 0 ∷ 0 ∷ [])) ≡ (false, (Failed Invariant, 0, []) ∷ [])
@@ -99,17 +99,17 @@ qualified_call_fails = refl
 -- the object of a creation that is refused meets its invariant
 pub refused_creation_fails :
     outcome (played (system (application
-        (attribute (codes "n") integer ∷ routine (codes "make") [] None (is_equal (entity (codes "n")) (pos 1) ∷ []) [] ∷ [])
-        (is_equal (entity (codes "n")) (pos 1) ∷ []) ∷ [])) (0 ∷ 0 ∷ []))
+    (attribute (codes "n") integer ∷ routine (codes "make") [] None (is_equal (entity (codes "n")) (pos 1) ∷ []) [] ∷ [])
+    (is_equal (entity (codes "n")) (pos 1) ∷ []) ∷ [])) (0 ∷ 0 ∷ []))
     ≡ (false, (Failed Invariant, 0, []) ∷ [])
 refused_creation_fails = refl
 
 -- an heir meets the invariant that it inherits
 pub inherited_invariant_fails :
     outcome (played (system (
-        heir_of (codes "base") [] (application
-            (procedure (codes "make") [] (assign (codes "n") (both (entity (codes "n")) binary.Minus (number (pos 1))) ∷ []) ∷ []) [])
-        ∷ class (codes "base") [] (attribute (codes "n") integer ∷ []) (both (entity (codes "n")) binary.GreaterEqual (number (pos 0)) ∷ []) ∷ [])) (0 ∷ 0 ∷ []))
+    heir_of (codes "base") [] (application
+    (procedure (codes "make") [] (assign (codes "n") (both (entity (codes "n")) binary.Minus (number (pos 1))) ∷ []) ∷ []) [])
+    ∷ class (codes "base") [] (attribute (codes "n") integer ∷ []) (both (entity (codes "n")) binary.GreaterEqual (number (pos 0)) ∷ []) ∷ [])) (0 ∷ 0 ∷ []))
     ≡ (false, (Failed Invariant, 0, []) ∷ [])
 inherited_invariant_fails = refl
 
@@ -228,7 +228,7 @@ abbrev blocking_two : System
 blocking_two = system (application
     (attribute (codes "b") (separate (codes "buffer")) ∷ attribute (codes "c") (separate (codes "buffer"))
     ∷ procedure (codes "make") [] (create (codes "b") ∷ create (codes "c")
-        ∷ block_of_two (entity (codes "b")) (codes "x") (entity (codes "c")) (codes "y") (call_on (codes "x") (codes "put") (number (pos 7) ∷ []) ∷ []) ∷ []) ∷ []) []
+    ∷ block_of_two (entity (codes "b")) (codes "x") (entity (codes "c")) (codes "y") (call_on (codes "x") (codes "put") (number (pos 7) ∷ []) ∷ []) ∷ []) ∷ []) []
     ∷ buffer ∷ [])
 
 -- the turns of handler 0 are: take, create, create, open, reserve
