@@ -14,11 +14,11 @@ use Rattle.sc_request.specs.Asked.{Numbering, asks_acting, asks_going, asks_movi
 use Rattle.sc_interp.specs.declared.act.Act.TheVariants as act
 use Rattle.sc_interp.specs.declared.act.Hop.{Hop}
 use Rattle.sc_interp.specs.declared.act.Hop.TheVariants as hop
-use Rattle.sc_interp.specs.Laws.{ProgramsServe}
-use Rattle.sc_interp.specs.RegionHalves.{IsRegionOf}
-use Rattle.sc_interp.specs.RegionSteps as region_steps
-use Rattle.sc_interp.specs.RegionSteps.{IsProgramFor, next_want}
-use Rattle.sc_interp.specs.RegionTurns.{Half, turn}
+use Rattle.sc_region_turns.specs.Laws.{ProgramsServe}
+use Rattle.sc_region_turns.specs.RegionHalves.{IsRegionOf}
+use Rattle.sc_region_turns.specs.RegionSteps as region_steps
+use Rattle.sc_region_turns.specs.RegionSteps.{IsProgramFor, next_want}
+use Rattle.sc_region_turns.specs.RegionTurns.{Half, turn}
 use Rattle.sc_interp.specs.Turning.{unless_failed}
 use Rattle.sc_acts.specs.Acting.{FailuresAreTold, Meets, SimpleStepsAskNothing}
 use Rattle.sc_acts.proofs.Coming.{meets}

@@ -22,8 +22,8 @@ use Rattle.sc_interp.specs.declared.act.Act.TheVariants as act
 use Rattle.sc_interp.specs.declared.act.Hop.TheVariants as hop
 use Rattle.sc_region.specs.Calls.{last_values}
 use Rattle.sc_interp.specs.Entering.{handler_of}
-use Rattle.sc_interp.specs.Laws.{ProgramsServe}
-use Rattle.sc_interp.specs.RegionSteps.{names_of, numbering_by}
+use Rattle.sc_region_turns.specs.Laws.{ProgramsServe}
+use Rattle.sc_region_turns.specs.RegionSteps.{names_of, numbering_by}
 use Rattle.sc_interp.specs.Standing as standing
 use Rattle.sc_interp.specs.Standing.{actuals}
 use Rattle.sc_interp.specs.Turning.{unless_failed}

@@ -31,10 +31,10 @@ use Rattle.sc_region.specs.Calls.{in_call, last_values, on_top}
 use Rattle.sc_interp.specs.Entering.{HasCall, called, called_at, entered_if, has_operands, operands_of, routine_in}
 use Rattle.sc_interp.specs.Entering as entering
 use Rattle.sc_interp.specs.Hopping.{state_in}
-use Rattle.sc_interp.specs.Laws.{ProgramsServe}
-use Rattle.sc_interp.specs.RegionHalves.{IsRegionOf, calling_of}
-use Rattle.sc_interp.specs.RegionSteps.{IsProgramFor}
-use Rattle.sc_interp.specs.RegionTurns.{Half, enters, enters_bound, turn, with_stack}
+use Rattle.sc_region_turns.specs.Laws.{ProgramsServe}
+use Rattle.sc_region_turns.specs.RegionHalves.{IsRegionOf, calling_of}
+use Rattle.sc_region_turns.specs.RegionSteps.{IsProgramFor}
+use Rattle.sc_region_turns.specs.RegionTurns.{Half, enters, enters_bound, turn, with_stack}
 use Rattle.sc_interp.specs.Serving.{version_in}
 use Rattle.sc_interp.specs.Standing.{actuals, name_at, without}
 use Rattle.sc_interp.specs.Values.{reference_of, values_of}

@@ -24,10 +24,10 @@ use Rattle.sc_region.specs.Frames.{PlainActivation, PlainFrame, frame_with, top_
 use Rattle.sc_region.specs.Stores.{PlainStore}
 use Rattle.sc_interp.specs.declared.act.Hop.{Hop}
 use Rattle.sc_interp.specs.Hopping.{Runs as RunsIn, state_in}
-use Rattle.sc_interp.specs.Laws.{ProgramsServe}
-use Rattle.sc_interp.specs.RegionHalves.{IsRegionOf, AreFrames, IsFrame, StandsIn, stage_of}
-use Rattle.sc_interp.specs.RegionSteps.{IsProgramFor}
-use Rattle.sc_interp.specs.RegionTurns.{Half}
+use Rattle.sc_region_turns.specs.Laws.{ProgramsServe}
+use Rattle.sc_region_turns.specs.RegionHalves.{IsRegionOf, AreFrames, IsFrame, StandsIn, stage_of}
+use Rattle.sc_region_turns.specs.RegionSteps.{IsProgramFor}
+use Rattle.sc_region_turns.specs.RegionTurns.{Half}
 use Rattle.sc_interp.specs.Standing.{hopped, state_of}
 use Rattle.sc_interp.specs.Values.{reference_of}
 use Rattle.sc_interp.proofs.Playing.{none_some, some_same}

@@ -32,11 +32,11 @@ use Rattle.sc_interp.specs.declared.act.Act.TheVariants as act
 use Rattle.sc_interp.specs.declared.act.Hop.{Hop}
 use Rattle.sc_interp.specs.declared.act.Hop.TheVariants as hop
 use Rattle.sc_interp.specs.Creating.{created, given, has_room_in, with_reference}
-use Rattle.sc_interp.specs.Laws.{ProgramsServe}
+use Rattle.sc_region_turns.specs.Laws.{ProgramsServe}
 use Rattle.sc_interp.specs.Objects.{object_in, objects_in, valued}
-use Rattle.sc_interp.specs.RegionHalves.{IsRegionOf, AreFrames}
-use Rattle.sc_interp.specs.RegionSteps.{IsProgramFor}
-use Rattle.sc_interp.specs.RegionTurns.{Half, turn}
+use Rattle.sc_region_turns.specs.RegionHalves.{IsRegionOf, AreFrames}
+use Rattle.sc_region_turns.specs.RegionSteps.{IsProgramFor}
+use Rattle.sc_region_turns.specs.RegionTurns.{Half, turn}
 use Rattle.sc_interp.specs.Standing.{actuals, state_of, without}
 use Rattle.sc_region.specs.Calls.{on_top, past, top_frame}
 use Rattle.sc_interp.specs.Values.{reference_of, value_of, values_of}

@@ -36,11 +36,11 @@ use Rattle.sc_interp.specs.declared.act.Hop.TheVariants as hop
 use Rattle.sc_interp.specs.Creating.{created_at, created_by, has_room_in, made_if, with_reference}
 use Rattle.sc_region.specs.Calls.{in_call, last_values, on_top, top_frame}
 use Rattle.sc_interp.specs.Entering.{Has, entered_if, has_operands, routine_in}
-use Rattle.sc_interp.specs.Laws.{ProgramsServe}
+use Rattle.sc_region_turns.specs.Laws.{ProgramsServe}
 use Rattle.sc_interp.specs.Objects.{object_in, objects_in}
-use Rattle.sc_interp.specs.RegionHalves.{IsRegionOf, AreFrames}
-use Rattle.sc_interp.specs.RegionSteps.{IsProgramFor}
-use Rattle.sc_interp.specs.RegionTurns.{Half, enters, turn, with_stack}
+use Rattle.sc_region_turns.specs.RegionHalves.{IsRegionOf, AreFrames}
+use Rattle.sc_region_turns.specs.RegionSteps.{IsProgramFor}
+use Rattle.sc_region_turns.specs.RegionTurns.{Half, enters, turn, with_stack}
 use Rattle.sc_interp.specs.Serving.{version_in}
 use Rattle.sc_interp.specs.Standing.{actuals, name_at, state_of, without}
 use Rattle.sc_interp.specs.Values.{reference_of, value_of, values_of}

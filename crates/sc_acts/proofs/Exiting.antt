@@ -43,12 +43,12 @@ use Rattle.sc_interp.specs.declared.act.Hop.{Hop}
 use Rattle.sc_interp.specs.declared.act.Hop.TheVariants as hop
 use Rattle.sc_interp.specs.Exiting.{exited, gives_attached, handed, handed_as, handed_at, handed_value, is_unset, is_untested, is_void, returned}
 use Rattle.sc_interp.specs.Hopping.{state_in}
-use Rattle.sc_interp.specs.Laws.{ProgramsServe}
+use Rattle.sc_region_turns.specs.Laws.{ProgramsServe}
 use Rattle.sc_interp.specs.Objects.{objects_in}
-use Rattle.sc_interp.specs.RegionHalves.{IsRegionOf, AreFrames, IsFrame, StandsIn, origin_of, requested, stage_of}
-use Rattle.sc_interp.specs.RegionSteps.{IsProgramFor}
-use Rattle.sc_interp.specs.RegionTurns as half
-use Rattle.sc_interp.specs.RegionTurns.{Half, acts, hands, leaves, settles, turn, with_stack}
+use Rattle.sc_region_turns.specs.RegionHalves.{IsRegionOf, AreFrames, IsFrame, StandsIn, origin_of, requested, stage_of}
+use Rattle.sc_region_turns.specs.RegionSteps.{IsProgramFor}
+use Rattle.sc_region_turns.specs.RegionTurns as half
+use Rattle.sc_region_turns.specs.RegionTurns.{Half, acts, hands, leaves, settles, turn, with_stack}
 use Rattle.sc_region.specs.Calls.{on_top}
 use Rattle.sc_interp.specs.Values.{value_of}
 use Rattle.sc_interp.proofs.GoingOn.{less_is}

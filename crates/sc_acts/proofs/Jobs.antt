@@ -18,11 +18,11 @@ use Rattle.sc_region.specs.declared.value.Value.{Value}
 use Rattle.sc_region.specs.Frames.{PlainActivation, PlainFrame}
 use Rattle.sc_region.specs.Stores.{PlainStore}
 use Rattle.sc_interp.specs.Exiting.{handed_as, handed_value}
-use Rattle.sc_interp.specs.RegionHalves.{IsRegionOf, AreFrames, IsFrame, StandsIn, stage_of}
-use Rattle.sc_interp.specs.RegionTurns.{Half, Granted, Replied, begins, takes_grant, takes_reply, with_stack}
+use Rattle.sc_region_turns.specs.RegionHalves.{IsRegionOf, AreFrames, IsFrame, StandsIn, stage_of}
+use Rattle.sc_region_turns.specs.RegionTurns.{Half, Granted, Replied, begins, takes_grant, takes_reply, with_stack}
 use Rattle.sc_interp.specs.Values.{value_of}
 use Rattle.sc_interp.proofs.GoingOn.{less_is}
-use Rattle.sc_interp.proofs.RegionSame.{still_fails}
+use Rattle.sc_region_turns.proofs.RegionSame.{still_fails}
 use Rattle.sc_play.specs.Answering.{block_granted, entry_granted, granted, granted_in, replied, replied_in, runs}
 use Rattle.sc_acts.specs.Jobs.{AnswersAreTaken, BadAnswersAreTaken, GrantsAreTaken, TakesAnswer}
 

@@ -17,9 +17,9 @@ use Rattle.sc_region.specs.declared.frame.Stage.TheVariants as stage
 use Rattle.sc_region.specs.declared.value.Value.{Value}
 use Rattle.sc_region.specs.declared.value.Value.TheVariants.{Integer, Boolean, Void, Attached}
 use Rattle.sc_region.specs.Frames.{PlainFrame}
-use Rattle.sc_interp.specs.RegionHalves.{IsRegionOf, AreFrames, IsFrame, StandsIn, stage_of}
-use Rattle.sc_interp.specs.RegionTurns as half
-use Rattle.sc_interp.specs.RegionTurns.{Made, begins, takes_made, with_stack}
+use Rattle.sc_region_turns.specs.RegionHalves.{IsRegionOf, AreFrames, IsFrame, StandsIn, stage_of}
+use Rattle.sc_region_turns.specs.RegionTurns as half
+use Rattle.sc_region_turns.specs.RegionTurns.{Made, begins, takes_made, with_stack}
 use Rattle.sc_interp.specs.Standing.{state_of}
 use Rattle.sc_region.specs.Calls.{on_top}
 use Rattle.sc_interp.specs.Values.{value_of, values_of}

@@ -40,13 +40,13 @@ use Rattle.sc_region.specs.Stores as store
 use Rattle.sc_region.specs.Stores.{PlainStore}
 use Rattle.sc_region.specs.Values.{atom_of, atoms_of, default_value}
 use Rattle.sc_interp.specs.Objects.{object_in, objects_in, valued}
-use Rattle.sc_interp.specs.RegionHalves.{IsRegionOf}
-use Rattle.sc_interp.specs.RegionSteps.{IsProgramFor}
-use Rattle.sc_interp.specs.RegionTurns.{Half, is_current, settles}
-use Rattle.sc_interp.specs.RegionTurns as half
+use Rattle.sc_region_turns.specs.RegionHalves.{IsRegionOf}
+use Rattle.sc_region_turns.specs.RegionSteps.{IsProgramFor}
+use Rattle.sc_region_turns.specs.RegionTurns.{Half, is_current, settles}
+use Rattle.sc_region_turns.specs.RegionTurns as half
 use Rattle.sc_interp.specs.Serving.{version_in}
 use Rattle.sc_interp.specs.Values.{value_of, values_of}
-use Rattle.sc_interp.proofs.RegionSame.{same_current, still_fails}
+use Rattle.sc_region_turns.proofs.RegionSame.{same_current, still_fails}
 use Rattle.sc_acts.specs.Acting.{AreWhole}
 use Rattle.sc_acts.proofs.Formulas.{invariant_sees}
 use Rattle.sc_acts.proofs.Standing.{mapped_get}

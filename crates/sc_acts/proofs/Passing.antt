@@ -27,18 +27,18 @@ use Rattle.sc_interp.specs.declared.act.Act.TheVariants as act
 use Rattle.sc_interp.specs.declared.act.Hop.{Hop}
 use Rattle.sc_interp.specs.declared.act.Hop.TheVariants as hop
 use Rattle.sc_interp.specs.Hopping.{state_in}
-use Rattle.sc_interp.specs.Laws.{ProgramsServe}
+use Rattle.sc_region_turns.specs.Laws.{ProgramsServe}
 use Rattle.sc_interp.specs.Objects.{objects_in}
-use Rattle.sc_interp.specs.RegionHalves.{IsRegionOf, AreFrames, IsFrame, StandsIn}
-use Rattle.sc_interp.specs.RegionSteps.{IsProgramFor}
-use Rattle.sc_interp.specs.RegionTurns.{Half, acts, failed, goes_on, moved, turn, turn_on}
+use Rattle.sc_region_turns.specs.RegionHalves.{IsRegionOf, AreFrames, IsFrame, StandsIn}
+use Rattle.sc_region_turns.specs.RegionSteps.{IsProgramFor}
+use Rattle.sc_region_turns.specs.RegionTurns.{Half, acts, failed, goes_on, moved, turn, turn_on}
 use Rattle.sc_interp.specs.Standing.{Stays, listed, state_of, without}
 use Rattle.sc_region.specs.Calls.{on_top, past, top_frame}
 use Rattle.sc_interp.specs.Turning.{back, round_ended}
 use Rattle.sc_interp.proofs.Behind.{passes}
 use Rattle.sc_interp.proofs.Moving.{stays_after}
 use Rattle.sc_interp.proofs.Popping.{values_drop}
-use Rattle.sc_interp.proofs.RegionSame.{still_prints}
+use Rattle.sc_region_turns.proofs.RegionSame.{still_prints}
 use Rattle.sc_acts.specs.Acting.{Comes, Meets, IntegersArePrinted, BooleansArePrinted, TextsArePrinted, RoundsEnd, BodiesStart, RoutinesFail}
 use Rattle.sc_acts.proofs.Coming.{meets}
 use Rattle.sc_acts.proofs.Showing.{prints_is, tests_is, starts_is, fails_is}

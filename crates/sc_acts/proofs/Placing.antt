@@ -47,12 +47,12 @@ use Rattle.sc_interp.specs.declared.act.Hop.TheVariants as hop
 use Rattle.sc_interp.specs.Creating.{has_room_in}
 use Rattle.sc_interp.specs.Entering.{Has, HasCall, routine_in}
 use Rattle.sc_interp.specs.Hopping.{state_in}
-use Rattle.sc_interp.specs.Laws.{ProgramsServe}
+use Rattle.sc_region_turns.specs.Laws.{ProgramsServe}
 use Rattle.sc_interp.specs.Objects.{object_in, objects_in, valued}
-use Rattle.sc_interp.specs.RegionHalves.{AreFrames, IsRegionOf, StandsIn, origin_of, requested, stage_of}
-use Rattle.sc_interp.specs.RegionSteps.{IsProgramFor, names_of}
-use Rattle.sc_interp.specs.RegionTurns as half
-use Rattle.sc_interp.specs.RegionTurns.{Half}
+use Rattle.sc_region_turns.specs.RegionHalves.{AreFrames, IsRegionOf, StandsIn, origin_of, requested, stage_of}
+use Rattle.sc_region_turns.specs.RegionSteps.{IsProgramFor, names_of}
+use Rattle.sc_region_turns.specs.RegionTurns as half
+use Rattle.sc_region_turns.specs.RegionTurns.{Half}
 use Rattle.sc_interp.specs.Serving.{is_routine_in, version_in}
 use Rattle.sc_interp.specs.Standing.{actuals, name_at, state_of, without}
 use Rattle.sc_interp.specs.Told.{IsTold, NamesCreation}
@@ -60,7 +60,7 @@ use Rattle.sc_interp.specs.Values.{reference_of, value_of, values_of}
 use Rattle.sc_interp.proofs.GoingOn.{less_is}
 use Rattle.sc_interp.proofs.Playing.{none_some, some_same}
 use Rattle.sc_interp.proofs.Popping.{values_drop}
-use Rattle.sc_interp.proofs.RegionSame.{same_current}
+use Rattle.sc_region_turns.proofs.RegionSame.{same_current}
 use Rattle.sc_play.specs.Answering.{top_stage}
 use Rattle.sc_play.specs.Turns.{GoesOn, TurnIn, TurnMade, TurnOf, TurnUnder}
 use Rattle.sc_acts.specs.Acting.{AreWhole, Comes, Meets, RunsOn, TakesAs, TakesResult, TopRuns, is_called}

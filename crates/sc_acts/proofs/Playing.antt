@@ -10,10 +10,10 @@ use Rattle.sc_region.specs.declared.job.Want.{Want}
 use Rattle.sc_region.specs.declared.job.Want.TheVariants as want
 use Rattle.sc_region.specs.Stores.{PlainStore}
 use Rattle.sc_request.specs.Asked.{Numbering}
-use Rattle.sc_interp.specs.Laws.{ProgramsServe}
-use Rattle.sc_interp.specs.RegionHalves.{IsRegionOf}
-use Rattle.sc_interp.specs.RegionSteps.{IsProgramFor, names_of, next_want, numbering_by, task_of, want_after}
-use Rattle.sc_interp.specs.RegionTurns.{Half, Task, played, taken_turn, turn, turns_on}
+use Rattle.sc_region_turns.specs.Laws.{ProgramsServe}
+use Rattle.sc_region_turns.specs.RegionHalves.{IsRegionOf}
+use Rattle.sc_region_turns.specs.RegionSteps.{IsProgramFor, names_of, next_want, numbering_by, task_of, want_after}
+use Rattle.sc_region_turns.specs.RegionTurns.{Half, Task, played, taken_turn, turn, turns_on}
 use Rattle.sc_play.specs.Turns.{Turns, first, more}
 use Rattle.sc_play.proofs.Programs.{turns_keep}
 use Rattle.sc_acts.specs.Playing.{MayPlay, PlaysInContract, TurnsArePlayed}

@@ -32,13 +32,13 @@ use Rattle.sc_region.specs.Stores.{PlainStore, left}
 use Rattle.sc_interp.specs.declared.act.Act.TheVariants as act
 use Rattle.sc_interp.specs.declared.act.Hop.{Hop}
 use Rattle.sc_interp.specs.declared.act.Hop.TheVariants as hop
-use Rattle.sc_interp.specs.Laws.{ProgramsServe}
+use Rattle.sc_region_turns.specs.Laws.{ProgramsServe}
 use Rattle.sc_interp.specs.Objects.{objects_in}
 use Rattle.sc_interp.specs.Refusing.{is_reserved, is_waited_for, lies_on_any, refused, refused_as, waiting}
-use Rattle.sc_interp.specs.RegionHalves.{IsRegionOf, origin_of, requested}
-use Rattle.sc_interp.specs.RegionSteps.{IsProgramFor}
-use Rattle.sc_interp.specs.RegionTurns as half
-use Rattle.sc_interp.specs.RegionTurns.{Half, acts, correctness_fails, false_clause, leaves, turn}
+use Rattle.sc_region_turns.specs.RegionHalves.{IsRegionOf, origin_of, requested}
+use Rattle.sc_region_turns.specs.RegionSteps.{IsProgramFor}
+use Rattle.sc_region_turns.specs.RegionTurns as half
+use Rattle.sc_region_turns.specs.RegionTurns.{Half, acts, correctness_fails, false_clause, leaves, turn}
 use Rattle.sc_interp.specs.Hopping.{state_in}
 use Rattle.sc_interp.specs.Standing.{formals_at, without}
 use Rattle.sc_region.specs.Calls.{on_top}

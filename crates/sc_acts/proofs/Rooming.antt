@@ -25,7 +25,7 @@ use Rattle.sc_interp.specs.Creating.{created_at, given, has_room, has_room_in, m
 use Rattle.sc_region.specs.Calls.{in_call, last_values, on_top, past, top_frame}
 use Rattle.sc_interp.specs.Entering.{called_at, entered_if, has_operands, operands_of, origin_of, routine_in}
 use Rattle.sc_interp.specs.Exiting.{exited_at, handed, handed_as, handed_at, handed_value, is_unset, is_untested, returned}
-use Rattle.sc_interp.specs.Laws.{ProgramsServe}
+use Rattle.sc_region_turns.specs.Laws.{ProgramsServe}
 use Rattle.sc_interp.specs.Playing.{Remains}
 use Rattle.sc_interp.specs.Refusing.{is_waited_for, refused_as, refused_at, waiting}
 use Rattle.sc_interp.specs.Serving.{version_in}

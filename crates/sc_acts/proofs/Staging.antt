@@ -32,11 +32,11 @@ use Rattle.sc_interp.specs.declared.act.Hop.TheVariants as hop
 use Rattle.sc_interp.specs.Creating.{with_reference, without_last}
 use Rattle.sc_region.specs.Calls.{last_values, taken, next_place, on_top, past, top_frame}
 use Rattle.sc_interp.specs.Hopping.{state_in}
-use Rattle.sc_interp.specs.Laws.{ProgramsServe}
+use Rattle.sc_region_turns.specs.Laws.{ProgramsServe}
 use Rattle.sc_interp.specs.Objects.{objects_in}
-use Rattle.sc_interp.specs.RegionHalves.{IsRegionOf, AreFrames, IsFrame, StandsIn, gives_value, stage_of}
-use Rattle.sc_interp.specs.RegionSteps.{IsProgramFor}
-use Rattle.sc_interp.specs.RegionTurns.{Half, creates_handler, leaves_block, with_stack}
+use Rattle.sc_region_turns.specs.RegionHalves.{IsRegionOf, AreFrames, IsFrame, StandsIn, gives_value, stage_of}
+use Rattle.sc_region_turns.specs.RegionSteps.{IsProgramFor}
+use Rattle.sc_region_turns.specs.RegionTurns.{Half, creates_handler, leaves_block, with_stack}
 use Rattle.sc_interp.specs.Standing as standing
 use Rattle.sc_interp.specs.Standing.{actuals, name_at, state_of, without}
 use Rattle.sc_interp.specs.Values.{reference_of, value_of, values_of}

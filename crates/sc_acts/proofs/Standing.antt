@@ -24,7 +24,7 @@ use Rattle.sc_code.specs.View.{operation_of}
 use Rattle.sc_code.proofs.TypingEntries.{objects_may_change}
 use Rattle.sc_region.specs.Classes.{routine_at}
 use Rattle.sc_region.specs.Frames.{PlainFrame}
-use Rattle.sc_interp.specs.RegionHalves.{IsFrame, AreFrames, StandsIn}
+use Rattle.sc_region_turns.specs.RegionHalves.{IsFrame, AreFrames, StandsIn}
 use Rattle.sc_interp.proofs.Playing.{none_some, some_same}
 
 -- ---- routines

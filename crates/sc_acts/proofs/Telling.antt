@@ -19,10 +19,10 @@ use Rattle.sc_interp.specs.declared.act.Hop.TheVariants as hop
 use Rattle.sc_interp.specs.Creating.{has_room, with_reference, without_last}
 use Rattle.sc_region.specs.Calls.{last_values, taken, on_top, past, top_frame}
 use Rattle.sc_interp.specs.Entering.{Has, HasCall, has_operands, operands_of}
-use Rattle.sc_interp.specs.Laws.{ProgramsServe}
-use Rattle.sc_interp.specs.RegionHalves.{IsRegionOf}
-use Rattle.sc_interp.specs.RegionSteps.{names_of}
-use Rattle.sc_interp.specs.RegionTurns.{turn}
+use Rattle.sc_region_turns.specs.Laws.{ProgramsServe}
+use Rattle.sc_region_turns.specs.RegionHalves.{IsRegionOf}
+use Rattle.sc_region_turns.specs.RegionSteps.{names_of}
+use Rattle.sc_region_turns.specs.RegionTurns.{turn}
 use Rattle.sc_interp.specs.Standing.{name_at}
 use Rattle.sc_interp.specs.Told.{HasName, HasProcedure, IsReady, IsReadyAt, IsTold, NamesCall, NamesCreation}
 use Rattle.sc_interp.proofs.GoingOn.{less_is, more_is}

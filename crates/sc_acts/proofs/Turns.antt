@@ -23,17 +23,17 @@ use Rattle.sc_interp.specs.declared.act.Hop.{Hop}
 use Rattle.sc_interp.specs.declared.act.Hop.TheVariants as hop
 use Rattle.sc_interp.specs.Creating.{with_reference, without_last}
 use Rattle.sc_region.specs.Calls.{last_values, taken, on_top, past}
-use Rattle.sc_interp.specs.Laws.{ProgramsServe}
+use Rattle.sc_region_turns.specs.Laws.{ProgramsServe}
 use Rattle.sc_interp.specs.Refusing.{is_waited_for, refused}
-use Rattle.sc_interp.specs.RegionHalves.{IsRegionOf, AreFrames, stage_of}
-use Rattle.sc_interp.specs.RegionSteps as region_steps
-use Rattle.sc_interp.specs.RegionSteps.{IsProgramFor, first_want, names_of, next_want, numbering_by, task_of}
-use Rattle.sc_interp.specs.RegionTurns as half
-use Rattle.sc_interp.specs.RegionTurns.{Half, goes_on, taken_turn, told_frames, turn, turn_on, with_stack}
+use Rattle.sc_region_turns.specs.RegionHalves.{IsRegionOf, AreFrames, stage_of}
+use Rattle.sc_region_turns.specs.RegionSteps as region_steps
+use Rattle.sc_region_turns.specs.RegionSteps.{IsProgramFor, first_want, names_of, next_want, numbering_by, task_of}
+use Rattle.sc_region_turns.specs.RegionTurns as half
+use Rattle.sc_region_turns.specs.RegionTurns.{Half, goes_on, taken_turn, told_frames, turn, turn_on, with_stack}
 use Rattle.sc_interp.specs.Standing.{formals_at}
 use Rattle.sc_interp.specs.Turning.{unless_failed}
 use Rattle.sc_interp.proofs.Playing.{none_some}
-use Rattle.sc_interp.proofs.RegionSame.{still_fails}
+use Rattle.sc_region_turns.proofs.RegionSame.{still_fails}
 use Rattle.sc_play.specs.Acting.{acted, asks_acted}
 use Rattle.sc_play.specs.Answering as answering
 use Rattle.sc_play.specs.Answering.{told, top_stage}

@@ -24,7 +24,7 @@ use Rattle.sc_model.specs.Steps as model
 use Rattle.sc_model.specs.Steps.{Step, Goes, Does}
 use Rattle.sc_model.specs.Values as values
 use Rattle.sc_model.specs.Values.{Operand, operand}
-use Rattle.sc_interp.specs.RegionTurns.{Half, Task, Takes, Replied, SupplierFailed, WasRefused, Granted, Made, GoesOn, Misfits, acts, begins, correctness_fails, enters, enters_bound, exits, failed, false_clause, goes_on, hands, is_current, leaves, leaves_block, moved, object_breaks, replies, settles, takes_creation, takes_errand, takes_grant, takes_kind, takes_made, takes_reply, takes_version, told, turn_on, with_new, with_stack}
+use Rattle.sc_region_turns.specs.RegionTurns.{Half, Task, Takes, Replied, SupplierFailed, WasRefused, Granted, Made, GoesOn, Misfits, acts, begins, correctness_fails, enters, enters_bound, exits, failed, false_clause, goes_on, hands, is_current, leaves, leaves_block, moved, object_breaks, replies, settles, takes_creation, takes_errand, takes_grant, takes_kind, takes_made, takes_reply, takes_version, told, turn_on, with_new, with_stack}
 use Rattle.sc_acts.specs.Versions.{AreVersions, JobsKeepVersions, TurnsKeepVersions}
 use Rattle.sc_acts.specs.Waiting.{IsVersion}
 

@@ -24,12 +24,12 @@ use Rattle.sc_interp.specs.declared.act.Act.TheVariants as act
 use Rattle.sc_interp.specs.declared.act.Hop.{Hop}
 use Rattle.sc_interp.specs.declared.act.Hop.TheVariants as hop
 use Rattle.sc_interp.specs.Hopping.{state_in}
-use Rattle.sc_interp.specs.Laws.{ProgramsServe}
+use Rattle.sc_region_turns.specs.Laws.{ProgramsServe}
 use Rattle.sc_interp.specs.Objects.{objects_in}
 use Rattle.sc_interp.specs.Refusing.{is_waited_for, refused, refused_as, waiting}
-use Rattle.sc_interp.specs.RegionHalves.{IsRegionOf, AreFrames, IsFrame, StandsIn}
-use Rattle.sc_interp.specs.RegionSteps.{IsProgramFor}
-use Rattle.sc_interp.specs.RegionTurns.{Half, false_clause, turn, waits_again}
+use Rattle.sc_region_turns.specs.RegionHalves.{IsRegionOf, AreFrames, IsFrame, StandsIn}
+use Rattle.sc_region_turns.specs.RegionSteps.{IsProgramFor}
+use Rattle.sc_region_turns.specs.RegionTurns.{Half, false_clause, turn, waits_again}
 use Rattle.sc_interp.specs.Standing.{formals_at, state_of, without}
 use Rattle.sc_region.specs.Calls.{on_top, top_frame}
 use Rattle.sc_interp.specs.Values.{reference_of, values_of}

@@ -41,12 +41,12 @@ use Rattle.sc_interp.specs.declared.act.Hop.TheVariants as hop
 use Rattle.sc_region.specs.Calls.{last_values, on_top}
 use Rattle.sc_interp.specs.Exiting as exiting
 use Rattle.sc_interp.specs.Exiting.{asks_exiting, exited, returned}
-use Rattle.sc_interp.specs.Laws.{ProgramsServe}
+use Rattle.sc_region_turns.specs.Laws.{ProgramsServe}
 use Rattle.sc_interp.specs.Objects.{objects_in}
 use Rattle.sc_interp.specs.Refusing.{asks_refusing, is_waited_for, refused, refused_as, waiting}
-use Rattle.sc_interp.specs.RegionHalves.{IsRegionOf, calling_of, origin_of, requested}
-use Rattle.sc_interp.specs.RegionSteps.{IsProgramFor, names_of, next_want, number_among, numbering_by}
-use Rattle.sc_interp.specs.RegionTurns.{Half, turn}
+use Rattle.sc_region_turns.specs.RegionHalves.{IsRegionOf, calling_of, origin_of, requested}
+use Rattle.sc_region_turns.specs.RegionSteps.{IsProgramFor, names_of, next_want, number_among, numbering_by}
+use Rattle.sc_region_turns.specs.RegionTurns.{Half, turn}
 use Rattle.sc_interp.specs.Standing.{actuals, formals_at, name_at}
 use Rattle.sc_interp.specs.Turning.{unless_failed}
 use Rattle.sc_interp.specs.Values.{reference_of, value_of, values_of}

@@ -34,9 +34,9 @@ use Rattle.sc_interp.specs.declared.act.Hop.{Hop}
 use Rattle.sc_interp.specs.declared.act.Hop.TheVariants as hop
 use Rattle.sc_interp.specs.Hopping.{ComesTo, LeadsTo, state_in}
 use Rattle.sc_interp.specs.Playing.{Remains}
-use Rattle.sc_interp.specs.RegionHalves.{IsRegionOf, AreFrames, IsFrame, origin_of}
-use Rattle.sc_interp.specs.RegionSteps.{IsProgramFor, next_want}
-use Rattle.sc_interp.specs.RegionTurns.{Half, enters, turn}
+use Rattle.sc_region_turns.specs.RegionHalves.{IsRegionOf, AreFrames, IsFrame, origin_of}
+use Rattle.sc_region_turns.specs.RegionSteps.{IsProgramFor, next_want}
+use Rattle.sc_region_turns.specs.RegionTurns.{Half, enters, turn}
 use Rattle.sc_interp.specs.Serving.{version_in}
 use Rattle.sc_interp.specs.Standing.{formals_at, hopped, listed}
 use Rattle.sc_interp.specs.Creating.{created, created_by, has_room_in, with_reference, without_last}

@@ -15,8 +15,8 @@ use Rattle.sc_region.specs.declared.job.Job.{Job}
 use Rattle.sc_region.specs.declared.job.Job.TheVariants as job
 use Rattle.sc_region.specs.declared.job.Request.{Request}
 use Rattle.sc_region.specs.declared.value.Value.{Value}
-use Rattle.sc_interp.specs.RegionSteps.{task_of}
-use Rattle.sc_interp.specs.RegionTurns.{Half, played}
+use Rattle.sc_region_turns.specs.RegionSteps.{task_of}
+use Rattle.sc_region_turns.specs.RegionTurns.{Half, played}
 use Rattle.sc_interp.specs.Serving.{is_routine}
 use Rattle.sc_acts.specs.Taking.{IsNamed}
 use Rattle.sc_acts.specs.Making.{told_half}

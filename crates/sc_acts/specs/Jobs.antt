@@ -7,9 +7,9 @@ use Rattle.sc_region.specs.declared.frame.Stage.TheVariants as stage
 use Rattle.sc_region.specs.declared.value.Value.{Value}
 use Rattle.sc_region.specs.Frames.{PlainFrame}
 use Rattle.sc_region.specs.Stores.{PlainStore, failed}
-use Rattle.sc_interp.specs.RegionHalves.{IsRegionOf}
-use Rattle.sc_interp.specs.RegionSteps.{IsProgramFor}
-use Rattle.sc_interp.specs.RegionTurns.{Half, Task, Granted, Replied, SupplierFailed, WasRefused, taken_turn}
+use Rattle.sc_region_turns.specs.RegionHalves.{IsRegionOf}
+use Rattle.sc_region_turns.specs.RegionSteps.{IsProgramFor}
+use Rattle.sc_region_turns.specs.RegionTurns.{Half, Task, Granted, Replied, SupplierFailed, WasRefused, taken_turn}
 use Rattle.sc_interp.specs.Values.{value_of}
 use Rattle.sc_play.specs.Answering.{granted, replied}
 

@@ -3,8 +3,8 @@ use Rattle.std.specs.Prelude.{◌≡◌, ℕ, true, false, Some}
 use Rattle.sc_tree.specs.Plain.{System}
 use Rattle.sc_region.specs.declared.frame.Stage.TheVariants as stage
 use Rattle.sc_region.specs.Stores.{PlainStore}
-use Rattle.sc_interp.specs.RegionHalves.{IsRegionOf}
-use Rattle.sc_interp.specs.RegionTurns.{Half, Made, taken_turn, told_frames, with_stack}
+use Rattle.sc_region_turns.specs.RegionHalves.{IsRegionOf}
+use Rattle.sc_region_turns.specs.RegionTurns.{Half, Made, taken_turn, told_frames, with_stack}
 use Rattle.sc_region.specs.Calls.{on_top}
 use Rattle.sc_play.specs.Answering.{runs, told, top_stage}
 

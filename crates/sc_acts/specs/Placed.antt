@@ -7,9 +7,9 @@ use Rattle.sc_region.specs.declared.job.Want.{Want}
 use Rattle.sc_region.specs.Stores.{PlainStore}
 use Rattle.sc_interp.specs.Hopping.{LeadsTo}
 use Rattle.sc_interp.specs.Playing.{Remains}
-use Rattle.sc_interp.specs.RegionHalves.{IsRegionOf}
-use Rattle.sc_interp.specs.RegionSteps.{IsProgramFor, MakesTurns, first_want, names_of, next_want, numbering_by, task_of}
-use Rattle.sc_interp.specs.RegionTurns.{Half, played, taken_turn, turn}
+use Rattle.sc_region_turns.specs.RegionHalves.{IsRegionOf}
+use Rattle.sc_region_turns.specs.RegionSteps.{IsProgramFor, MakesTurns, first_want, names_of, next_want, numbering_by, task_of}
+use Rattle.sc_region_turns.specs.RegionTurns.{Half, played, taken_turn, turn}
 use Rattle.sc_play.specs.Turns.{FirstTurn, TurnOf, TurnUnder, Turns}
 use Rattle.sc_acts.specs.Acting.{TopRuns}
 use Rattle.sc_acts.specs.Halves.{HalfFits, JobFits, PlayFits}

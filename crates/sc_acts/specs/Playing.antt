@@ -5,9 +5,9 @@ use Rattle.sc_region.specs.declared.job.Job.{Job}
 use Rattle.sc_region.specs.declared.job.Want.{Want}
 use Rattle.sc_region.specs.declared.job.Want.TheVariants as want
 use Rattle.sc_region.specs.Stores.{PlainStore}
-use Rattle.sc_interp.specs.RegionHalves.{IsRegionOf}
-use Rattle.sc_interp.specs.RegionSteps.{IsProgramFor, MakesTurns, names_of, numbering_by, task_of}
-use Rattle.sc_interp.specs.RegionTurns.{Half, Task, played}
+use Rattle.sc_region_turns.specs.RegionHalves.{IsRegionOf}
+use Rattle.sc_region_turns.specs.RegionSteps.{IsProgramFor, MakesTurns, names_of, numbering_by, task_of}
+use Rattle.sc_region_turns.specs.RegionTurns.{Half, Task, played}
 use Rattle.sc_play.specs.Turns.{Turns, begun, first, more}
 use Rattle.sc_acts.specs.Turns.{MayTurn, MayTurnUnder, RefusesUnder}
 use Rattle.sc_acts.specs.Waiting.{RefusesInContract}

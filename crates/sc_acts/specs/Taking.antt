@@ -10,9 +10,9 @@ use Rattle.sc_region.specs.declared.job.Want.{Want}
 use Rattle.sc_region.specs.Frames.{is_current}
 use Rattle.sc_region.specs.Objects.{PlainObject, object_numbered}
 use Rattle.sc_region.specs.Stores.{PlainStore}
-use Rattle.sc_interp.specs.RegionHalves.{IsRegionOf}
-use Rattle.sc_interp.specs.RegionSteps.{IsProgramFor, first_want, names_of, numbering_by, task_of}
-use Rattle.sc_interp.specs.RegionTurns.{Half, taken_turn}
+use Rattle.sc_region_turns.specs.RegionHalves.{IsRegionOf}
+use Rattle.sc_region_turns.specs.RegionSteps.{IsProgramFor, first_want, names_of, numbering_by, task_of}
+use Rattle.sc_region_turns.specs.RegionTurns.{Half, taken_turn}
 use Rattle.sc_interp.specs.Turning.{unless_failed}
 use Rattle.sc_play.specs.Taking.{asks_taking, taken}
 use Rattle.sc_acts.specs.Acting.{AreWhole}

@@ -11,9 +11,9 @@ use Rattle.sc_interp.specs.declared.act.Calling.{Calling}
 use Rattle.sc_interp.specs.declared.act.Hop.TheVariants as hop
 use Rattle.sc_interp.specs.Creating.{has_room_in}
 use Rattle.sc_interp.specs.Entering.{routine_in}
-use Rattle.sc_interp.specs.RegionHalves.{IsRegionOf}
-use Rattle.sc_interp.specs.RegionSteps.{IsProgramFor, names_of, next_want, numbering_by}
-use Rattle.sc_interp.specs.RegionTurns.{Half, turn}
+use Rattle.sc_region_turns.specs.RegionHalves.{IsRegionOf}
+use Rattle.sc_region_turns.specs.RegionSteps.{IsProgramFor, names_of, next_want, numbering_by}
+use Rattle.sc_region_turns.specs.RegionTurns.{Half, turn}
 use Rattle.sc_interp.specs.Serving.{version_in}
 use Rattle.sc_interp.specs.Told.{IsTold}
 use Rattle.sc_play.specs.Acting.{acted, asks_acting}

@@ -14,9 +14,9 @@ use Rattle.sc_interp.specs.declared.act.Hop.{Hop}
 use Rattle.sc_interp.specs.declared.act.Hop.TheVariants as hop
 use Rattle.sc_interp.specs.Creating.{has_room_in}
 use Rattle.sc_interp.specs.Entering.{Has, HasCall, routine_in}
-use Rattle.sc_interp.specs.RegionHalves.{IsRegionOf}
-use Rattle.sc_interp.specs.RegionSteps.{IsProgramFor, first_want, names_of, next_want, numbering_by, task_of}
-use Rattle.sc_interp.specs.RegionTurns.{Half, taken_turn, turn}
+use Rattle.sc_region_turns.specs.RegionHalves.{IsRegionOf}
+use Rattle.sc_region_turns.specs.RegionSteps.{IsProgramFor, first_want, names_of, next_want, numbering_by, task_of}
+use Rattle.sc_region_turns.specs.RegionTurns.{Half, taken_turn, turn}
 use Rattle.sc_interp.specs.Serving.{version_in}
 use Rattle.sc_play.specs.Answering.{top_stage}
 use Rattle.sc_play.specs.Operands.{class_number}

@@ -2,7 +2,7 @@
 use Rattle.std.specs.Prelude.{ℕ, List, [], ◌∷◌}
 use Rattle.sc_tree.specs.Plain.{System}
 use Rattle.sc_model.specs.Handlers.{Frame}
-use Rattle.sc_interp.specs.RegionTurns.{Half, Task, taken_turn, turn}
+use Rattle.sc_region_turns.specs.RegionTurns.{Half, Task, taken_turn, turn}
 use Rattle.sc_acts.specs.Waiting.{IsVersion}
 
 -- The routine of each frame is what a name is in a class.

@@ -13,9 +13,9 @@ use Rattle.sc_region.specs.Stores.{PlainStore}
 use Rattle.sc_interp.specs.declared.act.Act.TheVariants as act
 use Rattle.sc_interp.specs.declared.act.Hop.TheVariants as hop
 use Rattle.sc_interp.specs.Refusing.{is_waited_for, refused}
-use Rattle.sc_interp.specs.RegionHalves.{IsRegionOf}
-use Rattle.sc_interp.specs.RegionSteps.{IsProgramFor}
-use Rattle.sc_interp.specs.RegionTurns.{Half, turn}
+use Rattle.sc_region_turns.specs.RegionHalves.{IsRegionOf}
+use Rattle.sc_region_turns.specs.RegionSteps.{IsProgramFor}
+use Rattle.sc_region_turns.specs.RegionTurns.{Half, turn}
 use Rattle.sc_interp.specs.Standing.{formals_at}
 use Rattle.sc_acts.specs.Acting.{Comes}
 

@@ -11,9 +11,9 @@ use Rattle.sc_interp.specs.declared.act.Act.TheVariants as act
 use Rattle.sc_interp.specs.declared.act.Hop.TheVariants as hop
 use Rattle.sc_interp.specs.Exiting.{asks_exiting, exited}
 use Rattle.sc_interp.specs.Refusing.{asks_refusing, refused}
-use Rattle.sc_interp.specs.RegionHalves.{IsRegionOf}
-use Rattle.sc_interp.specs.RegionSteps.{IsProgramFor, names_of, next_want, number_among, numbering_by}
-use Rattle.sc_interp.specs.RegionTurns.{Half, turn}
+use Rattle.sc_region_turns.specs.RegionHalves.{IsRegionOf}
+use Rattle.sc_region_turns.specs.RegionSteps.{IsProgramFor, names_of, next_want, number_among, numbering_by}
+use Rattle.sc_region_turns.specs.RegionTurns.{Half, turn}
 use Rattle.sc_interp.specs.Standing.{formals_at, name_at}
 use Rattle.sc_interp.specs.Turning.{unless_failed}
 use Rattle.sc_play.specs.Blocks.{asks_leaving}

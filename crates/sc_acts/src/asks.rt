@@ -4,7 +4,7 @@ ghost use Rattle.sc_acts.specs.Making.{CreatorsAreTold, MadeAreAnswers};
 ghost use Rattle.sc_acts.specs.Reserving.{BlocksAsk, CallsAsk, ObjectCreationsAsk};
 ghost use Rattle.sc_acts.specs.Taking.{RequestsAreTaken, TakenRequestsAsk};
 
-use sc_interp::laws::programs_serve;
+use sc_region_turns::laws::programs_serve;
 
 /// Where a routine of the same handler is called the turn asks for its reserve step, if it has attached separate formals, unless
 /// the store has failed.

@@ -4,7 +4,7 @@ ghost use Rattle.sc_acts.specs.Wanting.{BlockEndsAsk, CreationsAsk, DistinctName
 ghost use Rattle.sc_acts.specs.Waiting.{RoutinesWait};
 ghost use Rattle.sc_acts.specs.Acting.{BlocksBegin, BlocksEnd, BodiesStart, BooleansArePrinted, CallsAreMade, CallsAreRefused, FailuresAreTold, HandlersAreCreated, IntegersArePrinted, NoBlockEnds, ObjectsAreCreated, ObjectsAreCreatedBy, RequestsAreMade, RoundsEnd, RoutinesAreEntered, RoutinesEnd, RoutinesFail, SilentOperationsFollow, SilentOperationsJoin, SimpleStepsAskNothing, TextsArePrinted};
 
-use sc_interp::laws::programs_serve;
+use sc_region_turns::laws::programs_serve;
 
 /// What silent operations come to in a store is what silent steps come to in the half that it stands for.
 pub fn silent_operations_follow()

@@ -1,7 +1,7 @@
 //! Routines that are to be given a value have room for it, each a law that is the contract of a function that does nothing.
 ghost use Rattle.sc_acts.specs.Rooms.{AnswersHaveRoom, RoomIsKept, RoutinesEndWithRoom};
 
-use sc_interp::laws::programs_serve;
+use sc_region_turns::laws::programs_serve;
 
 /// An operation that was told leaves each routine that is to be given a value room for it.
 pub fn room_is_kept()

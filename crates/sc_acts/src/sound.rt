@@ -3,7 +3,7 @@
 ghost use Rattle.sc_acts.specs.Placed.{SoundJobsAreTaken, SoundTurnsAreMade, SoundTurnsArePlayed, TurnsJoin};
 ghost use Rattle.sc_acts.specs.Sound.{JobsKeepSound, NewStoresAreSound, PlaysKeepSound, TurnsKeepSound};
 
-use sc_interp::laws::programs_serve;
+use sc_region_turns::laws::programs_serve;
 
 /// A new store is sound.
 pub fn new_stores_are_sound()

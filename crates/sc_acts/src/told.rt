@@ -1,7 +1,7 @@
 //! What turns make of stores where the operation that they came to was told, each the contract of a function that does nothing.
 ghost use Rattle.sc_acts.specs.Told.{ToldBlocksBegin, ToldCallsAreMade, ToldHandlersAreCreated, ToldObjectsAreCreated, ToldObjectsAreCreatedBy, ToldRequestsAreMade};
 
-use sc_interp::laws::programs_serve;
+use sc_region_turns::laws::programs_serve;
 
 /// Where a routine of the same handler is called the store stands for what the turn makes of the half, if requests have room
 /// for what the program names.

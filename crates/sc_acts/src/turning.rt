@@ -4,7 +4,7 @@ ghost use Rattle.sc_acts.specs.Playing.{TurnsArePlayed};
 ghost use Rattle.sc_acts.specs.Turns.{FirstTurnsAreMade, JobsAreTaken, TurnsAreMade};
 ghost use Rattle.sc_acts.specs.Versions.{JobsKeepVersions, TurnsKeepVersions};
 
-use sc_interp::laws::programs_serve;
+use sc_region_turns::laws::programs_serve;
 
 /// A turn leaves what the definition makes of the half, and asks the same, if the store is well placed where its visible
 /// operation is done, that operation may be done there, and a routine that finds a clause false stands in its contract.

@@ -17,10 +17,6 @@ pub mod Creating
 pub mod Behind
 pub mod Ending
 pub mod Resuming
-pub mod Serving
-pub mod RegionOpening
-pub mod RegionSame
-pub mod RegionPlays
 pub mod Onward
 pub mod Staying
 pub mod Shown
@@ -32,4 +28,3 @@ pub mod Rows
 pub mod Rounding
 pub mod Switching
 pub mod OneObject
-mod RegionRows

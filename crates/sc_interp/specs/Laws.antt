@@ -1,26 +1,16 @@
--- What holds of silent operations, and of the tables of programs.
+-- What holds of silent operations, and of visible ones.
 use Rattle.std.specs.Prelude.{◌≡◌, ◌<◌, ◌-◌, ℕ, List, length}
 use Rattle.sc_tree.specs.Plain.{System}
-use Rattle.sc_class.specs.ClassNames.{Root}
-use Rattle.sc_class.specs.Faults.ClassRules.{IsFaultless}
-use Rattle.sc_rules.specs.Laws.{AllDeclared}
 use Rattle.sc_model.specs.Values.{Reference}
-use Rattle.sc_code.specs.declared.program.Image.{Image}
-use Rattle.sc_code.specs.Programs.{IsProgramOf}
 use Rattle.sc_code.specs.Machine.{Act, Code, State, Goes, Does, does, hop}
 use Rattle.sc_model.specs.Objects.{Object}
 use Rattle.sc_region.specs.Frames.{PlainActivation}
-use Rattle.sc_interp.specs.Serving.{Serves}
 use Rattle.sc_interp.specs.Standing.{state_of, without}
 use Rattle.sc_region.specs.Calls.{past}
 
 -- A silent operation goes ahead: less of the code lies behind its place than before.
 abbrev pub SilentOperationsFall : Type 0
 SilentOperationsFall = (s : System) (c : Code) (me : Reference) (f g : State) → hop s c me f ≡ Goes g → length c.operations - g.place < length c.operations - f.place
-
--- The tables of a program serve its system, where that has no fault and its types are declared without fault.
-abbrev pub ProgramsServe : Type 0
-ProgramsServe = (s : System) (root : Root) (p : Image) → IsFaultless s root → AllDeclared s → IsProgramOf s root p → Serves s p
 
 -- Behind a visible operation that takes so many operands a routine stands where flat code does, if a number can say that place.
 abbrev pub VisibleOperationsPass : Type 0

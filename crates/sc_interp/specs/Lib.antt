@@ -12,8 +12,5 @@ pub mod Creating
 pub mod Exiting
 pub mod Refusing
 pub mod Laws
-pub mod RegionTurns
-pub mod RegionHalves
-pub mod RegionSteps
 pub mod Running
 pub mod Joining

@@ -14,9 +14,9 @@ use Rattle.sc_model.specs.Failures.{fails_with}
 use Rattle.sc_model.specs.Handlers as machine
 use Rattle.sc_model.specs.Handlers.{Request, Origin, Frame, World}
 use Rattle.sc_request.specs.Handlers as core
-use Rattle.sc_interp.specs.RegionTurns as region
-use Rattle.sc_interp.specs.RegionTurns.{Half, failed}
-use Rattle.sc_interp.specs.RegionHalves.{unpassed, IsHalfOfFrame, AreHalvesOf, IsRegionHalf}
+use Rattle.sc_region_turns.specs.RegionTurns as region
+use Rattle.sc_region_turns.specs.RegionTurns.{Half, failed}
+use Rattle.sc_region_turns.specs.RegionHalves.{unpassed, IsHalfOfFrame, AreHalvesOf, IsRegionHalf}
 use Rattle.sc_joined.proofs.Alike.{own, fails_alike}
 use Rattle.sc_joined.proofs.Halving.{IsOwn, view_half, same_length, stack_half, fail_both}
 

@@ -23,7 +23,7 @@ use Rattle.sc_request.specs.Settling.{asked_in, asks, awaits_if, begun, counted_
 use Rattle.sc_request.specs.Asked.{Numbering, asked}
 use Rattle.sc_request.specs.Steps.{stepped}
 use Rattle.sc_request.specs.Picking.{job_of}
-use Rattle.sc_interp.specs.RegionHalves.{IsRegionHalf}
+use Rattle.sc_region_turns.specs.RegionHalves.{IsRegionHalf}
 use Rattle.sc_joined.specs.Joined.{OthersKeepHalves}
 use Rattle.sc_joined.proofs.Halving.{by_test, half_alike}
 use Rattle.sc_joined.proofs.Calming.{ended_stage, passed_stage, sent_stage, released_stage, finished_stage}

@@ -24,10 +24,10 @@ use Rattle.sc_request.specs.Handlers as core
 use Rattle.sc_request.specs.Asked as asked_at
 use Rattle.sc_request.specs.Asked.{Numbering, errand_of, request_of}
 use Rattle.sc_interp.specs.Values as interp
-use Rattle.sc_interp.specs.RegionTurns as region
-use Rattle.sc_interp.specs.RegionTurns.{Half, failed, settles, Takes}
-use Rattle.sc_interp.specs.RegionHalves.{AreHalvesOf, IsRegionHalf}
-use Rattle.sc_interp.specs.RegionSteps.{numbering_by, errand_in, request_with, taking, IsNamed}
+use Rattle.sc_region_turns.specs.RegionTurns as region
+use Rattle.sc_region_turns.specs.RegionTurns.{Half, failed, settles, Takes}
+use Rattle.sc_region_turns.specs.RegionHalves.{AreHalvesOf, IsRegionHalf}
+use Rattle.sc_region_turns.specs.RegionSteps.{numbering_by, errand_in, request_with, taking, IsNamed}
 use Rattle.sc_joined.proofs.Alike.{own, finish_alike}
 use Rattle.sc_joined.proofs.Halving.{stands_on, finished_half, fail_both, fails_alone, half_at}
 use Rattle.sc_joined.proofs.Settling.{Meets, settles_half}

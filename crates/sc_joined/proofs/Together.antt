@@ -10,9 +10,9 @@ use Rattle.sc_request.specs.Handlers as core
 use Rattle.sc_request.specs.Picking.{job_of, job_with}
 use Rattle.sc_request.specs.Halves.{IsHalfOf}
 use Rattle.sc_request.specs.Steps.{stepped}
-use Rattle.sc_interp.specs.RegionTurns.{Half, new_half}
-use Rattle.sc_interp.specs.RegionHalves.{IsRegionHalf}
-use Rattle.sc_interp.specs.RegionSteps.{numbering_by, taken_if, AreNamed}
+use Rattle.sc_region_turns.specs.RegionTurns.{Half, new_half}
+use Rattle.sc_region_turns.specs.RegionHalves.{IsRegionHalf}
+use Rattle.sc_region_turns.specs.RegionSteps.{numbering_by, taken_if, AreNamed}
 use Rattle.sc_joined.specs.Order.{EachInOrder}
 use Rattle.sc_joined.specs.Joined.{AreRegionHalves, OpensAsHalves, TurnsKeepHalves, halves_after}
 use Rattle.sc_joined.proofs.Others.{created_are_new, idle_turn, openings_are_new, turn_counts}

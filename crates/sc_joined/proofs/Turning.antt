@@ -40,10 +40,10 @@ use Rattle.sc_request.specs.Settling.{asked_in, begun, fits_turns, made_at}
 use Rattle.sc_request.specs.Asked.{Numbering, asked, asks_acting, asks_going, asks_moving, asks_on, handlers_of, request_of, taken_of, value_of}
 use Rattle.sc_request.specs.Halves.{posted_of, answer_of, IsStage, IsTop, IsHandlerOf, IsHalfOf}
 use Rattle.sc_request.specs.Steps.{stepped}
-use Rattle.sc_interp.specs.RegionTurns as region
-use Rattle.sc_interp.specs.RegionTurns.{Half, told, taken_turn, begins}
-use Rattle.sc_interp.specs.RegionHalves.{IsStageFor, IsToldOf, AreHalvesOf, IsRegionHalf}
-use Rattle.sc_interp.specs.RegionSteps.{numbering_by, taken_if, IsNamed, AreNamed}
+use Rattle.sc_region_turns.specs.RegionTurns as region
+use Rattle.sc_region_turns.specs.RegionTurns.{Half, told, taken_turn, begins}
+use Rattle.sc_region_turns.specs.RegionHalves.{IsStageFor, IsToldOf, AreHalvesOf, IsRegionHalf}
+use Rattle.sc_region_turns.specs.RegionSteps.{numbering_by, taken_if, IsNamed, AreNamed}
 use Rattle.sc_joined.specs.Order.{AreInOrder, TakesNone}
 use Rattle.sc_joined.specs.Joined.{RegionsFollow}
 use Rattle.sc_joined.proofs.Alike.{own, fails_alike}

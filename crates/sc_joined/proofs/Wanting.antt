@@ -44,10 +44,10 @@ use Rattle.sc_request.specs.Picking.{job_of, job_answered, job_at, job_awaiting,
 use Rattle.sc_request.specs.Asked.{Numbering, asked, asks_acting, asks_after, asks_beginning, asks_bound, asks_calling, asks_done, asks_entering, asks_errand, asks_exiting, asks_going, asks_leaving, asks_moving, asks_on, asks_refusing, asks_replying, asks_returning, asks_taking, asks_version, request_of, taken_of, value_of}
 use Rattle.sc_request.specs.Halves.{posted_of, answer_of, IsStage, IsTop, IsHalfOf}
 use Rattle.sc_interp.specs.Values.{value_of as value_in}
-use Rattle.sc_interp.specs.RegionTurns as region
-use Rattle.sc_interp.specs.RegionTurns.{Half, told, told_frames, taken_turn, settles}
-use Rattle.sc_interp.specs.RegionHalves.{unpassed, IsStageFor, IsToldOf, AreHalvesOf, IsRegionHalf}
-use Rattle.sc_interp.specs.RegionSteps.{numbering_by, task_of, first_want, unless_failed, IsNamed, AreNamed, RegionsAsk}
+use Rattle.sc_region_turns.specs.RegionTurns as region
+use Rattle.sc_region_turns.specs.RegionTurns.{Half, told, told_frames, taken_turn, settles}
+use Rattle.sc_region_turns.specs.RegionHalves.{unpassed, IsStageFor, IsToldOf, AreHalvesOf, IsRegionHalf}
+use Rattle.sc_region_turns.specs.RegionSteps.{numbering_by, task_of, first_want, unless_failed, IsNamed, AreNamed, RegionsAsk}
 use Rattle.sc_joined.proofs.Alike.{own}
 use Rattle.sc_joined.proofs.Halving.{none_some, half_at, half_is, calm_halves, view, seen, same_length, IsCalm}
 use Rattle.sc_joined.proofs.Settling.{Meets}

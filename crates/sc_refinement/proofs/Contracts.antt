@@ -21,8 +21,8 @@ use Rattle.sc_request.specs.Handlers as core
 use Rattle.sc_request.specs.Handlers.{State}
 use Rattle.sc_request.specs.Halves.{IsStage}
 use Rattle.sc_request.specs.Picking.{job_answered, job_at, job_awaiting, job_of, job_with}
-use Rattle.sc_interp.specs.RegionHalves.{IsHalfOfFrame, IsStageFor, IsToldOf}
-use Rattle.sc_interp.specs.RegionTurns.{Half, told, told_frames}
+use Rattle.sc_region_turns.specs.RegionHalves.{IsHalfOfFrame, IsStageFor, IsToldOf}
+use Rattle.sc_region_turns.specs.RegionTurns.{Half, told, told_frames}
 use Rattle.sc_acts.specs.Turns.{begun_half}
 use Rattle.sc_acts.specs.Waiting.{IsInContract, IsVersion}
 use Rattle.sc_values.specs.Fitting.{FrameFits, WorldFits, coming_to}

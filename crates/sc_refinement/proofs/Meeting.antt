@@ -35,9 +35,9 @@ use Rattle.sc_request.specs.Handlers as core
 use Rattle.sc_request.specs.Handlers.{Posted, State}
 use Rattle.sc_request.specs.Picking.{job_answered, job_at, job_awaiting, job_idle, job_of, job_reserving}
 use Rattle.sc_request.specs.Sessions as sessions
-use Rattle.sc_interp.specs.RegionHalves.{AreHalvesOf, IsHalfOfFrame, IsRegionHalf, IsStageFor, unpassed}
-use Rattle.sc_interp.specs.RegionSteps.{numbering_by}
-use Rattle.sc_interp.specs.RegionTurns.{Half}
+use Rattle.sc_region_turns.specs.RegionHalves.{AreHalvesOf, IsHalfOfFrame, IsRegionHalf, IsStageFor, unpassed}
+use Rattle.sc_region_turns.specs.RegionSteps.{numbering_by}
+use Rattle.sc_region_turns.specs.RegionTurns.{Half}
 use Rattle.sc_interp.specs.Serving as serving
 use Rattle.sc_acts.specs.Taking.{IsNamed}
 use Rattle.sc_acts.specs.Turns.{begun_half}

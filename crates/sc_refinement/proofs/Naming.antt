@@ -9,7 +9,7 @@ use Rattle.sc_request.specs.Asked.{errand_of}
 use Rattle.sc_request.specs.Halves.{IsHalfOf, posted_of}
 use Rattle.sc_request.specs.Handlers.{Posted, State}
 use Rattle.sc_request.specs.Sessions as sessions
-use Rattle.sc_interp.specs.RegionSteps.{AreNamed, IsNamed, number_among, numbering_by}
+use Rattle.sc_region_turns.specs.RegionSteps.{AreNamed, IsNamed, number_among, numbering_by}
 use Rattle.sc_acts.specs.Taking as coded
 use Rattle.sc_values.specs.Points.{Each}
 use Rattle.sc_values.proofs.Lists.{each_append}

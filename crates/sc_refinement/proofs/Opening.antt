@@ -19,9 +19,9 @@ use Rattle.sc_request.specs.Handlers as core
 use Rattle.sc_request.specs.Handlers.{new_handler, posted}
 use Rattle.sc_request.specs.Logs as logs
 use Rattle.sc_request.specs.Logs.{root_of}
-use Rattle.sc_interp.specs.RegionHalves.{AreHalvesOf, IsRegionHalf}
-use Rattle.sc_interp.specs.RegionSteps.{number_among, numbering_by}
-use Rattle.sc_interp.specs.RegionTurns.{new_half}
+use Rattle.sc_region_turns.specs.RegionHalves.{AreHalvesOf, IsRegionHalf}
+use Rattle.sc_region_turns.specs.RegionSteps.{number_among, numbering_by}
+use Rattle.sc_region_turns.specs.RegionTurns.{new_half}
 use Rattle.sc_play.specs.Regions.{PlainRegion, new_region}
 use Rattle.sc_acts.specs.Taking.{IsNamed, IsNameOf}
 use Rattle.sc_code.specs.RequestRoom.{FitsRequests}

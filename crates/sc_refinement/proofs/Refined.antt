@@ -18,9 +18,9 @@ use Rattle.sc_region.specs.declared.job.Want.{Want}
 use Rattle.sc_region.specs.Stores.{PlainStore}
 use Rattle.sc_request.specs.Laws.{PicksWhereTurns}
 use Rattle.sc_request.specs.Logs.{next}
-use Rattle.sc_interp.specs.RegionHalves.{IsRegionOf}
-use Rattle.sc_interp.specs.RegionSteps.{IsProgramFor, RegionsAsk, first_want, numbering_by, task_of}
-use Rattle.sc_interp.specs.RegionTurns.{Half, taken_turn}
+use Rattle.sc_region_turns.specs.RegionHalves.{IsRegionOf}
+use Rattle.sc_region_turns.specs.RegionSteps.{IsProgramFor, RegionsAsk, first_want, numbering_by, task_of}
+use Rattle.sc_region_turns.specs.RegionTurns.{Half, taken_turn}
 use Rattle.sc_play.specs.Regions.{EndsIn}
 use Rattle.sc_acts.specs.Halves.{JobFits}
 use Rattle.sc_acts.specs.Placed.{SoundJobsAreTaken, begun_when}

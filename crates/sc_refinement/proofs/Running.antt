@@ -26,10 +26,10 @@ use Rattle.sc_request.specs.Picking.{job_of}
 use Rattle.sc_request.specs.Settling.{settled}
 use Rattle.sc_request.specs.Steps.{stepped}
 use Rattle.sc_request.specs.Laws.{PicksWhereTurns}
-use Rattle.sc_interp.specs.RegionHalves.{IsRegionOf, IsRegionHalf}
-use Rattle.sc_interp.specs.RegionSteps.{AreNamed, first_want, numbering_by, taken_if, task_of}
-use Rattle.sc_interp.specs.RegionTurns.{Half, new_half, taken_turn}
-use Rattle.sc_interp.proofs.RegionOpening.{new_region as new_store_stands}
+use Rattle.sc_region_turns.specs.RegionHalves.{IsRegionOf, IsRegionHalf}
+use Rattle.sc_region_turns.specs.RegionSteps.{AreNamed, first_want, numbering_by, taken_if, task_of}
+use Rattle.sc_region_turns.specs.RegionTurns.{Half, new_half, taken_turn}
+use Rattle.sc_region_turns.proofs.RegionOpening.{new_region as new_store_stands}
 use Rattle.sc_play.specs.Regions.{PlainRegion, Plays, new_region}
 use Rattle.sc_play.specs.Turns.{FirstTurn, Turns, first, more}
 use Rattle.sc_acts.specs.Taking.{IsNamed}

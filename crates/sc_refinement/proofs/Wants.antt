@@ -32,7 +32,7 @@ use Rattle.sc_interp.specs.declared.act.Hop.TheVariants as hop
 use Rattle.sc_interp.specs.Entering.{asks_beginning, asks_reserving, asks_with}
 use Rattle.sc_interp.specs.Exiting.{asks_exiting, asks_releasing, asks_returning}
 use Rattle.sc_interp.specs.Refusing.{asks_refusing, is_waited_for}
-use Rattle.sc_interp.specs.RegionSteps.{names_of}
+use Rattle.sc_region_turns.specs.RegionSteps.{names_of}
 use Rattle.sc_interp.specs.Serving.{version_in}
 use Rattle.sc_interp.specs.Standing.{formals_at, name_at}
 use Rattle.sc_interp.specs.Told.{HasName, HasProcedure, IsReadyAt, IsTold, NamesCall, NamesCreation}

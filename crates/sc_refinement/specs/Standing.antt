@@ -7,9 +7,9 @@ use Rattle.sc_code.specs.Programs.{pool_of}
 use Rattle.sc_region.specs.declared.job.Job.{Job}
 use Rattle.sc_request.specs.Handlers as core
 use Rattle.sc_request.specs.Halves.{IsHalfOf}
-use Rattle.sc_interp.specs.RegionHalves.{IsRegionOf, IsRegionHalf}
-use Rattle.sc_interp.specs.RegionSteps.{numbering_by}
-use Rattle.sc_interp.specs.RegionTurns.{Half}
+use Rattle.sc_region_turns.specs.RegionHalves.{IsRegionOf, IsRegionHalf}
+use Rattle.sc_region_turns.specs.RegionSteps.{numbering_by}
+use Rattle.sc_region_turns.specs.RegionTurns.{Half}
 use Rattle.sc_play.specs.Regions.{IsRefused, PlainRegion, new_region}
 use Rattle.sc_runtime.specs.Worlds.{PlainWorld}
 

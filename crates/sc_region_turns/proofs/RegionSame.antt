@@ -10,8 +10,8 @@ use Rattle.sc_region.specs.Frames as stored
 use Rattle.sc_region.specs.Frames.{PlainFrame}
 use Rattle.sc_region.specs.Stores as store
 use Rattle.sc_region.specs.Stores.{PlainStore}
-use Rattle.sc_interp.specs.RegionTurns.{Half, failed, is_current}
-use Rattle.sc_interp.specs.RegionHalves.{IsRegionOf, AreFrames}
+use Rattle.sc_region_turns.specs.RegionTurns.{Half, failed, is_current}
+use Rattle.sc_region_turns.specs.RegionHalves.{IsRegionOf, AreFrames}
 
 pub still_fails : (s : System) (x : Half) (y : PlainStore) (why : Cause) → IsRegionOf s x y → IsRegionOf s (failed why x) (store.failed why y)
 still_fails s x y why r = record { objects = r.objects; frames = tt; output = r.output; failure = refl }

@@ -24,7 +24,7 @@ use Rattle.sc_request.specs.Handlers as core
 use Rattle.sc_interp.specs.Values.{reference_of}
 use Rattle.sc_interp.specs.Objects.{objects_in}
 use Rattle.sc_interp.specs.Standing.{state_of}
-use Rattle.sc_interp.specs.RegionTurns.{Half, told}
+use Rattle.sc_region_turns.specs.RegionTurns.{Half, told}
 
 -- ---- in memory
 

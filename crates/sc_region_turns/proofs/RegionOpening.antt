@@ -5,9 +5,9 @@ use Rattle.sc_code.specs.declared.program.Image.{Image}
 use Rattle.sc_model.specs.Handlers.{new_handler}
 use Rattle.sc_region.specs.Stores.{new_store}
 use Rattle.sc_request.specs.Handlers.{Idle}
-use Rattle.sc_interp.specs.RegionTurns.{new_half}
-use Rattle.sc_interp.specs.RegionHalves.{IsRegionOf, IsRegionHalf}
-use Rattle.sc_interp.specs.RegionSteps.{ReplaysTo}
+use Rattle.sc_region_turns.specs.RegionTurns.{new_half}
+use Rattle.sc_region_turns.specs.RegionHalves.{IsRegionOf, IsRegionHalf}
+use Rattle.sc_region_turns.specs.RegionSteps.{ReplaysTo}
 
 pub new_region : (s : System) (p : Image) → IsRegionOf s new_half (new_store p)
 new_region s p = record { objects = refl; frames = tt; output = refl; failure = refl }

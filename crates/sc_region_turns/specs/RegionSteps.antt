@@ -26,8 +26,8 @@ use Rattle.sc_request.specs.Picking.{job_of}
 use Rattle.sc_request.specs.Halves.{IsHalfOf}
 use Rattle.sc_request.specs.Asked.{Numbering, asked, asks_errand, asks_on}
 use Rattle.sc_interp.specs.Values.{reference_of, value_of, values_of}
-use Rattle.sc_interp.specs.RegionTurns.{Half, new_half, Task, Takes, Replied, SupplierFailed, WasRefused, Granted, Made, GoesOn, Misfits, told_frames, taken_turn, turn, played}
-use Rattle.sc_interp.specs.RegionHalves.{IsRegionOf, IsRegionHalf}
+use Rattle.sc_region_turns.specs.RegionTurns.{Half, new_half, Task, Takes, Replied, SupplierFailed, WasRefused, Granted, Made, GoesOn, Misfits, told_frames, taken_turn, turn, played}
+use Rattle.sc_region_turns.specs.RegionHalves.{IsRegionOf, IsRegionHalf}
 
 -- ---- names by number
 

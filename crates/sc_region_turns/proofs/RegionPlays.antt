@@ -15,8 +15,8 @@ use Rattle.sc_request.specs.Logs.{opening}
 use Rattle.sc_request.specs.Picking.{job_of, status_of}
 use Rattle.sc_request.specs.Settling.{settled}
 use Rattle.sc_request.specs.Asked.{request_of}
-use Rattle.sc_interp.specs.RegionTurns.{Half, new_half, taken_turn}
-use Rattle.sc_interp.specs.RegionSteps.{numbering_by, task_of, first_want}
+use Rattle.sc_region_turns.specs.RegionTurns.{Half, new_half, taken_turn}
+use Rattle.sc_region_turns.specs.RegionSteps.{numbering_by, task_of, first_want}
 
 -- the two halves of a world
 pub record Halves : Type 0 where

@@ -1,0 +1,5 @@
+pub mod Serving
+pub mod RegionOpening
+pub mod RegionSame
+pub mod RegionPlays
+mod RegionRows

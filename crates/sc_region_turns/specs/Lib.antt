@@ -1,0 +1,4 @@
+pub mod RegionTurns
+pub mod RegionHalves
+pub mod RegionSteps
+pub mod Laws
