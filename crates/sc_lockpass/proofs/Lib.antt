@@ -1,3 +1,4 @@
 pub mod Members
 pub mod Listings
 pub mod LawProofs
+mod Alike

@@ -1,5 +1,5 @@
 -- Lock passing: all rights of a client go to its supplier, and return with the answer.
-use Rattle.std.specs.Prelude.{◌==◌, ℕ, Option, Some, None, if◌then◌else◌}
+use Rattle.std.specs.Prelude.{◌≡◌, ◌==◌, ℕ, Option, Some, None, if◌then◌else◌}
 use Rattle.sc_lockpass.specs.Rights.{Rights, is_handler}
 
 -- What was passed: the rights that are listed, each with its holder before, which may be nobody.
@@ -37,3 +37,7 @@ returned (Some before) holder = before
 -- Exactly the listed rights return to those who held them.
 abbrev pub give_back : Passed → Rights → Rights
 give_back p r = record { queue = λ k. returned (p.queue k) (r.queue k); top = λ k. returned (p.top k) (r.top k) }
+
+-- Of the rights over the handler the same are listed, with the same holders.
+abbrev pub AreListedAlike : ℕ → Passed → Passed → Type 0
+AreListedAlike k p q = (p.queue k ≡ q.queue k) × (p.top k ≡ q.top k)

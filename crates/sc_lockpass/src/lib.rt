@@ -8,6 +8,7 @@ mod holders;
 pub mod laws;
 mod passed;
 mod rights;
+mod same;
 mod version;
 
 pub use passed::Passed;
