@@ -1,3 +1,4 @@
 pub mod Needed
 pub mod EntryLaws
 pub mod WaitLaws
+mod SameMarks

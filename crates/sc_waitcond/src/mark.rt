@@ -1,5 +1,5 @@
 //! Marks of entries that wait.
-ghost use Rattle.std.specs.Prelude.{◌≡◌, ◌<◌, ◌≤◌, [], List, length, slice_index};
+ghost use Rattle.std.specs.Prelude.{◌≡◌, ◌<◌, ◌≤◌, ◌↔◌, [], IsTrue, List, length, slice_index};
 ghost use Rattle.std.specs.List.{All, list_any};
 ghost use Rattle.sc_waitcond.specs.Reservations.{mark_of, mark_allows, has_risen};
 
@@ -74,6 +74,13 @@ impl Mark {
         ensures { result ≡ mark_allows (slice_index sessions.now) self.now }
     {
         self.counts.is_empty() || has_any_risen(self.counts.as_slice(), sessions)
+    }
+
+    /// Whether the same handlers are marked with the same counts, in the same order.
+    pub fn is_same(&self, other: &Mark) -> bool
+        ensures { IsTrue result ↔ self.now ≡ other.now }
+    {
+        self.counts.as_slice() == other.counts.as_slice()
     }
 }
 
