@@ -17,3 +17,4 @@ pub mod Rooms
 pub mod Packed
 pub mod Entries
 pub mod Logged
+pub mod Same

@@ -47,7 +47,7 @@ fn same_request(a: &PackedRequest, actuals: &[Value], b: &PackedRequest, its: &[
         && a.is_waited == b.is_waited
 }
 
-fn same_errand(a: Errand, b: Errand) -> bool
+pub(crate) fn same_errand(a: Errand, b: Errand) -> bool
     ensures { IsTrue result ↔ a ≡ b }
 {
     match (a, b) {

@@ -26,6 +26,7 @@ mod picking;
 mod places;
 mod postings;
 mod rooms;
+mod same;
 mod sending;
 mod sessions;
 mod settle;
