@@ -1,10 +1,10 @@
 //! Who holds which handler.
-ghost use Rattle.std.specs.Prelude.{◌≡◌, ◌<◌, Some, None};
+ghost use Rattle.std.specs.Prelude.{◌≡◌, ◌<◌, ◌≤◌, Some, None};
 ghost use Rattle.std.specs.List.{All};
 ghost use Rattle.sc_lockpass.specs.Versions.{most_handlers};
 ghost use Rattle.sc_lockpass.specs.Rights as maps;
 ghost use Rattle.sc_lockpass.specs.Passing as passing;
-ghost use Rattle.sc_lockpass.specs.Tables.{rights_of, passed_of};
+ghost use Rattle.sc_lockpass.specs.Tables.{IsNobodysFrom, rights_of, passed_of};
 
 use crate::holders::{assign, held_by, holds, nobody, reach_with, replace, restore};
 use crate::passed::Passed;
@@ -75,6 +75,15 @@ impl Rights {
         ensures { result ≡ (rights_of self.now).top handler }
     {
         self.top.get(handler as usize).copied().flatten()
+    }
+
+    /// From which number on all rights over handlers are nobody's.
+    pub fn reach(&self) -> usize
+        ensures most { result ≤ 512 }
+        ensures queue { IsNobodysFrom result self.now.queue }
+        ensures top { IsNobodysFrom result self.now.top }
+    {
+        self.reach
     }
 
     /// Whether a handler holds another one: it is itself, or it may post to it or push on its waiting stack.
