@@ -33,3 +33,6 @@ mod Posters
 mod Quiet
 pub mod Waking
 mod Entries
+mod SameLists
+mod Sames
+mod SameStates

@@ -36,3 +36,12 @@ same_first b m n vs us is =
       λ e. ap (λ (xs : List Value). record { items = xs }) (both.0 (sym is ∙ e)),
       λ e. is ∙ both.1 (ap (λ (v : ArrayVec Value). v.items) e),
     )
+
+-- values that are told to be equal, or not, are those of two arrays
+pub same_values : (r : Bool) (a b : ArrayVec Value) (xs ys : List Value) → xs ≡ a.items → ys ≡ b.items → r ≡ pointwise eq-value.it xs ys →
+    (r ≡ true → a ≡ b) × (a ≡ b → r ≡ true)
+same_values r a b xs ys of its is =
+    let both = pointwise_decides {E = eq-value.it} decides xs ys in (
+      λ e. ap (λ (vs : List Value). record { items = vs }) (sym of ∙ both.0 (sym is ∙ e) ∙ its),
+      λ e. is ∙ both.1 (of ∙ ap (λ (v : ArrayVec Value). v.items) e ∙ sym its),
+    )

@@ -1,7 +1,12 @@
 //! Laws of the core, each the contract of a function that does nothing.
+ghost use Rattle.std.specs.Prelude.{◌≡◌, ◌<◌, ℕ};
 ghost use Rattle.sc_request.specs.Candidates.{LeavesUntouched};
+ghost use Rattle.sc_request.specs.Cores.{center_of, state_of};
 ghost use Rattle.sc_request.specs.Laws.{OpensAsHalf, PicksWhereTurns};
+ghost use Rattle.sc_request.specs.Same.{AreSameAt};
 ghost use Rattle.sc_request.specs.Steps.{HalvesStep};
+
+use crate::center::Core;
 
 /// The core opens as the half of the machine's opening.
 pub fn core_opens_as_half()
@@ -23,3 +28,11 @@ pub fn core_settles_as_half()
 pub fn core_leaves_untouched()
     ensures { LeavesUntouched }
 {}
+
+/// Cores that stand alike at each handler that there may be have the same state, in all that it says.
+pub fn same_at_each_is_same_state(core: &Core, other: &Core)
+    ensures { ((h : ℕ) → h < 512 → AreSameAt h (center_of core.now) (center_of other.now)) → state_of core.now ≡ state_of other.now }
+{
+    let _ = core.state.rights.reach();
+    let _ = other.state.rights.reach();
+}

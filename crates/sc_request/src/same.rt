@@ -4,7 +4,7 @@ ghost use Rattle.std.specs.Option.{option_map};
 ghost use Rattle.sc_lockpass.specs.Tables.{passed_of};
 ghost use Rattle.sc_request.specs.Cores.{center_of};
 ghost use Rattle.sc_request.specs.Places.{plain};
-ghost use Rattle.sc_request.specs.Same.{AreSameAt};
+ghost use Rattle.sc_request.specs.Same.{AreAskedAlike, AreSameAt, StandAlike};
 ghost use Rattle.sc_request.specs.Tables.{first_posted, handler_of, posting_of, service_of, stage_of};
 
 use crate::agreement::same_errand;
@@ -47,12 +47,25 @@ impl State {
 fn same_handler(a: &Handler, b: &Handler) -> bool
     ensures { IsTrue result ↔ handler_of a.now ≡ handler_of b.now }
 {
+    same_standing(a, b) && same_requests(a, b)
+}
+
+/// Whether two handlers stand the same, whatever they serve and are asked for.
+fn same_standing(a: &Handler, b: &Handler) -> bool
+    ensures { IsTrue result ↔ StandAlike (handler_of a.now) (handler_of b.now) }
+{
     same_stage(a, b)
         && same_handlers(&a.entry, &b.entry)
         && a.answer == b.answer
         && a.failure == b.failure
         && a.refused == b.refused
-        && same_services(&a.services, &b.services)
+}
+
+/// Whether two handlers serve the same requests, and are asked for the same.
+fn same_requests(a: &Handler, b: &Handler) -> bool
+    ensures { IsTrue result ↔ AreAskedAlike (handler_of a.now) (handler_of b.now) }
+{
+    same_services(&a.services, &b.services)
         && same_postings(&a.queue, &b.queue)
         && same_callback(&a.callback, &b.callback)
 }
