@@ -6,3 +6,4 @@ pub mod Settling
 pub mod Filling
 pub mod Reaching
 pub mod Calling
+pub mod Sameness

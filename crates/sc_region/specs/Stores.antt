@@ -34,6 +34,13 @@ max_frames = 1024
 abbrev pub new_store : Image → PlainStore
 new_store p = record { program = p; objects = []; frames = []; output = []; failure = None }
 
+-- Two stores hold the same, whatever their programs are.
+pub record AreSame (x y : PlainStore) : Type 0 where
+  pub objects : x.objects ≡ y.objects
+  pub frames : x.frames ≡ y.frames
+  pub output : x.output ≡ y.output
+  pub failure : x.failure ≡ y.failure
+
 -- ---- settled objects
 
 -- The object of the number is settled: the store has not ended in a failure, and no frame has it as Current.

@@ -6,6 +6,7 @@
 #![tactic(auto)]
 
 mod breakdown;
+mod equality;
 mod frame;
 mod job;
 mod object;

@@ -1,6 +1,7 @@
 //! The objects of a handler.
 ghost use Rattle.std.specs.Prelude.{◌≤◌, vec_len};
 
+use crate::equality::same_objects;
 use crate::program::{class_at, defaults};
 use crate::value::Value;
 use sc_code::Program;
@@ -58,7 +59,7 @@ impl Model for Objects {
 }
 
 impl Objects {
-    ghost use Rattle.std.specs.Prelude.{◌≡◌, ◌-◌, ◌++◌, [], ◌∷◌, OnOk, OnErr, length, take};
+    ghost use Rattle.std.specs.Prelude.{◌≡◌, ◌-◌, ◌++◌, ◌↔◌, [], ◌∷◌, IsTrue, OnOk, OnErr, length, take};
     ghost use Rattle.std.specs.Option.{option_map};
     ghost use Rattle.std.specs.Borrow.{sem};
     ghost use Rattle.sc_region.specs.Lending.{LendsObject};
@@ -134,5 +135,12 @@ impl Objects {
         if number != 0 && number <= self.items.len() {
             self.items[number - 1].write(slot, value);
         }
+    }
+
+    /// Whether they are the same.
+    pub fn is_same(&self, other: &Objects) -> bool
+        ensures { IsTrue result ↔ self.now ≡ other.now }
+    {
+        same_objects(&self.items, &other.items)
     }
 }

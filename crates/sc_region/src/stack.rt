@@ -1,11 +1,12 @@
 //! The stack of a handler.
 ghost use Rattle.std.specs.List.{list_any};
 ghost use Rattle.std.specs.Option.{option_map};
-ghost use Rattle.std.specs.Prelude.{◌≡◌, ◌<◌, ◌≤◌, ◌==◌, [], ◌∷◌, IfOk, OnOk, OnErr, drop, length, vec_capacity};
+ghost use Rattle.std.specs.Prelude.{◌≡◌, ◌<◌, ◌≤◌, ◌==◌, ◌↔◌, [], ◌∷◌, IfOk, IsTrue, OnOk, OnErr, drop, length, vec_capacity};
 ghost use Rattle.sc_region.specs.Calls.{called_on, top_operands};
 ghost use Rattle.sc_region.specs.Frames.{activation_of, frames_onto, is_current, top_activation, top_current};
 ghost use Rattle.sc_region.specs.Stores.{entry};
 
+use crate::equality::{same_activations, same_references};
 use crate::frame::{Activation, Call, Origin};
 use crate::value::{Reference, Value};
 use sc_code::RoutineCode;
@@ -165,6 +166,19 @@ impl Stack {
     /// Where the routine of the frame over so many others stands, or stood as it exited, to be told.
     pub fn over(&self, height: usize) -> Option<&Activation> {
         self.activations.get(height)
+    }
+
+    /// Whether the frames are the same. What stands above them makes no difference.
+    pub fn is_same(&self, other: &Stack) -> bool
+        ensures { IsTrue result ↔ self.now ≡ other.now }
+    {
+        let height = self.currents.len();
+        let other_height = other.currents.len();
+        same_references(&self.currents, &other.currents)
+            && same_activations(
+                &self.activations[..height],
+                &other.activations[..other_height],
+            )
     }
 }
 

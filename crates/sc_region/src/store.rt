@@ -3,7 +3,7 @@ ghost use Rattle.std.specs.Prelude.{◌≡◌, ◌<◌, ◌≤◌, ◌↔◌, �
 ghost use Rattle.sc_region.specs.Calls.{calls, top_operands};
 ghost use Rattle.sc_region.specs.Objects.{PlainObject, object_numbered, attribute_of};
 ghost use Rattle.sc_region.specs.Classes.{MeetsAt};
-ghost use Rattle.sc_region.specs.Stores.{new_store, is_settled, failed, written, entered, left, born, born_for, made, made_for, printed};
+ghost use Rattle.sc_region.specs.Stores.{AreSame, new_store, is_settled, failed, written, entered, left, born, born_for, made, made_for, printed};
 ghost use Rattle.sc_region.specs.declared.frame.Origin.TheVariants as origin;
 
 use crate::breakdown::Breakdown;
@@ -282,6 +282,17 @@ impl<'p> Store<'p> {
         ensures { result ≡ self.now.failure }
     {
         self.state.failure
+    }
+
+    /// Whether the two hold the same: objects, frames, output and failure, whatever their programs are. It looks at each
+    /// at most once.
+    pub fn is_same(&self, other: &Store<'_>) -> bool
+        ensures { IsTrue result ↔ AreSame self.now other.now }
+    {
+        self.state.objects.is_same(&other.state.objects)
+            && self.state.stack.is_same(&other.state.stack)
+            && self.state.output.as_slice() == other.state.output.as_slice()
+            && self.state.failure == other.state.failure
     }
 
     /// Where the store was as it ended in a failure, or else is now, to be told to people. Nothing is promised of it: no turn
