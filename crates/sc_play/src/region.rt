@@ -119,7 +119,7 @@ impl<'p> Region<'p> {
     ghost use Rattle.std.specs.Prelude.{◌&&◌, is_some, length};
     ghost use Rattle.sc_region.specs.Classes.{MeetsAt};
     ghost use Rattle.sc_region.specs.Objects.{object_numbered};
-    ghost use Rattle.sc_region.specs.Stores.{is_settled};
+    ghost use Rattle.sc_region.specs.Stores.{AreSame, is_settled};
     ghost use Rattle.sc_play.specs.Regions.{IsRefused, Plays, new_region, outcome};
 
     /// The region of the handler of a number, which was asked for nothing yet. What grows later takes its memory from this
@@ -210,6 +210,13 @@ impl<'p> Region<'p> {
     /// it.
     pub fn breakdown(&self) -> Breakdown {
         self.store.breakdown()
+    }
+
+    /// Whether the stores of the two hold the same: objects, frames, output and failure.
+    pub fn is_same(&self, other: &Region<'_>) -> bool
+        ensures { IsTrue result ↔ AreSame self.now.store other.now.store }
+    {
+        self.store.is_same(&other.store)
     }
 
     /// How many objects there are.
