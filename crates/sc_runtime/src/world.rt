@@ -1,5 +1,6 @@
 //! The world, and its turns.
-ghost use Rattle.std.specs.Prelude.{◌≡◌, ◌≤◌, ◌↔◌, ℕ, IfOk, IsTrue, OnErr, OnOk, Some, length, is_some, replicate, true, vec_len};
+ghost use Rattle.std.specs.Prelude.{◌≡◌, ◌≤◌, ◌↔◌, ℕ, IfOk, IsTrue, OnErr, OnOk, Some, length, is_some, replicate, slice_get, true, vec_len};
+ghost use Rattle.std.specs.Option.{option_map};
 ghost use Rattle.sc_free.proofs.Props.{linked_prop};
 ghost use Rattle.sc_free.specs.Free.{AreLinked};
 ghost use Rattle.sc_lockpass.specs.Versions.{most_handlers};
@@ -224,6 +225,21 @@ impl<'p> World<'p> {
         ensures { settlements_of result.now ≡ log_of self.now.core }
     {
         self.core.log()
+    }
+
+    /// The core.
+    pub fn core(&self) -> &Core
+        ensures center { center_of result.now ≡ (world_of self.now).center }
+        ensures log { log_of result.now ≡ log_of self.now.core }
+    {
+        &self.core
+    }
+
+    /// The region of a handler, or None where there can be no such handler in any version.
+    pub fn region(&self, handler: u16) -> Option<&Region<'p>>
+        ensures { option_map (λ region. region.now) result ≡ slice_get (world_of self.now).regions handler }
+    {
+        self.regions.get(handler as usize)
     }
 
     /// Where a handler was as it failed, or else is now, to be told to people; None where there is no such handler. Nothing
