@@ -102,6 +102,13 @@ impl<'p> LoggedRegion<'p> {
         Ok(turns)
     }
 
+    /// The region, without its log.
+    pub fn region(&self) -> &Region<'p>
+        ensures { result.now ≡ region_of self.now }
+    {
+        &self.region
+    }
+
     /// The number of the handler.
     pub fn handler(&self) -> u16
         ensures { result ≡ (region_of self.now).handler }
