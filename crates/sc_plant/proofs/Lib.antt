@@ -1,9 +1,11 @@
+mod OnWay
 mod Comparing
 mod Crossing
 mod AtOnce
 mod Dues
 mod OneThread
 mod Openings
+mod PuttingBack
 mod Reporting
 mod Slots
 mod Threaded

@@ -42,7 +42,7 @@ pub fn settle_due(core: &mut Core, handler: u16, turns: u32, want: &Want) -> Res
 }
 
 /// A handler that is out is settled.
-fn settle_out(core: &mut Core, handler: u16, turns: u32, want: &Want)
+pub fn settle_out(core: &mut Core, handler: u16, turns: u32, want: &Want)
     requires out { is_some ((center_of core.old).out handler) ≡ true }
     requires room { HasRoomFor 0 core.old }
     requires version { core.old.state.rights.version ≡ Two }

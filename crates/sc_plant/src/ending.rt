@@ -20,7 +20,7 @@ pub fn is_over<P: OfProgram>(recorded: &mut RecordedCore<P>, limit: u32) -> bool
 }
 
 /// The same, of a core and its record.
-fn is_idle_or_full(core: &mut Core, lines: &[RecordLine], limit: u32) -> bool
+pub fn is_idle_or_full(core: &mut Core, lines: &[RecordLine], limit: u32) -> bool
     ensures over { OnTrue result (IsOver limit (center_of core.new) lines.now) }
     ensures center { center_of core.new ≡ center_of core.old }
     ensures log { log_of core.new ≡ log_of core.old }

@@ -9,6 +9,7 @@
 //! what one thread makes of the turns of the record, as [`laws`] say.
 #![tactic(auto)]
 
+mod alone;
 mod compare;
 mod due;
 mod ending;

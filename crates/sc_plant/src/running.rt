@@ -3,6 +3,7 @@ ghost use Rattle.std.specs.Prelude.{◌≡◌, IfErr, IfOk, None, Some};
 ghost use Rattle.sc_request.specs.Cores.{center_of};
 ghost use Rattle.sc_plant.specs.Left.{IsOver, IsRun, SaysWhy};
 
+use crate::alone::run_alone;
 use crate::ending::is_over;
 use crate::gate::Gate;
 use crate::leaving::{difference, left_of};
@@ -40,6 +41,9 @@ pub fn run<'p, R: Threads + Wait + Sync, G: Gate>(
     ensures ok { IfOk result (IsRun program.now.image limit) }
     ensures err { IfErr result (SaysWhy program.now.image) }
 {
+    if workers <= 1 {
+        return run_alone(rt, alloc, program, limit, gate);
+    }
     run_open::<Brand, R, G>(rt, alloc, program, workers, limit, gate)
 }
 

@@ -7,7 +7,7 @@ use sc_region::Job;
 use std::mem;
 
 /// The most turns of a task.
-const MOST_TURNS: u32 = 256;
+pub const MOST_TURNS: u32 = 256;
 
 /// The most lines of a record.
 pub const MOST_LINES: usize = 1_000_000;

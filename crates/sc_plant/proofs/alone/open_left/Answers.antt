@@ -1,0 +1,25 @@
+use Rattle.std.proofs.Common.{◌<◌, List, Some, refl, sym, ap, subst, ◌∙◌, arith}
+use Rattle.std.proofs.lemmas.List.Elements.{All-nil}
+use Rattle.sc_request.specs.declared.settlement.Settlement.{Settlement}
+use Rattle.sc_request.specs.Cores.{log_of}
+use Rattle.sc_runtime.specs.Worlds.{max_handlers}
+use Rattle.sc_plant.specs.Due.{AreBelow}
+use Rattle.sc_plant.specs.Recorded.{lines_of}
+use Rattle.sc_plant.proofs.OnWay.{new_own}
+use Rattle.sc_plant.proofs.Openings.{plays_opened}
+use Rattle.sc_plant.proofs.alone.open_left.Goals as goal
+
+pub returns : goal.returns
+returns c =
+    let p = c.args.program.now.image in
+    let core = c.in_ok-core.core in
+    let log = c.in_ok-core.ensures.log in
+    record {
+      version = refl;
+      rights = c.in_ok-core.ensures.version;
+      count = omega (arith, c.in_ok-regions.ensures.count, c.in_ok-regions.regions.ok.0);
+      plays = plays_opened p p (Some p) core refl refl c.in_ok-core.ensures.center log;
+      below = subst AreBelow (sym log) (All-nil (λ (e : Settlement). e.handler < max_handlers));
+      lines = c.new.ensures.items ∙ sym (ap (λ (es : List Settlement). lines_of es) log);
+      regions = new_own p (log_of core) c.in_ok-regions.regions.items log c.in_ok-regions.ensures.new;
+    }

@@ -1,0 +1,204 @@
+//! Runs on one thread, where nothing lies under a lock.
+//!
+//! That a region's log is that of its handler's settlements is kept on the way, so no comparison is needed.
+ghost use Rattle.std.specs.Prelude.{◌≡◌, ◌≤◌, ◌↔◌, ◌<◌, IfErr, IfOk, IsTrue, OnErr, OnOk, Some, is_some, length, true, vec_len};
+ghost use Rattle.std.specs.Bool.{OnTrue};
+ghost use Rattle.sc_lockpass.specs.declared.version.Version.TheVariants.{Two};
+ghost use Rattle.sc_code.specs.declared.program.Image.{Image};
+ghost use Rattle.sc_region.specs.declared.job.Job.{Job};
+ghost use Rattle.sc_region.specs.declared.job.Want.TheVariants as want;
+ghost use Rattle.sc_request.specs.Cores.{center_of};
+ghost use Rattle.sc_request.specs.Rooms.{HasRoomFor};
+ghost use Rattle.sc_plant.specs.Alone.{AreNew, IsBack, IsOnWay, IsPlayed};
+ghost use Rattle.sc_plant.specs.Left.{IsLeft, IsOver, IsRun, SaysWhy};
+
+use crate::due::settle_out;
+use crate::ending::is_idle_or_full;
+use crate::gate::Gate;
+use crate::left::{Left, RunFault};
+use crate::opening::{MAX_HANDLERS, open_core};
+use crate::scheduler::{MOST_LINES, MOST_TURNS};
+use crate::wants::clear_want;
+use sc_audit::RecordLine;
+use sc_code::Program;
+use sc_lockpass::Version;
+use sc_region::Want;
+use sc_request::Core;
+use sc_worklog::LoggedRegion;
+use std::alloc::{AllocError, Global};
+use std::sync::Wait;
+
+/// Plays the handlers of a program on the calling thread, until the run is over.
+///
+/// # Errors
+/// U1 where memory is refused.
+pub fn run_alone<'p, R: Wait, G: Gate>(
+    rt: &R,
+    alloc: Global,
+    program: &'p Program,
+    limit: u32,
+    gate: &G,
+) -> Result<Left<'p>, RunFault<'p>>
+    ensures ok { IfOk result (IsRun program.now.image limit) }
+    ensures err { IfErr result (SaysWhy program.now.image) }
+{
+    let Ok(mut left) = open_left(alloc, program) else {
+        return Err(RunFault::OutOfMemory(None));
+    };
+    if play_all(rt, &mut left, limit, gate).is_err() {
+        return Err(RunFault::OutOfMemory(Some(left)));
+    }
+    Ok(left)
+}
+
+/// What is there before the first turn.
+fn open_left<'p>(alloc: Global, program: &'p Program) -> Result<Left<'p>, AllocError>
+    ensures { IfOk result (IsOnWay program.now.image) }
+{
+    let regions = open_regions(alloc, program)?;
+    let core = open_core(alloc, program, Version::Two)?;
+    Ok(Left {
+        regions,
+        core,
+        lines: Vec::new(alloc),
+        version: Version::Two,
+    })
+}
+
+/// A region for each handler that there may be.
+fn open_regions<'p>(
+    alloc: Global,
+    program: &'p Program,
+) -> Result<Vec<LoggedRegion<'p>>, AllocError>
+    ensures count { IfOk result (λ regions. vec_len regions ≡ 512) }
+    ensures new { IfOk result (λ regions. AreNew program.now.image regions.items) }
+{
+    let mut regions = Vec::with_capacity(alloc, MAX_HANDLERS as usize)?;
+    for handler in 0..MAX_HANDLERS {
+        regions.push_reserved(LoggedRegion::new(alloc, program, handler));
+    }
+    Ok(regions)
+}
+
+/// Plays the handlers until the run is over. Err where memory is refused.
+fn play_all<R: Wait, G: Gate>(
+    rt: &R,
+    left: &mut Left<'_>,
+    limit: u32,
+    gate: &G,
+) -> Result<(), AllocError>
+    requires count { length left.old.regions.items ≡ 512 }
+    requires version { left.old.core.state.rights.version ≡ Two }
+    ensures on { OnOk result ((p : Image) → IsOnWay p left.old → IsOnWay p left.new) }
+    ensures over { OnOk result (IsOver limit (center_of left.new.core) left.new.lines.items) }
+    ensures err { OnErr result ((p : Image) → IsOnWay p left.old → IsLeft p left.new) }
+{
+    let mut asked = Want::Continue;
+    let mut turns = limit;
+    for _ in rt.forever() {
+        let made = play_next(left, turns.min(MOST_TURNS), &mut asked, gate)?;
+        turns = turns.saturating_sub(made);
+        if made > 0 {
+            continue;
+        }
+        if is_over(left, limit) {
+            return Ok(());
+        }
+    }
+    unreachable!()
+}
+
+/// Whether the run is over.
+fn is_over(left: &mut Left<'_>, limit: u32) -> bool
+    ensures over { OnTrue result (IsOver limit (center_of left.new.core) left.new.lines.items) }
+    ensures count { length left.new.regions.items ≡ length left.old.regions.items }
+    ensures version { left.new.core.state.rights.version ≡ left.old.core.state.rights.version }
+    ensures on { (p : Image) → IsOnWay p left.old → IsOnWay p left.new }
+{
+    let Left { core, lines, .. } = left;
+    is_idle_or_full(core, lines.as_slice(), limit)
+}
+
+/// The next handler that has something to do plays so many turns of its job at most, and they are settled and recorded: how
+/// many it made. None are made where no handler has anything to do, where none may be made, or where the record is full.
+///
+/// # Errors
+/// Where memory is refused, perhaps behind turns that are made and settled.
+fn play_next<G: Gate>(
+    left: &mut Left<'_>,
+    limit: u32,
+    asked: &mut Want,
+    gate: &G,
+) -> Result<u32, AllocError>
+    requires count { length left.old.regions.items ≡ 512 }
+    requires version { left.old.core.state.rights.version ≡ Two }
+    ensures on { OnOk result ((p : Image) → IsOnWay p left.old → IsOnWay p left.new) }
+    ensures err { OnErr result ((p : Image) → IsOnWay p left.old → IsLeft p left.new) }
+    ensures count { length left.new.regions.items ≡ 512 }
+    ensures version { left.new.core.state.rights.version ≡ Two }
+{
+    let Left {
+        regions,
+        core,
+        lines,
+        ..
+    } = left;
+    if limit == 0 || lines.len() >= MOST_LINES {
+        return Ok(0);
+    }
+    core.make_room()?;
+    lines.reserve(1)?;
+    let Some(handler) = core.pick() else {
+        return Ok(0);
+    };
+    let region = &mut regions[handler as usize];
+    clear_want(asked);
+    gate.began(handler);
+    let played = play_out(core, region, handler, limit, asked);
+    gate.ended(handler);
+    let Ok(turns) = played else {
+        return Err(AllocError);
+    };
+    lines.push_reserved(RecordLine { handler, turns });
+    if is_cut_short(limit, turns, asked) {
+        return Err(AllocError);
+    }
+    Ok(turns)
+}
+
+/// A handler that is out plays so many turns of its job at most, and they are settled: how many it made. Err where memory is
+/// refused to the first: the handler is put back.
+fn play_out(
+    core: &mut Core,
+    region: &mut LoggedRegion<'_>,
+    handler: u16,
+    limit: u32,
+    asked: &mut Want,
+) -> Result<u32, AllocError>
+    requires limit { 1 ≤ limit }
+    requires asked { asked.old ≡ want.Continue }
+    requires out { is_some ((center_of core.old).out handler) ≡ true }
+    requires room { HasRoomFor 0 core.old }
+    requires version { core.old.state.rights.version ≡ Two }
+    ensures ok { IfOk result (λ turns. (job : Job) → (center_of core.old).out handler ≡ Some job
+        → IsPlayed limit handler job turns asked.new core.old core.new region.old region.new) }
+    ensures err { OnErr result (IsBack handler core.old core.new region.old region.new) }
+    ensures version { core.new.state.rights.version ≡ Two }
+{
+    let Some(job) = core.job_out(handler) else {
+        unreachable!();
+    };
+    let Ok(turns) = region.play_asking(job, limit, asked) else {
+        core.put_back(handler);
+        return Err(AllocError);
+    };
+    settle_out(core, handler, turns, asked);
+    Ok(turns)
+}
+
+/// Whether turns were cut short: the last asks nothing, and there might be more.
+fn is_cut_short(limit: u32, turns: u32, asked: &Want) -> bool
+    ensures { IsTrue result ↔ ((turns < limit) × (asked.now ≡ want.Continue)) }
+{
+    turns < limit && matches!(asked, Want::Continue)
+}
