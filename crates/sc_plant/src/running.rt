@@ -73,6 +73,7 @@ fn run_open<'p, P: OfProgram + Send + Sync, R: Threads + Wait + Sync, G: Gate>(
         recorded: open_recorded::<P>(alloc, program, core),
         turns: limit,
         asleep: 0,
+        short: 0,
         stop: None,
     };
     let (recorded, stop) = rounds(rt, scheduler, &slots, workers, limit, gate);

@@ -9,6 +9,12 @@ use std::mem;
 /// The most turns of a task.
 pub const MOST_TURNS: u32 = 256;
 
+/// A task of fewer turns is a short one: it takes less time than to exchange it.
+const FEW_TURNS: u32 = 16;
+
+/// After so many short tasks one worker goes on alone.
+const SHORT_TASKS: u32 = 64;
+
 /// The most lines of a record.
 pub const MOST_LINES: usize = 1_000_000;
 
@@ -34,13 +40,14 @@ pub enum Next {
     End,
 }
 
-/// The core with its record, how many turns are left to be picked, how many workers sleep, and why all of them end, if they
-/// are to.
+/// The core with its record, how many turns are left to be picked, how many workers sleep, how many short tasks came back one
+/// after the other, and why all workers end, if they are to.
 #[derive(Drop)]
 pub struct Scheduler<P: OfProgram> {
     pub recorded: RecordedCore<P>,
     pub turns: u32,
     pub asleep: u32,
+    pub short: u32,
     pub stop: Option<Stop>,
 }
 
@@ -54,6 +61,7 @@ impl<P: OfProgram> Scheduler<P> {
 
     /// What a task came to is taken in.
     pub fn take_in(&mut self, task: &Task, played: Played) {
+        self.weigh(played);
         match played {
             Played::Nothing => self.put_back(task),
             Played::Made(turns) => self.settle(task, turns),
@@ -70,6 +78,22 @@ impl<P: OfProgram> Scheduler<P> {
                 self.stop_for(Stop::Lost);
             }
         }
+    }
+
+    /// Counts short tasks.
+    fn weigh(&mut self, played: Played) {
+        if let Played::Made(turns) = played {
+            self.short = if turns < FEW_TURNS {
+                self.short.saturating_add(1)
+            } else {
+                0
+            };
+        }
+    }
+
+    /// Whether tasks are so short that several workers would wait for the lock of the core more than they would play.
+    fn is_fine(&self) -> bool {
+        self.short >= SHORT_TASKS
     }
 
     /// The handler of a task isn't out any more, and nothing of its job is settled.
@@ -107,6 +131,9 @@ impl<P: OfProgram> Scheduler<P> {
 
     /// What comes next for a worker, whose task is written over.
     pub fn next(&mut self, task: &mut Task) -> Next {
+        if self.stop.is_none() && self.is_fine() && self.recorded.core.out_count() > 0 {
+            return Next::Wait;
+        }
         if self.stop.is_none() && !self.is_full() {
             match self.recorded.pick(&mut task.job) {
                 Ok(Some(handler)) => {
@@ -156,9 +183,9 @@ impl<P: OfProgram> Scheduler<P> {
         }
     }
 
-    /// Whether a worker that sleeps may find something to do, beside the handler that goes out.
+    /// Whether a worker that sleeps may find something to do, beside the handler that goes out, and it pays to wake it.
     pub fn wakes(&mut self, handler: u16) -> bool {
-        self.asleep > 0 && !self.recorded.is_idle(handler)
+        self.asleep > 0 && !self.is_fine() && !self.recorded.is_idle(handler)
     }
 
     /// A worker goes to sleep.
