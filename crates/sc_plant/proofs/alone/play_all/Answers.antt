@@ -22,5 +22,5 @@ loop-preserved g c = record {
 pub returns-in_err-made-clause-err : goal.returns-in_err-made-clause-err
 returns-in_err-made-clause-err g c = on-err c.from_residual.result _ (λ p way. c.in_err-made.ensures.err p (c.loop.invariant.on p way))
 
-pub returns-clause-on : goal.returns-clause-on
-returns-clause-on g c = λ p way. c.is_over.ensures.on p (c.in_ok-made.ensures.on p (c.loop.invariant.on p way))
+pub returns-then-is_over-clause-on : goal.returns-then-is_over-clause-on
+returns-then-is_over-clause-on g c = λ p way. c.is_over.ensures.on p (c.in_ok-made.ensures.on p (c.loop.invariant.on p way))

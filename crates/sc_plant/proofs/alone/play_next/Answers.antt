@@ -8,20 +8,20 @@ use Rattle.sc_plant.proofs.Dues.{goes_out, is_out, none_next, picked_next, same_
 use Rattle.sc_plant.proofs.PuttingBack.{put_back_state}
 use Rattle.sc_plant.proofs.alone.play_next.Goals as goal
 
-pub play_out-requires-clause-out : goal.play_out-requires-clause-out
-play_out-requires-clause-out g c =
+pub play_out-played-requires-clause-out : goal.play_out-played-requires-clause-out
+play_out-played-requires-clause-out g c =
     is_out c.in-Some.handler c.make_room.new.self c.pick.new.self
     (picked_next c.in-Some.handler c.make_room.new.self c.pick.new.self c.in-Some.ensures.handler c.pick.ensures.center)
 
-pub play_out-requires-clause-room : goal.play_out-requires-clause-room
-play_out-requires-clause-room g c = c.pick.ensures.room 0 c.in_ok-make_room.ensures.room
+pub play_out-played-requires-clause-room : goal.play_out-played-requires-clause-room
+play_out-played-requires-clause-room g c = c.pick.ensures.room 0 c.in_ok-make_room.ensures.room
 
-pub play_out-requires-clause-version : goal.play_out-requires-clause-version
-play_out-requires-clause-version g c = c.pick.ensures.version ∙ c.make_room.ensures.version ∙ c.requires.version
+pub play_out-played-requires-clause-version : goal.play_out-played-requires-clause-version
+play_out-played-requires-clause-version g c = c.pick.ensures.version ∙ c.make_room.ensures.version ∙ c.requires.version
 
 pub returns-in_err-make_room-clause-err : goal.returns-in_err-make_room-clause-err
 returns-in_err-make_room-clause-err g c =
-    on-err c.from_residual-in_err-make_room.result _
+    on-err c.from_residual.result _
     (λ p way. way_left p _ (stays_on p c.args.left.now _
     (same_center c.args.left.now.core c.make_room.new.self c.make_room.ensures.center c.make_room.ensures.log) refl refl refl c.make_room.ensures.version way))
 
@@ -39,15 +39,15 @@ returns-in_default-clause-on g c = λ p way.
     (none_next c.make_room.new.self c.pick.new.self c.in_default.ensures.handler c.pick.ensures.center ∙ c.make_room.ensures.center)
     (c.pick.ensures.log ∙ c.make_room.ensures.log)) refl c.reserve.ensures.items refl (c.pick.ensures.version ∙ c.make_room.ensures.version) way
 
-pub returns-in_default-play_out-clause-err : goal.returns-in_default-play_out-clause-err
-returns-in_default-play_out-clause-err g c = λ p way.
+pub returns-in_default-played-clause-err : goal.returns-in_default-played-clause-err
+returns-in_default-played-clause-err g c = λ p way.
     let h = c.in-Some.handler in
     let goes = picked_next h c.make_room.new.self c.pick.new.self c.in-Some.ensures.handler c.pick.ensures.center in
-    let back = c.in_default-play_out.ensures.err in
+    let back = c.in_default-played.ensures.err in
     let at = slice_get_read c.args.left.now.regions.items 512 h c.index_mut-region.result.now (sym c.requires.count) c.in-Some.ensures.below c.index_mut-region.ensures.value in
-    put_back_left p c.args.left.now _ h c.index_mut-region.result.now c.play_out.new.region
+    put_back_left p c.args.left.now _ h c.index_mut-region.result.now c.play_out-played.new.region
     (record {
-      state = put_back_state h c.make_room.new.self c.pick.new.self c.play_out.new.core goes back.center ∙ ap (λ (x : Center). x.state) c.make_room.ensures.center;
+      state = put_back_state h c.make_room.new.self c.pick.new.self c.play_out-played.new.core goes back.center ∙ ap (λ (x : Center). x.state) c.make_room.ensures.center;
       log = back.log ∙ c.pick.ensures.log ∙ c.make_room.ensures.log;
     })
     at refl back.program c.reserve.ensures.items refl way
@@ -59,10 +59,10 @@ returns-then-is_cut_short-clause-err g c = λ p way.
     let played = c.in-Ok.ensures.ok goes.0 (goes_out h c.make_room.new.self c.pick.new.self goes) in
     let at = slice_get_read c.args.left.now.regions.items 512 h c.index_mut-region.result.now (sym c.requires.count) c.in-Some.ensures.below c.index_mut-region.ensures.value in
     let line : RecordLine = record { handler = h; turns = c.in-Ok.turns } in
-    let is = settled_due h c.in-Ok.turns c.play_out.new.asked c.args.left.now.core c.make_room.new.self c.pick.new.self c.play_out.new.core goes.0
+    let is = settled_due h c.in-Ok.turns c.play_out-played.new.asked c.args.left.now.core c.make_room.new.self c.pick.new.self c.play_out-played.new.core goes.0
     c.in-Some.ensures.below (ap (λ (x : Center). x.state) c.make_room.ensures.center) c.make_room.ensures.log goes.1 goes.2 c.pick.ensures.log
     (λ i out. (c.in-Ok.ensures.ok i out).settled) in
-    goes_left p c.args.left.now _ h c.in-Ok.turns c.args.limit c.play_out.new.asked c.index_mut-region.result.now c.play_out.new.region is at refl played.plays
+    goes_left p c.args.left.now _ h c.in-Ok.turns c.args.limit c.play_out-played.new.asked c.index_mut-region.result.now c.play_out-played.new.region is at refl played.plays
     played.logged (c.push_reserved.ensures.items ∙ ap (λ (ls : List RecordLine). ls ++ line ∷ []) c.reserve.ensures.items) refl way
 
 pub returns-clause-on : goal.returns-clause-on
@@ -72,10 +72,10 @@ returns-clause-on g c = λ p way.
     let played = c.in-Ok.ensures.ok goes.0 (goes_out h c.make_room.new.self c.pick.new.self goes) in
     let at = slice_get_read c.args.left.now.regions.items 512 h c.index_mut-region.result.now (sym c.requires.count) c.in-Some.ensures.below c.index_mut-region.ensures.value in
     let line : RecordLine = record { handler = h; turns = c.in-Ok.turns } in
-    let is = settled_due h c.in-Ok.turns c.play_out.new.asked c.args.left.now.core c.make_room.new.self c.pick.new.self c.play_out.new.core goes.0
+    let is = settled_due h c.in-Ok.turns c.play_out-played.new.asked c.args.left.now.core c.make_room.new.self c.pick.new.self c.play_out-played.new.core goes.0
     c.in-Some.ensures.below (ap (λ (x : Center). x.state) c.make_room.ensures.center) c.make_room.ensures.log goes.1 goes.2 c.pick.ensures.log
     (λ i out. (c.in-Ok.ensures.ok i out).settled) in
-    goes_on p c.args.left.now _ h c.in-Ok.turns c.args.limit c.play_out.new.asked c.index_mut-region.result.now c.play_out.new.region is at refl played.plays
+    goes_on p c.args.left.now _ h c.in-Ok.turns c.args.limit c.play_out-played.new.asked c.index_mut-region.result.now c.play_out-played.new.region is at refl played.plays
     played.logged (c.push_reserved.ensures.items ∙ ap (λ (ls : List RecordLine). ls ++ line ∷ []) c.reserve.ensures.items) refl way
-    c.play_out.ensures.version
+    c.play_out-played.ensures.version
     (λ cut. let bad : false ≡ true = sym c.if-is_cut_short.false ∙ c.is_cut_short.ensures.1 cut in cc)
