@@ -1,0 +1,3 @@
+pub mod Same
+pub mod Misfits
+pub mod Audits
