@@ -1,1 +1,4 @@
-
+mod Misfits
+mod Turns
+mod Agreeing
+mod Reporting

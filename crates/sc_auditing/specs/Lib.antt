@@ -1,3 +1,4 @@
 pub mod Same
 pub mod Misfits
 pub mod Audits
+pub mod Laws

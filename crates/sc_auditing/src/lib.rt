@@ -6,6 +6,7 @@
 
 mod auditing;
 mod comparing;
+pub mod laws;
 mod lines;
 mod playing;
 

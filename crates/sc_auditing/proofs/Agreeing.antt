@@ -1,0 +1,102 @@
+-- Worlds that hold the same.
+use Rattle.std.proofs.Common.{◌≡◌, ◌<◌, ◌+◌, ◌++◌, ℕ, Bool, List, [], ◌∷◌, Option, Some, None, inl, inr, map, replicate, slice_get, refl, sym, ap, subst, ◌∙◌, arith}
+use Rattle.std.specs.Prelude.{◌||◌, IsTrue, is_some, nat_lt, if◌then◌else◌}
+use Rattle.std.proofs.Math.Logic.{∥∥₁_map}
+use Rattle.std.proofs.lemmas.Bool.{cases_eq}
+use Rattle.sc_lockpass.specs.declared.version.Version.{Version}
+use Rattle.sc_lockpass.specs.declared.version.Version.TheVariants.{Two}
+use Rattle.sc_audit.specs.declared.line.RecordLine.{RecordLine}
+use Rattle.sc_audit.specs.Records.{IsRecord}
+use Rattle.sc_model.specs.declared.status.Status.{Status}
+use Rattle.sc_code.specs.declared.program.Image.{Image}
+use Rattle.sc_region.specs.declared.job.Job.{Job}
+use Rattle.sc_request.specs.declared.settlement.Settlement.{Settlement}
+use Rattle.sc_request.specs.Cores.{center_of, log_of, state_of}
+use Rattle.sc_request.specs.Handlers.{State}
+use Rattle.sc_request.specs.Logs.{Center, status_for}
+use Rattle.sc_request.specs.Picking.{job_of, status_with}
+use Rattle.sc_request.specs.Same.{AreSameAt}
+use Rattle.sc_play.specs.Regions.{PlainRegion}
+use Rattle.sc_worklog.specs.LoggedRegions.{region_of}
+use Rattle.sc_runtime.specs.Turning.{Runs}
+use Rattle.sc_runtime.specs.Worlds.{PlainWorld, opened}
+use Rattle.sc_plant.specs.declared.left.Left.{Left}
+use Rattle.sc_plant.specs.Left.{IsRun, RunsAreOneThreads, world_of}
+use Rattle.sc_plant.specs.OneThread.{EndsIn}
+use Rattle.sc_plant.specs.Recorded as recorded
+use Rattle.sc_plant.specs.Recorded.{lines_of}
+use Rattle.sc_auditing.specs.Audits.{IsAudited, LeadsTo, turns_of}
+use Rattle.sc_auditing.specs.Laws.{RunsAuditYes}
+use Rattle.sc_auditing.specs.Same.{AreSameRegions, IsSameAt}
+
+-- ---- the same, in one part after the other
+
+-- one more handler
+pub same-more : (h : ℕ) (w v : PlainWorld) → ((k : ℕ) → k < h → IsSameAt k w v) → IsSameAt h w v → (k : ℕ) → k < h + 1 → IsSameAt k w v
+same-more h w v before same k below = elim (cases_eq k h) [
+  | inl e ↦ subst (λ (n : ℕ). IsSameAt n w v) (sym e) same
+  | inr apart ↦ before k (less k h apart below)
+]
+  where
+    less : (a b : ℕ) → (a ≡ b → ⊥) → a < b + 1 → a < b
+    less a b apart below = grind (arith)
+
+-- the regions are the same of a handler, and a test tells whether the cores are, which are those of the worlds
+pub told-same : (h : ℕ) (w v : PlainWorld) (c d : Center) (told : Bool) → c ≡ w.center → d ≡ v.center →
+    AreSameRegions (slice_get w.regions h) (slice_get v.regions h) → (IsTrue told → AreSameAt h c d) → (AreSameAt h c d → IsTrue told) →
+    (IsTrue told → IsSameAt h w v) × (IsSameAt h w v → IsTrue told)
+told-same h w v c d told first second region there back = (
+  λ yes. record {
+    region = region;
+    center = subst (λ (x : Center). AreSameAt h x v.center) first (subst (λ (x : Center). AreSameAt h c x) second (there yes));
+  },
+  λ same. back (subst (λ (x : Center). AreSameAt h x d) (sym first) (subst (λ (x : Center). AreSameAt h w.center x) (sym second) same.center)),
+)
+
+-- ---- what a run left
+
+itself : (o : Option PlainRegion) → AreSameRegions o o
+itself None = tt
+itself (Some x) = record { objects = refl; frames = refl; output = refl; failure = refl }
+
+same-region : (a b : Option PlainRegion) → a ≡ b → AreSameRegions a b
+same-region a b e = subst (λ (o : Option PlainRegion). AreSameRegions a o) e (itself a)
+
+-- how a handler stands in this state, where it is out with this
+abbrev standing : ℕ → State → Option Job → Option Status
+standing h s o =
+    if nat_lt h s.count then Some (status_with (s.handlers h).failure (is_some o || is_some (job_of h s)) (s.handlers h).stage) else None
+
+same-center : (h : ℕ) (c d : Center) → c.state ≡ d.state → c.out h ≡ d.out h → AreSameAt h c d
+same-center h c d state out = record {
+  status = ap (λ (s : State). standing h s (c.out h)) state ∙ ap (λ (o : Option Job). standing h d.state o) out;
+  handler = ap (λ (s : State). s.handlers h) state;
+  queue = ap (λ (s : State). s.rights.queue h) state;
+  top = ap (λ (s : State). s.rights.top h) state;
+}
+
+same-turns : (es : List Settlement) → recorded.turns_of es ≡ turns_of (lines_of es)
+same-turns [] = refl
+same-turns (e ∷ es) = ap (λ (hs : List ℕ). replicate e.turns e.handler ++ hs) (same-turns es)
+
+module _ (p : Image) (limit : ℕ) (left : Left) (run : IsRun p limit left) (is_record : IsRecord left.version left.lines.items) (y : PlainWorld)
+    (runs : Runs (recorded.turns_of (log_of left.core)) (opened p Two) y) (ends : EndsIn y (state_of left.core) (map region_of left.regions.items)) where
+  leads : LeadsTo p left y
+  leads =
+      subst (λ (v : Version). Runs (turns_of left.lines.items) (opened p v) y) (sym run.left_is.version)
+      (subst (λ (ls : List RecordLine). Runs (turns_of ls) (opened p Two) y) (sym run.left_is.lines)
+      (subst (λ (hs : List ℕ). Runs hs (opened p Two) y) (same-turns (log_of left.core)) runs))
+
+  same-at : (h : ℕ) → IsSameAt h y (world_of left)
+  same-at h = record {
+    region = same-region (slice_get y.regions h) (slice_get (map region_of left.regions.items) h)
+        (ap (λ (rs : List PlainRegion). slice_get rs h) ends.regions);
+    center = same-center h y.center (center_of left.core) ends.state (ends.none_out h ∙ sym (run.over.home h));
+  }
+
+  audited : IsAudited p left
+  audited = record { is_record = is_record; world = y; leads = leads; same = λ h below. same-at h }
+
+pub runs-audit-yes : RunsAreOneThreads → RunsAuditYes
+runs-audit-yes one p limit left run is_record =
+    ∥∥₁_map (one p limit left run) (λ e. audited p limit left run is_record e.0 e.1 e.2)

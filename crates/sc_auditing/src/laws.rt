@@ -1,0 +1,26 @@
+//! Laws of audits, each the contract of a function that does nothing.
+ghost use Rattle.sc_auditing.specs.Laws.{MisfitsAreNoRecord, OneMisfit, RunsAuditYes, SameWorldsHaveSameReports};
+
+use sc_plant::laws::runs_are_one_threads;
+
+/// Lines of which one doesn't fit are no record's.
+pub fn misfits_are_no_record()
+    ensures { MisfitsAreNoRecord }
+{}
+
+/// There is one first line that doesn't fit.
+pub fn one_misfit()
+    ensures { OneMisfit }
+{}
+
+/// What a run left is what one thread makes of its record.
+pub fn runs_audit_yes()
+    ensures { RunsAuditYes }
+{
+    runs_are_one_threads();
+}
+
+/// Worlds that hold the same report the same.
+pub fn same_worlds_have_same_reports()
+    ensures { SameWorldsHaveSameReports }
+{}
