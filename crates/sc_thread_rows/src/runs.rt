@@ -1,6 +1,7 @@
 //! A run by several workers, beside the replay of its record.
 
 use sc_audit::Record;
+use sc_auditing::{AuditFault, audit};
 use sc_class::Root;
 use sc_code::Program;
 use sc_execution::{Outcome, load_text, replay};
@@ -35,7 +36,8 @@ pub fn load<R: Abort>(rt: &R, alloc: Global, text: &str) -> Result<Program, Fail
     }
 }
 
-/// The report of what a run leaves. A replay of its record reports the same, also where memory was refused on the way.
+/// The report of what a run leaves, whose audit says yes. A replay of its record reports the same, also where memory was refused
+/// on the way.
 pub fn leave<R: Abort + Threads + Wait + Sync, G: Gate>(
     rt: &R,
     alloc: Global,
@@ -45,13 +47,27 @@ pub fn leave<R: Abort + Threads + Wait + Sync, G: Gate>(
     gate: &G,
 ) -> Result<String, Fail> {
     match run(rt, alloc, program, workers, limit, gate) {
-        Ok(left) => replayed(rt, alloc, program, left),
+        Ok(left) => audited(rt, alloc, program, left),
         Err(RunFault::OutOfMemory(Some(left))) => {
             replayed(rt, alloc, program, left)?;
             Err(Fail::from(AllocError))
         }
         Err(RunFault::LogsDiffer(handler, _)) => panic!(rt; "the logs of handler {handler} differ"),
         Err(_) => Err(Fail::from(AllocError)),
+    }
+}
+
+/// The report of what is left, whose audit says yes.
+fn audited<R: Abort>(
+    rt: &R,
+    alloc: Global,
+    program: &Program,
+    left: Left<'_>,
+) -> Result<String, Fail> {
+    match audit(alloc, program, &left) {
+        Ok(()) => replayed(rt, alloc, program, left),
+        Err(AuditFault::OutOfMemory) => Err(Fail::from(AllocError)),
+        Err(why) => panic!(rt; "the audit of a run: {why}"),
     }
 }
 
