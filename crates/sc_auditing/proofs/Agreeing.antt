@@ -13,7 +13,7 @@ use Rattle.sc_region.specs.declared.job.Job.{Job}
 use Rattle.sc_request.specs.declared.settlement.Settlement.{Settlement}
 use Rattle.sc_request.specs.Cores.{center_of, log_of, state_of}
 use Rattle.sc_request.specs.Handlers.{State}
-use Rattle.sc_request.specs.Logs.{Center, status_for}
+use Rattle.sc_request.specs.Logs.{Center}
 use Rattle.sc_request.specs.Picking.{job_of, status_with}
 use Rattle.sc_request.specs.Same.{AreSameAt}
 use Rattle.sc_play.specs.Regions.{PlainRegion}
