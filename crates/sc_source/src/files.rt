@@ -6,6 +6,7 @@ ghost use Rattle.sc_source.specs.Joining.{AreJoined, AreSound, AreTold, IsJoinFa
 ghost use Rattle.sc_source.specs.Source.{names_of};
 
 use crate::source::{JoinFault, Source};
+use crate::writing::{Remains, SystemWriter};
 use std::alloc::Global;
 use std::io::{self, Input, Read, Write};
 use std::{fs, rt};
@@ -14,7 +15,7 @@ use std::{fs, rt};
 pub trait Files {
     /// Reads a file from its start.
     type Reader: Read + Drop;
-    /// Writes a file anew.
+    /// Writes a file anew. What stood in it stays until that is committed, if the file is one that can be replaced.
     type Writer: Write + Drop;
 
     // The bytes of the file of a name, where they are known.
@@ -29,10 +30,16 @@ pub trait Files {
     /// Opens a file to be written, empty at first. Fails where it can't be opened or made and where
     /// memory runs out.
     fn writer(&self, name: &str) -> io::Result<Self::Writer>;
+
+    /// Puts what was written in the place of what stood in the file. Fails where that can't be done, and says what is left.
+    fn commit(&self, writer: Self::Writer) -> Result<(), (io::Error, Remains)>;
+
+    /// Gives up what was written: what is left of it.
+    fn discard(&self, writer: Self::Writer) -> Remains;
 }
 
 /// The files of the system that the program runs on. Of the name `-` what is read is standard input; a file of that name
-/// is `./-`.
+/// is `./-`. A file is replaced whole or not at all, but for a device or a pipe, which is written to at once.
 #[derive(Drop)]
 pub struct SystemFiles<'r, R> {
     rt: &'r R,
@@ -45,10 +52,10 @@ impl<'r, R: rt::Files> SystemFiles<'r, R> {
     }
 }
 
-impl<'r, R: rt::Files + Input> Files for SystemFiles<'r, R> {
+impl<'r, R: rt::Files + Input + AllocGlobal> Files for SystemFiles<'r, R> {
     type Reader = SystemReader<R::File, R::Reader>;
 
-    type Writer = R::File;
+    type Writer = SystemWriter<R::File>;
 
     fn reader(&self, name: &str) -> io::Result<SystemReader<R::File, R::Reader>> {
         if name == "-" {
@@ -57,8 +64,16 @@ impl<'r, R: rt::Files + Input> Files for SystemFiles<'r, R> {
         Ok(SystemReader::File(fs::open(self.rt, name)?))
     }
 
-    fn writer(&self, name: &str) -> io::Result<R::File> {
-        fs::create(self.rt, name)
+    fn writer(&self, name: &str) -> io::Result<SystemWriter<R::File>> {
+        SystemWriter::open(self.rt, name)
+    }
+
+    fn commit(&self, writer: SystemWriter<R::File>) -> Result<(), (io::Error, Remains)> {
+        writer.commit(self.rt)
+    }
+
+    fn discard(&self, writer: SystemWriter<R::File>) -> Remains {
+        writer.discard(self.rt)
     }
 }
 

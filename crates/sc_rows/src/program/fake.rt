@@ -1,6 +1,7 @@
 //! Files for tests, which stand in the test itself.
 
 use sc_source::files::Files;
+use sc_source::writing::Remains;
 use std::io::{self, ErrorKind, Read, Sink};
 
 /// A file of a test. One that is broken fails once its bytes are read.
@@ -63,6 +64,14 @@ impl<'a> Files for FakeFiles<'a> {
 
     fn writer(&self, _name: &str) -> io::Result<Sink> {
         Err(io::Error::from(ErrorKind::PermissionDenied))
+    }
+
+    fn commit(&self, _writer: Sink) -> Result<(), (io::Error, Remains)> {
+        Ok(())
+    }
+
+    fn discard(&self, _writer: Sink) -> Remains {
+        Remains::Unchanged
     }
 }
 

@@ -2,6 +2,7 @@
 
 use sc_serve::serve::{Exit, serve};
 use sc_source::files::Files;
+use sc_source::writing::Remains;
 use std::io::{self, Empty, ErrorKind, Sink};
 use std::test::Fail;
 
@@ -23,6 +24,14 @@ impl Files for UnopenedFiles {
     fn writer(&self, _name: &str) -> io::Result<Sink> {
         Err(io::Error::from(self.kind))
     }
+
+    fn commit(&self, _writer: Sink) -> Result<(), (io::Error, Remains)> {
+        Ok(())
+    }
+
+    fn discard(&self, _writer: Sink) -> Remains {
+        Remains::Unchanged
+    }
 }
 
 #[test]
@@ -38,7 +47,7 @@ fn says_why_a_file_cannot_be_read(rt: HostRuntime) -> Result<(), Fail> {
         let mut err = Vec::new(rt.alloc());
         let files = UnopenedFiles { kind };
         let status = serve(&rt, &["scoop", "check", "a.e"], &files, &mut out, &mut err);
-        if status == Exit::OutOfMemory as u8 {
+        if status == Exit::Broken as u8 {
             return Err(Fail::new("out of memory"));
         }
         let wanted = format!(in rt.alloc(); "cannot read a.e\n{reason}\n")?;
