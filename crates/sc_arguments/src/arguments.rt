@@ -17,19 +17,19 @@ use std::convert::AsStr;
 pub enum Invocation<'a> {
     /// To do something with the system of these files.
     OnFiles(Command, Vec<&'a str>),
+    /// To check the system of these files and run it.
+    Run(RunOptions<'a>, Vec<&'a str>),
     /// To play a record with the system of these files.
     Replay(ReplayOptions<'a>, Vec<&'a str>),
     /// To explain this code or name, or to list all codes.
     Explain(Option<&'a str>),
 }
 
-/// What is to be done with a system.
+/// What is to be done with a system that isn't run.
 #[derive(Drop)]
 pub enum Command {
     /// Checks it.
     Check(CheckOptions),
-    /// Checks and runs it.
-    Run(RunOptions),
     /// Prints its canonical text.
     Print,
 }
@@ -42,10 +42,14 @@ pub struct CheckOptions {
 }
 
 #[derive(Drop)]
-pub struct RunOptions {
+pub struct RunOptions<'a> {
     pub root: Root,
+    /// How many threads play the handlers, from 1 to 8.
+    pub workers: u8,
     /// The most turns that are played, from 1 to 10,000,000.
     pub turns: u32,
+    /// The name of the file that the record of the run is written to.
+    pub record: Option<&'a str>,
     /// Whether a refusal is to be shown in its line of the text too.
     pub is_explained: bool,
 }
@@ -91,6 +95,8 @@ impl From<AllocError> for UsageFault {
 
 const DEFAULT_TURNS: u32 = 1_000_000;
 
+const DEFAULT_WORKERS: u8 = 1;
+
 const ABOUT: &str = "Checks and runs systems of SCOOP classes";
 
 const LONG_ABOUT: &str = "\
@@ -106,7 +112,7 @@ Exit status:
   2  an argument, a file or the output is at fault
   3  a handler has failed
   4  a handler is waiting or busy
-  5  memory ran out";
+  5  memory or a thread is refused, or what the threads did doesn't agree";
 
 const CHECK_AFTER_HELP: &str = "\
 Limits:
@@ -122,7 +128,8 @@ Exit status:
 const RUN_AFTER_HELP: &str = "\
 Limits:
   those of `scoop check`, and 16777216 instructions of its code; 512 handlers; 65536
-  objects of a handler, 1024 routines running at once and 4096 requests in its queue
+  objects of a handler, 1024 routines running at once and 4096 requests in its queue;
+  1000000 lines of its record
 
 Exit status:
   0  done, and every handler is free
@@ -130,7 +137,7 @@ Exit status:
   2  an argument, a file or the output is at fault
   3  a handler has failed
   4  a handler is waiting or busy
-  5  memory ran out";
+  5  memory or a thread is refused, or what the threads did doesn't agree";
 
 const REPLAY_AFTER_HELP: &str = "\
 Limits:
@@ -176,7 +183,9 @@ Runs a system, and reports what became of each handler.
 
 The system is checked first, as by `scoop check`. The run begins with the root
 procedure and goes on turn by turn, until no handler has anything to do or the
-turns are used up. The report has for each handler
+turns are used up. By several workers handlers are played at once: then the order
+of their turns is another one each time, and the record says which it was. The
+report has for each handler
 
   handler NUMBER STATUS refused COUNT output BYTES
 
@@ -232,6 +241,10 @@ const ROOT_HELP: &str = "The root class and its creation procedure";
 
 const TURNS_HELP: &str = "The most turns that are played, 1 to 10000000";
 
+const WORKERS_HELP: &str = "How many threads play the handlers, 1 to 8";
+
+const KEPT_HELP: &str = "Writes the record of the run to this file, for `scoop replay`";
+
 /// Reads the arguments of a command line, of which the first is the program's name.
 pub fn read_arguments<'a, S: AsStr>(
     alloc: Global,
@@ -254,7 +267,7 @@ fn read_command<'a>(
         "replay" => read_replay(alloc, options),
         "explain" => Ok(Invocation::Explain(options.get_str("CODE"))),
         "print" => on_files(alloc, Command::Print, options),
-        "run" => on_files(alloc, Command::Run(read_run(alloc, options)?), options),
+        "run" => read_run(alloc, options),
         _ => on_files(alloc, Command::Check(read_check(alloc, options)?), options),
     }
 }
@@ -274,12 +287,15 @@ fn read_check(alloc: Global, options: &ArgMatches<'_>) -> Result<CheckOptions, U
     })
 }
 
-fn read_run(alloc: Global, options: &ArgMatches<'_>) -> Result<RunOptions, UsageFault> {
-    Ok(RunOptions {
+fn read_run<'a>(alloc: Global, options: &ArgMatches<'a>) -> Result<Invocation<'a>, UsageFault> {
+    let run = RunOptions {
         root: read_root(alloc, options)?,
+        workers: options.get_one("workers").unwrap_or(DEFAULT_WORKERS),
         turns: options.get_one("turns").unwrap_or(DEFAULT_TURNS),
+        record: options.get_str("record"),
         is_explained: options.get_flag("explain"),
-    })
+    };
+    Ok(Invocation::Run(run, read_files(alloc, options)?))
 }
 
 fn read_replay<'a>(alloc: Global, options: &ArgMatches<'a>) -> Result<Invocation<'a>, UsageFault> {
@@ -331,7 +347,9 @@ fn check_command<'a>(alloc: Global) -> Result<clap::Command<'a>, AllocError> {
 
 fn run_command<'a>(alloc: Global) -> Result<clap::Command<'a>, AllocError> {
     let command = described(alloc, "run", RUN_ABOUT, RUN_LONG_ABOUT, RUN_AFTER_HELP);
-    let command = command.arg(turns_argument(alloc));
+    let command = command.arg(workers_argument(alloc));
+    let command = with_argument(command, turns_argument(alloc));
+    let command = with_argument(command, kept_argument(alloc));
     let command = with_argument(command, explain_argument(alloc, RUN_EXPLAIN_HELP));
     let command = with_argument(command, root_argument(alloc));
     with_argument(command, file_argument(alloc))
@@ -426,6 +444,22 @@ fn turns_argument<'a>(alloc: Global) -> Arg<'a> {
         .value_parser(ValueParser::signed(1, 10_000_000))
         .default_value("1000000")
         .help(TURNS_HELP)
+}
+
+fn workers_argument<'a>(alloc: Global) -> Arg<'a> {
+    Arg::new(alloc, "workers")
+        .long("workers")
+        .value_name("N")
+        .value_parser(ValueParser::signed(1, 8))
+        .default_value("1")
+        .help(WORKERS_HELP)
+}
+
+fn kept_argument<'a>(alloc: Global) -> Arg<'a> {
+    Arg::new(alloc, "record")
+        .long("record")
+        .value_name("PATH")
+        .help(KEPT_HELP)
 }
 
 fn explain_argument<'a>(alloc: Global, help: &'a str) -> Arg<'a> {

@@ -1,4 +1,4 @@
-//! What a run that was played once more tells of a handler that has failed.
+//! What a run whose turns were played once more tells of a handler that has failed.
 
 use crate::history::{Asked, Ending, Supplier, created_last, ending_of, request_of, supplier_at};
 use sc_model::{Cause, Status};

@@ -3,6 +3,7 @@
 use crate::breakdown::Origin;
 use crate::failing::failing_in;
 use crate::words::{Phrase, push_phrases};
+use sc_audit::RecordLine;
 use sc_check::{CheckFault, Checked, check};
 use sc_class::{ClassFault, Root, Tables, tables};
 use sc_code::Program;
@@ -17,12 +18,12 @@ use sc_text::{LexFault, Token, lex};
 use sc_tree::System;
 use std::alloc::{AllocError, Global};
 
-/// A run of the system of a source text: from this root, for so many turns at most.
+/// A run of the system of a source text: from this root, with a record of these lines.
 #[derive(Clone, Copy)]
 pub struct Played<'r> {
     pub source: &'r Source,
     pub root: &'r Root,
-    pub turns: u32,
+    pub lines: &'r [RecordLine],
 }
 
 /// A run that was played once more, with what it is of.
@@ -33,7 +34,7 @@ struct Rerun<'r> {
 }
 
 /// What the failure of each handler that has failed in a run is, in words, and where and for whom it ran, as far as that is
-/// found where the run is played once more; nothing where none has.
+/// found where the turns of its record are played once more; nothing where none has.
 pub fn failure_note(
     alloc: Global,
     played: Played<'_>,
@@ -93,19 +94,21 @@ fn note_of_program(
         names: program.pool().names.as_slice(),
     };
     match World::open(alloc, program, Version::Two) {
-        Ok(mut world) => note_of_rerun(origin, statuses, &mut world, played.turns),
+        Ok(mut world) => note_of_rerun(origin, statuses, &mut world, played.lines),
         Err(error) => Err(error),
     }
 }
 
-/// The same, where the run is played once more from this opening, for so many turns at most.
+/// The same, where the turns of these lines are played from this opening.
 fn note_of_rerun(
     origin: Origin<'_>,
     statuses: &[Status],
     world: &mut World<'_>,
-    turns: u32,
+    lines: &[RecordLine],
 ) -> Result<Vec<u8>, AllocError> {
-    world.rounds(turns)?;
+    for line in lines {
+        world.turns_of(line.handler, line.turns)?;
+    }
     let rerun = Rerun { origin, world };
     note(origin.alloc, statuses, Some(rerun))
 }

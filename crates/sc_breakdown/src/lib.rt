@@ -1,7 +1,7 @@
 //! What is said of the failures of a run beside its report: what each is, where it was and for whom its handler ran. See
 //! [`failure_note`].
 //!
-//! The run is played once more for that. The sentences are for people: nothing of the answer, which is the report, depends
+//! The turns of its record are played once more for that. The sentences are for people: nothing of the answer, which is the report, depends
 //! on them. [`excerpt::excerpt`] is a line of the text, with carets under a part of it.
 #![tactic(auto)]
 

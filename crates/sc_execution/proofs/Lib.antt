@@ -1,2 +1,3 @@
 pub mod ExecutionLemmas
 pub mod ReplayLemmas
+pub mod Threads

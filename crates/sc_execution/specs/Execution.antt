@@ -1,5 +1,5 @@
 -- What the check, the run and the printing of a source text come to.
-use Rattle.std.specs.Prelude.{ℕ, ◌≡◌, ◌≤◌, ◌<◌, ◌+◌, ◌^◌, ◌↔◌, List, [], ◌∷◌, ◌++◌, map, length, replicate}
+use Rattle.std.specs.Prelude.{ℕ, ◌≡◌, ◌≤◌, ◌<◌, ◌+◌, ◌^◌, ◌↔◌, ◌⊎◌, None, List, [], ◌∷◌, ◌++◌, map, length, replicate}
 use Rattle.std.specs.List.{flat_map}
 use Rattle.sc_text.specs.Kind.{Kind}
 use Rattle.sc_text.specs.Spelling.{Lexeme, Spells, IsRefused, max_source_bytes}
@@ -23,9 +23,10 @@ use Rattle.sc_code.specs.RequestRoom.{FitsRequests}
 use Rattle.sc_lockpass.specs.declared.version.Version.{Version}
 use Rattle.sc_lockpass.specs.declared.version.Version.TheVariants.{Two}
 use Rattle.sc_audit.specs.declared.line.RecordLine.{RecordLine}
+use Rattle.sc_audit.specs.Records.{most_lines, turns_of}
+use Rattle.sc_request.specs.Logs.{next}
 use Rattle.sc_runtime.specs.Worlds.{PlainWorld, opened}
 use Rattle.sc_runtime.specs.Turning.{Runs}
-use Rattle.sc_runtime.specs.Rounds.{EndsRounds}
 use Rattle.sc_runtime.specs.Reports as told
 use Rattle.sc_execution.specs.declared.rejection.Rejection.{Rejection}
 use Rattle.sc_execution.specs.declared.rejection.Rejection.TheVariants as rejection
@@ -151,12 +152,19 @@ pub record Leaves (world : PlainWorld) (text : List ℕ) (statuses : List Status
   pub report_is : text ≡ told.report world
   pub statuses_are : statuses ≡ told.statuses world
 
--- From the opening of the program, with 512 handlers at most, rounds of so many turns lead to a world that leaves the report
--- and the handlers standing so. Fewer turns are made only where no handler has anything to do any more.
-pub record IsWorldRun (program : Image) (limit : ℕ) (text : List ℕ) (statuses : List Status) : Type 0 where
+-- the turns of a line of a record: the number of its handler, once for each
+abbrev pub line_turns : RecordLine → List ℕ
+line_turns line = replicate line.turns line.handler
+
+-- A run on threads whose record has these lines. From the opening of the program, with 512 handlers at most, one thread that
+-- makes the lines' turns, one after the other, comes to a world that leaves the report and the handlers standing so. The
+-- turns are so many, or the lines are 1,000,000, or no handler of that world has anything to do any more.
+pub record IsThreadRun (program : Image) (limit : ℕ) (lines : List RecordLine) (text : List ℕ) (statuses : List Status) :
+    Type 0 where
   pub world : PlainWorld
-  pub ends : EndsRounds limit (opened program Two) world
+  pub runs : Runs (flat_map line_turns lines) (opened program Two) world
   pub leaves : Leaves world text statuses
+  pub ends : (next world.center ≡ None) ⊎ ((turns_of lines ≡ limit) ⊎ (length lines ≡ most_lines))
 
 -- The text spells a system that is sound, and this is its program; requests have room for what it names.
 pub record IsLoaded (text : List ℕ) (root : Root) (program : Image) : Type 0 where
@@ -166,17 +174,15 @@ pub record IsLoaded (text : List ℕ) (root : Root) (program : Image) : Type 0 w
   pub is_program : IsProgramOf system root program
   pub fits : FitsRequests program
 
--- The text spells a system that is sound. The report and how the handlers stand are those of a run of its program.
-pub record IsRunOf (text : List ℕ) (root : Root) (limit : ℕ) (output : List ℕ) (statuses : List Status) : Type 0 where
+-- The text spells a system that is sound. The report, how the handlers stand and the lines of the record are those of a run
+-- of its program on threads.
+pub record IsRunOf (text : List ℕ) (root : Root) (limit : ℕ) (lines : List RecordLine) (output : List ℕ) (statuses : List Status) :
+    Type 0 where
   pub program : Image
   pub loaded : IsLoaded text root program
-  pub is_run : IsWorldRun program limit output statuses
+  pub is_run : ∥ IsThreadRun program limit lines output statuses ∥₁
 
 -- ---- replays
-
--- the turns of a line: the number of its handler, once for each
-abbrev pub line_turns : RecordLine → List ℕ
-line_turns line = replicate line.turns line.handler
 
 -- From the opening of the program, with as many handlers as the version has, the turns of these lines, one after the other,
 -- lead to a world that leaves the report and the handlers standing so.

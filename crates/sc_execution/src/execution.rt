@@ -1,4 +1,4 @@
-//! What is done with a source text: its check, its run and its canonical text.
+//! What is done with a source text: its check, its program and its canonical text.
 
 ghost use Rattle.std.specs.Prelude.{◌≡◌, IfErr, IfOk, IsOk, MatchResult, OnOk};
 ghost use Rattle.sc_tree.specs.Bare.{bare_system};
@@ -10,14 +10,13 @@ ghost use Rattle.sc_class.specs.SystemIn.{root_in, system_in};
 ghost use Rattle.sc_check.specs.CheckedTables.{tables_of};
 ghost use Rattle.sc_lower.specs.Lowerings.{image_of};
 ghost use Rattle.sc_runtime.specs.Views.{world_of};
-ghost use Rattle.sc_execution.specs.Execution.{EmptyReplayLeavesOpening, IsAccepted, IsAtFault, IsLoaded, IsNotRunFor, IsPrinted, IsRead, IsRefusedFor, IsReplay, IsRunOf, IsSound, IsSpelled, IsUnreadable, IsWorldRun, Leaves, LinesMayBeSplit, MustBeAccepted, MustBeRun};
+ghost use Rattle.sc_execution.specs.Execution.{EmptyReplayLeavesOpening, IsAccepted, IsAtFault, IsLoaded, IsNotRunFor, IsPrinted, IsRead, IsRefusedFor, IsReplay, IsSound, IsSpelled, IsUnreadable, Leaves, LinesMayBeSplit, MustBeAccepted, MustBeRun};
 
 use crate::rejection::Rejection;
 use sc_audit::Record;
 use sc_check::{Checked, check};
 use sc_class::{Root, tables};
 use sc_code::Program;
-use sc_lockpass::Version;
 use sc_lower::lower;
 use sc_model::Status;
 use sc_parse::parse;
@@ -26,7 +25,7 @@ use sc_text::lex;
 use sc_tree::{System, print_system};
 use std::alloc::{AllocError, Global};
 
-/// What a run leaves: its report, and how each handler stands, in order of number.
+/// What a run or a replay tells: its report, and how each handler stands, in order of number.
 #[derive(Drop)]
 pub struct Outcome {
     pub report: Vec<u8>,
@@ -42,17 +41,6 @@ pub fn check_text(alloc: Global, text: &str, root: &Root) -> Result<(), Rejectio
     let system = read(alloc, text)?;
     judge(alloc, &system, root)?;
     Ok(())
-}
-
-/// Checks the system of a source text and runs it, for so many turns at most, where there may be 512 handlers.
-pub fn run_text(alloc: Global, text: &str, root: &Root, turns: u32) -> Result<Outcome, Rejection>
-    ensures ok { IfOk result (λ outcome.
-        IsRunOf text.now (root_of root.now) turns outcome.report.items outcome.statuses.items) }
-    ensures refused { IfErr result (IsNotRunFor text.now (root_of root.now)) }
-    ensures complete { MustBeRun text.now (root_of root.now) → IfErr result (λ e. e ≡ Rejection.OutOfMemory) }
-{
-    let program = load_text(alloc, text, root)?;
-    Ok(play(alloc, &program, turns)?)
 }
 
 /// Checks the system of a source text: its program.
@@ -109,16 +97,6 @@ fn judge<'s>(alloc: Global, system: &'s System, root: &Root) -> Result<Checked<'
 {
     let classes = tables(alloc, system, root)?;
     Ok(check(alloc, classes)?)
-}
-
-/// Plays the handlers, each in turn, until none has anything to do or so many turns are played.
-fn play(alloc: Global, program: &Program, turns: u32) -> Result<Outcome, AllocError>
-    ensures { IfOk result (λ outcome.
-        IsWorldRun (image_of program.now) turns outcome.report.items outcome.statuses.items) }
-{
-    let mut world = World::open(alloc, program, Version::Two)?;
-    world.rounds(turns)?;
-    outcome_of(&world)
 }
 
 /// What the world leaves.

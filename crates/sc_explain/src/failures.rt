@@ -230,18 +230,22 @@ This fails by F12:
     class APPLICATION create make
     feature
         w: separate WORKER
+        f: separate FLAG
         n: INTEGER
         make
             do
+                create f
                 create w
                 separate w as x do
-                    from until n = 4_098 loop x.spin n := n + 1 end
+                    x.hold (f)
+                    from until n = 4_097 loop x.rest n := n + 1 end
                 end
             end
     end
+    class FLAG feature is_up: BOOLEAN end
     class WORKER
     feature
-        spin do from until False loop end end
+        hold (g: separate FLAG) require g.is_up do end
         rest do end
     end
 
@@ -250,18 +254,22 @@ This doesn't:
     class APPLICATION create make
     feature
         w: separate WORKER
+        f: separate FLAG
         n: INTEGER
         make
             do
+                create f
                 create w
                 separate w as x do
+                    x.hold (f)
                     from until n = 4_096 loop x.rest n := n + 1 end
                 end
             end
     end
+    class FLAG feature is_up: BOOLEAN end
     class WORKER
     feature
-        spin do from until False loop end end
+        hold (g: separate FLAG) require g.is_up do end
         rest do end
     end
 

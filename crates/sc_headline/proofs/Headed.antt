@@ -1,15 +1,16 @@
 -- From the bytes of a source text to the state of the machine.
-use Rattle.std.proofs.Common.{ℕ, List, ◌∙◌}
+use Rattle.std.proofs.Common.{ℕ, List, ◌∙◌, inl, inr}
 use Rattle.std.specs.List.{flat_map}
+use Rattle.std.proofs.Math.Logic.{∥∥₁_map}
 use Rattle.sc_tree.specs.Plain.{System}
 use Rattle.sc_model.specs.declared.status.Status.{Status}
 use Rattle.sc_model.specs.Handlers.{World}
 use Rattle.sc_lockpass.specs.declared.version.Version.TheVariants.{Two}
 use Rattle.sc_code.specs.declared.program.Image.{Image}
 use Rattle.sc_runtime.specs.Worlds.{PlainWorld}
-use Rattle.sc_refinement.specs.Refining.{RoundsRunAsMachine, StandingWorldIsNear, WorldHasHeadline, WorldReportsAsMachine, WorldRunsAsMachine}
+use Rattle.sc_refinement.specs.Refining.{IdleWorldIsIdle, StandingWorldIsNear, WorldHasHeadline, WorldReportsAsMachine, WorldRunsAsMachine}
 use Rattle.sc_refinement.specs.Standing.{StandsFor}
-use Rattle.sc_execution.specs.Execution.{Leaves, line_turns}
+use Rattle.sc_execution.specs.Execution.{IsThreadRun, Leaves, line_turns}
 use Rattle.sc_headline.specs.Headline.{Headline, IsReportOf, ReplaysAreTheMachines, RunsAreTheMachines, machine_after}
 
 pub headed : WorldHasHeadline → Headline
@@ -43,20 +44,24 @@ replayed law near tells text root program version lines report statuses loaded r
       told = reported near tells loaded.system program (machine_after loaded.system root version turns) replay.world report statuses stands replay.leaves;
     }
 
-pub ran : RoundsRunAsMachine → StandingWorldIsNear → WorldReportsAsMachine → RunsAreTheMachines
-ran law near tells text root limit report statuses of_text =
+pub ran : WorldRunsAsMachine → IdleWorldIsIdle → StandingWorldIsNear → WorldReportsAsMachine → RunsAreTheMachines
+ran law idle near tells text root limit lines report statuses of_text =
     let loaded = of_text.loaded in
     let s = loaded.system in
-    let world = of_text.is_run.world in
-    let found = law s root loaded.sound.faultless loaded.sound.well_formed of_text.program Two limit world loaded.is_program loaded.fits of_text.is_run.ends in (
-      found.0,
-      record {
-        is_run = record {
-          system = s;
-          read = loaded.read;
-          sound = loaded.sound;
-          told = reported near tells s of_text.program (machine_after s root Two found.0) world report statuses found.1 of_text.is_run.leaves;
-        };
-        within = found.2;
-      },
-    )
+    let p = of_text.program in
+    let turns = flat_map line_turns lines in
+    let w = machine_after s root Two turns in
+    ∥∥₁_map of_text.is_run (λ (run : IsThreadRun p limit lines report statuses).
+    let stands = law s root loaded.sound.faultless loaded.sound.well_formed p Two turns run.world loaded.is_program loaded.fits run.runs in
+    record {
+      is_run = record {
+        system = s;
+        read = loaded.read;
+        sound = loaded.sound;
+        told = reported near tells s p w run.world report statuses stands run.leaves;
+      };
+      ends = elim run.ends [
+        | inl none ↦ inl (idle s p w run.world stands none)
+        | inr rest ↦ inr rest
+      ];
+    })

@@ -1,5 +1,5 @@
 -- What is claimed of each world that turns lead to, from the bytes of a source text on.
-use Rattle.std.specs.Prelude.{◌≡◌, ℕ, List, map}
+use Rattle.std.specs.Prelude.{◌≡◌, ◌⊎◌, ℕ, List, false, length, map}
 use Rattle.std.specs.List.{flat_map, range_with_len}
 use Rattle.sc_tree.specs.Plain.{System}
 use Rattle.sc_class.specs.ClassNames.{Root}
@@ -7,6 +7,7 @@ use Rattle.sc_lockpass.specs.Versions.{most_handlers}
 use Rattle.sc_lockpass.specs.declared.version.Version.{Version}
 use Rattle.sc_lockpass.specs.declared.version.Version.TheVariants.{Two}
 use Rattle.sc_audit.specs.declared.line.RecordLine.{RecordLine}
+use Rattle.sc_audit.specs.Records.{most_lines, turns_of}
 use Rattle.sc_model.specs.declared.status.Status.{Status}
 use Rattle.sc_model.specs.Handlers.{World}
 use Rattle.sc_model.specs.Reports as machine
@@ -14,7 +15,7 @@ use Rattle.sc_model.specs.Runs.{IsReached, opening, run}
 use Rattle.sc_code.specs.declared.program.Image.{Image}
 use Rattle.sc_runtime.specs.Turning.{Runs}
 use Rattle.sc_runtime.specs.Worlds.{PlainWorld, opened}
-use Rattle.sc_refinement.specs.Refining.{HasHeadline, IsRunWithin}
+use Rattle.sc_refinement.specs.Refining.{HasHeadline}
 use Rattle.sc_refinement.specs.Standing.{StandsFor}
 use Rattle.sc_execution.specs.Execution.{IsLoaded, IsRead, IsReplay, IsRunOf, IsSound, line_turns}
 
@@ -56,6 +57,10 @@ pub record IsMachineRun (text : List ℕ) (root : Root) (version : Version) (han
   pub sound : IsSound system root
   pub told : IsReportOf (machine_after system root version handlers) report statuses
 
+-- no handler has a turn
+abbrev pub HasNoTurn : World → Type 0
+HasNoTurn w = machine.some_has_turn w.count w ≡ false
+
 -- What a replay leaves is what the machine reports after the turns of the record's lines, one after the other.
 abbrev pub ReplaysAreTheMachines : Type 0
 ReplaysAreTheMachines =
@@ -63,16 +68,16 @@ ReplaysAreTheMachines =
     IsLoaded text root program → IsReplay program version lines report statuses →
     IsMachineRun text root version (flat_map line_turns lines) report statuses
 
--- The same of turns where there may be 512 handlers. They are so many at most, and fewer only where no handler has a turn
--- any more.
-pub record IsMachineRunWithin (text : List ℕ) (root : Root) (limit : ℕ) (handlers report : List ℕ) (statuses : List Status) :
-    Type 0 where
-  pub is_run : IsMachineRun text root Two handlers report statuses
-  pub within : IsRunWithin limit handlers (machine_after is_run.system root Two handlers)
+-- The same of the turns of a run's record, where there may be 512 handlers. They are so many, or the lines are 1,000,000, or
+-- no handler has a turn any more.
+pub record IsMachineRunOf (text : List ℕ) (root : Root) (limit : ℕ) (lines : List RecordLine) (report : List ℕ)
+    (statuses : List Status) : Type 0 where
+  pub is_run : IsMachineRun text root Two (flat_map line_turns lines) report statuses
+  pub ends : HasNoTurn (machine_after is_run.system root Two (flat_map line_turns lines))
+      ⊎ ((turns_of lines ≡ limit) ⊎ (length lines ≡ most_lines))
 
--- What a run leaves is what the machine reports after turns of some handlers.
+-- What a run leaves is what the machine reports after the turns of its record's lines.
 abbrev pub RunsAreTheMachines : Type 0
 RunsAreTheMachines =
-    (text : List ℕ) (root : Root) (limit : ℕ) (report : List ℕ) (statuses : List Status) →
-    IsRunOf text root limit report statuses →
-    (handlers : List ℕ) × IsMachineRunWithin text root limit handlers report statuses
+    (text : List ℕ) (root : Root) (limit : ℕ) (lines : List RecordLine) (report : List ℕ) (statuses : List Status) →
+    IsRunOf text root limit lines report statuses → ∥ IsMachineRunOf text root limit lines report statuses ∥₁

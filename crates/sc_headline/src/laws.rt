@@ -4,7 +4,7 @@ ghost use Rattle.sc_headline.specs.ThreadsHeadline.{ThreadsHaveHeadline, Threads
 
 use sc_plant::laws::runs_are_one_threads;
 use sc_refinement::laws::{
-    rounds_run_as_machine, standing_world_is_near, world_has_headline, world_reports_as_machine,
+    idle_world_is_idle, standing_world_is_near, world_has_headline, world_reports_as_machine,
     world_runs_as_machine,
 };
 
@@ -27,12 +27,13 @@ pub fn replays_are_the_machines()
     world_reports_as_machine();
 }
 
-/// What a run leaves is what the machine on trees reports after turns of some handlers, at most so many, and fewer only
-/// where no handler has a turn any more.
+/// What a run leaves is what the machine on trees reports after the turns of its record's lines. They are so many, or the lines
+/// are 1,000,000, or no handler has a turn any more.
 pub fn runs_are_the_machines()
     ensures { RunsAreTheMachines }
 {
-    rounds_run_as_machine();
+    world_runs_as_machine();
+    idle_world_is_idle();
     standing_world_is_near();
     world_reports_as_machine();
 }

@@ -4,16 +4,19 @@ mod broken;
 mod fake;
 mod output;
 mod reasons;
+mod records;
 
 use crate::program::fake::{FakeFile, FakeFiles};
 use sc_serve::serve::{Exit, serve};
 use std::alloc::{AllocError, Global};
 use std::process::Abort;
+use std::sync::Wait;
 use std::test::Fail;
+use std::thread::Threads;
 
 /// Calls the program, and compares what it writes and its status. A call for which memory runs out has no answer: the test
 /// ends there and says so.
-fn expect<R: Abort + AllocGlobal>(
+fn expect<R: Abort + Threads + Wait + Sync + AllocGlobal>(
     rt: &R,
     arguments: &[&str],
     files: &[FakeFile<'_>],
@@ -22,7 +25,7 @@ fn expect<R: Abort + AllocGlobal>(
     let mut wrote = Vec::new(rt.alloc());
     let mut told = Vec::new(rt.alloc());
     let ended = serve(rt, arguments, &FakeFiles { files }, &mut wrote, &mut told);
-    if ended == Exit::OutOfMemory as u8 {
+    if ended == Exit::Broken as u8 {
         return Err(Fail::new("out of memory"));
     }
     let line = line_of(rt.alloc(), arguments)?;

@@ -1,7 +1,7 @@
 -- Lines that tell refusals, and why there is no answer.
-use Rattle.std.proofs.Common.{◌≡◌, ◌<◌, ◌⊎◌, inl, inr, ℕ, List, Option, Some, None, Result, Ok, Err, IfOk, length, ap, sym, subst}
+use Rattle.std.proofs.Common.{◌≡◌, ◌<◌, ◌⊎◌, inl, inr, ℕ, List, [], Option, Some, None, Result, Ok, Err, IfOk, length, ap, sym, subst}
 use Rattle.std.specs.Option.{option_map}
-use Rattle.std.specs.Prelude.{IfSome}
+use Rattle.std.specs.Prelude.{IfErr, IfSome}
 use Rattle.sc_audit.specs.declared.beginning.ReadFault.{ReadFault}
 use Rattle.sc_audit.specs.declared.beginning.ReadFault.TheVariants as reading
 use Rattle.sc_audit.specs.Reading.{IsReadFault}
@@ -14,7 +14,9 @@ use Rattle.sc_serve.specs.declared.serve.Fault.{Fault}
 use Rattle.sc_serve.specs.declared.serve.Fault.TheVariants as fault
 use Rattle.sc_execution.specs.declared.rejection.Rejection.{Rejection}
 use Rattle.sc_execution.specs.declared.rejection.Rejection.TheVariants as rejection
-use Rattle.sc_serve.specs.Answer.{IsBadRecord, IsRefusalOf, IsReplayOn, IsReplayTo, IsUnansweredOn, IsUnread, line_of, out_of_memory}
+use Rattle.sc_arguments.specs.declared.arguments.RunOptions.{RunOptions}
+use Rattle.sc_class.specs.View.{root_of}
+use Rattle.sc_serve.specs.Answer.{IsBadRecord, IsRanOf, IsRefusalOf, IsReplayOn, IsReplayTo, IsRunOn, IsUnansweredOn, IsUnread, IsUnrun, IsUnrunOn, line_of, out_of_memory, too_long}
 use Rattle.sc_serve.specs.Refusal.{Told, refusal_line, told}
 use Rattle.sc_source.specs.Source.{File, joined, names_of, place_at}
 use Rattle.sc_source.specs.Joining.{no_memory}
@@ -42,6 +44,9 @@ unread names why (fault.NoCode word) w u = u
 unread names why (fault.CannotRead name reading) (inl e) u = absurd (u.0 e)
 unread names why (fault.CannotRead name reading) (inr l) u = (why.file, l, u.1)
 unread names why fault.CannotWrite w u = u
+unread names why (fault.CannotRecord name error remains) w u = u
+unread names why fault.NoThread w u = u
+unread names why fault.LogsDiffer w u = u
 unread names why fault.NotText w u = u
 
 -- what is told to be no record is none
@@ -64,3 +69,53 @@ pub rejected_on_files : (root : Root) (held : Option (List ℕ)) (names : List (
     IfOk r (λ answer. IsReplayOn root held names answer.text.items answer.exit)
 rejected_on_files root held names source why (Ok answer) named is told = inl (source, named, inr (why, is, told))
 rejected_on_files root held names source why (Err fault) named is told = tt
+
+-- ---- run
+
+-- what is answered to a run of the program of the files' source text is answered on the files
+pub ran_on_files : (options : RunOptions) (names : List (List ℕ)) (source : List File) (program : Image) (r : Result Answer Fault) →
+    names_of source ≡ names → IsLoaded (joined source) (root_of options.root) program →
+    IfOk r (λ answer. IsRanOf program options answer.text.items answer.exit answer.record) →
+    IfOk r (λ answer. IsRunOn options names answer.text.items answer.exit answer.record)
+ran_on_files options names source program (Ok answer) named loaded ran =
+    inl (
+      source,
+      named,
+      inl (record {
+        lines = ran.lines;
+        hows = ran.hows;
+        is_run = record { program = program; loaded = loaded; is_run = ran.is_run };
+        status = ran.status;
+        kept = ran.kept;
+      }),
+    )
+ran_on_files options names source program (Err fault) named loaded ran = tt
+
+-- and so is what keeps that text from being run
+pub not_ran_on_files : (options : RunOptions) (names : List (List ℕ)) (source : List File) (why : Rejection) (r : Result Answer Fault) →
+    names_of source ≡ names → IsNotRunFor (joined source) (root_of options.root) why →
+    IfOk r (λ answer. IsRefusalOf source why answer.text.items answer.exit) → IfOk r (λ answer. answer.record ≡ None) →
+    IfOk r (λ answer. IsRunOn options names answer.text.items answer.exit answer.record)
+not_ran_on_files options names source why (Ok answer) named is refused unkept =
+    inl (source, named, inr (record { why = why; true_of = is; refused = refused; unkept = unkept }))
+not_ran_on_files options names source why (Err fault) named is refused unkept = tt
+
+-- files whose text is too long
+pub too_long_to_run : (options : RunOptions) (names : List (List ℕ)) (r : Result Answer Fault) →
+    IfOk r (λ answer. IsRefusalOf [] too_long answer.text.items answer.exit) → IfOk r (λ answer. answer.record ≡ None) →
+    IfOk r (λ answer. IsRunOn options names answer.text.items answer.exit answer.record)
+too_long_to_run options names (Ok answer) refused unkept = inr (refused, unkept)
+too_long_to_run options names (Err fault) refused unkept = tt
+
+pub not_run : (names : List (List ℕ)) (r : Result Answer Fault) → IfErr r IsUnrun → IfErr r (IsUnrunOn names)
+not_run names (Ok answer) is = tt
+not_run names (Err fault) is = inr is
+
+pub not_answered : (names : List (List ℕ)) (r : Result Answer Fault) → IfErr r (λ fault. fault ≡ out_of_memory) → IfErr r (IsUnrunOn names)
+not_answered names (Ok answer) is = tt
+not_answered names (Err fault) is = inl (unanswered names fault is)
+
+pub not_read : (names : List (List ℕ)) (why : JoinFault) (r : Result Answer Fault) → (why.fault ≡ no_memory) ⊎ (why.file < length names) →
+    IfErr r (IsUnread names why) → IfErr r (IsUnrunOn names)
+not_read names why (Ok answer) which is = tt
+not_read names why (Err fault) which is = inl (unread names why fault which is)

@@ -11,13 +11,15 @@ use Rattle.sc_audit.specs.Records.{IsRecord, IsRecordText, text_of}
 use Rattle.sc_code.specs.declared.program.Image.{Image}
 use Rattle.sc_model.specs.declared.status.Status.{Status}
 use Rattle.sc_model.specs.declared.status.Status.TheVariants as status
+use Rattle.sc_serve.specs.declared.serve.Recording.{Recording}
 use Rattle.sc_serve.specs.declared.serve.Exit.{Exit}
 use Rattle.sc_serve.specs.declared.serve.Exit.TheVariants.{Done, Failed, Refused, Unfinished}
 use Rattle.sc_serve.specs.declared.serve.Fault.{Fault}
 use Rattle.sc_serve.specs.declared.serve.Fault.TheVariants as fault
 use Rattle.sc_arguments.specs.declared.arguments.Command.{Command}
 use Rattle.sc_arguments.specs.declared.arguments.Command.TheVariants as command
-use Rattle.sc_execution.specs.Execution.{IsAccepted, IsLoaded, IsNotRunFor, IsPrinted, IsRefusedFor, IsReplay, IsRunOf, IsUnreadable}
+use Rattle.sc_arguments.specs.declared.arguments.RunOptions.{RunOptions}
+use Rattle.sc_execution.specs.Execution.{IsAccepted, IsLoaded, IsNotRunFor, IsPrinted, IsRefusedFor, IsReplay, IsRunOf, IsThreadRun, IsUnreadable}
 use Rattle.sc_class.specs.ClassNames.{Root}
 use Rattle.sc_class.specs.View.{root_of}
 use Rattle.sc_execution.specs.declared.rejection.Rejection.{Rejection}
@@ -44,18 +46,15 @@ is_unfinished status.Free = false
 abbrev pub exit_of : List Status → Exit
 exit_of hows = if list_any has_failed hows then Failed else if list_any is_unfinished hows then Unfinished else Done
 
--- Where the text isn't refused: `ok`, the report of its run, or its canonical text.
+-- Where the text isn't refused: `ok`, or its canonical text.
 abbrev pub IsAnswerTo : Command → List ℕ → List ℕ → Exit → Type 0
 IsAnswerTo (command.Check options) text output exit =
     IsAccepted text (root_of options.root) × (output ≡ codes "ok\n") × (exit ≡ Done)
-IsAnswerTo (command.Run options) text output exit =
-    (hows : List Status) × IsRunOf text (root_of options.root) options.turns output hows × (exit ≡ exit_of hows)
 IsAnswerTo command.Print text output exit = IsPrinted text output × (exit ≡ Done)
 
 -- What keeps a source text from an answer is true of it.
 abbrev pub IsRejectedFor : Command → List ℕ → Rejection → Type 0
 IsRejectedFor (command.Check options) text why = IsRefusedFor text (root_of options.root) why
-IsRejectedFor (command.Run options) text why = IsNotRunFor text (root_of options.root) why
 IsRejectedFor command.Print text why = IsUnreadable text why
 
 -- the line that tells the rejection, with its place in the files, if it is a refusal
@@ -95,6 +94,9 @@ IsUnread names why fault.OutOfMemory = Unit {0}
 IsUnread names why (fault.Usage usage) = ⊥
 IsUnread names why (fault.NoCode word) = ⊥
 IsUnread names why fault.CannotWrite = ⊥
+IsUnread names why (fault.CannotRecord name error remains) = ⊥
+IsUnread names why fault.NoThread = ⊥
+IsUnread names why fault.LogsDiffer = ⊥
 IsUnread names why fault.NotText = ⊥
 
 -- Why nothing is answered on files of these names: one of them can't be read, or memory ran out.
@@ -105,7 +107,69 @@ IsUnansweredOn names fault.OutOfMemory = Unit {0}
 IsUnansweredOn names (fault.Usage usage) = ⊥
 IsUnansweredOn names (fault.NoCode word) = ⊥
 IsUnansweredOn names fault.CannotWrite = ⊥
+IsUnansweredOn names (fault.CannotRecord name error remains) = ⊥
+IsUnansweredOn names fault.NoThread = ⊥
+IsUnansweredOn names fault.LogsDiffer = ⊥
 IsUnansweredOn names fault.NotText = ⊥
+
+-- ---- run
+
+-- the name of the file and the lines of a record that is to be written
+abbrev pub kept_of : Option Recording → Option (List ℕ × List RecordLine)
+kept_of recording = option_map (λ (r : Recording). (r.name.now, r.lines.items)) recording
+
+-- the same, of what was asked for: of the file of this name, if one was named, and of these lines
+abbrev pub asked_of : Option (List ℕ) → List RecordLine → Option (List ℕ × List RecordLine)
+asked_of name lines = option_map (λ n. (n, lines)) name
+
+-- The answer to a run of the program: the report, the status that goes with how the handlers stand, and the lines of the
+-- record for the file, where one was named.
+pub record IsRanOf (program : Image) (options : RunOptions) (output : List ℕ) (exit : Exit) (recording : Option Recording) :
+    Type 0 where
+  pub lines : List RecordLine
+  pub hows : List Status
+  pub is_run : ∥ IsThreadRun program options.turns lines output hows ∥₁
+  pub status : exit ≡ exit_of hows
+  pub kept : kept_of recording ≡ asked_of (option_map (λ n. n.now) options.record) lines
+
+-- The same, of the text's program.
+pub record IsRanFrom (options : RunOptions) (text output : List ℕ) (exit : Exit) (recording : Option Recording) : Type 0 where
+  pub lines : List RecordLine
+  pub hows : List Status
+  pub is_run : IsRunOf text (root_of options.root) options.turns lines output hows
+  pub status : exit ≡ exit_of hows
+  pub kept : kept_of recording ≡ asked_of (option_map (λ n. n.now) options.record) lines
+
+-- Where the text is refused nothing is to be written.
+pub record IsNotRan (options : RunOptions) (source : List File) (output : List ℕ) (exit : Exit) (recording : Option Recording) :
+    Type 0 where
+  pub why : Rejection
+  pub true_of : IsNotRunFor (joined source) (root_of options.root) why
+  pub refused : IsRefusalOf source why output exit
+  pub unkept : recording ≡ None
+
+-- What is answered to a run of files of these names.
+abbrev pub IsRunOn : RunOptions → List (List ℕ) → List ℕ → Exit → Option Recording → Type 0
+IsRunOn options names output exit recording =
+    ((source : List File) × (names_of source ≡ names)
+    × (IsRanFrom options (joined source) output exit recording ⊎ IsNotRan options source output exit recording))
+    ⊎ (IsRefusalOf [] too_long output exit × (recording ≡ None))
+
+-- Why a program isn't run: memory or a thread is refused, or the threads' logs differ.
+abbrev pub IsUnrun : Fault → Type 0
+IsUnrun fault.OutOfMemory = Unit {0}
+IsUnrun fault.NoThread = Unit {0}
+IsUnrun fault.LogsDiffer = Unit {0}
+IsUnrun (fault.CannotRead name reading) = ⊥
+IsUnrun (fault.Usage usage) = ⊥
+IsUnrun (fault.NoCode word) = ⊥
+IsUnrun fault.CannotWrite = ⊥
+IsUnrun (fault.CannotRecord name error remains) = ⊥
+IsUnrun fault.NotText = ⊥
+
+-- Why files of these names aren't run.
+abbrev pub IsUnrunOn : List (List ℕ) → Fault → Type 0
+IsUnrunOn names f = IsUnansweredOn names f ⊎ IsUnrun f
 
 -- ---- replay
 

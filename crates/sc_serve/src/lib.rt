@@ -6,5 +6,7 @@
 //! one line.
 #![tactic(auto)]
 
+mod delivery;
 mod refusal;
+mod running;
 pub mod serve;

@@ -1,6 +1,6 @@
 //! One call of the program, from its arguments to its status.
 
-ghost use Rattle.std.specs.Prelude.{◌≡◌, [], ◌∷◌, IfErr, IfOk, OnOk, map};
+ghost use Rattle.std.specs.Prelude.{◌≡◌, [], ◌∷◌, IfErr, IfOk, None, OnOk, map};
 ghost use Rattle.sc_serve.specs.Answer as spec;
 ghost use Rattle.std.specs.List.{list_any};
 ghost use Rattle.sc_class.specs.View.{root_of};
@@ -8,30 +8,34 @@ ghost use Rattle.sc_lower.specs.Lowerings.{image_of};
 ghost use Rattle.sc_serve.specs.Answer.{IsAnswerOn, IsAnswerTo, IsRefusalOf, IsRejectedFor, too_long};
 ghost use Rattle.sc_serve.specs.Answer.{IsBadRecord, IsReplayOn, IsReplayTo, IsUnansweredOn, IsUnplayed, IsUnread, TellsBadRecord};
 
+use crate::delivery::deliver;
 use crate::refusal::Refusal;
+use crate::running::answer_run;
 use sc_arguments::{Command, Invocation, ReplayOptions, UsageFault, read_arguments};
-use sc_audit::{ReadFault, read_record};
+use sc_audit::{ReadFault, RecordLine, read_record};
 use sc_breakdown::excerpt::excerpt;
-use sc_breakdown::{Played, failure_note};
 use sc_class::Root;
 use sc_code::Program;
 use sc_diagnosis::{Related, diagnose};
-use sc_execution::{Rejection, check_text, load_text, print_text, replay, run_text};
+use sc_execution::{Rejection, check_text, load_text, print_text, replay};
 use sc_explain::{find, list};
 use sc_model::Status;
 use sc_source::files::{Files, NamedFile, read_source};
 use sc_source::reading::FileFault;
 use sc_source::source::{JoinFault, Place, Source, name_at};
+use sc_source::writing::Remains;
 use sc_text::LexFault;
 use std::alloc::{AllocError, Global};
 use std::convert::AsStr;
 use std::io::{self, ErrorKind, Write};
+use std::sync::Wait;
+use std::thread::Threads;
 
 /// What the program ends with. Where several fit, the first in this list.
 #[derive(Clone, Copy)]
 pub enum Exit {
-    /// Memory ran out.
-    OutOfMemory = 5,
+    /// Memory ran out, a thread was refused, or what the threads of a run did doesn't agree.
+    Broken = 5,
     /// An argument, a file or the output is at fault.
     Usage = 2,
     /// The system is refused.
@@ -44,24 +48,35 @@ pub enum Exit {
     Done = 0,
 }
 
-/// What the program writes on standard output, what it ends with, and what it adds on standard error.
+/// What the program writes on standard output, what it ends with, what it adds on standard error, and the record that it
+/// writes to a file.
 #[derive(Drop)]
-struct Answer {
-    text: Vec<u8>,
-    exit: Exit,
-    note: Vec<u8>,
+pub struct Answer<'a> {
+    pub text: Vec<u8>,
+    pub exit: Exit,
+    pub note: Vec<u8>,
+    pub record: Option<Recording<'a>>,
 }
 
-impl Answer {
+/// The lines of a record, and the name of the file that it is written to.
+#[derive(Drop)]
+pub struct Recording<'a> {
+    pub name: &'a str,
+    pub lines: Vec<RecordLine>,
+}
+
+impl<'a> Answer<'a> {
     /// With nothing added.
-    fn new(alloc: Global, text: Vec<u8>, exit: Exit) -> Self
+    pub fn new(alloc: Global, text: Vec<u8>, exit: Exit) -> Self
         ensures text { result.text ≡ text }
         ensures exit { result.exit ≡ exit }
+        ensures record { result.record ≡ None }
     {
         Answer {
             text,
             exit,
             note: Vec::new(alloc),
+            record: None,
         }
     }
 }
@@ -76,6 +91,12 @@ pub enum Fault<'a> {
     CannotRead(&'a str, FileFault),
     /// Standard output is closed or full.
     CannotWrite,
+    /// A file that the record can't be written to, why, and what it is left with, where it was opened.
+    CannotRecord(&'a str, io::Error, Option<Remains>),
+    /// A thread is refused.
+    NoThread,
+    /// The threads of a run have logs that differ, which never comes.
+    LogsDiffer,
     /// An argument that isn't UTF-8.
     NotText,
     OutOfMemory,
@@ -90,35 +111,19 @@ impl<'a> From<AllocError> for Fault<'a> {
 }
 
 /// Does what `arguments` ask for, of which the first is the program's name, and answers the status that
-/// the program ends with. What was asked for is written to `out`, and why it can't be had to `err`.
-pub fn serve<R: AllocGlobal, S: AsStr, F: Files, O: Write, E: Write>(
+/// the program ends with. What was asked for is written to `out`, and why it can't be had to `err`. The record of a run
+/// goes to the file that is named for it, behind that.
+pub fn serve<R: Threads + Wait + Sync + AllocGlobal, S: AsStr, F: Files, O: Write, E: Write>(
     rt: &R,
     arguments: &[S],
     files: &F,
     out: &mut O,
     err: &mut E,
 ) -> u8 {
-    let answer = match respond(rt.alloc(), arguments, files) {
-        Ok(answer) => answer,
-        Err(fault) => return end_with(&fault, err),
-    };
-    match write_out(answer.text.as_slice(), out) {
-        Ok(()) => {}
-        Err(error) if error.kind() == ErrorKind::OutOfMemory => {
-            return end_with(&Fault::OutOfMemory, err);
-        }
-        Err(_) => return end_with(&Fault::CannotWrite, err),
+    match respond(rt, arguments, files) {
+        Ok(answer) => deliver(&answer, files, out, err),
+        Err(fault) => end_with(&fault, err),
     }
-    // That `err` failed is told as in `end_with`.
-    match write_out(answer.note.as_slice(), err) {
-        Err(error) if error.kind() == ErrorKind::OutOfMemory => Exit::OutOfMemory as u8,
-        _ => answer.exit as u8,
-    }
-}
-
-fn write_out<O: Write>(text: &[u8], out: &mut O) -> io::Result<()> {
-    out.write_all(text)?;
-    out.flush()
 }
 
 /// Says on `err` why the program ends without an answer, and answers its status.
@@ -126,8 +131,9 @@ pub fn end_with<E: Write>(fault: &Fault<'_>, err: &mut E) -> u8 {
     // The program ends in any case: nobody is left to be told that `err` failed. Its status still says so
     // where it failed since memory ran out.
     match (fault, say(fault, err)) {
-        (Fault::Usage(UsageFault::OutOfMemory) | Fault::OutOfMemory, _) => Exit::OutOfMemory as u8,
-        (_, Err(error)) if error.kind() == ErrorKind::OutOfMemory => Exit::OutOfMemory as u8,
+        (Fault::Usage(UsageFault::OutOfMemory) | Fault::OutOfMemory, _) => Exit::Broken as u8,
+        (Fault::NoThread | Fault::LogsDiffer, _) => Exit::Broken as u8,
+        (_, Err(error)) if error.kind() == ErrorKind::OutOfMemory => Exit::Broken as u8,
         _ => Exit::Usage as u8,
     }
 }
@@ -143,6 +149,13 @@ fn say<E: Write>(fault: &Fault<'_>, err: &mut E) -> io::Result<()> {
             say_reason(fault, err)
         }
         Fault::CannotWrite => writeln!(err, "cannot write standard output"),
+        Fault::CannotRecord(name, error, remains) => {
+            writeln!(err, "cannot write {name}")?;
+            say_why_unwritten(error, err)?;
+            say_remains(remains, err)
+        }
+        Fault::NoThread => writeln!(err, "no thread"),
+        Fault::LogsDiffer => writeln!(err, "logs differ"),
         Fault::NotText => writeln!(err, "an argument isn't UTF-8"),
         Fault::Usage(UsageFault::OutOfMemory) | Fault::OutOfMemory => writeln!(
             err,
@@ -167,11 +180,37 @@ fn say_reason<E: Write>(fault: &FileFault, err: &mut E) -> io::Result<()> {
     }
 }
 
-fn respond<'a, S: AsStr, F: Files>(
-    alloc: Global,
+/// Says on a line why a file can't be written.
+fn say_why_unwritten<E: Write>(error: &io::Error, err: &mut E) -> io::Result<()> {
+    match error.kind() {
+        ErrorKind::NotFound => writeln!(err, "there is no such folder"),
+        ErrorKind::IsADirectory => writeln!(err, "it is a folder"),
+        ErrorKind::PermissionDenied => writeln!(err, "there is no right to write it"),
+        ErrorKind::StorageFull => writeln!(err, "there is no room for it"),
+        _ => writeln!(err, "{error}"),
+    }
+}
+
+/// Says on a line what is left in a file whose writing failed.
+fn say_remains<E: Write>(remains: &Option<Remains>, err: &mut E) -> io::Result<()> {
+    match remains {
+        None | Some(Remains::Unchanged) => writeln!(err, "it is as it was"),
+        Some(Remains::Beginning) => writeln!(err, "a beginning of the record may be written to it"),
+        Some(Remains::Beside(name)) => {
+            writeln!(
+                err,
+                "it is as it was, and a beginning of the record is left in {name}"
+            )
+        }
+    }
+}
+
+fn respond<'a, R: Threads + Wait + Sync + AllocGlobal, S: AsStr, F: Files>(
+    rt: &R,
     arguments: &'a [S],
     files: &F,
-) -> Result<Answer, Fault<'a>> {
+) -> Result<Answer<'a>, Fault<'a>> {
+    let alloc = rt.alloc();
     let invocation = match read_arguments(alloc, arguments) {
         Ok(invocation) => invocation,
         Err(UsageFault::Arguments(error)) if !error.use_stderr() => {
@@ -183,6 +222,9 @@ fn respond<'a, S: AsStr, F: Files>(
     match invocation {
         Invocation::OnFiles(command, names) => {
             answer_on_files(alloc, &command, files, names.as_slice())
+        }
+        Invocation::Run(options, names) => {
+            answer_run(rt, alloc, &options, files, names.as_slice())
         }
         Invocation::Replay(options, names) => {
             answer_replay(alloc, &options, files, names.as_slice())
@@ -207,7 +249,7 @@ fn answer_on_files<'a, F: Files>(
     command: &Command,
     files: &F,
     names: &[&'a str],
-) -> Result<Answer, Fault<'a>>
+) -> Result<Answer<'a>, Fault<'a>>
     ensures answer { let named = map (λ name. name.now) names.now in
         IfOk result (λ answer. IsAnswerOn command.now named answer.text.items answer.exit) }
     ensures unanswered { IfErr result (IsUnansweredOn (map (λ name. name.now) names.now)) }
@@ -216,24 +258,36 @@ fn answer_on_files<'a, F: Files>(
         Ok(source) => source,
         Err(fault) => return answer_unread(alloc, names, fault),
     };
-    let rejection = match examine(alloc, command, &source, source.text()) {
-        Ok(answer) => return Ok(answer),
-        Err(rejection) => rejection,
-    };
-    let mut answer = answer_rejected(alloc, &source, &rejection)?;
-    if let Some(root) = explained_root(command) {
-        answer.note = explanation(alloc, &source, root, &rejection)?;
+    match examine(alloc, command, source.text()) {
+        Ok(answer) => Ok(answer),
+        Err(rejection) => answer_explained(alloc, &source, &rejection, explained_root(command)),
     }
-    Ok(answer)
 }
 
 /// What the system is run from, where a refusal is to be shown in its line of the text too.
 fn explained_root(command: &Command) -> Option<&Root> {
     match command {
         Command::Check(options) if options.is_explained => Some(&options.root),
-        Command::Run(options) if options.is_explained => Some(&options.root),
         _ => None,
     }
+}
+
+/// What is answered where nothing is made of the source text, shown in its line of the text where that is run from a root.
+pub fn answer_explained<'a>(
+    alloc: Global,
+    source: &Source,
+    rejection: &Rejection,
+    explained: Option<&Root>,
+) -> Result<Answer<'a>, Fault<'a>>
+    ensures refused { IfOk result (λ answer. IsRefusalOf source.now rejection.now answer.text.items answer.exit) }
+    ensures unrecorded { IfOk result (λ answer. answer.record ≡ None) }
+    ensures untold { IfErr result (λ fault. fault ≡ spec.out_of_memory) }
+{
+    let mut answer = answer_rejected(alloc, source, rejection)?;
+    if let Some(root) = explained {
+        answer.note = explanation(alloc, source, root, rejection)?;
+    }
+    Ok(answer)
 }
 
 /// The line of the source text in which something is refused, with carets, a sentence on the fault, where the text stands
@@ -285,12 +339,13 @@ fn push_related(
 }
 
 /// What is answered where the named files have no source text.
-fn answer_unread<'a>(
+pub fn answer_unread<'a>(
     alloc: Global,
     names: &[&'a str],
     unread: JoinFault,
-) -> Result<Answer, Fault<'a>>
+) -> Result<Answer<'a>, Fault<'a>>
     ensures refused { IfOk result (λ answer. IsRefusalOf [] too_long answer.text.items answer.exit) }
+    ensures unrecorded { IfOk result (λ answer. answer.record ≡ None) }
     ensures unread { IfErr result (IsUnread (map (λ name. name.now) names.now) unread) }
 {
     let JoinFault { file, fault } = unread;
@@ -312,8 +367,9 @@ fn answer_rejected<'a>(
     alloc: Global,
     source: &Source,
     rejection: &Rejection,
-) -> Result<Answer, Fault<'a>>
+) -> Result<Answer<'a>, Fault<'a>>
     ensures refused { IfOk result (λ answer. IsRefusalOf source.now rejection.now answer.text.items answer.exit) }
+    ensures unrecorded { IfOk result (λ answer. answer.record ≡ None) }
     ensures untold { IfErr result (λ fault. fault ≡ spec.out_of_memory) }
 {
     match Refusal::of(rejection) {
@@ -328,13 +384,8 @@ fn answer_rejected<'a>(
     }
 }
 
-/// Does with the system of a source text what is asked for. The text is that of these files.
-fn examine(
-    alloc: Global,
-    command: &Command,
-    source: &Source,
-    text: &str,
-) -> Result<Answer, Rejection>
+/// Does with the system of a source text what is asked for.
+fn examine<'a>(alloc: Global, command: &Command, text: &str) -> Result<Answer<'a>, Rejection>
     ensures answer { IfOk result (λ answer. IsAnswerTo command.now text.now answer.text.items answer.exit) }
     ensures rejected { IfErr result (IsRejectedFor command.now text.now) }
 {
@@ -343,25 +394,6 @@ fn examine(
             check_text(alloc, text, &options.root)?;
             let text = Vec::from_slice(alloc, b"ok\n")?;
             Ok(Answer::new(alloc, text, Exit::Done))
-        }
-        Command::Run(options) => {
-            let outcome = run_text(alloc, text, &options.root, options.turns)?;
-            let exit = exit_of(outcome.statuses.as_slice());
-            let note = if options.is_explained {
-                let played = Played {
-                    source,
-                    root: &options.root,
-                    turns: options.turns,
-                };
-                failure_note(alloc, played, outcome.statuses.as_slice())?
-            } else {
-                Vec::new(alloc)
-            };
-            Ok(Answer {
-                text: outcome.report,
-                exit,
-                note,
-            })
         }
         Command::Print => {
             let text = print_text(alloc, text)?;
@@ -377,7 +409,7 @@ fn answer_replay<'a, F: Files>(
     options: &ReplayOptions<'a>,
     files: &F,
     names: &[&'a str],
-) -> Result<Answer, Fault<'a>>
+) -> Result<Answer<'a>, Fault<'a>>
     ensures answer { let named = map (λ name. name.now) names.now in
         let held = F.bytes_of files.now options.now.record.now in
         IfOk result (λ answer. IsReplayOn (root_of options.now.root) held named answer.text.items answer.exit) }
@@ -400,7 +432,7 @@ fn play_record<'a, F: Files>(
     program: &Program,
     files: &F,
     name: &'a str,
-) -> Result<Answer, Fault<'a>>
+) -> Result<Answer<'a>, Fault<'a>>
     ensures answer { let held = F.bytes_of files.now name.now in
         IfOk result (λ answer. IsReplayTo (image_of program.now) held answer.text.items answer.exit) }
     ensures unread { IfErr result (IsUnansweredOn (name.now ∷ [])) }
@@ -415,7 +447,11 @@ fn play_record<'a, F: Files>(
 }
 
 /// What is answered where a file holds no record.
-fn answer_no_record<'a>(alloc: Global, name: &'a str, fault: ReadFault) -> Result<Answer, Fault<'a>>
+fn answer_no_record<'a>(
+    alloc: Global,
+    name: &'a str,
+    fault: ReadFault,
+) -> Result<Answer<'a>, Fault<'a>>
     ensures refused { IfOk result (λ answer. TellsBadRecord answer.text.items answer.exit) }
     ensures bad { OnOk result (IsBadRecord fault) }
     ensures unread { IfErr result (IsUnansweredOn (name.now ∷ [])) }
@@ -428,9 +464,10 @@ fn answer_no_record<'a>(alloc: Global, name: &'a str, fault: ReadFault) -> Resul
 }
 
 /// The answer of a line that tells a refusal.
-fn answer_refused<'a>(alloc: Global, line: &[u8]) -> Result<Answer, Fault<'a>>
+fn answer_refused<'a>(alloc: Global, line: &[u8]) -> Result<Answer<'a>, Fault<'a>>
     ensures text { IfOk result (λ answer. answer.text.items ≡ line.now) }
     ensures exit { IfOk result (λ answer. answer.exit ≡ Exit.Refused) }
+    ensures unrecorded { IfOk result (λ answer. answer.record ≡ None) }
     ensures err { IfErr result (λ fault. fault ≡ spec.out_of_memory) }
 {
     let text = Vec::from_slice(alloc, line)?;
@@ -438,7 +475,7 @@ fn answer_refused<'a>(alloc: Global, line: &[u8]) -> Result<Answer, Fault<'a>>
 }
 
 /// What the program ends with where the handlers are left like that.
-fn exit_of(statuses: &[Status]) -> Exit
+pub fn exit_of(statuses: &[Status]) -> Exit
     ensures { result ≡ spec.exit_of statuses.now }
 {
     if have_failed(statuses) {

@@ -5,7 +5,9 @@ use crate::program::fake::{FakeFile, FakeFiles};
 use sc_serve::serve::{Exit, serve};
 use std::io::{self, ErrorKind, Write};
 use std::process::Abort;
+use std::sync::Wait;
 use std::test::Fail;
+use std::thread::Threads;
 
 /// A writer that takes one byte a call, and fails from some call on.
 #[derive(Drop)]
@@ -42,7 +44,7 @@ impl Write for FailingWriter {
 }
 
 /// What a call writes to writers that fail after so many calls, and its status.
-fn call_failing<R: AllocGlobal>(
+fn call_failing<R: Threads + Wait + Sync + AllocGlobal>(
     rt: &R,
     arguments: &[&str],
     files: &[FakeFile<'_>],
@@ -57,14 +59,14 @@ fn call_failing<R: AllocGlobal>(
         calls_left: calls[1],
     };
     let status = serve(rt, arguments, &FakeFiles { files }, &mut out, &mut err);
-    if status == Exit::OutOfMemory as u8 {
+    if status == Exit::Broken as u8 {
         return Err(Fail::new("out of memory"));
     }
     Ok((status, out.bytes, err.bytes))
 }
 
 /// Compares what such a call writes, and its status, with those of a call whose output doesn't fail.
-fn expect_cut<R: Abort + AllocGlobal>(
+fn expect_cut<R: Abort + Threads + Wait + Sync + AllocGlobal>(
     rt: &R,
     arguments: &[&str],
     files: &[FakeFile<'_>],

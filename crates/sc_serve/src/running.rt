@@ -1,0 +1,133 @@
+//! What is answered to `run`.
+
+ghost use Rattle.std.specs.Prelude.{◌≡◌, IfErr, IfOk, map};
+ghost use Rattle.sc_lower.specs.Lowerings.{image_of};
+ghost use Rattle.std.specs.Option.{option_map};
+ghost use Rattle.sc_serve.specs.Answer.{IsRanOf, IsRunOn, IsUnrun, IsUnrunOn, asked_of, kept_of};
+
+use crate::serve::{Answer, Fault, Recording, answer_explained, answer_unread, exit_of};
+use sc_arguments::RunOptions;
+use sc_audit::RecordLine;
+use sc_breakdown::{Played, failure_note};
+use sc_class::Root;
+use sc_code::Program;
+use sc_execution::{Ended, Outcome, load_text, run_program};
+use sc_model::Status;
+use sc_plant::{Left, RunFault};
+use sc_source::files::{Files, read_source};
+use sc_source::source::Source;
+use std::alloc::{AllocError, Global};
+use std::sync::Wait;
+use std::thread::Threads;
+
+/// Runs the system of the named files.
+#[tactic(auto, using(crate::proofs::AnswerLemmas::unanswered, crate::proofs::AnswerLemmas::unread))]
+pub fn answer_run<'a, R: Threads + Wait + Sync, F: Files>(
+    rt: &R,
+    alloc: Global,
+    options: &RunOptions<'a>,
+    files: &F,
+    names: &[&'a str],
+) -> Result<Answer<'a>, Fault<'a>>
+    ensures answer { let named = map (λ name. name.now) names.now in
+        IfOk result (λ answer. IsRunOn options.now named answer.text.items answer.exit answer.record) }
+    ensures unrun { IfErr result (IsUnrunOn (map (λ name. name.now) names.now)) }
+{
+    let source = match read_source(alloc, files, names) {
+        Ok(source) => source,
+        Err(fault) => return answer_unread(alloc, names, fault),
+    };
+    match load_text(alloc, source.text(), &options.root) {
+        Ok(program) => run_loaded(rt, alloc, &program, options, &source),
+        Err(rejection) => { answer_explained(alloc, &source, &rejection, explained_root(options)) }
+    }
+}
+
+/// What the system is run from, where a refusal is to be shown in its line of the text too.
+fn explained_root<'r>(options: &'r RunOptions<'_>) -> Option<&'r Root> {
+    if options.is_explained {
+        Some(&options.root)
+    } else {
+        None
+    }
+}
+
+/// Runs the program of a source text.
+fn run_loaded<'a, R: Threads + Wait + Sync>(
+    rt: &R,
+    alloc: Global,
+    program: &Program,
+    options: &RunOptions<'a>,
+    source: &Source,
+) -> Result<Answer<'a>, Fault<'a>>
+    ensures answer { IfOk result (λ answer.
+        IsRanOf (image_of program.now) options.now answer.text.items answer.exit answer.record) }
+    ensures unrun { IfErr result IsUnrun }
+{
+    let Ended { left, outcome } = match run_program(
+        rt,
+        alloc,
+        program,
+        options.workers,
+        options.turns,
+    ) {
+        Ok(ended) => ended,
+        Err(fault) => return Err(fault_of(fault)),
+    };
+    let Left { lines, .. } = left;
+    let Outcome { report, statuses } = outcome;
+    let note = note_of(
+        alloc,
+        options,
+        source,
+        lines.as_slice(),
+        statuses.as_slice(),
+    )?;
+    let exit = exit_of(statuses.as_slice());
+    Ok(Answer {
+        text: report,
+        exit,
+        note,
+        record: recording_of(options.record, lines),
+    })
+}
+
+/// Why a run isn't done.
+fn fault_of<'a>(fault: RunFault<'_>) -> Fault<'a>
+    ensures { IsUnrun result }
+{
+    match fault {
+        RunFault::OutOfMemory(_) => Fault::OutOfMemory,
+        RunFault::ThreadRefused => Fault::NoThread,
+        RunFault::LogsDiffer(_, _) => Fault::LogsDiffer,
+    }
+}
+
+/// What is said of the failures of a run, where it is asked for.
+fn note_of(
+    alloc: Global,
+    options: &RunOptions<'_>,
+    source: &Source,
+    lines: &[RecordLine],
+    statuses: &[Status],
+) -> Result<Vec<u8>, AllocError> {
+    if !options.is_explained {
+        return Ok(Vec::new(alloc));
+    }
+    let played = Played {
+        source,
+        root: &options.root,
+        lines,
+    };
+    failure_note(alloc, played, statuses)
+}
+
+/// The record that is to be written, where a file is named for it.
+fn recording_of<'a>(name: Option<&'a str>, lines: Vec<RecordLine>) -> Option<Recording<'a>>
+    ensures { kept_of result ≡ asked_of (option_map (λ n. n.now) name) lines.items }
+{
+    match name {
+        Some(name) => Some(Recording { name, lines }),
+        None => None,
+    }
+}
