@@ -15,7 +15,7 @@ _scoop() {
     esac
     case $command:$word in
     check:-*) mapfile -t COMPREPLY < <(compgen -W '--root --explain --help' -- "$word") ;;
-    run:-*) mapfile -t COMPREPLY < <(compgen -W '--workers --turns --record --root --explain --help' -- "$word") ;;
+    run:-*) mapfile -t COMPREPLY < <(compgen -W '--workers --turns --record --audit --root --explain --help' -- "$word") ;;
     replay:-*) mapfile -t COMPREPLY < <(compgen -W '--root --help' -- "$word") ;;
     print:-* | explain:-*) mapfile -t COMPREPLY < <(compgen -W '--help' -- "$word") ;;
     explain:*) mapfile -t COMPREPLY < <(compgen -W "$("${COMP_WORDS[0]}" explain 2>/dev/null)" -- "$word") ;;

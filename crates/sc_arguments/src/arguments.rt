@@ -50,6 +50,8 @@ pub struct RunOptions<'a> {
     pub turns: u32,
     /// The name of the file that the record of the run is written to.
     pub record: Option<&'a str>,
+    /// Whether the record is to be played by one thread, and what that comes to compared with what the run left.
+    pub is_audited: bool,
     /// Whether a refusal is to be shown in its line of the text too.
     pub is_explained: bool,
 }
@@ -243,6 +245,8 @@ const TURNS_HELP: &str = "The most turns that are played, 1 to 10000000";
 
 const WORKERS_HELP: &str = "How many threads play the handlers, 1 to 8";
 
+const AUDIT_HELP: &str = "Plays the record by one thread, and says whether that ends in the same";
+
 const KEPT_HELP: &str = "Writes the record of the run to this file, for `scoop replay`";
 
 /// Reads the arguments of a command line, of which the first is the program's name.
@@ -293,6 +297,7 @@ fn read_run<'a>(alloc: Global, options: &ArgMatches<'a>) -> Result<Invocation<'a
         workers: options.get_one("workers").unwrap_or(DEFAULT_WORKERS),
         turns: options.get_one("turns").unwrap_or(DEFAULT_TURNS),
         record: options.get_str("record"),
+        is_audited: options.get_flag("audit"),
         is_explained: options.get_flag("explain"),
     };
     Ok(Invocation::Run(run, read_files(alloc, options)?))
@@ -350,6 +355,7 @@ fn run_command<'a>(alloc: Global) -> Result<clap::Command<'a>, AllocError> {
     let command = command.arg(workers_argument(alloc));
     let command = with_argument(command, turns_argument(alloc));
     let command = with_argument(command, kept_argument(alloc));
+    let command = with_argument(command, audit_argument(alloc));
     let command = with_argument(command, explain_argument(alloc, RUN_EXPLAIN_HELP));
     let command = with_argument(command, root_argument(alloc));
     with_argument(command, file_argument(alloc))
@@ -460,6 +466,13 @@ fn kept_argument<'a>(alloc: Global) -> Arg<'a> {
         .long("record")
         .value_name("PATH")
         .help(KEPT_HELP)
+}
+
+fn audit_argument<'a>(alloc: Global) -> Arg<'a> {
+    Arg::new(alloc, "audit")
+        .long("audit")
+        .action(ArgAction::SetTrue)
+        .help(AUDIT_HELP)
 }
 
 fn explain_argument<'a>(alloc: Global, help: &'a str) -> Arg<'a> {

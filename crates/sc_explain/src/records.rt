@@ -1,4 +1,4 @@
-//! What a record is refused for: A1.
+//! What a record is refused for, and what an audit finds: A1 and A2. Why a run isn't done: U1 to U3.
 
 /// A page for each code.
 pub fn pages() -> &'static [&'static str] {
@@ -29,5 +29,43 @@ This is accepted:
 
 Why: A record that was cut off or changed would be taken for another one. So each
 record has one text alone, and a text that is nearly one is none.
+"#,
+    r#"A2 Differs
+
+An audit doesn't end in what the run left: of the handler that is named, the
+least one, an object, a frame, a request, a right, a count or the output differs.
+
+No run was seen to end so. A run writes down who made how many turns, and one
+thread that makes these turns comes to the same, whatever the workers did at the
+same time. With the record of five turns the line `0 4` in place of `0 5` would
+be `audit A2 Differs 0`.
+
+Why: That both come to the same is proved. The audit tests it besides, of this
+very run.
+"#,
+    r#"U1 OutOfMemory
+
+Memory was refused to a run: `out of memory`, with status 5, and no report.
+
+Why: Objects live until a run ends. A run that makes less of them, or fewer
+`--turns`, needs less.
+"#,
+    r#"U2 ThreadRefused
+
+A thread was refused to a run: `no thread`, with status 5, and no report.
+
+Why: `--workers 4` starts three threads beside the one that is there, and the
+machine may allow fewer. `--workers 1` starts none.
+"#,
+    r#"U3 LogsDiffer
+
+What the turns of a handler came to isn't what was settled of it: `logs differ`,
+with status 5, and no report.
+
+No run was seen to end so. When all threads have ended, the log of each handler
+is compared with the settlements of its turns; a report is written only where
+they are the same.
+
+Why: What a run promises rests on this comparison, and not on the workers.
 "#,
 ];

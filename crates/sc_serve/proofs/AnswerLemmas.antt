@@ -84,8 +84,9 @@ ran_on_files options names source program (Ok answer) named loaded ran =
       inl (record {
         lines = ran.lines;
         hows = ran.hows;
+        report = ran.report;
         is_run = record { program = program; loaded = loaded; is_run = ran.is_run };
-        status = ran.status;
+        told = ran.told;
         kept = ran.kept;
       }),
     )

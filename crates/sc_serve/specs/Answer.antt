@@ -1,5 +1,5 @@
 -- What the program answers for a source text.
-use Rattle.std.specs.Prelude.{ℕ, ◌≡◌, ◌<◌, ◌⊎◌, Bool, true, false, if◌then◌else◌, List, [], ◌∷◌, ◌++◌, Option, Some, IfSome, codes, get_or, length}
+use Rattle.std.specs.Prelude.{ℕ, ◌≡◌, ◌<◌, ◌⊎◌, Bool, true, false, if◌then◌else◌, List, [], ◌∷◌, ◌++◌, Option, Some, IfSome, codes, decimal, get_or, length}
 use Rattle.std.specs.List.{list_any}
 use Rattle.std.specs.Option.{option_map}
 use Rattle.sc_text.specs.declared.fault.LexFault.TheVariants as lexing
@@ -13,13 +13,18 @@ use Rattle.sc_model.specs.declared.status.Status.{Status}
 use Rattle.sc_model.specs.declared.status.Status.TheVariants as status
 use Rattle.sc_serve.specs.declared.serve.Recording.{Recording}
 use Rattle.sc_serve.specs.declared.serve.Exit.{Exit}
-use Rattle.sc_serve.specs.declared.serve.Exit.TheVariants.{Done, Failed, Refused, Unfinished}
+use Rattle.sc_serve.specs.declared.serve.Exit.TheVariants.{Broken, Done, Failed, Refused, Unfinished}
 use Rattle.sc_serve.specs.declared.serve.Fault.{Fault}
 use Rattle.sc_serve.specs.declared.serve.Fault.TheVariants as fault
 use Rattle.sc_arguments.specs.declared.arguments.Command.{Command}
 use Rattle.sc_arguments.specs.declared.arguments.Command.TheVariants as command
 use Rattle.sc_arguments.specs.declared.arguments.RunOptions.{RunOptions}
 use Rattle.sc_execution.specs.Execution.{IsAccepted, IsLoaded, IsNotRunFor, IsPrinted, IsRefusedFor, IsReplay, IsRunOf, IsThreadRun, IsUnreadable}
+use Rattle.sc_plant.specs.declared.left.Left.{Left}
+use Rattle.sc_plant.specs.Left.{IsRun}
+use Rattle.sc_auditing.specs.declared.auditing.AuditFault.{AuditFault}
+use Rattle.sc_auditing.specs.declared.auditing.AuditFault.TheVariants as auditing
+use Rattle.sc_auditing.specs.Audits.{IsAudited, TellsWhy}
 use Rattle.sc_class.specs.ClassNames.{Root}
 use Rattle.sc_class.specs.View.{root_of}
 use Rattle.sc_execution.specs.declared.rejection.Rejection.{Rejection}
@@ -122,22 +127,46 @@ kept_of recording = option_map (λ (r : Recording). (r.name.now, r.lines.items))
 abbrev pub asked_of : Option (List ℕ) → List RecordLine → Option (List ℕ × List RecordLine)
 asked_of name lines = option_map (λ n. (n, lines)) name
 
--- The answer to a run of the program: the report, the status that goes with how the handlers stand, and the lines of the
--- record for the file, where one was named.
+-- the line of an audit that doesn't say yes
+abbrev pub audit_line : AuditFault → List ℕ
+audit_line (auditing.BadRecord line) = codes "audit A1 BadRecord " ++ (decimal line ++ (line_feed ∷ []))
+audit_line (auditing.Differs handler) = codes "audit A2 Differs " ++ (decimal handler ++ (line_feed ∷ []))
+audit_line auditing.OutOfMemory = []
+
+-- The audit of what a run left says yes; or what is at fault, which is true, and then the status says so too.
+abbrev pub IsAuditedAs : Image → Left → List ℕ → List Status → List ℕ → Exit → Type 0
+IsAuditedAs program left report hows output exit =
+    (IsAudited program left × (output ≡ report ++ codes "audit yes\n") × (exit ≡ exit_of hows))
+    ⊎ ((fault : AuditFault) × TellsWhy program left fault × (output ≡ report ++ audit_line fault) × (exit ≡ Broken))
+
+-- What is told of what a run left: the report alone, with the status that goes with how the handlers stand; or an audit too.
+abbrev pub IsJudged : Image → Bool → Left → List ℕ → List Status → List ℕ → Exit → Type 0
+IsJudged program false left report hows output exit = (output ≡ report) × (exit ≡ exit_of hows)
+IsJudged program true left report hows output exit = IsAuditedAs program left report hows output exit
+
+-- The same of a run whose record has these lines.
+abbrev pub IsTold : Image → ℕ → Bool → List RecordLine → List ℕ → List Status → List ℕ → Exit → Type 0
+IsTold program limit is_audited lines report hows output exit =
+    (left : Left) × IsRun program limit left × (left.lines.items ≡ lines) × IsJudged program is_audited left report hows output exit
+
+-- The answer to a run of the program: the report, the audit of it where one is asked for, the status that goes with that, and
+-- the lines of the record for the file, where one was named.
 pub record IsRanOf (program : Image) (options : RunOptions) (output : List ℕ) (exit : Exit) (recording : Option Recording) :
     Type 0 where
   pub lines : List RecordLine
   pub hows : List Status
-  pub is_run : ∥ IsThreadRun program options.turns lines output hows ∥₁
-  pub status : exit ≡ exit_of hows
+  pub report : List ℕ
+  pub is_run : ∥ IsThreadRun program options.turns lines report hows ∥₁
+  pub told : IsTold program options.turns options.is_audited lines report hows output exit
   pub kept : kept_of recording ≡ asked_of (option_map (λ n. n.now) options.record) lines
 
 -- The same, of the text's program.
 pub record IsRanFrom (options : RunOptions) (text output : List ℕ) (exit : Exit) (recording : Option Recording) : Type 0 where
   pub lines : List RecordLine
   pub hows : List Status
-  pub is_run : IsRunOf text (root_of options.root) options.turns lines output hows
-  pub status : exit ≡ exit_of hows
+  pub report : List ℕ
+  pub is_run : IsRunOf text (root_of options.root) options.turns lines report hows
+  pub told : IsTold is_run.program options.turns options.is_audited lines report hows output exit
   pub kept : kept_of recording ≡ asked_of (option_map (λ n. n.now) options.record) lines
 
 -- Where the text is refused nothing is to be written.

@@ -1,6 +1,6 @@
 //! How an answer leaves the program: what it prints, and the record that it writes to a file.
 
-use crate::serve::{Answer, Fault, Recording, end_with};
+use crate::serve::{Answer, Exit, Fault, Recording, end_with};
 use sc_audit::{RecordLine, Unwritable, write_record};
 use sc_source::files::Files;
 use sc_source::writing::Remains;
@@ -19,7 +19,14 @@ pub fn deliver<F: Files, O: Write, E: Write>(
     };
     match told {
         Ok(()) => answer.exit as u8,
-        Err(fault) => end_with(&fault, err),
+        Err(fault) => {
+            let status = end_with(&fault, err);
+            // An audit that failed comes first.
+            match answer.exit {
+                Exit::Broken => Exit::Broken as u8,
+                _ => status,
+            }
+        }
     }
 }
 

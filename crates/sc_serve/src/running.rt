@@ -3,11 +3,12 @@
 ghost use Rattle.std.specs.Prelude.{◌≡◌, IfErr, IfOk, map};
 ghost use Rattle.sc_lower.specs.Lowerings.{image_of};
 ghost use Rattle.std.specs.Option.{option_map};
-ghost use Rattle.sc_serve.specs.Answer.{IsRanOf, IsRunOn, IsUnrun, IsUnrunOn, asked_of, kept_of};
+ghost use Rattle.sc_serve.specs.Answer.{IsJudged, IsRanOf, IsRunOn, IsUnrun, IsUnrunOn, asked_of, kept_of};
 
-use crate::serve::{Answer, Fault, Recording, answer_explained, answer_unread, exit_of};
+use crate::serve::{Answer, Exit, Fault, Recording, answer_explained, answer_unread, exit_of};
 use sc_arguments::RunOptions;
 use sc_audit::RecordLine;
+use sc_auditing::{AuditFault, audit};
 use sc_breakdown::{Played, failure_note};
 use sc_class::Root;
 use sc_code::Program;
@@ -74,8 +75,9 @@ fn run_loaded<'a, R: Threads + Wait + Sync>(
         Ok(ended) => ended,
         Err(fault) => return Err(fault_of(fault)),
     };
-    let Left { lines, .. } = left;
     let Outcome { report, statuses } = outcome;
+    let (text, exit) = judge(alloc, program, options, &left, report, statuses.as_slice())?;
+    let Left { lines, .. } = left;
     let note = note_of(
         alloc,
         options,
@@ -83,13 +85,47 @@ fn run_loaded<'a, R: Threads + Wait + Sync>(
         lines.as_slice(),
         statuses.as_slice(),
     )?;
-    let exit = exit_of(statuses.as_slice());
     Ok(Answer {
-        text: report,
+        text,
         exit,
         note,
         record: recording_of(options.record, lines),
     })
+}
+
+/// The report, with what an audit says where one is asked for, and the status.
+fn judge(
+    alloc: Global,
+    program: &Program,
+    options: &RunOptions<'_>,
+    left: &Left<'_>,
+    mut text: Vec<u8>,
+    statuses: &[Status],
+) -> Result<(Vec<u8>, Exit), AllocError>
+    ensures { IfOk result (λ told.
+        IsJudged (image_of program.now) options.now.is_audited left.now text.items statuses.now told.0.items told.1) }
+{
+    let exit = exit_of(statuses);
+    if !options.is_audited {
+        return Ok((text, exit));
+    }
+    match audit(alloc, program, left) {
+        Ok(()) => {
+            text.extend_from_slice(b"audit yes\n")?;
+            Ok((text, exit))
+        }
+        Err(AuditFault::OutOfMemory) => Err(AllocError),
+        Err(AuditFault::BadRecord { line }) => {
+            let said = format!(in alloc; "audit A1 BadRecord {line}\n")?;
+            text.extend_from_slice(said.as_bytes())?;
+            Ok((text, Exit::Broken))
+        }
+        Err(AuditFault::Differs { handler }) => {
+            let said = format!(in alloc; "audit A2 Differs {handler}\n")?;
+            text.extend_from_slice(said.as_bytes())?;
+            Ok((text, Exit::Broken))
+        }
+    }
 }
 
 /// Why a run isn't done.
