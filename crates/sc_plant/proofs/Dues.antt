@@ -118,6 +118,14 @@ settled_due h turns w c a b d j below state log picks out same settle =
       log = is.log ∙ ap (λ (es : List Settlement). es ++ settlement h j turns w ∷ []) (same ∙ log);
     }
 
+-- under just that job
+pub settled_job : (h turns : ℕ) (w : Want) (c a b d : coded.Core) (j : Job) → h < max_handlers →
+    state_of a ≡ state_of c → log_of a ≡ log_of c → pick_for h (center_of a) ≡ Some j →
+    center_of b ≡ picked h j (center_of a) → log_of b ≡ log_of a →
+    ((i : Job) → (center_of b).out h ≡ Some i → IsSettled h i turns w b d) → (is : Settled h turns w c d) × (is.job ≡ j)
+unfolding settled_due
+settled_job h turns w c a b d j below state log due out same settle = (settled_due h turns w c a b d j below state log due out same settle, refl)
+
 pub settled_none : (h turns : ℕ) (w : Want) (a b d : coded.Core) (j : Job) → GrantsNone (center_of a) →
     center_of b ≡ picked h j (center_of a) → ((i : Job) → (center_of b).out h ≡ Some i → IsSettled h i turns w b d) →
     GrantsNone (center_of d)

@@ -7,21 +7,24 @@ use Rattle.sc_code.specs.declared.program.Image.{Image}
 use Rattle.sc_region.specs.declared.job.Job.{Job}
 use Rattle.sc_region.specs.declared.job.Want.{Want}
 use Rattle.sc_region.specs.declared.job.Want.TheVariants as want
+use Rattle.sc_request.specs.declared.center.Core as coded
 use Rattle.sc_request.specs.declared.settlement.Settlement.{Settlement}
 use Rattle.sc_request.specs.Cores.{center_of, log_of}
+use Rattle.sc_request.specs.Logs.{Center}
 use Rattle.sc_request.specs.Rooms.{settlement}
 use Rattle.sc_play.specs.Regions.{PlainRegion, Plays, new_region, outcome}
 use Rattle.sc_worklog.specs.declared.logged_region.LoggedRegion.{LoggedRegion}
 use Rattle.sc_worklog.specs.LoggedRegions.{entries_of, region_of}
 use Rattle.sc_worklog.specs.Replaying.{entry_of}
+use Rattle.sc_runtime.specs.Worlds.{max_handlers}
 use Rattle.sc_plant.specs.declared.left.Left.{Left}
-use Rattle.sc_plant.specs.Alone.{AreNew, AreOwn, IsOnWay, IsOwn}
+use Rattle.sc_plant.specs.Alone.{AreNew, AreOwn, IsOnWay, IsOwn, IsPlayed}
 use Rattle.sc_plant.specs.Due.{Settled, Stays}
 use Rattle.sc_plant.specs.Left.{IsLeft, IsOver, IsRun}
 use Rattle.sc_plant.specs.Recorded.{settlements_for}
 use Rattle.sc_plant.specs.Regions.{IsMadeByLog}
 use Rattle.sc_plant.proofs.Comparing.{kept, ours, some_is}
-use Rattle.sc_plant.proofs.Dues.{same_below, same_lines, settled_below, settled_lines, settled_plays, stays_plays}
+use Rattle.sc_plant.proofs.Dues.{Goes, goes_out, same_below, same_lines, settled_below, settled_job, settled_lines, settled_plays, stays_plays}
 use Rattle.sc_plant.proofs.Slots.{new_made, played_made}
 
 -- ---- lists
@@ -132,27 +135,43 @@ put_back_left p x y h r s stays at regions program lines version way = record {
   lines = lines ∙ same_lines x.core y.core x.lines.items stays.log way.lines;
 }
 
--- turns of a handler are settled
-module _ (p : Image) (x y : Left) (h turns limit : ℕ) (w : Want) (r s : LoggedRegion) (is : Settled h turns w x.core y.core)
+-- turns of a handler that was picked are played and settled
+pub record Advances (limit h turns : ℕ) (w : Want) (c d : coded.Core) (r s : LoggedRegion) : Type 0 where
+  pub settled : Settled h turns w c d
+  pub plays : Plays limit settled.job (region_of r) (region_of s) (outcome (region_of r).handler turns w)
+  pub logged : entries_of s ≡ entries_of r ++ entry_of settled.job (outcome (region_of r).handler turns w) ∷ []
+
+pub advances : (limit h turns : ℕ) (w : Want) (c a b d : coded.Core) (r s : LoggedRegion) → h < max_handlers → center_of a ≡ center_of c →
+    log_of a ≡ log_of c → Goes h a b → log_of b ≡ log_of a →
+    ((j : Job) → (center_of b).out h ≡ Some j → IsPlayed limit h j turns w b d r s) → Advances limit h turns w c d r s
+advances limit h turns w c a b d r s below center log goes same played =
+    let asked = outcome (region_of r).handler turns w in
+    let one = played goes.0 (goes_out h a b goes) in
+    let due = settled_job h turns w c a b d goes.0 below (ap (λ (x : Center). x.state) center) log goes.1 goes.2 same (λ i out. (played i out).settled) in
+    record {
+      settled = due.0;
+      plays = subst (λ (j : Job). Plays limit j (region_of r) (region_of s) asked) (sym due.1) one.plays;
+      logged = subst (λ (j : Job). entries_of s ≡ entries_of r ++ entry_of j asked ∷ []) (sym due.1) one.logged;
+    }
+
+module _ (p : Image) (x y : Left) (h turns limit : ℕ) (w : Want) (r s : LoggedRegion) (go : Advances limit h turns w x.core y.core r s)
     (at : slice_get x.regions.items h ≡ Some r) (regions : y.regions.items ≡ slice_set x.regions.items h s)
-    (plays : Plays limit is.job (region_of r) (region_of s) (outcome (region_of r).handler turns w))
-    (logged : entries_of s ≡ entries_of r ++ entry_of is.job (outcome (region_of r).handler turns w) ∷ [])
     (lines : y.lines.items ≡ x.lines.items ++ record { handler = h; turns = turns } ∷ []) (version : y.version ≡ x.version) (way : IsOnWay p x) where
   pub goes_left : IsLeft p y
   goes_left = record {
     version = version ∙ way.version;
     count = ap (λ (rs : List LoggedRegion). length rs) regions ∙ set_length x.regions.items h s ∙ way.count;
-    programs = subst (Programs p) (sym regions) (set_programs p (log_of x.core) x.regions.items h r s way.regions at plays.program);
-    plays = settled_plays p h turns w x.core y.core is way.plays;
-    below = settled_below h turns w x.core y.core is way.below;
-    lines = settled_lines h turns w x.core y.core x.lines.items y.lines.items is way.lines lines;
+    programs = subst (Programs p) (sym regions) (set_programs p (log_of x.core) x.regions.items h r s way.regions at go.plays.program);
+    plays = settled_plays p h turns w x.core y.core go.settled way.plays;
+    below = settled_below h turns w x.core y.core go.settled way.below;
+    lines = settled_lines h turns w x.core y.core x.lines.items y.lines.items go.settled way.lines lines;
   }
 
-  own : ((turns < limit) × (w ≡ want.Continue) → ⊥) → AreOwn p (log_of x.core ++ settlement h is.job turns w ∷ []) (slice_set x.regions.items h s)
+  own : ((turns < limit) × (w ≡ want.Continue) → ⊥) → AreOwn p (log_of x.core ++ settlement h go.settled.job turns w ∷ []) (slice_set x.regions.items h s)
   own whole =
-      let f : Settlement = settlement h is.job turns w in
+      let f : Settlement = settlement h go.settled.job turns w in
       set_each (IsOwn p (log_of x.core ++ f ∷ [])) x.regions.items h r s at
-      (own_more p (log_of x.core) h turns limit w is.job r s (way.regions h r at) plays logged whole)
+      (own_more p (log_of x.core) h turns limit w go.settled.job r s (way.regions h r at) go.plays go.logged whole)
       (λ k z apart e. record {
         handler = (way.regions k z e).handler;
         program = (way.regions k z e).program;
@@ -168,8 +187,8 @@ module _ (p : Image) (x y : Left) (h turns limit : ℕ) (w : Want) (r s : Logged
     plays = goes_left.plays;
     below = goes_left.below;
     lines = goes_left.lines;
-    regions = subst (λ (es : List Settlement). AreOwn p es y.regions.items) (sym is.log)
-        (subst (AreOwn p (log_of x.core ++ settlement h is.job turns w ∷ [])) (sym regions) (own whole));
+    regions = subst (λ (es : List Settlement). AreOwn p es y.regions.items) (sym go.settled.log)
+        (subst (AreOwn p (log_of x.core ++ settlement h go.settled.job turns w ∷ [])) (sym regions) (own whole));
   }
 
 -- ---- new regions

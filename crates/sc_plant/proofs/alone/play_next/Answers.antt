@@ -3,8 +3,8 @@ use Rattle.std.proofs.lemmas.Option.{slice_get_read}
 use Rattle.sc_audit.specs.declared.line.RecordLine.{RecordLine}
 use Rattle.sc_request.specs.Logs.{Center}
 use Rattle.sc_runtime.proofs.Outs.{on-err}
-use Rattle.sc_plant.proofs.OnWay.{goes_left, goes_on, put_back_left, stays_on, way_left}
-use Rattle.sc_plant.proofs.Dues.{goes_out, is_out, none_next, picked_next, same_center, settled_due}
+use Rattle.sc_plant.proofs.OnWay.{advances, goes_left, goes_on, put_back_left, stays_on, way_left}
+use Rattle.sc_plant.proofs.Dues.{is_out, none_next, picked_next, same_center}
 use Rattle.sc_plant.proofs.PuttingBack.{put_back_state}
 use Rattle.sc_plant.proofs.alone.play_next.Goals as goal
 
@@ -56,26 +56,23 @@ pub returns-then-is_cut_short-clause-err : goal.returns-then-is_cut_short-clause
 returns-then-is_cut_short-clause-err g c = λ p way.
     let h = c.in-Some.handler in
     let goes = picked_next h c.make_room.new.self c.pick.new.self c.in-Some.ensures.handler c.pick.ensures.center in
-    let played = c.in-Ok.ensures.ok goes.0 (goes_out h c.make_room.new.self c.pick.new.self goes) in
     let at = slice_get_read c.args.left.now.regions.items 512 h c.index_mut-region.result.now (sym c.requires.count) c.in-Some.ensures.below c.index_mut-region.ensures.value in
     let line : RecordLine = record { handler = h; turns = c.in-Ok.turns } in
-    let is = settled_due h c.in-Ok.turns c.play_out-played.new.asked c.args.left.now.core c.make_room.new.self c.pick.new.self c.play_out-played.new.core goes.0
-    c.in-Some.ensures.below (ap (λ (x : Center). x.state) c.make_room.ensures.center) c.make_room.ensures.log goes.1 goes.2 c.pick.ensures.log
-    (λ i out. (c.in-Ok.ensures.ok i out).settled) in
-    goes_left p c.args.left.now _ h c.in-Ok.turns c.args.limit c.play_out-played.new.asked c.index_mut-region.result.now c.play_out-played.new.region is at refl played.plays
-    played.logged (c.push_reserved.ensures.items ∙ ap (λ (ls : List RecordLine). ls ++ line ∷ []) c.reserve.ensures.items) refl way
+    let go = advances c.args.limit h c.in-Ok.turns c.play_out-played.new.asked c.args.left.now.core c.make_room.new.self c.pick.new.self c.play_out-played.new.core
+    c.index_mut-region.result.now c.play_out-played.new.region c.in-Some.ensures.below c.make_room.ensures.center c.make_room.ensures.log goes c.pick.ensures.log
+    c.in-Ok.ensures.ok in
+    goes_left p c.args.left.now _ h c.in-Ok.turns c.args.limit c.play_out-played.new.asked c.index_mut-region.result.now c.play_out-played.new.region go at refl
+    (c.push_reserved.ensures.items ∙ ap (λ (ls : List RecordLine). ls ++ line ∷ []) c.reserve.ensures.items) refl way
 
 pub returns-clause-on : goal.returns-clause-on
 returns-clause-on g c = λ p way.
     let h = c.in-Some.handler in
     let goes = picked_next h c.make_room.new.self c.pick.new.self c.in-Some.ensures.handler c.pick.ensures.center in
-    let played = c.in-Ok.ensures.ok goes.0 (goes_out h c.make_room.new.self c.pick.new.self goes) in
     let at = slice_get_read c.args.left.now.regions.items 512 h c.index_mut-region.result.now (sym c.requires.count) c.in-Some.ensures.below c.index_mut-region.ensures.value in
     let line : RecordLine = record { handler = h; turns = c.in-Ok.turns } in
-    let is = settled_due h c.in-Ok.turns c.play_out-played.new.asked c.args.left.now.core c.make_room.new.self c.pick.new.self c.play_out-played.new.core goes.0
-    c.in-Some.ensures.below (ap (λ (x : Center). x.state) c.make_room.ensures.center) c.make_room.ensures.log goes.1 goes.2 c.pick.ensures.log
-    (λ i out. (c.in-Ok.ensures.ok i out).settled) in
-    goes_on p c.args.left.now _ h c.in-Ok.turns c.args.limit c.play_out-played.new.asked c.index_mut-region.result.now c.play_out-played.new.region is at refl played.plays
-    played.logged (c.push_reserved.ensures.items ∙ ap (λ (ls : List RecordLine). ls ++ line ∷ []) c.reserve.ensures.items) refl way
-    c.play_out-played.ensures.version
+    let go = advances c.args.limit h c.in-Ok.turns c.play_out-played.new.asked c.args.left.now.core c.make_room.new.self c.pick.new.self c.play_out-played.new.core
+    c.index_mut-region.result.now c.play_out-played.new.region c.in-Some.ensures.below c.make_room.ensures.center c.make_room.ensures.log goes c.pick.ensures.log
+    c.in-Ok.ensures.ok in
+    goes_on p c.args.left.now _ h c.in-Ok.turns c.args.limit c.play_out-played.new.asked c.index_mut-region.result.now c.play_out-played.new.region go at refl
+    (c.push_reserved.ensures.items ∙ ap (λ (ls : List RecordLine). ls ++ line ∷ []) c.reserve.ensures.items) refl way c.play_out-played.ensures.version
     (λ cut. let bad : false ≡ true = sym c.if-is_cut_short.false ∙ c.is_cut_short.ensures.1 cut in cc)

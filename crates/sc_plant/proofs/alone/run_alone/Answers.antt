@@ -4,10 +4,10 @@ use Rattle.sc_plant.proofs.OnWay.{err_holds, way_run}
 use Rattle.sc_plant.proofs.alone.run_alone.Goals as goal
 
 pub play_all-requires-clause-count : goal.play_all-requires-clause-count
-play_all-requires-clause-count g c = λ κs. c.in-Ok.ensures.count
+play_all-requires-clause-count g c = λ κs within. c.in-Ok.ensures.count
 
 pub play_all-requires-clause-version : goal.play_all-requires-clause-version
-play_all-requires-clause-version g c = λ κs. c.in-Ok.ensures.rights
+play_all-requires-clause-version g c = λ κs within. c.in-Ok.ensures.rights
 
 pub returns-then-is_err-clause-err : goal.returns-then-is_err-clause-err
 returns-then-is_err-clause-err g c = err_holds c.play_all.result _ (sym c.is_err.ensures.value ∙ c.if-is_err.true) c.play_all.ensures.err c.args.program.now.image c.in-Ok.ensures
