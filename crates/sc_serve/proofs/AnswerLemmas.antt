@@ -1,5 +1,10 @@
 -- Lines that tell refusals, and why there is no answer.
-use Rattle.std.proofs.Common.{◌≡◌, ◌<◌, ◌⊎◌, inl, inr, ℕ, List, [], Option, Some, None, Result, Ok, Err, IfOk, length, ap, sym, subst}
+use Rattle.std.proofs.Common.{◌≡◌, ◌∙◌, ◌<◌, ◌⊎◌, inl, inr, ℕ, Bool, true, false, List, [], ◌++◌, Option, Some, None, Result, Ok, Err, IfOk, length, refl, ap, sym, subst}
+use Rattle.sc_model.specs.declared.status.Status.{Status}
+use Rattle.sc_plant.specs.declared.left.Left.{Left}
+use Rattle.sc_auditing.specs.declared.auditing.AuditFault.{AuditFault}
+use Rattle.sc_auditing.specs.Audits.{TellsWhy}
+use Rattle.sc_serve.specs.declared.serve.Exit.TheVariants.{Broken}
 use Rattle.std.specs.Option.{option_map}
 use Rattle.std.specs.Prelude.{IfErr, IfSome}
 use Rattle.sc_audit.specs.declared.beginning.ReadFault.{ReadFault}
@@ -16,7 +21,7 @@ use Rattle.sc_execution.specs.declared.rejection.Rejection.{Rejection}
 use Rattle.sc_execution.specs.declared.rejection.Rejection.TheVariants as rejection
 use Rattle.sc_arguments.specs.declared.arguments.RunOptions.{RunOptions}
 use Rattle.sc_class.specs.View.{root_of}
-use Rattle.sc_serve.specs.Answer.{IsBadRecord, IsRanOf, IsRefusalOf, IsReplayOn, IsReplayTo, IsRunOn, IsUnansweredOn, IsUnread, IsUnrun, IsUnrunOn, line_of, out_of_memory, too_long}
+use Rattle.sc_serve.specs.Answer.{IsBadRecord, IsJudged, IsRanOf, IsRefusalOf, IsReplayOn, IsReplayTo, IsRunOn, IsUnansweredOn, IsUnread, IsUnrun, IsUnrunOn, audit_line, line_of, out_of_memory, too_long}
 use Rattle.sc_serve.specs.Refusal.{Told, refusal_line, told}
 use Rattle.sc_source.specs.Source.{File, joined, names_of, place_at}
 use Rattle.sc_source.specs.Joining.{no_memory}
@@ -108,6 +113,15 @@ pub too_long_to_run : (options : RunOptions) (names : List (List ℕ)) (r : Resu
 too_long_to_run options names (Ok answer) refused unkept = inr (refused, unkept)
 too_long_to_run options names (Err fault) refused unkept = tt
 
+-- an audit that doesn't say yes is told behind the report
+pub told_of_audit : (program : Image) (left : Left) (report line : List ℕ) (hows : List Status) (is_audited : Bool) (f told : AuditFault)
+    (output : List ℕ) → is_audited ≡ true → TellsWhy program left f → f ≡ told → line ≡ audit_line told → output ≡ report ++ line →
+    IsJudged program is_audited left report hows output Broken
+told_of_audit program left report line hows true f told output e why is said all =
+    inr (told, subst (TellsWhy program left) is why, all ∙ ap (λ t. report ++ t) said, refl)
+told_of_audit program left report line hows false f told output e why is said all = cc
+
+-- that a program isn't run is why the files aren't
 pub not_run : (names : List (List ℕ)) (r : Result Answer Fault) → IfErr r IsUnrun → IfErr r (IsUnrunOn names)
 not_run names (Ok answer) is = tt
 not_run names (Err fault) is = inr is

@@ -183,7 +183,9 @@ fn say_reason<E: Write>(fault: &FileFault, err: &mut E) -> io::Result<()> {
 /// Says on a line why a file can't be written.
 fn say_why_unwritten<E: Write>(error: &io::Error, err: &mut E) -> io::Result<()> {
     match error.kind() {
-        ErrorKind::NotFound => writeln!(err, "there is no such folder"),
+        ErrorKind::NotFound | ErrorKind::NotADirectory => {
+            writeln!(err, "there is no such folder")
+        }
         ErrorKind::IsADirectory => writeln!(err, "it is a folder"),
         ErrorKind::PermissionDenied => writeln!(err, "there is no right to write it"),
         ErrorKind::StorageFull => writeln!(err, "there is no room for it"),
