@@ -1,2 +1,3 @@
 pub mod Headline
 pub mod ThreadsHeadline
+pub mod Audited

@@ -1,4 +1,5 @@
 //! Laws of worlds and replays, from the bytes of a source text on, each the contract of a function that does nothing.
+ghost use Rattle.sc_headline.specs.Audited.{AuditedWorldsHaveHeadline};
 ghost use Rattle.sc_headline.specs.Headline.{Headline, ReplaysAreTheMachines, RunsAreTheMachines};
 ghost use Rattle.sc_headline.specs.ThreadsHeadline.{ThreadsHaveHeadline, ThreadsReportAsMachine};
 
@@ -54,4 +55,13 @@ pub fn threads_report_as_machine()
 {
     replays_are_the_machines();
     runs_are_one_threads();
+}
+
+/// For every source text that is accepted, where an audit says yes to what a run of its program left: the turns of the record
+/// lead to a world that has the same of each handler. It stands for a state that the machine on trees reaches, and of that
+/// state the headline holds.
+pub fn audited_worlds_have_headline()
+    ensures { AuditedWorldsHaveHeadline }
+{
+    headline();
 }
