@@ -28,6 +28,7 @@ use Rattle.sc_plant.specs.Recorded.{lines_of}
 use Rattle.sc_auditing.specs.Audits.{IsAudited, LeadsTo, turns_of}
 use Rattle.sc_auditing.specs.Laws.{RunsAuditYes}
 use Rattle.sc_auditing.specs.Same.{AreSameRegions, IsSameAt}
+use Rattle.sc_auditing.proofs.Recording.{lines-are-a-record}
 
 -- ---- the same, in one part after the other
 
@@ -98,5 +99,5 @@ module _ (p : Image) (limit : ℕ) (left : Left) (run : IsRun p limit left) (is_
   audited = record { is_record = is_record; world = y; leads = leads; same = λ h below. same-at h }
 
 pub runs-audit-yes : RunsAreOneThreads → RunsAuditYes
-runs-audit-yes one p limit left run is_record =
-    ∥∥₁_map (one p limit left run) (λ e. audited p limit left run is_record e.0 e.1 e.2)
+runs-audit-yes one p limit left few run =
+    ∥∥₁_map (one p limit left run) (λ e. audited p limit left run (lines-are-a-record p limit left few run) e.0 e.1 e.2)

@@ -1,4 +1,5 @@
 mod Misfits
 mod Turns
+mod Recording
 mod Agreeing
 mod Reporting

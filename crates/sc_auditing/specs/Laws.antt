@@ -2,7 +2,7 @@
 use Rattle.std.specs.Prelude.{◌≡◌, ◌≤◌, ℕ, List}
 use Rattle.sc_lockpass.specs.declared.version.Version.{Version}
 use Rattle.sc_audit.specs.declared.line.RecordLine.{RecordLine}
-use Rattle.sc_audit.specs.Records.{IsRecord}
+use Rattle.sc_audit.specs.Records.{IsRecord, most_turns}
 use Rattle.sc_code.specs.declared.program.Image.{Image}
 use Rattle.sc_runtime.specs.Reports.{report}
 use Rattle.sc_runtime.specs.Worlds.{PlainWorld, max_handlers}
@@ -22,10 +22,9 @@ abbrev pub OneMisfit : Type 0
 OneMisfit = (version : Version) (lines : List RecordLine) (number other : ℕ) → IsFirstMisfit version lines number →
     IsFirstMisfit version lines other → number ≡ other
 
--- What a run left, whose lines are a record's, is what the turns of the record end in.
+-- What a run left, which may have had no more turns than a record, is what the turns of its record end in.
 abbrev pub RunsAuditYes : Type 0
-RunsAuditYes = (p : Image) (limit : ℕ) (left : Left) → IsRun p limit left → IsRecord left.version left.lines.items →
-    ∥ IsAudited p left ∥₁
+RunsAuditYes = (p : Image) (limit : ℕ) (left : Left) → limit ≤ most_turns → IsRun p limit left → ∥ IsAudited p left ∥₁
 
 -- Worlds that hold the same report the same, where there are no more handlers than are compared.
 abbrev pub SameWorldsHaveSameReports : Type 0

@@ -13,7 +13,7 @@ pub fn one_misfit()
     ensures { OneMisfit }
 {}
 
-/// What a run left is what one thread makes of its record.
+/// What a run of at most 10,000,000 turns left is what one thread makes of its record.
 pub fn runs_audit_yes()
     ensures { RunsAuditYes }
 {
