@@ -10,7 +10,8 @@ use crate::scheduler::MOST_LINES;
 use sc_audit::RecordLine;
 use sc_request::Core;
 
-/// Whether no handler is out, and nothing can be picked, or no more may be.
+/// Whether no handler is out, and nothing can be picked, or no more may be. Not where more turns were made than may be, or
+/// there are more lines than may be.
 pub fn is_over<P: OfProgram>(recorded: &mut RecordedCore<P>, limit: u32) -> bool
     ensures over { OnTrue result (IsOver limit (center_of recorded.new.core) recorded.new.lines.items) }
     ensures lines { recorded.new.lines ≡ recorded.old.lines }
@@ -30,15 +31,21 @@ pub fn is_idle_or_full(core: &mut Core, lines: &[RecordLine], limit: u32) -> boo
     if core.out_count() > 0 {
         return false;
     }
+    let Some(turns) = turns_in(lines) else {
+        return false;
+    };
+    if turns > limit {
+        return false;
+    }
+    if lines.len() > MOST_LINES {
+        return false;
+    }
     if is_idle {
         return true;
     }
     if lines.len() == MOST_LINES {
         return true;
     }
-    let Some(turns) = turns_in(lines) else {
-        return false;
-    };
     if turns == limit {
         return true;
     }

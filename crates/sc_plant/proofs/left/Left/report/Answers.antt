@@ -1,4 +1,4 @@
-use Rattle.std.proofs.Common.{◌≡◌, ◌<◌, ◌≤◌, ◌-◌, ◌∙◌, List, ℕ, ◌++◌, Some, length, slice_get, sym, ap, refl, arith}
+use Rattle.std.proofs.Common.{◌≡◌, ◌<◌, ◌≤◌, ◌-◌, ◌∙◌, List, ℕ, ◌++◌, sym, ap, refl, arith}
 use Rattle.sc_request.specs.Logs.{status_in}
 use Rattle.sc_runtime.specs.Reports.{is_busy, some_is_busy}
 use Rattle.sc_plant.specs.Left.{world_of}
