@@ -6,6 +6,7 @@ mod Dues
 mod OneThread
 mod Openings
 mod PuttingBack
+mod Recording
 mod Reporting
 mod Slots
 mod Threaded

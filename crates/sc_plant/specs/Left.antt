@@ -3,6 +3,7 @@ use Rattle.std.specs.Prelude.{◌≡◌, ◌<◌, ◌≤◌, ◌⊎◌, ℕ, Lis
 use Rattle.std.specs.List.{All}
 use Rattle.sc_lockpass.specs.Versions.{most_handlers}
 use Rattle.sc_lockpass.specs.declared.version.Version.TheVariants.{Two}
+use Rattle.sc_audit.specs.Records.{IsRecord, most_turns}
 use Rattle.sc_audit.specs.declared.line.RecordLine.{RecordLine}
 use Rattle.sc_code.specs.declared.program.Image.{Image}
 use Rattle.sc_request.specs.Cores.{center_of, log_of, state_of}
@@ -61,10 +62,15 @@ SaysWhy p (OutOfMemory (Some left)) = IsLeft p left
 SaysWhy p ThreadRefused = Unit {0}
 SaysWhy p (LogsDiffer h left) = IsLeft p left × (AgreesAt left h → ⊥) × ((k : ℕ) → k < h → AgreesAt left k)
 
--- ---- the law
+-- ---- the laws
 
 -- One thread that makes the turns of the record's lines ends in just what a run left.
 abbrev pub RunsAreOneThreads : Type 0
 RunsAreOneThreads = (p : Image) (limit : ℕ) (left : Left) → IsRun p limit left →
     ∥ ((y : PlainWorld) × Runs (turns_of (log_of left.core)) (opened p Two) y
     × EndsIn y (state_of left.core) (map region_of left.regions.items)) ∥₁
+
+-- What a run of no more turns than a record may have leaves is a record: its lines name handlers that there can be, each with
+-- one turn at least, and there are neither too many lines nor too many turns.
+abbrev pub LinesAreARecord : Type 0
+LinesAreARecord = (p : Image) (limit : ℕ) (left : Left) → IsRun p limit left → limit ≤ most_turns → IsRecord left.version left.lines.items
