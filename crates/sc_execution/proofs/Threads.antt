@@ -157,6 +157,8 @@ thread_run one_thread p limit left run =
         report_is = report_home (world_of left) run.over.home ∙ told_as report w.0 s rs (report_home w.0 w.2.none_out) w.2;
         statuses_are = statuses_home (world_of left) run.over.home ∙ told_as statuses w.0 s rs (statuses_home w.0 w.2.none_out) w.2;
       };
+      few = run.over.few;
+      short = run.over.lines;
       ends = elim run.over.ends [
         | inl idle ↦ inl (none_next c w.0.center run.over.home w.2.none_out w.2.state idle)
         | inr rest ↦ inr rest

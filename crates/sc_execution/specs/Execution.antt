@@ -158,12 +158,15 @@ line_turns line = replicate line.turns line.handler
 
 -- A run on threads whose record has these lines. From the opening of the program, with 512 handlers at most, one thread that
 -- makes the lines' turns, one after the other, comes to a world that leaves the report and the handlers standing so. The
--- turns are so many, or the lines are 1,000,000, or no handler of that world has anything to do any more.
+-- turns are so many at most, and the lines 1,000,000. Both are fewer only where no handler of that world has anything to do
+-- any more.
 pub record IsThreadRun (program : Image) (limit : ℕ) (lines : List RecordLine) (text : List ℕ) (statuses : List Status) :
     Type 0 where
   pub world : PlainWorld
   pub runs : Runs (flat_map line_turns lines) (opened program Two) world
   pub leaves : Leaves world text statuses
+  pub few : turns_of lines ≤ limit
+  pub short : length lines ≤ most_lines
   pub ends : (next world.center ≡ None) ⊎ ((turns_of lines ≡ limit) ⊎ (length lines ≡ most_lines))
 
 -- The text spells a system that is sound, and this is its program; requests have room for what it names.

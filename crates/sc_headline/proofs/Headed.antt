@@ -60,6 +60,8 @@ ran law idle near tells text root limit lines report statuses of_text =
         sound = loaded.sound;
         told = reported near tells s p w run.world report statuses stands run.leaves;
       };
+      few = run.few;
+      short = run.short;
       ends = elim run.ends [
         | inl none ↦ inl (idle s p w run.world stands none)
         | inr rest ↦ inr rest

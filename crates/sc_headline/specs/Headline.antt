@@ -1,5 +1,5 @@
 -- What is claimed of each world that turns lead to, from the bytes of a source text on.
-use Rattle.std.specs.Prelude.{◌≡◌, ◌⊎◌, ℕ, List, false, length, map}
+use Rattle.std.specs.Prelude.{◌≡◌, ◌≤◌, ◌⊎◌, ℕ, List, false, length, map}
 use Rattle.std.specs.List.{flat_map, range_with_len}
 use Rattle.sc_tree.specs.Plain.{System}
 use Rattle.sc_class.specs.ClassNames.{Root}
@@ -68,11 +68,13 @@ ReplaysAreTheMachines =
     IsLoaded text root program → IsReplay program version lines report statuses →
     IsMachineRun text root version (flat_map line_turns lines) report statuses
 
--- The same of the turns of a run's record, where there may be 512 handlers. They are so many, or the lines are 1,000,000, or
--- no handler has a turn any more.
+-- The same of the turns of a run's record, where there may be 512 handlers. They are so many at most, and the lines
+-- 1,000,000. Both are fewer only where no handler has a turn any more.
 pub record IsMachineRunOf (text : List ℕ) (root : Root) (limit : ℕ) (lines : List RecordLine) (report : List ℕ)
     (statuses : List Status) : Type 0 where
   pub is_run : IsMachineRun text root Two (flat_map line_turns lines) report statuses
+  pub few : turns_of lines ≤ limit
+  pub short : length lines ≤ most_lines
   pub ends : HasNoTurn (machine_after is_run.system root Two (flat_map line_turns lines))
       ⊎ ((turns_of lines ≡ limit) ⊎ (length lines ≡ most_lines))
 

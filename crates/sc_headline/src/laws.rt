@@ -28,8 +28,8 @@ pub fn replays_are_the_machines()
     world_reports_as_machine();
 }
 
-/// What a run leaves is what the machine on trees reports after the turns of its record's lines. They are so many, or the lines
-/// are 1,000,000, or no handler has a turn any more.
+/// What a run leaves is what the machine on trees reports after the turns of its record's lines: at most so many, and fewer
+/// only where no handler has a turn any more or the lines are 1,000,000.
 pub fn runs_are_the_machines()
     ensures { RunsAreTheMachines }
 {
