@@ -1,12 +1,11 @@
 -- What a run on threads leaves tells what one thread's world tells.
-use Rattle.std.proofs.Common.{◌≡◌, ◌∙◌, ◌-◌, ◌+◌, ◌<◌, ◌≤◌, ◌⊎◌, inl, inr, ℕ, zero, suc, List, [], ◌∷◌, ◌++◌, Bool, true, false, Option, Some, None, is_some, length, map, slice_get, refl, sym, ap, subst, arith}
+use Rattle.std.proofs.Common.{◌≡◌, ◌∙◌, ◌-◌, ◌+◌, ◌<◌, ◌≤◌, inl, inr, ℕ, zero, suc, List, [], ◌∷◌, ◌++◌, Bool, true, false, Option, Some, None, is_some, map, slice_get, refl, sym, ap, subst, arith}
 use Rattle.std.specs.Prelude.{◌||◌, nat_lt, replicate, if◌then◌else◌}
 use Rattle.std.specs.List.{flat_map, range_with_len}
 use Rattle.std.proofs.Math.Logic.{∥∥₁_map}
 use Rattle.std.proofs.lemmas.Bool.{cases_lt}
 use Rattle.std.proofs.lemmas.Bool.Decides.{nat_tests}
 use Rattle.sc_lockpass.specs.declared.version.Version.TheVariants.{Two}
-use Rattle.sc_audit.specs.declared.line.RecordLine.{RecordLine}
 use Rattle.sc_code.specs.declared.program.Image.{Image}
 use Rattle.sc_model.specs.declared.status.Status.{Status}
 use Rattle.sc_model.specs.Reports.{end_text, line_feed}
@@ -22,10 +21,10 @@ use Rattle.sc_runtime.specs.Reports.{handler_report, handlers_report, is_busy, o
 use Rattle.sc_runtime.specs.Turning.{Runs}
 use Rattle.sc_runtime.specs.Worlds.{PlainWorld, opened}
 use Rattle.sc_plant.specs.declared.left.Left.{Left}
-use Rattle.sc_plant.specs.Left.{IsRun, RunsAreOneThreads, turns_in, world_of}
+use Rattle.sc_plant.specs.Left.{IsRun, RunsAreOneThreads, world_of}
 use Rattle.sc_plant.specs.OneThread.{EndsIn}
 use Rattle.sc_plant.specs.Recorded.{lines_of, turns_of}
-use Rattle.sc_execution.specs.Execution.{IsThreadRun, Leaves, line_turns}
+use Rattle.sc_execution.specs.Execution.{IsThreadRun, line_turns}
 
 -- the world of this state and of these regions, where no handler is out
 abbrev home_of : State → List PlainRegion → PlainWorld

@@ -1,9 +1,8 @@
 -- What a run on threads leaves is what the machine reports.
-use Rattle.std.proofs.Common.{◌≡◌, ◌∙◌, ℕ, List, sym, ap, subst}
+use Rattle.std.proofs.Common.{◌≡◌, ◌∙◌, ℕ, List, ap, subst}
 use Rattle.std.specs.List.{flat_map}
 use Rattle.std.proofs.Math.Logic.{∥∥₁_map}
 use Rattle.sc_lockpass.specs.declared.version.Version.TheVariants.{Two}
-use Rattle.sc_code.specs.declared.program.Image.{Image}
 use Rattle.sc_model.specs.declared.status.Status.{Status}
 use Rattle.sc_request.specs.Cores.{log_of}
 use Rattle.sc_runtime.specs.Reports.{report, statuses}
