@@ -1,5 +1,3 @@
-use Rattle.std.specs.Prelude.{map}
-use Rattle.sc_class.specs.View.{root_of}
 use Rattle.sc_lower.specs.Lowerings.{image_of}
 use Rattle.sc_serve.proofs.AnswerLemmas.{not_ran_on_files, ran_on_files}
 use Rattle.sc_serve.proofs.running.answer_run.Goals as goal
