@@ -21,14 +21,13 @@ use Rattle.sc_worklog.specs.LoggedRegions.{region_of}
 use Rattle.sc_runtime.specs.Turning.{Runs}
 use Rattle.sc_runtime.specs.Worlds.{PlainWorld, opened}
 use Rattle.sc_plant.specs.declared.left.Left.{Left}
-use Rattle.sc_plant.specs.Left.{IsRun, RunsAreOneThreads, world_of}
+use Rattle.sc_plant.specs.Left.{IsRun, LinesAreARecord, RunsAreOneThreads, world_of}
 use Rattle.sc_plant.specs.OneThread.{EndsIn}
 use Rattle.sc_plant.specs.Recorded as recorded
 use Rattle.sc_plant.specs.Recorded.{lines_of}
 use Rattle.sc_auditing.specs.Audits.{IsAudited, LeadsTo, turns_of}
 use Rattle.sc_auditing.specs.Laws.{RunsAuditYes}
 use Rattle.sc_auditing.specs.Same.{AreSameRegions, IsSameAt}
-use Rattle.sc_auditing.proofs.Recording.{lines-are-a-record}
 
 -- ---- the same, in one part after the other
 
@@ -98,6 +97,6 @@ module _ (p : Image) (limit : ℕ) (left : Left) (run : IsRun p limit left) (is_
   audited : IsAudited p left
   audited = record { is_record = is_record; world = y; leads = leads; same = λ h below. same-at h }
 
-pub runs-audit-yes : RunsAreOneThreads → RunsAuditYes
-runs-audit-yes one p limit left few run =
-    ∥∥₁_map (one p limit left run) (λ e. audited p limit left run (lines-are-a-record p limit left few run) e.0 e.1 e.2)
+pub runs-audit-yes : RunsAreOneThreads → LinesAreARecord → RunsAuditYes
+runs-audit-yes one lines p limit left few run =
+    ∥∥₁_map (one p limit left run) (λ e. audited p limit left run (lines p limit left run few) e.0 e.1 e.2)

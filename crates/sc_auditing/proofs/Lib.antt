@@ -1,5 +1,4 @@
 mod Misfits
 mod Turns
-mod Recording
 mod Agreeing
 mod Reporting

@@ -1,7 +1,7 @@
 //! Laws of audits, each the contract of a function that does nothing.
 ghost use Rattle.sc_auditing.specs.Laws.{MisfitsAreNoRecord, OneMisfit, RunsAuditYes, SameWorldsHaveSameReports};
 
-use sc_plant::laws::runs_are_one_threads;
+use sc_plant::laws::{lines_are_a_record, runs_are_one_threads};
 
 /// Lines of which one doesn't fit are no record's.
 pub fn misfits_are_no_record()
@@ -18,6 +18,7 @@ pub fn runs_audit_yes()
     ensures { RunsAuditYes }
 {
     runs_are_one_threads();
+    lines_are_a_record();
 }
 
 /// Worlds that hold the same report the same.
