@@ -125,7 +125,7 @@ module _ (s : System) (x : Half) (o : Hop) (y z : PlainStore) (is : IsProgramFor
       let moved = ap (λ (f : State). record f { values = made ∷ f.values }) (state_same flat.Creates flat.Creates _ _ (passes flat.Creates n os a room)) in
       let state : state_of os (with_reference r (past n a)) ≡ state_at leads.0 leads.1 m.point = sym moved ∙ state_same flat.Creates m.shown _ m.state does ∙ leads.2 in
       let stands = frame_stands_with s x o y z is region comes m os (with_reference r (past n a)) leads.0 leads.1
-      (stays_after m.before a (with_reference r (past n a)) (stays s x o y z is region comes m) (record { routine = refl; origin = refl; stage = refl; depth = refl; reserved = refl; blocks = refl }))
+      (stays_after m.before a (with_reference r (past n a)) (stays s x o y z is region comes m) (record { routine = refl; origin = refl; stage = refl; depth = refl; room = refl; reserved = refl; blocks = refl }))
       state leads.3 in
       subst (λ half. IsRegionOf s half (on_top (with_reference r) (on_top (past n) w))) (sym (turn_is s x o y z is region comes m h model.Creates step))
       (record {

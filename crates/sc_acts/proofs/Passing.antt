@@ -62,10 +62,10 @@ stands_within g place tail p st = tells_within g place p st.tells
 -- ---- what is left where it was
 
 pub past_stays : (n : ℕ) (a : PlainActivation) → Stays a (past n a)
-past_stays n a = record { routine = refl; origin = refl; stage = refl; depth = refl; reserved = refl; blocks = refl }
+past_stays n a = record { routine = refl; origin = refl; stage = refl; depth = refl; room = refl; reserved = refl; blocks = refl }
 
 back_stays : (n : ℕ) (a : PlainActivation) → Stays a (back n a)
-back_stays n a = record { routine = refl; origin = refl; stage = refl; depth = refl; reserved = refl; blocks = refl }
+back_stays n a = record { routine = refl; origin = refl; stage = refl; depth = refl; room = refl; reserved = refl; blocks = refl }
 
 -- the last operand is gone, and the operation comes that is so many back
 back_is : (n : ℕ) (objects : List Object) (a : PlainActivation) →

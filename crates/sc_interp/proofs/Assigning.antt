@@ -20,6 +20,7 @@ use Rattle.sc_interp.specs.Standing.{state_of, hopped, Passes, Stays}
 use Rattle.sc_interp.specs.Values.{values_of, reference_of}
 use Rattle.sc_interp.proofs.Playing.{some_same, none_some, top_with, current_with, plays_at, remains_top}
 use Rattle.sc_interp.proofs.Popping.{values_drop}
+use Rattle.sc_interp.proofs.Shapes.{shapes_written}
 use Rattle.sc_interp.proofs.Valued.{number_in, objects_with, attribute_written}
 
 -- ---- what a write leaves
@@ -50,6 +51,7 @@ remains_written_to x (f ∷ below) n v z k = record {
   current = k.current;
   below = k.below;
   stays = k.stays;
+  shapes = shapes_written f.current.number n v z.objects ∙ k.shapes;
 }
 
 remains_written_if : (x : PlainStore) (m : Option ℕ) (v : code.Value) (z : PlainStore) → Remains x z → Remains x (written_if m v z)

@@ -7,6 +7,7 @@ pub mod Opening
 pub mod Tests
 pub mod Valued
 pub mod Playing
+pub mod Shapes
 pub mod Assigning
 pub mod Targeting
 pub mod Moving

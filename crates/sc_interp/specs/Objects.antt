@@ -1,5 +1,5 @@
 -- The objects of a system that those of a store are.
-use Rattle.std.specs.Prelude.{List, [], ◌∷◌, map}
+use Rattle.std.specs.Prelude.{ℕ, List, [], ◌∷◌, map, length}
 use Rattle.sc_tree.specs.Plain.{System}
 use Rattle.sc_class.specs.Tables.Features.{features}
 use Rattle.sc_model.specs.Values.{Value}
@@ -20,3 +20,7 @@ object_in s o = record { class = o.class; attributes = valued (fresh_attributes 
 
 abbrev pub objects_in : System → List PlainObject → List Object
 objects_in s os = map (object_in s) os
+
+-- its class, and how many attributes it has
+abbrev pub shape_of : PlainObject → ℕ × ℕ
+shape_of o = (o.class, length o.attributes)

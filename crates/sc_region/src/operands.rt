@@ -128,8 +128,8 @@ pub(crate) fn add_voids(items: &mut Vec<Value>, count: usize)
     }
 }
 
-/// The values of the `old` expressions of a postcondition, in the order of the text: at most `room` of them, whose memory
-/// is all there from the start, 16 bytes each.
+/// The values of the `old` expressions of a postcondition, in the order of the text. The memory of `room` of them is there
+/// from the start, 16 bytes each; more take memory as they come.
 #[derive(Drop)]
 pub struct Olds {
     room: usize,
@@ -137,14 +137,14 @@ pub struct Olds {
 }
 
 impl Model for Olds {
-    ghost use Rattle.std.specs.Prelude.{◌≤◌, vec_capacity, length};
+    ghost use Rattle.std.specs.Prelude.{◌≤◌, vec_capacity};
     ghost use Rattle.sc_region.specs.OperandList.{OldList};
 
     ghost Value = { OldList };
 
     ghost view = { λ o. record { room = o.room; values = o.items.items } };
 
-    ghost invariant = { λ o. (length o.items.items ≤ o.room) × (o.room ≤ vec_capacity o.items) };
+    ghost invariant = { λ o. o.room ≤ vec_capacity o.items };
 }
 
 impl Olds {

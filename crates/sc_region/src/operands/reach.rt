@@ -90,17 +90,16 @@ impl Operands {
 }
 
 impl Olds {
-    /// One more value, which takes memory only where there is no room left. Err where there is none; nothing has changed
-    /// then.
+    /// One more value, which takes memory only where there is no room left; the room stays as it was. Err where there is
+    /// none; nothing has changed then.
     pub fn keep(&mut self, value: Value) -> Result<(), AllocError>
-        ensures ok { OnOk result (self.new.values ≡ self.old.values ++ value ∷ []) }
+        ensures ok { OnOk result (self.new ≡ record self.old { values = self.old.values ++ value ∷ [] }) }
         ensures err { OnErr result (self.new ≡ self.old) }
     {
         if self.is_full() {
             self.items.reserve(1)?;
-            self.room = self.items.len() + 1;
         }
-        self.push(value);
+        self.items.push_reserved(value);
         Ok(())
     }
 }
