@@ -11,7 +11,7 @@ use Rattle.sc_interp.proofs.Playing.{some_same}
 use Rattle.sc_play.specs.Turns.{IsAhead}
 
 stays_same : (a : PlainActivation) → Stays a a
-stays_same a = record { routine = refl; origin = refl; stage = refl; depth = refl; reserved = refl; blocks = refl }
+stays_same a = record { routine = refl; origin = refl; stage = refl; depth = refl; room = refl; reserved = refl; blocks = refl }
 
 remains_same : (x : PlainStore) → Remains x x
 remains_same x = record {
@@ -21,6 +21,7 @@ remains_same x = record {
   current = refl;
   below = refl;
   stays = λ a b ta tb. subst (Stays a) (some_same a b (sym ta ∙ tb)) (stays_same a);
+  shapes = refl;
 }
 
 -- nothing was done

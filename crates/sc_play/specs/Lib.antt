@@ -8,3 +8,4 @@ pub mod Taking
 pub mod Answering
 pub mod Turns
 pub mod Regions
+pub mod Contents

@@ -5,6 +5,7 @@
 
 mod acts;
 mod beginning;
+mod hashing;
 mod jobs;
 mod region;
 mod steps;

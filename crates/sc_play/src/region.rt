@@ -1,10 +1,11 @@
 //! Regions.
 ghost use Rattle.std.specs.Prelude.{◌≡◌, ◌<◌, ◌≤◌, ◌↔◌, IfOk, OnErr, IsTrue};
 ghost use Rattle.sc_region.specs.declared.job.Want.TheVariants as want;
-ghost use Rattle.sc_region.specs.Stores.{failed};
+ghost use Rattle.sc_region.specs.Stores.{AreSame, failed, new_store};
 ghost use Rattle.sc_play.specs.Regions.{PlaysOn, PlaysUnder};
 ghost use Rattle.sc_play.specs.Turns.{IsAhead, begun};
 
+use crate::hashing::hash_store;
 use crate::turn::{first_turn, turn};
 use sc_code::Program;
 use sc_interp::run_current;
@@ -40,6 +41,16 @@ fn is_continue(asked: &Want) -> bool
     ensures { IsTrue result ↔ asked.now ≡ want.Continue }
 {
     matches!(asked, Want::Continue)
+}
+
+/// Whether nothing was made, entered or printed yet.
+fn is_new(store: &Store<'_>) -> bool
+    ensures { IsTrue result ↔ AreSame store.now (new_store store.now.program) }
+{
+    store.object_count() == 0
+        && store.current().is_none()
+        && store.output().is_empty()
+        && store.failure().is_none()
 }
 
 /// The handler fails.
@@ -120,6 +131,7 @@ impl<'p> Region<'p> {
     ghost use Rattle.sc_region.specs.Classes.{MeetsAt};
     ghost use Rattle.sc_region.specs.Objects.{object_numbered};
     ghost use Rattle.sc_region.specs.Stores.{AreSame, is_settled};
+    ghost use Rattle.sc_play.specs.Contents.{contents_of, new_contents};
     ghost use Rattle.sc_play.specs.Regions.{IsRefused, Plays, new_region, outcome};
 
     /// The region of the handler of a number, which was asked for nothing yet. What grows later takes its memory from this
@@ -217,6 +229,34 @@ impl<'p> Region<'p> {
         ensures { IsTrue result ↔ AreSame self.now.store other.now.store }
     {
         self.store.is_same(&other.store)
+    }
+
+    /// Whether the two are regions of one handler that hold the same: objects, frames, output and failure, whatever their
+    /// programs are, and whether a refused job has told the creator of a handler its number.
+    pub fn is_alike(&self, other: &Region<'_>) -> bool
+        ensures { IsTrue result ↔ contents_of self.now ≡ contents_of other.now }
+    {
+        self.handler == other.handler && self.is_told == other.is_told && self.is_same(other)
+    }
+
+    /// Whether it is the region of the handler, which was asked for nothing yet.
+    pub fn is_new(&self, handler: u16) -> bool
+        ensures { IsTrue result ↔ contents_of self.now ≡ new_contents handler }
+    {
+        self.handler == handler && !self.is_told && is_new(&self.store)
+    }
+
+    /// A number that differs for most regions that hold something else. Nothing is promised of it. It takes time for each
+    /// attribute of an object, and for each value of the topmost routine.
+    pub fn hash(&self) -> u64 {
+        hash_store(&self.store)
+    }
+
+    /// The store.
+    pub fn store(&self) -> &Store<'p>
+        ensures { result.now ≡ self.now.store }
+    {
+        &self.store
     }
 
     /// How many objects there are.

@@ -36,3 +36,4 @@ mod Entries
 mod SameLists
 mod Sames
 mod SameStates
+pub mod Keeping

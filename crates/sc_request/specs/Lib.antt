@@ -18,3 +18,6 @@ pub mod Packed
 pub mod Entries
 pub mod Logged
 pub mod Same
+pub mod Keeping
+pub mod Kept
+pub mod Waiting

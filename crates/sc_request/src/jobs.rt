@@ -126,7 +126,7 @@ impl State {
     }
 
     /// What a handler doesn't hold of the handlers of its entry.
-    fn needed(&self, handler: u16, place: &Handler) -> ArrayVec<u16, 16>
+    pub(crate) fn needed(&self, handler: u16, place: &Handler) -> ArrayVec<u16, 16>
         ensures { result.items ≡ needs handler place.now.entry.items (rights_of self.now.rights) }
     {
         let values = values_of(place.entry.as_slice());

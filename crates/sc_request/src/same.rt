@@ -44,7 +44,7 @@ impl State {
 }
 
 /// Whether the same is kept of two handlers, but for the counts of their sessions and the jobs that they are out with.
-fn same_handler(a: &Handler, b: &Handler) -> bool
+pub(crate) fn same_handler(a: &Handler, b: &Handler) -> bool
     ensures { IsTrue result ↔ handler_of a.now ≡ handler_of b.now }
 {
     same_standing(a, b) && same_requests(a, b)

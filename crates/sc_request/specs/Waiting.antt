@@ -1,0 +1,28 @@
+-- What keeps a handler from its next step.
+use Rattle.std.specs.Prelude.{ℕ, Bool, false, not, List, [], ◌∷◌, Option, Some, None}
+use Rattle.sc_lockpass.specs.Rights.{Rights}
+use Rattle.sc_waitcond.specs.Reservations.{mark_allows}
+use Rattle.sc_region.specs.declared.job.Request.{Request}
+use Rattle.sc_request.specs.Handlers.{Posted, Stage, Idle, Runs, HasMade, Reserves, Awaits}
+use Rattle.sc_request.specs.Picking.{needs}
+
+-- of the handlers that its next step reserves, those that it doesn't hold
+abbrev pub needed_at : ℕ → Rights → Stage → List ℕ
+needed_at h r Idle = []
+needed_at h r Runs = []
+needed_at h r (HasMade k) = []
+needed_at h r (Reserves ks mark) = needs h ks r
+needed_at h r (Awaits k is_creation) = []
+
+-- its next step is a reserve step that was put off by a false wait condition, and no session of a handler has ended since that might have made it true
+abbrev pub is_put_off : (ℕ → ℕ) → Stage → Bool
+is_put_off sessions Idle = false
+is_put_off sessions Runs = false
+is_put_off sessions (HasMade k) = false
+is_put_off sessions (Reserves ks mark) = not (mark_allows sessions mark)
+is_put_off sessions (Awaits k is_creation) = false
+
+-- the request that is taken next
+abbrev pub first_request : List Posted → Option Request
+first_request [] = None
+first_request (p ∷ ps) = Some p.request

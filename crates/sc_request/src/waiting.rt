@@ -1,0 +1,94 @@
+//! What keeps handlers from their next step, and who holds whom, to be told to people.
+ghost use Rattle.std.specs.Prelude.{◌≡◌, length, map};
+ghost use Rattle.std.specs.Option.{option_map};
+ghost use Rattle.sc_request.specs.Places.{awaited};
+ghost use Rattle.sc_request.specs.Tables.{posting_of};
+ghost use Rattle.sc_request.specs.Waiting as waiting;
+ghost use Rattle.sc_request.specs.Waiting.{is_put_off, needed_at};
+
+use crate::center::Core;
+use crate::handler::{Handler, Stage};
+use arrayvec::ArrayVec;
+use sc_region::Request;
+
+impl Core {
+    ghost use Rattle.sc_request.specs.Cores.{state_of};
+
+    /// Who may post to a handler, if anybody may.
+    pub fn holder(&self, handler: u16) -> Option<u16>
+        ensures { result ≡ (state_of self.now).rights.queue handler }
+    {
+        self.state.rights.queue(handler)
+    }
+
+    /// Of the handlers that the next step of a handler reserves, those that it doesn't hold, each once: none where that is no
+    /// reserve step.
+    pub fn needed_by(&self, handler: u16) -> ArrayVec<u16, 16>
+        ensures { let s = state_of self.now in result.items ≡ needed_at handler s.rights (s.handlers handler).stage }
+    {
+        match self.state.handlers.get(handler as usize) {
+            Some(place) => match place.stage {
+                Stage::Reserves => self.state.needed(handler, place),
+                _ => ArrayVec::new(),
+            },
+            None => ArrayVec::new(),
+        }
+    }
+
+    /// Whether the next step of a handler is a reserve step that a false wait condition put off, and no session has ended
+    /// since of the handlers that were reserved for that.
+    pub fn is_put_off(&self, handler: u16) -> bool
+        ensures { let s = state_of self.now in result ≡ is_put_off (λ k. (s.handlers k).sessions) (s.handlers handler).stage }
+    {
+        match self.state.handlers.get(handler as usize) {
+            Some(place) => match place.stage {
+                Stage::Reserves => !place.mark.allows(self.state.sessions.as_slice()),
+                _ => false,
+            },
+            None => false,
+        }
+    }
+
+    /// The handler for whose answer a handler waits, if it waits for one.
+    pub fn awaits(&self, handler: u16) -> Option<u16>
+        ensures { result ≡ awaited ((state_of self.now).handlers handler).stage }
+    {
+        match self.state.handlers.get(handler as usize)?.stage {
+            Stage::Awaits {
+                supplier,
+                is_creation: _,
+            } => Some(supplier),
+            _ => None,
+        }
+    }
+
+    /// How many requests stand in the queue of a handler.
+    pub fn queue_len(&self, handler: u16) -> usize
+        ensures { result ≡ length ((state_of self.now).handlers handler).queue }
+    {
+        match self.state.handlers.get(handler as usize) {
+            Some(place) => place.queue.len(),
+            None => 0,
+        }
+    }
+
+    /// The request that a handler takes next of its queue, if one stands there.
+    pub fn first_asked(&self, handler: u16) -> Option<&Request>
+        ensures { option_map (λ request. request.now) result ≡ waiting.first_request ((state_of self.now).handlers handler).queue }
+    {
+        match self.state.handlers.get(handler as usize) {
+            Some(place) => first_request(place),
+            None => None,
+        }
+    }
+}
+
+/// The request that a handler takes next of its queue, if one stands there.
+fn first_request(place: &Handler) -> Option<&Request>
+    ensures { option_map (λ request. request.now) result ≡ waiting.first_request (map posting_of place.now.queue) }
+{
+    match place.queue.front() {
+        Some(posting) => Some(&posting.request),
+        None => None,
+    }
+}
