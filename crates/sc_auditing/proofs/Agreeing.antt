@@ -1,5 +1,5 @@
 -- Worlds that hold the same.
-use Rattle.std.proofs.Common.{◌≡◌, ◌<◌, ◌+◌, ◌++◌, ℕ, Bool, List, [], ◌∷◌, Option, Some, None, inl, inr, map, replicate, slice_get, refl, sym, ap, subst, ◌∙◌, arith}
+use Rattle.std.proofs.Common.{◌≡◌, ◌<◌, ◌+◌, ◌++◌, ℕ, Bool, List, [], ◌∷◌, Option, Some, None, inl, inr, replicate, slice_get, refl, sym, ap, subst, ◌∙◌, arith}
 use Rattle.std.specs.Prelude.{◌||◌, IsTrue, is_some, nat_lt, if◌then◌else◌}
 use Rattle.std.proofs.Math.Logic.{∥∥₁_map}
 use Rattle.std.proofs.lemmas.Bool.{cases_eq}
@@ -17,7 +17,6 @@ use Rattle.sc_request.specs.Logs.{Center}
 use Rattle.sc_request.specs.Picking.{job_of, status_with}
 use Rattle.sc_request.specs.Same.{AreSameAt}
 use Rattle.sc_play.specs.Regions.{PlainRegion}
-use Rattle.sc_worklog.specs.LoggedRegions.{region_of}
 use Rattle.sc_runtime.specs.Turning.{Runs}
 use Rattle.sc_runtime.specs.Worlds.{PlainWorld, opened}
 use Rattle.sc_plant.specs.declared.left.Left.{Left}
@@ -80,7 +79,7 @@ same-turns [] = refl
 same-turns (e ∷ es) = ap (λ (hs : List ℕ). replicate e.turns e.handler ++ hs) (same-turns es)
 
 module _ (p : Image) (limit : ℕ) (left : Left) (run : IsRun p limit left) (is_record : IsRecord left.version left.lines.items) (y : PlainWorld)
-    (runs : Runs (recorded.turns_of (log_of left.core)) (opened p Two) y) (ends : EndsIn y (state_of left.core) (map region_of left.regions.items)) where
+    (runs : Runs (recorded.turns_of (log_of left.core)) (opened p Two) y) (ends : EndsIn y (state_of left.core) left.regions.items) where
   leads : LeadsTo p left y
   leads =
       subst (λ (v : Version). Runs (turns_of left.lines.items) (opened p v) y) (sym run.left_is.version)
@@ -89,7 +88,7 @@ module _ (p : Image) (limit : ℕ) (left : Left) (run : IsRun p limit left) (is_
 
   same-at : (h : ℕ) → IsSameAt h y (world_of left)
   same-at h = record {
-    region = same-region (slice_get y.regions h) (slice_get (map region_of left.regions.items) h)
+    region = same-region (slice_get y.regions h) (slice_get left.regions.items h)
         (ap (λ (rs : List PlainRegion). slice_get rs h) ends.regions);
     center = same-center h y.center (center_of left.core) ends.state (ends.none_out h ∙ sym (run.over.home h));
   }

@@ -35,7 +35,7 @@ fn are_same_regions(world: &World<'_>, left: &Left<'_>, handler: u16) -> bool
     ensures { IsTrue result ↔ AreSameRegions (slice_get (one.world_of world.now).regions handler) (slice_get (world_of left.now).regions handler) }
 {
     match (world.region(handler), left.regions.get(handler as usize)) {
-        (Some(region), Some(other)) => region.is_same(other.region()),
+        (Some(region), Some(other)) => region.is_same(other),
         (None, None) => true,
         _ => false,
     }

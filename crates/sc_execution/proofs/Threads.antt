@@ -16,7 +16,6 @@ use Rattle.sc_request.specs.Handlers.{State}
 use Rattle.sc_request.specs.Logs.{Center, first_from, first_with_job, next, numbers_from, pick_for, round, status_in}
 use Rattle.sc_request.specs.Picking.{job_of, job_with, status_with}
 use Rattle.sc_play.specs.Regions.{PlainRegion}
-use Rattle.sc_worklog.specs.LoggedRegions.{region_of}
 use Rattle.sc_runtime.specs.Reports.{handler_report, handlers_report, is_busy, output_in, report, report_of, some_is_busy, statuses}
 use Rattle.sc_runtime.specs.Turning.{Runs}
 use Rattle.sc_runtime.specs.Worlds.{PlainWorld, opened}
@@ -144,7 +143,7 @@ thread_run one_thread p limit left run =
     let es = log_of left.core in
     let c = center_of left.core in
     let s = state_of left.core in
-    let rs = map region_of left.regions.items in
+    let rs = left.regions.items in
     let lines = left.lines.items in
     let turns : turns_of es ≡ flat_map line_turns lines = sym (ap (λ ls. flat_map line_turns ls) run.left_is.lines ∙ turns_of_lines es) in
     ∥∥₁_map (one_thread p limit left run)

@@ -1,7 +1,7 @@
+mod Bare
 mod OnWay
 mod Comparing
 mod Crossing
-mod AtOnce
 mod Dues
 mod OneThread
 mod Openings
@@ -9,4 +9,5 @@ mod PuttingBack
 mod Recording
 mod Reporting
 mod Slots
+pub mod Stopping
 mod Threaded

@@ -1,5 +1,6 @@
 -- How a run on one thread goes on.
-use Rattle.std.proofs.Common.{◌≡◌, ◌⊎◌, ◌<◌, ◌++◌, ◌∷◌, [], inl, inr, ℕ, zero, suc, true, List, Some, All, Result, Ok, Err, OnErr, is_err, length, slice_get, slice_set, refl, sym, ap, subst, ◌∙◌}
+use Rattle.std.proofs.Common.{◌≡◌, ◌⊎◌, ◌<◌, ◌++◌, ◌∷◌, [], inl, inr, ℕ, zero, suc, List, None, Some, All, Result, Ok, Err, OnErr, is_err, length, slice_get, slice_set, true, refl, sym, ap, subst, ◌∙◌}
+use Rattle.std.proofs.Math.Logic.{∥∥₁_map}
 use Rattle.std.proofs.lemmas.Bool.{cases_eq}
 use Rattle.std.proofs.lemmas.List.Elements.{All-cons, All-nil}
 use Rattle.sc_lockpass.specs.declared.version.Version.TheVariants.{Two}
@@ -10,21 +11,20 @@ use Rattle.sc_region.specs.declared.job.Want.TheVariants as want
 use Rattle.sc_request.specs.declared.center.Core as coded
 use Rattle.sc_request.specs.declared.settlement.Settlement.{Settlement}
 use Rattle.sc_request.specs.Cores.{center_of, log_of}
-use Rattle.sc_request.specs.Logs.{Center}
+use Rattle.sc_request.specs.Logs.{Center, settles}
 use Rattle.sc_request.specs.Rooms.{settlement}
-use Rattle.sc_play.specs.Regions.{PlainRegion, Plays, new_region, outcome}
-use Rattle.sc_worklog.specs.declared.logged_region.LoggedRegion.{LoggedRegion}
-use Rattle.sc_worklog.specs.LoggedRegions.{entries_of, region_of}
-use Rattle.sc_worklog.specs.Replaying.{entry_of}
+use Rattle.sc_play.specs.Regions.{IsRefused, PlainRegion, Plays, new_region, outcome}
+use Rattle.sc_worklog.specs.Replaying.{AreMade, Replays, entry_of, played, refused}
+use Rattle.sc_worklog.proofs.Replaying.{turns_replay}
 use Rattle.sc_runtime.specs.Worlds.{max_handlers}
+use Rattle.sc_runtime.proofs.AtOnce.{settled_out}
 use Rattle.sc_plant.specs.declared.left.Left.{Left}
 use Rattle.sc_plant.specs.Alone.{AreNew, AreOwn, IsOnWay, IsOwn, IsPlayed}
 use Rattle.sc_plant.specs.Due.{Settled, Stays}
-use Rattle.sc_plant.specs.Left.{IsLeft, IsOver, IsRun}
+use Rattle.sc_plant.specs.Left.{AreReplayed, IsLeft, IsOver, IsRun, IsStopped}
 use Rattle.sc_plant.specs.Recorded.{settlements_for}
-use Rattle.sc_plant.specs.Regions.{IsMadeByLog}
 use Rattle.sc_plant.proofs.Comparing.{kept, ours, some_is}
-use Rattle.sc_plant.proofs.Dues.{Goes, goes_out, same_below, same_lines, settled_below, settled_job, settled_lines, settled_plays, stays_plays}
+use Rattle.sc_plant.proofs.Dues.{Goes, goes_out, same_below, same_center, same_lines, settled_below, settled_job, settled_lines, settled_plays, stays_plays}
 use Rattle.sc_plant.proofs.Slots.{new_made, played_made}
 
 -- ---- lists
@@ -61,36 +61,63 @@ set_each P xs h x y at own others k z e = elim (cases_eq k h) [
   | inr apart ↦ others k z apart (sym (set_other xs h k y apart) ∙ e)
 ]
 
--- ---- the regions
+-- ---- one region
 
-module _ (p : Image) (es : List Settlement) (h turns limit : ℕ) (w : Want) (j : Job) (r s : LoggedRegion) (one : IsOwn p es h r)
-    (plays : Plays limit j (region_of r) (region_of s) (outcome (region_of r).handler turns w))
-    (logged : entries_of s ≡ entries_of r ++ entry_of j (outcome (region_of r).handler turns w) ∷ []) where
+-- its settlements lead to it, and replay to it
+own_leads : (p : Image) (es : List Settlement) (h : ℕ) (x : PlainRegion) → IsOwn p es h x → ∥ AreMade (settlements_for h es) (new_region p h) x ∥₁
+own_leads p es h x one =
+    subst (λ (q : Image). ∥ AreMade (settlements_for h es) (new_region q h) x ∥₁) one.program
+    (subst (λ (k : ℕ). ∥ AreMade (settlements_for h es) (new_region x.store.program k) x ∥₁) one.handler one.made)
+
+own_replays : (p : Image) (es : List Settlement) (h : ℕ) (x : PlainRegion) → IsOwn p es h x → ∥ Replays p h (settlements_for h es) x ∥₁
+own_replays p es h x one =
+    ∥∥₁_map (own_leads p es h x one) (λ (made : AreMade (settlements_for h es) (new_region p h) x). (turns_replay p h (settlements_for h es) x made).0)
+
+module _ (p : Image) (es : List Settlement) (h turns limit : ℕ) (w : Want) (j : Job) (x y : PlainRegion) (one : IsOwn p es h x)
+    (plays : Plays limit j x y (outcome x.handler turns w)) where
+  -- one more of its settlements
+  own_settlement : settlements_for h (es ++ settlement h j turns w ∷ []) ≡ settlements_for h es ++ entry_of j (outcome x.handler turns w) ∷ []
+  own_settlement =
+      ours es (settlement h j turns w) ∙ ap (λ (k : ℕ). settlements_for h es ++ settlement k j turns w ∷ []) (sym one.handler)
+
   -- the region that has played one more job
-  own_more : ((turns < limit) × (w ≡ want.Continue) → ⊥) → IsOwn p (es ++ settlement h j turns w ∷ []) h s
+  own_more : ((turns < limit) × (w ≡ want.Continue) → ⊥) → IsOwn p (es ++ settlement h j turns w ∷ []) h y
   own_more whole = record {
     handler = ap (λ (z : PlainRegion). z.handler) plays.same ∙ one.handler;
     program = plays.program ∙ one.program;
-    entries = logged ∙ ap (λ (fs : List Settlement). fs ++ entry_of j (outcome (region_of r).handler turns w) ∷ []) one.entries
-        ∙ ap (λ (k : ℕ). settlements_for h es ++ settlement k j turns w ∷ []) one.handler ∙ sym (ours es (settlement h j turns w));
-    made = played_made limit j (outcome (region_of r).handler turns w) (entries_of r) (entries_of s) (region_of r) (region_of s) plays whole logged one.made;
+    made = played_made limit j (outcome x.handler turns w) (settlements_for h es) (settlements_for h (es ++ settlement h j turns w ∷ [])) x y plays whole
+        own_settlement one.made;
   }
 
-abbrev Programs : Image → List LoggedRegion → Type 0
-Programs p rs = All (λ r. (region_of r).store.program ≡ p) rs
+  -- also where memory was refused behind it
+  own_replayed : ∥ Replays p h (settlements_for h (es ++ settlement h j turns w ∷ [])) y ∥₁
+  own_replayed =
+      subst (λ (fs : List Settlement). ∥ Replays p h fs y ∥₁) (sym own_settlement)
+      (∥∥₁_map (own_replays p es h x one) (λ (before : Replays p h (settlements_for h es) x). played before plays))
 
-own_programs : (p : Image) (es : List Settlement) (rs : List LoggedRegion) → AreOwn p es rs → Programs p rs
-own_programs p es rs own = all_from (λ (r : LoggedRegion). (region_of r).store.program ≡ p) rs (λ h r e. (own h r e).program)
+-- another's settlement is none of its own
+other_own : (p : Image) (es : List Settlement) (f : Settlement) (k : ℕ) (x : PlainRegion) → (k ≡ f.handler → ⊥) → IsOwn p es k x → IsOwn p (es ++ f ∷ []) k x
+other_own p es f k x apart one = record {
+  handler = one.handler;
+  program = one.program;
+  made = subst (λ (fs : List Settlement). ∥ AreMade fs (new_region x.store.program x.handler) x ∥₁) (sym (kept k es f apart)) one.made;
+}
 
-set_programs : (p : Image) (es : List Settlement) (rs : List LoggedRegion) (h : ℕ) (r s : LoggedRegion) → AreOwn p es rs → slice_get rs h ≡ Some r →
-    (region_of s).store.program ≡ (region_of r).store.program → Programs p (slice_set rs h s)
+abbrev Programs : Image → List PlainRegion → Type 0
+Programs p rs = All (λ (x : PlainRegion). x.store.program ≡ p) rs
+
+own_programs : (p : Image) (es : List Settlement) (rs : List PlainRegion) → AreOwn p es rs → Programs p rs
+own_programs p es rs own = all_from (λ (x : PlainRegion). x.store.program ≡ p) rs (λ h x e. (own h x e).program)
+
+set_programs : (p : Image) (es : List Settlement) (rs : List PlainRegion) (h : ℕ) (r s : PlainRegion) → AreOwn p es rs → slice_get rs h ≡ Some r →
+    s.store.program ≡ r.store.program → Programs p (slice_set rs h s)
 set_programs p es rs h r s own at same =
-    all_from (λ (x : LoggedRegion). (region_of x).store.program ≡ p) (slice_set rs h s)
-    (set_each (λ (k : ℕ) (x : LoggedRegion). (region_of x).store.program ≡ p) rs h r s at (same ∙ (own h r at).program) (λ k x apart e. (own k x e).program))
+    all_from (λ (x : PlainRegion). x.store.program ≡ p) (slice_set rs h s)
+    (set_each (λ (k : ℕ) (x : PlainRegion). x.store.program ≡ p) rs h r s at (same ∙ (own h r at).program) (λ k x apart e. (own k x e).program))
 
 -- ---- what a run has come to
 
-pub way_left : (p : Image) (left : Left) → IsOnWay p left → IsLeft p left
+way_left : (p : Image) (left : Left) → IsOnWay p left → IsLeft p left
 way_left p left way = record {
   version = way.version;
   count = way.count;
@@ -100,84 +127,120 @@ way_left p left way = record {
   lines = way.lines;
 }
 
+pub way_stopped : (p : Image) (left : Left) → IsOnWay p left → IsStopped p left
+way_stopped p left way = record {
+  left_is = way_left p left way;
+  home = way.home;
+  replays = λ h x e. own_replays p (log_of left.core) h x (way.regions h x e);
+}
+
 pub way_run : (p : Image) (limit : ℕ) (left : Left) → IsOnWay p left → IsOver limit (center_of left.core) left.lines.items → IsRun p limit left
 way_run p limit left way over = record {
   left_is = way_left p left way;
   over = over;
-  agree = λ h r e. ((way.regions h r e).handler, (way.regions h r e).entries);
-  made = all_from (λ (r : LoggedRegion). ∥ IsMadeByLog r ∥₁) left.regions.items (λ h r e. (way.regions h r e).made);
+  made = λ h x e. own_leads p (log_of left.core) h x (way.regions h x e);
 }
 
 -- nothing is settled
-pub stays_on : (p : Image) (x y : Left) → Stays x.core y.core → y.regions.items ≡ x.regions.items → y.lines.items ≡ x.lines.items →
-    y.version ≡ x.version → y.core.state.rights.version ≡ x.core.state.rights.version → IsOnWay p x → IsOnWay p y
-stays_on p x y stays regions lines version rights way = record {
+pub stays_on : (p : Image) (x y : Left) → center_of y.core ≡ center_of x.core → log_of y.core ≡ log_of x.core → y.regions.items ≡ x.regions.items →
+    y.lines.items ≡ x.lines.items → y.version ≡ x.version → y.core.state.rights.version ≡ x.core.state.rights.version → IsOnWay p x → IsOnWay p y
+stays_on p x y center log regions lines version rights way = record {
   version = version ∙ way.version;
   rights = rights ∙ way.rights;
-  count = ap (λ (rs : List LoggedRegion). length rs) regions ∙ way.count;
-  plays = stays_plays p x.core y.core stays way.plays;
-  below = same_below x.core y.core stays.log way.below;
-  lines = lines ∙ same_lines x.core y.core x.lines.items stays.log way.lines;
-  regions = subst (λ (es : List Settlement). AreOwn p es y.regions.items) (sym stays.log)
+  count = ap (λ (rs : List PlainRegion). length rs) regions ∙ way.count;
+  plays = stays_plays p x.core y.core (same_center x.core y.core center log) way.plays;
+  below = same_below x.core y.core log way.below;
+  lines = lines ∙ same_lines x.core y.core x.lines.items log way.lines;
+  home = λ h. ap (λ (c : Center). c.out h) center ∙ way.home h;
+  regions = subst (λ (es : List Settlement). AreOwn p es y.regions.items) (sym log)
       (subst (AreOwn p (log_of x.core)) (sym regions) way.regions);
 }
 
 -- memory was refused to a turn of a handler
-pub put_back_left : (p : Image) (x y : Left) (h : ℕ) (r s : LoggedRegion) → Stays x.core y.core → slice_get x.regions.items h ≡ Some r →
-    y.regions.items ≡ slice_set x.regions.items h s → (region_of s).store.program ≡ (region_of r).store.program → y.lines.items ≡ x.lines.items →
-    y.version ≡ x.version → IsOnWay p x → IsLeft p y
-put_back_left p x y h r s stays at regions program lines version way = record {
-  version = version ∙ way.version;
-  count = ap (λ (rs : List LoggedRegion). length rs) regions ∙ set_length x.regions.items h s ∙ way.count;
-  programs = subst (Programs p) (sym regions) (set_programs p (log_of x.core) x.regions.items h r s way.regions at program);
-  plays = stays_plays p x.core y.core stays way.plays;
-  below = same_below x.core y.core stays.log way.below;
-  lines = lines ∙ same_lines x.core y.core x.lines.items stays.log way.lines;
-}
+module _ (p : Image) (x y : Left) (h : ℕ) (j : Job) (r s : PlainRegion) (stays : Stays x.core y.core)
+    (home : (k : ℕ) → (center_of x.core).out k ≡ None → (center_of y.core).out k ≡ None) (at : slice_get x.regions.items h ≡ Some r)
+    (regions : y.regions.items ≡ slice_set x.regions.items h s) (is : IsRefused j r s) (lines : y.lines.items ≡ x.lines.items)
+    (version : y.version ≡ x.version) (way : IsOnWay p x) where
+  back_left : IsLeft p y
+  back_left = record {
+    version = version ∙ way.version;
+    count = ap (λ (rs : List PlainRegion). length rs) regions ∙ set_length x.regions.items h s ∙ way.count;
+    programs = subst (Programs p) (sym regions) (set_programs p (log_of x.core) x.regions.items h r s way.regions at is.program);
+    plays = stays_plays p x.core y.core stays way.plays;
+    below = same_below x.core y.core stays.log way.below;
+    lines = lines ∙ same_lines x.core y.core x.lines.items stays.log way.lines;
+  }
+
+  back_replays : AreReplayed p (log_of x.core) (slice_set x.regions.items h s)
+  back_replays =
+      set_each (λ (k : ℕ) (z : PlainRegion). ∥ Replays p k (settlements_for k (log_of x.core)) z ∥₁) x.regions.items h r s at
+      (∥∥₁_map (own_replays p (log_of x.core) h r (way.regions h r at)) (λ (before : Replays p h (settlements_for h (log_of x.core)) r). refused before is))
+      (λ k z apart e. own_replays p (log_of x.core) k z (way.regions k z e))
+
+  pub put_back_stopped : IsStopped p y
+  put_back_stopped = record {
+    left_is = back_left;
+    home = λ k. home k (way.home k);
+    replays = subst (λ (es : List Settlement). AreReplayed p es y.regions.items) (sym stays.log)
+        (subst (AreReplayed p (log_of x.core)) (sym regions) back_replays);
+  }
 
 -- turns of a handler that was picked are played and settled
-pub record Advances (limit h turns : ℕ) (w : Want) (c d : coded.Core) (r s : LoggedRegion) : Type 0 where
+pub record Advances (limit h turns : ℕ) (w : Want) (c d : coded.Core) (r s : PlainRegion) : Type 0 where
   pub settled : Settled h turns w c d
-  pub plays : Plays limit settled.job (region_of r) (region_of s) (outcome (region_of r).handler turns w)
-  pub logged : entries_of s ≡ entries_of r ++ entry_of settled.job (outcome (region_of r).handler turns w) ∷ []
+  pub plays : Plays limit settled.job r s (outcome r.handler turns w)
+  pub home : (k : ℕ) → (center_of c).out k ≡ None → (center_of d).out k ≡ None
 
-pub advances : (limit h turns : ℕ) (w : Want) (c a b d : coded.Core) (r s : LoggedRegion) → h < max_handlers → center_of a ≡ center_of c →
+pub advances : (limit h turns : ℕ) (w : Want) (c a b d : coded.Core) (r s : PlainRegion) → h < max_handlers → center_of a ≡ center_of c →
     log_of a ≡ log_of c → Goes h a b → log_of b ≡ log_of a →
     ((j : Job) → (center_of b).out h ≡ Some j → IsPlayed limit h j turns w b d r s) → Advances limit h turns w c d r s
-advances limit h turns w c a b d r s below center log goes same played =
-    let asked = outcome (region_of r).handler turns w in
-    let one = played goes.0 (goes_out h a b goes) in
-    let due = settled_job h turns w c a b d goes.0 below (ap (λ (x : Center). x.state) center) log goes.1 goes.2 same (λ i out. (played i out).settled) in
+advances limit h turns w c a b d r s below center log goes same ones =
+    let asked = outcome r.handler turns w in
+    let one = ones goes.0 (goes_out h a b goes) in
+    let due = settled_job h turns w c a b d goes.0 below (ap (λ (x : Center). x.state) center) log goes.1 goes.2 same (λ i out. (ones i out).settled) in
     record {
       settled = due.0;
-      plays = subst (λ (j : Job). Plays limit j (region_of r) (region_of s) asked) (sym due.1) one.plays;
-      logged = subst (λ (j : Job). entries_of s ≡ entries_of r ++ entry_of j asked ∷ []) (sym due.1) one.logged;
+      plays = subst (λ (j : Job). Plays limit j r s asked) (sym due.1) one.plays;
+      home = λ k none.
+          ap (λ (x : Center). x.out k) (one.settled.center ∙ ap (λ (x : Center). settles max_handlers h goes.0 turns w x) goes.2)
+          ∙ settled_out max_handlers h goes.0 turns w (center_of a) k (ap (λ (x : Center). x.out k) center ∙ none);
     }
 
-module _ (p : Image) (x y : Left) (h turns limit : ℕ) (w : Want) (r s : LoggedRegion) (go : Advances limit h turns w x.core y.core r s)
+module _ (p : Image) (x y : Left) (h turns limit : ℕ) (w : Want) (r s : PlainRegion) (go : Advances limit h turns w x.core y.core r s)
     (at : slice_get x.regions.items h ≡ Some r) (regions : y.regions.items ≡ slice_set x.regions.items h s)
     (lines : y.lines.items ≡ x.lines.items ++ record { handler = h; turns = turns } ∷ []) (version : y.version ≡ x.version) (way : IsOnWay p x) where
-  pub goes_left : IsLeft p y
+  abbrev now : List Settlement
+  now = log_of x.core ++ settlement h go.settled.job turns w ∷ []
+
+  goes_left : IsLeft p y
   goes_left = record {
     version = version ∙ way.version;
-    count = ap (λ (rs : List LoggedRegion). length rs) regions ∙ set_length x.regions.items h s ∙ way.count;
+    count = ap (λ (rs : List PlainRegion). length rs) regions ∙ set_length x.regions.items h s ∙ way.count;
     programs = subst (Programs p) (sym regions) (set_programs p (log_of x.core) x.regions.items h r s way.regions at go.plays.program);
     plays = settled_plays p h turns w x.core y.core go.settled way.plays;
     below = settled_below h turns w x.core y.core go.settled way.below;
     lines = settled_lines h turns w x.core y.core x.lines.items y.lines.items go.settled way.lines lines;
   }
 
-  own : ((turns < limit) × (w ≡ want.Continue) → ⊥) → AreOwn p (log_of x.core ++ settlement h go.settled.job turns w ∷ []) (slice_set x.regions.items h s)
+  goes_replays : AreReplayed p now (slice_set x.regions.items h s)
+  goes_replays =
+      set_each (λ (k : ℕ) (z : PlainRegion). ∥ Replays p k (settlements_for k now) z ∥₁) x.regions.items h r s at
+      (own_replayed p (log_of x.core) h turns limit w go.settled.job r s (way.regions h r at) go.plays)
+      (λ k z apart e. own_replays p now k z (other_own p (log_of x.core) (settlement h go.settled.job turns w) k z apart (way.regions k z e)))
+
+  pub goes_stopped : IsStopped p y
+  goes_stopped = record {
+    left_is = goes_left;
+    home = λ k. go.home k (way.home k);
+    replays = subst (λ (es : List Settlement). AreReplayed p es y.regions.items) (sym go.settled.log)
+        (subst (AreReplayed p now) (sym regions) goes_replays);
+  }
+
+  own : ((turns < limit) × (w ≡ want.Continue) → ⊥) → AreOwn p now (slice_set x.regions.items h s)
   own whole =
-      let f : Settlement = settlement h go.settled.job turns w in
-      set_each (IsOwn p (log_of x.core ++ f ∷ [])) x.regions.items h r s at
-      (own_more p (log_of x.core) h turns limit w go.settled.job r s (way.regions h r at) go.plays go.logged whole)
-      (λ k z apart e. record {
-        handler = (way.regions k z e).handler;
-        program = (way.regions k z e).program;
-        entries = (way.regions k z e).entries ∙ sym (kept k (log_of x.core) f apart);
-        made = (way.regions k z e).made;
-      })
+      set_each (IsOwn p now) x.regions.items h r s at
+      (own_more p (log_of x.core) h turns limit w go.settled.job r s (way.regions h r at) go.plays whole)
+      (λ k z apart e. other_own p (log_of x.core) (settlement h go.settled.job turns w) k z apart (way.regions k z e))
 
   pub goes_on : y.core.state.rights.version ≡ Two → ((turns < limit) × (w ≡ want.Continue) → ⊥) → IsOnWay p y
   goes_on rights whole = record {
@@ -187,8 +250,8 @@ module _ (p : Image) (x y : Left) (h turns limit : ℕ) (w : Want) (r s : Logged
     plays = goes_left.plays;
     below = goes_left.below;
     lines = goes_left.lines;
-    regions = subst (λ (es : List Settlement). AreOwn p es y.regions.items) (sym go.settled.log)
-        (subst (AreOwn p (log_of x.core ++ settlement h go.settled.job turns w ∷ [])) (sym regions) (own whole));
+    home = λ k. go.home k (way.home k);
+    regions = subst (λ (es : List Settlement). AreOwn p es y.regions.items) (sym go.settled.log) (subst (AreOwn p now) (sym regions) (own whole));
   }
 
 -- ---- new regions
@@ -202,27 +265,25 @@ get_past (z ∷ xs) x y (suc k) e = elim (get_past xs x y k e) [
   | inr last ↦ inr (ap suc last.0, last.1)
 ]
 
-pub none_new : (p : Image) (rs : List LoggedRegion) → rs ≡ [] → AreNew p rs
-none_new p rs none h r e = let bad : slice_get [] h ≡ Some r = ap (λ (ss : List LoggedRegion). slice_get ss h) (sym none) ∙ e in cc
+pub none_new : (p : Image) (rs : List PlainRegion) → rs ≡ [] → AreNew p rs
+none_new p rs none h r e = let bad : slice_get [] h ≡ Some r = ap (λ (ss : List PlainRegion). slice_get ss h) (sym none) ∙ e in cc
 
-pub more_new : (p : Image) (n : ℕ) (rs ss : List LoggedRegion) (r : LoggedRegion) → AreNew p rs → length rs ≡ n → region_of r ≡ new_region p n →
-    entries_of r ≡ [] → ss ≡ rs ++ r ∷ [] → AreNew p ss
-more_new p n rs ss r new count region entries more h s e = elim (get_past rs r s h (ap (λ (xs : List LoggedRegion). slice_get xs h) (sym more) ∙ e)) [
+pub more_new : (p : Image) (n : ℕ) (rs ss : List PlainRegion) (r : PlainRegion) → AreNew p rs → length rs ≡ n → r ≡ new_region p n →
+    ss ≡ rs ++ r ∷ [] → AreNew p ss
+more_new p n rs ss r new count region more h s e = elim (get_past rs r s h (ap (λ (xs : List PlainRegion). slice_get xs h) (sym more) ∙ e)) [
   | inl before ↦ new h s before
   | inr last ↦
       let place : n ≡ h = sym count ∙ sym last.0 in
-      subst (λ (x : LoggedRegion). (region_of x ≡ new_region p h) × (entries_of x ≡ [])) last.1
-      (region ∙ ap (new_region p) place, entries)
+      sym last.1 ∙ region ∙ ap (new_region p) place
 ]
 
-pub new_own : (p : Image) (es : List Settlement) (rs : List LoggedRegion) → es ≡ [] → AreNew p rs → AreOwn p es rs
+pub new_own : (p : Image) (es : List Settlement) (rs : List PlainRegion) → es ≡ [] → AreNew p rs → AreOwn p es rs
 new_own p es rs none new h r e =
     let one = new h r e in
     record {
-      handler = ap (λ (x : PlainRegion). x.handler) one.0;
-      program = ap (λ (x : PlainRegion). x.store.program) one.0;
-      entries = one.1 ∙ sym (ap (settlements_for h) none);
-      made = new_made p h (entries_of r) (region_of r) one.0 one.1;
+      handler = ap (λ (x : PlainRegion). x.handler) one;
+      program = ap (λ (x : PlainRegion). x.store.program) one;
+      made = new_made p h (settlements_for h es) r one (ap (settlements_for h) none);
     }
 
 -- ---- answers

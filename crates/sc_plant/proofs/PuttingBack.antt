@@ -129,6 +129,18 @@ back_state h j c is =
     ap (λ (o : Option Job). (put_back_with h o (picked h j c)).state) (is_out h j c)
     ∙ ap (λ (r : Rights). let s : State = record c.state { rights = r } in s) (undone h j c.state (job_free h c.state j is))
 
+-- and nobody is out who wasn't
+back_out : (h : ℕ) (j : Job) (c : Center) (k : ℕ) → c.out k ≡ None → (put_back h (picked h j c)).out k ≡ None
+back_out h j c k none = ap (λ (o : Option Job). (put_back_with h o (picked h j c)).out k) (is_out h j c) ∙ by (k == h)
+  where
+    by : (b : Bool) → (if b then None else (if b then Some j else c.out k)) ≡ None
+    by true = refl
+    by false = none
+
+pub put_back_out : (h : ℕ) (a b d : coded.Core) → Goes h a b → center_of d ≡ put_back h (center_of b) → (k : ℕ) → (center_of a).out k ≡ None → (center_of d).out k ≡ None
+put_back_out h a b d goes back k none =
+    ap (λ (x : Center). x.out k) (back ∙ ap (put_back h) goes.2) ∙ back_out h goes.0 (center_of a) k none
+
 pub put_back_state : (h : ℕ) (a b d : coded.Core) → Goes h a b → center_of d ≡ put_back h (center_of b) → state_of d ≡ state_of a
 put_back_state h a b d goes back =
     ap (λ (x : Center). x.state) (back ∙ ap (put_back h) goes.2) ∙ back_state h goes.0 (center_of a) (is_due h goes.0 (center_of a) goes.1)

@@ -13,10 +13,9 @@ use Rattle.sc_audit.specs.declared.line.RecordLine.{RecordLine}
 use Rattle.sc_code.specs.declared.program.Image.{Image}
 use Rattle.sc_request.specs.declared.settlement.Settlement.{Settlement}
 use Rattle.sc_request.specs.Cores.{log_of}
-use Rattle.sc_play.specs.Regions.{PlainRegion}
-use Rattle.sc_worklog.specs.LoggedRegions.{entries_of, region_of}
-use Rattle.sc_worklog.specs.Replaying.{Replays}
-use Rattle.sc_worklog.proofs.Replaying.{entries_are_the_handlers}
+use Rattle.sc_play.specs.Regions.{PlainRegion, new_region}
+use Rattle.sc_worklog.specs.Replaying.{AreMade, Replays}
+use Rattle.sc_worklog.proofs.Replaying.{entries_are_the_handlers, turns_replay}
 use Rattle.sc_runtime.specs.Worlds.{max_handlers}
 use Rattle.sc_plant.specs.declared.left.Left.{Left}
 use Rattle.sc_plant.specs.Due.{AreBelow}
@@ -57,10 +56,9 @@ all_some (e ∷ es) below each =
 run_some : (p : Image) (limit : ℕ) (left : Left) → IsRun p limit left → EachSome (log_of left.core)
 run_some p limit left run h few = elim (slice_get_cases left.regions.items h).1 [
   | inl at ↦
-      let r = at.0 in
-      subst (λ (es : List Settlement). ∥ AreSome es ∥₁) (run.agree h r at.2).1
-      (∥∥₁_map r.replays (λ (replays : Replays (region_of r).store.program (region_of r).handler (entries_of r) (region_of r)).
-      replayed_some (region_of r).store.program (region_of r).handler (entries_of r) (region_of r) replays))
+      let x = at.0 in
+      let es = settlements_for h (log_of left.core) in
+      ∥∥₁_map (run.made h x at.2) (λ (made : AreMade es (new_region p h) x). replayed_some p h es x (turns_replay p h es x made).0)
   | inr past ↦ absurd (omega (arith, few, past.0, run.left_is.count))
 ]
 

@@ -1,5 +1,5 @@
 -- Runs on one thread.
-use Rattle.std.specs.Prelude.{◌≡◌, ◌++◌, ◌∷◌, [], ℕ, List, Some, length, slice_get}
+use Rattle.std.specs.Prelude.{◌≡◌, ℕ, List, None, Some, length, slice_get}
 use Rattle.sc_lockpass.specs.declared.version.Version.TheVariants.{Two}
 use Rattle.sc_code.specs.declared.program.Image.{Image}
 use Rattle.sc_region.specs.declared.job.Job.{Job}
@@ -8,31 +8,26 @@ use Rattle.sc_request.specs.declared.center.Core as core
 use Rattle.sc_request.specs.declared.settlement.Settlement.{Settlement}
 use Rattle.sc_request.specs.Cores.{center_of, log_of, state_of}
 use Rattle.sc_request.specs.Logs.{put_back}
-use Rattle.sc_play.specs.Regions.{Plays, new_region, outcome}
-use Rattle.sc_worklog.specs.declared.logged_region.LoggedRegion.{LoggedRegion}
-use Rattle.sc_worklog.specs.LoggedRegions.{entries_of, region_of}
-use Rattle.sc_worklog.specs.Replaying.{entry_of}
+use Rattle.sc_play.specs.Regions.{IsRefused, PlainRegion, Plays, new_region, outcome}
+use Rattle.sc_worklog.specs.Replaying.{AreMade}
 use Rattle.sc_runtime.specs.Worlds.{max_handlers}
 use Rattle.sc_plant.specs.declared.left.Left.{Left}
 use Rattle.sc_plant.specs.Due.{AreBelow, IsSettled, PlaysTo}
 use Rattle.sc_plant.specs.Recorded.{lines_of, settlements_for}
-use Rattle.sc_plant.specs.Regions.{IsMadeByLog}
 
--- The region is that of the handler of the number. Its log is, of these settlements, those of the handler in order, and their
--- turns lead to it.
-pub record IsOwn (p : Image) (es : List Settlement) (h : ℕ) (r : LoggedRegion) : Type 0 where
-  pub handler : (region_of r).handler ≡ h
-  pub program : (region_of r).store.program ≡ p
-  pub entries : entries_of r ≡ settlements_for h es
-  pub made : ∥ IsMadeByLog r ∥₁
+-- The region is that of the handler of the number, to which the turns of the handler's settlements lead.
+pub record IsOwn (p : Image) (es : List Settlement) (h : ℕ) (x : PlainRegion) : Type 0 where
+  pub handler : x.handler ≡ h
+  pub program : x.store.program ≡ p
+  pub made : ∥ AreMade (settlements_for h es) (new_region x.store.program x.handler) x ∥₁
 
 -- So is each of them.
-abbrev pub AreOwn : Image → List Settlement → List LoggedRegion → Type 0
-AreOwn p es rs = (h : ℕ) (r : LoggedRegion) → slice_get rs h ≡ Some r → IsOwn p es h r
+abbrev pub AreOwn : Image → List Settlement → List PlainRegion → Type 0
+AreOwn p es rs = (h : ℕ) (x : PlainRegion) → slice_get rs h ≡ Some x → IsOwn p es h x
 
--- They are new, and their logs have no entry.
-abbrev pub AreNew : Image → List LoggedRegion → Type 0
-AreNew p rs = (h : ℕ) (r : LoggedRegion) → slice_get rs h ≡ Some r → (region_of r ≡ new_region p h) × (entries_of r ≡ [])
+-- They are new.
+abbrev pub AreNew : Image → List PlainRegion → Type 0
+AreNew p rs = (h : ℕ) (x : PlainRegion) → slice_get rs h ≡ Some x → x ≡ new_region p h
 
 -- What a run of the program on one thread has come to, where memory was refused to no turn.
 pub record IsOnWay (p : Image) (left : Left) : Type 0 where
@@ -42,16 +37,17 @@ pub record IsOnWay (p : Image) (left : Left) : Type 0 where
   pub plays : ∥ PlaysTo p (log_of left.core) (state_of left.core) ∥₁
   pub below : AreBelow (log_of left.core)
   pub lines : left.lines.items ≡ lines_of (log_of left.core)
+  pub home : (h : ℕ) → (center_of left.core).out h ≡ None
   pub regions : AreOwn p (log_of left.core) left.regions.items
 
 -- The handler, which is out with the job, plays so many turns of it, the last of which asks this, and they are settled.
-pub record IsPlayed (limit h : ℕ) (j : Job) (turns : ℕ) (w : Want) (c d : core.Core) (x y : LoggedRegion) : Type 0 where
+pub record IsPlayed (limit h : ℕ) (j : Job) (turns : ℕ) (w : Want) (c d : core.Core) (x y : PlainRegion) : Type 0 where
   pub settled : IsSettled h j turns w c d
-  pub plays : Plays limit j (region_of x) (region_of y) (outcome (region_of x).handler turns w)
-  pub logged : entries_of y ≡ entries_of x ++ entry_of j (outcome (region_of x).handler turns w) ∷ []
+  pub plays : Plays limit j x y (outcome x.handler turns w)
 
 -- The handler, which was out, is put back, since memory was refused to its turn.
-pub record IsBack (h : ℕ) (c d : core.Core) (x y : LoggedRegion) : Type 0 where
+pub record IsBack (h : ℕ) (c d : core.Core) (x y : PlainRegion) : Type 0 where
   pub center : center_of d ≡ put_back h (center_of c)
   pub log : log_of d ≡ log_of c
-  pub program : (region_of y).store.program ≡ (region_of x).store.program
+  pub job : Job
+  pub refused : IsRefused job x y

@@ -1,6 +1,6 @@
 //! Runs on one thread, where nothing lies under a lock.
 //!
-//! That a region's log is that of its handler's settlements is kept on the way, so no comparison is needed.
+//! That a handler's settlements lead to its region is kept on the way, so the regions need no logs.
 ghost use Rattle.std.specs.Prelude.{◌≡◌, ◌≤◌, ◌↔◌, ◌<◌, IfErr, IfOk, IsTrue, OnErr, OnOk, Some, is_some, length, true, vec_len};
 ghost use Rattle.std.specs.Bool.{OnTrue};
 ghost use Rattle.sc_lockpass.specs.declared.version.Version.TheVariants.{Two};
@@ -10,7 +10,7 @@ ghost use Rattle.sc_region.specs.declared.job.Want.TheVariants as want;
 ghost use Rattle.sc_request.specs.Cores.{center_of};
 ghost use Rattle.sc_request.specs.Rooms.{HasRoomFor};
 ghost use Rattle.sc_plant.specs.Alone.{AreNew, IsBack, IsOnWay, IsPlayed};
-ghost use Rattle.sc_plant.specs.Left.{IsLeft, IsOver, IsRun, SaysWhy};
+ghost use Rattle.sc_plant.specs.Left.{IsOver, IsRun, IsStopped, SaysWhy, TellsLeft};
 
 use crate::due::settle_out;
 use crate::ending::is_idle_or_full;
@@ -22,16 +22,16 @@ use crate::wants::clear_want;
 use sc_audit::RecordLine;
 use sc_code::Program;
 use sc_lockpass::Version;
+use sc_play::Region;
 use sc_region::Want;
 use sc_request::Core;
-use sc_worklog::LoggedRegion;
 use std::alloc::{AllocError, Global};
 use std::sync::Wait;
 
 /// Plays the handlers of a program on the calling thread, until the run is over.
 ///
 /// # Errors
-/// U1 where memory is refused.
+/// U1 where memory is refused, with what is left then, unless the run hadn't begun.
 pub fn run_alone<'p, R: Wait, G: Gate>(
     rt: &R,
     alloc: Global,
@@ -42,9 +42,25 @@ pub fn run_alone<'p, R: Wait, G: Gate>(
     ensures ok { IfOk result (IsRun program.now.image limit) }
     ensures err { IfErr result (SaysWhy program.now.image) }
 {
-    let Ok(mut left) = open_left(alloc, program) else {
+    let Ok(left) = open_left(alloc, program) else {
         return Err(RunFault::OutOfMemory(None));
     };
+    play_opened(rt, left, limit, gate)
+}
+
+/// A run that has opened.
+fn play_opened<'p, R: Wait, G: Gate>(
+    rt: &R,
+    mut left: Left<'p>,
+    limit: u32,
+    gate: &G,
+) -> Result<Left<'p>, RunFault<'p>>
+    requires count { length left.regions.items ≡ 512 }
+    requires version { left.core.state.rights.version ≡ Two }
+    ensures ok { (p : Image) → IsOnWay p left.entry → IfOk result (IsRun p limit) }
+    ensures err { (p : Image) → IsOnWay p left.entry → IfErr result (SaysWhy p) }
+    ensures left { IfErr result TellsLeft }
+{
     if play_all(rt, &mut left, limit, gate).is_err() {
         return Err(RunFault::OutOfMemory(Some(left)));
     }
@@ -66,16 +82,13 @@ fn open_left<'p>(alloc: Global, program: &'p Program) -> Result<Left<'p>, AllocE
 }
 
 /// A region for each handler that there may be.
-fn open_regions<'p>(
-    alloc: Global,
-    program: &'p Program,
-) -> Result<Vec<LoggedRegion<'p>>, AllocError>
+fn open_regions<'p>(alloc: Global, program: &'p Program) -> Result<Vec<Region<'p>>, AllocError>
     ensures count { IfOk result (λ regions. vec_len regions ≡ 512) }
     ensures new { IfOk result (λ regions. AreNew program.now.image regions.items) }
 {
     let mut regions = Vec::with_capacity(alloc, MAX_HANDLERS as usize)?;
     for handler in 0..MAX_HANDLERS {
-        regions.push_reserved(LoggedRegion::new(alloc, program, handler));
+        regions.push_reserved(Region::new(alloc, program, handler));
     }
     Ok(regions)
 }
@@ -91,7 +104,7 @@ fn play_all<R: Wait, G: Gate>(
     requires version { left.old.core.state.rights.version ≡ Two }
     ensures on { OnOk result ((p : Image) → IsOnWay p left.old → IsOnWay p left.new) }
     ensures over { OnOk result (IsOver limit (center_of left.new.core) left.new.lines.items) }
-    ensures err { OnErr result ((p : Image) → IsOnWay p left.old → IsLeft p left.new) }
+    ensures err { OnErr result ((p : Image) → IsOnWay p left.old → IsStopped p left.new) }
 {
     let mut asked = Want::Continue;
     let mut turns = limit;
@@ -133,7 +146,7 @@ fn play_next<G: Gate>(
     requires count { length left.old.regions.items ≡ 512 }
     requires version { left.old.core.state.rights.version ≡ Two }
     ensures on { OnOk result ((p : Image) → IsOnWay p left.old → IsOnWay p left.new) }
-    ensures err { OnErr result ((p : Image) → IsOnWay p left.old → IsLeft p left.new) }
+    ensures err { OnErr result ((p : Image) → IsOnWay p left.old → IsStopped p left.new) }
     ensures count { length left.new.regions.items ≡ 512 }
     ensures version { left.new.core.state.rights.version ≡ Two }
 {
@@ -170,7 +183,7 @@ fn play_next<G: Gate>(
 /// refused to the first: the handler is put back.
 fn play_out(
     core: &mut Core,
-    region: &mut LoggedRegion<'_>,
+    region: &mut Region<'_>,
     handler: u16,
     limit: u32,
     asked: &mut Want,

@@ -1,10 +1,10 @@
-//! The core's calls as the workers make them: what is granted is settled at once, and what is settled is what is due.
-ghost use Rattle.std.specs.Prelude.{◌≡◌, IfOk, IfSome, IfNone, OnOk, OnErr, Some, is_some, true};
+//! The core's calls as the workers make them: nobody goes out with what is granted, and what is settled is what is due.
+ghost use Rattle.std.specs.Prelude.{◌≡◌, OnErr, OnOk, Some, is_some, true};
 ghost use Rattle.sc_lockpass.specs.declared.version.Version.TheVariants.{Two};
 ghost use Rattle.sc_request.specs.Candidates.{is_granting};
 ghost use Rattle.sc_request.specs.Cores.{center_of};
 ghost use Rattle.sc_request.specs.Rooms.{HasRoomFor};
-ghost use Rattle.sc_plant.specs.Due.{GrantsNone, IsSettled, SendsOut, Settled, Stays};
+ghost use Rattle.sc_plant.specs.Due.{GrantsNone, IsSettled, Settled, Stays};
 
 use sc_region::{Job, Want};
 use sc_request::{Core, write_job};
@@ -54,17 +54,18 @@ pub fn settle_out(core: &mut Core, handler: u16, turns: u32, want: &Want)
     }
 }
 
-/// The next handler that has something to do, whose job is written into a place. Where its reserve step is granted, that
-/// turn is settled; else the handler is out with its job. None where no handler has anything to do.
+/// The next handler that has something to do, whose job is written into a place, is out with it. Where that is what its reserve
+/// step was granted, it isn't out, and is to play and to settle it before anybody else is picked. None where no handler has
+/// anything to do.
+///
+/// There is room then to settle it, beside all that are out.
 ///
 /// # Errors
 /// Where there is no memory. Then no handler goes out.
 pub fn pick_due(core: &mut Core, place: &mut Job) -> Result<Option<u16>, AllocError>
     requires none { GrantsNone (center_of core.old) }
     requires version { core.old.state.rights.version ≡ Two }
-    ensures some { IfOk result (λ picked. IfSome picked (λ handler. SendsOut (is_granting place.new) handler core.old core.new)) }
-    ensures idle { IfOk result (λ picked. IfNone picked (Stays core.old core.new)) }
-    ensures stays { OnErr result (Stays core.old core.new) }
+    ensures stays { Stays core.old core.new }
     ensures none { GrantsNone (center_of core.new) }
     ensures version { core.new.state.rights.version ≡ Two }
 {
@@ -77,8 +78,7 @@ pub fn pick_due(core: &mut Core, place: &mut Job) -> Result<Option<u16>, AllocEr
     };
     write_job(place, job);
     if is_granting(place) {
-        let want = Want::Continue;
-        settle_out(core, handler, 1, &want);
+        core.put_back(handler);
         return Ok(Some(handler));
     }
     Ok(Some(handler))
@@ -89,29 +89,4 @@ pub fn is_granting(job: &Job) -> bool
     ensures { result ≡ is_granting job.now }
 {
     matches!(job, Job::Granted(_))
-}
-
-/// A handler that has something to do is out with it: its job. None where it has nothing to do, where its reserve step is
-/// granted, or where there is no memory. Then it isn't out.
-pub fn pick_again(core: &mut Core, handler: u16) -> Option<Job>
-    requires none { GrantsNone (center_of core.old) }
-    requires version { core.old.state.rights.version ≡ Two }
-    ensures stays { Stays core.old core.new }
-    ensures none { GrantsNone (center_of core.new) }
-    ensures version { core.new.state.rights.version ≡ Two }
-{
-    if core.make_room().is_err() {
-        return None;
-    }
-    let Some(job) = core.pick_for(handler) else {
-        return None;
-    };
-    if is_granting(&job) {
-        return None;
-    }
-    if core.pick_at(handler) {
-        Some(job)
-    } else {
-        None
-    }
 }

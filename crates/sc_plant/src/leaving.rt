@@ -1,16 +1,17 @@
 //! What a run leaves, by value.
-ghost use Rattle.std.specs.Prelude.{◌≡◌, ◌≤◌, ◌<◌, ℕ, [], All, IfNone, IfSome, Some, false, length, vec_capacity, vec_len};
+ghost use Rattle.std.specs.Prelude.{◌≡◌, ◌≤◌, ◌<◌, ℕ, [], All, IfNone, IfSome, Some, false, length, map, vec_capacity, vec_len};
 ghost use Rattle.sc_code.specs.declared.program.Image.{Image};
 ghost use Rattle.sc_worklog.specs.LoggedRegions.{region_of};
-ghost use Rattle.sc_plant.specs.Left.{AgreesAt, IsLeft};
+ghost use Rattle.sc_plant.specs.Left.{AgreesAt, IsLeftLogged};
 ghost use Rattle.sc_plant.specs.Regions.{IsMadeByLog};
 
 use crate::compare::first_difference;
-use crate::left::Left;
+use crate::left::{Left, LoggedLeft};
 use crate::of_program::OfProgram;
 use crate::recorded_core::RecordedCore;
 use crate::slot::Slot;
 use sc_lockpass::Version;
+use sc_play::Region;
 use sc_worklog::LoggedRegion;
 use std::sync::Mutex;
 
@@ -19,18 +20,19 @@ pub fn left_of<'p, P: OfProgram>(
     recorded: RecordedCore<P>,
     slots: Vec<Mutex<Slot<'p, P>>>,
     room: Vec<LoggedRegion<'p>>,
-) -> (Left<'p>, bool)
+) -> (LoggedLeft<'p>, bool)
     requires count { vec_len slots ≡ 512 }
     requires room { 512 ≤ vec_capacity room }
     requires empty { room.items ≡ [] }
-    ensures left { (p : Image) → P.image ≡ Some p → IsLeft p result.0 }
+    ensures count { length result.0.regions.items ≡ 512 }
+    ensures left { (p : Image) → P.image ≡ Some p → IsLeftLogged p result.0 }
     ensures core { result.0.core ≡ recorded.core }
     ensures lines { result.0.lines ≡ recorded.lines }
     ensures made { result.1 ≡ false → All (λ r. ∥ IsMadeByLog r ∥₁) result.0.regions.items }
 {
     let (regions, is_refused) = regions_of(slots, room);
     let RecordedCore { core, lines, of: _ } = recorded;
-    let left = Left {
+    let left = LoggedLeft {
         regions,
         core,
         lines,
@@ -65,10 +67,46 @@ fn regions_of<'p, P: OfProgram>(
 }
 
 /// The least handler whose region's log isn't that of its settlements.
-pub fn difference(left: &Left<'_>) -> Option<u16>
+pub fn difference(left: &LoggedLeft<'_>) -> Option<u16>
     requires { length left.now.regions.items ≡ 512 }
     ensures some { IfSome result (λ h. (AgreesAt left.now h → ⊥) × ((k : ℕ) → k < h → AgreesAt left.now k)) }
     ensures none { IfNone result ((h : ℕ) → AgreesAt left.now h) }
 {
     first_difference(left.regions.as_slice(), left.core.log())
+}
+
+/// The same, without logs.
+pub fn without_logs<'p>(left: LoggedLeft<'p>, room: Vec<Region<'p>>) -> Left<'p>
+    requires room { vec_len left.regions ≤ vec_capacity room }
+    requires empty { room.items ≡ [] }
+    ensures regions { result.regions.items ≡ map region_of left.entry.regions.items }
+    ensures core { result.core ≡ left.entry.core }
+    ensures lines { result.lines ≡ left.entry.lines }
+    ensures version { result.version ≡ left.entry.version }
+{
+    let LoggedLeft {
+        regions,
+        core,
+        lines,
+        version,
+    } = left;
+    Left {
+        regions: bare(regions, room),
+        core,
+        lines,
+        version,
+    }
+}
+
+/// The regions behind those that are there, in order, without their logs.
+fn bare<'p>(mut logged: Vec<LoggedRegion<'p>>, mut regions: Vec<Region<'p>>) -> Vec<Region<'p>>
+    requires room { vec_len logged ≤ vec_capacity regions }
+    requires empty { regions.items ≡ [] }
+    ensures { result.items ≡ map region_of logged.entry.items }
+{
+    logged.reverse();
+    while let Some(region) = logged.pop() {
+        regions.push_reserved(region.into_region());
+    }
+    regions
 }

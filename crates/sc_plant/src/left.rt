@@ -5,6 +5,7 @@ ghost use Rattle.sc_plant.specs.Left.{world_of};
 
 use sc_audit::RecordLine;
 use sc_lockpass::Version;
+use sc_play::Region;
 use sc_request::Core;
 use sc_runtime::{is_busy, push_end, push_handler};
 use sc_worklog::LoggedRegion;
@@ -13,9 +14,18 @@ use std::alloc::{AllocError, Global};
 /// What a run leaves: the region of each handler by number, with regions for those that there may be, and the core.
 #[derive(Drop)]
 pub struct Left<'p> {
-    pub regions: Vec<LoggedRegion<'p>>,
+    pub regions: Vec<Region<'p>>,
     pub core: Core,
     /// Which handler made how many turns, in the order in which they were settled.
+    pub lines: Vec<RecordLine>,
+    pub version: Version,
+}
+
+/// The same, where each region has the log of the jobs that it played.
+#[derive(Drop)]
+pub struct LoggedLeft<'p> {
+    pub regions: Vec<LoggedRegion<'p>>,
+    pub core: Core,
     pub lines: Vec<RecordLine>,
     pub version: Version,
 }
@@ -23,13 +33,13 @@ pub struct Left<'p> {
 /// Why a run isn't done.
 #[derive(Drop)]
 pub enum RunFault<'p> {
-    /// U1: memory was refused. What the run left then; or none, where it was refused as the run began, or to a turn that was
-    /// settled already.
+    /// U1: memory was refused. What the run left then, once the refused turn was put back and all others were settled; or none,
+    /// where it was refused before the first turn.
     OutOfMemory(Option<Left<'p>>),
     /// U2: a thread was refused.
     ThreadRefused,
     /// U3: the region of this handler played other jobs, or turns, than were settled of it. The workers never cause this.
-    LogsDiffer(u16, Left<'p>),
+    LogsDiffer(u16, LoggedLeft<'p>),
 }
 
 impl<'p> Left<'p> {

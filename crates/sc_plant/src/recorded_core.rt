@@ -6,7 +6,7 @@ ghost use Rattle.sc_request.specs.Cores.{center_of, log_of, state_of};
 ghost use Rattle.sc_plant.specs.Due.{AreBelow, GrantsNone, PlaysTo};
 ghost use Rattle.sc_plant.specs.Recorded.{lines_of};
 
-use crate::due::{self, Undue, is_granting};
+use crate::due::{self, Undue};
 use crate::of_program::OfProgram;
 use sc_audit::RecordLine;
 use sc_region::{Job, Want};
@@ -41,30 +41,18 @@ impl<P: OfProgram> RecordedCore<P> {
         Ok(())
     }
 
-    /// The next handler that has something to do, whose job is written into a place. Where its reserve step is granted, that
-    /// turn is settled and recorded; else the handler is out with its job. None where no handler has anything to do.
+    /// The next handler that has something to do, whose job is written into a place, is out with it. Where that is what its
+    /// reserve step was granted, it isn't out, and is to play and to settle it before anybody else is picked. None where no
+    /// handler has anything to do.
     ///
-    /// There is room in the record then for all that are out, and for what comes behind a granted turn.
+    /// There is room then to settle and to record it, and all that are out.
     ///
     /// # Errors
     /// Where there is no memory. Then no handler goes out.
     pub fn pick(&mut self, place: &mut Job) -> Result<Option<u16>, AllocError> {
-        let wanted = self.core.out_count().saturating_add(2);
+        let wanted = self.core.out_count().saturating_add(1);
         self.lines.reserve(wanted)?;
-        let Some(handler) = due::pick_due(&mut self.core, place)? else {
-            return Ok(None);
-        };
-        if is_granting(place) {
-            self.lines.push_reserved(RecordLine { handler, turns: 1 });
-            return Ok(Some(handler));
-        }
-        Ok(Some(handler))
-    }
-
-    /// A handler that has something to do is out with it: its job. None where it has nothing to do, where its reserve step is
-    /// granted, or where there is no memory. Then it isn't out.
-    pub fn pick_again(&mut self, handler: u16) -> Option<Job> {
-        due::pick_again(&mut self.core, handler)
+        due::pick_due(&mut self.core, place)
     }
 
     /// The handler isn't out any more.

@@ -1,10 +1,8 @@
 //! Which handler a worker plays next: what lies under the lock of the core.
-use crate::due::Undue;
+use crate::due::{Undue, is_granting};
 use crate::of_program::OfProgram;
 use crate::recorded_core::RecordedCore;
 use crate::task::{Played, Task};
-use sc_region::Job;
-use std::mem;
 
 /// The most turns of a task.
 pub const MOST_TURNS: u32 = 256;
@@ -23,8 +21,6 @@ pub const MOST_LINES: usize = 1_000_000;
 pub enum Stop {
     /// There was no memory. What was played is settled, and who was refused is put back.
     OutOfMemory,
-    /// There was no memory for a turn that is settled, or to settle turns that were played.
-    Lost,
     /// There was no thread.
     ThreadRefused,
 }
@@ -34,6 +30,8 @@ pub enum Stop {
 pub enum Next {
     /// It plays its task.
     Play,
+    /// It plays the turn that was granted, and settles it, before the lock is let go.
+    Grant,
     /// There is nothing to do, until some handler that is out comes back.
     Wait,
     /// There is nothing to do, and no handler is out; or nothing more may be done.
@@ -52,18 +50,17 @@ pub struct Scheduler<P: OfProgram> {
 }
 
 impl<P: OfProgram> Scheduler<P> {
-    /// The workers are to end. That a settled turn is lost goes before other reasons.
+    /// The workers are to end.
     pub fn stop_for(&mut self, why: Stop) {
-        if self.stop.is_none() || why == Stop::Lost {
+        if self.stop.is_none() {
             self.stop = Some(why);
         }
     }
 
     /// What a task came to is taken in.
     pub fn take_in(&mut self, task: &Task, played: Played) {
-        self.weigh(played);
         match played {
-            Played::Nothing => self.put_back(task),
+            Played::Nothing => {}
             Played::Made(turns) => self.settle(task, turns),
             Played::CutShort(turns) => {
                 self.settle(task, turns);
@@ -73,15 +70,11 @@ impl<P: OfProgram> Scheduler<P> {
                 self.put_back(task);
                 self.stop_for(Stop::OutOfMemory);
             }
-            Played::Lost => {
-                self.put_back(task);
-                self.stop_for(Stop::Lost);
-            }
         }
     }
 
     /// Counts short tasks.
-    fn weigh(&mut self, played: Played) {
+    pub fn weigh(&mut self, played: Played) {
         if let Played::Made(turns) = played {
             self.short = if turns < FEW_TURNS {
                 self.short.saturating_add(1)
@@ -98,19 +91,18 @@ impl<P: OfProgram> Scheduler<P> {
 
     /// The handler of a task isn't out any more, and nothing of its job is settled.
     fn put_back(&mut self, task: &Task) {
-        if task.is_out {
-            self.recorded.put_back(task.handler);
-        }
+        self.recorded.put_back(task.handler);
         self.give_back(task.turns);
     }
 
-    /// Settles so many turns of the job of a task. Where its handler has nothing to do, they aren't settled: then its region's
-    /// log has more than its settlements, which the comparison of the logs tells.
+    /// Settles so many turns of the job of a task. Where its handler has nothing to do, or there is no memory, which there is
+    /// since it was picked, they aren't settled: then its region's log has more than its settlements, which the comparison of
+    /// the logs tells.
     fn settle(&mut self, task: &Task, turns: u32) {
         match self.recorded.settle(task.handler, turns, &task.asked) {
             Ok(()) => self.give_back(task.turns.saturating_sub(turns)),
             Err(Undue::Idle) => self.give_back(task.turns),
-            Err(Undue::OutOfMemory) => self.stop_for(Stop::Lost),
+            Err(Undue::OutOfMemory) => self.stop_for(Stop::OutOfMemory),
         }
     }
 
@@ -136,10 +128,7 @@ impl<P: OfProgram> Scheduler<P> {
         }
         if self.stop.is_none() && !self.is_full() {
             match self.recorded.pick(&mut task.job) {
-                Ok(Some(handler)) => {
-                    self.send(handler, task);
-                    return Next::Play;
-                }
+                Ok(Some(handler)) => return self.send(handler, task),
                 Ok(None) => {}
                 Err(_) => self.stop_for(Stop::OutOfMemory),
             }
@@ -151,36 +140,17 @@ impl<P: OfProgram> Scheduler<P> {
         }
     }
 
-    /// Completes the task of a handler that was picked.
-    fn send(&mut self, handler: u16, task: &mut Task) {
+    /// Completes the task of a handler that was picked. What its reserve step was granted is one turn.
+    fn send(&mut self, handler: u16, task: &mut Task) -> Next {
+        let is_granted = is_granting(&task.job);
         task.handler = handler;
-        task.is_out = true;
-        if task.granted.is_some() {
-            task.granted = None;
-        }
-        if let Job::Granted(_) = &task.job {
-            self.send_granted(handler, task);
-        }
-        task.turns = if self.lines_to_come() > MOST_LINES {
-            0
+        task.turns = if is_granted {
+            1
         } else {
             self.turns.min(MOST_TURNS)
         };
         self.turns = self.turns.saturating_sub(task.turns);
-    }
-
-    /// A handler whose reserve step was granted goes out with the job behind it, so that no other worker picks it before that
-    /// turn is played.
-    fn send_granted(&mut self, handler: u16, task: &mut Task) {
-        self.turns = self.turns.saturating_sub(1);
-        match self.recorded.pick_again(handler) {
-            Some(job) => task.granted = Some(mem::replace(&mut task.job, job)),
-            None => {
-                task.granted = Some(mem::replace(&mut task.job, Job::Go));
-                task.is_out = false;
-                self.stop_for(Stop::OutOfMemory);
-            }
-        }
+        if is_granted { Next::Grant } else { Next::Play }
     }
 
     /// Whether a worker that sleeps may find something to do, beside the handler that goes out, and it pays to wake it.

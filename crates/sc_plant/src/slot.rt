@@ -40,27 +40,18 @@ impl<'p, P: OfProgram> Slot<'p, P> {
         }
     }
 
-    /// Plays a task: the turn that was granted, and then the job.
+    /// Plays the job of a task, for as many turns as it may.
     pub fn play(&mut self, task: &mut Task) -> Played {
         let Task {
-            granted,
-            is_out,
             job,
             turns,
             asked,
             ..
         } = task;
-        if let Some(granted) = granted {
-            match self.play_job(granted, 1, asked) {
-                Played::Made(_) => {}
-                _ => return Played::Lost,
-            }
+        if *turns == 0 {
+            return Played::Refused;
         }
-        if *is_out && *turns > 0 {
-            self.play_job(job, *turns, asked)
-        } else {
-            Played::Nothing
-        }
+        self.play_job(job, *turns, asked)
     }
 
     /// Plays a job, for so many turns at most.

@@ -6,13 +6,8 @@ use sc_region::{Job, Want};
 #[derive(Drop)]
 pub struct Task {
     pub handler: u16,
-    /// What its reserve step was granted, if it was. That turn is settled already, and is played first.
-    pub granted: Option<Job>,
-    /// Whether the handler is out.
-    pub is_out: bool,
-    /// What it is out with, if it is.
     pub job: Job,
-    /// How many turns of the job may be played. Where that is none, the handler is put back after the turn that was granted.
+    /// How many turns of the job may be played.
     pub turns: u32,
     /// What the last turn of the job asked, once it is played.
     pub asked: Want,
@@ -23,8 +18,6 @@ impl Task {
     pub fn new() -> Task {
         Task {
             handler: 0,
-            granted: None,
-            is_out: false,
             job: Job::Go,
             turns: 0,
             asked: Want::Continue,
@@ -35,7 +28,7 @@ impl Task {
 /// What a task came to.
 #[derive(Clone, Copy)]
 pub enum Played {
-    /// No turn of its job was made, and none was refused.
+    /// No task was played.
     Nothing,
     /// So many turns of its job were made.
     Made(u32),
@@ -43,6 +36,4 @@ pub enum Played {
     CutShort(u32),
     /// Memory was refused to the first turn of the job.
     Refused,
-    /// Memory was refused to the turn that was granted, which is settled already.
-    Lost,
 }

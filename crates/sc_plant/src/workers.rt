@@ -9,18 +9,24 @@ use std::thread;
 use std::thread::Threads;
 
 /// What a task came to is taken in, and the next task picked: whether there is one. The lock is taken once, unless there is
-/// nothing to do now.
-fn exchange<P: OfProgram, R: Wait>(
+/// nothing to do now. What a reserve step was granted is played and settled there, so that nothing changes in between.
+fn exchange<'p, P: OfProgram, R: Wait>(
     rt: &R,
     scheduler: &Mutex<Scheduler<P>>,
     changed: &Condvar,
+    slots: &Vec<Mutex<Slot<'p, P>>>,
     task: &mut Task,
     played: Played,
 ) -> bool {
     let mut held = scheduler.lock(rt);
+    held.weigh(played);
     held.take_in(task, played);
     for _ in rt.forever() {
         match held.next(task) {
+            Next::Grant => {
+                let granted = play_granted(rt, slots, task);
+                held.take_in(task, granted);
+            }
             Next::Play => {
                 let wakes = held.wakes(task.handler);
                 drop(held);
@@ -47,6 +53,19 @@ fn exchange<P: OfProgram, R: Wait>(
     unreachable!()
 }
 
+/// Plays a turn that was granted, under the lock of its region. Nobody else holds that: the handler isn't out.
+fn play_granted<'p, P: OfProgram, R: Wait>(
+    rt: &R,
+    slots: &Vec<Mutex<Slot<'p, P>>>,
+    task: &mut Task,
+) -> Played {
+    let Some(slot) = slots.get(task.handler as usize) else {
+        return Played::Refused;
+    };
+    let mut held = slot.lock(rt);
+    held.play(task)
+}
+
 /// Plays a task under the lock of its region.
 fn play<'p, P: OfProgram, R: Wait, G: Gate>(
     rt: &R,
@@ -55,7 +74,7 @@ fn play<'p, P: OfProgram, R: Wait, G: Gate>(
     task: &mut Task,
 ) -> Played {
     let Some(slot) = slots.get(task.handler as usize) else {
-        return Played::Lost;
+        return Played::Refused;
     };
     let mut held = slot.lock(rt);
     gate.began(task.handler);
@@ -75,7 +94,7 @@ fn work<'p, P: OfProgram, R: Wait, G: Gate>(
     let mut task = Task::new();
     let mut played = Played::Nothing;
     for _ in rt.forever() {
-        if !exchange(rt, scheduler, changed, &mut task, played) {
+        if !exchange(rt, scheduler, changed, slots, &mut task, played) {
             return;
         }
         played = play(rt, slots, gate, &mut task);

@@ -58,7 +58,7 @@ idle-under : (h : ℕ) (o : Option Job) (x y : PlainWorld) → TurnsUnder h o x 
 idle-under h None x y same e = (same, refl)
 idle-under h (Some j) x y makes e = absurd (cc)
 
-runs-idle : (n h : ℕ) (x : PlainWorld) → None ≡ pick_for h x.center → Runs (replicate n h) x x
+pub runs-idle : (n h : ℕ) (x : PlainWorld) → None ≡ pick_for h x.center → Runs (replicate n h) x x
 runs-idle zero h x e = refl
 runs-idle (suc n) h x e = (x, turn-none h x x e refl, runs-idle n h x e)
 

@@ -1,4 +1,5 @@
 pub mod Free
+pub mod Kept
 pub mod Reports
 pub mod Rounds
 pub mod Turning

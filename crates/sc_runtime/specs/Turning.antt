@@ -1,5 +1,5 @@
 -- Turns of a world.
-use Rattle.std.specs.Prelude.{◌≡◌, ◌⊎◌, ℕ, List, [], ◌∷◌, Option, Some, None, slice_get, slice_set, take}
+use Rattle.std.specs.Prelude.{◌≡◌, ◌<◌, ◌≤◌, ◌⊎◌, ℕ, List, [], ◌∷◌, Option, Some, None, replicate, slice_get, slice_set, take}
 use Rattle.sc_region.specs.declared.job.Job.{Job}
 use Rattle.sc_region.specs.declared.job.Outcome.{Outcome}
 use Rattle.sc_request.specs.Logs.{Center, pick_for, picked, put_back, settles}
@@ -75,3 +75,20 @@ pub record StopsBehind (n : ℕ) (hs : List ℕ) (x y : PlainWorld) : Type 0 whe
   pub runs : Runs (take n hs) x before
   pub stands : slice_get hs n ≡ Some next
   pub refused : IsRefusedTurn next before y
+
+-- ---- turns of one handler
+
+-- So many turns of the handler, at most the limit, lead from the first world to the second. None are made where it has nothing
+-- to do.
+pub record TurnsUnderJob (limit h turns : ℕ) (x y : PlainWorld) : Type 0 where
+  pub few : turns ≤ limit
+  pub runs : Runs (replicate turns h) x y
+  pub idle : turns ≡ 0 → pick_for h y.center ≡ None
+
+-- Fewer turns of the handler than the limit were made, one after the other, and memory was refused to the next.
+pub record StopsShort (limit h : ℕ) (x y : PlainWorld) : Type 0 where
+  pub made : ℕ
+  pub few : made < limit
+  pub before : PlainWorld
+  pub runs : Runs (replicate made h) x before
+  pub refused : IsRefusedTurn h before y

@@ -1,5 +1,6 @@
 //! What holds in each world that turns lead to, each the contract of a function that does nothing.
 ghost use Rattle.sc_runtime.specs.Free.{OpeningsAreLinked, RoundsStayLinked, RunsStayLinked, StoppedRoundsStayLinked, StoppedRunsStayLinked};
+ghost use Rattle.sc_runtime.specs.Kept.{KeptAlikeAreAlike, OpeningsAreOf, RunsStayOf};
 
 /// At the opening each handler serves in the core what its region serves.
 pub fn openings_are_linked()
@@ -24,4 +25,19 @@ pub fn rounds_stay_linked()
 /// So it is where memory was refused to one of those.
 pub fn stopped_rounds_stay_linked()
     ensures { StoppedRoundsStayLinked }
+{}
+
+/// At the opening of a program all regions are of it, and nobody is out,
+pub fn openings_are_of_their_program()
+    ensures { OpeningsAreOf }
+{}
+
+/// and it stays so after the turns of any handlers.
+pub fn runs_stay_of_their_program()
+    ensures { RunsStayOf }
+{}
+
+/// Worlds of one program of which the same is kept are the same, but for the handler picked last.
+pub fn kept_alike_are_alike()
+    ensures { KeptAlikeAreAlike }
 {}

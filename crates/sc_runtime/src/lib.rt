@@ -1,13 +1,15 @@
 //! The world of many handlers: their turns, one after the other, and what they leave.
 //!
 //! [`World`] has the core and a region for each handler. A turn is picked from the core, played by the handler's region and
-//! settled in the core. In each world that turns lead to, the objects of a handler that is free meet their class
+//! settled in the core. [`KeptWorld`] is what a world held, to be compared with others. In each world that turns lead to, the objects of a handler that is free meet their class
 //! invariants.
 #![tactic(auto)]
 
+mod kept_world;
 pub mod laws;
 mod report;
 mod world;
 
+pub use kept_world::KeptWorld;
 pub use report::{code_of, is_busy, push_end, push_handler};
 pub use world::{Turned, World};

@@ -11,7 +11,7 @@ ghost use Rattle.sc_request.specs.Logs as core;
 ghost use Rattle.sc_runtime.specs.Free.{FreeObjectMeets};
 ghost use Rattle.sc_runtime.specs.Reports as told;
 ghost use Rattle.sc_runtime.specs.Rounds.{AreCutShort, EndsRounds, IsRefusedNext, Played, StopsRounds, TurnsOfNext, turns_at_once};
-ghost use Rattle.sc_runtime.specs.Turning.{IsRefusedTurn, IsTurn, PutsBack, Runs, StopsBehind, turned_by};
+ghost use Rattle.sc_runtime.specs.Turning.{IsRefusedTurn, IsTurn, PutsBack, Runs, StopsBehind, StopsShort, TurnsUnderJob, turned_by};
 ghost use Rattle.sc_runtime.specs.Worlds.{max_handlers, new_regions, opened};
 
 use crate::report::{self, push_end, push_handler};
@@ -41,10 +41,10 @@ const MAX_HANDLERS: u16 = 512;
 /// of its objects meets its class invariant.
 #[derive(Drop)]
 pub struct World<'p> {
-    alloc: Global,
-    core: Core,
+    pub(crate) alloc: Global,
+    pub(crate) core: Core,
     /// The region of each handler by number, and places for those that there may be.
-    regions: Vec<Region<'p>>,
+    pub(crate) regions: Vec<Region<'p>>,
     ghost places: { vec_len regions ≡ 512 },
     ghost linked: { AreLinked (center_of core) regions.items } by { linked_prop (center_of core) regions.items },
 }
@@ -127,12 +127,41 @@ impl<'p> World<'p> {
         ensures err { OnErr result ((n : ℕ) ×
             StopsBehind n (replicate count handler) (world_of self.old) (world_of self.new)) }
     {
+        let mut left = count;
         for _ in 0..count {
-            if self.turn(handler)? == Turned::Nothing {
+            if left == 0 {
                 break;
             }
+            let made = self.turns_under_job(handler, left)?;
+            if made == 0 {
+                break;
+            }
+            left = left.saturating_sub(made);
         }
         Ok(())
+    }
+
+    /// A handler plays so many turns at most under the job that it has, and they are settled as one: how many, none where it has
+    /// nothing to do. Fewer are made where one asks something.
+    ///
+    /// # Errors
+    /// Where memory is refused to one of them, perhaps behind others.
+    fn turns_under_job(&mut self, handler: u16, limit: u32) -> Result<u32, AllocError>
+        requires { 1 ≤ limit }
+        ensures ok { IfOk result (λ turns. TurnsUnderJob limit handler turns (world_of self.old) (world_of self.new)) }
+        ensures err { OnErr result (StopsShort limit handler (world_of self.old) (world_of self.new)) }
+    {
+        self.core.make_room()?;
+        if self.core.pick_at(handler) {
+            let region = &mut self.regions[handler as usize];
+            let (turns, cut_short) = play(&mut self.core, region, handler, limit)?;
+            if cut_short {
+                return Err(AllocError);
+            }
+            Ok(turns)
+        } else {
+            Ok(0)
+        }
     }
 
     /// A turn of each handler, in order of number and round and round, until none has anything to do or so many turns are

@@ -9,6 +9,7 @@ use sc_plant::{Gate, Left, RunFault, run};
 use std::alloc::{AllocError, Global};
 use std::process::Abort;
 use std::sync::Wait;
+use std::sync::atomic::{AtomicU64, Ordering};
 use std::test::Fail;
 use std::thread::Threads;
 
@@ -36,8 +37,26 @@ pub fn load<R: Abort>(rt: &R, alloc: Global, text: &str) -> Result<Program, Fail
     }
 }
 
+/// A gate that notes whether a turn began.
+#[derive(Drop)]
+struct Noting<'a, G: Gate> {
+    gate: &'a G,
+    begun: AtomicU64,
+}
+
+impl<'a, G: Gate> Gate for Noting<'a, G> {
+    fn began(&self, handler: u16) {
+        self.begun.store(1, Ordering::SeqCst);
+        self.gate.began(handler);
+    }
+
+    fn ended(&self, handler: u16) {
+        self.gate.ended(handler);
+    }
+}
+
 /// The report of what a run leaves, whose audit says yes. A replay of its record reports the same, also where memory was refused
-/// on the way.
+/// on the way, which leaves something where a turn began.
 pub fn leave<R: Abort + Threads + Wait + Sync, G: Gate>(
     rt: &R,
     alloc: Global,
@@ -46,10 +65,18 @@ pub fn leave<R: Abort + Threads + Wait + Sync, G: Gate>(
     limit: u32,
     gate: &G,
 ) -> Result<String, Fail> {
-    match run(rt, alloc, program, workers, limit, gate) {
+    let noting = Noting {
+        gate,
+        begun: AtomicU64::new(0),
+    };
+    match run(rt, alloc, program, workers, limit, &noting) {
         Ok(left) => audited(rt, alloc, program, left),
         Err(RunFault::OutOfMemory(Some(left))) => {
             replayed(rt, alloc, program, left)?;
+            Err(Fail::from(AllocError))
+        }
+        Err(RunFault::OutOfMemory(None)) => {
+            assert_eq!(rt; noting.begun.load(Ordering::SeqCst), 0);
             Err(Fail::from(AllocError))
         }
         Err(RunFault::LogsDiffer(handler, _)) => panic!(rt; "the logs of handler {handler} differ"),

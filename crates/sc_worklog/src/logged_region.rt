@@ -109,6 +109,14 @@ impl<'p> LoggedRegion<'p> {
         &self.region
     }
 
+    /// The region; its log is let go.
+    pub fn into_region(self) -> Region<'p>
+        ensures { result ≡ region_of self.entry }
+    {
+        let LoggedRegion { region, .. } = self;
+        region
+    }
+
     /// The number of the handler.
     pub fn handler(&self) -> u16
         ensures { result ≡ (region_of self.now).handler }

@@ -2,6 +2,7 @@ use Rattle.std.proofs.Common.{◌<◌, List, Some, refl, sym, ap, subst, ◌∙�
 use Rattle.std.proofs.lemmas.List.Elements.{All-nil}
 use Rattle.sc_request.specs.declared.settlement.Settlement.{Settlement}
 use Rattle.sc_request.specs.Cores.{log_of}
+use Rattle.sc_request.specs.Logs.{Center}
 use Rattle.sc_runtime.specs.Worlds.{max_handlers}
 use Rattle.sc_plant.specs.Due.{AreBelow}
 use Rattle.sc_plant.specs.Recorded.{lines_of}
@@ -21,5 +22,6 @@ returns c =
       plays = plays_opened p p (Some p) core refl refl c.in_ok-core.ensures.center log;
       below = subst AreBelow (sym log) (All-nil (λ (e : Settlement). e.handler < max_handlers));
       lines = c.new.ensures.items ∙ sym (ap (λ (es : List Settlement). lines_of es) log);
+      home = λ h. ap (λ (x : Center). x.out h) c.in_ok-core.ensures.center;
       regions = new_own p (log_of core) c.in_ok-regions.regions.items log c.in_ok-regions.ensures.new;
     }

@@ -14,5 +14,5 @@ loop-handler-preserved c = record {
   len = omega (arith, c.push_reserved.ensures.len, c.loop-handler.invariant.len);
   room = omega (arith, c.push_reserved.ensures.capacity, c.loop-handler.invariant.room);
   new = more_new c.args.program.now.image c.loop-handler.handler c.loop-handler.regions.items _ c.new.result c.loop-handler.invariant.new
-      (omega (arith, c.loop-handler.regions.ok.0, c.loop-handler.invariant.len)) c.new.ensures.region c.new.ensures.entries c.push_reserved.ensures.items;
+      (omega (arith, c.loop-handler.regions.ok.0, c.loop-handler.invariant.len)) c.new.ensures c.push_reserved.ensures.items;
 }

@@ -3,9 +3,9 @@ use Rattle.std.proofs.lemmas.Option.{slice_get_read}
 use Rattle.sc_audit.specs.declared.line.RecordLine.{RecordLine}
 use Rattle.sc_request.specs.Logs.{Center}
 use Rattle.sc_runtime.proofs.Outs.{on-err}
-use Rattle.sc_plant.proofs.OnWay.{advances, goes_left, goes_on, put_back_left, stays_on, way_left}
-use Rattle.sc_plant.proofs.Dues.{is_out, none_next, picked_next, same_center}
-use Rattle.sc_plant.proofs.PuttingBack.{put_back_state}
+use Rattle.sc_plant.proofs.OnWay.{advances, goes_on, goes_stopped, put_back_stopped, stays_on, way_stopped}
+use Rattle.sc_plant.proofs.Dues.{is_out, none_next, picked_next}
+use Rattle.sc_plant.proofs.PuttingBack.{put_back_out, put_back_state}
 use Rattle.sc_plant.proofs.alone.play_next.Goals as goal
 
 pub play_out-played-requires-clause-out : goal.play_out-played-requires-clause-out
@@ -22,22 +22,19 @@ play_out-played-requires-clause-version g c = c.pick.ensures.version ∙ c.make_
 pub returns-in_err-make_room-clause-err : goal.returns-in_err-make_room-clause-err
 returns-in_err-make_room-clause-err g c =
     on-err c.from_residual.result _
-    (λ p way. way_left p _ (stays_on p c.args.left.now _
-    (same_center c.args.left.now.core c.make_room.new.self c.make_room.ensures.center c.make_room.ensures.log) refl refl refl c.make_room.ensures.version way))
+    (λ p way. way_stopped p _ (stays_on p c.args.left.now _ c.make_room.ensures.center c.make_room.ensures.log refl refl refl c.make_room.ensures.version way))
 
 pub returns-in_err-reserve-clause-err : goal.returns-in_err-reserve-clause-err
 returns-in_err-reserve-clause-err g c =
     on-err c.from_residual-in_err-reserve.result _
-    (λ p way. way_left p _ (stays_on p c.args.left.now _
-    (same_center c.args.left.now.core c.make_room.new.self c.make_room.ensures.center c.make_room.ensures.log) refl c.reserve.ensures.items refl
+    (λ p way. way_stopped p _ (stays_on p c.args.left.now _ c.make_room.ensures.center c.make_room.ensures.log refl c.reserve.ensures.items refl
     c.make_room.ensures.version way))
 
 pub returns-in_default-clause-on : goal.returns-in_default-clause-on
 returns-in_default-clause-on g c = λ p way.
     stays_on p c.args.left.now _
-    (same_center c.args.left.now.core c.pick.new.self
     (none_next c.make_room.new.self c.pick.new.self c.in_default.ensures.handler c.pick.ensures.center ∙ c.make_room.ensures.center)
-    (c.pick.ensures.log ∙ c.make_room.ensures.log)) refl c.reserve.ensures.items refl (c.pick.ensures.version ∙ c.make_room.ensures.version) way
+    (c.pick.ensures.log ∙ c.make_room.ensures.log) refl c.reserve.ensures.items refl (c.pick.ensures.version ∙ c.make_room.ensures.version) way
 
 pub returns-in_default-played-clause-err : goal.returns-in_default-played-clause-err
 returns-in_default-played-clause-err g c = λ p way.
@@ -45,12 +42,14 @@ returns-in_default-played-clause-err g c = λ p way.
     let goes = picked_next h c.make_room.new.self c.pick.new.self c.in-Some.ensures.handler c.pick.ensures.center in
     let back = c.in_default-played.ensures.err in
     let at = slice_get_read c.args.left.now.regions.items 512 h c.index_mut-region.result.now (sym c.requires.count) c.in-Some.ensures.below c.index_mut-region.ensures.value in
-    put_back_left p c.args.left.now _ h c.index_mut-region.result.now c.play_out-played.new.region
+    put_back_stopped p c.args.left.now _ h back.job c.index_mut-region.result.now c.play_out-played.new.region
     (record {
       state = put_back_state h c.make_room.new.self c.pick.new.self c.play_out-played.new.core goes back.center ∙ ap (λ (x : Center). x.state) c.make_room.ensures.center;
       log = back.log ∙ c.pick.ensures.log ∙ c.make_room.ensures.log;
     })
-    at refl back.program c.reserve.ensures.items refl way
+    (λ k none.
+    put_back_out h c.make_room.new.self c.pick.new.self c.play_out-played.new.core goes back.center k
+    (ap (λ (x : Center). x.out k) c.make_room.ensures.center ∙ none)) at refl back.refused c.reserve.ensures.items refl way
 
 pub returns-then-is_cut_short-clause-err : goal.returns-then-is_cut_short-clause-err
 returns-then-is_cut_short-clause-err g c = λ p way.
@@ -61,7 +60,7 @@ returns-then-is_cut_short-clause-err g c = λ p way.
     let go = advances c.args.limit h c.in-Ok.turns c.play_out-played.new.asked c.args.left.now.core c.make_room.new.self c.pick.new.self c.play_out-played.new.core
     c.index_mut-region.result.now c.play_out-played.new.region c.in-Some.ensures.below c.make_room.ensures.center c.make_room.ensures.log goes c.pick.ensures.log
     c.in-Ok.ensures.ok in
-    goes_left p c.args.left.now _ h c.in-Ok.turns c.args.limit c.play_out-played.new.asked c.index_mut-region.result.now c.play_out-played.new.region go at refl
+    goes_stopped p c.args.left.now _ h c.in-Ok.turns c.args.limit c.play_out-played.new.asked c.index_mut-region.result.now c.play_out-played.new.region go at refl
     (c.push_reserved.ensures.items ∙ ap (λ (ls : List RecordLine). ls ++ line ∷ []) c.reserve.ensures.items) refl way
 
 pub returns-clause-on : goal.returns-clause-on

@@ -1,21 +1,38 @@
-use Rattle.std.proofs.Common.{sym, ◌∙◌, arith}
+use Rattle.std.proofs.Common.{◌≡◌, ◌+◌, refl, sym, ◌∙◌, arith}
+use Rattle.sc_runtime.specs.Views.{world_of}
+use Rattle.sc_runtime.proofs.AtOnce.{runs_on, runs_out, stops_on}
 use Rattle.sc_runtime.proofs.Outs.{on-err}
-use Rattle.sc_runtime.proofs.Running.{nothing-is, runs-again, runs-many, runs-rest, stops-again}
 use Rattle.sc_runtime.proofs.world.World.turns_of.Goals as goal
 
-pub returns-in_err-turn-clause-err : goal.returns-in_err-turn-clause-err
-returns-in_err-turn-clause-err c =
+pub loop-init : goal.loop-init
+loop-init c = record { made = 0; all = omega arith; runs = refl; each = omega arith }
+
+pub returns-in_err-made-clause-err : goal.returns-in_err-made-clause-err
+returns-in_err-made-clause-err c =
     on-err c.from_residual.result _
-    (c.loop.counter, stops-again c.args.count c.loop.counter c.args.handler _ _ _ c.loop-test.true c.loop.invariant c.in_err-turn.ensures.err)
+    (stops_on c.loop.invariant.made c.loop.left c.args.count c.args.handler _ (world_of c.loop.self) _ c.loop.invariant.all c.loop.invariant.runs c.in_err-made.ensures.err)
 
 pub loop-preserved : goal.loop-preserved
 loop-preserved c =
-    runs-again c.args.count c.loop.counter c.args.handler _ _ _ c.loop-test.true c.loop.invariant c.in_ok-turn.ensures.ok
+    let few = c.in_ok-made.ensures.ok.few in
+    record {
+      made = c.loop.invariant.made + c.in_ok-made.made;
+      all = omega (arith, c.saturating_sub-left.ensures, c.loop.invariant.all, few);
+      runs = runs_on c.loop.invariant.made c.in_ok-made.made _ c.args.handler _ (world_of c.loop.self) _ refl c.loop.invariant.runs c.in_ok-made.ensures.ok.runs;
+      each = omega (arith, c.saturating_sub-left.ensures, c.loop.invariant.each, c.if-made-eq0.false, c.if-left-eq0.false);
+    }
 
 pub returns-after-loop-clause-ok : goal.returns-after-loop-clause-ok
-returns-after-loop-clause-ok c = runs-many c.args.count c.loop.counter c.args.handler _ _ (omega arith) c.loop.invariant
+returns-after-loop-clause-ok c =
+    runs_on c.loop.invariant.made 0 c.args.count c.args.handler _ (world_of c.loop.self) _ (omega (arith, c.loop.invariant.all, c.loop.invariant.each)) c.loop.invariant.runs refl
 
-pub returns-then-eq-clause-ok : goal.returns-then-eq-clause-ok
-returns-then-eq-clause-ok c =
-    runs-rest c.args.count c.loop.counter c.args.handler _ _ _ c.loop.invariant c.in_ok-turn.ensures.ok
-    (nothing-is c.in_ok-turn.field-0 (sym c.eq.ensures ∙ c.if-eq.true) ∙ c.in_ok-turn.ensures.turned)
+pub returns-then-left-eq0-clause-ok : goal.returns-then-left-eq0-clause-ok
+returns-then-left-eq0-clause-ok c =
+    runs_on c.loop.invariant.made 0 c.args.count c.args.handler _ (world_of c.loop.self) _ (omega (arith, c.loop.invariant.all, c.if-left-eq0.true)) c.loop.invariant.runs refl
+
+pub returns-then-made-eq0-clause-ok : goal.returns-then-made-eq0-clause-ok
+returns-then-made-eq0-clause-ok c =
+    runs_out (c.loop.invariant.made + c.in_ok-made.made) c.loop.left c.args.count c.args.handler _ _
+    (omega (arith, c.loop.invariant.all, c.if-made-eq0.true))
+    (runs_on c.loop.invariant.made c.in_ok-made.made _ c.args.handler _ (world_of c.loop.self) _ refl c.loop.invariant.runs c.in_ok-made.ensures.ok.runs)
+    (sym (c.in_ok-made.ensures.ok.idle c.if-made-eq0.true))
