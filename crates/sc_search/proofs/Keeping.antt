@@ -1,0 +1,79 @@
+-- States that are kept.
+use Rattle.std.proofs.Common.{◌≡◌, ◌⊎◌, ◌+◌, ◌<◌, ◌≤◌, ◌++◌, ◌∙◌, inl, inr, ℕ, zero, suc, Bool, true, false, IsTrue, ◌↔◌, List, [], ◌∷◌, Option, Some, None, is_some, Result, Ok, Err, length, map, slice_get, refl, sym, ap, subst, arith}
+use Rattle.std.specs.Option.{option_map}
+use Rattle.std.specs.Prelude.{IfNone, IfOk}
+use Rattle.std.proofs.lemmas.List.{length-map, map-append}
+use Rattle.std.proofs.lemmas.Option.{slice_get-map}
+use Rattle.sc_lockpass.specs.declared.version.Version.{Version}
+use Rattle.sc_code.specs.declared.program.Image.{Image}
+use Rattle.sc_runtime.specs.Kept.{PlainKept, kept}
+use Rattle.sc_runtime.specs.Reports.{statuses}
+use Rattle.sc_runtime.specs.Turning.{IsTurn, Runs}
+use Rattle.sc_runtime.specs.Worlds.{PlainWorld, opened}
+use Rattle.sc_search.specs.declared.aims.Aim.{Aim}
+use Rattle.sc_search.specs.Aims.{IsMet}
+use Rattle.sc_search.specs.Closed.{IsAmong, IsIn, IsTried, IsUnmet}
+use Rattle.sc_search.specs.Steps.{AreUnmet, Extends, Keeps, Opens}
+
+-- ---- lists
+
+pub get_last : {X : Type 0} (xs : List X) (x : X) → slice_get (xs ++ x ∷ []) (length xs) ≡ Some x
+get_last [] x = refl
+get_last (y ∷ xs) x = get_last xs x
+
+pub get_before : {X : Type 0} (xs : List X) (x : X) (i : ℕ) (k : X) → slice_get xs i ≡ Some k → slice_get (xs ++ x ∷ []) i ≡ Some k
+get_before [] x i k e = cc
+get_before (y ∷ xs) x zero k e = e
+get_before (y ∷ xs) x (suc i) k e = get_before xs x i k e
+
+-- what stands in the longer list stood before, or is the last one
+pub get_either : {X : Type 0} (xs : List X) (x : X) (i : ℕ) (k : X) → slice_get (xs ++ x ∷ []) i ≡ Some k → (slice_get xs i ≡ Some k) ⊎ (k ≡ x)
+get_either [] x zero k e = inr cc
+get_either [] x (suc i) k e = cc
+get_either (y ∷ xs) x zero k e = inl e
+get_either (y ∷ xs) x (suc i) k e = get_either xs x i k e
+
+pub same_some : {X : Type 0} (x y : X) → Some x ≡ Some y → x ≡ y
+same_some x y e = cc
+
+-- ---- worlds
+
+-- one more turn
+pub runs_more : (hs : List ℕ) (h : ℕ) (x y z : PlainWorld) → Runs hs x y → IsTurn h y z → Runs (hs ++ h ∷ []) x z
+runs_more [] h x y z same turn = (z, subst (λ (w : PlainWorld). IsTurn h w z) same turn, refl)
+runs_more (k ∷ hs) h x y z runs turn = (runs.0, runs.1, runs_more hs h runs.0 y z runs.2 turn)
+
+unmet_not : (b : Bool) (P : Type 0) → b ≡ false → (IsTrue b ↔ P) → P → ⊥
+unmet_not true P e is p = let no : true ≡ false = e in cc
+unmet_not false P e is p = let no : false ≡ true = is.1 p in cc
+
+module _ (a : Aim) (w : PlainWorld) (ks : List PlainKept) (b : Bool) (not_met : b ≡ false) (tells : IsTrue b ↔ IsMet a (statuses w)) where
+  -- the state was met before
+  pub keeps_found : (ls : List PlainKept) (number : ℕ) → ls ≡ ks → slice_get ks number ≡ Some (kept w) → Keeps a w ks ls
+  keeps_found ls number same at = record {
+    among = record { number = number; stands = ap (λ (ms : List PlainKept). slice_get ms number) same ∙ at };
+    grows = inl same;
+    unmet = unmet_not b (IsMet a (statuses w)) not_met tells;
+  }
+
+  -- it is met now
+  pub keeps_new : (ls : List PlainKept) → ls ≡ ks ++ kept w ∷ [] → Keeps a w ks ls
+  keeps_new ls more = record {
+    among = record { number = length ks; stands = ap (λ (ms : List PlainKept). slice_get ms (length ks)) more ∙ get_last ks (kept w) };
+    grows = inr more;
+    unmet = unmet_not b (IsMet a (statuses w)) not_met tells;
+  }
+
+pub none_is : {X : Type 0} (o : Option X) → is_some o ≡ false → o ≡ None
+none_is None e = refl
+none_is (Some x) e = cc
+
+pub at_none : {S A : Type 0} (o : Option S) → o ≡ None → IfNone o A → A
+at_none None e is = is
+at_none (Some s) e is = cc
+
+-- what is said of a search that goes on
+pub goes_through : {A B : Type 0} {S E : Type 0} → (A → B) → (r : Result (Option S) E) → IfOk r (λ stop. IfNone stop A) → IfOk r (λ stop. IfNone stop B)
+goes_through f (Ok None) is = f is
+goes_through f (Ok (Some s)) is = tt
+goes_through f (Err e) is = tt

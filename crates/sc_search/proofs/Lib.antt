@@ -1,0 +1,4 @@
+mod Turning
+mod Keeping
+mod Trying
+mod Verdicts

@@ -1,0 +1,43 @@
+-- What is looked for, by how the handlers stand.
+use Rattle.std.specs.Prelude.{◌≡◌, ◌⊎◌, Bool, true, false, List}
+use Rattle.std.specs.List.{list_any}
+use Rattle.sc_model.specs.declared.status.Status.{Status}
+use Rattle.sc_model.specs.declared.status.Status.TheVariants.{Failed, Busy, Waiting, Free}
+use Rattle.sc_search.specs.declared.aims.Aim.{Aim}
+use Rattle.sc_search.specs.declared.aims.Aim.TheVariants as aim
+use Rattle.sc_search.specs.declared.judging.Kind.{Kind}
+use Rattle.sc_search.specs.declared.judging.Kind.TheVariants as kind
+
+-- the handler stands so
+abbrev pub is_of : Kind → Status → Bool
+is_of kind.HasFailed (Failed why) = true
+is_of kind.HasFailed Busy = false
+is_of kind.HasFailed Waiting = false
+is_of kind.HasFailed Free = false
+is_of kind.IsBusy (Failed why) = false
+is_of kind.IsBusy Busy = true
+is_of kind.IsBusy Waiting = false
+is_of kind.IsBusy Free = false
+is_of kind.IsWaiting (Failed why) = false
+is_of kind.IsWaiting Busy = false
+is_of kind.IsWaiting Waiting = true
+is_of kind.IsWaiting Free = false
+
+-- one of the handlers stands so
+abbrev pub some_is : Kind → List Status → Bool
+some_is k statuses = list_any (is_of k) statuses
+
+-- None of the handlers has anything to do, and one waits.
+pub record AreStuck (statuses : List Status) : Type 0 where
+  pub idle : some_is kind.IsBusy statuses ≡ false
+  pub waits : some_is kind.IsWaiting statuses ≡ true
+
+-- One of them has failed.
+abbrev pub HasFailed : List Status → Type 0
+HasFailed statuses = some_is kind.HasFailed statuses ≡ true
+
+-- They stand as is looked for.
+abbrev pub IsMet : Aim → List Status → Type 0
+IsMet aim.Stuck statuses = AreStuck statuses
+IsMet aim.Fails statuses = HasFailed statuses
+IsMet aim.Any statuses = AreStuck statuses ⊎ HasFailed statuses

@@ -1,0 +1,43 @@
+-- States that no turn leaves.
+use Rattle.std.specs.Prelude.{◌≡◌, ℕ, List, Some, slice_get}
+use Rattle.sc_lockpass.specs.declared.version.Version.{Version}
+use Rattle.sc_code.specs.declared.program.Image.{Image}
+use Rattle.sc_runtime.specs.Kept.{PlainKept, kept}
+use Rattle.sc_runtime.specs.Reports.{statuses}
+use Rattle.sc_runtime.specs.Turning.{IsTurn, Runs}
+use Rattle.sc_runtime.specs.Worlds.{PlainWorld, opened}
+use Rattle.sc_search.specs.declared.aims.Aim.{Aim}
+use Rattle.sc_search.specs.Aims.{IsMet}
+
+-- Turns of some handlers lead to the world from the opening of the program, and what is kept of it is this state.
+pub record IsIn (p : Image) (v : Version) (k : PlainKept) (w : PlainWorld) : Type 0 where
+  pub handlers : List ℕ
+  pub runs : Runs handlers (opened p v) w
+  pub kept : kept w ≡ k
+
+-- The state is one of these.
+pub record IsAmong (ks : List PlainKept) (k : PlainKept) : Type 0 where
+  pub number : ℕ
+  pub stands : slice_get ks number ≡ Some k
+
+-- A turn of the handler leads from a world in the state to one in a state among these. Without anything to do it leads to
+-- the same.
+pub record IsTried (p : Image) (v : Version) (ks : List PlainKept) (k : PlainKept) (h : ℕ) : Type 0 where
+  pub before : PlainWorld
+  pub after : PlainWorld
+  pub stands_in : IsIn p v k before
+  pub turn : IsTurn h before after
+  pub among : IsAmong ks (kept after)
+
+-- A world is in the state, and its handlers don't stand as is looked for.
+pub record IsUnmet (p : Image) (v : Version) (a : Aim) (k : PlainKept) : Type 0 where
+  pub world : PlainWorld
+  pub stands_in : IsIn p v k world
+  pub unmet : IsMet a (statuses world) → ⊥
+
+-- The opening of the program is in one of the states. In none of them the handlers stand as is looked for, and each turn of
+-- each handler leads from each of them to one of them.
+pub record IsClosed (p : Image) (v : Version) (a : Aim) (ks : List PlainKept) : Type 0 where
+  pub opens : IsAmong ks (kept (opened p v))
+  pub unmet : (i : ℕ) (k : PlainKept) → slice_get ks i ≡ Some k → IsUnmet p v a k
+  pub tried : (i : ℕ) (k : PlainKept) → slice_get ks i ≡ Some k → (h : ℕ) → IsTried p v ks k h

@@ -1,0 +1,6 @@
+pub mod Aims
+pub mod Found
+pub mod Closed
+pub mod Steps
+pub mod Views
+pub mod Verdicts

@@ -1,0 +1,19 @@
+-- What a whole search shows.
+use Rattle.std.specs.Prelude.{◌≡◌, true, List}
+use Rattle.sc_lockpass.specs.declared.version.Version.{Version}
+use Rattle.sc_code.specs.declared.program.Image.{Image}
+use Rattle.sc_runtime.specs.Kept.{PlainKept}
+use Rattle.sc_search.specs.declared.aims.Aim.{Aim}
+use Rattle.sc_search.specs.declared.verdict.Finding.TheVariants as finding
+use Rattle.sc_search.specs.declared.verdict.Verdict.{Verdict}
+use Rattle.sc_search.specs.Closed.{IsClosed}
+
+-- Nothing was found, and the states that were met are closed.
+pub record IsProved (p : Image) (v : Version) (a : Aim) (d : Verdict) : Type 0 where
+  pub nothing : d.finding ≡ finding.Nothing
+  pub states : List PlainKept
+  pub closed : IsClosed p v a states
+
+-- Where the verdict is whole, that is so.
+abbrev pub IsShown : Image → Version → Aim → Verdict → Type 0
+IsShown p v a d = d.is_whole ≡ true → IsProved p v a d

@@ -1,0 +1,80 @@
+//! The search over choices alone.
+
+use crate::movers::{Rest, play_movers};
+use crate::progress::{Progress, Stop, Way};
+use crate::replay::{Subject, world_after};
+use crate::watch::Watch;
+use std::alloc::AllocError;
+
+/// Plays choices in every order, and movers behind each, as long as no more than so many states are kept: why it stopped
+/// before all was played.
+///
+/// # Errors
+/// Where there is no memory.
+pub(crate) fn play_choices<'p, W: Watch>(
+    subject: Subject<'p>,
+    progress: &mut Progress<'p>,
+    limit: u32,
+    watch: &mut W,
+) -> Result<Option<Stop>, AllocError> {
+    let opening = Way {
+        parent: None,
+        turns: Vec::new(subject.alloc),
+        from: 0,
+    };
+    if let Some(stop) = follow(subject, progress, opening, limit)? {
+        return Ok(Some(stop));
+    }
+    for number in 0..limit {
+        if number >= progress.states.len() {
+            break;
+        }
+        if let Some(stop) = choose(subject, progress, number, limit)? {
+            return Ok(Some(stop));
+        }
+        watch.kept(progress.states.len());
+    }
+    Ok(None)
+}
+
+/// Tries the choice of each handler in a state.
+fn choose<'p>(
+    subject: Subject<'p>,
+    progress: &mut Progress<'p>,
+    number: u32,
+    limit: u32,
+) -> Result<Option<Stop>, AllocError> {
+    let path = progress.states.path(number)?;
+    let world = world_after(subject, &path)?;
+    for handler in 0..world.core().handler_count() {
+        let handler = handler as u16;
+        if world.core().pick_for(handler).is_none() {
+            continue;
+        }
+        let mut turns = path.clone()?;
+        turns.push(handler)?;
+        let way = Way {
+            parent: Some(number),
+            turns,
+            from: path.len(),
+        };
+        if let Some(stop) = follow(subject, progress, way, limit)? {
+            return Ok(Some(stop));
+        }
+    }
+    Ok(None)
+}
+
+/// Plays movers behind the turns of a way, and keeps the state that they lead to.
+fn follow<'p>(
+    subject: Subject<'p>,
+    progress: &mut Progress<'p>,
+    mut way: Way,
+    limit: u32,
+) -> Result<Option<Stop>, AllocError> {
+    match play_movers(subject, &mut way.turns)? {
+        Rest::Met => Ok(Some(Stop::Met(way.turns))),
+        Rest::Endless => Ok(Some(Stop::Cut)),
+        Rest::At(world) => progress.keep(subject, world, way, limit),
+    }
+}

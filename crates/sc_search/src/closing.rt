@@ -1,0 +1,135 @@
+//! The search over all turns.
+ghost use Rattle.std.specs.Prelude.{◌≡◌, [], IfNone, IfOk};
+ghost use Rattle.sc_runtime.specs.Views.{world_of};
+ghost use Rattle.sc_search.specs.Closed.{IsClosed};
+ghost use Rattle.sc_search.specs.Steps.{Opens, Stands, Tries, TriesAll};
+ghost use Rattle.sc_search.specs.Views.{states_of};
+
+use crate::progress::{Progress, Stop, Way};
+use crate::replay::{Subject, world_after};
+use crate::watch::Watch;
+use sc_runtime::World;
+use std::alloc::AllocError;
+
+/// Plays each turn of each state, as long as no more than so many states are kept: why it stopped before all was played.
+///
+/// # Errors
+/// Where there is no memory.
+pub(crate) fn play_all<'p, W: Watch>(
+    subject: Subject<'p>,
+    progress: &mut Progress<'p>,
+    limit: u32,
+    watch: &mut W,
+) -> Result<Option<Stop>, AllocError>
+    requires { states_of progress.old ≡ [] }
+    ensures { IfOk result (λ stop. IfNone stop (IsClosed subject.entry.program.now.image subject.entry.version subject.entry.aim (states_of progress.new))) }
+{
+    if let Some(stop) = keep_opening(subject, progress, limit)? {
+        return Ok(Some(stop));
+    }
+    let mut number = 0;
+    for _ in 0..limit {
+        if number >= progress.states.len() {
+            break;
+        }
+        if let Some(stop) = try_all(subject, progress, number, limit)? {
+            return Ok(Some(stop));
+        }
+        number += 1;
+        watch.kept(progress.states.len());
+    }
+    if number < progress.states.len() || number == u32::MAX {
+        return Ok(Some(Stop::Cut));
+    }
+    Ok(None)
+}
+
+/// Keeps the state that the program opens in.
+fn keep_opening<'p>(
+    subject: Subject<'p>,
+    progress: &mut Progress<'p>,
+    limit: u32,
+) -> Result<Option<Stop>, AllocError>
+    requires { states_of progress.old ≡ [] }
+    ensures { IfOk result (λ stop. IfNone stop (Opens subject.entry.program.now.image subject.entry.version subject.entry.aim (states_of progress.new))) }
+{
+    let turns = Vec::new(subject.alloc);
+    let world = world_after(subject, &turns)?;
+    let opening = Way {
+        parent: None,
+        turns,
+        from: 0,
+    };
+    progress.keep(subject, world, opening, limit)
+}
+
+/// Tries the turn of each handler in a state.
+fn try_all<'p>(
+    subject: Subject<'p>,
+    progress: &mut Progress<'p>,
+    number: u32,
+    limit: u32,
+) -> Result<Option<Stop>, AllocError>
+    ensures { IfOk result (λ stop. IfNone stop
+        (TriesAll subject.entry.program.now.image subject.entry.version subject.entry.aim (states_of progress.old) (states_of progress.new) number)) }
+{
+    let path = progress.states.path(number)?;
+    let world = world_after(subject, &path)?;
+    if !progress.states.is_at(number, &world) {
+        return Ok(Some(Stop::Cut));
+    }
+    for place in 0..world.core().handler_count() {
+        let handler = place as u16;
+        if let Some(stop) = try_turn(subject, progress, number, &world, &path, handler, limit)? {
+            return Ok(Some(stop));
+        }
+    }
+    Ok(None)
+}
+
+/// Tries the turn of a handler in the state of a number, to which these turns led this world.
+fn try_turn<'p>(
+    subject: Subject<'p>,
+    progress: &mut Progress<'p>,
+    number: u32,
+    world: &World<'p>,
+    path: &[u16],
+    handler: u16,
+    limit: u32,
+) -> Result<Option<Stop>, AllocError>
+    requires { Stands subject.program.now.image subject.version (states_of progress.old) number path.now (world_of world.now) }
+    ensures { IfOk result (λ stop. IfNone stop
+        (Tries subject.entry.program.now.image subject.entry.version subject.entry.aim (states_of progress.old) (states_of progress.new) number handler)) }
+{
+    if world.core().pick_for(handler).is_none() {
+        return Ok(None);
+    }
+    move_on(subject, progress, number, path, handler, limit)
+}
+
+/// Makes the turn of a handler in the state of a number, to which these turns led, in a world that is played anew.
+fn move_on<'p>(
+    subject: Subject<'p>,
+    progress: &mut Progress<'p>,
+    number: u32,
+    path: &[u16],
+    handler: u16,
+    limit: u32,
+) -> Result<Option<Stop>, AllocError>
+    ensures { IfOk result (λ stop. IfNone stop
+        (Tries subject.entry.program.now.image subject.entry.version subject.entry.aim (states_of progress.old) (states_of progress.new) number handler)) }
+{
+    let mut world = world_after(subject, path)?;
+    if !progress.states.is_at(number, &world) {
+        return Ok(Some(Stop::Cut));
+    }
+    world.turn(handler)?;
+    let mut turns = Vec::from_slice(subject.alloc, path)?;
+    turns.push(handler)?;
+    let way = Way {
+        parent: Some(number),
+        turns,
+        from: path.len(),
+    };
+    progress.keep(subject, world, way, limit)
+}

@@ -1,0 +1,63 @@
+//! How the handlers of a state stand to what is looked for.
+ghost use Rattle.std.specs.Prelude.{◌≡◌, ◌↔◌, IsTrue};
+ghost use Rattle.sc_search.specs.Aims.{AreStuck, HasFailed, IsMet, is_of, some_is};
+
+use crate::aims::Aim;
+use sc_model::Status;
+
+/// How a handler may stand.
+#[derive(Clone, Copy, Debug, PartialEq, Eq)]
+pub(crate) enum Kind {
+    HasFailed,
+    IsBusy,
+    IsWaiting,
+}
+
+/// Whether what is looked for is met, where the handlers stand so.
+pub(crate) fn is_met(aim: Aim, statuses: &[Status]) -> bool
+    ensures { IsTrue result ↔ IsMet aim statuses.now }
+{
+    match aim {
+        Aim::Stuck => are_stuck(statuses),
+        Aim::Fails => has_failed(statuses),
+        Aim::Any => are_stuck(statuses) || has_failed(statuses),
+    }
+}
+
+/// Whether none of the handlers has anything to do, and one waits.
+pub(crate) fn are_stuck(statuses: &[Status]) -> bool
+    ensures { IsTrue result ↔ AreStuck statuses.now }
+{
+    !some_is(Kind::IsBusy, statuses) && some_is(Kind::IsWaiting, statuses)
+}
+
+/// Whether one of the handlers has failed.
+pub(crate) fn has_failed(statuses: &[Status]) -> bool
+    ensures { IsTrue result ↔ HasFailed statuses.now }
+{
+    some_is(Kind::HasFailed, statuses)
+}
+
+/// Whether one of the handlers stands so.
+pub(crate) fn some_is(kind: Kind, statuses: &[Status]) -> bool
+    ensures { result ≡ some_is kind statuses.now }
+{
+    for status in statuses {
+        if is_of(kind, *status) {
+            return true;
+        }
+    }
+    false
+}
+
+/// Whether a handler stands so.
+fn is_of(kind: Kind, status: Status) -> bool
+    ensures { result ≡ is_of kind status }
+{
+    match (kind, status) {
+        (Kind::HasFailed, Status::Failed(_))
+        | (Kind::IsBusy, Status::Busy)
+        | (Kind::IsWaiting, Status::Waiting) => true,
+        _ => false,
+    }
+}

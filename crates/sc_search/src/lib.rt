@@ -1,0 +1,25 @@
+//! The search of all orders in which the handlers of a program may make their turns.
+//!
+//! [`search`] looks for an order that leaves handlers stuck, or in which one fails. `specs/Found` says what a found order is,
+//! and `specs/Closed` why there is none where every order was played.
+#![tactic(auto)]
+
+mod aims;
+mod choices;
+mod closing;
+mod ends;
+mod judging;
+mod length;
+mod lines;
+mod movers;
+mod progress;
+mod replay;
+mod searching;
+mod states;
+mod verdict;
+mod watch;
+
+pub use aims::Aim;
+pub use searching::search;
+pub use verdict::{End, Finding, Length, Order, Verdict};
+pub use watch::Watch;

@@ -1,0 +1,58 @@
+//! Turns as the lines of a record.
+ghost use Rattle.std.specs.Prelude.{◌≡◌, ◌++◌, ◌∷◌, [], IfOk, IfSome};
+ghost use Rattle.sc_search.specs.Found.{line_turns, turns_of};
+
+use sc_audit::RecordLine;
+use std::alloc::{AllocError, Global};
+
+/// The lines of these turns. Turns of a handler that follow one another are one line.
+///
+/// # Errors
+/// Where there is no memory.
+pub(crate) fn lines_of(alloc: Global, turns: &[u16]) -> Result<Vec<RecordLine>, AllocError>
+    ensures { IfOk result (λ lines. turns_of lines.items ≡ turns.now) }
+{
+    let mut lines = Vec::new(alloc);
+    let mut last = RecordLine {
+        handler: 0,
+        turns: 0,
+    };
+    for handler in turns {
+        last = add_turn(&mut lines, last, *handler)?;
+    }
+    if last.turns > 0 {
+        lines.push(last)?;
+    }
+    Ok(lines)
+}
+
+/// Adds a turn behind the lines and the last one, which doesn't stand among them yet: the last one then.
+fn add_turn(
+    lines: &mut Vec<RecordLine>,
+    last: RecordLine,
+    handler: u16,
+) -> Result<RecordLine, AllocError>
+    ensures { IfOk result (λ line. turns_of lines.new.items ++ line_turns line ≡ (turns_of lines.old.items ++ line_turns last) ++ handler ∷ []) }
+{
+    if let Some(line) = extended(last, handler) {
+        return Ok(line);
+    }
+    lines.push(last)?;
+    Ok(RecordLine { handler, turns: 1 })
+}
+
+/// The line with one more turn, if that may be.
+fn extended(line: RecordLine, handler: u16) -> Option<RecordLine>
+    ensures { IfSome result (λ longer. line_turns longer ≡ line_turns line ++ handler ∷ []) }
+{
+    if line.turns == 0 {
+        return Some(RecordLine { handler, turns: 1 });
+    }
+    if line.handler != handler || line.turns == u32::MAX {
+        return None;
+    }
+    Some(RecordLine {
+        handler,
+        turns: line.turns + 1,
+    })
+}

@@ -1,0 +1,161 @@
+//! Turns that need no branching.
+//!
+//! A turn of a handler is a choice if it reserves handlers, creates one, or fails; if it asks with lock passing, unless
+//! nobody else can be in its way; and if it takes a request while another handler may post to it. Any other is a mover: it
+//! comes to the same before and behind the turns of others, so that these needn't be tried before it.
+
+use crate::judging::is_met;
+use crate::replay::{Subject, world_after};
+use sc_model::Status;
+use sc_region::{Job, Want};
+use sc_request::Core;
+use sc_runtime::World;
+use std::alloc::AllocError;
+
+/// How many handlers there may be in any version.
+const MAX_HANDLERS: usize = 512;
+
+/// The most movers that are played one after the other.
+const MOST_MOVERS: u32 = 1_000_000;
+
+/// What is known of the next turn of a handler.
+#[derive(Clone, Copy, Debug, PartialEq, Eq)]
+enum Peek {
+    /// Nothing, or that it may be a mover.
+    Unknown,
+    /// It is a choice.
+    Choice,
+    /// It asks this handler, with lock passing.
+    Passes(u16),
+}
+
+/// Where movers led.
+#[derive(Drop)]
+pub(crate) enum Rest<'p> {
+    /// On the way what is looked for was met.
+    Met,
+    /// No handler has a mover any more.
+    At(World<'p>),
+    /// There were too many of them.
+    Endless,
+}
+
+/// How movers in a world ended.
+enum Moved {
+    /// None is left.
+    All,
+    /// The last turn was a choice, which is not to be made yet.
+    Chose,
+    /// There were too many.
+    TooMany,
+}
+
+/// Plays movers behind these turns until none is left, and adds their turns.
+///
+/// # Errors
+/// Where there is no memory.
+pub(crate) fn play_movers<'p>(
+    subject: Subject<'p>,
+    turns: &mut Vec<u16>,
+) -> Result<Rest<'p>, AllocError> {
+    let mut peeks = vec![in subject.alloc; Peek::Unknown; MAX_HANDLERS]?;
+    for _ in 0..MOST_MOVERS {
+        let mut world = world_after(subject, turns)?;
+        let statuses = world.statuses()?;
+        if is_met(subject.aim, &statuses) {
+            return Ok(Rest::Met);
+        }
+        match move_on(&mut world, turns, &mut peeks)? {
+            Moved::All => return Ok(Rest::At(world)),
+            Moved::Chose => {}
+            Moved::TooMany => return Ok(Rest::Endless),
+        }
+    }
+    Ok(Rest::Endless)
+}
+
+/// Plays movers in the world, until none is left or one turns out to be a choice, and adds their turns.
+fn move_on(
+    world: &mut World<'_>,
+    turns: &mut Vec<u16>,
+    peeks: &mut Vec<Peek>,
+) -> Result<Moved, AllocError> {
+    for _ in 0..MOST_MOVERS {
+        let Some(handler) = next_mover(world.core(), peeks) else {
+            return Ok(Moved::All);
+        };
+        let was = peek_at(peeks, handler);
+        world.turn(handler)?;
+        let peek = if was == Peek::Unknown {
+            last_peek(world)
+        } else {
+            Peek::Unknown
+        };
+        if let Some(place) = peeks.get_mut(handler as usize) {
+            *place = peek;
+        }
+        if peek != Peek::Unknown {
+            return Ok(Moved::Chose);
+        }
+        turns.push(handler)?;
+    }
+    Ok(Moved::TooMany)
+}
+
+/// What is known of the next turn of a handler.
+fn peek_at(peeks: &[Peek], handler: u16) -> Peek {
+    peeks.get(handler as usize).copied().unwrap_or(Peek::Choice)
+}
+
+/// The first handler whose next turn may be a mover.
+fn next_mover(core: &Core, peeks: &[Peek]) -> Option<u16> {
+    for handler in 0..core.handler_count() {
+        let handler = handler as u16;
+        if may_move(core, handler, peek_at(peeks, handler)) {
+            return Some(handler);
+        }
+    }
+    None
+}
+
+/// Whether the next turn of a handler, of which this is known, may be a mover.
+fn may_move(core: &Core, handler: u16, peek: Peek) -> bool {
+    let is_free = match core.pick_for(handler) {
+        None => false,
+        Some(Job::Granted(reserved)) => reserved.is_empty(),
+        Some(Job::Take(_)) => core.awaits(handler).is_some() || !is_contested(core, handler),
+        Some(_) => true,
+    };
+    is_free
+        && match peek {
+            Peek::Unknown => true,
+            Peek::Choice => false,
+            Peek::Passes(target) => {
+                core.status(target) == Some(Status::Free) && !is_contested(core, handler)
+            }
+        }
+}
+
+/// Whether another handler may post to this one, and doesn't wait for it.
+fn is_contested(core: &Core, handler: u16) -> bool {
+    match core.holder(handler) {
+        Some(holder) => holder != handler && core.awaits(holder) != Some(handler),
+        None => false,
+    }
+}
+
+/// What the last turn of the world was.
+fn last_peek(world: &World<'_>) -> Peek {
+    let log = world.log();
+    let Some(settlement) = log.get(log.len().saturating_sub(1)) else {
+        return Peek::Choice;
+    };
+    match settlement.want {
+        Want::Create { .. } | Want::Fail(_) => Peek::Choice,
+        Want::Ask {
+            request,
+            passes: true,
+        } => Peek::Passes(request.target.handler),
+        _ => Peek::Unknown,
+    }
+}

@@ -1,0 +1,107 @@
+//! How far a search has come.
+ghost use Rattle.std.specs.Prelude.{◌≡◌, [], IfNone, IfOk};
+ghost use Rattle.sc_runtime.specs.Views.{world_of};
+ghost use Rattle.sc_search.specs.Steps.{Keeps};
+
+use crate::ends::push_end;
+use crate::judging::{Kind, is_met, some_is};
+use crate::length::Edge;
+use crate::replay::Subject;
+use crate::states::States;
+use crate::verdict::End;
+use sc_runtime::World;
+use std::alloc::AllocError;
+
+/// Why a search stops before all is played.
+#[derive(Drop)]
+pub(crate) enum Stop {
+    /// What is looked for is met after these turns.
+    Met(Vec<u16>),
+    /// The limit is reached.
+    Cut,
+}
+
+/// What a search has met.
+#[derive(Drop)]
+pub(crate) struct Progress<'p> {
+    pub(crate) states: States<'p>,
+    pub(crate) edges: Vec<Edge>,
+    pub(crate) ends: Vec<End>,
+}
+
+/// A turn, or several, on the way.
+#[derive(Drop)]
+pub(crate) struct Way {
+    /// The state that it leads from, but for the opening.
+    pub(crate) parent: Option<u32>,
+    /// The turns from the opening to where it leads.
+    pub(crate) turns: Vec<u16>,
+    /// How many of them are those to the state that it leads from.
+    pub(crate) from: usize,
+}
+
+impl<'p> Progress<'p> {
+    ghost use Rattle.sc_search.specs.Views.{states_of};
+
+    /// Nothing.
+    ///
+    /// # Errors
+    /// Where there is no memory.
+    pub(crate) fn new(subject: Subject<'p>) -> Result<Progress<'p>, AllocError>
+        ensures { IfOk result (λ progress. states_of progress ≡ []) }
+    {
+        Ok(Progress {
+            states: States::new(subject.alloc)?,
+            edges: Vec::new(subject.alloc),
+            ends: Vec::new(subject.alloc),
+        })
+    }
+
+    /// Keeps the state of the world to which the way leads, unless it was met before.
+    ///
+    /// # Errors
+    /// Where there is no memory.
+    pub(crate) fn keep(
+        &mut self,
+        subject: Subject<'p>,
+        world: World<'p>,
+        way: Way,
+        limit: u32,
+    ) -> Result<Option<Stop>, AllocError>
+        ensures { IfOk result (λ stop. IfNone stop (Keeps subject.entry.aim (world_of world.entry) (states_of self.old) (states_of self.new))) }
+    {
+        let statuses = world.statuses()?;
+        if is_met(subject.aim, &statuses) {
+            return Ok(Some(Stop::Met(way.turns)));
+        }
+        if let Some(number) = self.states.find(&world) {
+            self.push_edge(&way, number)?;
+            return Ok(None);
+        }
+        let number = self.states.len();
+        if number >= limit {
+            return Ok(Some(Stop::Cut));
+        }
+        if !some_is(Kind::IsBusy, &statuses) {
+            push_end(subject.alloc, &mut self.ends, &world, &way.turns)?;
+        }
+        self.push_edge(&way, number)?;
+        self.states.push(world, way.parent, &way.turns, way.from)?;
+        Ok(None)
+    }
+
+    /// Adds that the way leads to the state of the number.
+    fn push_edge(&mut self, way: &Way, to: u32) -> Result<(), AllocError>
+        ensures { self.new.states ≡ self.old.states }
+    {
+        if let Some(from) = way.parent {
+            let turns = way
+                .turns
+                .len()
+                .saturating_sub(way.from)
+                .min(u32::MAX as usize) as u32;
+            self.edges.push(Edge { from, to, turns })?;
+        }
+        Ok(())
+    }
+}

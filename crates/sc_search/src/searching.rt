@@ -1,0 +1,125 @@
+//! The search.
+ghost use Rattle.std.specs.Prelude.{◌≡◌, IfOk, None, true};
+ghost use Rattle.sc_search.specs.Found.{IsFound};
+ghost use Rattle.sc_search.specs.Verdicts.{IsShown};
+ghost use Rattle.sc_search.specs.Views.{states_of};
+
+use crate::aims::Aim;
+use crate::choices::play_choices;
+use crate::closing::play_all;
+use crate::length::length_of;
+use crate::progress::{Progress, Stop};
+use crate::replay::{Subject, finding_after};
+use crate::verdict::{Finding, Length, Verdict};
+use crate::watch::Watch;
+use sc_code::Program;
+use sc_lockpass::Version;
+use std::alloc::{AllocError, Global};
+
+/// Looks for an order of turns of a program, where there may be as many handlers as the version has, that leads to what is
+/// looked for. No more than so many states are kept.
+///
+/// First orders that differ only in turns that touch nothing of others are played once. If nothing is found so, all are played.
+///
+/// # Errors
+/// Where there is no memory.
+pub fn search<W: Watch>(
+    alloc: Global,
+    program: &Program,
+    version: Version,
+    aim: Aim,
+    states: u32,
+    watch: &mut W,
+) -> Result<Verdict, AllocError>
+    ensures found { IfOk result (λ verdict. IsFound program.now.image version verdict.finding) }
+    ensures whole { IfOk result (IsShown program.now.image version aim) }
+{
+    let subject = Subject {
+        alloc,
+        program,
+        version,
+        aim,
+    };
+    let found = search_choices(subject, states, watch)?;
+    if !matches!(found.finding, Finding::Nothing) {
+        return Ok(found);
+    }
+    let whole = search_all(subject, states, watch)?;
+    if matches!(whole.finding, Finding::Undecided) {
+        return Ok(found);
+    }
+    Ok(whole)
+}
+
+/// The search over choices alone.
+fn search_choices<W: Watch>(
+    subject: Subject<'_>,
+    limit: u32,
+    watch: &mut W,
+) -> Result<Verdict, AllocError>
+    ensures found { IfOk result (λ verdict. IsFound subject.entry.program.now.image subject.entry.version verdict.finding) }
+    ensures whole { IfOk result (IsShown subject.entry.program.now.image subject.entry.version subject.entry.aim) }
+{
+    let mut progress = Progress::new(subject)?;
+    let stop = play_choices(subject, &mut progress, limit, watch)?;
+    verdict_of(subject, progress, stop, false)
+}
+
+/// The search over all turns.
+fn search_all<W: Watch>(
+    subject: Subject<'_>,
+    limit: u32,
+    watch: &mut W,
+) -> Result<Verdict, AllocError>
+    ensures found { IfOk result (λ verdict. IsFound subject.entry.program.now.image subject.entry.version verdict.finding) }
+    ensures whole { IfOk result (IsShown subject.entry.program.now.image subject.entry.version subject.entry.aim) }
+{
+    let mut progress = Progress::new(subject)?;
+    let stop = play_all(subject, &mut progress, limit, watch)?;
+    verdict_of(subject, progress, stop, true)
+}
+
+/// What a search comes to that stopped so, and played all turns or choices alone.
+fn verdict_of(
+    subject: Subject<'_>,
+    progress: Progress<'_>,
+    stop: Option<Stop>,
+    is_all: bool,
+) -> Result<Verdict, AllocError>
+    ensures found { IfOk result (λ verdict. IsFound subject.entry.program.now.image subject.entry.version verdict.finding) }
+    ensures whole { IfOk result (λ verdict. verdict.is_whole ≡ true → (is_all ≡ true) × (stop ≡ None) × (verdict.finding ≡ Finding.Nothing)) }
+{
+    let states = progress.states.len();
+    let is_whole = is_all && stop.is_none();
+    let length = match stop {
+        None => {
+            let first = progress.states.path(0)?.len().min(u32::MAX as usize) as u32;
+            length_of(subject.alloc, first, states as usize, &progress.edges)?
+        }
+        Some(_) => Length::Unknown,
+    };
+    let finding = finding_of(subject, stop)?;
+    let Progress { ends, .. } = progress;
+    Ok(Verdict {
+        finding,
+        states,
+        is_whole,
+        ends,
+        length,
+    })
+}
+
+/// What is found where a search stopped so.
+fn finding_of(subject: Subject<'_>, stop: Option<Stop>) -> Result<Finding, AllocError>
+    ensures found { IfOk result (IsFound subject.entry.program.now.image subject.entry.version) }
+    ensures none { stop ≡ None → IfOk result (λ finding. finding ≡ Finding.Nothing) }
+{
+    match stop {
+        None => Ok(Finding::Nothing),
+        Some(Stop::Met(turns)) => Ok(match finding_after(subject, &turns)? {
+            Some(finding) => finding,
+            None => Finding::Undecided,
+        }),
+        Some(Stop::Cut) => Ok(Finding::Undecided),
+    }
+}

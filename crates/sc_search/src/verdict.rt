@@ -1,0 +1,56 @@
+//! What a search comes to.
+
+use sc_audit::RecordLine;
+
+/// An order of turns, from the opening on.
+#[derive(Drop)]
+pub struct Order {
+    /// Its turns, as lines of a record.
+    pub lines: Vec<RecordLine>,
+}
+
+/// What a search found.
+#[derive(Drop)]
+pub enum Finding {
+    /// No order. Where the search was whole, there is none.
+    Nothing,
+    /// After these turns no handler has anything to do, and some handler waits.
+    Stuck(Order),
+    /// After these turns some handler has failed.
+    Fails(Order),
+    /// The limit was reached before all was played.
+    Undecided,
+}
+
+/// How orders end: in a state in which no handler has anything to do.
+#[derive(Drop)]
+pub struct End {
+    /// An order that ends so.
+    pub order: Order,
+    /// The report of what it leaves.
+    pub report: Vec<u8>,
+}
+
+/// How long orders are.
+#[derive(Clone, Copy, Debug, PartialEq, Eq)]
+pub enum Length {
+    /// Each ends, after so many turns at most.
+    AtMost(u32),
+    /// Some order goes on for ever.
+    Endless,
+    /// That isn't known.
+    Unknown,
+}
+
+/// What a search comes to.
+#[derive(Drop)]
+pub struct Verdict {
+    pub finding: Finding,
+    /// How many states were kept.
+    pub states: u32,
+    /// Whether every order was played, and none left out.
+    pub is_whole: bool,
+    /// The ends that were met, each with another report.
+    pub ends: Vec<End>,
+    pub length: Length,
+}
