@@ -13,7 +13,7 @@ use Rattle.sc_request.proofs.Granting.{below_there}
 use Rattle.sc_request.proofs.Waking.{had_job}
 use Rattle.sc_runtime.proofs.Freeing.{next_picks}
 use Rattle.sc_refinement.specs.Refining.{HandlersComeAgain}
-use Rattle.sc_refinement.proofs.AtOnce.{begun_goes, is_job, picks_again, settled_continue}
+use Rattle.sc_runtime.proofs.AtOnce.{begun_goes, is_job, picks_again, settled_continue}
 use Rattle.sc_refinement.proofs.Idling.{none_has}
 
 none_is : {A : Type 0} (o : Option A) → is_some o ≡ false → o ≡ None

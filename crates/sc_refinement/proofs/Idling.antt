@@ -14,7 +14,7 @@ use Rattle.sc_region_turns.specs.RegionSteps.{numbering_by}
 use Rattle.sc_runtime.specs.Worlds.{PlainWorld}
 use Rattle.sc_refinement.specs.Refining.{IdleWorldIsIdle}
 use Rattle.sc_refinement.specs.Standing.{StandsFor, names_in}
-use Rattle.sc_refinement.proofs.Picking.{picks_job}
+use Rattle.sc_runtime.proofs.AtOnce.{picks_job}
 
 -- ---- where none is next, each has nothing to do
 

@@ -1,6 +1,6 @@
 mod Asked
 mod Assembling
-pub mod AtOnce
+pub mod Rounds
 mod ComingAgain
 mod Contracts
 mod Headlined
@@ -15,3 +15,12 @@ mod Refined
 mod Reporting
 mod Running
 mod Wants
+mod Back
+mod Exact
+mod Molds
+mod Acted
+mod Frames
+mod Growing
+mod Turned
+mod Worlds
+mod OneRun

@@ -24,7 +24,7 @@ use Rattle.sc_runtime.specs.Turning.{HeldUpUnder, IsHeldUp}
 use Rattle.sc_runtime.specs.Worlds.{PlainWorld}
 use Rattle.sc_refinement.specs.Refining.{RefusedTurnStaysNear, StandingWorldIsNear}
 use Rattle.sc_refinement.specs.Standing.{IsNear, IsRegionFor, StandsFor, StandsNear, names_in}
-use Rattle.sc_refinement.proofs.Picking.{picks_job}
+use Rattle.sc_runtime.proofs.AtOnce.{picks_job, set_other, set_same}
 
 -- ---- who is granted was nobody's
 
@@ -152,18 +152,6 @@ standing_world_is_near s p w x stands = record {
   none_out = stands.none_out;
   regions = λ h few. (let r = stands.regions h few in (r.0, r.1, (r.0, inl refl, r.2)));
 }
-
-pub set_same : (rs : List PlainRegion) (h : ℕ) (x y : PlainRegion) → slice_get rs h ≡ Some x → slice_get (slice_set rs h y) h ≡ Some y
-set_same [] h x y e = cc
-set_same (r ∷ rs) zero x y e = refl
-set_same (r ∷ rs) (suc h) x y e = set_same rs h x y e
-
-pub set_other : (rs : List PlainRegion) (h k : ℕ) (y : PlainRegion) → (k ≡ h → ⊥) → slice_get (slice_set rs h y) k ≡ slice_get rs k
-set_other [] h k y apart = refl
-set_other (r ∷ rs) zero zero y apart = absurd (apart refl)
-set_other (r ∷ rs) zero (suc k) y apart = refl
-set_other (r ∷ rs) (suc h) zero y apart = refl
-set_other (r ∷ rs) (suc h) (suc k) y apart = set_other rs h k y (λ e. apart (ap suc e))
 
 same_region : (a b : PlainRegion) → Some a ≡ Some b → a ≡ b
 same_region a b e = cc

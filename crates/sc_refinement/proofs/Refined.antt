@@ -29,11 +29,13 @@ use Rattle.sc_joined.specs.Order.{EachInOrder, OpensInOrder, TurnsKeepOrder}
 use Rattle.sc_settled.specs.Reached.{SettledMeetWhereReached}
 use Rattle.sc_halves.specs.Reached.{EntriesAreRemembered, HalvesWhereReached}
 use Rattle.sc_joined.specs.Joined as joined
+use Rattle.sc_runtime.specs.Kept.{KeptAlikeAreAlike, OpeningsAreOf, RunsStayOf}
 use Rattle.sc_runtime.specs.Worlds.{opened}
 use Rattle.sc_refinement.specs.Refining.{IsRunWithin, RoundsRunAsMachine, StoppedRoundsStayNear, StoppedWorldStaysNear, WorldHasHeadline, WorldRunsAsMachine}
 use Rattle.sc_refinement.specs.Standing.{names_in}
-use Rattle.sc_refinement.proofs.Assembling.{stands_along}
-use Rattle.sc_refinement.proofs.AtOnce.{refused_next_stops, rounds_are_turns, stops_join}
+use Rattle.sc_refinement.specs.Anew.{AnewRunsAsMachine}
+use Rattle.sc_refinement.proofs.Assembling.{stands_along, stands_anew}
+use Rattle.sc_refinement.proofs.Rounds.{refused_next_stops, rounds_are_turns, stops_join}
 use Rattle.sc_refinement.proofs.Headlined.{headlined}
 use Rattle.sc_refinement.proofs.Idling.{idle_world_is_idle}
 use Rattle.sc_refinement.proofs.Meeting.{job_fits}
@@ -80,7 +82,7 @@ module _ (picks : PicksWhereTurns) (halves : HalvesWhereReached) (remembered : E
           made.0,
         )
 
-    halves_meet : HalvesMeet s root p faultless well most Needs
+    pub halves_meet : HalvesMeet s root p faultless well most Needs
     halves_meet h j w c x reached here half is_job named region =
         let pure = purity_stands s in
         job_fits s root pure.0 faultless well pure.1 w (reached_fits s root pure.0 faultless well pure.1 most w reached) (names_in p) c half named h here j x is_job region
@@ -88,20 +90,20 @@ module _ (picks : PicksWhereTurns) (halves : HalvesWhereReached) (remembered : E
     in_order : (w : machine.World) → IsReached most s root w → EachInOrder w
     in_order w reached = in_each s root most EachInOrder (λ h w r order. keep_order most s h w order) (ordered s root) w reached
 
-    followed : RegionsFollow s root p faultless well most
+    pub followed : RegionsFollow s root p faultless well most
     followed h w c x reached here half remembers named region now =
         follow most (names_in p) s h w c x half region (in_order w reached h here) named now
 
-    asked : RegionsAskSo s root p faultless well most
+    pub asked : RegionsAskSo s root p faultless well most
     asked h w c x j reached half named region is_job now = ask most (names_in p) s h w c x j half region is_job named now
 
-    kept : OthersKeep s root p faultless well most
+    pub kept : OthersKeep s root p faultless well most
     kept h k w c x reached half apart few region = others most (numbering_by (names_in p)) s h k w c x half apart few region
 
-    settled_here : SettledMeet s root p faultless well most
+    pub settled_here : SettledMeet s root p faultless well most
     settled_here w reached = settled s root faultless well most w reached
 
-    end_there : TurnsEndThere s root p faultless well most
+    pub end_there : TurnsEndThere s root p faultless well most
     end_there j x y o t one = one_turn o.turns t.last y.store o.want one t.ends
 
   pub world_runs_as_machine : WorldRunsAsMachine
@@ -111,6 +113,14 @@ module _ (picks : PicksWhereTurns) (halves : HalvesWhereReached) (remembered : E
       (stores_turn s root faultless well p program fits most) (halves_meet s root faultless well p program fits most) (λ h. new_sound p) (followed s root faultless well p program fits most)
       (asked s root faultless well p program fits most) (kept s root faultless well p program fits most) (λ h k w stage past few. created most s h k w stage past few)
       (settled_here s root faultless well p program fits most) (end_there s root faultless well p program fits most) picks halves remembered hs y runs
+
+  pub anew_runs_as_machine : KeptAlikeAreAlike → OpeningsAreOf → RunsStayOf → AnewRunsAsMachine
+  anew_runs_as_machine alike open_of stay s root faultless well p v hs y program fits runs =
+      let most : ℕ = most_handlers v in
+      stands_anew s root p faultless well program fits v (Placed s root faultless well p program fits most) (Needs s root faultless well p program fits most)
+      (stores_turn s root faultless well p program fits most) (halves_meet s root faultless well p program fits most) (λ h. new_sound p) (followed s root faultless well p program fits most)
+      (asked s root faultless well p program fits most) (kept s root faultless well p program fits most) (λ h k w stage past few. created most s h k w stage past few)
+      (settled_here s root faultless well p program fits most) (end_there s root faultless well p program fits most) picks halves remembered alike open_of stay hs y runs
 
 -- ---- what follows of that alone
 

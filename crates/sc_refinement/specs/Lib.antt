@@ -1,2 +1,4 @@
 pub mod Standing
 pub mod Refining
+pub mod Functional
+pub mod Anew

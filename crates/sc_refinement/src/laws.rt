@@ -1,4 +1,5 @@
 //! Laws of the world that runs beside the machine, each the contract of a function that does nothing.
+ghost use Rattle.sc_refinement.specs.Anew.{AnewRunsAsMachine};
 ghost use Rattle.sc_refinement.specs.Refining.{HandlersComeAgain, IdleWorldIsIdle, RefusedTurnStaysNear, RoundsAreTurns, RoundsRunAsMachine, StandingWorldIsNear};
 ghost use Rattle.sc_refinement.specs.Refining.{StoppedRoundsStayNear, StoppedWorldStaysNear, WorldHasHeadline, WorldReportsAsMachine, WorldRunsAsMachine};
 
@@ -9,6 +10,9 @@ use sc_joined::laws::{
     turns_keep_order,
 };
 use sc_request::laws::core_picks_where_the_machine_turns;
+use sc_runtime::laws::{
+    kept_alike_are_alike, openings_are_of_their_program, runs_stay_of_their_program,
+};
 use sc_settled::laws::settled_objects_meet;
 
 /// The turns of any handlers lead the world of an accepted system's program to one that stands for the state to which they lead
@@ -28,6 +32,27 @@ pub fn world_runs_as_machine()
     turns_keep_order();
     new_stores_are_sound();
     sound_jobs_are_taken();
+}
+
+/// So do turns that are each made in a world that is played anew, where that is kept alike with what the turn before left.
+pub fn anew_runs_as_machine()
+    ensures { AnewRunsAsMachine }
+{
+    core_picks_where_the_machine_turns();
+    core_settles_as_half_where_reached();
+    entries_are_remembered();
+    settled_objects_meet();
+    regions_follow();
+    regions_ask();
+    others_keep_halves();
+    created_are_new();
+    openings_are_in_order();
+    turns_keep_order();
+    new_stores_are_sound();
+    sound_jobs_are_taken();
+    kept_alike_are_alike();
+    openings_are_of_their_program();
+    runs_stay_of_their_program();
 }
 
 /// Where memory was refused to a turn behind so many, the world is near the state to which those lead the machine.

@@ -1,4 +1,4 @@
-use Rattle.sc_refinement.proofs.AtOnce.{rounds_are_turns}
+use Rattle.sc_refinement.proofs.Rounds.{rounds_are_turns}
 use Rattle.sc_refinement.proofs.laws.rounds_are_turns.Goals as goal
 
 pub returns : goal.returns
