@@ -1,2 +1,5 @@
 mod Headed
 mod Threaded
+mod Exactness
+mod Searching
+mod Stuck

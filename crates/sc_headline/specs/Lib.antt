@@ -1,3 +1,5 @@
 pub mod Headline
 pub mod ThreadsHeadline
 pub mod Audited
+pub mod Exactly
+pub mod Searched

@@ -1,10 +1,9 @@
 -- What is claimed of what a run on several threads leaves, from the bytes of a source text on.
-use Rattle.std.specs.Prelude.{ℕ, List, map}
+use Rattle.std.specs.Prelude.{ℕ, List}
 use Rattle.sc_class.specs.ClassNames.{Root}
 use Rattle.sc_lockpass.specs.declared.version.Version.TheVariants.{Two}
 use Rattle.sc_code.specs.declared.program.Image.{Image}
 use Rattle.sc_request.specs.Cores.{log_of, state_of}
-use Rattle.sc_worklog.specs.LoggedRegions.{region_of}
 use Rattle.sc_runtime.specs.Reports as told
 use Rattle.sc_runtime.specs.Turning.{Runs}
 use Rattle.sc_runtime.specs.Worlds.{PlainWorld, opened}
@@ -20,7 +19,7 @@ use Rattle.sc_headline.specs.Headline.{IsMachineRun, StandsForReached}
 pub record HasThreadsHeadline (text : List ℕ) (root : Root) (program : Image) (left : Left) : Type 0 where
   pub world : PlainWorld
   pub runs : Runs (turns_of (log_of left.core)) (opened program Two) world
-  pub ends : EndsIn world (state_of left.core) (map region_of left.regions.items)
+  pub ends : EndsIn world (state_of left.core) left.regions.items
   pub reached : StandsForReached text root program Two world
 
 -- Of each run of a text's program, in whatever order its threads came to their turns.

@@ -1,13 +1,17 @@
 //! Laws of worlds and replays, from the bytes of a source text on, each the contract of a function that does nothing.
 ghost use Rattle.sc_headline.specs.Audited.{AuditedWorldsHaveHeadline};
+ghost use Rattle.sc_headline.specs.Exactly.{AuditsAreExact, OneWorld, RunsAreAnsweredYes};
 ghost use Rattle.sc_headline.specs.Headline.{Headline, ReplaysAreTheMachines, RunsAreTheMachines};
+ghost use Rattle.sc_headline.specs.Searched.{FoundOrdersAreTheMachines, StuckHaveNoTurn, WholeSearchesFindAll};
 ghost use Rattle.sc_headline.specs.ThreadsHeadline.{ThreadsHaveHeadline, ThreadsReportAsMachine};
 
+use sc_auditing::laws::{misfits_are_no_record, one_misfit, runs_audit_yes};
 use sc_plant::laws::runs_are_one_threads;
 use sc_refinement::laws::{
-    idle_world_is_idle, standing_world_is_near, world_has_headline, world_reports_as_machine,
-    world_runs_as_machine,
+    anew_runs_as_machine, idle_world_is_idle, standing_world_is_near, world_has_headline,
+    world_reports_as_machine, world_runs_as_machine,
 };
+use sc_refinement::once::runs_are_functional;
 
 /// For every source text that is accepted, and whatever handlers make turns, in every order: the world of the text's program
 /// stands for a state that the machine on trees reaches, in which the handlers of formals and of open separate blocks are held,
@@ -65,3 +69,57 @@ pub fn audited_worlds_have_headline()
 {
     headline();
 }
+
+/// For every source text that is accepted: from the opening of its program, turns of the same handlers in the same order lead to
+/// one world.
+pub fn worlds_are_one()
+    ensures { OneWorld }
+{
+    runs_are_functional();
+}
+
+/// So what an audit answers speaks of each run of the record: it says yes exactly where the record is one and its run ends in
+/// what is left, A2 exactly where its run differs from that, of this handler first, and A1 exactly where this line is the first
+/// that doesn't fit. Where there is no memory to play the record it says that.
+pub fn audits_are_exact()
+    ensures { AuditsAreExact }
+{
+    worlds_are_one();
+    misfits_are_no_record();
+    one_misfit();
+}
+
+/// So it says yes to what a run of the text's program left, which may have had no more than 10,000,000 turns.
+pub fn runs_are_answered_yes()
+    ensures { RunsAreAnsweredYes }
+{
+    worlds_are_one();
+    misfits_are_no_record();
+    one_misfit();
+    runs_audit_yes();
+}
+
+/// For every source text that is accepted: after the turns of an order that a search found, the handlers of the machine on
+/// trees stand as those of the program's world do, stuck or with one that has failed.
+pub fn found_orders_are_the_machines()
+    ensures { FoundOrdersAreTheMachines }
+{
+    world_runs_as_machine();
+    standing_world_is_near();
+    world_reports_as_machine();
+}
+
+/// For every source text that is accepted: where a search of its program played every order and found none, no list of handler
+/// numbers, of any length, leads the machine on trees to a state as was looked for.
+pub fn whole_searches_find_all()
+    ensures { WholeSearchesFindAll }
+{
+    anew_runs_as_machine();
+    standing_world_is_near();
+    world_reports_as_machine();
+}
+
+/// Where the handlers of the machine are stuck, none has a turn.
+pub fn stuck_have_no_turn()
+    ensures { StuckHaveNoTurn }
+{}

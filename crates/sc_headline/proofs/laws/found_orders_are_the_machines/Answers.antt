@@ -1,0 +1,5 @@
+use Rattle.sc_headline.proofs.Searching.{found}
+use Rattle.sc_headline.proofs.laws.found_orders_are_the_machines.Goals as goal
+
+pub returns : goal.returns
+returns c = found c.world_runs_as_machine.ensures c.standing_world_is_near.ensures c.world_reports_as_machine.ensures
