@@ -3,6 +3,7 @@
 use crate::excerpt::excerpt;
 use crate::failing::Failing;
 use crate::history::Asked;
+use crate::moments::Moment;
 use crate::words::{
     Phrase, clause_words, invariant_words, push_phrases, routine_words, site_words, written,
 };
@@ -32,15 +33,39 @@ struct Declared {
 
 impl<'r> Origin<'r> {
     /// Adds where a handler stood as it failed, as far as that is known, and for whom it ran.
-    pub fn push_failing(self, lines: &mut Vec<u8>, failing: Failing) -> Result<(), AllocError> {
+    pub fn push_failing(
+        self,
+        lines: &mut Vec<u8>,
+        failing: Failing,
+        moment: Option<&Moment>,
+    ) -> Result<(), AllocError> {
         self.push_stood(lines, failing)?;
         if let Some(broken) = failing.breakdown.invariant {
             self.push_invariant(lines, broken)?;
         }
+        if let Some(moment) = moment {
+            lines.extend_from_slice(moment.values.as_slice())?;
+        }
         push_needed(self.alloc, lines, failing)?;
-        match failing.served {
+        if let Some(served) = failing.served {
+            self.push_served(lines, served)?;
+        }
+        match moment {
+            Some(moment) => {
+                lines.extend_from_slice(moment.callers.as_slice())?;
+                lines.extend_from_slice(moment.requests.as_slice())
+            }
             None => Ok(()),
-            Some(served) => self.push_served(lines, served),
+        }
+    }
+
+    /// The same for what is said of waits and values.
+    pub fn shared(self) -> sc_explain_waiting::Origin<'r> {
+        sc_explain_waiting::Origin {
+            alloc: self.alloc,
+            source: self.source,
+            tables: self.tables,
+            names: self.names,
         }
     }
 

@@ -1,29 +1,36 @@
-//! What is said of handlers that have failed, beside the report.
+//! What is said of handlers that have failed, wait or are busy, beside the report.
 
 use crate::breakdown::Origin;
 use crate::failing::failing_in;
+use crate::limit::{Limit, push_limit};
+use crate::moments::{Kind, Moment, moments_of};
 use crate::words::{Phrase, push_phrases};
 use sc_audit::RecordLine;
 use sc_check::{CheckFault, Checked, check};
 use sc_class::{ClassFault, Root, Tables, tables};
 use sc_code::Program;
 use sc_explain::find;
+use sc_explain_waiting::waiting_note;
 use sc_lockpass::Version;
 use sc_lower::{Lowering, lower};
 use sc_model::{Cause, Status};
 use sc_parse::{ParseFault, parse};
-use sc_runtime::{World, code_of};
+use sc_runtime::{Turned, World, code_of};
 use sc_source::source::Source;
 use sc_text::{LexFault, Token, lex};
 use sc_tree::System;
 use std::alloc::{AllocError, Global};
 
-/// A run of the system of a source text: from this root, with a record of these lines.
+/// A run of the system of a source text: from this root, with a record of this version and these lines.
 #[derive(Clone, Copy)]
 pub struct Played<'r> {
     pub source: &'r Source,
     pub root: &'r Root,
+    pub version: Version,
     pub lines: &'r [RecordLine],
+    pub limit: Limit,
+    /// Whether a request may have been refused for which nobody waited.
+    pub may_refuse: bool,
 }
 
 /// A run that was played once more, with what it is of.
@@ -31,16 +38,19 @@ pub struct Played<'r> {
 struct Rerun<'r> {
     origin: Origin<'r>,
     world: &'r World<'r>,
+    played: Played<'r>,
+    moments: &'r [Moment],
 }
 
-/// What the failure of each handler that has failed in a run is, in words, and where and for whom it ran, as far as that is
-/// found where the turns of its record are played once more; nothing where none has.
-pub fn failure_note(
+/// What the failure of each handler that has failed in a run is, in words, and where and for whom it ran, which requests were
+/// lost, and why those wait or are busy that do, as far as that is found where the turns of its record are played once more;
+/// nothing where each is free and none refused a request.
+pub fn run_note(
     alloc: Global,
     played: Played<'_>,
     statuses: &[Status],
 ) -> Result<Vec<u8>, AllocError> {
-    if !have_failed(statuses) {
+    if are_free(statuses) && !played.may_refuse {
         return Ok(Vec::new(alloc));
     }
     match system_of(alloc, played.source.text()) {
@@ -93,30 +103,45 @@ fn note_of_program(
         tables,
         names: program.pool().names.as_slice(),
     };
-    match World::open(alloc, program, Version::Two) {
-        Ok(mut world) => note_of_rerun(origin, statuses, &mut world, played.lines),
+    match World::open(alloc, program, played.version) {
+        Ok(mut world) => note_of_rerun(origin, statuses, &mut world, program, played),
         Err(error) => Err(error),
     }
 }
 
-/// The same, where the turns of these lines are played from this opening.
+/// The same, where its turns are played from this opening.
 fn note_of_rerun(
     origin: Origin<'_>,
     statuses: &[Status],
     world: &mut World<'_>,
-    lines: &[RecordLine],
+    program: &Program,
+    played: Played<'_>,
 ) -> Result<Vec<u8>, AllocError> {
-    for line in lines {
-        world.turns_of(line.handler, line.turns)?;
+    for line in played.lines {
+        turn_by_turn(world, *line)?;
     }
-    let rerun = Rerun { origin, world };
+    let moments = moments_of(origin, world, program, played)?;
+    let rerun = Rerun {
+        origin,
+        world,
+        played,
+        moments: &moments,
+    };
     note(origin.alloc, statuses, Some(rerun))
 }
 
-fn have_failed(statuses: &[Status]) -> bool {
-    statuses
-        .iter()
-        .any(|status| matches!(status, Status::Failed(_)))
+/// The turns of a line, each settled by itself, so that the log tells of each.
+fn turn_by_turn(world: &mut World<'_>, line: RecordLine) -> Result<(), AllocError> {
+    for _turn in 0..line.turns {
+        if world.turn(line.handler)? == Turned::Nothing {
+            break;
+        }
+    }
+    Ok(())
+}
+
+fn are_free(statuses: &[Status]) -> bool {
+    statuses.iter().all(|status| matches!(status, Status::Free))
 }
 
 /// The system of a text, if it spells one.
@@ -177,7 +202,7 @@ fn lowered(alloc: Global, checked: Checked<'_>) -> Result<Option<Program>, Alloc
     }
 }
 
-/// What is said of each handler that has failed.
+/// What is said of each handler that has failed, and then of those that wait or are busy.
 fn note(
     alloc: Global,
     statuses: &[Status],
@@ -189,7 +214,38 @@ fn note(
             push_failure(alloc, &mut lines, handler, *cause, rerun)?;
         }
     }
+    if let Some(rerun) = rerun {
+        push_refusals(&mut lines, rerun.moments)?;
+        push_limit(alloc, &mut lines, rerun.played, statuses)?;
+        push_waits(&mut lines, rerun)?;
+    }
     Ok(lines)
+}
+
+/// Adds which requests were refused for which nobody waited.
+fn push_refusals(lines: &mut Vec<u8>, moments: &[Moment]) -> Result<(), AllocError> {
+    for moment in moments {
+        if moment.kind == Kind::Refusal {
+            lines.extend_from_slice(moment.requests.as_slice())?;
+        }
+    }
+    Ok(())
+}
+
+/// Adds why handlers wait or are busy.
+fn push_waits(lines: &mut Vec<u8>, rerun: Rerun<'_>) -> Result<(), AllocError> {
+    let note = waiting_note(rerun.origin.shared(), rerun.world)?;
+    lines.extend_from_slice(note.as_slice())
+}
+
+/// What there was in front of the failure of a handler.
+fn failure_of(moments: &[Moment], handler: u16) -> Option<&Moment> {
+    for moment in moments {
+        if moment.kind == Kind::Failure && moment.handler == handler {
+            return Some(moment);
+        }
+    }
+    None
 }
 
 /// Adds what the failure of a handler is, where it was, and where more is said of it.
@@ -207,7 +263,8 @@ fn push_failure(
     if let Some(rerun) = rerun {
         let number = handler.min(u16::MAX as usize) as u16;
         if let Some(failing) = failing_in(rerun.world, number, cause) {
-            rerun.origin.push_failing(lines, failing)?;
+            let moment = failure_of(rerun.moments, number);
+            rerun.origin.push_failing(lines, failing, moment)?;
         }
     }
     push_phrases(

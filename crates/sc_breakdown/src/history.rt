@@ -73,8 +73,15 @@ fn has_failed_behind(settlement: &Settlement) -> bool {
 
 /// The request that the handler has taken last among those that haven't ended.
 pub fn request_of(log: &Log, handler: u16) -> Option<Asked> {
+    let place = taken_before(log, handler, log.len())?;
+    service_at(log, place)?.taken
+}
+
+/// The place of the settlement by which the handler took the last request among those that haven't ended before the settlement
+/// at a place.
+pub fn taken_before(log: &Log, handler: u16, end: usize) -> Option<usize> {
     let mut ended = 0_usize;
-    for place in (0..log.len()).rev() {
+    for place in (0..end).rev() {
         if log.handler_at(place) == Some(handler) {
             let service = service_at(log, place)?;
             if service.has_ended {
@@ -82,7 +89,7 @@ pub fn request_of(log: &Log, handler: u16) -> Option<Asked> {
             }
             if service.taken.is_some() {
                 if ended == 0 {
-                    return service.taken;
+                    return Some(place);
                 }
                 ended -= 1;
             }

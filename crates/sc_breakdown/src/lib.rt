@@ -1,5 +1,5 @@
-//! What is said of the failures of a run beside its report: what each is, where it was and for whom its handler ran. See
-//! [`failure_note`].
+//! What is said of a run beside its report: what each failure is, where it was and for whom its handler ran, and why the others
+//! wait. See [`run_note`].
 //!
 //! The turns of its record are played once more for that. The sentences are for people: nothing of the answer, which is the report, depends
 //! on them. [`excerpt::excerpt`] is a line of the text, with carets under a part of it.
@@ -10,6 +10,9 @@ pub mod excerpt;
 mod failing;
 mod failure;
 mod history;
+mod limit;
+mod moments;
 mod words;
 
-pub use failure::{Played, failure_note};
+pub use failure::{Played, run_note};
+pub use limit::Limit;
