@@ -1,14 +1,19 @@
 //! The arguments of a command line: what is asked for, and of which files.
 
+mod format;
 mod root_option;
+mod searching;
 
 ghost use Rattle.std.specs.Prelude.{◌≡◌};
 ghost use Rattle.sc_arguments.specs.Usage as spec;
 
+use crate::arguments::format::{format_argument, read_format};
 use clap::builder::ValueParser;
 use clap::error::ErrorKind;
 use clap::{Arg, ArgAction, ArgMatches};
+pub use format::Format;
 use sc_class::Root;
+pub use searching::{SearchOptions, Sought};
 use std::alloc::{AllocError, Global};
 use std::convert::AsStr;
 
@@ -21,6 +26,8 @@ pub enum Invocation<'a> {
     Run(RunOptions<'a>, Vec<&'a str>),
     /// To play a record with the system of these files.
     Replay(ReplayOptions<'a>, Vec<&'a str>),
+    /// To play the system of these files in every order of turns.
+    Search(SearchOptions<'a>, Vec<&'a str>),
     /// To explain this code or name, or to list all codes.
     Explain(Option<&'a str>),
 }
@@ -39,6 +46,7 @@ pub struct CheckOptions {
     pub root: Root,
     /// Whether a refusal is to be shown in its line of the text too.
     pub is_explained: bool,
+    pub format: Format,
 }
 
 #[derive(Drop)]
@@ -52,8 +60,9 @@ pub struct RunOptions<'a> {
     pub record: Option<&'a str>,
     /// Whether the record is to be played by one thread, and what that comes to compared with what the run left.
     pub is_audited: bool,
-    /// Whether a refusal is to be shown in its line of the text too.
+    /// Whether a refusal is to be shown in its line of the text too, and what became of handlers told.
     pub is_explained: bool,
+    pub format: Format,
 }
 
 #[derive(Drop)]
@@ -61,6 +70,9 @@ pub struct ReplayOptions<'a> {
     pub root: Root,
     /// The name of the file that the record stands in.
     pub record: &'a str,
+    /// Whether a refusal is to be shown in its line of the text too, and what became of handlers told.
+    pub is_explained: bool,
+    pub format: Format,
 }
 
 /// Why the arguments ask for nothing that can be done.
@@ -231,7 +243,7 @@ one that isn't. Without a code all codes are listed with their names.";
 const EXPLAIN_HELP: &str = "Shows where a refusal stands, on standard error";
 
 const RUN_EXPLAIN_HELP: &str =
-    "Shows where a refusal stands, or says what a failure is, on standard error";
+    "Shows where a refusal stands, or says why handlers failed or wait, on standard error";
 
 const CODE_HELP: &str = "The code, as V6, or its name, in any letter case";
 
@@ -272,6 +284,7 @@ fn read_command<'a>(
         "explain" => Ok(Invocation::Explain(options.get_str("CODE"))),
         "print" => on_files(alloc, Command::Print, options),
         "run" => read_run(alloc, options),
+        "search" => searching::read_search(alloc, options),
         _ => on_files(alloc, Command::Check(read_check(alloc, options)?), options),
     }
 }
@@ -288,6 +301,7 @@ fn read_check(alloc: Global, options: &ArgMatches<'_>) -> Result<CheckOptions, U
     Ok(CheckOptions {
         root: read_root(alloc, options)?,
         is_explained: options.get_flag("explain"),
+        format: read_format(options),
     })
 }
 
@@ -299,6 +313,7 @@ fn read_run<'a>(alloc: Global, options: &ArgMatches<'a>) -> Result<Invocation<'a
         record: options.get_str("record"),
         is_audited: options.get_flag("audit"),
         is_explained: options.get_flag("explain"),
+        format: read_format(options),
     };
     Ok(Invocation::Run(run, read_files(alloc, options)?))
 }
@@ -307,6 +322,8 @@ fn read_replay<'a>(alloc: Global, options: &ArgMatches<'a>) -> Result<Invocation
     let replay = ReplayOptions {
         root: read_root(alloc, options)?,
         record: options.get_str("RECORD").unwrap_or(""),
+        is_explained: options.get_flag("explain"),
+        format: read_format(options),
     };
     Ok(Invocation::Replay(replay, read_files(alloc, options)?))
 }
@@ -324,6 +341,7 @@ fn scoop_command<'a>(alloc: Global) -> Result<clap::Command<'a>, AllocError> {
     let command = with_command(program(alloc), check_command(alloc));
     let command = with_command(command, run_command(alloc));
     let command = with_command(command, replay_command(alloc));
+    let command = with_command(command, searching::search_command(alloc));
     let command = with_command(command, print_command(alloc));
     with_command(command, explain_command(alloc))
 }
@@ -346,6 +364,7 @@ fn check_command<'a>(alloc: Global) -> Result<clap::Command<'a>, AllocError> {
         CHECK_AFTER_HELP,
     );
     let command = command.arg(explain_argument(alloc, EXPLAIN_HELP));
+    let command = with_argument(command, format_argument(alloc));
     let command = with_argument(command, root_argument(alloc));
     with_argument(command, file_argument(alloc))
 }
@@ -357,6 +376,7 @@ fn run_command<'a>(alloc: Global) -> Result<clap::Command<'a>, AllocError> {
     let command = with_argument(command, kept_argument(alloc));
     let command = with_argument(command, audit_argument(alloc));
     let command = with_argument(command, explain_argument(alloc, RUN_EXPLAIN_HELP));
+    let command = with_argument(command, format_argument(alloc));
     let command = with_argument(command, root_argument(alloc));
     with_argument(command, file_argument(alloc))
 }
@@ -369,7 +389,9 @@ fn replay_command<'a>(alloc: Global) -> Result<clap::Command<'a>, AllocError> {
         REPLAY_LONG_ABOUT,
         REPLAY_AFTER_HELP,
     );
-    let command = command.arg(root_argument(alloc));
+    let command = command.arg(explain_argument(alloc, RUN_EXPLAIN_HELP));
+    let command = with_argument(command, format_argument(alloc));
+    let command = with_argument(command, root_argument(alloc));
     let command = with_argument(command, record_argument(alloc));
     with_argument(command, file_argument(alloc))
 }

@@ -7,5 +7,6 @@
 mod arguments;
 
 pub use arguments::{
-    CheckOptions, Command, Invocation, ReplayOptions, RunOptions, UsageFault, read_arguments,
+    CheckOptions, Command, Format, Invocation, ReplayOptions, RunOptions, SearchOptions, Sought,
+    UsageFault, read_arguments,
 };

@@ -24,7 +24,14 @@ fn expect<R: Abort + Threads + Wait + Sync + AllocGlobal>(
 ) -> Result<(), Fail> {
     let mut wrote = Vec::new(rt.alloc());
     let mut told = Vec::new(rt.alloc());
-    let ended = serve(rt, arguments, &FakeFiles { files }, &mut wrote, &mut told);
+    let ended = serve(
+        rt,
+        arguments,
+        &FakeFiles { files },
+        &mut wrote,
+        &mut told,
+        false,
+    );
     if ended == Exit::Broken as u8 {
         return Err(Fail::new("out of memory"));
     }

@@ -82,7 +82,7 @@ fn print<'a, O: Write, E: Write>(
     out: &mut O,
     err: &mut E,
 ) -> Result<(), Fault<'a>> {
-    match write_out(answer.text.as_slice(), out) {
+    match write_out(written_of(answer), out) {
         Ok(()) => {}
         Err(error) if error.kind() == ErrorKind::OutOfMemory => return Err(Fault::OutOfMemory),
         Err(_) => return Err(Fault::CannotWrite),
@@ -91,6 +91,14 @@ fn print<'a, O: Write, E: Write>(
     match write_out(answer.note.as_slice(), err) {
         Err(error) if error.kind() == ErrorKind::OutOfMemory => Err(Fault::OutOfMemory),
         _ => Ok(()),
+    }
+}
+
+/// What is written on standard output: the text, or the object that stands for it.
+fn written_of<'r>(answer: &'r Answer<'_>) -> &'r [u8] {
+    match &answer.object {
+        Some(object) => object.as_slice(),
+        None => answer.text.as_slice(),
     }
 }
 

@@ -7,6 +7,10 @@
 #![tactic(auto)]
 
 mod delivery;
+mod json;
+mod progress;
 mod refusal;
 mod running;
+mod searching;
 pub mod serve;
+mod verdict;

@@ -9,10 +9,11 @@ use crate::serve::{Answer, Exit, Fault, Recording, answer_explained, answer_unre
 use sc_arguments::RunOptions;
 use sc_audit::RecordLine;
 use sc_auditing::{AuditFault, audit};
-use sc_breakdown::{Played, failure_note};
+use sc_breakdown::{Limit, Played, run_note};
 use sc_class::Root;
 use sc_code::Program;
 use sc_execution::{Ended, Outcome, load_text, run_program};
+use sc_lockpass::Version;
 use sc_model::Status;
 use sc_plant::{Left, RunFault};
 use sc_source::files::{Files, read_source};
@@ -77,6 +78,7 @@ fn run_loaded<'a, R: Threads + Wait + Sync>(
     };
     let Outcome { report, statuses } = outcome;
     let (text, exit) = judge(alloc, program, options, &left, report, statuses.as_slice())?;
+    let may_refuse = has_refused(&left);
     let Left { lines, .. } = left;
     let note = note_of(
         alloc,
@@ -84,9 +86,11 @@ fn run_loaded<'a, R: Threads + Wait + Sync>(
         source,
         lines.as_slice(),
         statuses.as_slice(),
+        may_refuse,
     )?;
     Ok(Answer {
         text,
+        object: None,
         exit,
         note,
         record: recording_of(options.record, lines),
@@ -139,13 +143,24 @@ fn fault_of<'a>(fault: RunFault<'_>) -> Fault<'a>
     }
 }
 
-/// What is said of the failures of a run, where it is asked for.
+/// Whether a handler has refused a request for which nobody waited.
+fn has_refused(left: &Left<'_>) -> bool {
+    for handler in 0..left.core.handler_count().min(u16::MAX as usize) {
+        if left.core.refused(handler as u16).unwrap_or(0) > 0 {
+            return true;
+        }
+    }
+    false
+}
+
+/// What is said of a run beside its report, where it is asked for.
 fn note_of(
     alloc: Global,
     options: &RunOptions<'_>,
     source: &Source,
     lines: &[RecordLine],
     statuses: &[Status],
+    may_refuse: bool,
 ) -> Result<Vec<u8>, AllocError> {
     if !options.is_explained {
         return Ok(Vec::new(alloc));
@@ -153,9 +168,12 @@ fn note_of(
     let played = Played {
         source,
         root: &options.root,
+        version: Version::Two,
         lines,
+        limit: Limit::Turns(options.turns),
+        may_refuse,
     };
-    failure_note(alloc, played, statuses)
+    run_note(alloc, played, statuses)
 }
 
 /// The record that is to be written, where a file is named for it.

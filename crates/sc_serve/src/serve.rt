@@ -9,17 +9,22 @@ ghost use Rattle.sc_serve.specs.Answer.{IsAnswerOn, IsAnswerTo, IsRefusalOf, IsR
 ghost use Rattle.sc_serve.specs.Answer.{IsBadRecord, IsReplayOn, IsReplayTo, IsUnansweredOn, IsUnplayed, IsUnread, TellsBadRecord};
 
 use crate::delivery::deliver;
+use crate::json::answer_object;
+use crate::progress::Progress;
 use crate::refusal::Refusal;
 use crate::running::answer_run;
-use sc_arguments::{Command, Invocation, ReplayOptions, UsageFault, read_arguments};
-use sc_audit::{ReadFault, RecordLine, read_record};
+use crate::searching::answer_search;
+use sc_arguments::{Command, Format, Invocation, ReplayOptions, UsageFault, read_arguments};
+use sc_audit::{ReadFault, Record, RecordLine, read_record};
 use sc_breakdown::excerpt::excerpt;
+use sc_breakdown::{Limit, Played, run_note};
 use sc_class::Root;
 use sc_code::Program;
 use sc_diagnosis::{Related, diagnose};
 use sc_execution::{Rejection, check_text, load_text, print_text, replay};
 use sc_explain::{find, list};
 use sc_model::Status;
+use sc_search::Watch;
 use sc_source::files::{Files, NamedFile, read_source};
 use sc_source::reading::FileFault;
 use sc_source::source::{JoinFault, Place, Source, name_at};
@@ -44,6 +49,8 @@ pub enum Exit {
     Failed = 3,
     /// A handler is waiting or busy.
     Unfinished = 4,
+    /// A search was cut short before it found anything.
+    Undecided = 6,
     /// None of these.
     Done = 0,
 }
@@ -53,6 +60,8 @@ pub enum Exit {
 #[derive(Drop)]
 pub struct Answer<'a> {
     pub text: Vec<u8>,
+    /// What is written in place of the text, where an object of JSON is asked for.
+    pub object: Option<Vec<u8>>,
     pub exit: Exit,
     pub note: Vec<u8>,
     pub record: Option<Recording<'a>>,
@@ -74,6 +83,7 @@ impl<'a> Answer<'a> {
     {
         Answer {
             text,
+            object: None,
             exit,
             note: Vec::new(alloc),
             record: None,
@@ -112,15 +122,19 @@ impl<'a> From<AllocError> for Fault<'a> {
 
 /// Does what `arguments` ask for, of which the first is the program's name, and answers the status that
 /// the program ends with. What was asked for is written to `out`, and why it can't be had to `err`. The record of a run
-/// goes to the file that is named for it, behind that.
+/// goes to the file that is named for it, behind that. Where `err` is a terminal, a search says there how far it is.
 pub fn serve<R: Threads + Wait + Sync + AllocGlobal, S: AsStr, F: Files, O: Write, E: Write>(
     rt: &R,
     arguments: &[S],
     files: &F,
     out: &mut O,
     err: &mut E,
+    is_terminal: bool,
 ) -> u8 {
-    match respond(rt, arguments, files) {
+    let mut progress = Progress::new(err, is_terminal);
+    let response = respond(rt, arguments, files, &mut progress);
+    progress.clear();
+    match response {
         Ok(answer) => deliver(&answer, files, out, err),
         Err(fault) => end_with(&fault, err),
     }
@@ -207,10 +221,11 @@ fn say_remains<E: Write>(remains: &Option<Remains>, err: &mut E) -> io::Result<(
     }
 }
 
-fn respond<'a, R: Threads + Wait + Sync + AllocGlobal, S: AsStr, F: Files>(
+fn respond<'a, R: Threads + Wait + Sync + AllocGlobal, S: AsStr, F: Files, W: Watch>(
     rt: &R,
     arguments: &'a [S],
     files: &F,
+    watch: &mut W,
 ) -> Result<Answer<'a>, Fault<'a>> {
     let alloc = rt.alloc();
     let invocation = match read_arguments(alloc, arguments) {
@@ -223,13 +238,20 @@ fn respond<'a, R: Threads + Wait + Sync + AllocGlobal, S: AsStr, F: Files>(
     };
     match invocation {
         Invocation::OnFiles(command, names) => {
-            answer_on_files(alloc, &command, files, names.as_slice())
+            let answer = answer_on_files(alloc, &command, files, names.as_slice())?;
+            formatted(alloc, format_of(&command), answer)
         }
         Invocation::Run(options, names) => {
-            answer_run(rt, alloc, &options, files, names.as_slice())
+            let answer = answer_run(rt, alloc, &options, files, names.as_slice())?;
+            formatted(alloc, options.format, answer)
         }
         Invocation::Replay(options, names) => {
-            answer_replay(alloc, &options, files, names.as_slice())
+            let answer = answer_replay(alloc, &options, files, names.as_slice())?;
+            formatted(alloc, options.format, answer)
+        }
+        Invocation::Search(options, names) => {
+            let answer = answer_search(alloc, &options, files, names.as_slice(), watch)?;
+            formatted(alloc, options.format, answer)
         }
         Invocation::Explain(None) => {
             Ok(Answer::new(alloc, list(alloc)?.into_bytes(), Exit::Done))
@@ -242,6 +264,25 @@ fn respond<'a, R: Threads + Wait + Sync + AllocGlobal, S: AsStr, F: Files>(
             None => Err(Fault::NoCode(word)),
         },
     }
+}
+
+fn format_of(command: &Command) -> Format {
+    match command {
+        Command::Check(options) => options.format,
+        Command::Print => Format::Text,
+    }
+}
+
+/// The answer with an object of JSON in place of its text, where that is asked for.
+fn formatted<'a>(
+    alloc: Global,
+    format: Format,
+    mut answer: Answer<'a>,
+) -> Result<Answer<'a>, Fault<'a>> {
+    if answer.object.is_none() && matches!(format, Format::Json) {
+        answer.object = Some(answer_object(alloc, answer.text.as_slice())?);
+    }
+    Ok(answer)
 }
 
 /// Does with the system of the named files what is asked for.
@@ -422,30 +463,70 @@ fn answer_replay<'a, F: Files>(
         Err(fault) => return answer_unread(alloc, names, fault),
     };
     match load_text(alloc, source.text(), &options.root) {
-        Ok(program) => play_record(alloc, &program, files, options.record),
-        Err(rejection) => answer_rejected(alloc, &source, &rejection),
+        Ok(program) => play_record(alloc, &program, files, options, &source),
+        Err(rejection) => answer_explained(alloc, &source, &rejection, replayed_root(options)),
     }
 }
 
-/// Plays with a program the record that the named file holds.
+/// What the system is played from, where a refusal is to be shown in its line of the text too.
+fn replayed_root<'r>(options: &'r ReplayOptions<'_>) -> Option<&'r Root> {
+    if options.is_explained {
+        Some(&options.root)
+    } else {
+        None
+    }
+}
+
+/// Plays with the program of a source text the record that the named file holds.
 #[tactic(auto, using(crate::proofs::AnswerLemmas::unanswered, crate::proofs::AnswerLemmas::no_record))]
 fn play_record<'a, F: Files>(
     alloc: Global,
     program: &Program,
     files: &F,
-    name: &'a str,
+    options: &ReplayOptions<'a>,
+    source: &Source,
 ) -> Result<Answer<'a>, Fault<'a>>
-    ensures answer { let held = F.bytes_of files.now name.now in
+    ensures answer { let held = F.bytes_of files.now options.now.record.now in
         IfOk result (λ answer. IsReplayTo (image_of program.now) held answer.text.items answer.exit) }
-    ensures unread { IfErr result (IsUnansweredOn (name.now ∷ [])) }
+    ensures unread { IfErr result (IsUnansweredOn (options.now.record.now ∷ [])) }
 {
+    let name = options.record;
     let record = match read_record(alloc, &mut NamedFile::new(files, name)) {
         Ok(record) => record,
         Err(fault) => return answer_no_record(alloc, name, fault),
     };
     let outcome = replay(alloc, program, &record)?;
     let exit = exit_of(outcome.statuses.as_slice());
-    Ok(Answer::new(alloc, outcome.report, exit))
+    let note = note_of_replay(alloc, options, source, &record, outcome.statuses.as_slice())?;
+    Ok(Answer {
+        text: outcome.report,
+        object: None,
+        exit,
+        note,
+        record: None,
+    })
+}
+
+/// What is said of a replay beside its report, where it is asked for.
+fn note_of_replay(
+    alloc: Global,
+    options: &ReplayOptions<'_>,
+    source: &Source,
+    record: &Record,
+    statuses: &[Status],
+) -> Result<Vec<u8>, AllocError> {
+    if !options.is_explained {
+        return Ok(Vec::new(alloc));
+    }
+    let played = Played {
+        source,
+        root: &options.root,
+        version: record.version,
+        lines: record.lines.as_slice(),
+        limit: Limit::Record,
+        may_refuse: true,
+    };
+    run_note(alloc, played, statuses)
 }
 
 /// What is answered where a file holds no record.

@@ -6,20 +6,23 @@
 
 use sc_serve::serve::{self, Fault};
 use sc_source::files::SystemFiles;
-use std::io::ErrorKind;
+use std::io::{ErrorKind, IsTerminal};
 use std::process::ExitCode;
 
 fn main(rt: HostRuntime) -> ExitCode {
     let files = SystemFiles::new(&rt);
+    let mut err = rt.stderr();
+    let is_terminal = err.is_terminal();
     let status = match command_line(&rt) {
         Ok(arguments) => serve::serve(
             &rt,
             arguments.as_slice(),
             &files,
             &mut rt.stdout(),
-            &mut rt.stderr(),
+            &mut err,
+            is_terminal,
         ),
-        Err(fault) => serve::end_with(&fault, &mut rt.stderr()),
+        Err(fault) => serve::end_with(&fault, &mut err),
     };
     ExitCode::from(status)
 }

@@ -58,7 +58,14 @@ fn call_failing<R: Threads + Wait + Sync + AllocGlobal>(
         bytes: Vec::new(rt.alloc()),
         calls_left: calls[1],
     };
-    let status = serve(rt, arguments, &FakeFiles { files }, &mut out, &mut err);
+    let status = serve(
+        rt,
+        arguments,
+        &FakeFiles { files },
+        &mut out,
+        &mut err,
+        false,
+    );
     if status == Exit::Broken as u8 {
         return Err(Fail::new("out of memory"));
     }

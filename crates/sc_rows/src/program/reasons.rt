@@ -46,7 +46,14 @@ fn says_why_a_file_cannot_be_read(rt: HostRuntime) -> Result<(), Fail> {
         let mut out = Vec::new(rt.alloc());
         let mut err = Vec::new(rt.alloc());
         let files = UnopenedFiles { kind };
-        let status = serve(&rt, &["scoop", "check", "a.e"], &files, &mut out, &mut err);
+        let status = serve(
+            &rt,
+            &["scoop", "check", "a.e"],
+            &files,
+            &mut out,
+            &mut err,
+            false,
+        );
         if status == Exit::Broken as u8 {
             return Err(Fail::new("out of memory"));
         }

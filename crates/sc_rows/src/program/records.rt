@@ -95,7 +95,7 @@ fn expect_told<R: Abort + Threads + Wait + Sync + AllocGlobal>(
     let mut out = Vec::new(rt.alloc());
     let mut err = Vec::new(rt.alloc());
     let arguments = ["scoop", "run", "--record", "r", "a.e"];
-    let ended = serve(rt, &arguments, &files, &mut out, &mut err);
+    let ended = serve(rt, &arguments, &files, &mut out, &mut err, false);
     if ended == Exit::Broken as u8 {
         return Err(Fail::new("out of memory"));
     }

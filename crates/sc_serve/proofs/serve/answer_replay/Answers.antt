@@ -12,5 +12,5 @@ returns-in-Ok-load_text-clause-answer g c =
 -- or something is at fault in it
 pub returns-clause-answer : goal.returns-clause-answer
 returns-clause-answer g c =
-    rejected_on_files (root_of c.args.options.now.root) _ _ c.in-Ok.source c.in-Err-load_text.rejection c.answer_rejected.result
-    c.in-Ok.ensures.named (rw c.text.ensures at c.in-Err-load_text.ensures.refused) c.answer_rejected.ensures.refused
+    rejected_on_files (root_of c.args.options.now.root) _ _ c.in-Ok.source c.in-Err-load_text.rejection c.answer_explained.result
+    c.in-Ok.ensures.named (rw c.text.ensures at c.in-Err-load_text.ensures.refused) c.answer_explained.ensures.refused

@@ -11,6 +11,6 @@ returns-clause-answer g c =
       limits = c.in-Ok.ensures.limits;
       read = rw c.new.ensures at c.in-Ok.ensures.ok;
       hows = c.in_ok-outcome.outcome.statuses.items;
-      replay = rw c.new-2.ensures.text c.in_ok-outcome.ensures;
-      status = c.new-2.ensures.exit ∙ c.exit_of-exit.ensures ∙ ap exit_of c.as_slice.ensures.value;
+      replay = c.in_ok-outcome.ensures;
+      status = c.exit_of-exit.ensures ∙ ap exit_of c.as_slice.ensures.value;
     })

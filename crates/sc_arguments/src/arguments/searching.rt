@@ -1,0 +1,160 @@
+//! The command `search`: what is looked for in the orders of turns, and how far.
+
+use crate::arguments::format::{Format, format_argument, read_format};
+use crate::arguments::{
+    Invocation, UsageFault, described, explain_argument, file_argument, read_files, read_root,
+    root_argument, with_argument,
+};
+use clap::builder::ValueParser;
+use clap::{Arg, ArgAction, ArgMatches};
+use sc_class::Root;
+use std::alloc::{AllocError, Global};
+
+#[derive(Drop)]
+pub struct SearchOptions<'a> {
+    pub root: Root,
+    /// What ends the search.
+    pub sought: Sought,
+    /// The most states that are kept, from 1 to 10,000,000.
+    pub states: u32,
+    /// The name of the file that the record of a found order is written to.
+    pub record: Option<&'a str>,
+    /// Whether each outcome is to be listed.
+    pub lists_outcomes: bool,
+    /// Whether a refusal is to be shown in its line of the text too, and why handlers wait or fail.
+    pub is_explained: bool,
+    pub format: Format,
+}
+
+/// What is looked for among the orders of turns.
+#[derive(Clone, Copy)]
+pub enum Sought {
+    /// One that leaves a handler waiting for good.
+    Stuck,
+    /// One in which a handler fails.
+    Fails,
+    /// One of either kind.
+    Any,
+}
+
+const DEFAULT_STATES: u32 = 100_000;
+
+const SOUGHT: [&str; 3] = ["stuck", "fails", "any"];
+
+const SEARCH_ABOUT: &str = "Looks for an order of turns in which handlers are stuck, or one fails";
+
+const SEARCH_LONG_ABOUT: &str = "\
+Looks for an order of turns in which handlers are stuck, or one fails.
+
+The system is checked first, as by `scoop check`. Then it is played in every order
+of turns, first in those that differ where handlers touch each other. The answer is
+one of the lines
+
+  none stuck, none fails (proved)  no order of turns leaves a handler waiting for
+                                   good, or makes one fail: every order was played
+  none found                       no order was found that does, and some were left
+                                   out that should come to the same
+  stuck after N turns              an order leaves handlers waiting for good
+  fails after N turns              a handler fails in an order
+  undecided                        the states were used up before all was played
+
+and below it how many outcomes and states there are. An order that is found is a
+record for `scoop replay`, which plays to the same.";
+
+const SEARCH_AFTER_HELP: &str = "\
+Limits:
+  those of `scoop run`
+
+Exit status:
+  0  no handler is stuck or fails, in any order that was played
+  1  the system is refused
+  2  an argument, a file or the output is at fault
+  3  an order makes a handler fail
+  4  an order leaves a handler waiting for good
+  5  memory ran out
+  6  undecided: the states were used up";
+
+const SOUGHT_HELP: &str = "What ends the search";
+
+const STATES_HELP: &str = "The most states that are kept, 1 to 10000000";
+
+const FOUND_HELP: &str = "Writes the record of the order that is found to this file";
+
+const OUTCOMES_HELP: &str = "Lists each outcome: the report of an order that ends so";
+
+const SEARCH_EXPLAIN_HELP: &str =
+    "Shows where a refusal stands, or says who waits for whom and why one fails, on standard error";
+
+pub fn search_command<'a>(alloc: Global) -> Result<clap::Command<'a>, AllocError> {
+    let command = described(
+        alloc,
+        "search",
+        SEARCH_ABOUT,
+        SEARCH_LONG_ABOUT,
+        SEARCH_AFTER_HELP,
+    );
+    let command = command.arg(sought_argument(alloc));
+    let command = with_argument(command, states_argument(alloc));
+    let command = with_argument(command, found_argument(alloc));
+    let command = with_argument(command, outcomes_argument(alloc));
+    let command = with_argument(command, explain_argument(alloc, SEARCH_EXPLAIN_HELP));
+    let command = with_argument(command, format_argument(alloc));
+    let command = with_argument(command, root_argument(alloc));
+    with_argument(command, file_argument(alloc))
+}
+
+pub fn read_search<'a>(
+    alloc: Global,
+    options: &ArgMatches<'a>,
+) -> Result<Invocation<'a>, UsageFault> {
+    let search = SearchOptions {
+        root: read_root(alloc, options)?,
+        sought: read_sought(options),
+        states: options.get_one("states").unwrap_or(DEFAULT_STATES),
+        record: options.get_str("record"),
+        lists_outcomes: options.get_flag("outcomes"),
+        is_explained: options.get_flag("explain"),
+        format: read_format(options),
+    };
+    Ok(Invocation::Search(search, read_files(alloc, options)?))
+}
+
+fn read_sought(options: &ArgMatches<'_>) -> Sought {
+    match options.get_str("for") {
+        Some("stuck") => Sought::Stuck,
+        Some("fails") => Sought::Fails,
+        _ => Sought::Any,
+    }
+}
+
+fn sought_argument<'a>(alloc: Global) -> Arg<'a> {
+    Arg::new(alloc, "for")
+        .long("for")
+        .value_name("WHAT")
+        .value_parser(ValueParser::Names(&SOUGHT))
+        .default_value("any")
+        .help(SOUGHT_HELP)
+}
+
+fn states_argument<'a>(alloc: Global) -> Arg<'a> {
+    Arg::new(alloc, "states")
+        .long("states")
+        .value_name("N")
+        .value_parser(ValueParser::signed(1, 10_000_000))
+        .default_value("100000")
+        .help(STATES_HELP)
+}
+
+fn found_argument<'a>(alloc: Global) -> Arg<'a> {
+    Arg::new(alloc, "record")
+        .long("record")
+        .value_name("PATH")
+        .help(FOUND_HELP)
+}
+
+fn outcomes_argument<'a>(alloc: Global) -> Arg<'a> {
+    Arg::new(alloc, "outcomes")
+        .long("outcomes")
+        .action(ArgAction::SetTrue)
+        .help(OUTCOMES_HELP)
+}

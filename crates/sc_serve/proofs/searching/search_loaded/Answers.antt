@@ -1,0 +1,13 @@
+use Rattle.sc_serve.proofs.searching.search_loaded.Goals as goal
+
+-- what is told of the verdict, with the order that was found
+pub returns-clause-answer : goal.returns-clause-answer
+returns-clause-answer g c =
+    record {
+      verdict = c.in_ok-verdict.verdict;
+      found = c.in_ok-verdict.ensures.found;
+      whole = rw c.aim_of-aim.ensures at c.in_ok-verdict.ensures.whole;
+      told = c.in_ok-text.ensures;
+      status = c.exit_of_finding-exit.ensures;
+      kept = c.recording_of.ensures;
+    }

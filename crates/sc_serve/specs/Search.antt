@@ -1,0 +1,137 @@
+-- What the program answers to a search.
+use Rattle.std.specs.Prelude.{ℕ, ◌≡◌, ◌-◌, ◌^◌, ◌⊎◌, Bool, true, false, List, [], ◌++◌, Option, None, codes, decimal, length, min}
+use Rattle.std.specs.Option.{option_map}
+use Rattle.sc_lockpass.specs.declared.version.Version.TheVariants.{Two}
+use Rattle.sc_audit.specs.declared.line.RecordLine.{RecordLine}
+use Rattle.sc_audit.specs.Records.{turns_of}
+use Rattle.sc_class.specs.View.{root_of}
+use Rattle.sc_class.specs.ClassNames.{Root}
+use Rattle.sc_code.specs.declared.program.Image.{Image}
+use Rattle.sc_execution.specs.Execution.{IsLoaded, IsNotRunFor}
+use Rattle.sc_execution.specs.declared.rejection.Rejection.{Rejection}
+use Rattle.sc_search.specs.declared.aims.Aim.{Aim}
+use Rattle.sc_search.specs.declared.aims.Aim.TheVariants as aim
+use Rattle.sc_search.specs.declared.verdict.Finding.{Finding}
+use Rattle.sc_search.specs.declared.verdict.Finding.TheVariants as finding
+use Rattle.sc_search.specs.declared.verdict.Length.{Length}
+use Rattle.sc_search.specs.declared.verdict.Length.TheVariants as span
+use Rattle.sc_search.specs.declared.verdict.Order.{Order}
+use Rattle.sc_search.specs.declared.verdict.Verdict.{Verdict}
+use Rattle.sc_search.specs.Found.{IsFound}
+use Rattle.sc_search.specs.Verdicts.{IsShown}
+use Rattle.sc_arguments.specs.declared.arguments.searching.SearchOptions.{SearchOptions}
+use Rattle.sc_arguments.specs.declared.arguments.searching.Sought.{Sought}
+use Rattle.sc_arguments.specs.declared.arguments.searching.Sought.TheVariants as sought
+use Rattle.sc_serve.specs.Answer.{IsRefusalOf, asked_of, kept_of, too_long}
+use Rattle.sc_serve.specs.declared.serve.Exit.{Exit}
+use Rattle.sc_serve.specs.declared.serve.Exit.TheVariants.{Done, Failed, Undecided, Unfinished}
+use Rattle.sc_serve.specs.declared.serve.Recording.{Recording}
+use Rattle.sc_source.specs.Source.{File, joined, names_of}
+
+abbrev pub aim_of : Sought → Aim
+aim_of sought.Stuck = aim.Stuck
+aim_of sought.Fails = aim.Fails
+aim_of sought.Any = aim.Any
+
+-- what the program ends with where this was found
+abbrev pub exit_for : Finding → Exit
+exit_for finding.Nothing = Done
+exit_for (finding.Stuck order) = Unfinished
+exit_for (finding.Fails order) = Failed
+exit_for finding.Undecided = Undecided
+
+-- ---- the lines of a verdict
+
+-- that no order at all does what was looked for
+abbrev pub none_line : Sought → List ℕ
+none_line sought.Stuck = codes "none stuck (proved)\n"
+none_line sought.Fails = codes "none fails (proved)\n"
+none_line sought.Any = codes "none stuck, none fails (proved)\n"
+
+-- how many turns lines are, as far as 64 bits tell
+abbrev pub told_turns : List RecordLine → ℕ
+told_turns lines = min (turns_of lines) (2 ^ 64 - 1)
+
+-- what an order leads to, and how many turns it has
+abbrev pub found_line : List ℕ → Order → List ℕ
+found_line what order = what ++ (codes " after " ++ (decimal (told_turns order.lines.items) ++ codes " turns\n"))
+
+-- that none was found: there is none where every order was played
+abbrev pub nothing_line : Sought → Bool → List ℕ
+nothing_line what true = none_line what
+nothing_line what false = codes "none found\n"
+
+abbrev pub finding_line : Sought → Bool → Finding → List ℕ
+finding_line what is_whole finding.Nothing = nothing_line what is_whole
+finding_line what is_whole (finding.Stuck order) = found_line (codes "stuck") order
+finding_line what is_whole (finding.Fails order) = found_line (codes "fails") order
+finding_line what is_whole finding.Undecided = codes "undecided\n"
+
+-- whether orders end, as far as that is known
+abbrev pub length_line : Length → List ℕ
+length_line (span.AtMost turns) = codes "orders end after " ++ (decimal turns ++ codes " turns at most\n")
+length_line span.Endless = codes "some order goes on for ever\n"
+length_line span.Unknown = []
+
+-- how many outcomes there are: as many were met, where nothing was found
+abbrev pub outcomes_line : Finding → ℕ → List ℕ
+outcomes_line finding.Nothing count = codes "outcomes " ++ (decimal count ++ codes "\n")
+outcomes_line (finding.Stuck order) count = []
+outcomes_line (finding.Fails order) count = []
+outcomes_line finding.Undecided count = []
+
+-- how many states were kept
+abbrev pub states_line : ℕ → List ℕ
+states_line count = codes "states " ++ (decimal count ++ codes "\n")
+
+abbrev pub verdict_lines : Sought → Verdict → List ℕ
+verdict_lines what verdict =
+    finding_line what verdict.is_whole verdict.finding
+    ++ (length_line verdict.length ++ (outcomes_line verdict.finding (length verdict.ends.items) ++ states_line verdict.states))
+
+-- The lines of the verdict, and behind them the outcomes where they are to be listed.
+abbrev pub IsTold : Sought → Bool → Verdict → List ℕ → Type 0
+IsTold what false verdict output = output ≡ verdict_lines what verdict
+IsTold what true verdict output = (outcomes : List ℕ) × (output ≡ verdict_lines what verdict ++ outcomes)
+
+-- ---- the answer
+
+-- the record that is to be written: the order that was found, where a file of this name was named for it
+abbrev pub found_for : Option (List ℕ) → Finding → Option (List ℕ × List RecordLine)
+found_for name (finding.Stuck order) = asked_of name order.lines.items
+found_for name (finding.Fails order) = asked_of name order.lines.items
+found_for name finding.Nothing = None
+found_for name finding.Undecided = None
+
+-- The answer to a search of the program: a verdict on its orders of turns, of which the order that was found leads to what is
+-- said, and there is none where it is whole; the status that goes with it; and the order that was found for the file of the
+-- record, where one was named.
+pub record IsSearchOf (program : Image) (options : SearchOptions) (output : List ℕ) (exit : Exit) (recording : Option Recording) :
+    Type 0 where
+  pub verdict : Verdict
+  pub found : IsFound program Two verdict.finding
+  pub whole : IsShown program Two (aim_of options.sought) verdict
+  pub told : IsTold options.sought options.lists_outcomes verdict output
+  pub status : exit ≡ exit_for verdict.finding
+  pub kept : kept_of recording ≡ found_for (option_map (λ n. n.now) options.record) verdict.finding
+
+-- The same, of the text's program.
+pub record IsSearchFrom (options : SearchOptions) (text output : List ℕ) (exit : Exit) (recording : Option Recording) : Type 0 where
+  pub program : Image
+  pub loaded : IsLoaded text (root_of options.root) program
+  pub searched : IsSearchOf program options output exit recording
+
+-- Where the text is refused nothing is to be written.
+pub record IsNotSearched (root : Root) (source : List File) (output : List ℕ) (exit : Exit) (recording : Option Recording) :
+    Type 0 where
+  pub why : Rejection
+  pub true_of : IsNotRunFor (joined source) root why
+  pub refused : IsRefusalOf source why output exit
+  pub unkept : recording ≡ None
+
+-- What is answered to a search of files of these names.
+abbrev pub IsSearchOn : SearchOptions → List (List ℕ) → List ℕ → Exit → Option Recording → Type 0
+IsSearchOn options names output exit recording =
+    ((source : List File) × (names_of source ≡ names)
+    × (IsSearchFrom options (joined source) output exit recording ⊎ IsNotSearched (root_of options.root) source output exit recording))
+    ⊎ (IsRefusalOf [] too_long output exit × (recording ≡ None))

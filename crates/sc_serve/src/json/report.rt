@@ -1,0 +1,100 @@
+//! Reports as objects of JSON.
+
+use crate::json::{number_of, text_or_null};
+use serde_json::{Value, json};
+use std::alloc::{AllocError, Global};
+
+/// Reads a report from its beginning.
+#[derive(Drop)]
+struct Reader<'t> {
+    rest: &'t [u8],
+}
+
+/// What the line of a handler tells.
+#[derive(Clone, Copy)]
+struct Line<'t> {
+    number: &'t str,
+    status: &'t str,
+    cause: Option<&'t str>,
+    refused: &'t str,
+    length: usize,
+}
+
+/// A report: each handler with its status, the code of its failure, how many requests it refused, and its output; how the
+/// run has stopped; and what its audit says, where there is one.
+pub fn report_value(alloc: Global, text: &[u8]) -> Result<Value, AllocError> {
+    let mut reader = Reader { rest: text };
+    let handlers = handler_values(alloc, &mut reader)?;
+    let stopped = text_or_null(alloc, reader.told_behind("stopped "))?;
+    let audit = text_or_null(alloc, reader.told_behind("audit "))?;
+    json!(in alloc; {
+        "answer": "report",
+        "handlers": handlers,
+        "stopped": stopped,
+        "audit": audit
+    })
+}
+
+/// The handlers with which a report begins.
+fn handler_values(alloc: Global, reader: &mut Reader<'_>) -> Result<Value, AllocError> {
+    let mut values = Vec::new(alloc);
+    for _ in 0..reader.rest.len() {
+        let Some(line) = reader.told_behind("handler ").and_then(line_told) else {
+            break;
+        };
+        let output = reader.take(line.length);
+        values.push(handler_value(alloc, line, output)?)?;
+    }
+    Ok(Value::Array(values))
+}
+
+fn handler_value(alloc: Global, line: Line<'_>, output: &[u8]) -> Result<Value, AllocError> {
+    let cause = text_or_null(alloc, line.cause)?;
+    let output = String::from_utf8_lossy(alloc, output)?;
+    json!(in alloc; {
+        "number": number_of(line.number),
+        "status": line.status,
+        "cause": cause,
+        "refused": number_of(line.refused),
+        "output": output.as_str()
+    })
+}
+
+/// What the line of a handler tells behind its first word: `NUMBER STATUS refused COUNT output BYTES`, where the status may have
+/// a code behind it.
+fn line_told(told: &str) -> Option<Line<'_>> {
+    let (standing, counts) = told.split_once(" refused ")?;
+    let (number, status) = standing.split_once(' ')?;
+    let (refused, length) = counts.split_once(" output ")?;
+    let (status, cause) = match status.split_once(' ') {
+        Some((status, cause)) => (status, Some(cause)),
+        None => (status, None),
+    };
+    Some(Line {
+        number,
+        status,
+        cause,
+        refused,
+        length: length.parse::<usize>().ok()?,
+    })
+}
+
+impl<'t> Reader<'t> {
+    /// What the next line tells behind these words, or None where it doesn't begin so: then it is still the next one.
+    fn told_behind(&mut self, words: &str) -> Option<&'t str> {
+        let told = self.rest.strip_prefix(words.as_bytes())?;
+        let length = told.iter().position(|byte| *byte == b'\n')?;
+        self.rest = told.get(length + 1..)?;
+        str::from_utf8(told.get(..length)?).ok()
+    }
+
+    /// So many bytes, and the line feed behind them, which is left out.
+    fn take(&mut self, length: usize) -> &'t [u8] {
+        let (taken, rest) = self
+            .rest
+            .split_at_checked(length)
+            .unwrap_or((self.rest, &[]));
+        self.rest = rest.strip_prefix(b"\n").unwrap_or(rest);
+        taken
+    }
+}

@@ -1,0 +1,199 @@
+//! What is answered to `search`.
+
+ghost use Rattle.std.specs.Prelude.{◌≡◌, IfErr, IfOk, map};
+ghost use Rattle.std.specs.Option.{option_map};
+ghost use Rattle.sc_lower.specs.Lowerings.{image_of};
+ghost use Rattle.sc_serve.specs.Answer.{IsUnansweredOn, kept_of, out_of_memory};
+ghost use Rattle.sc_serve.specs.Search as spec;
+ghost use Rattle.sc_serve.specs.Search.{IsSearchOf, IsSearchOn, IsTold};
+
+use crate::json::search_object;
+use crate::serve::{Answer, Exit, Fault, Recording, answer_explained, answer_unread};
+use crate::verdict::{outcome_lines, verdict_lines};
+use sc_arguments::{Format, SearchOptions, Sought};
+use sc_audit::RecordLine;
+use sc_breakdown::{Limit, Played, run_note};
+use sc_class::Root;
+use sc_code::Program;
+use sc_execution::load_text;
+use sc_lockpass::Version;
+use sc_runtime::World;
+use sc_search::{Aim, Finding, Verdict, Watch, search};
+use sc_source::files::{Files, read_source};
+use sc_source::source::Source;
+use std::alloc::{AllocError, Global};
+
+/// Plays the system of the named files in every order of turns.
+#[tactic(auto, using(crate::proofs::AnswerLemmas::unanswered, crate::proofs::AnswerLemmas::unread))]
+pub fn answer_search<'a, F: Files, W: Watch>(
+    alloc: Global,
+    options: &SearchOptions<'a>,
+    files: &F,
+    names: &[&'a str],
+    watch: &mut W,
+) -> Result<Answer<'a>, Fault<'a>>
+    ensures answer { let named = map (λ name. name.now) names.now in
+        IfOk result (λ answer. IsSearchOn options.now named answer.text.items answer.exit answer.record) }
+    ensures unanswered { IfErr result (IsUnansweredOn (map (λ name. name.now) names.now)) }
+{
+    let source = match read_source(alloc, files, names) {
+        Ok(source) => source,
+        Err(fault) => return answer_unread(alloc, names, fault),
+    };
+    match load_text(alloc, source.text(), &options.root) {
+        Ok(program) => search_loaded(alloc, &program, options, &source, watch),
+        Err(rejection) => answer_explained(alloc, &source, &rejection, explained_root(options)),
+    }
+}
+
+/// What the system is run from, where a refusal is to be shown in its line of the text too.
+fn explained_root<'r>(options: &'r SearchOptions<'_>) -> Option<&'r Root> {
+    if options.is_explained {
+        Some(&options.root)
+    } else {
+        None
+    }
+}
+
+/// Plays the program of a source text in every order of turns.
+fn search_loaded<'a, W: Watch>(
+    alloc: Global,
+    program: &Program,
+    options: &SearchOptions<'a>,
+    source: &Source,
+    watch: &mut W,
+) -> Result<Answer<'a>, Fault<'a>>
+    ensures answer { IfOk result (λ answer.
+        IsSearchOf (image_of program.now) options.now answer.text.items answer.exit answer.record) }
+    ensures unanswered { IfErr result (λ fault. fault ≡ out_of_memory) }
+{
+    let aim = aim_of(options.sought);
+    let verdict = search(alloc, program, Version::Two, aim, options.states, watch)?;
+    let text = verdict_text(alloc, options, &verdict)?;
+    let object = object_of(alloc, options, &verdict)?;
+    let exit = exit_of_finding(&verdict.finding);
+    let note = note_of(alloc, program, options, source, &verdict.finding)?;
+    Ok(Answer {
+        text,
+        object,
+        exit,
+        note,
+        record: recording_of(options.record, verdict.finding),
+    })
+}
+
+fn aim_of(sought: Sought) -> Aim
+    ensures { result ≡ spec.aim_of sought }
+{
+    match sought {
+        Sought::Stuck => Aim::Stuck,
+        Sought::Fails => Aim::Fails,
+        Sought::Any => Aim::Any,
+    }
+}
+
+/// What the program ends with where this was found.
+fn exit_of_finding(finding: &Finding) -> Exit
+    ensures { result ≡ spec.exit_for finding.now }
+{
+    match finding {
+        Finding::Nothing => Exit::Done,
+        Finding::Fails(_) => Exit::Failed,
+        Finding::Stuck(_) => Exit::Unfinished,
+        Finding::Undecided => Exit::Undecided,
+    }
+}
+
+/// The verdict, with the outcomes where they are to be listed.
+fn verdict_text(
+    alloc: Global,
+    options: &SearchOptions<'_>,
+    verdict: &Verdict,
+) -> Result<Vec<u8>, AllocError>
+    ensures { IfOk result (λ text. IsTold options.now.sought options.now.lists_outcomes verdict.now text.items) }
+{
+    let mut text = verdict_lines(alloc, options.sought, verdict)?;
+    if options.lists_outcomes {
+        let outcomes = outcome_lines(alloc, verdict.ends.as_slice())?;
+        text.extend_from_slice(outcomes.as_slice())?;
+    }
+    Ok(text)
+}
+
+/// The verdict as an object of JSON, where that is asked for.
+fn object_of(
+    alloc: Global,
+    options: &SearchOptions<'_>,
+    verdict: &Verdict,
+) -> Result<Option<Vec<u8>>, AllocError> {
+    match options.format {
+        Format::Json => Ok(Some(search_object(alloc, options, verdict)?)),
+        Format::Text => Ok(None),
+    }
+}
+
+/// What is said beside the verdict: that there is no order for the record, and why handlers wait or fail where that is asked
+/// for.
+fn note_of(
+    alloc: Global,
+    program: &Program,
+    options: &SearchOptions<'_>,
+    source: &Source,
+    finding: &Finding,
+) -> Result<Vec<u8>, AllocError> {
+    match (lines_of(finding), options.record) {
+        (None, Some(name)) => {
+            let told = format!(in alloc; "no order was found, so nothing is written to {name}\n")?;
+            Ok(told.into_bytes())
+        }
+        (Some(lines), _) if options.is_explained => {
+            explain_order(alloc, program, options, source, lines)
+        }
+        _ => Ok(Vec::new(alloc)),
+    }
+}
+
+/// Why handlers wait or fail where the turns of these lines are played.
+fn explain_order(
+    alloc: Global,
+    program: &Program,
+    options: &SearchOptions<'_>,
+    source: &Source,
+    lines: &[RecordLine],
+) -> Result<Vec<u8>, AllocError> {
+    let mut world = World::open(alloc, program, Version::Two)?;
+    for line in lines {
+        world.turns_of(line.handler, line.turns)?;
+    }
+    let statuses = world.statuses()?;
+    let played = Played {
+        source,
+        root: &options.root,
+        version: Version::Two,
+        lines,
+        limit: Limit::Record,
+        may_refuse: true,
+    };
+    run_note(alloc, played, statuses.as_slice())
+}
+
+/// The lines of the order that was found, if one was.
+fn lines_of(finding: &Finding) -> Option<&[RecordLine]> {
+    match finding {
+        Finding::Stuck(order) | Finding::Fails(order) => Some(order.lines.as_slice()),
+        Finding::Nothing | Finding::Undecided => None,
+    }
+}
+
+/// The record that is to be written, where a file is named for it and an order was found.
+fn recording_of<'a>(name: Option<&'a str>, finding: Finding) -> Option<Recording<'a>>
+    ensures { kept_of result ≡ spec.found_for (option_map (λ n. n.now) name.entry) finding }
+{
+    match (name, finding) {
+        (Some(name), Finding::Stuck(order) | Finding::Fails(order)) => Some(Recording {
+            name,
+            lines: order.lines,
+        }),
+        _ => None,
+    }
+}

@@ -1,0 +1,139 @@
+//! What is told of a search: the lines of its verdict.
+
+ghost use Rattle.std.specs.Prelude.{◌≡◌, ◌++◌, IfOk, OnOk};
+ghost use Rattle.sc_serve.specs.Search as spec;
+
+use sc_arguments::Sought;
+use sc_audit::RecordLine;
+use sc_search::{End, Finding, Length, Order, Verdict};
+use std::alloc::{AllocError, Global};
+
+/// The lines that tell a verdict on what was looked for: what was found, whether orders end, how many outcomes there are where
+/// nothing was found, and how many states were kept.
+pub fn verdict_lines(
+    alloc: Global,
+    sought: Sought,
+    verdict: &Verdict,
+) -> Result<Vec<u8>, AllocError>
+    ensures { IfOk result (λ lines. lines.items ≡ spec.verdict_lines sought verdict.now) }
+{
+    let mut lines = Vec::new(alloc);
+    push_finding(alloc, &mut lines, sought, verdict)?;
+    push_length(alloc, &mut lines, verdict.length)?;
+    push_outcomes(alloc, &mut lines, &verdict.finding, verdict.ends.len())?;
+    let states = verdict.states;
+    let told = format!(in alloc; "states {states}\n")?;
+    lines.extend_from_slice(told.as_bytes())?;
+    Ok(lines)
+}
+
+/// Adds what was found.
+fn push_finding(
+    alloc: Global,
+    lines: &mut Vec<u8>,
+    sought: Sought,
+    verdict: &Verdict,
+) -> Result<(), AllocError>
+    ensures { OnOk result (lines.new.items ≡ lines.old.items ++ spec.finding_line sought verdict.now.is_whole verdict.now.finding) }
+{
+    match &verdict.finding {
+        Finding::Nothing => {
+            lines.extend_from_slice(nothing_of(sought, verdict.is_whole).as_bytes())
+        }
+        Finding::Stuck(order) => push_found(alloc, lines, "stuck", order),
+        Finding::Fails(order) => push_found(alloc, lines, "fails", order),
+        Finding::Undecided => lines.extend_from_slice(b"undecided\n"),
+    }
+}
+
+/// The line that tells that nothing was found: there is nothing where every order was played.
+fn nothing_of(sought: Sought, is_whole: bool) -> &'static str
+    ensures { result.now ≡ spec.nothing_line sought is_whole }
+{
+    if is_whole {
+        none_of(sought)
+    } else {
+        "none found\n"
+    }
+}
+
+/// The line that tells that no order at all does what was looked for.
+fn none_of(sought: Sought) -> &'static str
+    ensures { result.now ≡ spec.none_line sought }
+{
+    match sought {
+        Sought::Stuck => "none stuck (proved)\n",
+        Sought::Fails => "none fails (proved)\n",
+        Sought::Any => "none stuck, none fails (proved)\n",
+    }
+}
+
+/// Adds what an order leads to, and how long it is.
+fn push_found(
+    alloc: Global,
+    lines: &mut Vec<u8>,
+    what: &'static str,
+    order: &Order,
+) -> Result<(), AllocError>
+    ensures { OnOk result (lines.new.items ≡ lines.old.items ++ spec.found_line what.now order.now) }
+{
+    let turns = turns_of(order.lines.as_slice());
+    let told = format!(in alloc; "{what} after {turns} turns\n")?;
+    lines.extend_from_slice(told.as_bytes())
+}
+
+/// Adds whether orders end, as far as that is known.
+fn push_length(alloc: Global, lines: &mut Vec<u8>, length: Length) -> Result<(), AllocError>
+    ensures { OnOk result (lines.new.items ≡ lines.old.items ++ spec.length_line length) }
+{
+    match length {
+        Length::AtMost(turns) => {
+            let told = format!(in alloc; "orders end after {turns} turns at most\n")?;
+            lines.extend_from_slice(told.as_bytes())
+        }
+        Length::Endless => lines.extend_from_slice(b"some order goes on for ever\n"),
+        Length::Unknown => Ok(()),
+    }
+}
+
+/// Adds how many outcomes were met, where nothing was found.
+fn push_outcomes(
+    alloc: Global,
+    lines: &mut Vec<u8>,
+    finding: &Finding,
+    count: usize,
+) -> Result<(), AllocError>
+    ensures { OnOk result (lines.new.items ≡ lines.old.items ++ spec.outcomes_line finding.now count) }
+{
+    match finding {
+        Finding::Nothing => {
+            let told = format!(in alloc; "outcomes {count}\n")?;
+            lines.extend_from_slice(told.as_bytes())
+        }
+        Finding::Stuck(_) | Finding::Fails(_) | Finding::Undecided => Ok(()),
+    }
+}
+
+/// Each outcome: after how many turns it comes, and its report.
+pub fn outcome_lines(alloc: Global, ends: &[End]) -> Result<Vec<u8>, AllocError> {
+    let mut lines = Vec::new(alloc);
+    for (index, end) in ends.iter().enumerate() {
+        let number = index + 1;
+        let turns = turns_of(end.order.lines.as_slice());
+        let heading = format!(in alloc; "outcome {number} after {turns} turns\n")?;
+        lines.extend_from_slice(heading.as_bytes())?;
+        lines.extend_from_slice(end.report.as_slice())?;
+    }
+    Ok(lines)
+}
+
+/// How many turns these lines are, all together.
+pub fn turns_of(lines: &[RecordLine]) -> u64
+    ensures { result ≡ spec.told_turns lines.now }
+{
+    let mut turns: u64 = 0;
+    for line in lines {
+        turns = turns.saturating_add(line.turns as u64);
+    }
+    turns
+}
