@@ -3,23 +3,32 @@ _scoop() {
     local word=${COMP_WORDS[COMP_CWORD]} before=${COMP_WORDS[COMP_CWORD - 1]} command=${COMP_WORDS[1]}
     COMPREPLY=()
     if [ "$COMP_CWORD" = 1 ]; then
-        mapfile -t COMPREPLY < <(compgen -W 'check run replay print explain help --help --version' -- "$word")
+        mapfile -t COMPREPLY < <(compgen -W 'check run replay search print explain help --help --version' -- "$word")
         return
     fi
     case $before in
-    --root | --turns | --workers) return ;;
+    --root | --turns | --workers | --states) return ;;
+    --for)
+        mapfile -t COMPREPLY < <(compgen -W 'stuck fails any' -- "$word")
+        return
+        ;;
+    --format)
+        mapfile -t COMPREPLY < <(compgen -W 'text json' -- "$word")
+        return
+        ;;
     --record)
         mapfile -t COMPREPLY < <(compgen -f -- "$word")
         return
         ;;
     esac
     case $command:$word in
-    check:-*) mapfile -t COMPREPLY < <(compgen -W '--root --explain --help' -- "$word") ;;
-    run:-*) mapfile -t COMPREPLY < <(compgen -W '--workers --turns --record --audit --root --explain --help' -- "$word") ;;
-    replay:-*) mapfile -t COMPREPLY < <(compgen -W '--root --help' -- "$word") ;;
+    check:-*) mapfile -t COMPREPLY < <(compgen -W '--root --explain --format --help' -- "$word") ;;
+    run:-*) mapfile -t COMPREPLY < <(compgen -W '--workers --turns --record --audit --root --explain --format --help' -- "$word") ;;
+    replay:-*) mapfile -t COMPREPLY < <(compgen -W '--root --explain --format --help' -- "$word") ;;
+    search:-*) mapfile -t COMPREPLY < <(compgen -W '--for --states --record --outcomes --explain --format --root --help' -- "$word") ;;
     print:-* | explain:-*) mapfile -t COMPREPLY < <(compgen -W '--help' -- "$word") ;;
     explain:*) mapfile -t COMPREPLY < <(compgen -W "$("${COMP_WORDS[0]}" explain 2>/dev/null)" -- "$word") ;;
-    help:*) mapfile -t COMPREPLY < <(compgen -W 'check run replay print explain' -- "$word") ;;
+    help:*) mapfile -t COMPREPLY < <(compgen -W 'check run replay search print explain' -- "$word") ;;
     replay:*) mapfile -t COMPREPLY < <(compgen -f -- "$word") ;;
     *) mapfile -t COMPREPLY < <(compgen -f -X '!*.e' -- "$word"; compgen -d -- "$word") ;;
     esac
