@@ -47,12 +47,25 @@ very run.
 
 Memory was refused to a run: `out of memory`, with status 5, and no report.
 
+This ends so by `(ulimit -v 8000; scoop run a.e)`:
+
+    class APPLICATION create make feature
+        c: CELL
+        n: INTEGER
+        make do from until n = 65000 loop create c n := n + 1 end end
+    end
+    class CELL feature item: INTEGER end
+
 Why: Objects live until a run ends. A run that makes less of them, or fewer
 `--turns`, needs less.
 "#,
     r#"U2 ThreadRefused
 
 A thread was refused to a run: `no thread`, with status 5, and no report.
+
+This ends so by `(ulimit -v 8000; scoop run --workers 8 a.e)`:
+
+    class APPLICATION create make feature make do end end
 
 Why: `--workers 4` starts three threads beside the one that is there, and the
 machine may allow fewer. `--workers 1` starts none.
