@@ -25,6 +25,7 @@ pub mod Here
 pub mod GoingHere
 pub mod Turned
 pub mod Joining
+pub mod Putting
 pub mod Rows
 pub mod Rounding
 pub mod Switching

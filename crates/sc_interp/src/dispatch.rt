@@ -22,6 +22,7 @@ use std::alloc::AllocError;
 
 /// The operation of the routine that runs on `me`, whose code has `count` operations, where it is silent, needs no memory and
 /// asks nothing but of the routine itself. None where it is another one; nothing has changed then.
+#[inline(always)]
 pub fn step_on(
     activation: &mut Activation,
     me: Reference,

@@ -12,6 +12,7 @@ use sc_region::{Reference, Value};
 use sc_tree::{BinaryOperator, UnaryOperator};
 
 /// An entity is read: F7 where its type is attached and it is still Void, F16 where there is none.
+#[inline(always)]
 pub fn read(is_attached: bool, value: Option<Value>) -> Result<Value, Cause>
     ensures { evaluated result ≡ flat.read is_attached (option_map value_of value) }
 {
@@ -61,6 +62,7 @@ pub fn unary_value(operator: UnaryOperator, operand: Value) -> Result<Value, Cau
 }
 
 /// The operator on two truth values, if it is one.
+#[inline(always)]
 fn connective_of(operator: BinaryOperator) -> Option<Connective>
     ensures { result ≡ operators.connective_of operator }
 {
@@ -154,6 +156,7 @@ pub fn binary_value(operator: BinaryOperator, left: Value, right: Value) -> Resu
 }
 
 /// What the left operand of a semistrict operator decides, if it does.
+#[inline(always)]
 pub fn decided_by(operator: BinaryOperator, left: Value) -> Option<bool>
     ensures { result ≡ decided_by operator (value_of left) }
 {

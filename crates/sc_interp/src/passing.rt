@@ -1,15 +1,12 @@
 //! Operations that pass on in the code: in place, on the activation.
-ghost use Rattle.std.specs.Prelude.{◌≡◌, ◌<◌, ◌+◌, ◌∷◌, ◌↔◌, IsTrue, drop, false, length};
+ghost use Rattle.std.specs.Prelude.{◌≡◌, ◌<◌, ◌+◌, ◌∷◌, ◌↔◌, IsTrue, drop, length};
 ghost use Rattle.sc_code.specs.Machine as flat;
-ghost use Rattle.sc_region.specs.Frames.{PlainActivation, activation_of};
+ghost use Rattle.sc_region.specs.Frames.{activation_of};
 ghost use Rattle.sc_interp.specs.Values.{value_of, evaluated};
-ghost use Rattle.sc_interp.specs.declared.act.Hop.TheVariants.{Passed};
-ghost use Rattle.sc_interp.specs.Joining.{GoesOnTo};
-ghost use Rattle.sc_interp.specs.Running.{at};
 ghost use Rattle.sc_interp.specs.Standing.{Passes, Stays, stepped};
 
 use sc_model::Cause;
-use sc_region::{Activation, Operands, Value};
+use sc_region::{Activation, Value};
 
 /// On past so many operations behind this one; F16 where the code, of `count` operations, has none there.
 #[inline(always)]
@@ -47,23 +44,6 @@ pub fn has_next(place: usize, count: usize) -> bool
     place < count && place + 1 < count
 }
 
-/// One more operand, and on from this place, where there is room and an operation behind it: whether it is so. Where it isn't
-/// nothing has changed.
-#[inline(always)]
-pub fn push_pass(operands: &mut Operands, place: &mut usize, count: usize, value: Value) -> bool
-    ensures passes { IsTrue result → (a : PlainActivation) → Passes count (λ c f. flat.push c (value_of value) f) Passed (at place.old operands.old a) (at place.new operands.new a) }
-    ensures on { IsTrue result → GoesOnTo count place.old place.new }
-    ensures none { result ≡ false → (place.new ≡ place.old) × (operands.new ≡ operands.old) }
-    ensures depth { operands.new.depth ≡ operands.old.depth }
-{
-    if operands.is_full() || !has_next(*place, count) {
-        return false;
-    }
-    operands.push(value);
-    *place += 1;
-    true
-}
-
 /// The value of an evaluation is one more operand, or the evaluation fails.
 #[inline(always)]
 pub fn push_found(
@@ -81,6 +61,7 @@ pub fn push_found(
 }
 
 /// The value comes in the place of operands that were popped, and so many operations are passed.
+#[inline(always)]
 pub fn put_past(
     activation: &mut Activation,
     count: usize,
@@ -97,6 +78,7 @@ pub fn put_past(
 }
 
 /// The value of an evaluation comes in the place of operands that were popped, or the evaluation fails.
+#[inline(always)]
 pub fn replace(
     activation: &mut Activation,
     count: usize,
@@ -122,6 +104,7 @@ pub fn pass_last(activation: &mut Activation, count: usize) -> Result<(), Cause>
 }
 
 /// The slot gets the value; F16 where there is no such slot.
+#[inline(always)]
 pub fn store(
     activation: &mut Activation,
     count: usize,

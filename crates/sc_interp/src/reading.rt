@@ -16,6 +16,7 @@ use sc_region::{Activation, Value};
 use std::alloc::AllocError;
 
 /// Result is read.
+#[inline(always)]
 pub fn push_result(
     activation: &mut Activation,
     count: usize,
@@ -30,13 +31,14 @@ pub fn push_result(
 
 /// The value in a slot.
 #[inline(always)]
-fn value_at(slots: &[Value], slot: usize) -> Option<Value>
+pub fn value_at(slots: &[Value], slot: usize) -> Option<Value>
     ensures { result ≡ slice_get slots.now slot }
 {
     slots.get(slot).copied()
 }
 
 /// A slot is read.
+#[inline(always)]
 #[tactic(auto, using(crate::proofs::GoingOn::values_get))]
 pub fn push_slot(
     activation: &mut Activation,
@@ -73,6 +75,7 @@ fn default_of(value: DefaultValue) -> Value
 }
 
 /// A local gets its default.
+#[inline(always)]
 pub fn initialize(
     activation: &mut Activation,
     count: usize,

@@ -13,6 +13,7 @@ use sc_region::{Activation, Value};
 use sc_tree::{BinaryOperator, UnaryOperator};
 
 /// The last operand is the operand of the operator.
+#[inline(always)]
 pub fn apply_unary(
     activation: &mut Activation,
     count: usize,
@@ -64,6 +65,7 @@ fn apply_to(
 }
 
 /// Where the last operand decides, its decision comes in its place and the right operand is passed.
+#[inline(always)]
 pub fn decide(
     activation: &mut Activation,
     count: usize,
@@ -83,6 +85,7 @@ pub fn decide(
 }
 
 /// The last operand is a truth value, and stays.
+#[inline(always)]
 pub fn conclude(activation: &mut Activation, count: usize) -> Result<(), Cause>
     ensures hops { Hops count flat.Conclude (stepped result) (activation_of activation.old) (activation_of activation.new) }
     ensures stays { Stays (activation_of activation.old) (activation_of activation.new) }
@@ -94,6 +97,7 @@ pub fn conclude(activation: &mut Activation, count: usize) -> Result<(), Cause>
 }
 
 /// The last operand goes into the slot.
+#[inline(always)]
 pub fn store_slot(activation: &mut Activation, count: usize, slot: usize) -> Result<(), Cause>
     ensures hops { Hops count (flat.StoreSlot slot) (stepped result) (activation_of activation.old) (activation_of activation.new) }
     ensures stays { Stays (activation_of activation.old) (activation_of activation.new) }
@@ -105,6 +109,7 @@ pub fn store_slot(activation: &mut Activation, count: usize, slot: usize) -> Res
 }
 
 /// The last operand is the Result.
+#[inline(always)]
 pub fn store_result(activation: &mut Activation, count: usize) -> Result<(), Cause>
     ensures hops { Hops count flat.StoreResult (stepped result) (activation_of activation.old) (activation_of activation.new) }
     ensures stays { Stays (activation_of activation.old) (activation_of activation.new) }
@@ -119,6 +124,7 @@ pub fn store_result(activation: &mut Activation, count: usize) -> Result<(), Cau
 }
 
 /// Where the last operand is False, so many operations are passed.
+#[inline(always)]
 pub fn skip_if_false(activation: &mut Activation, count: usize, passed: usize) -> Result<(), Cause>
     ensures hops { Hops count (flat.SkipIfFalse passed) (stepped result) (activation_of activation.old) (activation_of activation.new) }
     ensures stays { Stays (activation_of activation.old) (activation_of activation.new) }
@@ -131,6 +137,7 @@ pub fn skip_if_false(activation: &mut Activation, count: usize, passed: usize) -
 }
 
 /// The last operand is True, or the handler fails so.
+#[inline(always)]
 pub fn expect(activation: &mut Activation, count: usize, why: Cause) -> Result<(), Cause>
     ensures hops { Hops count (flat.Expect why) (stepped result) (activation_of activation.old) (activation_of activation.new) }
     ensures stays { Stays (activation_of activation.old) (activation_of activation.new) }

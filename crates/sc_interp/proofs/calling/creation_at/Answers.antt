@@ -1,4 +1,4 @@
-use Rattle.std.proofs.Common.{◌≡◌, true, false, ap, sym, ◌∙◌}
+use Rattle.std.proofs.Common.{true, false, ap, sym, ◌∙◌}
 use Rattle.std.specs.Option.{option_and_then, option_map}
 use Rattle.sc_code.specs.declared.program.ConstantPool.{ConstantPool}
 use Rattle.sc_code.specs.Programs.{pool_of}
