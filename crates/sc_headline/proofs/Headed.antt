@@ -8,10 +8,13 @@ use Rattle.sc_model.specs.Handlers.{World}
 use Rattle.sc_lockpass.specs.declared.version.Version.TheVariants.{Two}
 use Rattle.sc_code.specs.declared.program.Image.{Image}
 use Rattle.sc_runtime.specs.Worlds.{PlainWorld}
-use Rattle.sc_refinement.specs.Refining.{IdleWorldIsIdle, StandingWorldIsNear, WorldHasHeadline, WorldReportsAsMachine, WorldRunsAsMachine}
+use Rattle.sc_refinement.specs.Refining.{IdleWorldIsIdle, MachineHasHeadline, StandingWorldIsNear, WorldHasHeadline, WorldReportsAsMachine, WorldRunsAsMachine}
 use Rattle.sc_refinement.specs.Standing.{StandsFor}
 use Rattle.sc_execution.specs.Execution.{IsThreadRun, Leaves, line_turns}
-use Rattle.sc_headline.specs.Headline.{Headline, IsReportOf, ReplaysAreTheMachines, RunsAreTheMachines, machine_after}
+use Rattle.sc_headline.specs.Headline.{Headline, IsReportOf, MachineHeadline, ReplaysAreTheMachines, RunsAreTheMachines, machine_after}
+
+pub machine_headed : MachineHasHeadline → MachineHeadline
+machine_headed law text root system most state read sound reached = law system root sound.faultless sound.well_formed most state reached
 
 pub headed : WorldHasHeadline → Headline
 headed law text root program version handlers world loaded runs =

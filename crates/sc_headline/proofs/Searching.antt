@@ -1,5 +1,5 @@
 -- What a search finds, or doesn't, beside the machine.
-use Rattle.std.proofs.Common.{◌≡◌, ◌∙◌, ℕ, List, [], ◌∷◌, Some, slice_get, refl, sym, subst}
+use Rattle.std.proofs.Common.{◌≡◌, ℕ, List, [], ◌∷◌, Some, slice_get, sym, subst}
 use Rattle.sc_lockpass.specs.declared.version.Version.{Version}
 use Rattle.sc_code.specs.declared.program.Image.{Image}
 use Rattle.sc_runtime.specs.Kept.{PlainKept, kept}
@@ -12,7 +12,7 @@ use Rattle.sc_search.specs.Aims.{IsMet}
 use Rattle.sc_search.specs.Closed.{IsClosed}
 use Rattle.sc_search.specs.Found.{turns_of}
 use Rattle.sc_headline.specs.Headline.{machine_after}
-use Rattle.sc_headline.specs.Searched.{FoundOrdersAreTheMachines, WholeSearchesFindAll, statuses_in}
+use Rattle.sc_headline.specs.Searched.{FoundOrdersAreTheMachines, WholeSearchesFindAll}
 
 pub found : WorldRunsAsMachine → StandingWorldIsNear → WorldReportsAsMachine → FoundOrdersAreTheMachines
 found runs_as near tells text root program version lines aim loaded leads =

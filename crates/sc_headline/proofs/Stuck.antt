@@ -1,5 +1,5 @@
 -- Handlers that are stuck have no turn.
-use Rattle.std.proofs.Common.{◌≡◌, ◌<◌, ◌≤◌, ◌+◌, ◌∙◌, ◌&&◌, ◌||◌, ℕ, zero, suc, Bool, true, false, List, [], ◌∷◌, Option, Some, None, get_or, length, refl, sym, ap, arith}
+use Rattle.std.proofs.Common.{◌≡◌, ◌<◌, ◌≤◌, ◌∙◌, ◌&&◌, ◌||◌, ℕ, zero, suc, Bool, true, false, List, Option, Some, None, get_or, length, refl, sym, ap, arith}
 use Rattle.std.specs.List.{list_any}
 use Rattle.std.specs.Prelude.{nat_lt}
 use Rattle.std.proofs.lemmas.List.Folds.{list_any_at}
@@ -10,7 +10,6 @@ use Rattle.sc_model.specs.declared.status.Status.TheVariants.{Busy}
 use Rattle.sc_model.specs.Handlers.{Frame, World}
 use Rattle.sc_model.specs.Reports.{some_has_turn, status_of, status_with}
 use Rattle.sc_model.specs.Runs.{has_turn, has_turn_with}
-use Rattle.sc_search.specs.Aims.{AreStuck}
 use Rattle.sc_headline.specs.Searched.{StuckHaveNoTurn, statuses_in}
 
 -- one that has a turn has not failed

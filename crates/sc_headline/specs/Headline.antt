@@ -19,6 +19,14 @@ use Rattle.sc_refinement.specs.Refining.{HasHeadline}
 use Rattle.sc_refinement.specs.Standing.{StandsFor}
 use Rattle.sc_execution.specs.Execution.{IsLoaded, IsRead, IsReplay, IsRunOf, IsSound, line_turns}
 
+-- ---- the machine
+
+-- Of each state that the machine on a text's system reaches, where there may be so many handlers, the headline holds.
+abbrev pub MachineHeadline : Type 0
+MachineHeadline =
+    (text : List ℕ) (root : Root) (system : System) (most : ℕ) (state : World) → IsRead text system → IsSound system root →
+    IsReached most system root state → HasHeadline most system state
+
 -- ---- worlds
 
 -- The text spells a system that is sound. The world stands for a state that the machine on this system reaches, and of that

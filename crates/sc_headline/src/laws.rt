@@ -1,22 +1,30 @@
 //! Laws of worlds and replays, from the bytes of a source text on, each the contract of a function that does nothing.
 ghost use Rattle.sc_headline.specs.Audited.{AuditedWorldsHaveHeadline};
 ghost use Rattle.sc_headline.specs.Exactly.{AuditsAreExact, OneWorld, RunsAreAnsweredYes};
-ghost use Rattle.sc_headline.specs.Headline.{Headline, ReplaysAreTheMachines, RunsAreTheMachines};
+ghost use Rattle.sc_headline.specs.Headline.{Headline, MachineHeadline, ReplaysAreTheMachines, RunsAreTheMachines};
 ghost use Rattle.sc_headline.specs.Searched.{FoundOrdersAreTheMachines, StuckHaveNoTurn, WholeSearchesFindAll};
 ghost use Rattle.sc_headline.specs.ThreadsHeadline.{ThreadsHaveHeadline, ThreadsReportAsMachine};
 
 use sc_auditing::laws::{misfits_are_no_record, one_misfit, runs_audit_yes};
 use sc_plant::laws::runs_are_one_threads;
 use sc_refinement::laws::{
-    anew_runs_as_machine, idle_world_is_idle, standing_world_is_near, world_has_headline,
-    world_reports_as_machine, world_runs_as_machine,
+    anew_runs_as_machine, idle_world_is_idle, machine_has_headline, standing_world_is_near,
+    world_has_headline, world_reports_as_machine, world_runs_as_machine,
 };
 use sc_refinement::once::runs_are_functional;
 
-/// For every source text that is accepted, and whatever handlers make turns, in every order: the world of the text's program
-/// stands for a state that the machine on trees reaches, in which the handlers of formals and of open separate blocks are held,
-/// each value fits its type, whatever is typed non-separate belongs to its own handler, and each settled object meets its
-/// class invariant.
+/// For every source text that is accepted, and whatever handlers make turns, in every order, of the state that the machine on
+/// trees reaches: requests are posted under a right, and taken once and in order; the handlers of formals and of open separate
+/// blocks are held; each frame runs on an object of its own handler; each reference leads to an object, each value fits its type,
+/// and whatever is typed non-separate belongs to its own handler; bodies start where their preconditions hold, and no otherwise;
+/// and each settled object meets its class invariant.
+pub fn machine_headline()
+    ensures { MachineHeadline }
+{
+    machine_has_headline();
+}
+
+/// So it is of the world of the text's program, which stands for such a state.
 pub fn headline()
     ensures { Headline }
 {

@@ -1,14 +1,13 @@
 -- A handler whose turns ask nothing is the next one again, where no other one has anything to do.
-use Rattle.std.proofs.Common.{◌≡◌, ◌<◌, ◌==◌, ◌&&◌, ◌||◌, not, ℕ, suc, Bool, true, false, Option, Some, None, is_some, refl, sym, ap, subst, ◌∙◌, inl, inr, arith}
+use Rattle.std.proofs.Common.{◌≡◌, ◌==◌, ◌&&◌, ◌||◌, not, ℕ, suc, Bool, true, false, Option, Some, None, is_some, refl, sym, ap, ◌∙◌, inl, inr}
 use Rattle.std.proofs.lemmas.Bool.{and_parts, cases_Bool, eqb-true}
-use Rattle.std.specs.Prelude.{nat_lt}
 use Rattle.sc_region.specs.declared.job.Job.{Job}
 use Rattle.sc_region.specs.declared.job.Job.TheVariants as job
 use Rattle.sc_region.specs.declared.job.Want.TheVariants as want
 use Rattle.sc_request.specs.Candidates.{comes_again, frees_under}
 use Rattle.sc_request.specs.Handlers.{State}
 use Rattle.sc_request.specs.Logs.{Center, next, pick_for, picked, settles}
-use Rattle.sc_request.specs.Settling.{begun, goes_on, settled}
+use Rattle.sc_request.specs.Settling.{goes_on, settled}
 use Rattle.sc_request.proofs.Granting.{below_there}
 use Rattle.sc_request.proofs.Waking.{had_job}
 use Rattle.sc_runtime.proofs.Freeing.{next_picks}

@@ -16,11 +16,15 @@ mod Reporting
 mod Running
 mod Wants
 mod Back
+mod Beginning
+mod Belonging
 mod Exact
 mod Molds
+mod Moving
 mod Acted
 mod Frames
 mod Growing
 mod Turned
+mod Waiting
 mod Worlds
 mod OneRun

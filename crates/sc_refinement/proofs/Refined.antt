@@ -31,12 +31,11 @@ use Rattle.sc_halves.specs.Reached.{EntriesAreRemembered, HalvesWhereReached}
 use Rattle.sc_joined.specs.Joined as joined
 use Rattle.sc_runtime.specs.Kept.{KeptAlikeAreAlike, OpeningsAreOf, RunsStayOf}
 use Rattle.sc_runtime.specs.Worlds.{opened}
-use Rattle.sc_refinement.specs.Refining.{IsRunWithin, RoundsRunAsMachine, StoppedRoundsStayNear, StoppedWorldStaysNear, WorldHasHeadline, WorldRunsAsMachine}
+use Rattle.sc_refinement.specs.Refining.{IsRunWithin, MachineHasHeadline, RoundsRunAsMachine, StoppedRoundsStayNear, StoppedWorldStaysNear, WorldHasHeadline, WorldRunsAsMachine}
 use Rattle.sc_refinement.specs.Standing.{names_in}
 use Rattle.sc_refinement.specs.Anew.{AnewRunsAsMachine}
 use Rattle.sc_refinement.proofs.Assembling.{stands_along, stands_anew}
 use Rattle.sc_refinement.proofs.Rounds.{refused_next_stops, rounds_are_turns, stops_join}
-use Rattle.sc_refinement.proofs.Headlined.{headlined}
 use Rattle.sc_refinement.proofs.Idling.{idle_world_is_idle}
 use Rattle.sc_refinement.proofs.Meeting.{job_fits}
 use Rattle.sc_refinement.proofs.PuttingBack.{refused_turn_stays_near, same_or_further_near}
@@ -129,14 +128,14 @@ stopped_world_stays_near runs_as s root faultless well p v n hs y program fits s
     let w = run (most_handlers v) s (take n hs) (opening s root) in
     refused_turn_stays_near s p stops.next w stops.before y (runs_as s root faultless well p v (take n hs) stops.before program fits stops.runs) stops.refused
 
-pub world_has_headline : WorldRunsAsMachine → SettledMeetWhereReached → WorldHasHeadline
-world_has_headline runs_as settled s root faultless well p v hs y program fits runs =
+pub world_has_headline : WorldRunsAsMachine → MachineHasHeadline → WorldHasHeadline
+world_has_headline runs_as holds s root faultless well p v hs y program fits runs =
     let w : machine.World = run (most_handlers v) s hs (opening s root) in
     let reached : IsReached (most_handlers v) s root w = record { numbers = hs; run_is = refl } in (
       w,
       reached,
       runs_as s root faultless well p v hs y program fits runs,
-      headlined s root faultless well (most_handlers v) w reached (settled s root faultless well (most_handlers v) w reached),
+      holds s root faultless well (most_handlers v) w reached,
     )
 
 pub rounds_run_as_machine : WorldRunsAsMachine → PicksWhereTurns → RoundsRunAsMachine

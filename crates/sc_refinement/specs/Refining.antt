@@ -34,6 +34,8 @@ use Rattle.sc_runtime.specs.Reports.{report, statuses}
 use Rattle.sc_runtime.specs.Rounds.{EndsRounds, Rounds, StopsRounds}
 use Rattle.sc_runtime.specs.Turning.{IsRefusedTurn, Runs, StopsBehind}
 use Rattle.sc_runtime.specs.Worlds.{PlainWorld, opened}
+use Rattle.sc_refinement.specs.Belonging.{FramesRunOnOwn, NoTurnIsExcluded, ObjectsAreOfClasses, ReferencesLead, RequestsStandAtTargets}
+use Rattle.sc_refinement.specs.Moving.{TurnsMoveRequests, WaitersHaveRequests}
 use Rattle.sc_refinement.specs.Standing.{StandsFor, StandsNear}
 
 -- ---- the state that a world stands for
@@ -44,11 +46,14 @@ abbrev pub PostsUnderRight : ℕ → System → World → Type 0
 PostsUnderRight most s w = (h k : ℕ) (r : Request) → Contains (requests_at ((turn most s h w).handlers k)) r →
     Contains (requests_at (w.handlers k)) r ⊎ ((r.poster ≡ Some h) × ((held w.rights h k ≡ true) ⊎ (k ≡ w.count)))
 
--- What the headline claims of a state, where there may be so many handlers: what is posted under which right, who holds and
--- waits for whom, which values stand where, that settled objects meet their class invariants, and that in the next turn a
--- body starts only where the clauses of its precondition hold.
+-- What the headline claims of a state, where there may be so many handlers: what is posted under which right, how frames and
+-- requests come and go, who holds and waits for whom, whose is what stands there, which values stand where, that settled objects
+-- meet their class invariants, that in the next turn a body starts only where the clauses of its precondition hold, and that
+-- none of the failures that are excluded comes.
 pub record HasHeadline (most : ℕ) (s : System) (w : World) : Type 0 where
   pub posts_under_right : PostsUnderRight most s w
+  pub turns_move_requests : TurnsMoveRequests most s w
+  pub waiters_have_requests : WaitersHaveRequests w
   pub reserved_are_held : ReservedAreHeld w
   pub formals_are_held : FormalsAreHeld w
   pub names_are_held : NamesAreHeld w
@@ -58,6 +63,10 @@ pub record HasHeadline (most : ℕ) (s : System) (w : World) : Type 0 where
   pub only_waiters_are_told : OnlyWaitersAreTold w
   pub replies_meet_none : RepliesMeetNone w
   pub callbacks_come_first : CallbacksComeFirst w
+  pub objects_are_of_classes : ObjectsAreOfClasses s w
+  pub references_lead : ReferencesLead s w
+  pub frames_run_on_own : FramesRunOnOwn s w
+  pub requests_stand_at_targets : RequestsStandAtTargets s w
   pub values_fit : (h : ℕ) (of : Reserved → Option ℕ) (v : Value) (t : EntityType) (may_be_unset : Bool) →
       StandsAs s w h of v t may_be_unset → Fits s h of v t ⊎ ((may_be_unset ≡ true) × IsUnset v t)
   pub non_separate_is_own :
@@ -65,6 +74,11 @@ pub record HasHeadline (most : ℕ) (s : System) (w : World) : Type 0 where
       StandsAs s w h of (Attached r) t may_be_unset → t.tag ≡ tag.Own → r.handler ≡ h
   pub settled_objects_meet : SettledObjectsMeet s w
   pub bodies_start_where_clauses_hold : StartsWhereTheyHold s most w
+  pub no_turn_is_excluded : NoTurnIsExcluded most s w
+
+-- It holds of each state that the machine on an accepted system reaches.
+abbrev pub MachineHasHeadline : Type 0
+MachineHasHeadline = WhereAccepted λ s root. (most : ℕ) (w : World) → IsReached most s root w → HasHeadline most s w
 
 -- ---- turns one after the other
 

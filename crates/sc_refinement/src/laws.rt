@@ -1,6 +1,6 @@
 //! Laws of the world that runs beside the machine, each the contract of a function that does nothing.
 ghost use Rattle.sc_refinement.specs.Anew.{AnewRunsAsMachine};
-ghost use Rattle.sc_refinement.specs.Refining.{HandlersComeAgain, IdleWorldIsIdle, RefusedTurnStaysNear, RoundsAreTurns, RoundsRunAsMachine, StandingWorldIsNear};
+ghost use Rattle.sc_refinement.specs.Refining.{HandlersComeAgain, IdleWorldIsIdle, MachineHasHeadline, RefusedTurnStaysNear, RoundsAreTurns, RoundsRunAsMachine, StandingWorldIsNear};
 ghost use Rattle.sc_refinement.specs.Refining.{StoppedRoundsStayNear, StoppedWorldStaysNear, WorldHasHeadline, WorldReportsAsMachine, WorldRunsAsMachine};
 
 use sc_acts::sound::{new_stores_are_sound, sound_jobs_are_taken};
@@ -62,12 +62,19 @@ pub fn stopped_world_stays_near()
     world_runs_as_machine();
 }
 
+/// The headline holds of each state that the machine on an accepted system reaches.
+pub fn machine_has_headline()
+    ensures { MachineHasHeadline }
+{
+    settled_objects_meet();
+}
+
 /// So each world that turns lead to stands for a state that the machine reaches, of which the headline holds.
 pub fn world_has_headline()
     ensures { WorldHasHeadline }
 {
     world_runs_as_machine();
-    settled_objects_meet();
+    machine_has_headline();
 }
 
 /// A world that stands for a state is near it.
