@@ -50,6 +50,7 @@ fn outcome(found: Result<i64, ArithmeticFault>) -> Result<Value, Cause>
 }
 
 /// The value of a unary operator: F16 where it takes no such operand.
+#[inline(always)]
 pub fn unary_value(operator: UnaryOperator, operand: Value) -> Result<Value, Cause>
     ensures { evaluated result ≡ flat.unary_value operator (value_of operand) }
 {
@@ -80,6 +81,7 @@ fn connective_of(operator: BinaryOperator) -> Option<Connective>
 }
 
 /// What `=` and `/=` make of two references, by whether they are the same.
+#[inline(always)]
 fn identity_of(operator: BinaryOperator, same: bool) -> Option<bool>
     ensures { result ≡ operators.identity_of operator same }
 {
@@ -90,12 +92,14 @@ fn identity_of(operator: BinaryOperator, same: bool) -> Option<bool>
     }
 }
 
+#[inline(always)]
 fn is_same_object(one: Reference, other: Reference) -> bool
     ensures { result ≡ is_same_object (reference_of one) (reference_of other) }
 {
     one.handler == other.handler && one.number == other.number
 }
 
+#[inline(always)]
 fn truth(found: Option<bool>) -> Result<Value, Cause>
     ensures { evaluated result ≡ flat.truth found }
 {
@@ -127,6 +131,7 @@ pub fn of_integers(operator: BinaryOperator, left: i64, right: i64) -> Result<Va
     }
 }
 
+#[inline(always)]
 fn of_booleans(operator: BinaryOperator, left: bool, right: bool) -> Result<Value, Cause>
     ensures { evaluated result ≡ flat.of_booleans (operators.connective_of operator) left right }
 {
@@ -137,6 +142,7 @@ fn of_booleans(operator: BinaryOperator, left: bool, right: bool) -> Result<Valu
 }
 
 /// The value of a binary operator: F16 where it takes no such operands.
+#[inline(always)]
 pub fn binary_value(operator: BinaryOperator, left: Value, right: Value) -> Result<Value, Cause>
     ensures { evaluated result ≡ flat.binary_value operator (value_of left) (value_of right) }
 {

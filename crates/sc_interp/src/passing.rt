@@ -1,5 +1,5 @@
 //! Operations that pass on in the code: in place, on the activation.
-ghost use Rattle.std.specs.Prelude.{◌≡◌, ◌<◌, ◌+◌, ◌∷◌, ◌↔◌, IsTrue, drop, length};
+ghost use Rattle.std.specs.Prelude.{◌<◌, ◌+◌, ◌∷◌, ◌↔◌, IsTrue, drop, length};
 ghost use Rattle.sc_code.specs.Machine as flat;
 ghost use Rattle.sc_region.specs.Frames.{activation_of};
 ghost use Rattle.sc_interp.specs.Values.{value_of, evaluated};
