@@ -1,19 +1,13 @@
 -- States that are kept.
-use Rattle.std.proofs.Common.{◌≡◌, ◌⊎◌, ◌+◌, ◌<◌, ◌≤◌, ◌++◌, ◌∙◌, inl, inr, ℕ, zero, suc, Bool, true, false, IsTrue, ◌↔◌, List, [], ◌∷◌, Option, Some, None, is_some, Result, Ok, Err, length, map, slice_get, refl, sym, ap, subst, arith}
-use Rattle.std.specs.Option.{option_map}
+use Rattle.std.proofs.Common.{◌≡◌, ◌⊎◌, ◌++◌, ◌∙◌, inl, inr, ℕ, zero, suc, Bool, true, false, IsTrue, ◌↔◌, List, [], ◌∷◌, Option, Some, None, is_some, Result, Ok, Err, length, slice_get, refl, ap, subst}
 use Rattle.std.specs.Prelude.{IfNone, IfOk}
-use Rattle.std.proofs.lemmas.List.{length-map, map-append}
-use Rattle.std.proofs.lemmas.Option.{slice_get-map}
-use Rattle.sc_lockpass.specs.declared.version.Version.{Version}
-use Rattle.sc_code.specs.declared.program.Image.{Image}
 use Rattle.sc_runtime.specs.Kept.{PlainKept, kept}
 use Rattle.sc_runtime.specs.Reports.{statuses}
 use Rattle.sc_runtime.specs.Turning.{IsTurn, Runs}
-use Rattle.sc_runtime.specs.Worlds.{PlainWorld, opened}
+use Rattle.sc_runtime.specs.Worlds.{PlainWorld}
 use Rattle.sc_search.specs.declared.aims.Aim.{Aim}
 use Rattle.sc_search.specs.Aims.{IsMet}
-use Rattle.sc_search.specs.Closed.{IsAmong, IsIn, IsTried, IsUnmet}
-use Rattle.sc_search.specs.Steps.{AreUnmet, Extends, Keeps, Opens}
+use Rattle.sc_search.specs.Steps.{Keeps}
 
 -- ---- lists
 
@@ -43,7 +37,7 @@ pub runs_more : (hs : List ℕ) (h : ℕ) (x y z : PlainWorld) → Runs hs x y �
 runs_more [] h x y z same turn = (z, subst (λ (w : PlainWorld). IsTurn h w z) same turn, refl)
 runs_more (k ∷ hs) h x y z runs turn = (runs.0, runs.1, runs_more hs h runs.0 y z runs.2 turn)
 
-unmet_not : (b : Bool) (P : Type 0) → b ≡ false → (IsTrue b ↔ P) → P → ⊥
+pub unmet_not : (b : Bool) (P : Type 0) → b ≡ false → (IsTrue b ↔ P) → P → ⊥
 unmet_not true P e is p = let no : true ≡ false = e in cc
 unmet_not false P e is p = let no : false ≡ true = is.1 p in cc
 

@@ -1,4 +1,5 @@
 mod Turning
 mod Keeping
+mod Ending
 mod Trying
 mod Verdicts

@@ -1,5 +1,5 @@
 -- Turns that are tried.
-use Rattle.std.proofs.Common.{◌≡◌, ◌⊎◌, ◌+◌, ◌<◌, ◌≤◌, ◌++◌, ◌∙◌, inl, inr, ℕ, zero, suc, Bool, true, false, List, [], ◌∷◌, Option, Some, None, get_or, is_some, length, slice_get, refl, sym, ap, subst, arith}
+use Rattle.std.proofs.Common.{◌≡◌, ◌⊎◌, ◌+◌, ◌<◌, ◌≤◌, ◌++◌, ◌∙◌, inl, inr, ℕ, Bool, true, false, List, [], ◌∷◌, Option, Some, None, get_or, is_some, length, slice_get, refl, sym, ap, subst, arith}
 use Rattle.std.specs.Prelude.{nat_lt, if◌then◌else◌}
 use Rattle.std.proofs.lemmas.Bool.{cases_lt, ltb-true}
 use Rattle.std.proofs.lemmas.Option.{slice_get-get_or, slice_get_within}
@@ -8,12 +8,10 @@ use Rattle.sc_code.specs.declared.program.Image.{Image}
 use Rattle.sc_region.specs.declared.job.Job.{Job}
 use Rattle.sc_request.specs.Logs.{Center, pick_for}
 use Rattle.sc_runtime.specs.Kept.{PlainKept, kept}
-use Rattle.sc_runtime.specs.Reports.{statuses}
 use Rattle.sc_runtime.specs.Turning.{IsTurn, Runs, TurnsUnder}
 use Rattle.sc_runtime.specs.Worlds.{PlainWorld, opened}
 use Rattle.sc_search.specs.declared.aims.Aim.{Aim}
-use Rattle.sc_search.specs.Aims.{IsMet}
-use Rattle.sc_search.specs.Closed.{IsAmong, IsClosed, IsIn, IsTried, IsUnmet}
+use Rattle.sc_search.specs.Closed.{IsAmong, IsClosed, IsTried, IsUnmet}
 use Rattle.sc_search.specs.Steps.{AreUnmet, Extends, IsTriedAt, Keeps, Opens, Stands, Tries, TriesAll}
 use Rattle.sc_search.proofs.Keeping.{get_before, get_either, runs_more, same_some}
 

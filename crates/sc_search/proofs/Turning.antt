@@ -1,8 +1,10 @@
 -- Lines, and their turns.
-use Rattle.std.proofs.Common.{◌≡◌, ◌+◌, ◌++◌, ◌∙◌, ℕ, List, [], ◌∷◌, replicate, refl, sym, ap, append_assoc}
-use Rattle.std.proofs.lemmas.List.{append-nil, replicate-append-replicate}
+use Rattle.std.proofs.Common.{◌≡◌, ◌+◌, ◌<◌, ◌++◌, ◌∙◌, ℕ, List, [], ◌∷◌, get_or, length, replicate, take, sym, ap, append_assoc, subst}
+use Rattle.std.proofs.lemmas.List.{append-nil, flat_map_more, replicate-append-replicate, take_more}
 use Rattle.std.proofs.lemmas.List.Concat.{flat_map-append}
 use Rattle.sc_audit.specs.declared.line.RecordLine.{RecordLine}
+use Rattle.sc_runtime.specs.Turning.{Runs}
+use Rattle.sc_runtime.specs.Worlds.{PlainWorld}
 use Rattle.sc_search.specs.Found.{line_turns, turns_of}
 
 pub pushed : (xs : List RecordLine) (x : RecordLine) → turns_of (xs ++ x ∷ []) ≡ turns_of xs ++ line_turns x
@@ -15,3 +17,19 @@ longer n h = sym (replicate-append-replicate n 1 h)
 -- the last line goes on
 pub goes_on : (before : List ℕ) (line last : List ℕ) (h : ℕ) → line ≡ last ++ h ∷ [] → before ++ line ≡ (before ++ last) ++ h ∷ []
 goes_on before line last h e = ap (λ (ts : List ℕ). before ++ ts) e ∙ sym (append_assoc before last (h ∷ []))
+
+-- ---- turns of lines, one line after the other
+
+-- turns, and others behind them
+runs_join : (hs ks : List ℕ) (x y z : PlainWorld) → Runs hs x y → Runs ks y z → Runs (hs ++ ks) x z
+runs_join [] ks x y z same runs = subst (λ (w : PlainWorld). Runs ks w z) same runs
+runs_join (h ∷ hs) ks x y z first runs = (first.0, first.1, runs_join hs ks first.0 y z first.2 runs)
+
+-- the turns of the line at a place, behind those of the lines before it
+pub lines_more : (lines : List RecordLine) (i : ℕ) (d : RecordLine) (x y z : PlainWorld) → i < length lines → Runs (turns_of (take i lines)) x y →
+    Runs (replicate (get_or lines i d).turns (get_or lines i d).handler) y z → Runs (turns_of (take (i + 1) lines)) x z
+lines_more lines i d x y z below runs turns =
+    let line = get_or lines i d in
+    let all : turns_of (take i lines) ++ replicate line.turns line.handler ≡ turns_of (take (i + 1) lines) =
+    flat_map_more line_turns [] (take i lines) line ∙ ap turns_of (sym (take_more lines i d below)) in
+    subst (λ (hs : List ℕ). Runs hs x z) all (runs_join (turns_of (take i lines)) (replicate line.turns line.handler) x y z runs turns)

@@ -1,16 +1,18 @@
 -- What a search found.
-use Rattle.std.specs.Prelude.{ℕ, List, replicate}
+use Rattle.std.specs.Prelude.{◌≡◌, ℕ, List, [], ◌∷◌, is_some, replicate, true}
 use Rattle.std.specs.List.{flat_map}
 use Rattle.sc_lockpass.specs.declared.version.Version.{Version}
 use Rattle.sc_audit.specs.declared.line.RecordLine.{RecordLine}
 use Rattle.sc_model.specs.declared.status.Status.{Status}
 use Rattle.sc_code.specs.declared.program.Image.{Image}
+use Rattle.sc_request.specs.Logs.{pick_for}
 use Rattle.sc_runtime.specs.Reports as told
-use Rattle.sc_runtime.specs.Turning.{Runs}
+use Rattle.sc_runtime.specs.Turning.{IsTurn, Runs}
 use Rattle.sc_runtime.specs.Worlds.{PlainWorld, opened}
 use Rattle.sc_search.specs.declared.verdict.Finding.{Finding}
 use Rattle.sc_search.specs.declared.verdict.Finding.TheVariants as finding
-use Rattle.sc_search.specs.Aims.{AreStuck, HasFailed}
+use Rattle.sc_search.specs.declared.aims.Aim.{Aim}
+use Rattle.sc_search.specs.Aims.{AreStuck, HasFailed, IsMet}
 
 abbrev pub line_turns : RecordLine → List ℕ
 line_turns line = replicate line.turns line.handler
@@ -32,3 +34,27 @@ IsFound p v finding.Nothing = Unit {0}
 IsFound p v (finding.Stuck order) = LeadsTo p v order.lines.items AreStuck
 IsFound p v (finding.Fails order) = LeadsTo p v order.lines.items HasFailed
 IsFound p v finding.Undecided = Unit {0}
+
+-- ---- where an order ends
+
+-- The turns of these handlers, one after the other, lead from the first world to the second. Each of them has something
+-- to do, and before it the handlers don't stand as is looked for.
+abbrev pub RunsUnmet : Aim → List ℕ → PlainWorld → PlainWorld → Type 0
+RunsUnmet a [] x y = y ≡ x
+RunsUnmet a (h ∷ hs) x y =
+    (IsMet a (told.statuses x) → ⊥) × (is_some (pick_for h x.center) ≡ true)
+    × (z : PlainWorld) × IsTurn h x z × RunsUnmet a hs z y
+
+-- The order leads from the opening of the program to a world in which the handlers stand as is looked for, and no
+-- shorter beginning of it does.
+pub record EndsFirst (p : Image) (v : Version) (a : Aim) (lines : List RecordLine) : Type 0 where
+  pub world : PlainWorld
+  pub runs : RunsUnmet a (turns_of lines) (opened p v) world
+  pub met : IsMet a (told.statuses world)
+
+-- An order that is said to be found ends where it first leads to what is looked for.
+abbrev pub IsFirst : Image → Version → Aim → Finding → Type 0
+IsFirst p v a finding.Nothing = Unit {0}
+IsFirst p v a (finding.Stuck order) = EndsFirst p v a order.lines.items
+IsFirst p v a (finding.Fails order) = EndsFirst p v a order.lines.items
+IsFirst p v a finding.Undecided = Unit {0}

@@ -1,5 +1,5 @@
 -- What a whole search shows.
-use Rattle.std.specs.Prelude.{◌≡◌, true, List}
+use Rattle.std.specs.Prelude.{◌≡◌, true, List, length, min}
 use Rattle.sc_lockpass.specs.declared.version.Version.{Version}
 use Rattle.sc_code.specs.declared.program.Image.{Image}
 use Rattle.sc_runtime.specs.Kept.{PlainKept}
@@ -8,10 +8,11 @@ use Rattle.sc_search.specs.declared.verdict.Finding.TheVariants as finding
 use Rattle.sc_search.specs.declared.verdict.Verdict.{Verdict}
 use Rattle.sc_search.specs.Closed.{IsClosed}
 
--- Nothing was found, and the states that were met are closed.
+-- Nothing was found, and the states that were met are closed. As many are told.
 pub record IsProved (p : Image) (v : Version) (a : Aim) (d : Verdict) : Type 0 where
   pub nothing : d.finding ≡ finding.Nothing
   pub states : List PlainKept
+  pub number : d.states ≡ min (length states) 4294967295
   pub closed : IsClosed p v a states
 
 -- Where the verdict is whole, that is so.

@@ -74,7 +74,7 @@ fn follow<'p>(
 ) -> Result<Option<Stop>, AllocError> {
     match play_movers(subject, &mut way.turns)? {
         Rest::Met => Ok(Some(Stop::Met(way.turns))),
-        Rest::Endless => Ok(Some(Stop::Cut)),
+        Rest::Endless => Ok(Some(Stop::Endless)),
         Rest::At(world) => progress.keep(subject, world, way, limit),
     }
 }

@@ -1,31 +1,72 @@
 //! The ends of orders.
+ghost use Rattle.std.specs.Prelude.{IfOk, IfSome};
+ghost use Rattle.sc_search.specs.Ends.{AreEnds, IsEnd};
 
+use crate::judging::{Kind, some_is};
 use crate::lines::lines_of;
+use crate::replay::{Subject, world_after};
 use crate::verdict::{End, Order};
 use sc_runtime::World;
 use std::alloc::{AllocError, Global};
 
-/// Adds the end that the world stands in after these turns, unless its report is that of another one.
+/// Turns from the opening on, behind which no handler has anything to do, and the report of what they leave.
+#[derive(Drop)]
+pub(crate) struct Outcome {
+    turns: Vec<u16>,
+    report: Vec<u8>,
+}
+
+/// Adds the outcome of these turns, which led to the world, unless its report is that of another one.
 ///
 /// # Errors
 /// Where there is no memory.
-pub(crate) fn push_end(
+pub(crate) fn push_outcome(
     alloc: Global,
-    ends: &mut Vec<End>,
+    outcomes: &mut Vec<Outcome>,
     world: &World<'_>,
     turns: &[u16],
 ) -> Result<(), AllocError> {
     let report = world.report()?;
-    if ends
+    if outcomes
         .iter()
-        .any(|end| end.report.as_slice() == report.as_slice())
+        .any(|outcome| outcome.report.as_slice() == report.as_slice())
     {
         return Ok(());
     }
-    let lines = lines_of(alloc, turns)?;
-    ends.push(End {
+    let turns = Vec::from_slice(alloc, turns)?;
+    outcomes.push(Outcome { turns, report })?;
+    Ok(())
+}
+
+/// The ends that these outcomes are, each played once more.
+///
+/// # Errors
+/// Where there is no memory.
+pub(crate) fn ends_after(subject: Subject<'_>, outcomes: &[Outcome]) -> Result<Vec<End>, AllocError>
+    ensures { IfOk result (λ ends. AreEnds subject.entry.program.now.image subject.entry.version ends.items) }
+{
+    let mut ends = Vec::new(subject.alloc);
+    for outcome in outcomes {
+        if let Some(end) = end_after(subject, &outcome.turns)? {
+            ends.push(end)?;
+        }
+    }
+    Ok(ends)
+}
+
+/// What these turns lead to, if no handler has anything to do there.
+fn end_after(subject: Subject<'_>, turns: &[u16]) -> Result<Option<End>, AllocError>
+    ensures { IfOk result (λ end. IfSome end (IsEnd subject.entry.program.now.image subject.entry.version)) }
+{
+    let world = world_after(subject, turns)?;
+    let statuses = world.statuses()?;
+    if some_is(Kind::IsBusy, &statuses) {
+        return Ok(None);
+    }
+    let report = world.report()?;
+    let lines = lines_of(subject.alloc, turns)?;
+    Ok(Some(End {
         order: Order { lines },
         report,
-    })?;
-    Ok(())
+    }))
 }

@@ -86,11 +86,7 @@ fn move_on(
         };
         let was = peek_at(peeks, handler);
         world.turn(handler)?;
-        let peek = if was == Peek::Unknown {
-            last_peek(world)
-        } else {
-            Peek::Unknown
-        };
+        let peek = peek_behind(world, handler, was);
         if let Some(place) = peeks.get_mut(handler as usize) {
             *place = peek;
         }
@@ -144,14 +140,23 @@ fn is_contested(core: &Core, handler: u16) -> bool {
     }
 }
 
-/// What the last turn of the world was.
+/// What the last turn of the world was, which the handler made and of which this was known.
+fn peek_behind(world: &World<'_>, handler: u16, was: Peek) -> Peek {
+    match (world.status(handler), was) {
+        (Some(Status::Failed(_)), _) => Peek::Choice,
+        (_, Peek::Unknown) => last_peek(world),
+        _ => Peek::Unknown,
+    }
+}
+
+/// What the last turn of the world asked, where its handler hasn't failed.
 fn last_peek(world: &World<'_>) -> Peek {
     let log = world.log();
     let Some(settlement) = log.get(log.len().saturating_sub(1)) else {
         return Peek::Choice;
     };
     match settlement.want {
-        Want::Create { .. } | Want::Fail(_) => Peek::Choice,
+        Want::Create { .. } => Peek::Choice,
         Want::Ask {
             request,
             passes: true,

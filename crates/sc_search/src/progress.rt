@@ -3,14 +3,16 @@ ghost use Rattle.std.specs.Prelude.{◌≡◌, [], IfNone, IfOk};
 ghost use Rattle.sc_runtime.specs.Views.{world_of};
 ghost use Rattle.sc_search.specs.Steps.{Keeps};
 
-use crate::ends::push_end;
+use crate::ends::{Outcome, push_outcome};
 use crate::judging::{Kind, is_met, some_is};
 use crate::length::Edge;
 use crate::replay::Subject;
 use crate::states::States;
-use crate::verdict::End;
 use sc_runtime::World;
 use std::alloc::AllocError;
+
+/// How many turns may be played anew for each state that may be kept.
+const TURNS_A_STATE: u64 = 2_000;
 
 /// Why a search stops before all is played.
 #[derive(Drop)]
@@ -19,6 +21,8 @@ pub(crate) enum Stop {
     Met(Vec<u16>),
     /// The limit is reached.
     Cut,
+    /// Movers went on and on.
+    Endless,
 }
 
 /// What a search has met.
@@ -26,7 +30,9 @@ pub(crate) enum Stop {
 pub(crate) struct Progress<'p> {
     pub(crate) states: States<'p>,
     pub(crate) edges: Vec<Edge>,
-    pub(crate) ends: Vec<End>,
+    pub(crate) outcomes: Vec<Outcome>,
+    /// How many turns were played anew.
+    turns: u64,
 }
 
 /// A turn, or several, on the way.
@@ -53,11 +59,13 @@ impl<'p> Progress<'p> {
         Ok(Progress {
             states: States::new(subject.alloc)?,
             edges: Vec::new(subject.alloc),
-            ends: Vec::new(subject.alloc),
+            outcomes: Vec::new(subject.alloc),
+            turns: 0,
         })
     }
 
-    /// Keeps the state of the world to which the way leads, unless it was met before.
+    /// Keeps the state of the world to which the way leads, unless it was met before. Long ways are as many states as their turns
+    /// take.
     ///
     /// # Errors
     /// Where there is no memory.
@@ -74,16 +82,17 @@ impl<'p> Progress<'p> {
         if is_met(subject.aim, &statuses) {
             return Ok(Some(Stop::Met(way.turns)));
         }
+        self.turns = self.turns.saturating_add(way.turns.len() as u64);
         if let Some(number) = self.states.find(&world) {
             self.push_edge(&way, number)?;
             return Ok(None);
         }
         let number = self.states.len();
-        if number >= limit {
+        if number >= limit || self.turns / TURNS_A_STATE >= limit as u64 {
             return Ok(Some(Stop::Cut));
         }
         if !some_is(Kind::IsBusy, &statuses) {
-            push_end(subject.alloc, &mut self.ends, &world, &way.turns)?;
+            push_outcome(subject.alloc, &mut self.outcomes, &world, &way.turns)?;
         }
         self.push_edge(&way, number)?;
         self.states.push(world, way.parent, &way.turns, way.from)?;

@@ -1,12 +1,14 @@
 //! The search.
-ghost use Rattle.std.specs.Prelude.{◌≡◌, IfOk, None, true};
-ghost use Rattle.sc_search.specs.Found.{IsFound};
+ghost use Rattle.std.specs.Prelude.{◌≡◌, IfOk, None, length, min, true};
+ghost use Rattle.sc_search.specs.Ends.{AreEnds};
+ghost use Rattle.sc_search.specs.Found.{IsFirst, IsFound};
 ghost use Rattle.sc_search.specs.Verdicts.{IsShown};
 ghost use Rattle.sc_search.specs.Views.{states_of};
 
 use crate::aims::Aim;
 use crate::choices::play_choices;
 use crate::closing::play_all;
+use crate::ends::ends_after;
 use crate::length::length_of;
 use crate::progress::{Progress, Stop};
 use crate::replay::{Subject, finding_after};
@@ -32,6 +34,8 @@ pub fn search<W: Watch>(
     watch: &mut W,
 ) -> Result<Verdict, AllocError>
     ensures found { IfOk result (λ verdict. IsFound program.now.image version verdict.finding) }
+    ensures first { IfOk result (λ verdict. IsFirst program.now.image version aim verdict.finding) }
+    ensures ends { IfOk result (λ verdict. AreEnds program.now.image version verdict.ends.items) }
     ensures whole { IfOk result (IsShown program.now.image version aim) }
 {
     let subject = Subject {
@@ -40,8 +44,11 @@ pub fn search<W: Watch>(
         version,
         aim,
     };
-    let found = search_choices(subject, states, watch)?;
-    if !matches!(found.finding, Finding::Nothing) {
+    let mut progress = Progress::new(subject)?;
+    let stop = play_choices(subject, &mut progress, states, watch)?;
+    let may_go_on = matches!(stop, None | Some(Stop::Endless));
+    let found = verdict_of(subject, progress, stop, false)?;
+    if !may_go_on {
         return Ok(found);
     }
     let whole = search_all(subject, states, watch)?;
@@ -51,20 +58,6 @@ pub fn search<W: Watch>(
     Ok(whole)
 }
 
-/// The search over choices alone.
-fn search_choices<W: Watch>(
-    subject: Subject<'_>,
-    limit: u32,
-    watch: &mut W,
-) -> Result<Verdict, AllocError>
-    ensures found { IfOk result (λ verdict. IsFound subject.entry.program.now.image subject.entry.version verdict.finding) }
-    ensures whole { IfOk result (IsShown subject.entry.program.now.image subject.entry.version subject.entry.aim) }
-{
-    let mut progress = Progress::new(subject)?;
-    let stop = play_choices(subject, &mut progress, limit, watch)?;
-    verdict_of(subject, progress, stop, false)
-}
-
 /// The search over all turns.
 fn search_all<W: Watch>(
     subject: Subject<'_>,
@@ -72,6 +65,8 @@ fn search_all<W: Watch>(
     watch: &mut W,
 ) -> Result<Verdict, AllocError>
     ensures found { IfOk result (λ verdict. IsFound subject.entry.program.now.image subject.entry.version verdict.finding) }
+    ensures first { IfOk result (λ verdict. IsFirst subject.entry.program.now.image subject.entry.version subject.entry.aim verdict.finding) }
+    ensures ends { IfOk result (λ verdict. AreEnds subject.entry.program.now.image subject.entry.version verdict.ends.items) }
     ensures whole { IfOk result (IsShown subject.entry.program.now.image subject.entry.version subject.entry.aim) }
 {
     let mut progress = Progress::new(subject)?;
@@ -87,6 +82,9 @@ fn verdict_of(
     is_all: bool,
 ) -> Result<Verdict, AllocError>
     ensures found { IfOk result (λ verdict. IsFound subject.entry.program.now.image subject.entry.version verdict.finding) }
+    ensures first { IfOk result (λ verdict. IsFirst subject.entry.program.now.image subject.entry.version subject.entry.aim verdict.finding) }
+    ensures ends { IfOk result (λ verdict. AreEnds subject.entry.program.now.image subject.entry.version verdict.ends.items) }
+    ensures states { IfOk result (λ verdict. verdict.states ≡ min (length (states_of progress.entry)) 4294967295) }
     ensures whole { IfOk result (λ verdict. verdict.is_whole ≡ true → (is_all ≡ true) × (stop ≡ None) × (verdict.finding ≡ Finding.Nothing)) }
 {
     let states = progress.states.len();
@@ -99,7 +97,7 @@ fn verdict_of(
         Some(_) => Length::Unknown,
     };
     let finding = finding_of(subject, stop)?;
-    let Progress { ends, .. } = progress;
+    let ends = ends_after(subject, &progress.outcomes)?;
     Ok(Verdict {
         finding,
         states,
@@ -112,6 +110,7 @@ fn verdict_of(
 /// What is found where a search stopped so.
 fn finding_of(subject: Subject<'_>, stop: Option<Stop>) -> Result<Finding, AllocError>
     ensures found { IfOk result (IsFound subject.entry.program.now.image subject.entry.version) }
+    ensures first { IfOk result (IsFirst subject.entry.program.now.image subject.entry.version subject.entry.aim) }
     ensures none { stop ≡ None → IfOk result (λ finding. finding ≡ Finding.Nothing) }
 {
     match stop {
@@ -120,6 +119,6 @@ fn finding_of(subject: Subject<'_>, stop: Option<Stop>) -> Result<Finding, Alloc
             Some(finding) => finding,
             None => Finding::Undecided,
         }),
-        Some(Stop::Cut) => Ok(Finding::Undecided),
+        Some(Stop::Cut | Stop::Endless) => Ok(Finding::Undecided),
     }
 }

@@ -37,7 +37,7 @@ pub enum Sought {
     Any,
 }
 
-const DEFAULT_STATES: u32 = 100_000;
+const DEFAULT_STATES: u32 = 25_000;
 
 const SOUGHT: [&str; 3] = ["stuck", "fails", "any"];
 
@@ -141,7 +141,7 @@ fn states_argument<'a>(alloc: Global) -> Arg<'a> {
         .long("states")
         .value_name("N")
         .value_parser(ValueParser::signed(1, 10_000_000))
-        .default_value("100000")
+        .default_value("25000")
         .help(STATES_HELP)
 }
 

@@ -1,4 +1,4 @@
-use Rattle.std.proofs.Common.{◌≡◌, ◌∙◌, Bool, None, not, sym, ap}
+use Rattle.std.proofs.Common.{◌≡◌, ◌∙◌, None, not, sym, ap}
 use Rattle.sc_request.specs.Logs.{Center, pick_for}
 use Rattle.sc_runtime.specs.Views.{world_of}
 use Rattle.sc_search.specs.Views.{states_of}

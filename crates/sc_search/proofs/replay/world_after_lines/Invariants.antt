@@ -1,0 +1,11 @@
+use Rattle.std.proofs.Common.{take}
+use Rattle.sc_runtime.specs.Turning.{Runs}
+use Rattle.sc_runtime.specs.Views.{world_of}
+use Rattle.sc_runtime.specs.Worlds.{opened}
+use Rattle.sc_search.specs.Found.{turns_of}
+use Rattle.sc_search.proofs.replay.world_after_lines.Given as goal
+
+-- the lines before have had their turns
+abbrev pub invariant-loop-line : goal.invariant-loop-line
+invariant-loop-line l =
+    Runs (turns_of (take l.line-index l.lines)) (opened l.subject.program.now.image l.subject.version) (world_of l.world)
