@@ -1,9 +1,7 @@
-//! Tests alone: rows of texts, types and steps, and what each crate below the program makes of them where the program
-//! doesn't show it.
+//! Tests alone: rows of texts and steps, and what each crate below the program makes of them where the program doesn't
+//! show it. `proofs/` has rows of definitions: of rights, entries, conformance and of what is seen through a call.
 #![tactic(auto)]
 
-#[cfg(test)]
-mod entries;
 #[cfg(test)]
 mod formulas;
 #[cfg(test)]
@@ -18,7 +16,5 @@ mod records;
 mod stores;
 #[cfg(test)]
 mod tokens;
-#[cfg(test)]
-mod types;
 #[cfg(test)]
 mod worklogs;

@@ -4,7 +4,7 @@ use crate::reading::{root_of, system_of};
 use sc_check::{CheckFault, Checked, check};
 use sc_class::{Tables, tables};
 use sc_code::Program;
-use sc_lower::{Lowering, lower};
+use sc_lower::{Lowering, lower, lower_within};
 use std::alloc::Global;
 use std::test::Fail;
 
@@ -15,21 +15,42 @@ pub fn program_of(
     class: &str,
     procedure: &str,
 ) -> Result<Program, Fail> {
-    let system = system_of(alloc, source)?;
-    let root = root_of(alloc, class, procedure)?;
-    judged(alloc, tables(alloc, &system, &root)?)
+    let (program, _) = program_within(alloc, source, class, procedure, u32::MAX)?;
+    Ok(program)
 }
 
-/// The program of classes.
-fn judged(alloc: Global, tables: Tables<'_>) -> Result<Program, Fail> {
+/// The same within so many instructions, and once more without that bound where the system was handed back: whether it was.
+pub fn program_within(
+    alloc: Global,
+    source: &str,
+    class: &str,
+    procedure: &str,
+    most: u32,
+) -> Result<(Program, bool), Fail> {
+    let system = system_of(alloc, source)?;
+    let root = root_of(alloc, class, procedure)?;
+    judged(alloc, tables(alloc, &system, &root)?, most)
+}
+
+/// The same of classes.
+fn judged(alloc: Global, tables: Tables<'_>, most: u32) -> Result<(Program, bool), Fail> {
     match check(alloc, tables) {
-        Ok(checked) => lowered(alloc, checked),
+        Ok(checked) => lowered_within(alloc, checked, most),
         Err(CheckFault::Refused(_)) => Err(Fail::new("a rule fails")),
         Err(CheckFault::OutOfMemory) => Err(Fail::new("out of memory")),
     }
 }
 
-/// The program of a checked system.
+/// The same of a checked system.
+fn lowered_within(alloc: Global, checked: Checked<'_>, most: u32) -> Result<(Program, bool), Fail> {
+    match lower_within(alloc, checked, most) {
+        Ok(program) => Ok((program, false)),
+        Err(Lowering::CodeTooLong(checked)) => Ok((lowered(alloc, checked)?, true)),
+        Err(Lowering::OutOfMemory(_)) => Err(Fail::new("out of memory")),
+    }
+}
+
+/// The program of a system that was handed back.
 fn lowered(alloc: Global, checked: Checked<'_>) -> Result<Program, Fail> {
     match lower(alloc, checked) {
         Ok(program) => Ok(program),

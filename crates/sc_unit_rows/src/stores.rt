@@ -1,4 +1,4 @@
-//! Stores of a handler: what calls leave of one, step by step, and how much it has room for.
+//! Stores of a handler: what calls leave of one, step by step.
 
 use crate::programs::program_of;
 use sc_code::Program;
@@ -339,59 +339,4 @@ fn routines_begin(rt: HostRuntime) -> Result<(), Fail> {
         expect_frame(&rt, &program, row)?;
     }
     Ok(())
-}
-
-// ---- limits
-
-fn make_objects(store: &mut Store<'_>, count: u32) -> Result<(), AllocError> {
-    for _ in 0..count {
-        store.make_object(LOW)?;
-    }
-    Ok(())
-}
-
-fn expect_most_objects<R: Abort>(rt: &R, store: &mut Store<'_>) -> Result<(), Fail> {
-    make_objects(store, 65_536)?;
-    assert_eq!(rt; store.failure(), None);
-    assert!(rt; store.settled(65_536));
-    make_objects(store, 1)?;
-    assert_eq!(rt; store.failure(), Some(Cause::TooManyObjects));
-    assert_eq!(rt; store.read(65_536, 0), Some(Value::Integer(0)));
-    assert_eq!(rt; store.class_of(65_537), None);
-    Ok(())
-}
-
-#[test]
-fn there_are_at_most_65536_objects(rt: HostRuntime) -> Result<(), Fail> {
-    let program = program_of(rt.alloc(), SOURCE, "low", "run")?;
-    let mut store = Store::new(rt.alloc(), &program);
-    expect_most_objects(&rt, &mut store)
-}
-
-fn push_frames(store: &mut Store<'_>, count: u32) -> Result<(), AllocError> {
-    for _ in 0..count {
-        store.push(object(1, LOW), RUN, Origin::Unqualified, &[])?;
-    }
-    Ok(())
-}
-
-fn expect_told<R: Abort + AllocGlobal>(
-    rt: &R,
-    store: &Store<'_>,
-    wanted: &str,
-) -> Result<(), Fail> {
-    let told = told(rt.alloc(), store)?;
-    assert_eq!(rt; told.as_str(), wanted);
-    Ok(())
-}
-
-#[test]
-fn there_are_at_most_1024_frames(rt: HostRuntime) -> Result<(), Fail> {
-    let program = program_of(rt.alloc(), SOURCE, "low", "run")?;
-    let mut store = Store::new(rt.alloc(), &program);
-    store.birth(LOW)?;
-    push_frames(&mut store, 1_024)?;
-    expect_told(&rt, &store, "runs on 1; open meets 0")?;
-    push_frames(&mut store, 1)?;
-    expect_told(&rt, &store, "StackFull; open meets 0")
 }

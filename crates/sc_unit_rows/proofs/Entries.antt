@@ -1,0 +1,99 @@
+-- Entries of a buffer of size 1 with a consumer and a producer: what they reserve, which clauses are waited for, and when they
+-- may be tried again.
+use Rattle.std.proofs.Common.{ℕ, ◌≡◌, Bool, true, false, List, [], ◌∷◌, Option, Some, None, refl}
+use Rattle.std.specs.Prelude.{◌==◌, ◌||◌, length, replicate, if◌then◌else◌}
+use Rattle.sc_lockpass.specs.Rights.{Rights, unreserved, held, reserve, release}
+use Rattle.sc_waitcond.specs.declared.condition.ClauseKind.{ClauseKind}
+use Rattle.sc_waitcond.specs.declared.condition.ClauseKind.TheVariants.{WaitCondition, CorrectnessCondition}
+use Rattle.sc_waitcond.specs.declared.condition.ClauseResult.{ClauseResult}
+use Rattle.sc_waitcond.specs.declared.condition.Verdict.{Verdict}
+use Rattle.sc_waitcond.specs.declared.condition.Verdict.TheVariants.{Start, Wait, Refuse}
+use Rattle.sc_waitcond.specs.declared.mark.Marked.{Marked}
+use Rattle.sc_waitcond.specs.declared.session.Release.TheVariants.{Exit, FalseWaitCondition}
+use Rattle.sc_waitcond.specs.Entries.{needed}
+use Rattle.sc_waitcond.specs.Conditions.{clause_kind, verdict}
+use Rattle.sc_waitcond.specs.Reservations.{mark_of, mark_allows, ends_session}
+
+abbrev clause : ClauseKind → Bool → ClauseResult
+clause k b = record { kind = k; holds = b }
+
+-- An entry with one formal and one clause that names it: what the formal's value lies on, and whether the clause is true. How
+-- many handlers it newly reserves, what becomes of it where the clause is false, and what the clause decides.
+abbrev entered : Rights → ℕ → Option ℕ → Bool → ℕ × ClauseKind × Verdict
+entered r h value holds =
+    let ks : List ℕ = needed r h (value ∷ []) in
+    let kind : ClauseKind = clause_kind ks (value ∷ []) in
+    (length ks, kind, verdict (clause kind holds ∷ []))
+
+-- ---- the buffer is handler 1, the consumer 2, the producer 3
+
+pub consumer_waits : entered unreserved 2 (Some 1) false ≡ (1, WaitCondition, Wait)
+consumer_waits = refl
+
+pub producer_starts : entered unreserved 3 (Some 1) true ≡ (1, WaitCondition, Start)
+producer_starts = refl
+
+pub consumer_starts : entered unreserved 2 (Some 1) true ≡ (1, WaitCondition, Start)
+consumer_starts = refl
+
+-- `remove` and `put` of the buffer itself name no formal on another handler
+pub remove_is_refused : entered unreserved 1 None false ≡ (0, CorrectnessCondition, Refuse)
+remove_is_refused = refl
+
+pub put_starts : entered unreserved 1 None true ≡ (0, CorrectnessCondition, Start)
+put_starts = refl
+
+-- 0 holds the buffer while it enters `drain`, so that its clause isn't waited for
+pub holder_starts : entered unreserved 0 (Some 1) true ≡ (1, WaitCondition, Start)
+holder_starts = refl
+
+pub drain_is_refused : entered (reserve 0 (1 ∷ []) unreserved) 0 (Some 1) false ≡ (0, CorrectnessCondition, Refuse)
+drain_is_refused = refl
+
+pub what_leaves_holds_nothing : held (release (1 ∷ []) (reserve 2 (1 ∷ []) unreserved)) 2 1 ≡ false
+what_leaves_holds_nothing = refl
+
+-- ---- the consumer is tried again once the producer's session of the buffer has ended
+
+abbrev at_first : ℕ → ℕ
+at_first k = 1
+
+abbrev behind_another : ℕ → ℕ
+behind_another k = if k == 3 then 2 else 1
+
+abbrev behind_the_producer : ℕ → ℕ
+behind_the_producer k = if k == 1 || k == 3 then 2 else 1
+
+abbrev marked : List Marked
+marked = mark_of at_first (1 ∷ [])
+
+pub consumer_is_tried_again :
+    mark_allows at_first marked ∷ mark_allows behind_another marked ∷ mark_allows behind_the_producer marked ∷ mark_allows at_first [] ∷ []
+    ≡ false ∷ false ∷ true ∷ true ∷ []
+consumer_is_tried_again = refl
+
+pub waiting_ends_no_session : ends_session Exit ∷ ends_session FalseWaitCondition ∷ [] ≡ true ∷ false ∷ []
+waiting_ends_no_session = refl
+
+-- ---- the first false clause decides
+
+abbrev kept : ClauseResult
+kept = clause CorrectnessCondition true
+
+abbrev waited : ClauseResult
+waited = clause WaitCondition false
+
+abbrev refused : ClauseResult
+refused = clause CorrectnessCondition false
+
+pub first_false_decides :
+    verdict [] ∷ verdict (kept ∷ waited ∷ refused ∷ []) ∷ verdict (kept ∷ refused ∷ waited ∷ []) ∷ [] ≡ Start ∷ Wait ∷ Refuse ∷ []
+first_false_decides = refl
+
+-- ---- what is needed is listed once
+
+pub needed_in_order : needed unreserved 0 (Some 7 ∷ Some 0 ∷ None ∷ Some 511 ∷ Some 7 ∷ []) ≡ 7 ∷ 511 ∷ []
+needed_in_order = refl
+
+pub needed_once : needed unreserved 0 (replicate 16 (Some 9)) ≡ 9 ∷ []
+needed_once = refl

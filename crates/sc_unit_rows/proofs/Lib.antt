@@ -1,0 +1,4 @@
+pub mod Rights
+pub mod Entries
+pub mod Conformances
+pub mod Combinations
