@@ -1,6 +1,5 @@
 //! Where a handler failed, and for whom it ran, in words.
 
-use crate::excerpt::excerpt;
 use crate::failing::Failing;
 use crate::history::Asked;
 use crate::moments::Moment;
@@ -8,6 +7,7 @@ use crate::words::{
     Phrase, clause_words, invariant_words, push_phrases, routine_words, site_words, written,
 };
 use sc_class::{ClassId, Tables};
+use sc_excerpt::excerpt;
 use sc_model::Cause;
 use sc_region::{BrokenInvariant, Errand, Point};
 use sc_source::source::{Place, Source};

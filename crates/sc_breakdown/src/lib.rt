@@ -2,11 +2,10 @@
 //! wait. See [`run_note`].
 //!
 //! The turns of its record are played once more for that. The sentences are for people: nothing of the answer, which is the report, depends
-//! on them. [`excerpt::excerpt`] is a line of the text, with carets under a part of it.
+//! on them.
 #![tactic(auto)]
 
 mod breakdown;
-pub mod excerpt;
 mod failing;
 mod failure;
 mod history;
