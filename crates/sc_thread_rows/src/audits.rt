@@ -11,7 +11,7 @@ use std::process::Abort;
 use std::test::Fail;
 
 /// A system whose run is five turns of handler 0.
-const FIVE_TURNS: &str = "class APPLICATION create make
+pub const FIVE_TURNS: &str = "class APPLICATION create make
 feature
     n: INTEGER
     make do raise print (n) end

@@ -204,7 +204,7 @@ fn eight_at_once(rt: HostRuntime) -> Result<(), Fail> {
 }
 
 /// Locks that are passed twice, then a failure; and a handler that comes late.
-const RELAY: &str = "class APPLICATION create make
+pub const RELAY: &str = "class APPLICATION create make
 feature
     b, c, d: separate NODE
     e: separate LATE
