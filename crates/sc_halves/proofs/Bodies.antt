@@ -1145,6 +1145,7 @@ module _ (s : System) (pure : RoutineName → Bool) (r : Routine) (me : Referenc
   base_of : (p : Point) → StandsSo s pure r me [] p → BaseOf s r me p
   base_of p f = record {
     text_is = f.0.text_is;
+    scope_stands = f.0.scope_stands;
     names_fit = f.0.names_fit;
     result_fits = f.0.result_fits;
     olds_fit = f.0.olds_fit;

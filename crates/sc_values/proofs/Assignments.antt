@@ -31,7 +31,7 @@ use Rattle.sc_values.specs.Places.{no_names}
 use Rattle.sc_values.specs.Points as point
 use Rattle.sc_values.specs.Points.{AttributesFit, ResultFits, StoreFits, types_of}
 use Rattle.sc_values.specs.Steps.{StepFits}
-use Rattle.sc_values.specs.Typed.{IsTyped, at}
+use Rattle.sc_values.specs.Typed.{IsTyped, ScopeStands, at}
 use Rattle.sc_values.proofs.Actuals.{plain_result}
 use Rattle.sc_values.proofs.Assigned.{declared_assigned, each_assigned, environment_assigned, olds_assigned, scope_assigned}
 use Rattle.sc_values.proofs.Attributes.{Attribute, attribute_found}
@@ -86,6 +86,7 @@ module _ (s : System) (pure : RoutineName → Bool) (r : Routine) (me : Referenc
   result_assigned q v w (Some (Some t)) e own is f k = goes s pure r me (record p { result = Some (operand v t) })
       (record {
         text_is = b.text_is;
+        scope_stands = b.scope_stands;
         names_fit = b.names_fit;
         result_fits = subst (λ o. ResultFits s me.handler o (Some (operand v t))) (sym own_result)
             (point.a_result {u = operand v t} (inl (fits_without s me.handler (handler_named p.environment) v t (run.plain t own_result) (subst (Fits s me.handler (handler_named p.environment) v) (sym (same_some is)) f))));
@@ -104,6 +105,7 @@ module _ (s : System) (pure : RoutineName → Bool) (r : Routine) (me : Referenc
   local_assigned x v w y there true local is f k = goes s pure r me (record p { environment = assigned_to x.text v p.environment })
       (record {
         text_is = b.text_is;
+        scope_stands = subst (ScopeStands r.text.formals) (sym (scope_assigned x.text v p.environment)) b.scope_stands;
         names_fit = environment_assigned s me.handler x.text v p.environment y b.names_fit there local (subst (Fits s me.handler (handler_named p.environment) v) (sym (same_some is)) f);
         result_fits = b.result_fits;
         olds_fit = olds_assigned s me.handler x.text v p.environment y p.olds b.olds_fit there local;
@@ -129,6 +131,7 @@ module _ (s : System) (pure : RoutineName → Bool) (r : Routine) (me : Referenc
       of_declared (Some g) i e = goes s pure r me (record p { objects = with_attributes me.number (assigned_to x.text v (attributes_of me.number p.objects)) p.objects })
           (record {
             text_is = b.text_is;
+            scope_stands = b.scope_stands;
             names_fit = b.names_fit;
             result_fits = b.result_fits;
             olds_fit = b.olds_fit;

@@ -28,7 +28,7 @@ use Rattle.sc_model.specs.Values.{Reference}
 use Rattle.sc_values.specs.Points.{types_of}
 use Rattle.sc_values.specs.Steps.{StandsSo, StepFits}
 use Rattle.sc_values.specs.Typed as typed
-use Rattle.sc_values.specs.Typed.{Extends, IsOf, IsTyped, OldsKept, after, at}
+use Rattle.sc_values.specs.Typed.{Extends, IsOf, IsTyped, OldsKept, after, at, names_formal}
 use Rattle.sc_values.proofs.Conditions.{and_then_is}
 use Rattle.sc_values.proofs.Environments.{extends_itself}
 use Rattle.sc_values.proofs.Evaluations.{eval_step}
@@ -36,7 +36,8 @@ use Rattle.sc_values.proofs.Free.{gives_extend, gives_one}
 use Rattle.sc_values.proofs.Lists.{both, no_both}
 use Rattle.sc_values.proofs.Names.{all_typed, type_there, typed_so}
 use Rattle.sc_values.proofs.Olds.{kept_outside}
-use Rattle.sc_values.proofs.Standing.{AllFit, BaseOf, IsRun, TasksAfter, TasksTyped, goes, in_text}
+use Rattle.sc_values.proofs.Scoping.{expression_names, test_names}
+use Rattle.sc_values.proofs.Standing.{AllFit, BaseOf, IsRun, TasksAfter, TasksTyped, goes, in_text, text_may_name, text_results}
 
 is_joined : (q : Position) (op : BinaryOperator) → shares_names q op ≡ true → is_and_then op ≡ true
 is_joined Condition op e = e
@@ -108,9 +109,13 @@ module _ (s : System) (pure : RoutineName → Bool) (r : Routine) where
             eval_step s pure r me run p b fs i a refl (plain_condition refl f d) e (outside i d) (settled y (extends_itself (scope_of p.environment)) k)
         by (typing.by_test {d = dt} {a = f} {x = z} {t = v} dv) (typing.test z' d') e k = of_tested (type_there s pure r me run p.text b.text_is (scope_of p.environment) n_typed dv)
           where
+            named : (u o : EntityType) → HasType (place_in s p.text) c Plain (scope_of p.environment) f v → v.type ≡ Some u → test_type (place_in s p.text) dt (Some u) ≡ Some o → names_formal r.text.formals o.tag ≡ true
+            named u o dv there e = test_names r.text.formals (place_in s p.text) (text_may_name s pure r me run p.text b.text_is) dt u o
+                (expression_names r.text.formals (text_results s pure r me run p.text b.text_is) b.scope_stands dv u there) e
+
             of_tested : (u : EntityType) × (v.type ≡ Some u) → StandsSo s pure r me [] (record p { tasks = Eval i f ∷ Bind dt z.text ∷ p.tasks })
             of_tested (u, there) = let t = test_there s p.text dt u z' in comes_to (Eval i f ∷ Bind dt z.text ∷ p.tasks)
-                (typed.eval c Plain refl (typed_so dv there) (outside i dv) (typed.bind t.1 (extends_itself (scope_of p.environment))
+                (typed.eval c Plain refl (typed_so dv there) (outside i dv) (typed.bind t.1 (named u t.0 dv there t.1) (extends_itself (scope_of p.environment))
                 (subst (λ o. TasksAfter s pure r p p.tasks (scope_of p.environment) (scope_of p.environment ++ entity z.text o role.Test ∷ []) (types_of p.values))
                 (ap (test_type (place_in s p.text) dt) there ∙ t.1) k)))
         by (typing.by_both {op} j g1 g2) (typing.binary j' d1 d2 t) e k = absurd (no_both (is_and_then op) j j')

@@ -22,9 +22,10 @@ use Rattle.sc_model.specs.Values.{Attached, Boolean, Integer, Operand, Reference
 use Rattle.sc_values.specs.Points.{Each, EnvironmentFits, OldsFit, types_of}
 use Rattle.sc_values.specs.Steps.{StandsSo, StepFits}
 use Rattle.sc_values.specs.Typed as typed
-use Rattle.sc_values.specs.Typed.{Extends, IsTyped, Opens, at, context_in, stacked}
+use Rattle.sc_values.specs.Typed.{Extends, IsTyped, Opens, ScopeStands, at, context_in, stacked}
 use Rattle.sc_values.proofs.Environments.{blocks_append, environment_more, extends_by, extends_further, extends_itself, olds_more, operands_more}
 use Rattle.sc_values.proofs.Lists.{both, last_is}
+use Rattle.sc_values.proofs.Scoping.{scope_opens}
 use Rattle.sc_values.proofs.Stacks.{Popped, no_operands, popped_by}
 use Rattle.sc_values.proofs.Standing.{AllFit, BaseOf, TasksTyped, goes}
 use Rattle.sc_values.proofs.Tests.{scope_append}
@@ -116,7 +117,7 @@ module _ (s : System) (pure : RoutineName → Bool) (r : Routine) (me : Referenc
       of_bound : (us : List Operand) → BlockBound s me.handler xs us p.environment p.olds m →
           StandsSo s pure r me [] (record p { environment = block_bound xs us p.environment; tasks = Do is ∷ Leave (length p.environment) ∷ p.tasks; values = [] })
       of_bound us z = goes s pure r me (record p { environment = block_bound xs us p.environment })
-          (record { text_is = b.text_is; names_fit = z.fit; result_fits = b.result_fits; olds_fit = z.olds_fit; store = b.store }) [] (Do is ∷ Leave (length p.environment) ∷ p.tasks) []
+          (record { text_is = b.text_is; scope_stands = subst (ScopeStands r.text.formals) (sym z.known) (scope_opens r.text.formals d b.scope_stands); names_fit = z.fit; result_fits = b.result_fits; olds_fit = z.olds_fit; store = b.store }) [] (Do is ∷ Leave (length p.environment) ∷ p.tasks) []
           (subst (λ n. IsTyped s pure r (Do is ∷ Leave (length p.environment) ∷ p.tasks) (at p.text n (types_of p.olds) [])) (sym z.known)
           (typed.body own st (typed.leave_block own (scope_length p.environment) (opens_more d) k))) tt
 

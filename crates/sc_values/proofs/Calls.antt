@@ -26,10 +26,11 @@ use Rattle.sc_model.specs.Values.{Attached, Boolean, Integer, Operand, Reference
 use Rattle.sc_values.specs.Places.{is_routine, no_names}
 use Rattle.sc_values.specs.Points.{AttributesFit, Each, IsAmong, listed, types_of}
 use Rattle.sc_values.specs.Steps.{CallFits, GivesFit, IsThereIfOwn, KindFits, OperandsDo, StepFits, an_attribute}
-use Rattle.sc_values.specs.Typed.{Leaves, Takes, a_value, nothing, stacked}
+use Rattle.sc_values.specs.Typed.{Leaves, Takes, a_value, names_formal, nothing, stacked}
 use Rattle.sc_values.proofs.Applying.{first_of_types}
 use Rattle.sc_values.proofs.Attributes.{Attribute, attribute_found}
 use Rattle.sc_values.proofs.Lists.{both, each_at, no_both}
+use Rattle.sc_values.proofs.Named.{handler_is_named}
 use Rattle.sc_values.proofs.Stacks.{Popped, popped_by}
 use Rattle.sc_values.proofs.Standing.{AllFit, BaseOf, IsRun, TasksTyped, goes, in_text, reads_fit}
 use Rattle.sc_values.proofs.Versions.{kind_fits, routine_version}
@@ -123,15 +124,19 @@ module _ (s : System) (pure : RoutineName → Bool) (r : Routine) (me : Referenc
     )
 
     -- a request of an object of another handler: its target isn't typed as of the current one
-    request_step : (o : Reference) (g : Tag) (x : List ℕ) (us below : List Operand) (gives : Option EntityType) (passes : Bool) → is_controlled_tag g ≡ true →
+    request_step : (o : Reference) (g : Tag) (x : List ℕ) (us below : List Operand) (gives : Option EntityType) (passes : Bool) → is_controlled_tag g ≡ true → names_formal r.text.formals g ≡ true →
         Lies g me.handler (handler_named p.environment) o.handler → (o.handler ≡ me.handler → ⊥) → CallFits s me.handler (handler_named p.environment) o x us gives →
         TasksTyped s pure r p p.tasks (listed gives ++ types_of below) → AllFit s me p below → StepFits s pure r me (requests o g x us gives passes (record p { values = below }))
-    request_step o tag.Own x us below gives passes c l other f k fs = absurd (other l)
-    request_step o (tag.With y) x us below gives passes c l other f k fs = (f, goes s pure r me p b (listed gives) p.tasks below k fs)
-    request_step o tag.Any x us below gives passes c l other f k fs = cc
-    request_step o tag.None x us below gives passes c l other f k fs = cc
+    request_step o tag.Own x us below gives passes c named l other f k fs = absurd (other l)
+    request_step o (tag.With y) x us below gives passes c named l other f k fs = (
+      f,
+      goes s pure r me p b (listed gives) p.tasks below k fs,
+      handler_is_named s me.handler r.text.formals p.environment b.names_fit b.scope_stands y named o.handler l,
+    )
+    request_step o tag.Any x us below gives passes c named l other f k fs = cc
+    request_step o tag.None x us below gives passes c named l other f k fs = cc
 
-    module _ (x : List ℕ) (as' ts ws : List EntityType) (a : EntityType) (f : DeclaredFeature) (controlled : is_controlled a ≡ true) (is_feature : feature_named s a.class x ≡ Some f)
+    module _ (x : List ℕ) (as' ts ws : List EntityType) (a : EntityType) (f : DeclaredFeature) (controlled : is_controlled a ≡ true) (named : names_formal r.text.formals a.tag ≡ true) (is_feature : feature_named s a.class x ≡ Some f)
         (takes : Takes s as' (signature_of s a f)) (leaves : Leaves (signature_of s a f).gives ts ws) (rest : TasksTyped s pure r p p.tasks ws) (us below : List Operand)
         (us_types : types_of us ≡ as') (below_types : types_of below ≡ ts) (us_fit : AllFit s me p us) (below_fit : AllFit s me p below) where
       object_step : (o : Reference) → Fits s me.handler (handler_named p.environment) (Attached o) a → IsThereIfOwn me.handler p.objects (Attached o) → (gives : Option EntityType) →
@@ -159,7 +164,7 @@ module _ (s : System) (pure : RoutineName → Bool) (r : Routine) (me : Referenc
               StepFits s pure r me (if b then calls_version o x us gives (object_numbered o.number p.objects) (version_of s o.class x) (record p { values = below })
               else requests o a.tag x us gives (passes_rights (signature_of s a f).formals us) (record p { values = below }))
           by true e = let own = eqb-true o.handler me.handler e in on_own own (there o refl own)
-          by false e = request_step o a.tag x us below gives (passes_rights (signature_of s a f).formals us) (both a.attached (is_controlled_tag a.tag) controlled).1 fit.1
+          by false e = request_step o a.tag x us below gives (passes_rights (signature_of s a f).formals us) (both a.attached (is_controlled_tag a.tag) controlled).1 named fit.1
               (other_handler o.handler me.handler e) (record { version = V.feature; is_version = V.is_there; fits = K }) W below_fit
 
       -- A call on a value of this type: no foreign object, no Void, and no case is missing.
@@ -193,10 +198,10 @@ module _ (s : System) (pure : RoutineName → Bool) (r : Routine) (me : Referenc
     all_good (u ∷ us) e f = ((e.0, f.0), all_good us e.1 f.1)
 
     -- A call on a target takes a step that fits: a routine of an own object is entered, or its attribute read, or a request is made, with actuals that fit.
-    pub qualified_step : (x : List ℕ) (i : ℕ) (as' us ws : List EntityType) (a : EntityType) (f : DeclaredFeature) → is_controlled a ≡ true → feature_named s a.class x ≡ Some f →
+    pub qualified_step : (x : List ℕ) (i : ℕ) (as' us ws : List EntityType) (a : EntityType) (f : DeclaredFeature) → is_controlled a ≡ true → names_formal r.text.formals a.tag ≡ true → feature_named s a.class x ≡ Some f →
         Takes s as' (signature_of s a f) → i ≡ length as' → types_of p.values ≡ stacked as' (a ∷ us) → Leaves (signature_of s a f).gives us ws → TasksTyped s pure r p p.tasks ws →
         Each IsGood p.values → StepFits s pure r me (calls_qualified s me x (popped i [] p.values) p)
-    qualified_step x i as' us ws a f c g takes m q leaves k good = of_popped (popped_by IsGood as' (a ∷ us) i p.values m q)
+    qualified_step x i as' us ws a f c named g takes m q leaves k good = of_popped (popped_by IsGood as' (a ∷ us) i p.values m q)
       where
         of_first : (z : Popped IsGood as' (a ∷ us) i p.values) → (u : Operand) × (vs : List Operand) × (z.below ≡ u ∷ vs) × (u.type ≡ a) × (types_of vs ≡ us) →
             StepFits s pure r me (calls_qualified s me x (popped i [] p.values) p)
@@ -205,7 +210,7 @@ module _ (s : System) (pure : RoutineName → Bool) (r : Routine) (me : Referenc
             let below : Each IsGood (u ∷ vs) = subst (Each IsGood) e h.1 in
             subst (λ o. StepFits s pure r me (calls_qualified s me x o p)) (sym z.popped_is)
             (subst (λ vs. StepFits s pure r me (calls_qualified s me x (Some (z.actuals, vs)) p)) (sym e)
-            (on_value x as' us ws u.type f (subst (λ a. is_controlled a ≡ true) (sym t) c) (subst (λ (a : EntityType). feature_named s a.class x ≡ Some f) (sym t) g)
+            (on_value x as' us ws u.type f (subst (λ a. is_controlled a ≡ true) (sym t) c) (subst (λ (a : EntityType). names_formal r.text.formals a.tag ≡ true) (sym t) named) (subst (λ (a : EntityType). feature_named s a.class x ≡ Some f) (sym t) g)
             (subst (λ a. Takes s as' (signature_of s a f)) (sym t) takes) (subst (λ a. Leaves (signature_of s a f).gives us ws) (sym t) leaves) k z.actuals vs z.actual_types j
             (good_fit z.actuals h.0) (good_fit vs below.1) u.value below.0.0 below.0.1))
 

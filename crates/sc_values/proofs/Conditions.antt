@@ -23,9 +23,10 @@ use Rattle.sc_model.specs.Values.{Boolean, Operand, Reference, Value}
 use Rattle.sc_values.specs.Points.{EnvironmentFits, OldsFit, types_of}
 use Rattle.sc_values.specs.Steps.{StandsSo, StepFits}
 use Rattle.sc_values.specs.Typed as typed
-use Rattle.sc_values.specs.Typed.{Extends, IsOf, IsTyped, at}
+use Rattle.sc_values.specs.Typed.{Extends, IsOf, IsTyped, ScopeStands, at}
 use Rattle.sc_values.proofs.Environments.{Split, environment_before, extends_further, olds_before, parted_at}
 use Rattle.sc_values.proofs.Operators.{IsTruth, boolean_value}
+use Rattle.sc_values.proofs.Scoping.{scope_before}
 use Rattle.sc_values.proofs.Standing.{AllFit, Base, BaseOf, TasksAfter, goes, goes_denied, goes_held}
 
 -- The value tells which names are known: where it is true the second, and else at least the first.
@@ -104,6 +105,7 @@ module _ (s : System) (pure : RoutineName → Bool) (r : Routine) (me : Referenc
             known = ap scope_of front ∙ z.known;
             base = record {
               text_is = b.text_is;
+              scope_stands = subst (ScopeStands r.text.formals) (sym (ap scope_of front ∙ z.known)) (scope_before r.text.formals low (scope_of p.environment) x b.scope_stands);
               names_fit = subst (EnvironmentFits s me.handler) (sym front) (environment_before s me.handler z.front z.back z.behind (subst (EnvironmentFits s me.handler) z.are b.names_fit));
               result_fits = b.result_fits;
               olds_fit = subst (λ bs. OldsFit s me.handler bs p.olds) (sym front) (olds_before s me.handler z.front z.back p.olds z.behind (subst (λ bs. OldsFit s me.handler bs p.olds) z.are b.olds_fit));

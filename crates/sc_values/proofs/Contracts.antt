@@ -27,7 +27,7 @@ pub keep_step : (s : System) (pure : RoutineName → Bool) (r : Routine) (me : R
     IsTyped s pure r p.tasks (at p.text (scope_of p.environment) (types_of p.olds ++ u.type ∷ []) []) → OperandFits s me.handler p.environment u →
     StepFits s pure r me (performs_on s me KeepOld u (record p { values = [] }))
 keep_step s pure r me p b u e k f = goes s pure r me (record p { olds = p.olds ++ u ∷ [] })
-    (record { text_is = b.text_is; names_fit = b.names_fit; result_fits = b.result_fits; olds_fit = kept; store = b.store }) [] p.tasks []
+    (record { text_is = b.text_is; scope_stands = b.scope_stands; names_fit = b.names_fit; result_fits = b.result_fits; olds_fit = kept; store = b.store }) [] p.tasks []
     (subst (λ os. IsTyped s pure r p.tasks (at p.text (scope_of p.environment) os [])) (sym (types_append p.olds u)) k) tt
   where
     kept : OldsFit s me.handler p.environment (p.olds ++ u ∷ [])

@@ -104,6 +104,7 @@ module _ (s : System) (pure : RoutineName → Bool) (r : Routine) (me : Referenc
         stands = goes s pure r me (record p { objects = p.objects ++ fresh_object s k ∷ [] })
             (record {
               text_is = b.text_is;
+              scope_stands = b.scope_stands;
               names_fit = b.names_fit;
               result_fits = b.result_fits;
               olds_fit = b.olds_fit;

@@ -38,7 +38,7 @@ use Rattle.sc_model.specs.Tasks.{tasks_of}
 use Rattle.sc_model.specs.Values.{Reference, default_of, operand}
 use Rattle.sc_values.specs.Points as point
 use Rattle.sc_values.specs.Points.{ResultFits}
-use Rattle.sc_values.specs.Typed.{IsOf, IsTyped, at}
+use Rattle.sc_values.specs.Typed.{IsOf, IsTyped, ScopeStands, at}
 use Rattle.sc_values.specs.Values.{EntriesFit, EntryBegins}
 use Rattle.sc_values.proofs.Entering.{entry_typed}
 use Rattle.sc_values.proofs.Environments.{Entered, entry_fits}
@@ -47,6 +47,7 @@ use Rattle.sc_values.proofs.Fresh.{default_fits}
 use Rattle.sc_values.proofs.Lists.{both, same_some}
 use Rattle.sc_values.proofs.Origins.{origin_is}
 use Rattle.sc_values.proofs.Running.{gives_type, is_run}
+use Rattle.sc_values.proofs.Scoping.{scope_entry}
 use Rattle.sc_values.proofs.Standing.{IsRun}
 
 -- the routine of the first declaration with the contract of the second
@@ -148,6 +149,7 @@ entries_fit s root pure faultless well tells r me is vs f o objects = of_entered
         known = at r.contract (scope_of z.bindings) [] [];
         agrees = point.here;
         is_typed = subst (λ n. IsTyped s pure r (tasks_of r) (at r.contract n [] [])) (sym z.known) (begins_typed s root pure faultless well tells r me is);
+        scope_stands = subst (ScopeStands r.text.formals) (sym z.known) (scope_entry s r.text.formals);
         names_fit = z.fit;
         result_fits = entry_result s me.handler r.text.result run.own.has_result;
         olds_fit = λ pre post q w. tt;

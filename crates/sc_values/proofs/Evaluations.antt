@@ -52,7 +52,8 @@ use Rattle.sc_values.proofs.Lists.{each_at, same_some}
 use Rattle.sc_values.proofs.Names.{ActualsTyped, FeatureMeant, actuals_typed, all_typed, binary_there, feature_meant, named_alike, same_meaning, take_of, type_there, typed_so, unary_there}
 use Rattle.sc_values.proofs.Olds.{kept_back, kept_front}
 use Rattle.sc_values.proofs.Passing.{conforms_fits, fits_more, no_names_known}
-use Rattle.sc_values.proofs.Standing.{AllFit, BaseOf, IsRun, TasksTyped, found, goes, in_text, reads_fit}
+use Rattle.sc_values.proofs.Scoping.{expression_names}
+use Rattle.sc_values.proofs.Standing.{AllFit, BaseOf, IsRun, TasksTyped, found, goes, in_text, reads_fit, text_results}
 use Rattle.sc_values.proofs.Versions.{kind_fits}
 
 not_joined : (q : Position) (op : BinaryOperator) → is_condition q ≡ false → shares_names q op ≡ true → ⊥
@@ -202,7 +203,7 @@ module _ (s : System) (pure : RoutineName → Bool) (r : Routine) (me : Referenc
           (subst (λ k. TasksTyped s pure r p k (u ∷ types_of p.values)) (sym (append_assoc (evals (i + olds_in e) es) (CallQualified x (count es) ∷ []) p.tasks))
           (z.typed (i + olds_in e) (CallQualified x (count es) ∷ p.tasks) (u ∷ types_of p.values)
           (kept_back s p.text (scope_of p.environment) (types_of p.olds) i (olds_of e) (olds_of_each es) l)
-          (typed.call_qualified z.all u controlled m.is_there
+          (typed.call_qualified z.all u controlled (expression_names r.text.formals (text_results s pure r me run p.text b.text_is) b.scope_stands d u there) m.is_there
           (subst (Takes s z.all) (sym m.signature_is) (take_of s rs z.all g z.are fits many)) z.as_many refl
           (subst (λ (g : Signature). Leaves g.gives (types_of p.values) ws) (sym m.signature_is) leaves) k))))
 

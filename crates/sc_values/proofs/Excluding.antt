@@ -1,4 +1,4 @@
--- No handler of an accepted system fails for a foreign object, a Void target or a missing case.
+-- No handler of an accepted system fails for one that it does not hold, a foreign object, a Void target or a missing case.
 use Rattle.std.specs.Option.{option_and_then, option_map, option_map_or}
 use Rattle.std.specs.Prelude.{if◌then◌else◌, nat_lt}
 use Rattle.std.proofs.Common.{◌++◌, ◌<◌, Bool, List, None, Option, Some, [], ap, false, refl, subst, sym, true, ℕ, ◌∙◌, ◌∷◌, ◌≡◌}
@@ -16,6 +16,8 @@ use Rattle.sc_waitcond.specs.Conditions.{clause_kind, verdict_of_false}
 use Rattle.sc_waitcond.specs.declared.condition.ClauseKind.{ClauseKind}
 use Rattle.sc_waitcond.specs.declared.condition.ClauseKind.TheVariants.{CorrectnessCondition, WaitCondition}
 use Rattle.sc_waitcond.specs.declared.session.Release.TheVariants as release_at
+use Rattle.sc_laws.specs.Formals.{FormalsAreHeld, NamesAreHeld}
+use Rattle.sc_laws.proofs.links.Held.{reached_formals_are_held, reached_names_are_held}
 use Rattle.sc_laws.proofs.links.SoundTurns.{stack_fits}
 use Rattle.sc_laws.proofs.links.Turning as sound
 use Rattle.sc_model.specs.Entries.{block_needs, enters, entry_needs, may_reserve}
@@ -44,7 +46,9 @@ use Rattle.sc_values.specs.Values.{NoneIsExcluded}
 use Rattle.sc_values.proofs.Awaiting.{Both, opening_both, turn_both, waiting_fit}
 use Rattle.sc_values.proofs.Changing.{put_at, some_among}
 use Rattle.sc_values.proofs.Frames.{running_frames_move}
+use Rattle.sc_values.proofs.Holding.{asked_is_held}
 use Rattle.sc_values.proofs.Lists.{each_before, each_behind, each_more}
+use Rattle.sc_values.proofs.Reached.{one_more}
 use Rattle.sc_values.proofs.Settled.{relinked}
 use Rattle.sc_values.proofs.Spared.{AllSpared, IsSpared, creates_spared, fails_spared, finish_spared, handed_goes, if_spared, is_in_call, put_spared, release_spared, request_spared, reserves_spared, stack_spared, top_calls}
 use Rattle.sc_values.proofs.Sparing.{called_spared, feature_spared, made_spared, requested_below}
@@ -138,7 +142,7 @@ module _ (s : System) (root : Root) (pure : RoutineName → Bool) (faultless : I
       by _ e (a_routine {version} actuals given) r =
           feature_spared s root pure faultless well tells w h o origin under [] (values_of us) all x call.version version call.is_version e actuals
 
-  module _ (w : World) (h : ℕ) (l : h < w.count) (b : Both s pure w) (all : AllSpared w) where
+  module _ (w : World) (h : ℕ) (l : h < w.count) (b : Both s pure w) (formals : FormalsAreHeld w) (names : NamesAreHeld w) (all : AllSpared w) where
     own_spared : (x : Handler) → x.failure ≡ (w.handlers h).failure → x.stack ≡ (w.handlers h).stack → IsSpared x
     own_spared x i j = record { spared = λ why e. (all.each h).spared why (sym i ∙ e); goes = ap top_calls j ∙ (all.each h).goes }
 
@@ -198,7 +202,7 @@ module _ (s : System) (root : Root) (pure : RoutineName → Bool) (faultless : I
 
       -- ---- the topmost frame makes a move
 
-      module _ (most : ℕ) (runs : f.stage ≡ Runs) where
+      module _ (most : ℕ) (lives : (w.handlers h).failure ≡ None) (runs : f.stage ≡ Runs) where
         -- where its move has come to
         abbrev moved : Point → World
         moved p = put h (record (w.handlers h) { objects = p.objects; stack = frame_at f p ∷ below }) w
@@ -235,7 +239,8 @@ module _ (s : System) (root : Root) (pure : RoutineName → Bool) (faultless : I
             clause_spared s (moved p) h (frame_at f p) below (going p) (clause_kind f.reserved (formals_among p.environment (names_in k.condition)))
         act_spared (act.Enters c o x us t) p m g = call_spared (moved p) h f.current.handler (handler_named p.environment) o x us t (Called c)
             (record (frame_at f p) { stage = InCall t } ∷ below) (after p) g.2
-        act_spared (act.Requests o x us t c) p m g = request_spared h (frame_at f p) below (ap is_in_call runs) (moved p) o x us t c (after p)
+        act_spared (act.Requests o x us t c) p m g = request_spared h (frame_at f p) below (ap is_in_call runs) (moved p) o x us t c
+            (asked_is_held s w b.paired.linked.sound formals names h l f below lives is runs o x us t c p m g.2) (after p)
         act_spared (act.CreatesHandler k x us t c) p m g = creates_spared h (frame_at f p) below (ap is_in_call runs) most (moved p) k x us t c (after p)
 
         step_spared : (x : Step) → moves s f.current (point_of f (w.handlers h).objects) ≡ x → AllSpared (settles most s h x f below w)
@@ -249,33 +254,35 @@ module _ (s : System) (root : Root) (pure : RoutineName → Bool) (faultless : I
       waits_spared k t c None (Some a) e = answer_spared h a k t c f below w all
       waits_spared k t c None None e = all
 
-      on_spared : (most : ℕ) (x : Stage) → f.stage ≡ x → AllSpared (goes_on most s h x f below w)
-      on_spared most Runs e = step_spared most e (moves s f.current (point_of f (w.handlers h).objects)) refl
-      on_spared most Reserves e = reserves_spared (may_reserve (entry_needs h f w) f.mark w) h (entry_needs h f w)
+      on_spared : (most : ℕ) → (w.handlers h).failure ≡ None → (x : Stage) → f.stage ≡ x → AllSpared (goes_on most s h x f below w)
+      on_spared most lives Runs e = step_spared most lives e (moves s f.current (point_of f (w.handlers h).objects)) refl
+      on_spared most lives Reserves e = reserves_spared (may_reserve (entry_needs h f w) f.mark w) h (entry_needs h f w)
           (record f { stage = Runs; reserved = entry_needs h f w }) below w refl all
-      on_spared most ReservesBlock e = reserves_spared (may_reserve (block_needs h f w) [] w) h (block_needs h f w)
+      on_spared most lives ReservesBlock e = reserves_spared (may_reserve (block_needs h f w) [] w) h (block_needs h f w)
           (record f { stage = Runs; blocks = block_needs h f w ∷ f.blocks }) below w refl all
-      on_spared most (InCall t) e = true_false (sym (ap is_in_call e) ∙ ap top_calls (sym is) ∙ (all.each h).goes)
-      on_spared most (Awaits k t c) e = waits_spared k t c (w.handlers h).callback (w.handlers h).answer refl
+      on_spared most lives (InCall t) e = true_false (sym (ap is_in_call e) ∙ ap top_calls (sym is) ∙ (all.each h).goes)
+      on_spared most lives (Awaits k t c) e = waits_spared k t c (w.handlers h).callback (w.handlers h).answer refl
 
-    turned_spared : (most : ℕ) (why : Option Cause) (fs : List Frame) → (w.handlers h).stack ≡ fs → AllSpared (turn_with most s h why fs w)
-    turned_spared most (Some why) fs e = all
-    turned_spared most None [] e = next_spared (w.handlers h).queue refl
-    turned_spared most None (f ∷ below) e = on_spared f below e most f.stage refl
+    turned_spared : (most : ℕ) (why : Option Cause) → (w.handlers h).failure ≡ why → (fs : List Frame) → (w.handlers h).stack ≡ fs → AllSpared (turn_with most s h why fs w)
+    turned_spared most (Some why) i fs e = all
+    turned_spared most None i [] e = next_spared (w.handlers h).queue refl
+    turned_spared most None i (f ∷ below) e = on_spared f below e most i f.stage refl
 
   -- ---- along a run
 
   module _ (most : ℕ) where
-    turn_spared : (h : ℕ) (w : World) → Both s pure w → AllSpared w → AllSpared (turn most s h w)
-    turn_spared h w b all = by (nat_lt h w.count) refl
+    turn_spared : (h : ℕ) (w : World) → IsReached most s root w → Both s pure w → AllSpared w → AllSpared (turn most s h w)
+    turn_spared h w r b all = by (nat_lt h w.count) refl
       where
         by : (c : Bool) → nat_lt h w.count ≡ c → AllSpared (if c then turn_with most s h (w.handlers h).failure (w.handlers h).stack w else w)
-        by true e = turned_spared w h (ltb-true h w.count e) b all most (w.handlers h).failure (w.handlers h).stack refl
+        by true e = turned_spared w h (ltb-true h w.count e) b (reached_formals_are_held most s root w r) (reached_names_are_held most s root w r) all most (w.handlers h).failure refl (w.handlers h).stack refl
         by false e = all
 
-    run_spared : (hs : List ℕ) (w : World) → Both s pure w → AllSpared w → AllSpared (run most s hs w)
-    run_spared [] w b all = all
-    run_spared (h ∷ hs) w b all = run_spared hs (turn most s h w) (turn_both s root pure faultless well tells most h w b) (turn_spared h w b all)
+    run_spared : (hs : List ℕ) (w : World) → IsReached most s root w → Both s pure w → AllSpared w → AllSpared (run most s hs w)
+    run_spared [] w r b all = all
+    run_spared (h ∷ hs) w r b all = run_spared hs (turn most s h w)
+        (record { numbers = r.numbers ++ h ∷ []; run_is = one_more most s r.numbers h (opening s root) ∙ ap (turn most s h) r.run_is })
+        (turn_both s root pure faultless well tells most h w b) (turn_spared h w r b all)
 
     opening_spared : AllSpared (opening s root)
     opening_spared = record { each = λ k. by (nat_lt k 1) }
@@ -285,7 +292,7 @@ module _ (s : System) (root : Root) (pure : RoutineName → Bool) (faultless : I
         by false = record { spared = λ why e. cc; goes = refl }
 
     reached_spared : (w : World) → IsReached most s root w → AllSpared w
-    reached_spared w r = subst AllSpared r.run_is (run_spared r.numbers (opening s root) (opening_both s root pure faultless well tells most) opening_spared)
+    reached_spared w r = subst AllSpared r.run_is (run_spared r.numbers (opening s root) (record { numbers = []; run_is = refl }) (opening_both s root pure faultless well tells most) opening_spared)
 
 pub none_is_excluded : NoneIsExcluded
 none_is_excluded s root faultless well most w reached h why e = at (purity_stands s)

@@ -34,6 +34,7 @@ arrived s pure r h t p v f g = record {
   known = f.known;
   agrees = by f.known f.agrees;
   is_typed = f.is_typed;
+  scope_stands = f.scope_stands;
   names_fit = f.names_fit;
   result_fits = f.result_fits;
   olds_fit = f.olds_fit;

@@ -26,12 +26,14 @@ pub mod Frames
 pub mod Free
 pub mod Fresh
 pub mod Handing
+pub mod Holding
 pub mod Instructions
 pub mod Leading
 pub mod Lists
 pub mod Locals
 pub mod Matching
 pub mod Moves
+pub mod Named
 pub mod Names
 pub mod Olds
 pub mod Opening
@@ -47,6 +49,7 @@ pub mod Requested
 pub mod Requesting
 pub mod Reserving
 pub mod Running
+pub mod Scoping
 pub mod Settled
 pub mod Settling
 pub mod Stacks

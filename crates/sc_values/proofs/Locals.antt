@@ -19,10 +19,11 @@ use Rattle.sc_model.specs.Values.{Operand, Reference, default_of}
 use Rattle.sc_values.specs.Places.{no_names}
 use Rattle.sc_values.specs.Points.{EnvironmentFits, OldsFit, types_of}
 use Rattle.sc_values.specs.Steps.{StandsSo, StepFits}
-use Rattle.sc_values.specs.Typed.{IsTyped, at}
+use Rattle.sc_values.specs.Typed.{IsTyped, ScopeStands, at}
 use Rattle.sc_values.proofs.Environments.{EntityFits, environment_more, olds_more}
 use Rattle.sc_values.proofs.Fresh.{default_fits}
 use Rattle.sc_values.proofs.Passing.{fits_more, no_names_known}
+use Rattle.sc_values.proofs.Scoping.{scope_locals}
 use Rattle.sc_values.proofs.Standing.{BaseOf, goes}
 use Rattle.sc_values.proofs.Tests.{scope_append}
 
@@ -69,18 +70,22 @@ locals_fit s me formals (d ∷ ds) bs olds e f kept = by (declared_type s formal
 
 module _ (s : System) (pure : RoutineName → Bool) (r : Routine) (me : Reference) (p : Point) (b : BaseOf s r me p) where
   -- The locals' names are known, and have their defaults.
-  pub declare_step : (ds : List Declaration) → are_declared s p.text.formals ds ≡ true →
+  pub declare_step : (ds : List Declaration) → p.text ≡ r.text → are_declared s p.text.formals ds ≡ true →
       IsTyped s pure r p.tasks (at p.text (scope_of p.environment ++ locals_known s p.text.formals ds) (types_of p.olds) []) →
       StepFits s pure r me (performs s me (Declare ds) [] (record p { values = [] }))
-  declare_step ds e k = of_locals (locals_fit s me.handler p.text.formals ds p.environment p.olds e b.names_fit b.olds_fit)
+  declare_step ds own e k = of_locals (locals_fit s me.handler p.text.formals ds p.environment p.olds e b.names_fit b.olds_fit)
     where
+      stands : ScopeStands r.text.formals (scope_of p.environment ++ locals_known s p.text.formals ds)
+      stands = subst (λ formals. ScopeStands r.text.formals (scope_of p.environment ++ locals_known s formals ds)) (sym (ap (λ (t : Text). t.formals) own))
+          (scope_locals s r.text.formals ds (scope_of p.environment) b.scope_stands)
+
       of_locals : Locals s me.handler p.text.formals ds p.environment p.olds → StandsSo s pure r me [] (record p { environment = p.environment ++ locals_bound s p.text.formals ds; values = [] })
       of_locals z = goes s pure r me (record p { environment = p.environment ++ locals_bound s p.text.formals ds })
-          (record { text_is = b.text_is; names_fit = z.fit; result_fits = b.result_fits; olds_fit = z.olds_fit; store = b.store }) [] p.tasks []
+          (record { text_is = b.text_is; scope_stands = subst (ScopeStands r.text.formals) (sym z.known) stands; names_fit = z.fit; result_fits = b.result_fits; olds_fit = z.olds_fit; store = b.store }) [] p.tasks []
           (subst (λ n. IsTyped s pure r p.tasks (at p.text n (types_of p.olds) [])) (sym z.known) k) tt
 
   -- Another text of the routine comes.
   pub in_text_step : (t : Text) → (t ≡ r.text) ⊎ (t ≡ r.contract) → IsTyped s pure r p.tasks (at t (scope_of p.environment) (types_of p.olds) []) →
       StepFits s pure r me (performs s me (In t) [] (record p { values = [] }))
   in_text_step t i k = goes s pure r me (record p { text = t })
-      (record { text_is = i; names_fit = b.names_fit; result_fits = b.result_fits; olds_fit = b.olds_fit; store = b.store }) [] p.tasks [] k tt
+      (record { text_is = i; scope_stands = b.scope_stands; names_fit = b.names_fit; result_fits = b.result_fits; olds_fit = b.olds_fit; store = b.store }) [] p.tasks [] k tt

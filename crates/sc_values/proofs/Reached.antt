@@ -15,7 +15,7 @@ use Rattle.sc_values.specs.Values.{TurnsKeepIt, FromTurns}
 use Rattle.sc_values.proofs.Opening.{opening_fits}
 use Rattle.sc_values.proofs.ValuesFit.{fit_where_world_fits}
 
-one_more : (most : ℕ) (s : System) (hs : List ℕ) (h : ℕ) (w : World) → run most s (hs ++ h ∷ []) w ≡ turn most s h (run most s hs w)
+pub one_more : (most : ℕ) (s : System) (hs : List ℕ) (h : ℕ) (w : World) → run most s (hs ++ h ∷ []) w ≡ turn most s h (run most s hs w)
 one_more most s [] h w = refl
 one_more most s (k ∷ hs) h w = one_more most s hs h (turn most s k w)
 

@@ -70,6 +70,7 @@ module _ (s : System) (root : Root) (pure : RoutineName → Bool) (faultless : I
           (subst (λ n. IsTyped s pure f.routine (tasks_of f.routine) (at f.routine.contract n (types_of f.olds) [])) (sym formals)
           (subst (λ os. IsTyped s pure f.routine (tasks_of f.routine) (at f.routine.contract (formals_known s f.routine.text.formals) os [])) (sym no_olds)
           (begins_typed s root pure faultless well tells f.routine f.current z.top_fits.is_version)));
+      scope_stands = z.top_fits.point_fits.scope_stands;
       names_fit = z.top_fits.point_fits.names_fit;
       result_fits = z.top_fits.point_fits.result_fits;
       olds_fit = z.top_fits.point_fits.olds_fit;

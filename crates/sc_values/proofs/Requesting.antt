@@ -103,7 +103,7 @@ requests_keep_it s root pure faultless well tells most w fits h l f below is run
 
     by : (a : Act) → moves s f.current (point_of f (w.handlers h).objects) ≡ Does a p → is_request a ≡ true → ActFits s pure f.routine f.current a p →
         WorldFits s pure (effect most s h a (frame_at f p) below (put h (record (w.handlers h) { objects = p.objects; stack = frame_at f p ∷ below }) w))
-    by (act.Requests o x us gives passing) m such (call, stands) =
+    by (act.Requests o x us gives passing) m such (call, stands, named) =
         let after = led s pure w h f below fits l is (act.Requests o x us gives passing) p m in
         request_made s pure (put h (record (w.handlers h) { objects = p.objects; stack = frame_at f p ∷ below }) w) h gives (frame_at f p) below
         (settled_after s pure w h f below fits l is (act.Requests o x us gives passing) p m runs (listed gives) stands) runs o x us

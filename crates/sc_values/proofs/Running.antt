@@ -26,6 +26,7 @@ use Rattle.sc_model.specs.Values.{Reference}
 use Rattle.sc_values.proofs.Actuals.{plain_result}
 use Rattle.sc_values.proofs.Lists.{same_some}
 use Rattle.sc_values.proofs.Origins.{origin_is}
+use Rattle.sc_values.proofs.Scoping.{kept_names, result_names}
 use Rattle.sc_values.proofs.Standing.{IsRun, Leads}
 
 module _ (s : System) where
@@ -66,6 +67,8 @@ module _ (s : System) (root : Root) (pure : RoutineName → Bool) (faultless : I
     heirs = heirs_have_versions s root faultless all_declared;
     own = record { heir = up; has_result = (gives_type s own.result_type original.result_type results).0; leads = own_leads s own.result_type };
     kept = record { heir = above; has_result = (gives_type s own.result_type original.result_type results).1; leads = kept_leads s own.result_type original.result_type results };
+    results_name = λ b. (result_names s b own.result_type, result_names s b original.result_type);
+    may_name = kept_names own.formals original.formals a;
     plain = λ t i. let d = of_declared s own.result_type t i in plain_result s d.0 t d.1;
     result_type = λ t i. let d = of_declared s own.result_type t i in declared_types_stand s [] d.0 t d.1;
   })

@@ -1,10 +1,10 @@
--- A handler that has not failed for a foreign object, a Void target or a missing case, and whose topmost frame is in no call; and what leaves it so.
+-- A handler that has not failed for one that it does not hold, a foreign object, a Void target or a missing case, and whose topmost frame is in no call; and what leaves it so.
 use Rattle.std.specs.List.{list_any}
-use Rattle.std.specs.Prelude.{if◌then◌else◌, nat_lt, ◌==◌}
-use Rattle.std.proofs.Common.{◌&&◌, ◌++◌, Bool, List, None, Option, Some, [], false, refl, subst, true, ℕ, ◌∷◌, ◌≡◌}
+use Rattle.std.specs.Prelude.{if◌then◌else◌, is_some, length, nat_lt, not, ◌==◌, ◌||◌}
+use Rattle.std.proofs.Common.{◌&&◌, ◌++◌, Bool, List, None, Option, Some, [], false, refl, subst, sym, true, ℕ, ◌∷◌, ◌≡◌}
 use Rattle.sc_proctype.specs.declared.entity_type.EntityType.{EntityType}
 use Rattle.sc_lockpass.specs.Passing.{Passed}
-use Rattle.sc_lockpass.specs.Rights.{is_among, is_handler}
+use Rattle.sc_lockpass.specs.Rights.{held, is_among, is_handler}
 use Rattle.sc_waitcond.specs.Reservations.{ends_session, reserve_fails}
 use Rattle.sc_waitcond.specs.declared.session.Release.{Release}
 use Rattle.sc_waitcond.specs.declared.session.Release.TheVariants as release_at
@@ -14,6 +14,7 @@ use Rattle.sc_model.specs.Entries.{reserves_if, stage_with}
 use Rattle.sc_model.specs.Exits.{handed_as}
 use Rattle.sc_model.specs.Failures.{fail, fails_with, fallen, is_waited_by, requests_at, told}
 use Rattle.sc_model.specs.Handlers.{Answer, Awaits, Calls, Frame, Handler, InCall, Makes, Request, Reserves, ReservesBlock, Runs, Stage, World, new_handler, put, with_stack}
+use Rattle.sc_model.specs.Limits.{max_queue}
 use Rattle.sc_model.specs.Sessions.{release, reserve, session_ended, standing_in}
 use Rattle.sc_model.specs.Values.{Attached, Operand, Reference, Value, operand}
 use Rattle.sc_model.specs.declared.cause.Cause.{Cause}
@@ -137,12 +138,17 @@ module _ (h : ℕ) (f : Frame) (below : List Frame) (goes : is_in_call f.stage �
       (send_spared (is_callback h r.handler w) r.handler (request_by h r (Calls x) us waits passing w) (with_stack h (awaits_if waits r.handler gives false f ∷ below) w)
       (stack_spared h (awaits_if waits r.handler gives false f ∷ below) w (awaits_goes waits r.handler gives false f goes) all))
 
-  pub request_spared : (w : World) (r : Reference) (x : List ℕ) (us : List Operand) (gives : Option EntityType) (passing : Bool) → AllSpared w →
+  pub request_spared : (w : World) (r : Reference) (x : List ℕ) (us : List Operand) (gives : Option EntityType) (passing : Bool) → held w.rights h r.handler ≡ true → AllSpared w →
       AllSpared (request h r x us gives passing f below w)
-  request_spared w r x us gives passing all =
-      if_spared _ _ _ (fails_spared h cause.NotHeld [] w refl all)
+  request_spared w r x us gives passing holds all =
+      subst (λ (b : Bool). AllSpared (if not b then fail h cause.NotHeld w else after)) (sym holds)
       (if_spared _ _ _ (fails_spared h cause.SupplierFailed [] w refl all)
       (if_spared _ _ _ (fails_spared h cause.QueueFull [] w refl all) (asks_spared w r x us gives passing _ all)))
+    where
+      after : World
+      after = if is_some (w.handlers r.handler).failure then fail h cause.SupplierFailed w
+          else if not (is_callback h r.handler w) && not (nat_lt (length (w.handlers r.handler).queue) max_queue) then fail h cause.QueueFull w
+          else asks h r x us gives passing (passing || is_some gives || is_callback h r.handler w) f below w
 
   with_handler_spared : (w : World) (k : ℕ) → AllSpared w → AllSpared (with_handler k h w)
   with_handler_spared w k all = record { each = λ j. by j (j == k) }

@@ -14,6 +14,7 @@ use Rattle.sc_rules.specs.Names.{Entities, RoutineName}
 use Rattle.sc_rules.specs.Purity.{IsPurity}
 use Rattle.sc_rules.specs.SystemRules.{WellFormed}
 use Rattle.sc_rules.specs.Versions.{Version}
+use Rattle.sc_rules.proofs.Scopes.{HasScope, MayName, Scope, named_is_nameable}
 use Rattle.sc_model.specs.Environments.{Binding, handler_named, scope_of}
 use Rattle.sc_model.specs.Fits.{Fits, FitsOrUnset, OperandFits}
 use Rattle.sc_model.specs.Objects.{Object}
@@ -26,7 +27,7 @@ use Rattle.sc_model.specs.declared.cause.Cause.TheVariants as cause
 use Rattle.sc_values.specs.Points as point
 use Rattle.sc_values.specs.Points.{Each, EnvironmentFits, OldsFit, ResultFits, StoreFits, types_of}
 use Rattle.sc_values.specs.Steps.{StandsSo, StepFits}
-use Rattle.sc_values.specs.Typed.{Extends, IsTyped, after, at}
+use Rattle.sc_values.specs.Typed.{Extends, IsTyped, ScopeStands, after, at}
 use Rattle.sc_values.proofs.Passing.{IsPlain}
 
 -- the Result that a text speaks of is one of the routine's own, whose type names nothing
@@ -47,12 +48,15 @@ pub record IsRun (s : System) (pure : RoutineName → Bool) (r : Routine) (me : 
       feature_named s (class.Declared j) x ≡ Some f → Version s k x f.feature.kind
   pub own : InText s me.class r.text.result r.text
   pub kept : InText s me.class r.text.result r.contract
+  pub results_name : (b : Scope) → HasScope b (place_in s r.text) × HasScope b (place_in s r.contract)
+  pub may_name : (k : ℕ) → MayName (record { formals = r.text.formals; blocks = k }) r.contract.formals
   pub plain : (t : EntityType) → r.text.result ≡ Some (Some t) → IsPlain t.tag
   pub result_type : (t : EntityType) → r.text.result ≡ Some (Some t) → IsClassOf s t.class × (t.tag ≡ tag.None → ⊥)
 
 -- all of a point but its tasks and values
 pub record Base (s : System) (r : Routine) (me : Reference) (t : Text) (bs : List Binding) (result : Option Operand) (us : List Operand) (objects : List Object) : Type 0 where
   pub text_is : (t ≡ r.text) ⊎ (t ≡ r.contract)
+  pub scope_stands : ScopeStands r.text.formals (scope_of bs)
   pub names_fit : EnvironmentFits s me.handler bs
   pub result_fits : ResultFits s me.handler r.text.result result
   pub olds_fit : OldsFit s me.handler bs us
@@ -77,6 +81,15 @@ module _ (s : System) (pure : RoutineName → Bool) (r : Routine) (me : Referenc
   in_text run t (inl q) = subst (InText s me.class r.text.result) (sym q) run.own
   in_text run t (inr q) = subst (InText s me.class r.text.result) (sym q) run.kept
 
+  -- what its Result has names nothing, and its tags name formals of the routine
+  pub text_results : IsRun s pure r me → (t : Text) → (t ≡ r.text) ⊎ (t ≡ r.contract) → (b : Scope) → HasScope b (place_in s t)
+  text_results run t (inl q) b = subst (λ t. HasScope b (place_in s t)) (sym q) (run.results_name b).0
+  text_results run t (inr q) b = subst (λ t. HasScope b (place_in s t)) (sym q) (run.results_name b).1
+
+  pub text_may_name : IsRun s pure r me → (t : Text) → (t ≡ r.text) ⊎ (t ≡ r.contract) → (k : ℕ) → MayName (record { formals = r.text.formals; blocks = k }) t.formals
+  text_may_name run t (inl q) k = subst (λ (t : Text). MayName (record { formals = r.text.formals; blocks = k }) t.formals) (sym q) (λ x i e. named_is_nameable x r.text.formals i e)
+  text_may_name run t (inr q) k = subst (λ (t : Text). MayName (record { formals = r.text.formals; blocks = k }) t.formals) (sym q) (run.may_name k)
+
   module _ (p : Point) (b : BaseOf s r me p) where
     -- these tasks and values are next
     pub goes : (coming : List EntityType) (k : List Task) (vs : List Operand) → TasksTyped s pure r p k (coming ++ types_of vs) → AllFit s me p vs →
@@ -87,6 +100,7 @@ module _ (s : System) (pure : RoutineName → Bool) (r : Routine) (me : Referenc
         known = at p.text (scope_of p.environment) (types_of p.olds) (coming ++ types_of vs);
         agrees = point.here;
         is_typed = d;
+        scope_stands = b.scope_stands;
         names_fit = b.names_fit;
         result_fits = b.result_fits;
         olds_fit = b.olds_fit;
@@ -104,6 +118,7 @@ module _ (s : System) (pure : RoutineName → Bool) (r : Routine) (me : Referenc
         known = after p.text low high (types_of p.olds) (types_of us);
         agrees = point.held refl refl e;
         is_typed = d;
+        scope_stands = b.scope_stands;
         names_fit = b.names_fit;
         result_fits = b.result_fits;
         olds_fit = b.olds_fit;
@@ -120,6 +135,7 @@ module _ (s : System) (pure : RoutineName → Bool) (r : Routine) (me : Referenc
         known = after p.text low high (types_of p.olds) (types_of us);
         agrees = point.denied refl refl e;
         is_typed = d;
+        scope_stands = b.scope_stands;
         names_fit = b.names_fit;
         result_fits = b.result_fits;
         olds_fit = b.olds_fit;

@@ -43,7 +43,7 @@ module _ (s : System) (pure : RoutineName → Bool) (r : Routine) (me : Referenc
   known_step (Do is ∷ k) (u ∷ us) d f g = elim d [ ]
   known_step (In t ∷ k) [] (typed.in_text i d) f g = in_text_step s pure r me (q k []) b t i d
   known_step (In t ∷ k) (u ∷ us) d f g = elim d [ ]
-  known_step (Declare ds ∷ k) [] (typed.declare own e d) f g = declare_step s pure r me (q k []) b ds e d
+  known_step (Declare ds ∷ k) [] (typed.declare own e d) f g = declare_step s pure r me (q k []) b ds own e d
   known_step (Declare ds ∷ k) (u ∷ us) d f g = elim d [ ]
   known_step (Forget depth ∷ k) [] (typed.forget {n = low} e x d) f g = goes_forgotten s pure r me (q k []) b depth low k e x d
   known_step (Forget depth ∷ k) (u ∷ us) d f g = elim d [ ]
@@ -63,10 +63,10 @@ module _ (s : System) (pure : RoutineName → Bool) (r : Routine) (me : Referenc
   known_step (Conclude ∷ k) (u ∷ us) (typed.settled_conclusion {n = low} y x (typed.conclude_condition {n = first} x' d)) f g =
       conclude_condition_step s pure r me (q k us) b u first low (scope_of p.environment) x' d (settled_so s pure r me (q k us) b low u y x f.0) f.1
   known_step (Bind t x ∷ k) [] d f g = elim d [ ]
-  known_step (Bind t x ∷ k) (u ∷ us) (typed.bind {o = low} {b = y} e z d) f g = bind_step s pure r me (q k us) b f.1 t x u y low e z d f.0
+  known_step (Bind t x ∷ k) (u ∷ us) (typed.bind {o = low} {b = y} e names z d) f g = bind_step s pure r me (q k us) b f.1 t x u y low e names z d f.0
   known_step (CallUnqualified x i ∷ k) vs (typed.call_unqualified {us} {ws} ts {f = y} e j t m v l d) f g = unqualified_step s pure r me run (q k vs) b x i ts us ws y e j t m v l d f
-  known_step (CallQualified x i ∷ k) vs (typed.call_qualified {us} {ws} ts a {f = y} c e t m v l d) f g =
-      qualified_step s pure r me run (q k vs) b x i ts us ws a y c e t m v l d (all_good s pure r me run (q k vs) b vs f g)
+  known_step (CallQualified x i ∷ k) vs (typed.call_qualified {us} {ws} ts a {f = y} c names e t m v l d) f g =
+      qualified_step s pure r me run (q k vs) b x i ts us ws a y c names e t m v l d (all_good s pure r me run (q k vs) b vs f g)
   known_step (AssignTo x ∷ k) [] d f g = elim d [ ]
   known_step (AssignTo x ∷ k) (u ∷ []) (typed.assign {u = w} own e c d) f g = assign_step s pure r me run (q k []) b x u w own e c d f.0
   known_step (AssignTo x ∷ k) (u ∷ v ∷ us) d f g = elim d [ ]
@@ -138,7 +138,7 @@ pub step_fits : (s : System) (pure : RoutineName → Bool) (r : Routine) (me : R
 step_fits s pure r me run p (f, store) g = by f.known f.agrees f.is_typed
   where
     b : BaseOf s r me p
-    b = record { text_is = f.text_is; names_fit = f.names_fit; result_fits = f.result_fits; olds_fit = f.olds_fit; store = store }
+    b = record { text_is = f.text_is; scope_stands = f.scope_stands; names_fit = f.names_fit; result_fits = f.result_fits; olds_fit = f.olds_fit; store = store }
 
     by : (x : Known) → Agrees p [] x → IsTyped s pure r p.tasks x → StepFits s pure r me (step s me p)
     by _ point.here d = known_step s pure r me run p b p.tasks p.values d f.values_fit g

@@ -23,10 +23,11 @@ use Rattle.sc_model.specs.Tasks.{Bind}
 use Rattle.sc_model.specs.Values.{Attached, Boolean, Integer, Operand, Reference, Value, Void}
 use Rattle.sc_values.specs.Points.{types_of}
 use Rattle.sc_values.specs.Steps.{StepFits}
-use Rattle.sc_values.specs.Typed.{Extends}
+use Rattle.sc_values.specs.Typed.{Extends, ScopeStands, names_formal}
 use Rattle.sc_values.proofs.Environments.{environment_more, names_append, olds_more, operands_more}
 use Rattle.sc_values.proofs.Lists.{both}
 use Rattle.sc_values.proofs.Passing.{fits_more}
+use Rattle.sc_values.proofs.Scoping.{scope_one}
 use Rattle.sc_values.proofs.Standing.{AllFit, BaseOf, TasksAfter, goes_denied, goes_held}
 
 number_is : (o : Option ℕ) (k : ℕ) → is_number o k ≡ true → o ≡ Some k
@@ -78,12 +79,13 @@ scope_append [] b = refl
 scope_append (c ∷ bs) b = ap (λ n. known_of c ∷ n) (scope_append bs b)
 
 module _ (s : System) (pure : RoutineName → Bool) (r : Routine) (me : Reference) (p : Point) (b : BaseOf s r me p) (fs : AllFit s me p p.values) where
-  binds_step : (x : List ℕ) (v : Value) (t : EntityType) (low : Entities) → Extends low (scope_of p.environment) →
+  binds_step : (x : List ℕ) (v : Value) (t : EntityType) (low : Entities) → names_formal r.text.formals t.tag ≡ true → Extends low (scope_of p.environment) →
       TasksAfter s pure r p p.tasks low (scope_of p.environment ++ entity x (Some t) role.Test ∷ []) (types_of p.values) →
       (c : Bool) → (c ≡ true → Fits s me.handler (handler_named p.environment) v t) → StepFits s pure r me (binds_if c x v t p)
-  binds_step x v t low e k true f = goes_held s pure r me (record p { environment = p.environment ++ y ∷ [] })
+  binds_step x v t low named e k true f = goes_held s pure r me (record p { environment = p.environment ++ y ∷ [] })
       (record {
         text_is = b.text_is;
+        scope_stands = subst (ScopeStands r.text.formals) (sym (scope_append p.environment y)) (scope_one r.text.formals (scope_of p.environment) (known_of y) b.scope_stands named);
         names_fit = environment_more s me.handler p.environment y b.names_fit (λ e. cc)
             (inl (fits_more s me.handler (handler_named p.environment) (handler_named (p.environment ++ y ∷ [])) v t (names_append p.environment (y ∷ [])) (f refl)));
         result_fits = b.result_fits;
@@ -94,13 +96,13 @@ module _ (s : System) (pure : RoutineName → Bool) (r : Routine) (me : Referenc
     where
       y : Binding
       y = bind x t role.Test v
-  binds_step x v t low e k false f = goes_denied s pure r me p b p.tasks boolean p.values low (scope_of p.environment ++ entity x (Some t) role.Test ∷ []) k e refl fs
+  binds_step x v t low named e k false f = goes_denied s pure r me p b p.tasks boolean p.values low (scope_of p.environment ++ entity x (Some t) role.Test ∷ []) k e refl fs
 
   -- An object test: where it is true its name is known, and has a value that fits.
-  pub bind_step : (d : Option DeclaredType) (x : List ℕ) (u : Operand) (t : EntityType) (low : Entities) → test_type (place_in s p.text) d (Some u.type) ≡ Some t → Extends low (scope_of p.environment) →
+  pub bind_step : (d : Option DeclaredType) (x : List ℕ) (u : Operand) (t : EntityType) (low : Entities) → test_type (place_in s p.text) d (Some u.type) ≡ Some t → names_formal r.text.formals t.tag ≡ true → Extends low (scope_of p.environment) →
       TasksAfter s pure r p p.tasks low (scope_of p.environment ++ entity x (Some t) role.Test ∷ []) (types_of p.values) → OperandFits s me.handler p.environment u →
       StepFits s pure r me (performs_on s me (Bind d x) u p)
-  bind_step d x u t low e z k f =
+  bind_step d x u t low e named z k f =
       subst (λ o. StepFits s pure r me (binds s me.handler d x u.value o p)) (sym e)
-      (binds_step x u.value t low z k (is_tested s me.handler (handler_named p.environment) u.value d t)
+      (binds_step x u.value t low named z k (is_tested s me.handler (handler_named p.environment) u.value d t)
       (λ i. tested_fits s p.text me.handler (handler_named p.environment) u.value d u.type t e i f))

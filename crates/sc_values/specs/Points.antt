@@ -11,7 +11,7 @@ use Rattle.sc_model.specs.Routines.{Routine}
 use Rattle.sc_model.specs.Steps.{Point}
 use Rattle.sc_model.specs.Values.{Boolean, Operand, Reference, operand}
 use Rattle.sc_values.specs.Places.{no_names}
-use Rattle.sc_values.specs.Typed.{Extends, IsTyped, Known, after, at}
+use Rattle.sc_values.specs.Typed.{Extends, IsTyped, Known, ScopeStands, after, at}
 
 -- each of them, in order
 abbrev pub Each : {A : Type 0} → (A → Type 0) → List A → Type 0
@@ -88,6 +88,7 @@ pub record PointFits (s : System) (pure : RoutineName → Bool) (r : Routine) (h
   pub known : Known
   pub agrees : Agrees p coming known
   pub is_typed : IsTyped s pure r p.tasks known
+  pub scope_stands : ScopeStands r.text.formals (scope_of p.environment)
   -- its values fit
   pub names_fit : EnvironmentFits s h p.environment
   pub result_fits : ResultFits s h r.text.result p.result

@@ -1,5 +1,5 @@
 -- What is true of each step that a routine takes, visible or not.
-use Rattle.std.specs.Prelude.{◌<◌, Bool, List, None, Option, Some, [], false, length, true, ℕ, ◌∷◌, ◌≡◌}
+use Rattle.std.specs.Prelude.{◌<◌, Bool, Contains, List, None, Option, Some, [], false, length, true, ℕ, ◌∷◌, ◌≡◌}
 use Rattle.sc_tree.specs.Plain as tree
 use Rattle.sc_tree.specs.Plain.{DeclaredType, FeatureKind, RoutineDeclaration, System}
 use Rattle.sc_class.specs.Tables.Conformance.{is_expanded}
@@ -8,12 +8,12 @@ use Rattle.sc_proctype.specs.declared.entity_type.EntityType.{EntityType}
 use Rattle.sc_proctype.specs.declared.tag.Reserved.{Reserved}
 use Rattle.sc_rules.specs.Names.{RoutineName}
 use Rattle.sc_rules.specs.Types.{declared_type}
-use Rattle.sc_model.specs.Environments.{Binding, handler_named, scope_of}
+use Rattle.sc_model.specs.Environments.{Binding, block_values, handler_named, scope_of, separate_formals}
 use Rattle.sc_model.specs.Fits.{Fits}
 use Rattle.sc_model.specs.Objects.{Object}
 use Rattle.sc_model.specs.Routines.{Routine, version_of}
 use Rattle.sc_model.specs.Steps.{Act, CreatesHandler, Does, Enters, Fails, Goes, Point, Refuses, Requests, Step, gives}
-use Rattle.sc_model.specs.Values.{Attached, Operand, Reference, Value, values_of}
+use Rattle.sc_model.specs.Values.{Attached, Operand, Reference, Value, handler_of, values_of}
 use Rattle.sc_model.specs.declared.cause.Cause.{Cause}
 use Rattle.sc_model.specs.declared.cause.Cause.TheVariants as cause
 use Rattle.sc_values.specs.Fitting.{ActualsFit}
@@ -51,10 +51,16 @@ abbrev pub CreationFits : System → ℕ → (Reserved → Option ℕ) → ℕ �
 CreationFits s me of k None us = us ≡ []
 CreationFits s me of k (Some x) us = (j : ℕ) → EntryFits s me of (record { handler = j; number = 1; class = k }) x us None
 
+-- One of the names lies on the handler: an attached separate formal, or the name of a separate block.
+pub data IsNamed (bs : List Binding) (k : ℕ) : Type 0 where
+  by_formal : {v : Value} → Contains (separate_formals bs) v → handler_of v ≡ Some k → IsNamed bs k
+  by_block : {v : Value} → Contains (block_values bs) v → handler_of v ≡ Some k → IsNamed bs k
+
 -- ---- steps
 
--- the failures that no accepted system meets for its values
+-- the failures that no accepted system meets
 abbrev pub is_excluded : Cause → Bool
+is_excluded cause.NotHeld = true
 is_excluded cause.ForeignObject = true
 is_excluded cause.VoidTarget = true
 is_excluded cause.BadCode = true
@@ -70,7 +76,8 @@ module _ (s : System) (pure : RoutineName → Bool) (r : Routine) (me : Referenc
   ActFits (Fails why) p = (is_excluded why ≡ false) × StoreFits s me p.objects
   ActFits (Enters c o x us gives) p =
       (o.handler ≡ me.handler) × IsAmong p.objects o × EntryFits s me.handler (handler_named p.environment) o x us gives × StandsSo (listed gives) p
-  ActFits (Requests o x us gives passes) p = CallFits s me.handler (handler_named p.environment) o x us gives × StandsSo (listed gives) p
+  ActFits (Requests o x us gives passes) p =
+      CallFits s me.handler (handler_named p.environment) o x us gives × StandsSo (listed gives) p × IsNamed p.environment o.handler
   ActFits (CreatesHandler k x us t passes) p =
       (k < length s.classes) × CreationFits s me.handler (handler_named p.environment) k x us
       × ((j : ℕ) → Fits s me.handler (handler_named p.environment) (Attached (record { handler = j; number = 1; class = k })) t) × StandsSo (t ∷ []) p

@@ -1,6 +1,6 @@
 -- What is left to do in a routine is as the rules say, where these names are known and values of these types lie there.
 use Rattle.std.specs.List.{list_all}
-use Rattle.std.specs.Prelude.{◌+◌, ◌++◌, ◌<◌, Bool, Contains, List, None, Option, Some, [], false, length, map, not, slice_get, true, ℕ, ◌∷◌, ◌≡◌, ◌⊎◌}
+use Rattle.std.specs.Prelude.{◌&&◌, ◌+◌, ◌++◌, ◌<◌, Bool, Contains, List, None, Option, Some, [], false, length, map, not, slice_get, true, ℕ, ◌∷◌, ◌≡◌, ◌⊎◌}
 use Rattle.sc_tree.specs.Plain.{Branches, Clause, Declaration, DeclaredType, Expr, Instrs, Name, System, Variable}
 use Rattle.sc_tree.specs.declared.expression.BinaryOperator.{BinaryOperator}
 use Rattle.sc_tree.specs.declared.expression.UnaryOperator.{UnaryOperator}
@@ -9,13 +9,16 @@ use Rattle.sc_class.specs.Tables.Features.{DeclaredFeature, feature_named}
 use Rattle.sc_class.specs.declared.identity.ClassId.TheVariants as class
 use Rattle.sc_proctype.specs.Conformance.{boolean, conforms}
 use Rattle.sc_proctype.specs.declared.entity_type.EntityType.{EntityType}
+use Rattle.sc_proctype.specs.declared.tag.Reserved.TheVariants.{BlockName, Formal}
+use Rattle.sc_proctype.specs.declared.tag.Tag.{Tag}
 use Rattle.sc_proctype.specs.declared.tag.Tag.TheVariants as tag
 use Rattle.sc_rules.specs.Laws.{are_declared}
 use Rattle.sc_rules.specs.Names.{Entities, Entity, RoutineContext, RoutineName, Signature, assignee, assignee_type, block_type, blocks, current, entity, formals_known, locals_known, named, qualified_meaning, signature_of, test_type}
 use Rattle.sc_rules.specs.Positions.{is_and_then, is_condition, is_ensure, is_old, operand_position}
+use Rattle.sc_rules.specs.ScopeLaws.{is_nameable_if_any}
 use Rattle.sc_rules.specs.Sites.{branches, instructions}
 use Rattle.sc_rules.specs.SystemLaws.{Stands}
-use Rattle.sc_rules.specs.Types.{binary_type, is_boolean, is_controlled, unary_type}
+use Rattle.sc_rules.specs.Types.{binary_type, is_boolean, is_controlled, is_foreign, unary_type}
 use Rattle.sc_rules.specs.Typing.{Gives, HasType, formals_take, typing}
 use Rattle.sc_rules.specs.declared.position.Context.{Context}
 use Rattle.sc_rules.specs.declared.position.Context.TheVariants as context
@@ -34,6 +37,35 @@ use Rattle.sc_values.specs.Places.{is_routine}
 pub data Known : Type 0 where
   at : Text → Entities → List EntityType → List EntityType → Known
   after : Text → Entities → Entities → List EntityType → List EntityType → Known
+
+-- ---- tags
+
+-- What the tag names, if it names a formal, is one among these that a tag may name: an attached separate one.
+abbrev pub names_formal : List Declaration → Tag → Bool
+names_formal formals (tag.With (Formal i)) = is_nameable_if_any (slice_get formals i)
+names_formal formals (tag.With (BlockName j)) = true
+names_formal formals tag.Own = true
+names_formal formals tag.Any = true
+names_formal formals tag.None = true
+
+abbrev pub type_names : List Declaration → Option EntityType → Bool
+type_names formals None = true
+type_names formals (Some t) = names_formal formals t.tag
+
+-- attached, and not of the current handler
+abbrev pub lent_type : Option EntityType → Bool
+lent_type None = true
+lent_type (Some t) = t.attached && is_foreign t.tag
+
+abbrev pub is_lent : Option Entity → Bool
+is_lent None = false
+is_lent (Some e) = is_formal e.role && lent_type e.type
+
+-- Each of these formals that a tag may name stands at its number among the names, attached and separate, and the tag of each name
+-- names such a formal, if it names one.
+pub record ScopeStands (formals : List Declaration) (n : Entities) : Type 0 where
+  pub formals_are : (i : ℕ) → is_nameable_if_any (slice_get formals i) ≡ true → is_lent (slice_get n i) ≡ true
+  pub tags_name : list_all (λ (e : Entity). type_names formals e.type) n ≡ true
 
 -- the text as the rules of well-formed systems see it
 abbrev pub context_in : System → (RoutineName → Bool) → Text → RoutineContext
@@ -127,14 +159,14 @@ pub data IsTyped (s : System) (pure : RoutineName → Bool) (r : Routine) : List
   conclude_condition : {k : List Task} {t : Text} {n m o : Entities} {os vs : List EntityType} → Extends n m →
       IsTyped s pure r k (after t n o os vs) → IsTyped s pure r (Conclude ∷ k) (after t m o os vs)
   bind : {k : List Task} {t : Text} {n o : Entities} {os vs : List EntityType} {d : Option DeclaredType} {x : List ℕ} {a b : EntityType} →
-      test_type (place_in s t) d (Some a) ≡ Some b → Extends o n → IsTyped s pure r k (after t o (n ++ entity x (Some b) role.Test ∷ []) os vs) →
+      test_type (place_in s t) d (Some a) ≡ Some b → names_formal r.text.formals b.tag ≡ true → Extends o n → IsTyped s pure r k (after t o (n ++ entity x (Some b) role.Test ∷ []) os vs) →
       IsTyped s pure r (Bind d x ∷ k) (at t n os (a ∷ vs))
   call_unqualified : {k : List Task} {t : Text} {n : Entities} {os vs us ws : List EntityType} (ts : List EntityType) {x : List ℕ} {i : ℕ} {f : DeclaredFeature} →
       feature_named s (class.Declared t.class) x ≡ Some f → is_routine f.feature.kind ≡ true → Takes s ts (signature_of s (current (place_in s t)) f) → i ≡ length ts →
       vs ≡ stacked ts us → Leaves (signature_of s (current (place_in s t)) f).gives us ws → IsTyped s pure r k (at t n os ws) →
       IsTyped s pure r (CallUnqualified x i ∷ k) (at t n os vs)
   call_qualified : {k : List Task} {t : Text} {n : Entities} {os vs us ws : List EntityType} (ts : List EntityType) (a : EntityType) {x : List ℕ} {i : ℕ} {f : DeclaredFeature} →
-      is_controlled a ≡ true → feature_named s a.class x ≡ Some f → Takes s ts (signature_of s a f) → i ≡ length ts →
+      is_controlled a ≡ true → names_formal r.text.formals a.tag ≡ true → feature_named s a.class x ≡ Some f → Takes s ts (signature_of s a f) → i ≡ length ts →
       vs ≡ stacked ts (a ∷ us) → Leaves (signature_of s a f).gives us ws → IsTyped s pure r k (at t n os ws) →
       IsTyped s pure r (CallQualified x i ∷ k) (at t n os vs)
   -- instructions

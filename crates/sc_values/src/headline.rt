@@ -41,7 +41,7 @@ pub fn fit_where_passed()
 
 /// Where what is left to do in a routine of an accepted system is typed and its values fit, its next step fits: what a silent
 /// step leaves is typed and fits again, what a visible step enters, requests or creates is given actuals that fit, and no step
-/// fails for a foreign object, a Void target or a missing case.
+/// fails for a foreign object, a Void target or a missing case; and whom a visible step asks a name of the routine names.
 pub fn steps_fit()
     ensures { StepsFit }
 {}
@@ -179,7 +179,8 @@ pub fn each_non_separate_is_own()
     ensures { NonSeparateIsOwn }
 {}
 
-/// In each such state, no handler has failed for a foreign object, a Void target or a missing case.
+/// In each such state, no handler has failed for asking one that it doesn't hold, for a foreign object, a Void target or a missing
+/// case.
 pub fn none_is_excluded()
     ensures { NoneIsExcluded }
 {}
