@@ -3,15 +3,16 @@
 use sc_search::Watch;
 use std::io::Write;
 
-/// After how many states each it is said.
-const STEP: u32 = 1024;
+/// By how many states the number differs from the one that was said last, where it is said again.
+const STEP: u32 = 256;
 
 /// Says on a line of a terminal, which is written over each time, how many states a search has kept; elsewhere it says nothing.
 #[derive(Drop)]
 pub struct Progress<'e, E> {
     err: &'e mut E,
     is_shown: bool,
-    has_shown: bool,
+    /// How many states were said last; None before that.
+    said: Option<u32>,
 }
 
 impl<'e, E: Write> Progress<'e, E> {
@@ -19,13 +20,13 @@ impl<'e, E: Write> Progress<'e, E> {
         Progress {
             err,
             is_shown,
-            has_shown: false,
+            said: None,
         }
     }
 
     /// Clears the line, if there is one.
     pub fn clear(&mut self) {
-        if self.has_shown {
+        if self.said.is_some() {
             self.show("\r\x1b[K");
         }
     }
@@ -39,10 +40,10 @@ impl<'e, E: Write> Progress<'e, E> {
 
 impl<'e, E: Write> Watch for Progress<'e, E> {
     fn kept(&mut self, states: u32) {
-        if self.is_shown && states % STEP == 0 {
-            self.has_shown = true;
+        if self.is_shown && states.abs_diff(self.said.unwrap_or(0)) >= STEP {
+            self.said = Some(states);
             let _ = write!(self.err, "\r{states} states");
-            self.show("");
+            self.show("\x1b[K");
         }
     }
 }
