@@ -22,10 +22,10 @@ _scoop() {
         ;;
     esac
     case $command:$word in
-    check:-*) mapfile -t COMPREPLY < <(compgen -W '--root --explain --format --help' -- "$word") ;;
-    run:-*) mapfile -t COMPREPLY < <(compgen -W '--workers --turns --record --audit --root --explain --format --help' -- "$word") ;;
-    replay:-*) mapfile -t COMPREPLY < <(compgen -W '--root --explain --format --help' -- "$word") ;;
-    search:-*) mapfile -t COMPREPLY < <(compgen -W '--for --states --record --outcomes --explain --format --root --help' -- "$word") ;;
+    check:-*) mapfile -t COMPREPLY < <(compgen -W '--root --explain --no-explain --format --help' -- "$word") ;;
+    run:-*) mapfile -t COMPREPLY < <(compgen -W '--workers --turns --record --audit --root --explain --no-explain --format --help' -- "$word") ;;
+    replay:-*) mapfile -t COMPREPLY < <(compgen -W '--root --explain --no-explain --format --help' -- "$word") ;;
+    search:-*) mapfile -t COMPREPLY < <(compgen -W '--for --states --record --outcomes --explain --no-explain --format --root --help' -- "$word") ;;
     print:-* | explain:-*) mapfile -t COMPREPLY < <(compgen -W '--help' -- "$word") ;;
     explain:*) mapfile -t COMPREPLY < <(compgen -W "$("${COMP_WORDS[0]}" explain 2>/dev/null)" -- "$word") ;;
     help:*) mapfile -t COMPREPLY < <(compgen -W 'check run replay search print explain' -- "$word") ;;

@@ -1,5 +1,6 @@
 //! The arguments of a command line: what is asked for, and of which files.
 
+mod explaining;
 mod format;
 mod root_option;
 mod searching;
@@ -7,6 +8,7 @@ mod searching;
 ghost use Rattle.std.specs.Prelude.{◌≡◌};
 ghost use Rattle.sc_arguments.specs.Usage as spec;
 
+use crate::arguments::explaining::{is_explained, with_explain};
 use crate::arguments::format::{format_argument, read_format};
 use clap::builder::ValueParser;
 use clap::error::ErrorKind;
@@ -228,9 +230,9 @@ const PRINT_ABOUT: &str = "Writes the text of a system in its one canonical layo
 const PRINT_LONG_ABOUT: &str = "\
 Writes the text of a system in its one canonical layout.
 
-The text is read, but not checked. Comments and notes are left out, and there
-are no more parentheses than the grammar needs. Printed again, the text stays
-as it is.";
+The text is read, but not checked. Comments and notes are left out, how many is
+said on standard error, and there are no more parentheses than the grammar
+needs. Printed again, the text stays as it is. No file is written.";
 
 const EXPLAIN_ABOUT: &str = "Says what a code stands for, and why";
 
@@ -240,10 +242,11 @@ Says what a code stands for, and why: the code of a refusal or of a failure.
 Each page has a smallest text that is refused, or that fails, and the nearest
 one that isn't. Without a code all codes are listed with their names.";
 
-const EXPLAIN_HELP: &str = "Shows where a refusal stands, on standard error";
+const EXPLAIN_HELP: &str =
+    "Shows where a refusal stands, on standard error; the default where that is a terminal";
 
 const RUN_EXPLAIN_HELP: &str =
-    "Shows where a refusal stands, or says why handlers failed or wait, on standard error";
+    "Shows where a refusal stands, or says why handlers failed or wait, on standard error; the default where that is a terminal";
 
 const CODE_HELP: &str = "The code, as V6, or its name, in any letter case";
 
@@ -261,14 +264,16 @@ const AUDIT_HELP: &str = "Plays the record by one thread, and says whether that 
 
 const KEPT_HELP: &str = "Writes the record of the run to this file, for `scoop replay`";
 
-/// Reads the arguments of a command line, of which the first is the program's name.
+/// Reads the arguments of a command line, of which the first is the program's name. Where none of them says whether the
+/// answer is to be explained, `explains` does.
 pub fn read_arguments<'a, S: AsStr>(
     alloc: Global,
     arguments: &'a [S],
+    explains: bool,
 ) -> Result<Invocation<'a>, UsageFault> {
     let matches = scoop_command(alloc)?.try_get_matches_from(arguments)?;
     match matches.subcommand() {
-        Some((name, options)) => read_command(alloc, name, options),
+        Some((name, options)) => read_command(alloc, name, options, explains),
         None => Err(UsageFault::NoCommand),
     }
 }
@@ -278,14 +283,19 @@ fn read_command<'a>(
     alloc: Global,
     name: &str,
     options: &ArgMatches<'a>,
+    explains: bool,
 ) -> Result<Invocation<'a>, UsageFault> {
     match name {
-        "replay" => read_replay(alloc, options),
+        "replay" => read_replay(alloc, options, explains),
         "explain" => Ok(Invocation::Explain(options.get_str("CODE"))),
         "print" => on_files(alloc, Command::Print, options),
-        "run" => read_run(alloc, options),
-        "search" => searching::read_search(alloc, options),
-        _ => on_files(alloc, Command::Check(read_check(alloc, options)?), options),
+        "run" => read_run(alloc, options, explains),
+        "search" => searching::read_search(alloc, options, explains),
+        _ => on_files(
+            alloc,
+            Command::Check(read_check(alloc, options, explains)?),
+            options,
+        ),
     }
 }
 
@@ -297,32 +307,44 @@ fn on_files<'a>(
     Ok(Invocation::OnFiles(command, read_files(alloc, options)?))
 }
 
-fn read_check(alloc: Global, options: &ArgMatches<'_>) -> Result<CheckOptions, UsageFault> {
+fn read_check(
+    alloc: Global,
+    options: &ArgMatches<'_>,
+    explains: bool,
+) -> Result<CheckOptions, UsageFault> {
     Ok(CheckOptions {
         root: read_root(alloc, options)?,
-        is_explained: options.get_flag("explain"),
+        is_explained: is_explained(options, explains),
         format: read_format(options),
     })
 }
 
-fn read_run<'a>(alloc: Global, options: &ArgMatches<'a>) -> Result<Invocation<'a>, UsageFault> {
+fn read_run<'a>(
+    alloc: Global,
+    options: &ArgMatches<'a>,
+    explains: bool,
+) -> Result<Invocation<'a>, UsageFault> {
     let run = RunOptions {
         root: read_root(alloc, options)?,
         workers: options.get_one("workers").unwrap_or(DEFAULT_WORKERS),
         turns: options.get_one("turns").unwrap_or(DEFAULT_TURNS),
         record: options.get_str("record"),
         is_audited: options.get_flag("audit"),
-        is_explained: options.get_flag("explain"),
+        is_explained: is_explained(options, explains),
         format: read_format(options),
     };
     Ok(Invocation::Run(run, read_files(alloc, options)?))
 }
 
-fn read_replay<'a>(alloc: Global, options: &ArgMatches<'a>) -> Result<Invocation<'a>, UsageFault> {
+fn read_replay<'a>(
+    alloc: Global,
+    options: &ArgMatches<'a>,
+    explains: bool,
+) -> Result<Invocation<'a>, UsageFault> {
     let replay = ReplayOptions {
         root: read_root(alloc, options)?,
         record: options.get_str("RECORD").unwrap_or(""),
-        is_explained: options.get_flag("explain"),
+        is_explained: is_explained(options, explains),
         format: read_format(options),
     };
     Ok(Invocation::Replay(replay, read_files(alloc, options)?))
@@ -363,7 +385,7 @@ fn check_command<'a>(alloc: Global) -> Result<clap::Command<'a>, AllocError> {
         CHECK_LONG_ABOUT,
         CHECK_AFTER_HELP,
     );
-    let command = command.arg(explain_argument(alloc, EXPLAIN_HELP));
+    let command = with_explain(alloc, Ok(command), EXPLAIN_HELP);
     let command = with_argument(command, format_argument(alloc));
     let command = with_argument(command, root_argument(alloc));
     with_argument(command, file_argument(alloc))
@@ -375,7 +397,7 @@ fn run_command<'a>(alloc: Global) -> Result<clap::Command<'a>, AllocError> {
     let command = with_argument(command, turns_argument(alloc));
     let command = with_argument(command, kept_argument(alloc));
     let command = with_argument(command, audit_argument(alloc));
-    let command = with_argument(command, explain_argument(alloc, RUN_EXPLAIN_HELP));
+    let command = with_explain(alloc, command, RUN_EXPLAIN_HELP);
     let command = with_argument(command, format_argument(alloc));
     let command = with_argument(command, root_argument(alloc));
     with_argument(command, file_argument(alloc))
@@ -389,7 +411,7 @@ fn replay_command<'a>(alloc: Global) -> Result<clap::Command<'a>, AllocError> {
         REPLAY_LONG_ABOUT,
         REPLAY_AFTER_HELP,
     );
-    let command = command.arg(explain_argument(alloc, RUN_EXPLAIN_HELP));
+    let command = with_explain(alloc, Ok(command), RUN_EXPLAIN_HELP);
     let command = with_argument(command, format_argument(alloc));
     let command = with_argument(command, root_argument(alloc));
     let command = with_argument(command, record_argument(alloc));
@@ -495,13 +517,6 @@ fn audit_argument<'a>(alloc: Global) -> Arg<'a> {
         .long("audit")
         .action(ArgAction::SetTrue)
         .help(AUDIT_HELP)
-}
-
-fn explain_argument<'a>(alloc: Global, help: &'a str) -> Arg<'a> {
-    Arg::new(alloc, "explain")
-        .long("explain")
-        .action(ArgAction::SetTrue)
-        .help(help)
 }
 
 fn record_argument<'a>(alloc: Global) -> Arg<'a> {

@@ -8,6 +8,7 @@
 
 mod delivery;
 mod json;
+mod printing;
 mod progress;
 mod refusal;
 mod running;

@@ -10,6 +10,7 @@ ghost use Rattle.sc_serve.specs.Answer.{IsBadRecord, IsReplayOn, IsReplayTo, IsU
 
 use crate::delivery::deliver;
 use crate::json::answer_object;
+use crate::printing::left_out;
 use crate::progress::Progress;
 use crate::refusal::Refusal;
 use crate::running::answer_run;
@@ -122,7 +123,8 @@ impl<'a> From<AllocError> for Fault<'a> {
 
 /// Does what `arguments` ask for, of which the first is the program's name, and answers the status that
 /// the program ends with. What was asked for is written to `out`, and why it can't be had to `err`. The record of a run
-/// goes to the file that is named for it, behind that. Where `err` is a terminal, a search says there how far it is.
+/// goes to the file that is named for it, behind that. Where `err` is a terminal, a search says there how far it is, and
+/// answers are explained there unless an argument says otherwise.
 pub fn serve<R: Threads + Wait + Sync + AllocGlobal, S: AsStr, F: Files, O: Write, E: Write>(
     rt: &R,
     arguments: &[S],
@@ -132,7 +134,7 @@ pub fn serve<R: Threads + Wait + Sync + AllocGlobal, S: AsStr, F: Files, O: Writ
     is_terminal: bool,
 ) -> u8 {
     let mut progress = Progress::new(err, is_terminal);
-    let response = respond(rt, arguments, files, &mut progress);
+    let response = respond(rt, arguments, files, &mut progress, is_terminal);
     progress.clear();
     match response {
         Ok(answer) => deliver(&answer, files, out, err),
@@ -226,9 +228,10 @@ fn respond<'a, R: Threads + Wait + Sync + AllocGlobal, S: AsStr, F: Files, W: Wa
     arguments: &'a [S],
     files: &F,
     watch: &mut W,
+    explains: bool,
 ) -> Result<Answer<'a>, Fault<'a>> {
     let alloc = rt.alloc();
-    let invocation = match read_arguments(alloc, arguments) {
+    let invocation = match read_arguments(alloc, arguments, explains) {
         Ok(invocation) => invocation,
         Err(UsageFault::Arguments(error)) if !error.use_stderr() => {
             let text = error.to_string(alloc)?.into_bytes();
@@ -439,8 +442,9 @@ fn examine<'a>(alloc: Global, command: &Command, text: &str) -> Result<Answer<'a
             Ok(Answer::new(alloc, text, Exit::Done))
         }
         Command::Print => {
-            let text = print_text(alloc, text)?;
-            Ok(Answer::new(alloc, text, Exit::Done))
+            let mut answer = Answer::new(alloc, print_text(alloc, text)?, Exit::Done);
+            answer.note = left_out(alloc, text)?;
+            Ok(answer)
         }
     }
 }

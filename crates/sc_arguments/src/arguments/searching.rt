@@ -1,9 +1,10 @@
 //! The command `search`: what is looked for in the orders of turns, and how far.
 
+use crate::arguments::explaining::{is_explained, with_explain};
 use crate::arguments::format::{Format, format_argument, read_format};
 use crate::arguments::{
-    Invocation, UsageFault, described, explain_argument, file_argument, read_files, read_root,
-    root_argument, with_argument,
+    Invocation, UsageFault, described, file_argument, read_files, read_root, root_argument,
+    with_argument,
 };
 use clap::builder::ValueParser;
 use clap::{Arg, ArgAction, ArgMatches};
@@ -83,7 +84,7 @@ const FOUND_HELP: &str = "Writes the record of the order that is found to this f
 const OUTCOMES_HELP: &str = "Lists each outcome: the report of an order that ends so";
 
 const SEARCH_EXPLAIN_HELP: &str =
-    "Shows where a refusal stands, or says who waits for whom and why one fails, on standard error";
+    "Shows where a refusal stands, or says who waits for whom and why one fails, on standard error; the default where that is a terminal";
 
 pub fn search_command<'a>(alloc: Global) -> Result<clap::Command<'a>, AllocError> {
     let command = described(
@@ -97,7 +98,7 @@ pub fn search_command<'a>(alloc: Global) -> Result<clap::Command<'a>, AllocError
     let command = with_argument(command, states_argument(alloc));
     let command = with_argument(command, found_argument(alloc));
     let command = with_argument(command, outcomes_argument(alloc));
-    let command = with_argument(command, explain_argument(alloc, SEARCH_EXPLAIN_HELP));
+    let command = with_explain(alloc, command, SEARCH_EXPLAIN_HELP);
     let command = with_argument(command, format_argument(alloc));
     let command = with_argument(command, root_argument(alloc));
     with_argument(command, file_argument(alloc))
@@ -106,6 +107,7 @@ pub fn search_command<'a>(alloc: Global) -> Result<clap::Command<'a>, AllocError
 pub fn read_search<'a>(
     alloc: Global,
     options: &ArgMatches<'a>,
+    explains: bool,
 ) -> Result<Invocation<'a>, UsageFault> {
     let search = SearchOptions {
         root: read_root(alloc, options)?,
@@ -113,7 +115,7 @@ pub fn read_search<'a>(
         states: options.get_one("states").unwrap_or(DEFAULT_STATES),
         record: options.get_str("record"),
         lists_outcomes: options.get_flag("outcomes"),
-        is_explained: options.get_flag("explain"),
+        is_explained: is_explained(options, explains),
         format: read_format(options),
     };
     Ok(Invocation::Search(search, read_files(alloc, options)?))
