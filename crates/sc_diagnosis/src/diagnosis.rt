@@ -1,24 +1,15 @@
 //! What is said of one refusal.
 
-use crate::declared::other_declaration;
-use crate::expected::expected;
-use crate::nearest::nearest_class;
-use crate::open::open_construct;
 use crate::reading::system_of;
-use crate::scope::{part_of, push_all};
+use crate::scope::part_of;
 use crate::sentences::{Sentence, sentence_of};
 use crate::told::Refused;
 use sc_class::Root;
+use sc_explain_classes::{explain_class_fault, explain_root, other_declaration, push_near_class};
+use sc_explain_text::{Related, explain_character, explain_grammar, push_all, word_at};
 use sc_text::Span;
 use sc_tree::System;
 use std::alloc::{AllocError, Global};
-
-/// A part of the text that a fault goes with, and what it has to do with it.
-#[derive(Clone, Copy)]
-pub struct Related {
-    pub what: &'static str,
-    pub span: Span,
-}
 
 /// What is said of a refusal: lines of text, and another place, if one goes with the fault.
 #[derive(Drop)]
@@ -48,7 +39,7 @@ pub fn diagnose(
         return Ok(diagnosis);
     };
     match span {
-        None => push_told(&mut diagnosis.lines, sentence, "")?,
+        None => tell_of_all(alloc, &mut diagnosis.lines, sentence, text, root)?,
         Some(span) => {
             let refused = Refused {
                 text,
@@ -62,6 +53,24 @@ pub fn diagnose(
     Ok(diagnosis)
 }
 
+/// Adds what is said of a fault of the whole text: why it isn't run from the root, or its sentence.
+fn tell_of_all(
+    alloc: Global,
+    lines: &mut String,
+    sentence: &Sentence,
+    text: &str,
+    root: &Root,
+) -> Result<(), AllocError> {
+    if sentence.code != "C6" {
+        return push_told(lines, sentence, "");
+    }
+    match system_of(alloc, text) {
+        Ok(None) => push_told(lines, sentence, ""),
+        Ok(Some(system)) => explain_root(lines, text, &system, root),
+        Err(error) => Err(error),
+    }
+}
+
 /// Adds what is said of the part of a text that is at fault: what the classes tell of it, or else its sentence.
 fn tell(
     alloc: Global,
@@ -72,21 +81,21 @@ fn tell(
     if is_told(alloc, &mut diagnosis.lines, refused)? {
         return Ok(());
     }
-    let part = part_of(refused.text, refused.span);
-    push_told(&mut diagnosis.lines, sentence, part)?;
-    add_more(alloc, diagnosis, refused)
-}
-
-/// Adds what more helps, and another place of the text, where there is one.
-fn add_more(
-    alloc: Global,
-    diagnosis: &mut Diagnosis,
-    refused: Refused<'_>,
-) -> Result<(), AllocError> {
     match refused.code {
-        "P1" => add_expected(alloc, diagnosis, refused),
-        "C1" | "C4" | "C5" | "V1" => add_declared(alloc, diagnosis, refused),
-        _ => Ok(()),
+        "L1" => explain_character(&mut diagnosis.lines, refused.text, refused.span),
+        "P1" => {
+            let lines = &mut diagnosis.lines;
+            diagnosis.related = explain_grammar(alloc, lines, refused.text, refused.span)?;
+            Ok(())
+        }
+        "C1" | "C2" | "C4" | "C5" | "C8" | "V1" => {
+            add_declared(alloc, diagnosis, sentence, refused)
+        }
+        _ => push_told(
+            &mut diagnosis.lines,
+            sentence,
+            part_of(refused.text, refused.span),
+        ),
     }
 }
 
@@ -102,44 +111,44 @@ fn is_told(alloc: Global, lines: &mut String, refused: Refused<'_>) -> Result<bo
     }
 }
 
-/// Adds what may stand where the text is no system, and what is still open there.
-fn add_expected(
-    alloc: Global,
-    diagnosis: &mut Diagnosis,
-    refused: Refused<'_>,
-) -> Result<(), AllocError> {
-    let length = refused.span.start;
-    expected(alloc, &mut diagnosis.lines, refused.text, length)?;
-    diagnosis.related = open_construct(alloc, refused.text, length)?;
-    Ok(())
-}
-
-/// Adds the other declaration of the name at fault, which is a class's or another's, or the name of a class that is near to
-/// one that isn't known.
+/// Adds the sentence, what helps in these classes, and the other declaration of the name at fault.
 fn add_declared(
     alloc: Global,
     diagnosis: &mut Diagnosis,
+    sentence: &Sentence,
     refused: Refused<'_>,
 ) -> Result<(), AllocError> {
+    let part = part_of(refused.text, refused.span);
+    push_sentence(&mut diagnosis.lines, sentence.text, part)?;
     match system_of(alloc, refused.text) {
         Ok(None) => Ok(()),
-        Ok(Some(system)) => add_name(diagnosis, refused, &system),
+        Ok(Some(system)) => add_helps(diagnosis, refused, &system),
         Err(error) => Err(error),
     }
 }
 
-/// Adds the same of a text that spells this system.
-fn add_name(
+/// Adds what helps in the classes of a text that spells this system, and the other declaration of the name at fault.
+fn add_helps(
     diagnosis: &mut Diagnosis,
     refused: Refused<'_>,
     system: &System,
 ) -> Result<(), AllocError> {
-    let name = part_of(refused.text, refused.span);
-    if refused.code == "V1" {
-        return nearest_class(&mut diagnosis.lines, refused.text, system, name);
+    let lines = &mut diagnosis.lines;
+    let Refused {
+        text,
+        code,
+        span,
+        ..
+    } = refused;
+    let name = word_at(text, span);
+    if code == "V1" {
+        push_near_class(lines, text, system, name)?;
+        return Ok(());
     }
-    let is_class = refused.code == "C1";
-    diagnosis.related = other_declaration(system, is_class, name, refused.span);
+    explain_class_fault(lines, text, system, code, span)?;
+    if code != "C2" && code != "C8" {
+        diagnosis.related = other_declaration(system, code == "C1", name, span);
+    }
     Ok(())
 }
 

@@ -4,11 +4,9 @@
 //! The sentences are for people: nothing of the answer, which is the refusal's line, depends on them.
 #![tactic(auto)]
 
-mod declared;
 mod diagnosis;
-mod expected;
-mod nearest;
-mod open;
+mod fresh;
+mod helps;
 mod reading;
 mod remark;
 mod remark_text;
@@ -20,4 +18,5 @@ mod types;
 mod untold;
 mod walk;
 
-pub use diagnosis::{Diagnosis, Related, diagnose};
+pub use diagnosis::{Diagnosis, diagnose};
+pub use sc_explain_text::Related;

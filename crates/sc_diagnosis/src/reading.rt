@@ -1,19 +1,11 @@
 //! A text read again for what is said of it. What is wrong with it was told before; want of memory is told here.
 
 use sc_class::{ClassFault, Root, Tables, tables};
+use sc_explain_text::tokens_of;
 use sc_parse::{ParseFault, parse};
-use sc_text::{LexFault, Token, lex};
+use sc_text::Token;
 use sc_tree::System;
 use std::alloc::{AllocError, Global};
-
-/// The tokens of a text, if it has some.
-pub fn tokens_of(alloc: Global, text: &str) -> Result<Option<Vec<Token>>, AllocError> {
-    match lex(alloc, text) {
-        Ok(tokens) => Ok(Some(tokens)),
-        Err(LexFault::OutOfMemory) => Err(AllocError),
-        Err(_) => Ok(None),
-    }
-}
 
 /// The system of a text, if it spells one.
 pub fn system_of(alloc: Global, text: &str) -> Result<Option<System>, AllocError> {

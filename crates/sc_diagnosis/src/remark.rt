@@ -6,7 +6,7 @@ use crate::types::{Compared, Passed, type_found, type_of_actual};
 use crate::untold::Untold;
 use sc_class::ClassId;
 use sc_proctype::EntityType;
-use sc_rules::{Context, Position};
+use sc_rules::{Context, Position, Role};
 use sc_text::Span;
 use sc_tree::{BinaryOperator, Call, CreationCall, Expr, UnaryOperator, Variable};
 use sc_typing::{
@@ -29,6 +29,21 @@ pub enum Remark {
     Operands(BinaryOperator, EntityType, EntityType),
     /// A name doesn't fit.
     Name(Misfit),
+    /// The target of a call is of this type.
+    Target(EntityType),
+    /// No object of this class is made so.
+    Made(Making),
+    /// `old` stands in this part of a class's text.
+    Old(Context),
+}
+
+/// How an object is to be made.
+#[derive(Clone, Copy)]
+pub enum Making {
+    /// Of this class, without a procedure.
+    Plain(ClassId),
+    /// Of this class, by what is named.
+    By(ClassId),
 }
 
 /// What is wanted of a value, where a reference or another type is given.
@@ -57,6 +72,8 @@ pub enum Misfit {
     Creator,
     /// What is to be a value calls what gives none.
     Procedure,
+    /// A name is assigned that stands for this, or for a routine.
+    Fixed(Option<Role>),
 }
 
 /// What a name is looked up for: the class that it is looked for in, where it stands behind a target, and what it is called
@@ -83,7 +100,12 @@ impl<'s> Scope<'s> {
             Part::Assigned(variable, value) => self.of_assigned(variable, value),
             Part::Head(value) => self.of_head(value),
             Part::Condition(e) => of_untrue(self.type_of_condition(site.context, e)?),
+            Part::Operation(_) if self.code == "V19" => Ok(Remark::Old(site.context)),
             Part::Operation(e) => self.of_operation(site.context, e),
+            Part::Target(target) => {
+                let given = self.type_of(site.context, Position::Plain, target)?;
+                Ok(Remark::Target(given))
+            }
             part => self.of_part(site.context, part),
         }
     }
@@ -106,9 +128,39 @@ impl<'s> Scope<'s> {
                 self.of_creation_actual(created, call, number)
             }
             Part::CallName(call) => self.of_call(context, call),
+            Part::CreationName(created, _) if self.code == "V11" => {
+                let created = self.type_of_variable(created)?;
+                Ok(Remark::Made(Making::By(created.class)))
+            }
             Part::CreationName(created, call) => self.of_creation(created, call),
+            Part::Assignee(variable) => self.of_assignee(variable),
             _ => of_unknown(self.code, None),
         }
+    }
+
+    /// Of what is assigned or created, by the code of the fault.
+    fn of_assignee(&self, variable: &Variable) -> Result<Remark, Untold> {
+        match self.code {
+            "V10" => Ok(Remark::Name(Misfit::Fixed(self.role_of(variable)))),
+            "V11" => {
+                let created = self.type_of_variable(variable)?;
+                Ok(Remark::Made(Making::Plain(created.class)))
+            }
+            _ => of_unknown(self.code, None),
+        }
+    }
+
+    /// What the name of an entity stands for that is known here, if it is one's.
+    fn role_of(&self, variable: &Variable) -> Option<Role> {
+        let Variable::Named(name) = variable else {
+            return None;
+        };
+        for known in self.names.iter() {
+            if known.name == name.text.as_str() {
+                return Some(known.role);
+            }
+        }
+        None
     }
 
     fn of_actual(&self, context: Context, call: &Call, number: usize) -> Result<Remark, Untold> {

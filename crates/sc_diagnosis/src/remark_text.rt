@@ -1,8 +1,11 @@
 //! What is said of a fault, in words.
 
-use crate::remark::{Misfit, Remark, Wanted};
-use crate::scope::{Scope, TypeWords, part_of, push_all, push_quoted, push_type};
+use crate::remark::{Making, Misfit, Remark, Wanted};
+use crate::scope::{Scope, TypeWords, part_of, push_quoted, push_type};
 use crate::types::Compared;
+use sc_class::ClassId;
+use sc_explain_text::push_all;
+use sc_rules::{Context, Role};
 use sc_text::Span;
 use sc_tree::{BinaryOperator, UnaryOperator};
 use sc_whereabouts::binary_spelling;
@@ -35,6 +38,28 @@ impl<'s> Scope<'s> {
                 push_lacking(lines, self.class_name(class), part)
             }
             Remark::Name(misfit) => push_misfit(lines, part, misfit),
+            Remark::Target(given) => push_quoted(lines, "", part, said_of_target(given.attached)),
+            Remark::Made(making) => self.push_made(lines, part, making),
+            Remark::Old(context) => push_quoted(lines, "", part, said_of_old(context)),
+        }
+    }
+
+    /// Adds why no object is made so.
+    fn push_made(&self, lines: &mut String, part: &str, making: Making) -> Result<(), AllocError> {
+        match making {
+            Making::Plain(class) => {
+                push_all(lines, &["the class `", self.class_name(class), "`"])?;
+                lines.push_str(said_of_plain(class))
+            }
+            Making::By(class) => {
+                push_quoted(
+                    lines,
+                    "",
+                    part,
+                    " isn't in the `create` list of the class `",
+                )?;
+                push_all(lines, &[self.class_name(class), "`"])
+            }
         }
     }
 
@@ -116,7 +141,36 @@ fn said_of_use(misfit: Misfit) -> &'static str {
         Misfit::Query => " gives a value, and an instruction has none",
         Misfit::Creator => " gives a value, and a procedure creates",
         Misfit::Procedure => " is a procedure, and gives no value",
+        Misfit::Fixed(Some(Role::Formal)) => " is a formal, and nothing is assigned to one",
+        Misfit::Fixed(Some(_)) => " names an object here, and nothing is assigned to it",
+        Misfit::Fixed(None) => " is a routine, and nothing is assigned to one",
         _ => "",
+    }
+}
+
+/// What is said of a target, by whether it is attached.
+fn said_of_target(is_attached: bool) -> &'static str {
+    if is_attached {
+        " may lie on a handler that isn't reserved"
+    } else {
+        " may be Void"
+    }
+}
+
+/// What is said of a class of which no object is made without a procedure.
+fn said_of_plain(class: ClassId) -> &'static str {
+    match class {
+        ClassId::Declared(_) => " has a `create` list",
+        _ => " is no class of which objects are created",
+    }
+}
+
+/// What is said of an `old` that stands in this part of a class's text.
+fn said_of_old(context: Context) -> &'static str {
+    match context {
+        Context::Ensure => " asks an object of another handler, whose state of before isn't kept",
+        Context::Old => " stands in another `old`, and one is enough",
+        _ => " stands outside of a postcondition",
     }
 }
 

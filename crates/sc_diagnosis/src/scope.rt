@@ -1,8 +1,10 @@
 //! Types and names in words, as they are seen at a part of a routine.
 
+use crate::site::Place;
 use sc_class::ClassId;
+use sc_explain_text::push_all;
 use sc_proctype::{EntityType, Reserved, Tag};
-use sc_rules::Role;
+use sc_rules::{Context, Role};
 use sc_text::Span;
 use sc_tree::Declaration;
 use sc_typing::{Entity, RoutineContext};
@@ -17,6 +19,9 @@ pub struct Scope<'s> {
     pub span: Span,
     pub routine: &'s RoutineContext<'s, 's>,
     pub names: Vec<Entity<'s>>,
+    /// The part of the class's text in which it stands, and where in that.
+    pub context: Context,
+    pub place: Place,
 }
 
 impl<'s> Scope<'s> {
@@ -148,14 +153,6 @@ fn is_closed(part: &str) -> bool {
         }
     }
     depth == 0
-}
-
-/// Adds texts, one behind the other.
-pub fn push_all(lines: &mut String, parts: &[&str]) -> Result<(), AllocError> {
-    for part in parts {
-        lines.push_str(part)?;
-    }
-    Ok(())
 }
 
 /// Adds a part of the text in quotes, or `this` where there is none, between words.

@@ -100,7 +100,7 @@ const OF_CLASSES: &[Sentence] = &[
     Sentence {
         code: "C5",
         text: "# doesn't redefine what is inherited as it has to",
-        help: "a redefinition has the same formals, a result that conforms, and no contract of its own",
+        help: "",
     },
     Sentence {
         code: "C6",
@@ -114,7 +114,7 @@ const OF_CLASSES: &[Sentence] = &[
     },
     Sentence {
         code: "C8",
-        text: "# begins a part of Eiffel that is left out",
+        text: "at # stands a part of Eiffel that is left out",
         help: "",
     },
 ];
@@ -148,12 +148,12 @@ const OF_TYPES: &[Sentence] = &[
     Sentence {
         code: "V5",
         text: "# may be Void",
-        help: "ask first: `if attached # as x then .. end`",
+        help: "ask first: `if attached # as .. then .. end`",
     },
     Sentence {
         code: "V6",
         text: "# may lie on a handler that isn't reserved",
-        help: "reserve it: `separate # as x do .. end`",
+        help: "reserve it: `separate # as .. do .. end`",
     },
     Sentence {
         code: "V7",

@@ -26,6 +26,19 @@ pub enum Kind {
     Condition,
     /// An operator with its operands.
     Operation,
+    /// The target of a call.
+    Target,
+}
+
+/// Where in a body something stands.
+#[derive(Clone, Copy, PartialEq, Eq)]
+pub enum Place {
+    /// In an instruction, outside of the conditions of ifs and loops.
+    Instruction,
+    /// In the condition of an `if` or an `elseif`.
+    Condition,
+    /// In the condition that a loop ends by.
+    Until,
 }
 
 /// What stands at a part that was looked for.
@@ -36,7 +49,7 @@ pub enum Part<'s> {
     /// The name of the call that this entity is created by.
     CreationName(&'s Variable, &'s CreationCall),
     /// The entity that is assigned or created.
-    Assignee,
+    Assignee(&'s Variable),
     /// The actual of a call at this number.
     Actual(&'s Call, usize),
     /// The actual at this number of the call that this entity is created by.
@@ -47,12 +60,15 @@ pub enum Part<'s> {
     Assigned(&'s Variable, &'s Expr),
     Condition(&'s Expr),
     Operation(&'s Expr),
+    /// The target of a call.
+    Target(&'s Expr),
 }
 
 /// What stands at a part that was looked for, and in which part of a class's text.
 #[derive(Clone, Copy)]
 pub struct Site<'s> {
     pub context: Context,
+    pub place: Place,
     pub part: Part<'s>,
 }
 
@@ -74,6 +90,8 @@ pub enum Found<'s> {
 pub struct Search<'s> {
     pub aim: Aim,
     pub found: Found<'s>,
+    /// Where what is passed next stands.
+    pub place: Place,
 }
 
 impl<'s> Search<'s> {
@@ -88,7 +106,12 @@ impl<'s> Search<'s> {
     /// Passes a part: it is found where it is one of this kind and stands where this is aimed at.
     pub fn pass(&mut self, kind: Kind, span: Span, context: Context, part: Part<'s>) {
         if self.is_open() && self.aim.kind == kind && self.aim.span == span {
-            self.found = Found::At(Site { context, part });
+            let place = self.place;
+            self.found = Found::At(Site {
+                context,
+                place,
+                part,
+            });
         }
     }
 
@@ -132,6 +155,7 @@ pub fn pass_expression<'s>(search: &mut Search<'s>, context: Context, e: &'s Exp
 fn pass_call<'s>(search: &mut Search<'s>, context: Context, call: &'s Call) {
     search.pass(Kind::Name, call.name.span, context, Part::CallName(call));
     if let Some(target) = &call.target {
+        search.pass(Kind::Target, target.span(), context, Part::Target(target));
         pass_expression(search, context, target);
     }
     for (number, actual) in call.actuals.iter().enumerate() {
@@ -193,9 +217,9 @@ fn pass_assignment<'s>(search: &mut Search<'s>, variable: &'s Variable, value: &
 }
 
 /// Passes the entity that is assigned or created.
-fn pass_variable(search: &mut Search<'_>, variable: &Variable) {
+fn pass_variable<'s>(search: &mut Search<'s>, variable: &'s Variable) {
     let span = variable_span(variable);
-    search.pass(Kind::Name, span, Context::Body, Part::Assignee)
+    search.pass(Kind::Name, span, Context::Body, Part::Assignee(variable))
 }
 
 /// Passes the heads of a separate block, in each of which none of its names is known.

@@ -1,14 +1,13 @@
 //! A sentence on one fault, with the types and names that are found in the checked tables.
 
-use crate::declared::{class_around, feature_around};
-use crate::nearest::{nearest_entity, nearest_feature};
 use crate::reading::tables_of;
 use crate::remark::{Misfit, Remark};
 use crate::scope::{Scope, part_of};
-use crate::site::{Aim, Found, Kind, Search, Site, pass_clauses};
+use crate::site::{Aim, Found, Kind, Place, Search, Site, pass_clauses};
 use crate::untold::Untold;
 use crate::walk::Walk;
 use sc_class::{ClassId, Root, Tables};
+use sc_explain_classes::{class_around, feature_around};
 use sc_rules::Context;
 use sc_text::Span;
 use sc_tree::{Class, Feature, FeatureKind, Name, Routine, System};
@@ -25,14 +24,19 @@ pub struct Refused<'s> {
 }
 
 /// The codes of which more can be said, each with the kind of the parts that the rule fails at.
-const AIMS: [(&str, Kind); 7] = [
+const AIMS: [(&str, Kind); 12] = [
     ("V1", Kind::Name),
     ("V2", Kind::Name),
     ("V3", Kind::Actual),
     ("V4", Kind::Assigned),
+    ("V5", Kind::Target),
+    ("V6", Kind::Target),
     ("V7", Kind::Name),
     ("V8", Kind::Condition),
     ("V9", Kind::Operation),
+    ("V10", Kind::Name),
+    ("V11", Kind::Name),
+    ("V19", Kind::Operation),
 ];
 
 impl<'s> Refused<'s> {
@@ -151,6 +155,7 @@ impl<'s> Refused<'s> {
             search: Search {
                 aim,
                 found: Found::Nothing,
+                place: Place::Instruction,
             },
             scope: Scope {
                 text: self.text,
@@ -158,6 +163,8 @@ impl<'s> Refused<'s> {
                 span: self.span,
                 routine,
                 names: Vec::new(routine.alloc),
+                context: Context::Body,
+                place: Place::Instruction,
             },
         }
     }
@@ -181,6 +188,8 @@ impl<'s> Walk<'s> {
 impl<'s> Scope<'s> {
     /// Adds what is told of what stands there, and whether there is something.
     fn push_at(&mut self, lines: &mut String, site: Site<'s>) -> Result<bool, AllocError> {
+        self.context = site.context;
+        self.place = site.place;
         match self.remark(site) {
             Ok(remark) => self.push_lines(lines, remark),
             Err(Untold::Nothing) => Ok(false),
@@ -204,38 +213,8 @@ impl<'s> Scope<'s> {
     fn push_lines(&self, lines: &mut String, remark: Remark) -> Result<bool, AllocError> {
         self.push_remark(lines, remark)?;
         lines.push_str("\n")?;
-        self.push_nearest(lines, remark)?;
+        self.push_helps(lines, remark)?;
         Ok(true)
-    }
-
-    /// Adds a name that is near to one that isn't known.
-    fn push_nearest(&self, lines: &mut String, remark: Remark) -> Result<(), AllocError> {
-        let name = self.text.get(self.span.start..self.span.end).unwrap_or("");
-        match remark {
-            Remark::Name(Misfit::Unknown) => self.push_nearest_known(lines, name),
-            Remark::Name(Misfit::Lacking(class)) => self.push_nearest_feature(lines, class, name),
-            _ => Ok(()),
-        }
-    }
-
-    /// Adds a name that is known there and near to this one.
-    fn push_nearest_known(&self, lines: &mut String, name: &str) -> Result<(), AllocError> {
-        if nearest_entity(lines, &self.names, name)? {
-            return Ok(());
-        }
-        self.push_nearest_feature(lines, ClassId::Declared(self.routine.class), name)
-    }
-
-    /// Adds a feature of the class whose name is near to one that isn't known.
-    fn push_nearest_feature(
-        &self,
-        lines: &mut String,
-        class: ClassId,
-        name: &str,
-    ) -> Result<(), AllocError> {
-        let routine = self.routine;
-        let features = routine.tables.features(routine.alloc, class)?;
-        nearest_feature(lines, &features, name)
     }
 }
 

@@ -2,7 +2,8 @@
 
 use crate::scope::Scope;
 use crate::site::{
-    Kind, Part, Search, pass_clauses, pass_condition, pass_expression, pass_heads, pass_simple,
+    Kind, Part, Place, Search, pass_clauses, pass_condition, pass_expression, pass_heads,
+    pass_simple,
 };
 use sc_proctype::EntityType;
 use sc_rules::{Context, Position, Role};
@@ -69,12 +70,19 @@ impl<'s> Walk<'s> {
             }
             Instr::Loop(_, initial, until, body) => {
                 self.pass_instructions(initial);
-                pass_condition(&mut self.search, Context::Body, until);
+                self.pass_until(until);
                 self.pass_instructions(body)
             }
             Instr::Block(_, heads, body) => self.pass_block(heads, body),
             _ => pass_simple(&mut self.search, instruction),
         }
+    }
+
+    /// Passes the condition that a loop ends by.
+    fn pass_until(&mut self, until: &'s Expr) {
+        self.search.place = Place::Until;
+        pass_condition(&mut self.search, Context::Body, until);
+        self.search.place = Place::Instruction
     }
 
     /// Passes a separate block. Behind it its names are unknown.
@@ -140,7 +148,9 @@ impl<'s> Walk<'s> {
         let part = Part::Condition(condition);
         self.search
             .pass(Kind::Condition, condition.span(), Context::Body, part);
-        self.pass_condition(condition)
+        self.search.place = Place::Condition;
+        self.pass_condition(condition);
+        self.search.place = Place::Instruction
     }
 
     /// Passes the condition of an `if`, or an operand of the `and then`s at its top. Behind it the names that it gives

@@ -1,6 +1,6 @@
 //! The names that a system declares.
 
-use crate::diagnosis::Related;
+use sc_explain_text::Related;
 use sc_text::Span;
 use sc_tree::{Class, Declaration, Feature, FeatureKind, Name, System};
 
@@ -90,7 +90,7 @@ fn other_inherited(system: &System, class: &Class, name: &str, span: Span) -> Op
 }
 
 /// Whether one class is the other, or its first parent inherits from it so.
-fn inherits(system: &System, heir: &Class, ancestor: &Class) -> bool {
+pub fn inherits(system: &System, heir: &Class, ancestor: &Class) -> bool {
     let mut class = heir;
     for _ in system.classes.iter() {
         if class.name.text == ancestor.name.text {
@@ -164,7 +164,8 @@ pub fn class_around(classes: &[Class], span: Span) -> Option<(usize, &Class)> {
     None
 }
 
-fn parent_of<'s>(system: &'s System, class: &Class) -> Option<&'s Class> {
+/// The class that a class names as its first parent, if the system has it.
+pub fn parent_of<'s>(system: &'s System, class: &Class) -> Option<&'s Class> {
     let parent = class.parents.first()?;
     for other in system.classes.iter() {
         if other.name.text == parent.name.text {

@@ -1,9 +1,7 @@
 //! What could stand at a place at which no system goes on.
 
-use crate::reading::tokens_of;
-use crate::scope::push_all;
-use sc_parse::{ParseFault, parse};
-use sc_text::Token;
+use crate::beginning::Beginning;
+use crate::words::push_all;
 use std::alloc::{AllocError, Global};
 
 /// What is tried: how it is called, and a token of it.
@@ -75,28 +73,28 @@ const TOKENS: &[(&str, &str)] = &[
     ("`}`", "}"),
 ];
 
-/// Adds a line that says which tokens may stand behind the first `length` bytes of a text: those with which a system may
-/// still begin so.
-pub fn expected(
+/// Adds a line that says which tokens may stand behind a beginning, where it is short enough to try them all.
+pub fn push_expected(
     alloc: Global,
     lines: &mut String,
-    text: &str,
-    length: usize,
+    beginning: &Beginning,
 ) -> Result<(), AllocError> {
-    let before = text.get(..length).unwrap_or(text);
-    push_expected(alloc, lines, before, TOKENS)
+    if beginning.is_short() {
+        push_all_expected(alloc, lines, beginning, TOKENS)?;
+    }
+    Ok(())
 }
 
-/// Adds the same of these tokens, behind this text.
-fn push_expected(
+/// Adds the same of these tokens.
+fn push_all_expected(
     alloc: Global,
     lines: &mut String,
-    before: &str,
+    beginning: &Beginning,
     tokens: &[(&str, &str)],
 ) -> Result<(), AllocError> {
     let mut separator = "help: here may stand ";
     for (name, token) in tokens {
-        if may_follow(alloc, before, token)? {
+        if beginning.goes_on(alloc, token)? {
             push_all(lines, &[separator, name])?;
             separator = ", ";
         }
@@ -105,36 +103,4 @@ fn push_expected(
         lines.push_str("\n")?;
     }
     Ok(())
-}
-
-/// Whether a system begins with the text and the token.
-fn may_follow(alloc: Global, before: &str, token: &str) -> Result<bool, AllocError> {
-    match joined(alloc, before, token) {
-        Ok(text) => is_begun(alloc, &text),
-        Err(error) => Err(error),
-    }
-}
-
-/// Whether a system begins with the text.
-fn is_begun(alloc: Global, text: &str) -> Result<bool, AllocError> {
-    match tokens_of(alloc, text) {
-        Ok(None) => Ok(false),
-        Ok(Some(tokens)) => may_begin(alloc, &tokens, text.len()),
-        Err(error) => Err(error),
-    }
-}
-
-/// The text with the token behind it.
-fn joined(alloc: Global, before: &str, token: &str) -> Result<String, AllocError> {
-    format!(in alloc; "{before} {token}")
-}
-
-/// Whether a system begins with the tokens of a text of this length.
-fn may_begin(alloc: Global, tokens: &[Token], length: usize) -> Result<bool, AllocError> {
-    match parse(alloc, tokens) {
-        Ok(_) => Ok(true),
-        Err(ParseFault::NotInGrammar { span }) => Ok(span.start >= length),
-        Err(ParseFault::OutOfMemory) => Err(AllocError),
-        Err(_) => Ok(false),
-    }
 }

@@ -1,0 +1,166 @@
+//! What a redefinition lacks.
+
+use crate::declared::{class_around, feature_around, inherits, parent_of};
+use sc_explain_text::{push_all, word_at};
+use sc_text::Span;
+use sc_tree::{Class, Feature, FeatureKind, Name, System};
+use std::alloc::AllocError;
+
+/// Adds how a feature that has the name of an inherited one is declared, where the one at fault has or is inherited, and
+/// whether it is that.
+pub fn push_redefine(
+    lines: &mut String,
+    text: &str,
+    system: &System,
+    span: Span,
+) -> Result<bool, AllocError> {
+    let Some((_, class)) = class_around(&system.classes, span) else {
+        return Ok(false);
+    };
+    let Some(feature) = feature_around(class, span) else {
+        return Ok(false);
+    };
+    if feature.name.span != span {
+        return Ok(false);
+    }
+    for other in system.classes.iter() {
+        if let Some(known) = declared_in(other, &feature.name) {
+            if inherits(system, class, other) && other.span != class.span {
+                return push_for_heir(lines, text, class, known, feature);
+            }
+            if inherits(system, other, class) && other.span != class.span {
+                return push_for_heir(lines, text, other, feature, known);
+            }
+        }
+    }
+    Ok(false)
+}
+
+/// Adds how a class declares a feature again that it inherits.
+fn push_for_heir(
+    lines: &mut String,
+    text: &str,
+    heir: &Class,
+    inherited: &Feature,
+    own: &Feature,
+) -> Result<bool, AllocError> {
+    if !is_routine(inherited) || !is_routine(own) {
+        lines.push_str(
+            "help: give it another name: an attribute isn't redefined, and redefines nothing\n",
+        )?;
+        return Ok(true);
+    }
+    let Some(parent) = heir.parents.first() else {
+        return Ok(false);
+    };
+    let class = word_at(text, heir.name.span);
+    let parent = word_at(text, parent.name.span);
+    let name = word_at(text, own.name.span);
+    push_all(
+        lines,
+        &[
+            "help: to redefine it, ",
+            class,
+            " says so: `inherit ",
+            parent,
+            " redefine ",
+            name,
+            " end`\n",
+        ],
+    )?;
+    Ok(true)
+}
+
+/// Adds what a redefinition at fault lacks.
+pub fn push_unfit(lines: &mut String, system: &System, span: Span) -> Result<bool, AllocError> {
+    let said = match class_around(&system.classes, span) {
+        None => return Ok(false),
+        Some((_, class)) => lacking(system, class, span),
+    };
+    push_all(lines, &["help: ", said, "\n"])?;
+    Ok(true)
+}
+
+/// What a redefinition at fault in this class lacks.
+fn lacking(system: &System, class: &Class, span: Span) -> &'static str {
+    match feature_around(class, span) {
+        Some(feature) if feature.name.span == span => lacking_in_feature(system, class, feature),
+        _ => lacking_in_list(system, class, span),
+    }
+}
+
+/// What is wrong with a name under `redefine`.
+fn lacking_in_list(system: &System, class: &Class, span: Span) -> &'static str {
+    match listed_at(class, span) {
+        None => "a name under `redefine` is one of the parent's routines",
+        Some(name) => {
+            if inherited(system, class, name).is_none() {
+                "the parent has no such feature: leave it out under `redefine`"
+            } else if declared_in(class, name).is_none() {
+                "the class declares no feature of this name: declare one, or leave it out under `redefine`"
+            } else {
+                "a name stands once under `redefine`"
+            }
+        }
+    }
+}
+
+/// What is wrong with a feature that redefines another.
+fn lacking_in_feature(system: &System, class: &Class, feature: &Feature) -> &'static str {
+    match (&feature.kind, inherited(system, class, &feature.name)) {
+        (FeatureKind::Attribute(_), _) => "an attribute redefines nothing: give it another name",
+        (_, Some(known)) if !is_routine(known) => {
+            "an attribute isn't redefined: give the routine another name"
+        }
+        (FeatureKind::Routine(routine), _) => {
+            if routine.precondition.is_empty() && routine.postcondition.is_empty() {
+                "a redefinition has formals of the same names and types, and a result that conforms, or none as well"
+            } else {
+                "a redefinition keeps the contract that it inherits: leave `require` and `ensure` out"
+            }
+        }
+    }
+}
+
+/// The name that stands there under `redefine`.
+fn listed_at(class: &Class, span: Span) -> Option<&Name> {
+    for parent in class.parents.iter() {
+        for name in parent.redefined.iter() {
+            if name.span == span {
+                return Some(name);
+            }
+        }
+    }
+    None
+}
+
+/// The feature of this name that a class inherits.
+fn inherited<'s>(system: &'s System, class: &Class, name: &Name) -> Option<&'s Feature> {
+    let mut parent = parent_of(system, class);
+    for _ in system.classes.iter() {
+        let ancestor = parent?;
+        let found = declared_in(ancestor, name);
+        if found.is_some() {
+            return found;
+        }
+        parent = parent_of(system, ancestor);
+    }
+    None
+}
+
+/// The feature of this name that a class declares.
+pub fn declared_in<'s>(class: &'s Class, name: &Name) -> Option<&'s Feature> {
+    for feature in class.features.iter() {
+        if feature.name.text == name.text {
+            return Some(feature);
+        }
+    }
+    None
+}
+
+fn is_routine(feature: &Feature) -> bool {
+    match &feature.kind {
+        FeatureKind::Attribute(_) => false,
+        FeatureKind::Routine(_) => true,
+    }
+}

@@ -1,0 +1,286 @@
+//! What is said of a text that is no system.
+
+use crate::beginning::Beginning;
+use crate::expected::push_expected;
+use crate::foreign::{push_instead_at, push_instead_of, push_instead_of_word};
+use crate::layout::open_construct;
+use crate::nearest::{near_word, push_meant};
+use crate::reading::{tokens_of, word_at};
+use crate::related::Related;
+use crate::words::push_all;
+use sc_text::{Span, Terminal, Token, TokenKind};
+use std::alloc::{AllocError, Global};
+
+/// A text, its tokens, and the number of the first that no system has there.
+#[derive(Clone, Copy)]
+struct Stop<'t> {
+    text: &'t str,
+    tokens: &'t [Token],
+    number: usize,
+    span: Span,
+}
+
+/// Adds what is said of a text of which no system begins with the text up to the end of this part: what is written in
+/// place of a construct that isn't here, a word that was meant, or else what may stand there. Then the construct that
+/// hasn't ended, where it goes with the fault.
+///
+/// # Errors
+///
+/// That memory ran out.
+pub fn explain_grammar(
+    alloc: Global,
+    lines: &mut String,
+    text: &str,
+    span: Span,
+) -> Result<Option<Related>, AllocError> {
+    match tokens_of(alloc, text) {
+        Ok(None) => Ok(None),
+        Ok(Some(tokens)) => {
+            let stop = Stop {
+                text,
+                tokens: tokens.as_slice(),
+                number: number_of(tokens.as_slice(), span),
+                span,
+            };
+            stop.explain(alloc, lines)
+        }
+        Err(error) => Err(error),
+    }
+}
+
+/// The number of the first token that begins at this part or behind it.
+fn number_of(tokens: &[Token], span: Span) -> usize {
+    for (number, token) in tokens.iter().enumerate() {
+        if token.span.start >= span.start {
+            return number;
+        }
+    }
+    tokens.len()
+}
+
+impl<'t> Stop<'t> {
+    fn explain(self, alloc: Global, lines: &mut String) -> Result<Option<Related>, AllocError> {
+        self.push_place(lines)?;
+        let is_told = self.push_foreign_word(lines)?
+            || self.push_meant(alloc, lines)?
+            || self.push_foreign_sign(lines)?;
+        if is_told {
+            return Ok(None);
+        }
+        let before = self.before(0);
+        let beginning = Beginning::of(alloc, self.text, before)?;
+        push_expected(alloc, lines, &beginning)?;
+        open_construct(alloc, self.text, before)
+    }
+
+    /// The tokens before that which stands so many before that at fault.
+    fn before(self, back: usize) -> &'t [Token] {
+        let number = self.number.saturating_sub(back);
+        self.tokens.get(..number).unwrap_or(self.tokens)
+    }
+
+    /// Adds which token is at fault.
+    fn push_place(self, lines: &mut String) -> Result<(), AllocError> {
+        match self.tokens.get(self.number) {
+            None => lines.push_str("the text ends before its last class does\n"),
+            Some(token) => {
+                let word = word_at(self.text, token.span);
+                push_all(
+                    lines,
+                    &["no system begins with the text up to `", word, "`\n"],
+                )
+            }
+        }
+    }
+
+    /// Adds what is written in place of a construct that a word shows, and whether there is something.
+    fn push_foreign_word(self, lines: &mut String) -> Result<bool, AllocError> {
+        Ok(self.push_word(lines)? || self.push_word_in_line(lines)?)
+    }
+
+    /// Adds what is written in place of a construct that signs show, and whether there is something.
+    fn push_foreign_sign(self, lines: &mut String) -> Result<bool, AllocError> {
+        Ok(self.push_real(lines)? || self.push_sign(lines)?)
+    }
+
+    /// Adds what is written in place of a construct that the token at fault shows.
+    fn push_word(self, lines: &mut String) -> Result<bool, AllocError> {
+        match self.tokens.get(self.number) {
+            None => Ok(false),
+            Some(token) => push_instead_of_word(lines, word_at(self.text, token.span)),
+        }
+    }
+
+    /// Adds what is written in place of a number with a point.
+    fn push_real(self, lines: &mut String) -> Result<bool, AllocError> {
+        match (self.kind(1), self.kind(0)) {
+            (Some(TokenKind::Integer(_)), Some(TokenKind::Terminal(Terminal::Dot))) => {
+                push_instead_of(lines, "real")
+            }
+            _ => Ok(false),
+        }
+    }
+
+    /// Adds what is written in place of signs: of several that begin at the token at fault, of those that begin at the
+    /// token before it and reach over that, or of the one at fault.
+    fn push_sign(self, lines: &mut String) -> Result<bool, AllocError> {
+        let over = self.length(1).saturating_add(1);
+        for (back, least) in [(0_usize, 2_usize), (1, over), (0, 1)] {
+            if self.is_sign(back) && push_instead_at(lines, self.text_from(back), least)? {
+                return Ok(true);
+            }
+        }
+        Ok(false)
+    }
+
+    /// Whether so many tokens before that at fault stands no name and no number.
+    fn is_sign(self, back: usize) -> bool {
+        match self.kind(back) {
+            Some(TokenKind::Terminal(_)) => true,
+            Some(TokenKind::ManifestString(_)) => back == 0,
+            _ => false,
+        }
+    }
+
+    /// What the token is that stands so many before that at fault.
+    fn kind(self, back: usize) -> Option<&'t TokenKind> {
+        let token = self.tokens.get(self.number.checked_sub(back)?)?;
+        Some(&token.kind)
+    }
+
+    /// The text from the token that stands so many before that at fault.
+    fn text_from(self, back: usize) -> &'t str {
+        let number = self.number.saturating_sub(back);
+        match self.tokens.get(number) {
+            None => "",
+            Some(token) => self.text.get(token.span.start..).unwrap_or(""),
+        }
+    }
+
+    /// Adds what is written in place of a construct that a word shows which stands in the line before the fault and is
+    /// declared nowhere.
+    fn push_word_in_line(self, lines: &mut String) -> Result<bool, AllocError> {
+        for token in self.tokens_in_line() {
+            if let TokenKind::Name(name) = &token.kind {
+                if !self.is_declared(name) && push_instead_of_word(lines, name)? {
+                    return Ok(true);
+                }
+            }
+        }
+        Ok(false)
+    }
+
+    /// Whether the name stands somewhere as one that is declared or assigned.
+    fn is_declared(self, name: &str) -> bool {
+        let mut is_name = false;
+        for token in self.tokens {
+            if is_name && is_behind_declared(&token.kind) {
+                return true;
+            }
+            is_name = is_named(&token.kind, name);
+        }
+        false
+    }
+
+    /// The tokens that stand in the line of the fault before it, eight at the most.
+    fn tokens_in_line(self) -> &'t [Token] {
+        let mut first = self.number;
+        for number in (self.number.saturating_sub(8)..self.number).rev() {
+            if !self.is_in_line(number) {
+                break;
+            }
+            first = number;
+        }
+        self.tokens.get(first..self.number).unwrap_or(&[])
+    }
+
+    /// Whether the token of this number stands in the line of the fault.
+    fn is_in_line(self, number: usize) -> bool {
+        match self.tokens.get(number) {
+            None => false,
+            Some(token) => match self.text.get(token.span.start..self.span.start) {
+                None => false,
+                Some(between) => !has_line_feed(between),
+            },
+        }
+    }
+
+    /// Adds which word was meant, where a system goes on further with one that is near to one written here, and whether
+    /// there is one.
+    fn push_meant(self, alloc: Global, lines: &mut String) -> Result<bool, AllocError> {
+        for back in 0..4_usize {
+            if let Some(word) = self.near(back) {
+                if self.is_better(alloc, back, word)? {
+                    push_meant(lines, word)?;
+                    return Ok(true);
+                }
+            }
+        }
+        Ok(false)
+    }
+
+    /// The word that is near to the name so many tokens before that at fault, if that is a token.
+    fn near(self, back: usize) -> Option<&'static str> {
+        self.kind(0)?;
+        match self.kind(back) {
+            Some(TokenKind::Name(name)) => near_word(name),
+            _ => None,
+        }
+    }
+
+    /// Whether a system goes on further with this word in place of what stands so many tokens before that at fault.
+    fn is_better(self, alloc: Global, back: usize, word: &str) -> Result<bool, AllocError> {
+        let beginning = Beginning::of(alloc, self.text, self.before(back))?;
+        let behind = if back == 0 {
+            ""
+        } else {
+            self.text_up_to(back - 1)
+        };
+        match format!(in alloc; "{word} {behind}") {
+            Ok(behind) => beginning.goes_on(alloc, &behind),
+            Err(error) => Err(error),
+        }
+    }
+
+    /// The text from the token that stands so many before that at fault to the end of that.
+    fn text_up_to(self, back: usize) -> &'t str {
+        let from = self.text_from(back);
+        let fault = self.text_from(0);
+        let between = from.len().saturating_sub(fault.len());
+        let length = between.saturating_add(self.length(0));
+        from.get(..length).unwrap_or(from)
+    }
+
+    /// How many bytes the token has that stands so many before that at fault.
+    fn length(self, back: usize) -> usize {
+        let number = self.number.saturating_sub(back);
+        match self.tokens.get(number) {
+            None => 0,
+            Some(token) => token.span.end.saturating_sub(token.span.start),
+        }
+    }
+}
+
+fn has_line_feed(text: &str) -> bool {
+    for byte in text.as_bytes() {
+        if *byte == b'\n' {
+            return true;
+        }
+    }
+    false
+}
+
+fn is_named(kind: &TokenKind, name: &str) -> bool {
+    match kind {
+        TokenKind::Name(known) => known.as_str() == name,
+        _ => false,
+    }
+}
+
+/// Whether this stands behind a name that is declared or assigned.
+fn is_behind_declared(kind: &TokenKind) -> bool {
+    match kind {
+        TokenKind::Terminal(Terminal::Colon | Terminal::Comma | Terminal::Becomes) => true,
+        _ => false,
+    }
+}

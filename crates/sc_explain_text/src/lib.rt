@@ -1,0 +1,26 @@
+//! What helps with a text that is no system, or with a name that isn't known: what is written in place of a construct of
+//! Eiffel or of another language that isn't here, a word that is near, what may stand at a place, and the construct that
+//! was meant to end. See [`explain_grammar`].
+//!
+//! What is said is for people: nothing else depends on it.
+#![tactic(auto)]
+
+mod beginning;
+mod characters;
+mod expected;
+mod foreign;
+mod grammar;
+mod instead;
+mod layout;
+mod nearest;
+mod reading;
+mod related;
+mod words;
+
+pub use characters::explain_character;
+pub use foreign::{push_instead_at, push_instead_of};
+pub use grammar::explain_grammar;
+pub use nearest::{is_slip, push_meant, push_near_built_in, push_near_word};
+pub use reading::{tokens_of, word_at};
+pub use related::Related;
+pub use words::push_all;
