@@ -230,7 +230,7 @@ const PRINT_ABOUT: &str = "Writes the text of a system in its one canonical layo
 const PRINT_LONG_ABOUT: &str = "\
 Writes the text of a system in its one canonical layout.
 
-The text is read, but not checked. Comments and notes are left out, how many is
+The text is read, but not checked. Comments and notes are left out, which is
 said on standard error, and there are no more parentheses than the grammar
 needs. Printed again, the text stays as it is. No file is written.";
 

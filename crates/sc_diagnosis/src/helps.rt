@@ -8,7 +8,7 @@ use crate::types::Compared;
 use sc_class::ClassId;
 use sc_explain_text::{is_slip, push_all, push_instead_of, push_meant, push_near_word, word_at};
 use sc_proctype::{EntityType, Tag, conforms};
-use sc_rules::{Context, Role};
+use sc_rules::Context;
 use sc_text::Span;
 use std::alloc::AllocError;
 

@@ -3,7 +3,7 @@
 use sc_text::{LexFault, Terminal, Token, TokenKind, lex};
 use std::alloc::{AllocError, Global};
 
-/// How many comments and notes stand in a text, a line for each kind. Its canonical text has none of them.
+/// How many comments stand in a text, and whether there are notes, a line for each. Its canonical text has none of them.
 pub fn left_out(alloc: Global, text: &str) -> Result<Vec<u8>, AllocError> {
     let tokens = match lex(alloc, text) {
         Ok(tokens) => tokens,
@@ -12,28 +12,21 @@ pub fn left_out(alloc: Global, text: &str) -> Result<Vec<u8>, AllocError> {
     };
     let mut lines = Vec::new(alloc);
     let comments = comment_count(text.as_bytes(), tokens.as_slice());
-    push_count(alloc, &mut lines, "comments", comments)?;
-    let notes = tokens.iter().filter(|token| is_note(token)).count();
-    push_count(alloc, &mut lines, "notes", notes)?;
+    if comments > 0 {
+        let line = format!(in alloc; "comments left out: {comments}\n")?;
+        lines.extend_from_slice(line.as_bytes())?;
+    }
+    if tokens.iter().any(|token| begins_note(token)) {
+        lines.extend_from_slice(b"notes left out\n")?;
+    }
     Ok(lines)
 }
 
-/// Adds how many of a kind are left out, where there are any.
-fn push_count(
-    alloc: Global,
-    lines: &mut Vec<u8>,
-    kind: &str,
-    count: usize,
-) -> Result<(), AllocError> {
-    if count == 0 {
-        return Ok(());
-    }
-    let line = format!(in alloc; "{kind} left out: {count}\n")?;
-    lines.extend_from_slice(line.as_bytes())
-}
-
-fn is_note(token: &Token) -> bool {
-    matches!(token.kind, TokenKind::Terminal(Terminal::Note))
+fn begins_note(token: &Token) -> bool {
+    matches!(
+        token.kind,
+        TokenKind::Terminal(Terminal::Note | Terminal::Indexing)
+    )
 }
 
 /// How many comments stand between the tokens of a text.
