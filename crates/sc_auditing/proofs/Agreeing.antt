@@ -17,8 +17,8 @@ use Rattle.sc_request.specs.Logs.{Center}
 use Rattle.sc_request.specs.Picking.{job_of, status_with}
 use Rattle.sc_request.specs.Same.{AreSameAt}
 use Rattle.sc_play.specs.Regions.{PlainRegion}
-use Rattle.sc_runtime.specs.Turning.{Runs}
-use Rattle.sc_runtime.specs.Worlds.{PlainWorld, opened}
+use Rattle.sc_world.specs.Turning.{Runs}
+use Rattle.sc_world.specs.Worlds.{PlainWorld, opened}
 use Rattle.sc_plant.specs.declared.left.Left.{Left}
 use Rattle.sc_plant.specs.Left.{IsRun, LinesAreARecord, RunsAreOneThreads, world_of}
 use Rattle.sc_plant.specs.OneThread.{EndsIn}

@@ -6,8 +6,8 @@ use Rattle.sc_model.specs.Reports.{end_text, line_feed}
 use Rattle.sc_model.specs.declared.status.Status.{Status}
 use Rattle.sc_request.specs.Logs.{Center, status_for, status_in}
 use Rattle.sc_play.specs.Regions.{PlainRegion}
-use Rattle.sc_runtime.specs.Reports.{handler_report, handlers_report, is_busy, output_in, report, report_of, some_is_busy}
-use Rattle.sc_runtime.specs.Worlds.{PlainWorld, max_handlers}
+use Rattle.sc_world.specs.Reports.{handler_report, handlers_report, is_busy, output_in, report, report_of, some_is_busy}
+use Rattle.sc_world.specs.Worlds.{PlainWorld, max_handlers}
 use Rattle.sc_auditing.specs.Laws.{SameWorldsHaveSameReports}
 use Rattle.sc_auditing.specs.Same.{AreSameRegions, IsSame}
 

@@ -2,8 +2,8 @@
 use Rattle.std.proofs.Common.{◌≡◌, ◌<◌, ◌+◌, ℕ, List, [], ◌∷◌, ◌++◌, length, replicate, take, get_or, ap, sym, ◌∙◌, subst}
 use Rattle.std.proofs.lemmas.List.{flat_map_more, take_more}
 use Rattle.sc_audit.specs.declared.line.RecordLine.{RecordLine}
-use Rattle.sc_runtime.specs.Turning.{Runs}
-use Rattle.sc_runtime.specs.Worlds.{PlainWorld}
+use Rattle.sc_world.specs.Turning.{Runs}
+use Rattle.sc_world.specs.Worlds.{PlainWorld}
 use Rattle.sc_auditing.specs.Audits.{turns_of}
 
 -- turns, and others behind them

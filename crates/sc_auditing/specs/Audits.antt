@@ -4,8 +4,8 @@ use Rattle.std.specs.List.{flat_map}
 use Rattle.sc_audit.specs.declared.line.RecordLine.{RecordLine}
 use Rattle.sc_audit.specs.Records.{IsRecord}
 use Rattle.sc_code.specs.declared.program.Image.{Image}
-use Rattle.sc_runtime.specs.Turning.{Runs}
-use Rattle.sc_runtime.specs.Worlds.{PlainWorld, opened}
+use Rattle.sc_world.specs.Turning.{Runs}
+use Rattle.sc_world.specs.Worlds.{PlainWorld, opened}
 use Rattle.sc_plant.specs.declared.left.Left.{Left}
 use Rattle.sc_plant.specs.Left.{world_of}
 use Rattle.sc_auditing.specs.declared.auditing.AuditFault.{AuditFault}

@@ -4,8 +4,8 @@ use Rattle.sc_lockpass.specs.declared.version.Version.{Version}
 use Rattle.sc_audit.specs.declared.line.RecordLine.{RecordLine}
 use Rattle.sc_audit.specs.Records.{IsRecord, most_turns}
 use Rattle.sc_code.specs.declared.program.Image.{Image}
-use Rattle.sc_runtime.specs.Reports.{report}
-use Rattle.sc_runtime.specs.Worlds.{PlainWorld, max_handlers}
+use Rattle.sc_world.specs.Reports.{report}
+use Rattle.sc_world.specs.Worlds.{PlainWorld, max_handlers}
 use Rattle.sc_plant.specs.declared.left.Left.{Left}
 use Rattle.sc_plant.specs.Left.{IsRun}
 use Rattle.sc_auditing.specs.Audits.{IsAudited}

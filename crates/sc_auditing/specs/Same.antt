@@ -3,7 +3,7 @@ use Rattle.std.specs.Prelude.{◌<◌, ℕ, Option, Some, None, slice_get}
 use Rattle.sc_region.specs.Stores.{AreSame}
 use Rattle.sc_request.specs.Same.{AreSameAt}
 use Rattle.sc_play.specs.Regions.{PlainRegion}
-use Rattle.sc_runtime.specs.Worlds.{PlainWorld, max_handlers}
+use Rattle.sc_world.specs.Worlds.{PlainWorld, max_handlers}
 
 -- The regions hold the same objects, frames, output and failure; or there is neither.
 abbrev pub AreSameRegions : Option PlainRegion → Option PlainRegion → Type 0

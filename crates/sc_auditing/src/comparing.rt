@@ -1,11 +1,11 @@
 //! What one thread made of a record, beside what a run left.
 ghost use Rattle.std.specs.Prelude.{◌↔◌, IfNone, IfSome, IsTrue, slice_get};
 ghost use Rattle.sc_plant.specs.Left.{world_of};
-ghost use Rattle.sc_runtime.specs.Views as one;
+ghost use Rattle.sc_world.specs.Views as one;
 ghost use Rattle.sc_auditing.specs.Same.{AreSameRegions, FirstDiffers, IsSame, IsSameAt};
 
 use sc_plant::Left;
-use sc_runtime::World;
+use sc_world::World;
 
 /// How many handlers there may be in any version.
 const MAX_HANDLERS: u16 = 512;

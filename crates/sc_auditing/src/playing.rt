@@ -1,14 +1,14 @@
 //! A record that one thread plays.
 ghost use Rattle.std.specs.Prelude.{IfOk};
-ghost use Rattle.sc_runtime.specs.Turning.{Runs};
-ghost use Rattle.sc_runtime.specs.Views.{world_of};
-ghost use Rattle.sc_runtime.specs.Worlds.{opened};
+ghost use Rattle.sc_world.specs.Turning.{Runs};
+ghost use Rattle.sc_world.specs.Views.{world_of};
+ghost use Rattle.sc_world.specs.Worlds.{opened};
 ghost use Rattle.sc_auditing.specs.Audits.{turns_of};
 
 use sc_audit::RecordLine;
 use sc_code::Program;
 use sc_lockpass::Version;
-use sc_runtime::World;
+use sc_world::World;
 use std::alloc::{AllocError, Global};
 
 /// The world of a program after the turns of these lines.

@@ -6,9 +6,9 @@ use crate::waits::standing_of;
 use crate::words::{push, push_flat};
 use sc_code::Version;
 use sc_region::{Reference, Value};
-use sc_runtime::World;
 use sc_text::Span;
 use sc_whereabouts::{Kind, locate};
+use sc_world::World;
 use std::alloc::AllocError;
 
 /// How many values are told at most.

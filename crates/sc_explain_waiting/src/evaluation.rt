@@ -3,7 +3,7 @@
 use crate::frame::{Frame, Step, reads};
 use sc_code::{CallSite, Operation, Program, RoutineCode, Version};
 use sc_region::{Reference, Value};
-use sc_runtime::World;
+use sc_world::World;
 use std::alloc::{AllocError, Global};
 
 /// How many operations are gone through at most.

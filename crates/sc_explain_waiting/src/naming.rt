@@ -5,9 +5,9 @@ use crate::waits::{Standing, standing_of};
 use crate::words::{push, push_number};
 use sc_class::ClassId;
 use sc_region::{Errand, Request};
-use sc_runtime::World;
 use sc_text::Span;
 use sc_whereabouts::locate;
+use sc_world::World;
 use std::alloc::AllocError;
 
 /// Where a handler stands: the part of the text, and the name of the routine.

@@ -7,7 +7,7 @@ use crate::origin::Origin;
 use crate::waits::{Wait, Wanted};
 use crate::words::{push, push_number};
 use sc_model::Status;
-use sc_runtime::World;
+use sc_world::World;
 use std::alloc::AllocError;
 
 /// How many handlers a list names at most.

@@ -4,7 +4,7 @@ use crate::chains::Chains;
 use crate::origin::Origin;
 use crate::scene::Scene;
 use crate::waits::{Wait, waits_in};
-use sc_runtime::World;
+use sc_world::World;
 use std::alloc::AllocError;
 
 /// How many handlers are told of at most, beside those of cycles.

@@ -4,7 +4,7 @@ use arrayvec::ArrayVec;
 use sc_model::Status;
 use sc_region::Stage;
 use sc_request::Core;
-use sc_runtime::World;
+use sc_world::World;
 use std::alloc::{AllocError, Global};
 
 /// A handler that another one is to reserve.

@@ -4,7 +4,7 @@ use Rattle.std.proofs.Math.Logic.{∥∥₁_elim}
 use Rattle.std.proofs.lemmas.Bool.{cases_order}
 use Rattle.sc_class.specs.ClassNames.{Root}
 use Rattle.sc_code.specs.declared.program.Image.{Image}
-use Rattle.sc_runtime.specs.Worlds.{PlainWorld}
+use Rattle.sc_world.specs.Worlds.{PlainWorld}
 use Rattle.sc_plant.specs.declared.left.Left.{Left}
 use Rattle.sc_plant.specs.Left.{world_of}
 use Rattle.sc_auditing.specs.declared.auditing.AuditFault.{AuditFault}
@@ -13,8 +13,8 @@ use Rattle.sc_auditing.specs.Audits.{DiffersAt, IsAudited, LeadsTo, TellsWhy, tu
 use Rattle.sc_auditing.specs.Laws.{MisfitsAreNoRecord, OneMisfit, RunsAuditYes}
 use Rattle.sc_auditing.specs.Misfits.{IsFirstMisfit}
 use Rattle.sc_auditing.specs.Same.{FirstDiffers, IsSame}
-use Rattle.sc_execution.specs.Execution.{IsLoaded}
-use Rattle.sc_refinement.specs.Functional.{RunsAreFunctional}
+use Rattle.sc_driver.specs.Execution.{IsLoaded}
+use Rattle.sc_refines_world.specs.Functional.{RunsAreFunctional}
 use Rattle.sc_headline.specs.Exactly.{AuditsAreExact, EndsApart, EndsInLeft, IsAnswer, IsExact, OneWorld, RunsAreAnsweredYes}
 
 pub one_world : RunsAreFunctional → OneWorld

@@ -7,10 +7,10 @@ use Rattle.sc_model.specs.declared.status.Status.{Status}
 use Rattle.sc_model.specs.Handlers.{World}
 use Rattle.sc_lockpass.specs.declared.version.Version.TheVariants.{Two}
 use Rattle.sc_code.specs.declared.program.Image.{Image}
-use Rattle.sc_runtime.specs.Worlds.{PlainWorld}
-use Rattle.sc_refinement.specs.Refining.{IdleWorldIsIdle, MachineHasHeadline, StandingWorldIsNear, WorldHasHeadline, WorldReportsAsMachine, WorldRunsAsMachine}
-use Rattle.sc_refinement.specs.Standing.{StandsFor}
-use Rattle.sc_execution.specs.Execution.{IsThreadRun, Leaves, line_turns}
+use Rattle.sc_world.specs.Worlds.{PlainWorld}
+use Rattle.sc_refines_world.specs.Refining.{IdleWorldIsIdle, MachineHasHeadline, StandingWorldIsNear, WorldHasHeadline, WorldReportsAsMachine, WorldRunsAsMachine}
+use Rattle.sc_refines_world.specs.Standing.{StandsFor}
+use Rattle.sc_driver.specs.Execution.{IsThreadRun, Leaves, line_turns}
 use Rattle.sc_headline.specs.Headline.{Headline, IsReportOf, MachineHeadline, ReplaysAreTheMachines, RunsAreTheMachines, machine_after}
 
 pub machine_headed : MachineHasHeadline → MachineHeadline

@@ -2,11 +2,11 @@
 use Rattle.std.proofs.Common.{◌≡◌, ℕ, List, [], ◌∷◌, Some, slice_get, sym, subst}
 use Rattle.sc_lockpass.specs.declared.version.Version.{Version}
 use Rattle.sc_code.specs.declared.program.Image.{Image}
-use Rattle.sc_runtime.specs.Kept.{PlainKept, kept}
-use Rattle.sc_runtime.specs.Reports.{statuses}
-use Rattle.sc_runtime.specs.Worlds.{PlainWorld, opened}
-use Rattle.sc_refinement.specs.Anew.{AnewRunsAsMachine, RunsAnew}
-use Rattle.sc_refinement.specs.Refining.{StandingWorldIsNear, WorldReportsAsMachine, WorldRunsAsMachine}
+use Rattle.sc_world.specs.Kept.{PlainKept, kept}
+use Rattle.sc_world.specs.Reports.{statuses}
+use Rattle.sc_world.specs.Worlds.{PlainWorld, opened}
+use Rattle.sc_refines_world.specs.Anew.{AnewRunsAsMachine, RunsAnew}
+use Rattle.sc_refines_world.specs.Refining.{StandingWorldIsNear, WorldReportsAsMachine, WorldRunsAsMachine}
 use Rattle.sc_search.specs.declared.aims.Aim.{Aim}
 use Rattle.sc_search.specs.Aims.{IsMet}
 use Rattle.sc_search.specs.Closed.{IsClosed}

@@ -5,11 +5,11 @@ use Rattle.std.proofs.Math.Logic.{∥∥₁_map}
 use Rattle.sc_lockpass.specs.declared.version.Version.TheVariants.{Two}
 use Rattle.sc_model.specs.declared.status.Status.{Status}
 use Rattle.sc_request.specs.Cores.{log_of}
-use Rattle.sc_runtime.specs.Reports.{report, statuses}
+use Rattle.sc_world.specs.Reports.{report, statuses}
 use Rattle.sc_plant.specs.Left.{RunsAreOneThreads, world_of}
 use Rattle.sc_plant.specs.Recorded.{turns_of}
-use Rattle.sc_execution.specs.Execution.{IsThreadRun, line_turns}
-use Rattle.sc_execution.proofs.Threads.{thread_run, turns_of_lines}
+use Rattle.sc_driver.specs.Execution.{IsThreadRun, line_turns}
+use Rattle.sc_driver.proofs.Threads.{thread_run, turns_of_lines}
 use Rattle.sc_headline.specs.Headline.{IsMachineRun, ReplaysAreTheMachines}
 use Rattle.sc_headline.specs.ThreadsHeadline.{ThreadsReportAsMachine}
 

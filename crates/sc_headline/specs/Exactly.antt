@@ -4,8 +4,8 @@ use Rattle.sc_class.specs.ClassNames.{Root}
 use Rattle.sc_lockpass.specs.declared.version.Version.{Version}
 use Rattle.sc_audit.specs.Records.{IsRecord, most_turns}
 use Rattle.sc_code.specs.declared.program.Image.{Image}
-use Rattle.sc_runtime.specs.Turning.{Runs}
-use Rattle.sc_runtime.specs.Worlds.{PlainWorld, opened}
+use Rattle.sc_world.specs.Turning.{Runs}
+use Rattle.sc_world.specs.Worlds.{PlainWorld, opened}
 use Rattle.sc_plant.specs.declared.left.Left.{Left}
 use Rattle.sc_plant.specs.Left.{IsRun, world_of}
 use Rattle.sc_auditing.specs.declared.auditing.AuditFault.{AuditFault}
@@ -13,7 +13,7 @@ use Rattle.sc_auditing.specs.declared.auditing.AuditFault.TheVariants.{BadRecord
 use Rattle.sc_auditing.specs.Audits.{IsAudited, LeadsTo, TellsWhy}
 use Rattle.sc_auditing.specs.Misfits.{IsFirstMisfit}
 use Rattle.sc_auditing.specs.Same.{FirstDiffers, IsSame}
-use Rattle.sc_execution.specs.Execution.{IsLoaded}
+use Rattle.sc_driver.specs.Execution.{IsLoaded}
 
 -- From the opening of a text's program, turns of the same handlers in the same order lead to one world.
 abbrev pub OneWorld : Type 0

@@ -13,11 +13,11 @@ use Rattle.sc_model.specs.Handlers.{World}
 use Rattle.sc_model.specs.Reports as machine
 use Rattle.sc_model.specs.Runs.{IsReached, opening, run}
 use Rattle.sc_code.specs.declared.program.Image.{Image}
-use Rattle.sc_runtime.specs.Turning.{Runs}
-use Rattle.sc_runtime.specs.Worlds.{PlainWorld, opened}
-use Rattle.sc_refinement.specs.Refining.{HasHeadline}
-use Rattle.sc_refinement.specs.Standing.{StandsFor}
-use Rattle.sc_execution.specs.Execution.{IsLoaded, IsRead, IsReplay, IsRunOf, IsSound, line_turns}
+use Rattle.sc_world.specs.Turning.{Runs}
+use Rattle.sc_world.specs.Worlds.{PlainWorld, opened}
+use Rattle.sc_refines_world.specs.Refining.{HasHeadline}
+use Rattle.sc_refines_world.specs.Standing.{StandsFor}
+use Rattle.sc_driver.specs.Execution.{IsLoaded, IsRead, IsReplay, IsRunOf, IsSound, line_turns}
 
 -- ---- the machine
 

@@ -4,14 +4,14 @@ use Rattle.sc_class.specs.ClassNames.{Root}
 use Rattle.sc_lockpass.specs.declared.version.Version.TheVariants.{Two}
 use Rattle.sc_code.specs.declared.program.Image.{Image}
 use Rattle.sc_request.specs.Cores.{log_of, state_of}
-use Rattle.sc_runtime.specs.Reports as told
-use Rattle.sc_runtime.specs.Turning.{Runs}
-use Rattle.sc_runtime.specs.Worlds.{PlainWorld, opened}
+use Rattle.sc_world.specs.Reports as told
+use Rattle.sc_world.specs.Turning.{Runs}
+use Rattle.sc_world.specs.Worlds.{PlainWorld, opened}
 use Rattle.sc_plant.specs.declared.left.Left.{Left}
 use Rattle.sc_plant.specs.Left.{IsRun, world_of}
 use Rattle.sc_plant.specs.OneThread.{EndsIn}
 use Rattle.sc_plant.specs.Recorded.{turns_of}
-use Rattle.sc_execution.specs.Execution.{IsLoaded}
+use Rattle.sc_driver.specs.Execution.{IsLoaded}
 use Rattle.sc_headline.specs.Headline.{IsMachineRun, StandsForReached}
 
 -- One thread that makes the turns of the record's lines, from the opening of the program, ends in a world with just the core

@@ -7,11 +7,11 @@ ghost use Rattle.sc_headline.specs.ThreadsHeadline.{ThreadsHaveHeadline, Threads
 
 use sc_auditing::laws::{misfits_are_no_record, one_misfit, runs_audit_yes};
 use sc_plant::laws::runs_are_one_threads;
-use sc_refinement::laws::{
+use sc_refines_world::laws::{
     anew_runs_as_machine, idle_world_is_idle, machine_has_headline, standing_world_is_near,
     world_has_headline, world_reports_as_machine, world_runs_as_machine,
 };
-use sc_refinement::once::runs_are_functional;
+use sc_refines_world::once::runs_are_functional;
 
 /// For every source text that is accepted, and whatever handlers make turns, in every order, of the state that the machine on
 /// trees reaches: requests are posted under a right, and taken once and in order; the handlers of formals and of open separate

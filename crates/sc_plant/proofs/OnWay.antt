@@ -16,8 +16,8 @@ use Rattle.sc_request.specs.Rooms.{settlement}
 use Rattle.sc_play.specs.Regions.{IsRefused, PlainRegion, Plays, new_region, outcome}
 use Rattle.sc_worklog.specs.Replaying.{AreMade, Replays, entry_of, played, refused}
 use Rattle.sc_worklog.proofs.Replaying.{turns_replay}
-use Rattle.sc_runtime.specs.Worlds.{max_handlers}
-use Rattle.sc_runtime.proofs.AtOnce.{settled_out}
+use Rattle.sc_world.specs.Worlds.{max_handlers}
+use Rattle.sc_world.proofs.AtOnce.{settled_out}
 use Rattle.sc_plant.specs.declared.left.Left.{Left}
 use Rattle.sc_plant.specs.Alone.{AreNew, AreOwn, IsOnWay, IsOwn, IsPlayed}
 use Rattle.sc_plant.specs.Due.{Settled, Stays}

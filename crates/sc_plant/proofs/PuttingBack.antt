@@ -18,7 +18,7 @@ use Rattle.sc_request.specs.Logs.{Center, granted, picked, put_back, put_back_wi
 use Rattle.sc_request.specs.Picking.{job_answered, job_at, job_awaiting, job_idle, job_of, job_reserving, job_with, needs}
 use Rattle.sc_plant.proofs.Dues.{Goes, is_due}
 
--- ---- as in sc_refinement: who is granted was nobody's
+-- ---- as in sc_refines_world: who is granted was nobody's
 
 is_nobodys : (a b : Bool) (o : Option ℕ) → a && b && is_none o ≡ true → o ≡ None
 is_nobodys true true None e = refl

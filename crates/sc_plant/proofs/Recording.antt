@@ -16,7 +16,7 @@ use Rattle.sc_request.specs.Cores.{log_of}
 use Rattle.sc_play.specs.Regions.{PlainRegion, new_region}
 use Rattle.sc_worklog.specs.Replaying.{AreMade, Replays}
 use Rattle.sc_worklog.proofs.Replaying.{entries_are_the_handlers, turns_replay}
-use Rattle.sc_runtime.specs.Worlds.{max_handlers}
+use Rattle.sc_world.specs.Worlds.{max_handlers}
 use Rattle.sc_plant.specs.declared.left.Left.{Left}
 use Rattle.sc_plant.specs.Due.{AreBelow}
 use Rattle.sc_plant.specs.Left.{IsRun, LinesAreARecord}

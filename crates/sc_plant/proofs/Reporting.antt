@@ -2,8 +2,8 @@
 use Rattle.std.proofs.Common.{◌≡◌, ◌∙◌, ℕ, List, slice_get, ap}
 use Rattle.sc_model.specs.declared.status.Status.{Status}
 use Rattle.sc_request.specs.Logs.{status_in}
-use Rattle.sc_runtime.specs.Reports.{handler_report, output_in, report_of}
-use Rattle.sc_runtime.specs.Worlds.{PlainWorld}
+use Rattle.sc_world.specs.Reports.{handler_report, output_in, report_of}
+use Rattle.sc_world.specs.Worlds.{PlainWorld}
 
 -- the report of a handler with this status, which refused so many requests and printed this
 pub printed : (h : ℕ) (w : PlainWorld) (s : Status) (r : ℕ) (o : List ℕ) → s ≡ status_in h w.center → r ≡ (w.center.state.handlers h).refused →

@@ -10,7 +10,7 @@ use Rattle.sc_request.specs.Cores.{center_of, log_of, state_of}
 use Rattle.sc_request.specs.Logs.{put_back}
 use Rattle.sc_play.specs.Regions.{IsRefused, PlainRegion, Plays, new_region, outcome}
 use Rattle.sc_worklog.specs.Replaying.{AreMade}
-use Rattle.sc_runtime.specs.Worlds.{max_handlers}
+use Rattle.sc_world.specs.Worlds.{max_handlers}
 use Rattle.sc_plant.specs.declared.left.Left.{Left}
 use Rattle.sc_plant.specs.Due.{AreBelow, IsSettled, PlaysTo}
 use Rattle.sc_plant.specs.Recorded.{lines_of, settlements_for}

@@ -14,8 +14,8 @@ use Rattle.sc_request.specs.Logs.{Center, next}
 use Rattle.sc_play.specs.Regions.{PlainRegion, new_region}
 use Rattle.sc_worklog.specs.LoggedRegions.{region_of}
 use Rattle.sc_worklog.specs.Replaying.{AreMade, Replays}
-use Rattle.sc_runtime.specs.Turning.{Runs}
-use Rattle.sc_runtime.specs.Worlds.{PlainWorld, max_handlers, opened}
+use Rattle.sc_world.specs.Turning.{Runs}
+use Rattle.sc_world.specs.Worlds.{PlainWorld, max_handlers, opened}
 use Rattle.sc_plant.specs.declared.left.Left.{Left}
 use Rattle.sc_plant.specs.declared.left.LoggedLeft.{LoggedLeft}
 use Rattle.sc_plant.specs.declared.left.RunFault.{RunFault}

@@ -1,14 +1,14 @@
 //! What a run on several threads leaves.
 ghost use Rattle.std.specs.Prelude.{◌≡◌, IfOk, slice_get};
-ghost use Rattle.sc_runtime.specs.Reports as told;
+ghost use Rattle.sc_world.specs.Reports as told;
 ghost use Rattle.sc_plant.specs.Left.{world_of};
 
 use sc_audit::RecordLine;
 use sc_lockpass::Version;
 use sc_play::Region;
 use sc_request::Core;
-use sc_runtime::{is_busy, push_end, push_handler};
 use sc_worklog::LoggedRegion;
+use sc_world::{is_busy, push_end, push_handler};
 use std::alloc::{AllocError, Global};
 
 /// What a run leaves: the region of each handler by number, with regions for those that there may be, and the core.

@@ -2,7 +2,7 @@
 ghost use Rattle.std.specs.Prelude.{◌≡◌, [], IfOk, Some, vec_len};
 ghost use Rattle.sc_lockpass.specs.declared.version.Version.TheVariants.{Two};
 ghost use Rattle.sc_request.specs.Cores.{center_of, log_of};
-ghost use Rattle.sc_runtime.specs.Worlds.{opened};
+ghost use Rattle.sc_world.specs.Worlds.{opened};
 
 use crate::of_program::OfProgram;
 use crate::recorded_core::RecordedCore;

@@ -1,10 +1,10 @@
 -- States that are kept.
 use Rattle.std.proofs.Common.{◌≡◌, ◌⊎◌, ◌++◌, ◌∙◌, inl, inr, ℕ, zero, suc, Bool, true, false, IsTrue, ◌↔◌, List, [], ◌∷◌, Option, Some, None, is_some, Result, Ok, Err, length, slice_get, refl, ap, subst}
 use Rattle.std.specs.Prelude.{IfNone, IfOk}
-use Rattle.sc_runtime.specs.Kept.{PlainKept, kept}
-use Rattle.sc_runtime.specs.Reports.{statuses}
-use Rattle.sc_runtime.specs.Turning.{IsTurn, Runs}
-use Rattle.sc_runtime.specs.Worlds.{PlainWorld}
+use Rattle.sc_world.specs.Kept.{PlainKept, kept}
+use Rattle.sc_world.specs.Reports.{statuses}
+use Rattle.sc_world.specs.Turning.{IsTurn, Runs}
+use Rattle.sc_world.specs.Worlds.{PlainWorld}
 use Rattle.sc_search.specs.declared.aims.Aim.{Aim}
 use Rattle.sc_search.specs.Aims.{IsMet}
 use Rattle.sc_search.specs.Steps.{Keeps}

@@ -7,9 +7,9 @@ use Rattle.sc_lockpass.specs.declared.version.Version.{Version}
 use Rattle.sc_code.specs.declared.program.Image.{Image}
 use Rattle.sc_region.specs.declared.job.Job.{Job}
 use Rattle.sc_request.specs.Logs.{Center, pick_for}
-use Rattle.sc_runtime.specs.Kept.{PlainKept, kept}
-use Rattle.sc_runtime.specs.Turning.{IsTurn, Runs, TurnsUnder}
-use Rattle.sc_runtime.specs.Worlds.{PlainWorld, opened}
+use Rattle.sc_world.specs.Kept.{PlainKept, kept}
+use Rattle.sc_world.specs.Turning.{IsTurn, Runs, TurnsUnder}
+use Rattle.sc_world.specs.Worlds.{PlainWorld, opened}
 use Rattle.sc_search.specs.declared.aims.Aim.{Aim}
 use Rattle.sc_search.specs.Closed.{IsAmong, IsClosed, IsTried, IsUnmet}
 use Rattle.sc_search.specs.Steps.{AreUnmet, Extends, IsTriedAt, Keeps, Opens, Stands, Tries, TriesAll}

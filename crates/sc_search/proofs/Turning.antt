@@ -3,8 +3,8 @@ use Rattle.std.proofs.Common.{◌≡◌, ◌+◌, ◌<◌, ◌++◌, ◌∙◌, 
 use Rattle.std.proofs.lemmas.List.{append-nil, flat_map_more, replicate-append-replicate, take_more}
 use Rattle.std.proofs.lemmas.List.Concat.{flat_map-append}
 use Rattle.sc_audit.specs.declared.line.RecordLine.{RecordLine}
-use Rattle.sc_runtime.specs.Turning.{Runs}
-use Rattle.sc_runtime.specs.Worlds.{PlainWorld}
+use Rattle.sc_world.specs.Turning.{Runs}
+use Rattle.sc_world.specs.Worlds.{PlainWorld}
 use Rattle.sc_search.specs.Found.{line_turns, turns_of}
 
 pub pushed : (xs : List RecordLine) (x : RecordLine) → turns_of (xs ++ x ∷ []) ≡ turns_of xs ++ line_turns x

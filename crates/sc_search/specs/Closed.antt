@@ -2,10 +2,10 @@
 use Rattle.std.specs.Prelude.{◌≡◌, ℕ, List, Some, slice_get}
 use Rattle.sc_lockpass.specs.declared.version.Version.{Version}
 use Rattle.sc_code.specs.declared.program.Image.{Image}
-use Rattle.sc_runtime.specs.Kept.{PlainKept, kept}
-use Rattle.sc_runtime.specs.Reports.{statuses}
-use Rattle.sc_runtime.specs.Turning.{IsTurn, Runs}
-use Rattle.sc_runtime.specs.Worlds.{PlainWorld, opened}
+use Rattle.sc_world.specs.Kept.{PlainKept, kept}
+use Rattle.sc_world.specs.Reports.{statuses}
+use Rattle.sc_world.specs.Turning.{IsTurn, Runs}
+use Rattle.sc_world.specs.Worlds.{PlainWorld, opened}
 use Rattle.sc_search.specs.declared.aims.Aim.{Aim}
 use Rattle.sc_search.specs.Aims.{IsMet}
 

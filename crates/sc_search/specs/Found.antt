@@ -6,9 +6,9 @@ use Rattle.sc_audit.specs.declared.line.RecordLine.{RecordLine}
 use Rattle.sc_model.specs.declared.status.Status.{Status}
 use Rattle.sc_code.specs.declared.program.Image.{Image}
 use Rattle.sc_request.specs.Logs.{pick_for}
-use Rattle.sc_runtime.specs.Reports as told
-use Rattle.sc_runtime.specs.Turning.{IsTurn, Runs}
-use Rattle.sc_runtime.specs.Worlds.{PlainWorld, opened}
+use Rattle.sc_world.specs.Reports as told
+use Rattle.sc_world.specs.Turning.{IsTurn, Runs}
+use Rattle.sc_world.specs.Worlds.{PlainWorld, opened}
 use Rattle.sc_search.specs.declared.verdict.Finding.{Finding}
 use Rattle.sc_search.specs.declared.verdict.Finding.TheVariants as finding
 use Rattle.sc_search.specs.declared.aims.Aim.{Aim}

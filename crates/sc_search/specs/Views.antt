@@ -1,6 +1,6 @@
 -- The states that a search has met, in the order in which it met them.
 use Rattle.std.specs.Prelude.{List, map}
-use Rattle.sc_runtime.specs.Kept.{PlainKept, kept_of}
+use Rattle.sc_world.specs.Kept.{PlainKept, kept_of}
 use Rattle.sc_search.specs.declared.progress.Progress as coded_progress
 use Rattle.sc_search.specs.declared.states.States as coded_states
 

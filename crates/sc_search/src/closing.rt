@@ -1,6 +1,6 @@
 //! The search over all turns.
 ghost use Rattle.std.specs.Prelude.{◌≡◌, [], IfNone, IfOk};
-ghost use Rattle.sc_runtime.specs.Views.{world_of};
+ghost use Rattle.sc_world.specs.Views.{world_of};
 ghost use Rattle.sc_search.specs.Closed.{IsClosed};
 ghost use Rattle.sc_search.specs.Steps.{Opens, Stands, Tries, TriesAll};
 ghost use Rattle.sc_search.specs.Views.{states_of};
@@ -8,7 +8,7 @@ ghost use Rattle.sc_search.specs.Views.{states_of};
 use crate::progress::{Progress, Stop, Way};
 use crate::replay::{Subject, world_after};
 use crate::watch::Watch;
-use sc_runtime::World;
+use sc_world::World;
 use std::alloc::AllocError;
 
 /// Plays each turn of each state, as long as no more than so many states are kept: why it stopped before all was played.

@@ -6,7 +6,7 @@ use crate::judging::{Kind, some_is};
 use crate::lines::lines_of;
 use crate::replay::{Subject, world_after};
 use crate::verdict::{End, Order};
-use sc_runtime::World;
+use sc_world::World;
 use std::alloc::{AllocError, Global};
 
 /// Turns from the opening on, behind which no handler has anything to do, and the report of what they leave.

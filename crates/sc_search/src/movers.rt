@@ -9,7 +9,7 @@ use crate::replay::{Subject, world_after};
 use sc_model::Status;
 use sc_region::{Job, Want};
 use sc_request::Core;
-use sc_runtime::World;
+use sc_world::World;
 use std::alloc::AllocError;
 
 /// How many handlers there may be in any version.

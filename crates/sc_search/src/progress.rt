@@ -1,6 +1,6 @@
 //! How far a search has come.
 ghost use Rattle.std.specs.Prelude.{◌≡◌, [], IfNone, IfOk};
-ghost use Rattle.sc_runtime.specs.Views.{world_of};
+ghost use Rattle.sc_world.specs.Views.{world_of};
 ghost use Rattle.sc_search.specs.Steps.{Keeps};
 
 use crate::ends::{Outcome, push_outcome};
@@ -8,7 +8,7 @@ use crate::judging::{Kind, is_met, some_is};
 use crate::length::Edge;
 use crate::replay::Subject;
 use crate::states::States;
-use sc_runtime::World;
+use sc_world::World;
 use std::alloc::AllocError;
 
 /// How many turns may be played anew for each state that may be kept.

@@ -1,8 +1,8 @@
 //! Worlds that are played anew.
 ghost use Rattle.std.specs.Prelude.{IfOk, IfSome};
-ghost use Rattle.sc_runtime.specs.Turning.{Runs};
-ghost use Rattle.sc_runtime.specs.Views.{world_of};
-ghost use Rattle.sc_runtime.specs.Worlds.{opened};
+ghost use Rattle.sc_world.specs.Turning.{Runs};
+ghost use Rattle.sc_world.specs.Views.{world_of};
+ghost use Rattle.sc_world.specs.Worlds.{opened};
 ghost use Rattle.sc_search.specs.Found.{IsFirst, IsFound, RunsUnmet, turns_of};
 
 use crate::aims::Aim;
@@ -12,7 +12,7 @@ use crate::verdict::{Finding, Order};
 use sc_audit::RecordLine;
 use sc_code::Program;
 use sc_lockpass::Version;
-use sc_runtime::{Turned, World};
+use sc_world::{Turned, World};
 use std::alloc::{AllocError, Global};
 
 /// What is searched: a program, where there may be as many handlers as the version has, for what is looked for.

@@ -1,10 +1,10 @@
 //! The states that a search has met.
 ghost use Rattle.std.specs.Option.{option_map};
 ghost use Rattle.std.specs.Prelude.{◌≡◌, ◌++◌, ◌∷◌, [], IfOk, IfSome, IsTrue, OnOk, Some, length, min, slice_get};
-ghost use Rattle.sc_runtime.specs.Kept.{kept};
-ghost use Rattle.sc_runtime.specs.Views.{world_of};
+ghost use Rattle.sc_world.specs.Kept.{kept};
+ghost use Rattle.sc_world.specs.Views.{world_of};
 
-use sc_runtime::{KeptWorld, World};
+use sc_world::{KeptWorld, World};
 use std::alloc::{AllocError, Global};
 
 /// How many lists the numbers of states lie in, by hash.

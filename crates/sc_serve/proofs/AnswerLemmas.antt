@@ -13,12 +13,12 @@ use Rattle.sc_audit.specs.Reading.{IsReadFault}
 use Rattle.sc_audit.specs.Records.{IsRecordText}
 use Rattle.sc_class.specs.ClassNames.{Root}
 use Rattle.sc_code.specs.declared.program.Image.{Image}
-use Rattle.sc_execution.specs.Execution.{IsLoaded, IsNotRunFor}
+use Rattle.sc_driver.specs.Execution.{IsLoaded, IsNotRunFor}
 use Rattle.sc_serve.specs.declared.serve.Answer.{Answer}
 use Rattle.sc_serve.specs.declared.serve.Fault.{Fault}
 use Rattle.sc_serve.specs.declared.serve.Fault.TheVariants as fault
-use Rattle.sc_execution.specs.declared.rejection.Rejection.{Rejection}
-use Rattle.sc_execution.specs.declared.rejection.Rejection.TheVariants as rejection
+use Rattle.sc_driver.specs.declared.rejection.Rejection.{Rejection}
+use Rattle.sc_driver.specs.declared.rejection.Rejection.TheVariants as rejection
 use Rattle.sc_arguments.specs.declared.arguments.RunOptions.{RunOptions}
 use Rattle.sc_class.specs.View.{root_of}
 use Rattle.sc_serve.specs.Answer.{IsBadRecord, IsJudged, IsRanOf, IsRefusalOf, IsReplayOn, IsReplayTo, IsRunOn, IsUnansweredOn, IsUnread, IsUnrun, IsUnrunOn, audit_line, line_of, out_of_memory, too_long}

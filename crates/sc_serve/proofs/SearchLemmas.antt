@@ -3,8 +3,8 @@ use Rattle.std.proofs.Common.{◌≡◌, ◌<◌, ◌⊎◌, inl, inr, ℕ, List
 use Rattle.sc_arguments.specs.declared.arguments.searching.SearchOptions.{SearchOptions}
 use Rattle.sc_class.specs.View.{root_of}
 use Rattle.sc_code.specs.declared.program.Image.{Image}
-use Rattle.sc_execution.specs.Execution.{IsLoaded, IsNotRunFor}
-use Rattle.sc_execution.specs.declared.rejection.Rejection.{Rejection}
+use Rattle.sc_driver.specs.Execution.{IsLoaded, IsNotRunFor}
+use Rattle.sc_driver.specs.declared.rejection.Rejection.{Rejection}
 use Rattle.sc_serve.specs.Answer.{IsRefusalOf, too_long}
 use Rattle.sc_serve.specs.Search.{IsSearchOf, IsSearchOn}
 use Rattle.sc_serve.specs.declared.serve.Answer.{Answer}

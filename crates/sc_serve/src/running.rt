@@ -9,10 +9,10 @@ use crate::serve::{Answer, Exit, Fault, Recording, answer_explained, answer_unre
 use sc_arguments::RunOptions;
 use sc_audit::RecordLine;
 use sc_auditing::{AuditFault, audit};
-use sc_breakdown::{Limit, Played, run_note};
 use sc_class::Root;
 use sc_code::Program;
-use sc_execution::{Ended, Outcome, load_text, run_program};
+use sc_driver::{Ended, Outcome, load_text, run_program};
+use sc_explain_failure::{Limit, Played, run_note};
 use sc_lockpass::Version;
 use sc_model::Status;
 use sc_plant::{Left, RunFault};

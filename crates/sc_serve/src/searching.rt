@@ -12,15 +12,15 @@ use crate::serve::{Answer, Exit, Fault, Recording, answer_explained, answer_unre
 use crate::verdict::{outcome_lines, verdict_lines};
 use sc_arguments::{Format, SearchOptions, Sought};
 use sc_audit::RecordLine;
-use sc_breakdown::{Limit, Played, run_note};
 use sc_class::Root;
 use sc_code::Program;
-use sc_execution::load_text;
+use sc_driver::load_text;
+use sc_explain_failure::{Limit, Played, run_note};
 use sc_lockpass::Version;
-use sc_runtime::World;
 use sc_search::{Aim, Finding, Verdict, Watch, search};
 use sc_source::files::{Files, read_source};
 use sc_source::source::Source;
+use sc_world::World;
 use std::alloc::{AllocError, Global};
 
 /// Plays the system of the named files in every order of turns.

@@ -1,6 +1,6 @@
 use Rattle.std.proofs.Common.{◌<◌, ℕ}
 use Rattle.sc_plant.specs.Left.{world_of}
-use Rattle.sc_runtime.specs.Views as one
+use Rattle.sc_world.specs.Views as one
 use Rattle.sc_auditing.specs.Same.{IsSameAt}
 use Rattle.sc_auditing.proofs.comparing.first_difference.Given as goal
 

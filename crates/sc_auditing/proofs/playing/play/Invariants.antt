@@ -1,7 +1,7 @@
 use Rattle.std.proofs.Common.{take}
-use Rattle.sc_runtime.specs.Turning.{Runs}
-use Rattle.sc_runtime.specs.Views.{world_of}
-use Rattle.sc_runtime.specs.Worlds.{opened}
+use Rattle.sc_world.specs.Turning.{Runs}
+use Rattle.sc_world.specs.Views.{world_of}
+use Rattle.sc_world.specs.Worlds.{opened}
 use Rattle.sc_auditing.specs.Audits.{turns_of}
 use Rattle.sc_auditing.proofs.playing.play.Given as goal
 

@@ -3,7 +3,7 @@ use Rattle.std.proofs.lemmas.List.Elements.{All-nil}
 use Rattle.sc_request.specs.declared.settlement.Settlement.{Settlement}
 use Rattle.sc_request.specs.Cores.{log_of}
 use Rattle.sc_request.specs.Logs.{Center}
-use Rattle.sc_runtime.specs.Worlds.{max_handlers}
+use Rattle.sc_world.specs.Worlds.{max_handlers}
 use Rattle.sc_plant.specs.Due.{AreBelow}
 use Rattle.sc_plant.specs.Recorded.{lines_of}
 use Rattle.sc_plant.proofs.OnWay.{new_own}

@@ -1,5 +1,5 @@
 use Rattle.std.proofs.Common.{◌∙◌}
-use Rattle.sc_runtime.proofs.Outs.{on-err}
+use Rattle.sc_world.proofs.Outs.{on-err}
 use Rattle.sc_plant.proofs.alone.play_all.Goals as goal
 
 pub loop-init : goal.loop-init

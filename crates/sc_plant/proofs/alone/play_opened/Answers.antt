@@ -1,5 +1,5 @@
 use Rattle.std.proofs.Common.{sym, ◌∙◌}
-use Rattle.sc_runtime.proofs.Running.{ok-holds}
+use Rattle.sc_world.proofs.Running.{ok-holds}
 use Rattle.sc_plant.proofs.OnWay.{err_holds, way_run}
 use Rattle.sc_plant.proofs.alone.play_opened.Goals as goal
 

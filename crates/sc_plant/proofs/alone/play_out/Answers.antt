@@ -2,7 +2,7 @@ use Rattle.std.proofs.Common.{◌≡◌, sym, subst, ◌∙◌}
 use Rattle.sc_region.specs.declared.job.Job.{Job}
 use Rattle.sc_request.specs.Cores.{center_of}
 use Rattle.sc_play.specs.Regions.{Plays, outcome}
-use Rattle.sc_runtime.proofs.Outs.{job-is, one-job}
+use Rattle.sc_world.proofs.Outs.{job-is, one-job}
 use Rattle.sc_plant.proofs.alone.play_out.Goals as goal
 
 pub returns-clause-ok : goal.returns-clause-ok

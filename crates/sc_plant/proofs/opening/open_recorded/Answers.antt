@@ -1,7 +1,7 @@
 use Rattle.std.proofs.Common.{◌<◌, ap, sym, subst, ◌∙◌, List}
 use Rattle.std.proofs.lemmas.List.Elements.{All-nil}
 use Rattle.sc_request.specs.declared.settlement.Settlement.{Settlement}
-use Rattle.sc_runtime.specs.Worlds.{max_handlers}
+use Rattle.sc_world.specs.Worlds.{max_handlers}
 use Rattle.sc_plant.specs.Due.{AreBelow}
 use Rattle.sc_plant.specs.Recorded.{lines_of}
 use Rattle.sc_plant.proofs.Openings.{none_opened, plays_opened}

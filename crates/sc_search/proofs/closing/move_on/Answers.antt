@@ -1,6 +1,6 @@
 use Rattle.std.proofs.Common.{IsTrue, arith, rules}
 use Rattle.std.proofs.lemmas.Grind.{common_steps}
-use Rattle.sc_runtime.specs.Views.{world_of}
+use Rattle.sc_world.specs.Views.{world_of}
 use Rattle.sc_search.specs.Views.{states_of}
 use Rattle.sc_search.proofs.Keeping.{goes_through}
 use Rattle.sc_search.proofs.Trying.{tries}

@@ -1,7 +1,7 @@
 use Rattle.std.proofs.Common.{◌≡◌, ◌≤◌, ◌∙◌, IsTrue, refl, ap, arith, rules}
 use Rattle.std.proofs.lemmas.Grind.{common_steps}
 use Rattle.sc_request.specs.Logs.{Center}
-use Rattle.sc_runtime.specs.Views.{world_of}
+use Rattle.sc_world.specs.Views.{world_of}
 use Rattle.sc_search.specs.Views.{states_of}
 use Rattle.sc_search.proofs.Keeping.{at_none}
 use Rattle.sc_search.proofs.Trying.{stands_along, stands_still, tries_all, tries_first, tries_next}

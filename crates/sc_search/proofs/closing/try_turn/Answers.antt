@@ -1,6 +1,6 @@
 use Rattle.std.proofs.Common.{◌≡◌, ◌∙◌, None, not, sym, ap}
 use Rattle.sc_request.specs.Logs.{Center, pick_for}
-use Rattle.sc_runtime.specs.Views.{world_of}
+use Rattle.sc_world.specs.Views.{world_of}
 use Rattle.sc_search.specs.Views.{states_of}
 use Rattle.sc_search.proofs.Keeping.{none_is}
 use Rattle.sc_search.proofs.Trying.{tries_none}

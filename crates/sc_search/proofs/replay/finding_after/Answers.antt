@@ -1,6 +1,6 @@
 use Rattle.std.proofs.Common.{◌∙◌, IsTrue, arith, rules}
 use Rattle.std.proofs.lemmas.Grind.{common_steps}
-use Rattle.sc_runtime.specs.Views.{world_of}
+use Rattle.sc_world.specs.Views.{world_of}
 use Rattle.sc_search.specs.Aims.{AreStuck, HasFailed}
 use Rattle.sc_search.proofs.Verdicts.{leads}
 use Rattle.sc_search.proofs.replay.finding_after.Goals as goal

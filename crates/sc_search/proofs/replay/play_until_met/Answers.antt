@@ -1,6 +1,6 @@
 use Rattle.std.proofs.Common.{◌∙◌, ap}
-use Rattle.sc_runtime.specs.Views.{world_of}
-use Rattle.sc_runtime.specs.Worlds.{opened}
+use Rattle.sc_world.specs.Views.{world_of}
+use Rattle.sc_world.specs.Worlds.{opened}
 use Rattle.sc_search.proofs.Ending.{unmet_by, unmet_kept, unmet_pushed}
 use Rattle.sc_search.proofs.replay.play_until_met.Goals.{in-Moved+in_ok-push-in-Moved, in-Nothing}
 use Rattle.sc_search.proofs.replay.play_until_met.Goals as goal

@@ -1,5 +1,5 @@
-use Rattle.sc_runtime.specs.Views.{world_of}
-use Rattle.sc_runtime.specs.Worlds.{opened}
+use Rattle.sc_world.specs.Views.{world_of}
+use Rattle.sc_world.specs.Worlds.{opened}
 use Rattle.sc_search.specs.Found.{RunsUnmet}
 use Rattle.sc_search.proofs.replay.play_until_met.Given as goal
 

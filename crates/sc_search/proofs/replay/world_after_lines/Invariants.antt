@@ -1,7 +1,7 @@
 use Rattle.std.proofs.Common.{take}
-use Rattle.sc_runtime.specs.Turning.{Runs}
-use Rattle.sc_runtime.specs.Views.{world_of}
-use Rattle.sc_runtime.specs.Worlds.{opened}
+use Rattle.sc_world.specs.Turning.{Runs}
+use Rattle.sc_world.specs.Views.{world_of}
+use Rattle.sc_world.specs.Worlds.{opened}
 use Rattle.sc_search.specs.Found.{turns_of}
 use Rattle.sc_search.proofs.replay.world_after_lines.Given as goal
 

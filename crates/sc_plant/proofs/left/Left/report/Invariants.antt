@@ -1,5 +1,5 @@
 use Rattle.std.proofs.Common.{◌≡◌, ◌++◌, ◌-◌}
-use Rattle.sc_runtime.specs.Reports.{handlers_report, some_is_busy}
+use Rattle.sc_world.specs.Reports.{handlers_report, some_is_busy}
 use Rattle.sc_plant.specs.Left.{world_of}
 use Rattle.sc_plant.proofs.left.Left.report.Given as goal
 

@@ -1,5 +1,0 @@
-use Rattle.sc_acts.proofs.Taking.{taken_requests_ask}
-use Rattle.sc_acts.proofs.asks.taken_requests_ask.Goals as goal
-
-pub returns : goal.returns
-returns c = taken_requests_ask

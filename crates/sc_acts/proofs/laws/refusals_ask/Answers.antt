@@ -1,5 +1,0 @@
-use Rattle.sc_acts.proofs.Wanting.{refusals_ask}
-use Rattle.sc_acts.proofs.laws.refusals_ask.Goals as goal
-
-pub returns : goal.returns
-returns c = refusals_ask c.programs_serve.ensures

@@ -1,5 +1,0 @@
-use Rattle.sc_acts.proofs.Wanting.{routine_ends_ask}
-use Rattle.sc_acts.proofs.laws.routine_ends_ask.Goals as goal
-
-pub returns : goal.returns
-returns c = routine_ends_ask c.programs_serve.ensures

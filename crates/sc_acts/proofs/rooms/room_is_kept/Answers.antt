@@ -1,5 +1,0 @@
-use Rattle.sc_acts.proofs.Rooming.{room_is_kept}
-use Rattle.sc_acts.proofs.rooms.room_is_kept.Goals as goal
-
-pub returns : goal.returns
-returns c = room_is_kept

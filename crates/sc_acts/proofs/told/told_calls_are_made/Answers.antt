@@ -1,5 +1,0 @@
-use Rattle.sc_acts.proofs.Telling.{told_calls_are_made}
-use Rattle.sc_acts.proofs.told.told_calls_are_made.Goals as goal
-
-pub returns : goal.returns
-returns c = told_calls_are_made c.programs_serve.ensures

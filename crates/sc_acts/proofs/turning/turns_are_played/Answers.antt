@@ -1,5 +1,0 @@
-use Rattle.sc_acts.proofs.Playing.{turns_are_played}
-use Rattle.sc_acts.proofs.turning.turns_are_played.Goals as goal
-
-pub returns : goal.returns
-returns c = turns_are_played c.programs_serve.ensures

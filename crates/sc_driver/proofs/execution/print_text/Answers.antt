@@ -1,0 +1,27 @@
+use Rattle.std.proofs.Common.{◌∙◌, ap, sym}
+use Rattle.sc_tree.specs.Bare.{bare_system}
+use Rattle.sc_tree.specs.View.{system_of}
+use Rattle.sc_tree.specs.Canonical.{canonical_text}
+use Rattle.sc_driver.specs.Execution.{IsUnreadable}
+use Rattle.sc_driver.specs.Rejection.{out_of_memory}
+use Rattle.sc_driver.proofs.ExecutionLemmas.{canonical-bare, read-spelled, err-is, only-err-is}
+use Rattle.sc_driver.proofs.execution.print_text.Goals as goal
+
+pub returns-in_err-system-clause-refused : goal.returns-in_err-system-clause-refused
+returns-in_err-system-clause-refused c = err-is (IsUnreadable c.args.text.now) c.from_residual.result _ c.from_residual.ensures.1 c.in_err-system.ensures.refused
+
+pub returns-in_err-system-clause-complete : goal.returns-in_err-system-clause-complete
+returns-in_err-system-clause-complete c = λ tree is.
+    only-err-is _ c.from_residual.result _ out_of_memory c.from_residual.ensures.1 (c.in_err-system.ensures.found tree is)
+
+pub returns-clause-printed : goal.returns-clause-printed
+returns-clause-printed c =
+    record {
+      tree = bare_system (system_of c.in_ok-system.system);
+      spelled = read-spelled c.args.text.now _ c.in_ok-system.ensures.read;
+      printed = c.in_ok-print_system.ensures ∙ sym (canonical-bare (system_of c.in_ok-system.system));
+    }
+
+pub returns-clause-complete : goal.returns-clause-complete
+returns-clause-complete c = λ tree is.
+    c.in_ok-print_system.ensures ∙ sym (canonical-bare (system_of c.in_ok-system.system)) ∙ ap canonical_text (c.in_ok-system.ensures.found tree is)

@@ -1,0 +1,80 @@
+//! Runs of a program by several workers.
+
+ghost use Rattle.std.specs.Prelude.{◌≡◌, IfErr, IfOk};
+ghost use Rattle.sc_lower.specs.Lowerings.{image_of};
+ghost use Rattle.sc_world.specs.Reports as told;
+ghost use Rattle.sc_plant.specs.Left.{IsRun, SaysWhy, world_of};
+ghost use Rattle.sc_driver.specs.Execution.{IsThreadRun};
+
+use crate::execution::Outcome;
+use sc_code::Program;
+use sc_model::Status;
+use sc_plant::laws::runs_are_one_threads;
+use sc_plant::{Gate, Left, RunFault, run};
+use std::alloc::{AllocError, Global};
+use std::sync::Wait;
+use std::thread::Threads;
+
+/// A run that has ended: what its threads left, with the lines of its record, and what that tells.
+#[derive(Drop)]
+pub struct Ended<'p> {
+    pub left: Left<'p>,
+    pub outcome: Outcome,
+}
+
+/// Nobody is told of turns.
+struct Ungated;
+
+impl Gate for Ungated {
+    fn began(&self, _handler: u16) {}
+
+    fn ended(&self, _handler: u16) {}
+}
+
+/// Runs a program by so many threads, the calling one among them, for so many turns at most, where there may be 512 handlers.
+///
+/// # Errors
+/// U1 where memory is refused, U2 where a thread is, and U3 where the logs of the threads differ, which never comes.
+pub fn run_program<'p, R: Threads + Wait + Sync>(
+    rt: &R,
+    alloc: Global,
+    program: &'p Program,
+    workers: u8,
+    turns: u32,
+) -> Result<Ended<'p>, RunFault<'p>>
+    ensures left { IfOk result (λ ended. IsRun (image_of program.now) turns ended.left) }
+    ensures ran { IfOk result (λ ended. let outcome = ended.outcome in
+        ∥ IsThreadRun (image_of program.now) turns ended.left.lines.items outcome.report.items outcome.statuses.items ∥₁) }
+    ensures err { IfErr result (SaysWhy (image_of program.now)) }
+{
+    runs_are_one_threads();
+    let left = run(rt, alloc, program, workers, turns, &Ungated)?;
+    match outcome_of_left(alloc, &left) {
+        Ok(outcome) => Ok(Ended { left, outcome }),
+        Err(_) => Err(RunFault::OutOfMemory(Some(left))),
+    }
+}
+
+/// What is told of what a run left.
+fn outcome_of_left(alloc: Global, left: &Left<'_>) -> Result<Outcome, AllocError>
+    ensures report { IfOk result (λ outcome. outcome.report.items ≡ told.report (world_of left.now)) }
+    ensures statuses { IfOk result (λ outcome. outcome.statuses.items ≡ told.statuses (world_of left.now)) }
+{
+    Ok(Outcome {
+        report: left.report(alloc)?,
+        statuses: statuses_of_left(alloc, left)?,
+    })
+}
+
+/// How each handler stands, in order of number.
+fn statuses_of_left(alloc: Global, left: &Left<'_>) -> Result<Vec<Status>, AllocError>
+    ensures { IfOk result (λ statuses. statuses.items ≡ told.statuses (world_of left.now)) }
+{
+    let mut statuses = Vec::new(alloc);
+    for handler in 0..left.core.handler_count() {
+        if let Some(status) = left.core.status(handler as u16) {
+            statuses.push(status)?;
+        }
+    }
+    Ok(statuses)
+}

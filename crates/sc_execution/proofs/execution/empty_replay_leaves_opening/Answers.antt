@@ -1,5 +1,0 @@
-use Rattle.sc_execution.proofs.ReplayLemmas.{empty-leaves}
-use Rattle.sc_execution.proofs.execution.empty_replay_leaves_opening.Goals as goal
-
-pub returns : goal.returns
-returns c = empty-leaves

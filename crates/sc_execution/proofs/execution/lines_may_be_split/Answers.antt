@@ -1,5 +1,0 @@
-use Rattle.sc_execution.proofs.ReplayLemmas.{lines-split}
-use Rattle.sc_execution.proofs.execution.lines_may_be_split.Goals as goal
-
-pub returns : goal.returns
-returns c = lines-split

@@ -1,0 +1,298 @@
+//! What is said of handlers that have failed, wait or are busy, beside the report.
+
+use crate::breakdown::Origin;
+use crate::failing::failing_in;
+use crate::limit::{Limit, push_limit};
+use crate::moments::{Kind, Moment, moments_of};
+use crate::words::{Phrase, push_phrases};
+use sc_audit::RecordLine;
+use sc_check::{CheckFault, Checked, check};
+use sc_class::{ClassFault, Root, Tables, tables};
+use sc_code::Program;
+use sc_explain::find;
+use sc_explain_waiting::waiting_note;
+use sc_lockpass::Version;
+use sc_lower::{Lowering, lower};
+use sc_model::{Cause, Status};
+use sc_parse::{ParseFault, parse};
+use sc_source::source::Source;
+use sc_text::{LexFault, Token, lex};
+use sc_tree::System;
+use sc_world::{Turned, World, code_of};
+use std::alloc::{AllocError, Global};
+
+/// A run of the system of a source text: from this root, with a record of this version and these lines.
+#[derive(Clone, Copy)]
+pub struct Played<'r> {
+    pub source: &'r Source,
+    pub root: &'r Root,
+    pub version: Version,
+    pub lines: &'r [RecordLine],
+    pub limit: Limit,
+    /// Whether a request may have been refused for which nobody waited.
+    pub may_refuse: bool,
+}
+
+/// A run that was played once more, with what it is of.
+#[derive(Clone, Copy)]
+struct Rerun<'r> {
+    origin: Origin<'r>,
+    world: &'r World<'r>,
+    played: Played<'r>,
+    moments: &'r [Moment],
+}
+
+/// What the failure of each handler that has failed in a run is, in words, and where and for whom it ran, which requests were
+/// lost, and why those wait or are busy that do, as far as that is found where the turns of its record are played once more;
+/// nothing where each is free and none refused a request.
+pub fn run_note(
+    alloc: Global,
+    played: Played<'_>,
+    statuses: &[Status],
+) -> Result<Vec<u8>, AllocError> {
+    if are_free(statuses) && !played.may_refuse {
+        return Ok(Vec::new(alloc));
+    }
+    match system_of(alloc, played.source.text()) {
+        Ok(None) => note(alloc, statuses, None),
+        Ok(Some(system)) => note_of_system(alloc, played, statuses, &system),
+        Err(error) => Err(error),
+    }
+}
+
+/// The same, of the system of the text.
+fn note_of_system(
+    alloc: Global,
+    played: Played<'_>,
+    statuses: &[Status],
+    system: &System,
+) -> Result<Vec<u8>, AllocError> {
+    match tables_of(alloc, system, played.root) {
+        Ok(None) => note(alloc, statuses, None),
+        Ok(Some(tables)) => note_of_tables(alloc, played, statuses, system, &tables),
+        Err(error) => Err(error),
+    }
+}
+
+/// The same, with the tables of the system.
+fn note_of_tables(
+    alloc: Global,
+    played: Played<'_>,
+    statuses: &[Status],
+    system: &System,
+    tables: &Tables<'_>,
+) -> Result<Vec<u8>, AllocError> {
+    match program_of(alloc, system, played.root) {
+        Ok(None) => note(alloc, statuses, None),
+        Ok(Some(program)) => note_of_program(alloc, played, statuses, tables, &program),
+        Err(error) => Err(error),
+    }
+}
+
+/// The same, with the program of the system.
+fn note_of_program(
+    alloc: Global,
+    played: Played<'_>,
+    statuses: &[Status],
+    tables: &Tables<'_>,
+    program: &Program,
+) -> Result<Vec<u8>, AllocError> {
+    let origin = Origin {
+        alloc,
+        source: played.source,
+        tables,
+        names: program.pool().names.as_slice(),
+    };
+    match World::open(alloc, program, played.version) {
+        Ok(mut world) => note_of_rerun(origin, statuses, &mut world, program, played),
+        Err(error) => Err(error),
+    }
+}
+
+/// The same, where its turns are played from this opening.
+fn note_of_rerun(
+    origin: Origin<'_>,
+    statuses: &[Status],
+    world: &mut World<'_>,
+    program: &Program,
+    played: Played<'_>,
+) -> Result<Vec<u8>, AllocError> {
+    for line in played.lines {
+        turn_by_turn(world, *line)?;
+    }
+    let moments = moments_of(origin, world, program, played)?;
+    let rerun = Rerun {
+        origin,
+        world,
+        played,
+        moments: &moments,
+    };
+    note(origin.alloc, statuses, Some(rerun))
+}
+
+/// The turns of a line, each settled by itself, so that the log tells of each.
+fn turn_by_turn(world: &mut World<'_>, line: RecordLine) -> Result<(), AllocError> {
+    for _turn in 0..line.turns {
+        if world.turn(line.handler)? == Turned::Nothing {
+            break;
+        }
+    }
+    Ok(())
+}
+
+fn are_free(statuses: &[Status]) -> bool {
+    statuses.iter().all(|status| matches!(status, Status::Free))
+}
+
+/// The system of a text, if it spells one.
+fn system_of(alloc: Global, text: &str) -> Result<Option<System>, AllocError> {
+    match lex(alloc, text) {
+        Ok(tokens) => parsed(alloc, &tokens),
+        Err(LexFault::OutOfMemory) => Err(AllocError),
+        Err(_) => Ok(None),
+    }
+}
+
+/// The system of these tokens, if they spell one.
+fn parsed(alloc: Global, tokens: &[Token]) -> Result<Option<System>, AllocError> {
+    match parse(alloc, tokens) {
+        Ok(system) => Ok(Some(system)),
+        Err(ParseFault::OutOfMemory) => Err(AllocError),
+        Err(_) => Ok(None),
+    }
+}
+
+/// The tables of a system, if it has no fault.
+fn tables_of<'s>(
+    alloc: Global,
+    system: &'s System,
+    root: &Root,
+) -> Result<Option<Tables<'s>>, AllocError> {
+    match tables(alloc, system, root) {
+        Ok(tables) => Ok(Some(tables)),
+        Err(ClassFault::OutOfMemory) => Err(AllocError),
+        Err(_) => Ok(None),
+    }
+}
+
+/// The program of a system, if it is sound and its code isn't too long.
+fn program_of(alloc: Global, system: &System, root: &Root) -> Result<Option<Program>, AllocError> {
+    match tables_of(alloc, system, root) {
+        Ok(None) => Ok(None),
+        Ok(Some(tables)) => checked_program(alloc, tables),
+        Err(error) => Err(error),
+    }
+}
+
+/// The program of the system of these tables, if it is sound and its code isn't too long.
+fn checked_program(alloc: Global, tables: Tables<'_>) -> Result<Option<Program>, AllocError> {
+    match check(alloc, tables) {
+        Ok(checked) => lowered(alloc, checked),
+        Err(CheckFault::OutOfMemory) => Err(AllocError),
+        Err(_) => Ok(None),
+    }
+}
+
+/// The program of a sound system, if its code isn't too long.
+fn lowered(alloc: Global, checked: Checked<'_>) -> Result<Option<Program>, AllocError> {
+    match lower(alloc, checked) {
+        Ok(program) => Ok(Some(program)),
+        Err(Lowering::OutOfMemory(_)) => Err(AllocError),
+        Err(Lowering::CodeTooLong(_)) => Ok(None),
+    }
+}
+
+/// What is said of each handler that has failed, and then of those that wait or are busy.
+fn note(
+    alloc: Global,
+    statuses: &[Status],
+    rerun: Option<Rerun<'_>>,
+) -> Result<Vec<u8>, AllocError> {
+    let mut lines = Vec::new(alloc);
+    for (handler, status) in statuses.iter().enumerate() {
+        if let Status::Failed(cause) = status {
+            push_failure(alloc, &mut lines, handler, *cause, rerun)?;
+        }
+    }
+    if let Some(rerun) = rerun {
+        push_refusals(&mut lines, rerun.moments)?;
+        push_limit(alloc, &mut lines, rerun.played, statuses)?;
+        push_waits(&mut lines, rerun)?;
+    }
+    Ok(lines)
+}
+
+/// Adds which requests were refused for which nobody waited.
+fn push_refusals(lines: &mut Vec<u8>, moments: &[Moment]) -> Result<(), AllocError> {
+    for moment in moments {
+        if moment.kind == Kind::Refusal {
+            lines.extend_from_slice(moment.requests.as_slice())?;
+        }
+    }
+    Ok(())
+}
+
+/// Adds why handlers wait or are busy.
+fn push_waits(lines: &mut Vec<u8>, rerun: Rerun<'_>) -> Result<(), AllocError> {
+    let note = waiting_note(rerun.origin.shared(), rerun.world)?;
+    lines.extend_from_slice(note.as_slice())
+}
+
+/// What there was in front of the failure of a handler.
+fn failure_of(moments: &[Moment], handler: u16) -> Option<&Moment> {
+    for moment in moments {
+        if moment.kind == Kind::Failure && moment.handler == handler {
+            return Some(moment);
+        }
+    }
+    None
+}
+
+/// Adds what the failure of a handler is, where it was, and where more is said of it.
+fn push_failure(
+    alloc: Global,
+    lines: &mut Vec<u8>,
+    handler: usize,
+    cause: Cause,
+    rerun: Option<Rerun<'_>>,
+) -> Result<(), AllocError> {
+    let code = code_of(cause);
+    if let Some(page) = find(code) {
+        push_heading(alloc, lines, handler, page)?;
+    }
+    if let Some(rerun) = rerun {
+        let number = handler.min(u16::MAX as usize) as u16;
+        if let Some(failing) = failing_in(rerun.world, number, cause) {
+            let moment = failure_of(rerun.moments, number);
+            rerun.origin.push_failing(lines, failing, moment)?;
+        }
+    }
+    push_phrases(
+        lines,
+        &[Phrase::around("`scoop explain ", code, "` says more\n")],
+    )
+}
+
+/// Adds by what a handler has failed: the heading of a page, and what it says first.
+fn push_heading(
+    alloc: Global,
+    lines: &mut Vec<u8>,
+    handler: usize,
+    page: &str,
+) -> Result<(), AllocError> {
+    let begin = format!(in alloc; "handler {handler} has failed by ")?;
+    lines.extend_from_slice(begin.as_bytes())?;
+    push_beginning(lines, page)
+}
+
+/// Adds the heading of a page and what it says first.
+fn push_beginning(lines: &mut Vec<u8>, page: &str) -> Result<(), AllocError> {
+    for (number, line) in page.lines().enumerate() {
+        if number > 2 && line.is_empty() {
+            return Ok(());
+        }
+        lines.extend_from_slice(line.as_bytes())?;
+        lines.extend_from_slice(if number == 0 { b":" } else { b"\n" })?;
+    }
+    Ok(())
+}

@@ -1,0 +1,400 @@
+//! What there was in front of a settlement of a run: what is lost behind it.
+
+use crate::breakdown::Origin;
+use crate::failure::Played;
+use crate::history::taken_before;
+use sc_audit::RecordLine;
+use sc_code::Program;
+use sc_explain_waiting::{
+    attributes_note, false_clause_note, push_name, push_request, push_stand, values_note,
+};
+use sc_model::{Cause, Status};
+use sc_region::{BrokenInvariant, Job, Reference, Request, Value, Want};
+use sc_request::{Log, Settlement};
+use sc_whereabouts::invariant_clause;
+use sc_world::{Turned, World};
+use std::alloc::AllocError;
+
+/// Of how many settlements this is told at most.
+const MOST_MOMENTS: usize = 32;
+
+/// How many handlers are told at most that waited.
+const MOST_CALLERS: usize = 16;
+
+/// What a settlement comes to.
+#[derive(Clone, Copy, PartialEq, Eq)]
+pub enum Kind {
+    /// The handler has failed.
+    Failure,
+    /// It has refused a request for which nobody waits.
+    Refusal,
+}
+
+/// A settlement of a run, and what there was in front of it, in words.
+#[derive(Drop)]
+pub struct Moment {
+    pub handler: u16,
+    pub kind: Kind,
+    /// Its place in the log.
+    place: usize,
+    is_told: bool,
+    /// The values of what failed.
+    pub values: Vec<u8>,
+    /// The handlers that waited for it, the innermost first.
+    pub callers: Vec<u8>,
+    /// The requests that were lost.
+    pub requests: Vec<u8>,
+}
+
+/// What there was in front of each failure of a run that was played, and of each refusal for which nobody waited.
+pub fn moments_of(
+    origin: Origin<'_>,
+    world: &World<'_>,
+    program: &Program,
+    played: Played<'_>,
+) -> Result<Vec<Moment>, AllocError> {
+    let mut moments = Vec::new(origin.alloc);
+    for handler in 0..world.handler_count().min(u16::MAX as usize) {
+        add_failure(origin, &mut moments, world, handler as u16)?;
+        add_refusals(origin, &mut moments, world, handler as u16)?;
+    }
+    if !moments.is_empty() {
+        let before = World::open(origin.alloc, program, played.version)?;
+        let mut rerun = Rewound {
+            origin,
+            world: before,
+            lines: played.lines,
+            line: 0,
+            made: 0,
+        };
+        rerun.tell_all(world, &mut moments)?;
+    }
+    Ok(moments)
+}
+
+fn add(
+    origin: Origin<'_>,
+    moments: &mut Vec<Moment>,
+    handler: u16,
+    kind: Kind,
+    place: usize,
+) -> Result<(), AllocError> {
+    if moments.len() >= MOST_MOMENTS {
+        return Ok(());
+    }
+    moments.push(Moment {
+        handler,
+        kind,
+        place,
+        is_told: false,
+        values: Vec::new(origin.alloc),
+        callers: Vec::new(origin.alloc),
+        requests: Vec::new(origin.alloc),
+    })?;
+    Ok(())
+}
+
+fn add_failure(
+    origin: Origin<'_>,
+    moments: &mut Vec<Moment>,
+    world: &World<'_>,
+    handler: u16,
+) -> Result<(), AllocError> {
+    if !matches!(world.status(handler), Some(Status::Failed(_))) {
+        return Ok(());
+    }
+    match last_of(world.log(), handler) {
+        Some(place) => add(origin, moments, handler, Kind::Failure, place),
+        None => Ok(()),
+    }
+}
+
+/// The place of the last settlement of a handler.
+fn last_of(log: &Log, handler: u16) -> Option<usize> {
+    for place in (0..log.len()).rev() {
+        if log.handler_at(place) == Some(handler) {
+            return Some(place);
+        }
+    }
+    None
+}
+
+fn add_refusals(
+    origin: Origin<'_>,
+    moments: &mut Vec<Moment>,
+    world: &World<'_>,
+    handler: u16,
+) -> Result<(), AllocError> {
+    if world.core().refused(handler).unwrap_or(0) == 0 {
+        return Ok(());
+    }
+    let log = world.log();
+    for place in 0..log.len() {
+        if log.handler_at(place) == Some(handler) && is_refusal(log, place) {
+            add(origin, moments, handler, Kind::Refusal, place)?;
+        }
+    }
+    Ok(())
+}
+
+/// Whether a request is refused at a place for which nobody waits.
+fn is_refusal(log: &Log, place: usize) -> bool {
+    let Some(settlement) = log.get(place) else {
+        return false;
+    };
+    let is_refused = matches!(&settlement.want, Want::Done { refused: true, .. });
+    is_refused && !is_served_waited(log, settlement.handler, place)
+}
+
+/// Whether the request is waited for that a handler serves in front of the settlement at a place.
+fn is_served_waited(log: &Log, handler: u16, place: usize) -> bool {
+    match served_before(log, handler, place) {
+        Some(settlement) => match &settlement.job {
+            Job::Take(request) => request.is_waited,
+            _ => true,
+        },
+        None => true,
+    }
+}
+
+/// Who waits for the end of the request that a handler serves in front of the settlement at a place.
+fn client_of(log: &Log, handler: u16, place: usize) -> Option<u16> {
+    let settlement = served_before(log, handler, place)?;
+    match &settlement.job {
+        Job::Take(request) if request.is_waited => request.poster,
+        _ => None,
+    }
+}
+
+/// The settlement by which a handler took the request that it serves in front of that at a place.
+fn served_before(log: &Log, handler: u16, place: usize) -> Option<Settlement> {
+    log.get(taken_before(log, handler, place)?)
+}
+
+/// A run that is played once more, settlement by settlement.
+#[derive(Drop)]
+struct Rewound<'r, 'p> {
+    origin: Origin<'r>,
+    world: World<'p>,
+    lines: &'r [RecordLine],
+    /// The line that is played, and how many turns of it are made.
+    line: usize,
+    made: u32,
+}
+
+impl<'r, 'p> Rewound<'r, 'p> {
+    /// Tells of each moment, the earliest first.
+    fn tell_all(&mut self, ended: &World<'_>, moments: &mut Vec<Moment>) -> Result<(), AllocError> {
+        for _moment in 0..moments.len() {
+            if let Some(index) = earliest(moments.as_slice())
+                && let Some(moment) = moments.get_mut(index)
+            {
+                moment.is_told = true;
+                self.advance(moment.place)?;
+                self.tell(ended, moment)?;
+            }
+        }
+        Ok(())
+    }
+
+    /// Plays on until so many settlements are made.
+    fn advance(&mut self, place: usize) -> Result<(), AllocError> {
+        let lines = self.lines;
+        for line in lines.get(self.line..).unwrap_or(&[]) {
+            for _turn in self.made..line.turns {
+                if self.world.log().len() >= place {
+                    return Ok(());
+                }
+                if self.world.turn(line.handler)? == Turned::Nothing {
+                    break;
+                }
+                self.made = self.made.saturating_add(1);
+            }
+            self.line = self.line.saturating_add(1);
+            self.made = 0;
+        }
+        Ok(())
+    }
+
+    fn tell(&self, ended: &World<'_>, moment: &mut Moment) -> Result<(), AllocError> {
+        let Some(settlement) = ended.log().get(moment.place) else {
+            return Ok(());
+        };
+        match moment.kind {
+            Kind::Refusal => self.tell_refusal(ended.log(), moment),
+            Kind::Failure => {
+                self.tell_values(ended, &settlement, moment)?;
+                self.tell_callers(ended.log(), moment)?;
+                self.tell_dropped(&settlement, moment)
+            }
+        }
+    }
+
+    /// Which request is refused, and by which clause.
+    fn tell_refusal(&self, log: &Log, moment: &mut Moment) -> Result<(), AllocError> {
+        let Some(settlement) = served_before(log, moment.handler, moment.place) else {
+            return Ok(());
+        };
+        let Job::Take(request) = &settlement.job else {
+            return Ok(());
+        };
+        let handler = moment.handler;
+        let lines = &mut moment.requests;
+        lines.extend_from_slice(b"handler ")?;
+        push_name(self.origin.shared(), lines, &self.world, handler)?;
+        lines.extend_from_slice(b" refused ")?;
+        push_request(self.origin.shared(), lines, &self.world, request)?;
+        lines.extend_from_slice(b", and nobody waited for it\n")?;
+        let clause = false_clause_note(self.origin.shared(), &self.world, handler)?;
+        lines.extend_from_slice(clause.as_slice())
+    }
+
+    /// The values of what failed.
+    fn tell_values(
+        &self,
+        ended: &World<'_>,
+        settlement: &Settlement,
+        moment: &mut Moment,
+    ) -> Result<(), AllocError> {
+        let Some(answer) = answer_of(settlement) else {
+            return Ok(());
+        };
+        let Some(breakdown) = ended.breakdown(moment.handler) else {
+            return Ok(());
+        };
+        match (breakdown.invariant, breakdown.point) {
+            (Some(broken), _) => self.tell_attributes(ended, broken, moment),
+            (None, Some(point)) if has_values(settlement) => {
+                let origin = self.origin.shared();
+                let handler = moment.handler;
+                let values = values_note(origin, &self.world, handler, answer, point.place)?;
+                moment.values.extend_from_slice(values.as_slice())
+            }
+            _ => Ok(()),
+        }
+    }
+
+    /// Who waited for the handler, and who for that one, and so on: where each asked for what, and for whom.
+    fn tell_callers(&self, log: &Log, moment: &mut Moment) -> Result<(), AllocError> {
+        let origin = self.origin.shared();
+        let mut handler = moment.handler;
+        let place = moment.place;
+        let lines = &mut moment.callers;
+        for _caller in 0..MOST_CALLERS {
+            let Some(client) = client_of(log, handler, place.saturating_add(1)) else {
+                return Ok(());
+            };
+            lines.extend_from_slice(b"handler ")?;
+            push_name(origin, lines, &self.world, client)?;
+            lines.extend_from_slice(b" waited for it")?;
+            push_stand(origin, lines, &self.world, client)?;
+            lines.push(b'\n')?;
+            handler = client;
+        }
+        Ok(())
+    }
+
+    /// The attributes that a clause of an invariant names, which the object that the handler was at has broken.
+    fn tell_attributes(
+        &self,
+        ended: &World<'_>,
+        broken: BrokenInvariant,
+        moment: &mut Moment,
+    ) -> Result<(), AllocError> {
+        let class = broken.class as usize;
+        let Some(clause) = invariant_clause(self.origin.tables, class, broken.clause) else {
+            return Ok(());
+        };
+        let Some(object) = current_of(&self.world, moment.handler) else {
+            return Ok(());
+        };
+        if object.class != broken.class {
+            return Ok(());
+        }
+        let values = attributes_note(self.origin.shared(), ended, object, clause.span)?;
+        moment.values.extend_from_slice(values.as_slice())
+    }
+
+    /// How many requests stood behind the one that failed.
+    fn tell_dropped(&self, settlement: &Settlement, moment: &mut Moment) -> Result<(), AllocError> {
+        let standing = self.world.core().queue_len(moment.handler);
+        let takes = matches!(&settlement.job, Job::Take(_));
+        let count = if takes {
+            standing.saturating_sub(1)
+        } else {
+            standing
+        };
+        if count == 0 {
+            return Ok(());
+        }
+        let told = if count == 1 {
+            format!(in self.origin.alloc; "1 request that stood behind it was dropped")?
+        } else {
+            format!(in self.origin.alloc; "{count} requests that stood behind it were dropped")?
+        };
+        moment.requests.extend_from_slice(told.as_bytes())?;
+        match self.world.core().first_asked(moment.handler) {
+            Some(request) if !takes => self.tell_first(count, request, moment)?,
+            _ => {}
+        }
+        moment.requests.push(b'\n')?;
+        Ok(())
+    }
+
+    fn tell_first(
+        &self,
+        count: usize,
+        request: &Request,
+        moment: &mut Moment,
+    ) -> Result<(), AllocError> {
+        let lines = &mut moment.requests;
+        lines.extend_from_slice(if count == 1 {
+            b": ".as_slice()
+        } else {
+            b": first ".as_slice()
+        })?;
+        push_request(self.origin.shared(), lines, &self.world, request)
+    }
+}
+
+/// The object on which the topmost routine of a handler runs.
+fn current_of(world: &World<'_>, handler: u16) -> Option<Reference> {
+    world.region(handler)?.store().current()
+}
+
+/// The earliest moment that wasn't told of.
+fn earliest(moments: &[Moment]) -> Option<usize> {
+    let mut found: Option<usize> = None;
+    let mut least = usize::MAX;
+    for (index, moment) in moments.iter().enumerate() {
+        if !moment.is_told && (found.is_none() || moment.place < least) {
+            found = Some(index);
+            least = moment.place;
+        }
+    }
+    found
+}
+
+/// The answer that the turns of a settlement begin with, if one has come; None where they begin with something else that changes
+/// what a routine has.
+fn answer_of(settlement: &Settlement) -> Option<Option<Value>> {
+    match &settlement.job {
+        Job::Reply(answer) => Some(*answer),
+        Job::Go | Job::Granted(_) => Some(None),
+        _ => None,
+    }
+}
+
+/// Whether the failure is one of values.
+fn has_values(settlement: &Settlement) -> bool {
+    matches!(
+        &settlement.want,
+        Want::Fail(
+            Cause::Postcondition
+                | Cause::Check
+                | Cause::Precondition
+                | Cause::Overflow
+                | Cause::DivideByZero,
+        )
+    )
+}

@@ -1,5 +1,0 @@
-use Rattle.sc_free.proofs.Linking.{free_regions_rest}
-use Rattle.sc_free.proofs.laws.free_regions_rest.Goals as goal
-
-pub returns : goal.returns
-returns c = free_regions_rest

@@ -1,5 +1,0 @@
-use Rattle.sc_free.proofs.Linking.{linked_objects_meet}
-use Rattle.sc_free.proofs.laws.linked_objects_meet.Goals as goal
-
-pub returns : goal.returns
-returns c = linked_objects_meet

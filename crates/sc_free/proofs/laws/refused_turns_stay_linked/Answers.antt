@@ -1,5 +1,0 @@
-use Rattle.sc_free.proofs.Linking.{refused_turns_stay_linked}
-use Rattle.sc_free.proofs.laws.refused_turns_stay_linked.Goals as goal
-
-pub returns : goal.returns
-returns c = refused_turns_stay_linked

@@ -1,5 +1,0 @@
-use Rattle.sc_free.proofs.Linking.{turns_stay_linked}
-use Rattle.sc_free.proofs.laws.turns_stay_linked.Goals as goal
-
-pub returns : goal.returns
-returns c = turns_stay_linked

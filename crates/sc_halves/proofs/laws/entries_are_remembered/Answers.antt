@@ -1,5 +1,0 @@
-use Rattle.sc_halves.proofs.Remembering.{entries_are_remembered}
-use Rattle.sc_halves.proofs.laws.entries_are_remembered.Goals as goal
-
-pub returns : goal.returns
-returns c = entries_are_remembered

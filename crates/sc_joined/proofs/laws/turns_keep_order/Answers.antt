@@ -1,5 +1,0 @@
-use Rattle.sc_joined.proofs.Ordering.{turns_keep_order}
-use Rattle.sc_joined.proofs.laws.turns_keep_order.Goals as goal
-
-pub returns : goal.returns
-returns c = turns_keep_order

@@ -1,5 +1,0 @@
-use Rattle.sc_laws.proofs.Posting.{posted_under_right}
-use Rattle.sc_laws.proofs.headline.posted_under_right.Goals as goal
-
-pub returns : goal.returns
-returns c = posted_under_right

@@ -1,0 +1,514 @@
+-- Queues give their first and take at their end.
+use Rattle.std.proofs.Common.{◌≡◌, ◌⊎◌, ⊎_elim, inl, inr, ℕ, ◌<◌, ◌≤◌, List, [], ◌∷◌, ◌++◌, Option, Some, None, Bool, true, false, ◌==◌, refl, sym, ap, subst, ◌∙◌, arith}
+use Rattle.std.proofs.lemmas.Bool.{eqb-true, eq-eqb, cases_eq}
+use Rattle.std.specs.Prelude.{◌&&◌, ◌||◌, not, if◌then◌else◌, is_some, length, nat_lt}
+use Rattle.std.specs.Option.{option_map}
+use Rattle.sc_tree.specs.Plain as tree
+use Rattle.sc_tree.specs.Plain.{System, Clause, FeatureKind}
+use Rattle.sc_class.specs.Tables.Features.{DeclaredFeature}
+use Rattle.sc_proctype.specs.declared.entity_type.EntityType.{EntityType}
+use Rattle.sc_rules.specs.Types.{declared_type}
+use Rattle.sc_lockpass.specs.Rights.{held}
+use Rattle.sc_lockpass.specs.Passing.{Passed}
+use Rattle.sc_waitcond.specs.declared.session.Release.{Release}
+use Rattle.sc_waitcond.specs.Reservations.{reserve_fails}
+use Rattle.sc_waitcond.specs.declared.condition.Verdict.{Verdict}
+use Rattle.sc_waitcond.specs.declared.condition.Verdict.TheVariants as verdict
+use Rattle.sc_waitcond.specs.declared.session.Release.TheVariants as release_at
+use Rattle.sc_model.specs.declared.cause.Cause.{Cause}
+use Rattle.sc_model.specs.declared.cause.Cause.TheVariants as cause
+use Rattle.sc_model.specs.Values.{Reference, Value, Attached, Operand, operand, values_of}
+use Rattle.sc_model.specs.Environments.{Binding, binding_named, formals_bound}
+use Rattle.sc_model.specs.Objects.{Object, object_numbered, fresh_object}
+use Rattle.sc_model.specs.Invariants.{meets_invariant}
+use Rattle.sc_model.specs.Routines.{Routine, version_of, routine_named, routine_of}
+use Rattle.sc_model.specs.Limits.{max_frames, max_queue}
+use Rattle.sc_model.specs.Steps.{Act, Prints, Tests, Creates, CreatesHandler, Enters, Requests, Starts, Refuses, Opens, Leaves, Exits, Fails, Step, Goes, Does}
+use Rattle.sc_model.specs.Moves.{moves}
+use Rattle.sc_model.specs.Handlers.{Errand, Calls, Makes, Request, Answer, Reply, Failed, Refused, Origin, Called, Requested, Stage, Runs, Reserves, ReservesBlock, InCall, Awaits, Frame, Handler, World, new_handler, put, with_stack, point_of, frame_at}
+use Rattle.sc_model.specs.Sessions.{standing_in}
+use Rattle.sc_model.specs.Answers.{finish}
+use Rattle.sc_model.specs.Failures.{fail, fails_with}
+use Rattle.sc_model.specs.Entries.{entry, enters_bound, enters, reserves_if, may_reserve, entry_needs, block_needs}
+use Rattle.sc_model.specs.Asking.{passes, placed, send, awaits_if, request_by, is_callback, asks, request, with_handler, passes_or_releases, created, creates_handler}
+use Rattle.sc_model.specs.Preconditions.{verdict_on, waits_again, is_creation, object_meets, counted_refusal, refuses, correctness_fails, false_clause}
+use Rattle.sc_model.specs.Exits.{is_unset, is_unset_value, is_untested, handed, handed_as, leaves_to, exits, leaves_block}
+use Rattle.sc_model.specs.Takes.{replies, takes_kind, takes_version, takes_creation, with_new_object, takes_errand, takes_next, takes_callback, released_if, takes_answer}
+use Rattle.sc_model.specs.Turns.{turn_with, goes_on, settles, effect, waits}
+use Rattle.sc_model.specs.Sessions.{session_ended, reserve, release}
+use Rattle.sc_model.specs.Answers.{answered, answer_to, return_rights}
+use Rattle.sc_model.specs.Failures.{told, fallen}
+use Rattle.sc_machine_rights.specs.Headline as headline
+use Rattle.sc_machine_rights.specs.Headline.{QueueMoves, QueuesAreInOrder}
+use Rattle.sc_machine_rights.proofs.Rights.{differs}
+
+-- ---- queues that stay, or fall with their handler
+
+record Kept (x y : Handler) : Type 0 where
+  queue : (y.queue ≡ x.queue) ⊎ ((y.queue ≡ []) × (is_some y.failure ≡ true))
+  failed : is_some x.failure ≡ true → is_some y.failure ≡ true
+
+same_queue : (x y : Handler) → y.queue ≡ x.queue → y.failure ≡ x.failure → Kept x y
+same_queue x y e f = record { queue = inl e; failed = λ d. ap is_some f ∙ d }
+
+kept_trans : {x y z : Handler} → Kept x y → Kept y z → Kept x z
+kept_trans {x} {y} {z} p q = record {
+  queue = ⊎_elim
+      (λ e. ⊎_elim (λ d. inl (e ∙ d)) (λ d. inr (e ∙ d.0, q.failed d.1)) p.queue)
+      (λ f. inr f)
+      q.queue;
+  failed = λ d. q.failed (p.failed d);
+}
+
+record Keeps (h : ℕ) (w v : World) : Type 0 where
+  each : (k : ℕ) → Kept (w.handlers k) (v.handlers k)
+
+keeps_trans : {h : ℕ} {u v w : World} → Keeps h u v → Keeps h v w → Keeps h u w
+keeps_trans p q = record { each = λ k. kept_trans (p.each k) (q.each k) }
+
+keeps_same : (h : ℕ) (w v : World) → v.handlers ≡ w.handlers → w.count ≤ v.count → Keeps h w v
+keeps_same h w v e c = record {
+  each = λ k. same_queue (w.handlers k) (v.handlers k)
+      (ap (λ (f : ℕ → Handler). (f k).queue) e) (ap (λ (f : ℕ → Handler). (f k).failure) e);
+}
+
+put_any : (h k : ℕ) (x : Handler) (w : World) → Kept (w.handlers k) x → Keeps h w (put k x w)
+put_any h k x w g = record { each = λ j. by j (j == k) refl }
+  where
+    by : (j : ℕ) (b : Bool) → (j == k) ≡ b → Kept (w.handlers j) (if b then x else w.handlers j)
+    by j true e = subst (λ y. Kept (w.handlers y) x) (sym (eqb-true j k e)) g
+    by j false e = same_queue (w.handlers j) (w.handlers j) refl refl
+
+put_own : (h : ℕ) (x : Handler) (w : World) → Kept (w.handlers h) x → Keeps h w (put h x w)
+put_own h x w g = put_any h h x w g
+
+stack_keeps : (h : ℕ) (stack : List Frame) (w : World) → Keeps h w (with_stack h stack w)
+stack_keeps h stack w = put_own h (record (w.handlers h) { stack = stack }) w
+    (same_queue (w.handlers h) (record (w.handlers h) { stack = stack }) refl refl)
+
+session_kept : (b : Bool) (x : Handler) → Kept x (session_ended b x)
+session_kept false x = same_queue x x refl refl
+session_kept true x = same_queue x (session_ended true x) refl refl
+
+reserve_keeps : (h : ℕ) (ks : List ℕ) (w : World) → Keeps h w (reserve h ks w)
+reserve_keeps h ks w = keeps_same h w (reserve h ks w) refl (omega arith)
+
+release_keeps : (h : ℕ) (how : Release) (ks : List ℕ) (w : World) → Keeps h w (release how ks w)
+release_keeps h how ks w = record { each = λ k. session_kept _ (w.handlers k) }
+
+returned_keeps : (h : ℕ) (p : Option Passed) (w : World) → Keeps h w (return_rights p w)
+returned_keeps h None w = keeps_same h w w refl (omega arith)
+returned_keeps h (Some p) w = keeps_same h w (return_rights (Some p) w) refl (omega arith)
+
+answer_to_keeps : (h : ℕ) (b : Bool) (p : Option ℕ) (a : Answer) (w : World) → Keeps h w (answer_to b p a w)
+answer_to_keeps h true (Some p) a w = put_any h p (answered a (w.handlers p)) w
+    (same_queue (w.handlers p) (answered a (w.handlers p)) refl refl)
+answer_to_keeps h true None a w = keeps_same h w w refl (omega arith)
+answer_to_keeps h false p a w = keeps_same h w w refl (omega arith)
+
+finish_keeps : (h : ℕ) (r : Request) (a : Answer) (w : World) → Keeps h w (finish r a w)
+finish_keeps h r a w = keeps_trans (returned_keeps h r.passed w)
+    (answer_to_keeps h r.is_waited r.poster a (return_rights r.passed w))
+
+fails_kept : (b c d : Bool) (why : Cause) (x : Handler) → Kept x
+    (session_ended b (if c then fallen why x else told d x))
+fails_kept b true d why x = kept_trans (record { queue = inr (refl, refl); failed = λ _. refl })
+    (session_kept b (fallen why x))
+fails_kept b false true why x = kept_trans (same_queue x (told true x) refl refl) (session_kept b (told true x))
+fails_kept b false false why x = session_kept b x
+
+fails_keeps : (h : ℕ) (why : Cause) (taken : List Request) (w : World) → Keeps h w (fails_with h why taken w)
+fails_keeps h why taken w = record { each = λ k. fails_kept _ (k == h) _ why (w.handlers k) }
+
+fail_keeps : (h : ℕ) (why : Cause) (w : World) → Keeps h w (fail h why w)
+fail_keeps h why w = fails_keeps h why [] w
+
+if_keeps : (h : ℕ) (w : World) (b : Bool) (x y : World) → Keeps h w x → Keeps h w y → Keeps h w (if b then x else y)
+if_keeps h w true x y p q = p
+if_keeps h w false x y p q = q
+
+stays : (h : ℕ) (w : World) → Keeps h w w
+stays h w = keeps_same h w w refl (omega arith)
+
+-- ---- entering
+
+bound_keeps : (h : ℕ) (me : Reference) (r : Routine) (o : Origin) (below : List Frame) (taken : List Request)
+    (bs : Option (List Binding)) (w : World) → Keeps h w (enters_bound h me r o below taken bs w)
+bound_keeps h me r o below taken None w = fails_keeps h cause.BadCode taken w
+bound_keeps h me r o below taken (Some bs) w =
+    if_keeps h w (nat_lt (length below) max_frames) _ (fails_with h cause.StackFull taken w)
+    (stack_keeps h (entry me r o bs ∷ below) w) (fails_keeps h cause.StackFull taken w)
+
+enters_keeps : (s : System) (h : ℕ) (me : Reference) (r : Option Routine) (o : Origin) (below : List Frame)
+    (taken : List Request) (vs : List Value) (w : World) → Keeps h w (enters s h me r o below taken vs w)
+enters_keeps s h me None o below taken vs w = fails_keeps h cause.BadCode taken w
+enters_keeps s h me (Some r) o below taken vs w = bound_keeps h me r o below taken
+    (formals_bound s r.text.formals 0 r.text.formals vs) w
+
+reserves_keeps : (b : Bool) (h : ℕ) (ks : List ℕ) (f : Frame) (below : List Frame) (w : World) → Keeps h w
+    (reserves_if b h ks f below w)
+reserves_keeps false h ks f below w = stays h w
+reserves_keeps true h ks f below w =
+    if_keeps h w (reserve_fails (standing_in w) w.rights ks) (fail h cause.SupplierFailed w) _
+    (fail_keeps h cause.SupplierFailed w)
+    (keeps_trans (stack_keeps h (f ∷ below) w) (reserve_keeps h ks (with_stack h (f ∷ below) w)))
+
+passes_keeps : (h : ℕ) (b : Bool) (k : ℕ) (w : World) → Keeps h w (passes b h k w)
+passes_keeps h false k w = stays h w
+passes_keeps h true k w = keeps_same h w (passes true h k w) refl (omega arith)
+
+released_keeps : (h : ℕ) (b : Bool) (k : ℕ) (w : World) → Keeps h w (passes_or_releases b h k w)
+released_keeps h true k w = passes_keeps h true k w
+released_keeps h false k w = release_keeps h release_at.Creation (k ∷ []) w
+
+-- ---- preconditions
+
+waits_again_keeps : (h : ℕ) (f : Frame) (below : List Frame) (w : World) → Keeps h w (waits_again h f below w)
+waits_again_keeps h f below w = keeps_trans (stack_keeps h _ w)
+    (release_keeps h release_at.FalseWaitCondition f.reserved _)
+
+counted_grows : (b : Bool) (x : Handler) (stack : List Frame) → Kept x
+    (counted_refusal b (record x { stack = stack }))
+counted_grows true x stack = same_queue x (record x { stack = stack }) refl refl
+counted_grows false x stack = same_queue x (counted_refusal false (record x { stack = stack })) refl refl
+
+refuses_keeps : (s : System) (h : ℕ) (r : Request) (f : Frame) (below : List Frame) (w : World) → Keeps h w
+    (refuses s h r f below w)
+refuses_keeps s h r f below w =
+    if_keeps h w (is_creation r.errand && not
+    (object_meets s (object_numbered f.current.number (w.handlers h).objects))) (fail h cause.Invariant w) _
+    (fail_keeps h cause.Invariant w)
+    (keeps_trans (keeps_trans (put_own h (counted_refusal r.is_waited (record (w.handlers h) { stack = below })) w
+    (counted_grows r.is_waited (w.handlers h) below)) (release_keeps h release_at.Refusal f.reserved _))
+    (finish_keeps h r Refused _))
+
+correctness_keeps : (s : System) (h : ℕ) (o : Origin) (f : Frame) (below : List Frame) (w : World) → Keeps h w
+    (correctness_fails s h o f below w)
+correctness_keeps s h (Called c) f below w = fail_keeps h cause.Precondition w
+correctness_keeps s h (Requested r) f below w = refuses_keeps s h r f below w
+
+clause_keeps : (v : Verdict) (s : System) (h : ℕ) (f : Frame) (below : List Frame) (w : World) → Keeps h w
+    (false_clause v s h f below w)
+clause_keeps verdict.Wait s h f below w = waits_again_keeps h f below w
+clause_keeps verdict.Refuse s h f below w = correctness_keeps s h f.origin f below w
+clause_keeps verdict.Start s h f below w = fail_keeps h cause.BadCode w
+
+-- ---- exits
+
+leaves_to_keeps : (h : ℕ) (o : Origin) (ks : List ℕ) (v : Option Value) (below : List Frame) (w : World) → Keeps h w
+    (leaves_to h o ks v below w)
+leaves_to_keeps h (Called c) ks v below w = keeps_trans (stack_keeps h (handed v below) w)
+    (release_keeps h release_at.Exit ks _)
+leaves_to_keeps h (Requested r) ks v below w = keeps_trans
+    (keeps_trans (stack_keeps h below w) (release_keeps h release_at.Exit ks _)) (finish_keeps h r (Reply v) _)
+
+exits_keeps : (s : System) (h : ℕ) (f : Frame) (below : List Frame) (w : World) → Keeps h w (exits s h f below w)
+exits_keeps s h f below w =
+    if_keeps h w (is_unset f.result) (fail h cause.UnsetEntity w) _ (fail_keeps h cause.UnsetEntity w)
+    (if_keeps h w (is_untested f.origin || object_meets s (object_numbered f.current.number (w.handlers h).objects)) _
+    (fail h cause.Invariant w)
+    (leaves_to_keeps h f.origin f.reserved (option_map (λ (u : Operand). u.value) f.result) below w)
+    (fail_keeps h cause.Invariant w))
+
+block_keeps : (h : ℕ) (kss : List (List ℕ)) (f : Frame) (below : List Frame) (w : World) → Keeps h w
+    (leaves_block h kss f below w)
+block_keeps h [] f below w = fail_keeps h cause.BadCode w
+block_keeps h (ks ∷ kss) f below w = keeps_trans (stack_keeps h (record f { blocks = kss } ∷ below) w)
+    (release_keeps h release_at.Leave ks _)
+
+-- ---- taking
+
+replies_keeps : (h : ℕ) (r : Request) (t : Option EntityType) (b : Option Binding) (w : World) → Keeps h w
+    (replies h r t b w)
+replies_keeps h r (Some t) (Some b) w =
+    if_keeps h w (is_unset_value b.value t) (fails_with h cause.UnsetEntity (r ∷ []) w)
+    (finish r (Reply (Some b.value)) w) (fails_keeps h cause.UnsetEntity (r ∷ []) w)
+    (finish_keeps h r (Reply (Some b.value)) w)
+replies_keeps h r (Some t) None w = fails_keeps h cause.BadCode (r ∷ []) w
+replies_keeps h r None b w = fails_keeps h cause.BadCode (r ∷ []) w
+
+kind_keeps : (s : System) (h : ℕ) (r : Request) (x : List ℕ) (below : List Frame) (o : Object) (f : DeclaredFeature)
+    (k : FeatureKind) (w : World) → Keeps h w (takes_kind s h r x below o f k w)
+kind_keeps s h r x below o f (tree.Attribute d) w = replies_keeps h r (declared_type s [] d)
+    (binding_named x o.attributes) w
+kind_keeps s h r x below o f (tree.Routine c) w = enters_keeps s h r.target (routine_of s f)
+    (Requested r) below (r ∷ []) r.actuals w
+
+version_keeps : (s : System) (h : ℕ) (r : Request) (x : List ℕ) (below : List Frame) (o : Option Object)
+    (f : Option DeclaredFeature) (w : World) → Keeps h w (takes_version s h r x below o f w)
+version_keeps s h r x below (Some o) (Some f) w = kind_keeps s h r x below o f f.feature.kind w
+version_keeps s h r x below (Some o) None w = fails_keeps h cause.BadCode (r ∷ []) w
+version_keeps s h r x below None f w = fails_keeps h cause.BadCode (r ∷ []) w
+
+creation_keeps : (s : System) (h : ℕ) (r : Request) (k : Option (List ℕ)) (below : List Frame) (w : World) → Keeps h w
+    (takes_creation s h r k below w)
+creation_keeps s h r (Some x) below w = enters_keeps s h r.target (routine_named s r.target.class x)
+    (Requested r) below (r ∷ []) r.actuals w
+creation_keeps s h r None below w =
+    if_keeps h w (meets_invariant s (fresh_object s r.target.class)) (finish r (Reply None) w)
+    (fails_with h cause.Invariant (r ∷ []) w) (finish_keeps h r (Reply None) w)
+    (fails_keeps h cause.Invariant (r ∷ []) w)
+
+errand_keeps : (s : System) (h : ℕ) (r : Request) (e : Errand) (below : List Frame) (w : World) → Keeps h w
+    (takes_errand s h r e below w)
+errand_keeps s h r (Makes k) below w =
+    keeps_trans (put_own h (record
+    (w.handlers h) { objects = (w.handlers h).objects ++ fresh_object s r.target.class ∷ [] }) w
+    (same_queue (w.handlers h) _ refl refl))
+    (creation_keeps s h r k below (with_new_object s h r.target.class w))
+errand_keeps s h r (Calls x) below w =
+    if_keeps h w (r.target.handler == h) _ (fails_with h cause.ForeignObject (r ∷ []) w)
+    (version_keeps s h r x below (object_numbered r.target.number (w.handlers h).objects)
+    (version_of s r.target.class x) w) (fails_keeps h cause.ForeignObject (r ∷ []) w)
+
+callback_keeps : (s : System) (h : ℕ) (r : Request) (stack : List Frame) (w : World) → Keeps h w
+    (takes_callback s h r stack w)
+callback_keeps s h r stack w =
+    keeps_trans (put_own h (record (w.handlers h) { callback = None }) w (same_queue (w.handlers h) _ refl refl))
+    (errand_keeps s h r r.errand stack (put h (record (w.handlers h) { callback = None }) w))
+
+released_if_keeps : (h : ℕ) (b : Bool) (k : ℕ) (w : World) → Keeps h w (released_if b k w)
+released_if_keeps h false k w = stays h w
+released_if_keeps h true k w = release_keeps h release_at.Creation (k ∷ []) w
+
+answer_keeps : (h : ℕ) (a : Answer) (k : ℕ) (g : Option EntityType) (b : Bool) (f : Frame) (below : List Frame)
+    (w : World) → Keeps h w (takes_answer h a k g b f below w)
+answer_keeps h (Reply v) k g b f below w =
+    keeps_trans (put_own h (record (w.handlers h) { stack = handed_as g v f ∷ below; answer = None }) w
+    (same_queue (w.handlers h) _ refl refl)) (released_if_keeps h b k _)
+answer_keeps h Failed k g b f below w = fail_keeps h cause.SupplierFailed w
+answer_keeps h Refused k g b f below w = fail_keeps h cause.Precondition w
+
+-- ---- a request comes
+
+-- each queue stays, or falls with its handler, or a request of h comes behind its last; of the handlers that are
+-- there
+record Moves (h : ℕ) (w v : World) : Type 0 where
+  each : (k : ℕ) → k < w.count → Kept (w.handlers k) (v.handlers k) ⊎
+      ((r : Request) × (r.poster ≡ Some h) × ((v.handlers k).queue ≡ (w.handlers k).queue ++ r ∷ []))
+
+keeps_moves : {h : ℕ} {w v : World} → Keeps h w v → Moves h w v
+keeps_moves p = record { each = λ k l. inl (p.each k) }
+
+if_moves : (h : ℕ) (w : World) (b : Bool) (x y : World) → Moves h w x → Moves h w y → Moves h w (if b then x else y)
+if_moves h w true x y p q = p
+if_moves h w false x y p q = q
+
+-- a world in which each queue is the same
+record Rests (w v : World) : Type 0 where
+  queue : (k : ℕ) → k < w.count → (v.handlers k).queue ≡ (w.handlers k).queue
+  failure : (k : ℕ) → k < w.count → (v.handlers k).failure ≡ (w.handlers k).failure
+  counts : w.count ≤ v.count
+
+rests_move : {h : ℕ} {u w v : World} → Rests u w → Moves h w v → Moves h u v
+rests_move {h} {u} {w} {v} p q = record {
+  each = λ k l. ⊎_elim
+      (λ a. inl (kept_trans (same_queue (u.handlers k) (w.handlers k) (p.queue k l) (p.failure k l)) a))
+      (λ (a : (r : Request) × (r.poster ≡ Some h) × ((v.handlers k).queue ≡ (w.handlers k).queue ++ r ∷ [])). inr
+      (a.0, a.1, a.2 ∙ ap (λ qs. qs ++ a.0 ∷ []) (p.queue k l)))
+      (q.each k (let c = p.counts in omega (arith, l, c)));
+}
+
+moves_rest : {h : ℕ} {u w v : World} → Moves h u w → ((k : ℕ) → (v.handlers k).queue ≡ (w.handlers k).queue)
+    → ((k : ℕ) → (v.handlers k).failure ≡ (w.handlers k).failure) → Moves h u v
+moves_rest {h} {u} {w} {v} p e f = record {
+  each = λ k l. ⊎_elim
+      (λ a. inl (kept_trans a (same_queue (w.handlers k) (v.handlers k) (e k) (f k))))
+      (λ (a : (r : Request) × (r.poster ≡ Some h) × ((w.handlers k).queue ≡ (u.handlers k).queue ++ r ∷ [])). inr
+      (a.0, a.1, e k ∙ a.2))
+      (p.each k l);
+}
+
+put_rests : (h : ℕ) (x : Handler) (w : World) → x.queue ≡ (w.handlers h).queue → x.failure ≡ (w.handlers h).failure
+    → Rests w (put h x w)
+put_rests h x w e f = record {
+  queue = λ k l. at k (k == h) refl (λ (y : Handler). y.queue) e;
+  failure = λ k l. by k (k == h) refl;
+  counts = omega arith;
+}
+  where
+    at : (k : ℕ) (b : Bool) → (k == h) ≡ b → (g : Handler → List Request) → g x ≡ g (w.handlers h) → g
+        (if b then x else w.handlers k) ≡ g (w.handlers k)
+    at k true i g same = same ∙ ap (λ j. g (w.handlers j)) (sym (eqb-true k h i))
+    at k false i g same = refl
+
+    by : (k : ℕ) (b : Bool) → (k == h) ≡ b → (if b then x else w.handlers k).failure ≡ (w.handlers k).failure
+    by k true i = f ∙ ap (λ j. (w.handlers j).failure) (sym (eqb-true k h i))
+    by k false i = refl
+
+send_moves : (h : ℕ) (b : Bool) (k : ℕ) (q : Request) (w : World) → q.poster ≡ Some h → Moves h w (send b k q w)
+send_moves h b k q w mine = record { each = λ j l. by j (j == k) refl b }
+  where
+    by : (j : ℕ) (c : Bool) → (j == k) ≡ c → (b : Bool) → Kept (w.handlers j)
+        (if c then placed b q (w.handlers k) else w.handlers j)
+        ⊎ ((r : Request) × (r.poster ≡ Some h) ×
+        ((if c then placed b q (w.handlers k) else w.handlers j).queue ≡ (w.handlers j).queue ++ r ∷ []))
+    by j false e b = inl (same_queue (w.handlers j) (w.handlers j) refl refl)
+    by j true e true = inl (subst (λ y. Kept (w.handlers y) (placed true q (w.handlers k))) (sym (eqb-true j k e))
+        (same_queue (w.handlers k) (placed true q (w.handlers k)) refl refl))
+    by j true e false = inr (q, mine, ap (λ y. (w.handlers y).queue ++ q ∷ []) (sym (eqb-true j k e)))
+
+passed_same : (b : Bool) (h k : ℕ) (w : World) → (passes b h k w).handlers ≡ w.handlers
+passed_same true h k w = refl
+passed_same false h k w = refl
+
+asks_moves : (h : ℕ) (r : Reference) (x : List ℕ) (us : List Operand) (g : Option EntityType) (passing waiting : Bool)
+    (f : Frame) (below : List Frame) (w : World) → Moves h w (asks h r x us g passing waiting f below w)
+asks_moves h r x us g passing waiting f below w =
+    let u = with_stack h (awaits_if waiting r.handler g false f ∷ below) w in
+    let q = request_by h r (Calls x) us waiting passing w in
+    let v = send (is_callback h r.handler w) r.handler q u in
+    let same = passed_same passing h r.handler v in
+    moves_rest (rests_move (put_rests h
+    (record (w.handlers h) { stack = awaits_if waiting r.handler g false f ∷ below }) w refl refl)
+    (send_moves h (is_callback h r.handler w) r.handler q u refl))
+    (λ k. ap (λ (fs : ℕ → Handler). (fs k).queue) same) (λ k. ap (λ (fs : ℕ → Handler). (fs k).failure) same)
+
+request_moves : (h : ℕ) (r : Reference) (x : List ℕ) (us : List Operand) (g : Option EntityType) (passing : Bool)
+    (f : Frame) (below : List Frame) (w : World) → Moves h w (request h r x us g passing f below w)
+request_moves h r x us g passing f below w =
+    if_moves h w (not (held w.rights h r.handler)) (fail h cause.NotHeld w) _
+    (keeps_moves (fail_keeps h cause.NotHeld w))
+    (if_moves h w (is_some (w.handlers r.handler).failure) (fail h cause.SupplierFailed w) _
+    (keeps_moves (fail_keeps h cause.SupplierFailed w))
+    (if_moves h w (not (is_callback h r.handler w) && not (nat_lt (length (w.handlers r.handler).queue) max_queue))
+    (fail h cause.QueueFull w) _ (keeps_moves (fail_keeps h cause.QueueFull w))
+    (asks_moves h r x us g passing (passing || is_some g || is_callback h r.handler w) f below w)))
+
+-- the others are as they were when a handler is new
+with_handler_rests : (h : ℕ) (w : World) → Rests w (with_handler w.count h w)
+with_handler_rests h w = record {
+  queue = λ k l. ap (λ (b : Bool). (if b then new_handler else w.handlers k).queue)
+      (differs k w.count (λ e. absurd (omega (arith, e, l))));
+  failure = λ k l. ap (λ (b : Bool). (if b then new_handler else w.handlers k).failure)
+      (differs k w.count (λ e. absurd (omega (arith, e, l))));
+  counts = omega arith;
+}
+
+released_same : (h : ℕ) (b : Bool) (k : ℕ) (w : World) (j : ℕ)
+    → (((passes_or_releases b h k w).handlers j).queue ≡ (w.handlers j).queue) ×
+    (((passes_or_releases b h k w).handlers j).failure ≡ (w.handlers j).failure)
+released_same h true k w j = (refl, refl)
+released_same h false k w j = by _ (w.handlers j)
+  where
+    by : (b : Bool) (x : Handler) → ((session_ended b x).queue ≡ x.queue) × ((session_ended b x).failure ≡ x.failure)
+    by true x = (refl, refl)
+    by false x = (refl, refl)
+
+created_moves : (h : ℕ) (class : ℕ) (procedure : Option (List ℕ)) (us : List Operand) (t : EntityType)
+    (passing : Bool) (f : Frame) (below : List Frame) (w : World)
+    → Moves h w (created h (record { handler = w.count; number = 1; class = class }) procedure us t passing f below w)
+created_moves h class procedure us t passing f below w =
+    let r : Reference = record { handler = w.count; number = 1; class = class } in
+    let u = with_handler w.count h w in
+    let stack : List Frame = awaits_if passing r.handler None true
+    (record f { values = operand (Attached r) t ∷ f.values }) ∷ below in
+    let z = with_stack h (awaits_if passing w.count None true
+    (record f { values = operand (Attached r) t ∷ f.values }) ∷ below) u in
+    let q = request_by h r (Makes procedure) us passing passing u in
+    let v = send false w.count q z in
+    moves_rest (rests_move (with_handler_rests h w)
+    (rests_move (put_rests h (record (u.handlers h) { stack = stack }) u refl refl)
+    (send_moves h false w.count q z refl)))
+    (λ k. (released_same h passing w.count v k).0) (λ k. (released_same h passing w.count v k).1)
+
+creates_moves : (most h class : ℕ) (procedure : Option (List ℕ)) (us : List Operand) (t : EntityType) (passing : Bool)
+    (f : Frame) (below : List Frame) (w : World) → Moves h w
+    (creates_handler most h class procedure us t passing f below w)
+creates_moves most h class procedure us t passing f below w =
+    if_moves h w (nat_lt w.count most) _ (fail h cause.TooManyHandlers w)
+    (created_moves h class procedure us t passing f below w) (keeps_moves (fail_keeps h cause.TooManyHandlers w))
+
+-- ---- turns
+
+effect_moves : (most : ℕ) (s : System) (h : ℕ) (a : Act) (f : Frame) (below : List Frame) (w : World) → Moves h w
+    (effect most s h a f below w)
+effect_moves most s h (Prints text) f below w = keeps_moves
+    (put_own h (record (w.handlers h) { output = (w.handlers h).output ++ text }) w
+    (same_queue (w.handlers h) _ refl refl))
+effect_moves most s h Tests f below w = keeps_moves (stays h w)
+effect_moves most s h Creates f below w = keeps_moves (stays h w)
+effect_moves most s h Starts f below w = keeps_moves (stays h w)
+effect_moves most s h (CreatesHandler class procedure us t passing) f below w =
+    creates_moves most h class procedure us t passing f below w
+effect_moves most s h (Enters c me x us g) f below w = keeps_moves
+    (enters_keeps s h me (routine_named s me.class x) (Called c) (record f { stage = InCall g } ∷ below) []
+    (values_of us) w)
+effect_moves most s h (Requests r x us g passing) f below w = request_moves h r x us g passing f below w
+effect_moves most s h (Refuses k) f below w = keeps_moves (clause_keeps (verdict_on f k) s h f below w)
+effect_moves most s h Opens f below w = keeps_moves (stack_keeps h (record f { stage = ReservesBlock } ∷ below) w)
+effect_moves most s h Leaves f below w = keeps_moves (block_keeps h f.blocks f below w)
+effect_moves most s h Exits f below w = keeps_moves (exits_keeps s h f below w)
+effect_moves most s h (Fails why) f below w = keeps_moves (fail_keeps h why w)
+
+settles_moves : (most : ℕ) (s : System) (h : ℕ) (st : Step) (f : Frame) (below : List Frame) (w : World) → Moves h w
+    (settles most s h st f below w)
+settles_moves most s h (Goes p) f below w = keeps_moves (stays h w)
+settles_moves most s h (Does a p) f below w =
+    rests_move (put_rests h (record (w.handlers h) { objects = p.objects; stack = frame_at f p ∷ below }) w refl refl)
+    (effect_moves most s h a (frame_at f p) below
+    (put h (record (w.handlers h) { objects = p.objects; stack = frame_at f p ∷ below }) w))
+
+waits_keeps : (s : System) (h : ℕ) (c : Option Request) (a : Option Answer) (k : ℕ) (g : Option EntityType) (b : Bool)
+    (f : Frame) (below : List Frame) (w : World) → Keeps h w (waits s h c a k g b f below w)
+waits_keeps s h (Some r) a k g b f below w = callback_keeps s h r (f ∷ below) w
+waits_keeps s h None (Some a) k g b f below w = answer_keeps h a k g b f below w
+waits_keeps s h None None k g b f below w = stays h w
+
+on_moves : (most : ℕ) (s : System) (h : ℕ) (stage : Stage) (f : Frame) (below : List Frame) (w : World) → Moves h w
+    (goes_on most s h stage f below w)
+on_moves most s h Runs f below w = settles_moves most s h
+    (moves s f.current (point_of f (w.handlers h).objects)) f below w
+on_moves most s h Reserves f below w = keeps_moves
+    (reserves_keeps (may_reserve (entry_needs h f w) f.mark w) h (entry_needs h f w) _ below w)
+on_moves most s h ReservesBlock f below w = keeps_moves
+    (reserves_keeps (may_reserve (block_needs h f w) [] w) h (block_needs h f w) _ below w)
+on_moves most s h (InCall g) f below w = keeps_moves (fail_keeps h cause.BadCode w)
+on_moves most s h (Awaits k g b) f below w = keeps_moves
+    (waits_keeps s h (w.handlers h).callback (w.handlers h).answer k g b f below w)
+
+-- what a handler's queue does
+moved : (h k : ℕ) (x y : Handler) → Kept x y ⊎ ((r : Request) × (r.poster ≡ Some h) × (y.queue ≡ x.queue ++ r ∷ []))
+    → QueueMoves h k x y
+moved h k x y o = ⊎_elim
+    (λ a. ⊎_elim (λ e. headline.stays e) (λ f. headline.falls f.0 f.1) a.queue)
+    (λ (a : (r : Request) × (r.poster ≡ Some h) × (y.queue ≡ x.queue ++ r ∷ [])). headline.comes a.0 a.1 a.2)
+    o
+
+next_moves : (s : System) (h : ℕ) (rs : List Request) (w : World) (k : ℕ) → (w.handlers h).queue ≡ rs → QueueMoves h k
+    (w.handlers k) ((takes_next s h rs w).handlers k)
+next_moves s h [] w k at = headline.stays refl
+next_moves s h (r ∷ rs) w k at =
+    let u = put h (record (w.handlers h) { queue = rs }) w in
+    let v = takes_next s h (r ∷ rs) w in
+    let e = (errand_keeps s h r r.errand [] (put h (record (w.handlers h) { queue = rs }) w)).each k in
+    ⊎_elim
+    (λ kh.
+    let here : (u.handlers k).queue ≡ rs = ap (λ j. (u.handlers j).queue) kh ∙ ap
+    (λ (b : Bool). (if b then record (w.handlers h) { queue = rs } else w.handlers h).queue)
+    (eq-eqb h h refl) in
+    ⊎_elim
+    (λ same. headline.takes r kh (ap (λ j. (w.handlers j).queue) kh ∙ at ∙ ap (λ qs. r ∷ qs) (sym (same ∙ here))))
+    (λ f. headline.falls f.0 f.1)
+    e.queue)
+    (λ ne.
+    let off : (u.handlers k).queue ≡ (w.handlers k).queue = ap
+    (λ (b : Bool). (if b then record (w.handlers h) { queue = rs } else w.handlers k).queue)
+    (differs k h ne) in
+    ⊎_elim (λ same. headline.stays (same ∙ off)) (λ f. headline.falls f.0 f.1) e.queue)
+    (cases_eq k h)
+
+with_moves : (most : ℕ) (s : System) (h : ℕ) (why : Option Cause) (stack : List Frame) (w : World) (k : ℕ)
+    → k < w.count → QueueMoves h k (w.handlers k) ((turn_with most s h why stack w).handlers k)
+with_moves most s h (Some why) stack w k l = headline.stays refl
+with_moves most s h None [] w k l = next_moves s h (w.handlers h).queue w k refl
+with_moves most s h None (f ∷ below) w k l = moved h k (w.handlers k)
+    ((goes_on most s h f.stage f below w).handlers k) ((on_moves most s h f.stage f below w).each k l)
+
+pub queues_are_in_order : QueuesAreInOrder
+queues_are_in_order most s h w k l = by (nat_lt h w.count)
+  where
+    by : (b : Bool) → QueueMoves h k (w.handlers k)
+        ((if b then turn_with most s h (w.handlers h).failure (w.handlers h).stack w else w).handlers k)
+    by true = with_moves most s h (w.handlers h).failure (w.handlers h).stack w k l
+    by false = headline.stays refl

@@ -1,0 +1,5 @@
+use Rattle.sc_machine_values.proofs.Creating.{creations_keep_it}
+use Rattle.sc_machine_values.proofs.headline.creations_keep_it.Goals as goal
+
+pub returns : goal.returns
+returns c = creations_keep_it

@@ -1,0 +1,5 @@
+use Rattle.sc_machine_values.proofs.Ending.{exits_keep_it}
+use Rattle.sc_machine_values.proofs.headline.exits_keep_it.Goals as goal
+
+pub returns : goal.returns
+returns c = exits_keep_it

@@ -1,0 +1,5 @@
+use Rattle.sc_machine_values.proofs.Requested.{next_keep_it}
+use Rattle.sc_machine_values.proofs.headline.next_keep_it.Goals as goal
+
+pub returns : goal.returns
+returns c = next_keep_it

@@ -1,5 +1,0 @@
-use Rattle.sc_refinement.proofs.Headlined.{machine_has_headline}
-use Rattle.sc_refinement.proofs.laws.machine_has_headline.Goals as goal
-
-pub returns : goal.returns
-returns c = machine_has_headline c.settled_objects_meet.ensures

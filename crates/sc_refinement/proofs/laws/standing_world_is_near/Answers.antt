@@ -1,5 +1,0 @@
-use Rattle.sc_refinement.proofs.PuttingBack.{standing_world_is_near}
-use Rattle.sc_refinement.proofs.laws.standing_world_is_near.Goals as goal
-
-pub returns : goal.returns
-returns c = standing_world_is_near

@@ -1,5 +1,0 @@
-use Rattle.sc_refinement.proofs.Refined.{world_has_headline}
-use Rattle.sc_refinement.proofs.laws.world_has_headline.Goals as goal
-
-pub returns : goal.returns
-returns c = world_has_headline c.world_runs_as_machine.ensures c.machine_has_headline.ensures

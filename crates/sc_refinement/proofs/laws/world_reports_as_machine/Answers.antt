@@ -1,5 +1,0 @@
-use Rattle.sc_refinement.proofs.Reporting.{world_reports_as_machine}
-use Rattle.sc_refinement.proofs.laws.world_reports_as_machine.Goals as goal
-
-pub returns : goal.returns
-returns c = world_reports_as_machine c.core_picks_where_the_machine_turns.ensures

@@ -1,0 +1,5 @@
+use Rattle.sc_refines_core.proofs.Keeping.{entries_stay}
+use Rattle.sc_refines_core.proofs.laws.entries_stay.Goals as goal
+
+pub returns : goal.returns
+returns c = entries_stay

@@ -1,0 +1,5 @@
+use Rattle.sc_refines_region.proofs.Wanting.{regions_ask}
+use Rattle.sc_refines_region.proofs.laws.regions_ask.Goals as goal
+
+pub returns : goal.returns
+returns c = regions_ask

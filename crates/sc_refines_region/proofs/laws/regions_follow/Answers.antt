@@ -1,0 +1,5 @@
+use Rattle.sc_refines_region.proofs.Turning.{regions_follow}
+use Rattle.sc_refines_region.proofs.laws.regions_follow.Goals as goal
+
+pub returns : goal.returns
+returns c = regions_follow

@@ -1,0 +1,5 @@
+use Rattle.sc_refines_turn.proofs.Staging.{requests_are_made}
+use Rattle.sc_refines_turn.proofs.laws.requests_are_made.Goals as goal
+
+pub returns : goal.returns
+returns c = requests_are_made c.programs_serve.ensures

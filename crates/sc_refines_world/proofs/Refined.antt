@@ -1,0 +1,158 @@
+-- The world that runs refines the machine.
+use Rattle.std.proofs.Common.{◌≡◌, ◌+◌, ◌⊎◌, inl, inr, ℕ, false, Option, None, length, refl, sym, subst, take, arith}
+use Rattle.sc_tree.specs.Plain.{System}
+use Rattle.sc_class.specs.ClassNames.{Root}
+use Rattle.sc_class.specs.Faults.ClassRules.{IsFaultless}
+use Rattle.sc_rules.specs.SystemRules.{WellFormed}
+use Rattle.sc_rules.proofs.PurityStands.{purity_stands}
+use Rattle.sc_lockpass.specs.Versions.{most_handlers}
+use Rattle.sc_model.specs.Handlers as machine
+use Rattle.sc_model.specs.Reports.{some_has_turn}
+use Rattle.sc_model.specs.Runs.{IsReached, opening, run}
+use Rattle.sc_code.specs.declared.program.Image.{Image}
+use Rattle.sc_code.specs.Programs.{IsProgramOf}
+use Rattle.sc_code.specs.RequestRoom.{FitsRequests}
+use Rattle.sc_region.specs.declared.job.Job.{Job}
+use Rattle.sc_region.specs.declared.job.Job.TheVariants as job
+use Rattle.sc_region.specs.declared.job.Want.{Want}
+use Rattle.sc_region.specs.Stores.{PlainStore}
+use Rattle.sc_request.specs.Laws.{PicksWhereTurns}
+use Rattle.sc_request.specs.Logs.{next}
+use Rattle.sc_region_turns.specs.RegionHalves.{IsRegionOf}
+use Rattle.sc_region_turns.specs.RegionSteps.{IsProgramFor, RegionsAsk, first_want, numbering_by, task_of}
+use Rattle.sc_region_turns.specs.RegionTurns.{Half, taken_turn}
+use Rattle.sc_play.specs.Regions.{EndsIn}
+use Rattle.sc_refines_turn.specs.Halves.{JobFits}
+use Rattle.sc_refines_turn.specs.Placed.{SoundJobsAreTaken, begun_when}
+use Rattle.sc_refines_turn.specs.Sound.{IsSound, NewStoresAreSound}
+use Rattle.sc_refines_region.specs.Order.{EachInOrder, OpensInOrder, TurnsKeepOrder}
+use Rattle.sc_machine_invariants.specs.Reached.{SettledMeetWhereReached}
+use Rattle.sc_refines_core.specs.Reached.{EntriesAreRemembered, HalvesWhereReached}
+use Rattle.sc_refines_region.specs.Joined as joined
+use Rattle.sc_world.specs.Kept.{KeptAlikeAreAlike, OpeningsAreOf, RunsStayOf}
+use Rattle.sc_world.specs.Worlds.{opened}
+use Rattle.sc_refines_world.specs.Refining.{IsRunWithin, MachineHasHeadline, RoundsRunAsMachine, StoppedRoundsStayNear, StoppedWorldStaysNear, WorldHasHeadline, WorldRunsAsMachine}
+use Rattle.sc_refines_world.specs.Standing.{names_in}
+use Rattle.sc_refines_world.specs.Anew.{AnewRunsAsMachine}
+use Rattle.sc_refines_world.proofs.Assembling.{stands_along, stands_anew}
+use Rattle.sc_refines_world.proofs.Rounds.{refused_next_stops, rounds_are_turns, stops_join}
+use Rattle.sc_refines_world.proofs.Idling.{idle_world_is_idle}
+use Rattle.sc_refines_world.proofs.Meeting.{job_fits}
+use Rattle.sc_refines_world.proofs.PuttingBack.{refused_turn_stays_near, same_or_further_near}
+use Rattle.sc_refines_world.proofs.Reaching.{in_each, reached_fits}
+use Rattle.sc_refines_world.proofs.Running.{HalvesMeet, OthersKeep, RegionsAskSo, RegionsFollow, SettledMeet, StoresTurn, TurnsEndThere}
+
+-- a region that plays one turn stands where that left it
+one_turn : (n : ℕ) (x y : PlainStore) (w : Want) → n ≡ 1 → EndsIn n 1 x w y → y ≡ x
+one_turn n x y w e (inl same) = same
+one_turn n x y w e (inr (few, nothing, ahead)) = absurd (omega (arith, few, e))
+
+untold : (j : Job) (x : Half) → begun_when false j x ≡ x
+untold (job.Made k) x = refl
+untold (job.Take r) x = refl
+untold (job.Reply v) x = refl
+untold job.Failed x = refl
+untold job.Refused x = refl
+untold (job.Granted ks) x = refl
+untold job.Go x = refl
+
+-- rounds that ended have made all turns, or no handler has one
+ended : (n left limit : ℕ) (o : Option (ℕ × Job)) (w : machine.World) → n + left ≡ limit → (left ≡ 0) ⊎ (o ≡ None) → (o ≡ None → some_has_turn w.count w ≡ false) →
+    (n ≡ limit) ⊎ (some_has_turn w.count w ≡ false)
+ended n left limit o w all (inl none_left) idle = inl (omega (arith, all, none_left))
+ended n left limit o w all (inr none) idle = inr (idle none)
+
+module _ (picks : PicksWhereTurns) (halves : HalvesWhereReached) (remembered : EntriesAreRemembered) (settled : SettledMeetWhereReached) (follow : joined.RegionsFollow) (ask : RegionsAsk) (others : joined.OthersKeepHalves) (created : joined.CreatedAreNew) (ordered : OpensInOrder)
+    (keep_order : TurnsKeepOrder) (new_sound : NewStoresAreSound) (taken : SoundJobsAreTaken) where
+  module _ (s : System) (root : Root) (faultless : IsFaultless s root) (well : WellFormed s) (p : Image) (program : IsProgramOf s root p) (fits : FitsRequests p) (most : ℕ) where
+    abbrev Placed : ℕ → PlainStore → Type 0
+    Placed h y = IsSound y
+
+    abbrev Needs : ℕ → Job → Half → Type 0
+    Needs h j x = JobFits s h (names_in p) j x
+
+    stores_turn : StoresTurn s root p faultless well most Placed Needs
+    stores_turn h j y z w t is x region sound needs =
+        let made = taken h false j y z w t sound (subst FitsRequests (sym is) fits) s x
+        (subst (IsProgramFor s) (sym is) (record { root = root; faultless = faultless; well_formed = well; program = program }))
+        (subst (λ (a : Half). IsRegionOf s a y) (sym (untold j x)) region) (subst (λ (q : Image). JobFits s h (names_in q) j x) (sym is) needs) in (
+          subst (λ (q : Image). IsRegionOf s (taken_turn s h (task_of (names_in q) j) x) z) is made.1,
+          subst (λ (q : Image). w ≡ first_want (numbering_by (names_in q)) s h (task_of (names_in q) j) x) is made.2,
+          made.0,
+        )
+
+    pub halves_meet : HalvesMeet s root p faultless well most Needs
+    halves_meet h j w c x reached here half is_job named region =
+        let pure = purity_stands s in
+        job_fits s root pure.0 faultless well pure.1 w (reached_fits s root pure.0 faultless well pure.1 most w reached) (names_in p) c half named h here j x is_job region
+
+    in_order : (w : machine.World) → IsReached most s root w → EachInOrder w
+    in_order w reached = in_each s root most EachInOrder (λ h w r order. keep_order most s h w order) (ordered s root) w reached
+
+    pub followed : RegionsFollow s root p faultless well most
+    followed h w c x reached here half remembers named region now =
+        follow most (names_in p) s h w c x half region (in_order w reached h here) named now
+
+    pub asked : RegionsAskSo s root p faultless well most
+    asked h w c x j reached half named region is_job now = ask most (names_in p) s h w c x j half region is_job named now
+
+    pub kept : OthersKeep s root p faultless well most
+    kept h k w c x reached half apart few region = others most (numbering_by (names_in p)) s h k w c x half apart few region
+
+    pub settled_here : SettledMeet s root p faultless well most
+    settled_here w reached = settled s root faultless well most w reached
+
+    pub end_there : TurnsEndThere s root p faultless well most
+    end_there j x y o t one = one_turn o.turns t.last y.store o.want one t.ends
+
+  pub world_runs_as_machine : WorldRunsAsMachine
+  world_runs_as_machine s root faultless well p v hs y program fits runs =
+      let most : ℕ = most_handlers v in
+      stands_along s root p faultless well program fits v (Placed s root faultless well p program fits most) (Needs s root faultless well p program fits most)
+      (stores_turn s root faultless well p program fits most) (halves_meet s root faultless well p program fits most) (λ h. new_sound p) (followed s root faultless well p program fits most)
+      (asked s root faultless well p program fits most) (kept s root faultless well p program fits most) (λ h k w stage past few. created most s h k w stage past few)
+      (settled_here s root faultless well p program fits most) (end_there s root faultless well p program fits most) picks halves remembered hs y runs
+
+  pub anew_runs_as_machine : KeptAlikeAreAlike → OpeningsAreOf → RunsStayOf → AnewRunsAsMachine
+  anew_runs_as_machine alike open_of stay s root faultless well p v hs y program fits runs =
+      let most : ℕ = most_handlers v in
+      stands_anew s root p faultless well program fits v (Placed s root faultless well p program fits most) (Needs s root faultless well p program fits most)
+      (stores_turn s root faultless well p program fits most) (halves_meet s root faultless well p program fits most) (λ h. new_sound p) (followed s root faultless well p program fits most)
+      (asked s root faultless well p program fits most) (kept s root faultless well p program fits most) (λ h k w stage past few. created most s h k w stage past few)
+      (settled_here s root faultless well p program fits most) (end_there s root faultless well p program fits most) picks halves remembered alike open_of stay hs y runs
+
+-- ---- what follows of that alone
+
+pub stopped_world_stays_near : WorldRunsAsMachine → StoppedWorldStaysNear
+stopped_world_stays_near runs_as s root faultless well p v n hs y program fits stops =
+    let w = run (most_handlers v) s (take n hs) (opening s root) in
+    refused_turn_stays_near s p stops.next w stops.before y (runs_as s root faultless well p v (take n hs) stops.before program fits stops.runs) stops.refused
+
+pub world_has_headline : WorldRunsAsMachine → MachineHasHeadline → WorldHasHeadline
+world_has_headline runs_as holds s root faultless well p v hs y program fits runs =
+    let w : machine.World = run (most_handlers v) s hs (opening s root) in
+    let reached : IsReached (most_handlers v) s root w = record { numbers = hs; run_is = refl } in (
+      w,
+      reached,
+      runs_as s root faultless well p v hs y program fits runs,
+      holds s root faultless well (most_handlers v) w reached,
+    )
+
+pub rounds_run_as_machine : WorldRunsAsMachine → PicksWhereTurns → RoundsRunAsMachine
+rounds_run_as_machine runs_as picks s root faultless well p v limit y program fits ends =
+    let turns = rounds_are_turns limit (opened p v) ends.left y ends.rounds in
+    let w : machine.World = run (most_handlers v) s turns.0 (opening s root) in
+    let stands = runs_as s root faultless well p v turns.0 y program fits turns.2 in
+    let within : IsRunWithin limit turns.0 w = record {
+      few = omega (arith, turns.1);
+      ends = ended (length turns.0) ends.left limit (next y.center) w turns.1 ends.ends (λ none. idle_world_is_idle picks s p w y stands none);
+    } in
+    (turns.0, stands, within)
+
+pub stopped_rounds_stay_near : WorldRunsAsMachine → StoppedRoundsStayNear
+stopped_rounds_stay_near runs_as s root faultless well p v limit y program fits stops =
+    let before = rounds_are_turns limit (opened p v) stops.left stops.before stops.rounds in
+    let none_out = (runs_as s root faultless well p v before.0 stops.before program fits before.2).none_out in
+    let behind = stops_join before.0 (opened p v) stops.before y before.2 (refused_next_stops stops.left stops.before y none_out stops.refused) in
+    let stands = runs_as s root faultless well p v behind.0 behind.1 program fits behind.2 in
+    (behind.0, same_or_further_near s p (run (most_handlers v) s behind.0 (opening s root)) behind.1 y stands behind.3)

@@ -1,0 +1,7 @@
+use Rattle.sc_refines_world.proofs.Turned.{first_turns_are_functional}
+use Rattle.sc_refines_world.proofs.once.first_turns_are_functional.Goals as goal
+
+pub returns : goal.returns
+returns c =
+    first_turns_are_functional c.programs_serve.ensures c.distinct_names_have_numbers.ensures c.creators_are_told.ensures
+    c.sound_jobs_are_taken.ensures

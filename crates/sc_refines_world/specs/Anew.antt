@@ -1,0 +1,30 @@
+-- Turns of handlers, each made in a world that is played anew.
+use Rattle.std.specs.Prelude.{◌≡◌, ℕ, List, [], ◌∷◌}
+use Rattle.sc_lockpass.specs.Versions.{most_handlers}
+use Rattle.sc_lockpass.specs.declared.version.Version.{Version}
+use Rattle.sc_model.specs.Runs.{opening, run}
+use Rattle.sc_code.specs.declared.program.Image.{Image}
+use Rattle.sc_code.specs.Programs.{IsProgramOf}
+use Rattle.sc_code.specs.RequestRoom.{FitsRequests}
+use Rattle.sc_machine_values.specs.Values.{WhereAccepted}
+use Rattle.sc_world.specs.Kept.{kept}
+use Rattle.sc_world.specs.Turning.{IsTurn, Runs}
+use Rattle.sc_world.specs.Worlds.{PlainWorld, opened}
+use Rattle.sc_refines_world.specs.Standing.{StandsFor}
+
+-- Turns of some handlers lead to the world, from the opening of the program.
+abbrev pub IsPlayed : Image → Version → PlainWorld → Type 0
+IsPlayed p v w = (hs : List ℕ) × Runs hs (opened p v) w
+
+-- The handlers make their turns one after the other, each in a world that was played anew and is kept alike with the one that
+-- the turn before left. So is the last world.
+abbrev pub RunsAnew : Image → Version → List ℕ → PlainWorld → PlainWorld → Type 0
+RunsAnew p v [] x y = IsPlayed p v y × (kept y ≡ kept x)
+RunsAnew p v (h ∷ hs) x y =
+    (u z : PlainWorld) × IsPlayed p v u × (kept u ≡ kept x) × IsTurn h u z × RunsAnew p v hs z y
+
+-- Such turns lead a program's world to one that stands for the state to which they lead the machine.
+abbrev pub AnewRunsAsMachine : Type 0
+AnewRunsAsMachine = WhereAccepted λ s root.
+    (p : Image) (v : Version) (hs : List ℕ) (y : PlainWorld) → IsProgramOf s root p → FitsRequests p →
+    RunsAnew p v hs (opened p v) y → StandsFor s p (run (most_handlers v) s hs (opening s root)) y

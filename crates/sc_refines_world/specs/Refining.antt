@@ -1,0 +1,164 @@
+-- What is said of each world that turns lead to, from the opening of the program of an accepted system on.
+use Rattle.std.specs.List.{range_with_len}
+use Rattle.std.specs.Prelude.{◌≡◌, ◌⊎◌, ◌≤◌, ◌+◌, ℕ, suc, Bool, true, false, List, Option, Some, None, Contains, length, map, take}
+use Rattle.sc_tree.specs.Plain.{System}
+use Rattle.sc_proctype.specs.declared.entity_type.EntityType.{EntityType}
+use Rattle.sc_proctype.specs.declared.tag.Reserved.{Reserved}
+use Rattle.sc_proctype.specs.declared.tag.Tag.TheVariants as tag
+use Rattle.sc_lockpass.specs.Rights.{held}
+use Rattle.sc_lockpass.specs.Versions.{most_handlers}
+use Rattle.sc_lockpass.specs.declared.version.Version.{Version}
+use Rattle.sc_model.specs.Fits.{Fits, IsUnset}
+use Rattle.sc_model.specs.Failures.{requests_at}
+use Rattle.sc_model.specs.Handlers.{Request, World}
+use Rattle.sc_model.specs.Reports as machine
+use Rattle.sc_model.specs.Runs.{IsReached, opening, run}
+use Rattle.sc_model.specs.Settled.{SettledObjectsMeet}
+use Rattle.sc_model.specs.Turns.{turn}
+use Rattle.sc_model.specs.Values.{Attached, Reference, Value}
+use Rattle.sc_code.specs.declared.program.Image.{Image}
+use Rattle.sc_code.specs.Programs.{IsProgramOf}
+use Rattle.sc_code.specs.RequestRoom.{FitsRequests}
+use Rattle.sc_region.specs.declared.job.Job.{Job}
+use Rattle.sc_region.specs.declared.job.Job.TheVariants as job
+use Rattle.sc_region.specs.declared.job.Want.TheVariants as want
+use Rattle.sc_request.specs.Candidates.{comes_again}
+use Rattle.sc_request.specs.Logs.{Center, next, pick_for, picked, settles}
+use Rattle.sc_request.specs.Settling.{goes_on}
+use Rattle.sc_machine_rights.specs.Formals.{FormalsAreHeld, NamesAreHeld}
+use Rattle.sc_machine_rights.specs.Headline.{CallbacksComeFirst, ChainsHold, OnlyWaitersAreTold, RepliesMeetNone, ReservedAreHeld, TargetsAreKept, WaitersAreTold}
+use Rattle.sc_machine_values.specs.Places.{StandsAs}
+use Rattle.sc_machine_values.specs.Values.{WhereAccepted}
+use Rattle.sc_machine_preconditions.specs.Starting.{StartsWhereTheyHold}
+use Rattle.sc_world.specs.Reports.{report, statuses}
+use Rattle.sc_world.specs.Rounds.{EndsRounds, Rounds, StopsRounds}
+use Rattle.sc_world.specs.Turning.{IsRefusedTurn, Runs, StopsBehind}
+use Rattle.sc_world.specs.Worlds.{PlainWorld, opened}
+use Rattle.sc_refines_world.specs.Belonging.{FramesRunOnOwn, NoTurnIsExcluded, ObjectsAreOfClasses, ReferencesLead, RequestsStandAtTargets}
+use Rattle.sc_refines_world.specs.Moving.{TurnsMoveRequests, WaitersHaveRequests}
+use Rattle.sc_refines_world.specs.Standing.{StandsFor, StandsNear}
+
+-- ---- the state that a world stands for
+
+-- A request that comes to stand at a handler in a turn was posted by the handler of the turn, which held it then, or created
+-- it in this turn.
+abbrev pub PostsUnderRight : ℕ → System → World → Type 0
+PostsUnderRight most s w = (h k : ℕ) (r : Request) → Contains (requests_at ((turn most s h w).handlers k)) r →
+    Contains (requests_at (w.handlers k)) r ⊎ ((r.poster ≡ Some h) × ((held w.rights h k ≡ true) ⊎ (k ≡ w.count)))
+
+-- What the headline claims of a state, where there may be so many handlers: what is posted under which right, how frames and
+-- requests come and go, who holds and waits for whom, whose is what stands there, which values stand where, that settled objects
+-- meet their class invariants, that in the next turn a body starts only where the clauses of its precondition hold, and that
+-- none of the failures that are excluded comes.
+pub record HasHeadline (most : ℕ) (s : System) (w : World) : Type 0 where
+  pub posts_under_right : PostsUnderRight most s w
+  pub turns_move_requests : TurnsMoveRequests most s w
+  pub waiters_have_requests : WaitersHaveRequests w
+  pub reserved_are_held : ReservedAreHeld w
+  pub formals_are_held : FormalsAreHeld w
+  pub names_are_held : NamesAreHeld w
+  pub targets_are_kept : TargetsAreKept w
+  pub chains_hold : ChainsHold w
+  pub waiters_are_told : WaitersAreTold w
+  pub only_waiters_are_told : OnlyWaitersAreTold w
+  pub replies_meet_none : RepliesMeetNone w
+  pub callbacks_come_first : CallbacksComeFirst w
+  pub objects_are_of_classes : ObjectsAreOfClasses s w
+  pub references_lead : ReferencesLead s w
+  pub frames_run_on_own : FramesRunOnOwn s w
+  pub requests_stand_at_targets : RequestsStandAtTargets s w
+  pub values_fit : (h : ℕ) (of : Reserved → Option ℕ) (v : Value) (t : EntityType) (may_be_unset : Bool) →
+      StandsAs s w h of v t may_be_unset → Fits s h of v t ⊎ ((may_be_unset ≡ true) × IsUnset v t)
+  pub non_separate_is_own :
+      (h : ℕ) (of : Reserved → Option ℕ) (r : Reference) (t : EntityType) (may_be_unset : Bool) →
+      StandsAs s w h of (Attached r) t may_be_unset → t.tag ≡ tag.Own → r.handler ≡ h
+  pub settled_objects_meet : SettledObjectsMeet s w
+  pub bodies_start_where_clauses_hold : StartsWhereTheyHold s most w
+  pub no_turn_is_excluded : NoTurnIsExcluded most s w
+
+-- It holds of each state that the machine on an accepted system reaches.
+abbrev pub MachineHasHeadline : Type 0
+MachineHasHeadline = WhereAccepted λ s root. (most : ℕ) (w : World) → IsReached most s root w → HasHeadline most s w
+
+-- ---- turns one after the other
+
+-- The turns of any handlers lead a program's world to one that stands for the state to which they lead the machine.
+abbrev pub WorldRunsAsMachine : Type 0
+WorldRunsAsMachine = WhereAccepted λ s root.
+    (p : Image) (v : Version) (hs : List ℕ) (y : PlainWorld) → IsProgramOf s root p → FitsRequests p →
+    Runs hs (opened p v) y → StandsFor s p (run (most_handlers v) s hs (opening s root)) y
+
+-- So each world that turns lead to stands for a state that is reached, of which the headline holds.
+abbrev pub WorldHasHeadline : Type 0
+WorldHasHeadline = WhereAccepted λ s root.
+    (p : Image) (v : Version) (hs : List ℕ) (y : PlainWorld) → IsProgramOf s root p → FitsRequests p →
+    Runs hs (opened p v) y →
+    (w : World) × IsReached (most_handlers v) s root w × StandsFor s p w y × HasHeadline (most_handlers v) s w
+
+-- ---- where memory was refused
+
+-- A world that stands for a state is near it.
+abbrev pub StandingWorldIsNear : Type 0
+StandingWorldIsNear = (s : System) (p : Image) (w : World) (x : PlainWorld) → StandsFor s p w x → StandsNear s p w x
+
+-- So is one where memory was refused to the turn of a handler of a world that stands for it.
+abbrev pub RefusedTurnStaysNear : Type 0
+RefusedTurnStaysNear =
+    (s : System) (p : Image) (h : ℕ) (w : World) (x y : PlainWorld) → StandsFor s p w x → IsRefusedTurn h x y →
+    StandsNear s p w y
+
+-- Where memory was refused to the turn behind so many, a program's world is near the state to which these turns lead the
+-- machine.
+abbrev pub StoppedWorldStaysNear : Type 0
+StoppedWorldStaysNear = WhereAccepted λ s root.
+    (p : Image) (v : Version) (n : ℕ) (hs : List ℕ) (y : PlainWorld) → IsProgramOf s root p → FitsRequests p →
+    StopsBehind n hs (opened p v) y → StandsNear s p (run (most_handlers v) s (take n hs) (opening s root)) y
+
+-- A world that is near a state reports what the machine reports of it, and each handler stands as it does there.
+abbrev pub WorldReportsAsMachine : Type 0
+WorldReportsAsMachine =
+    (s : System) (p : Image) (w : World) (x : PlainWorld) → StandsNear s p w x →
+    (report x ≡ machine.report w) × (statuses x ≡ map (λ h. machine.status_of h w) (range_with_len 0 w.count))
+
+-- ---- turns round and round
+
+-- Turns round and round are turns of handlers, one after the other, also where several are made at once.
+abbrev pub RoundsAreTurns : Type 0
+RoundsAreTurns =
+    (limit : ℕ) (x : PlainWorld) (left : ℕ) (y : PlainWorld) → Rounds limit x left y →
+    (hs : List ℕ) × (length hs + left ≡ limit) × Runs hs x y
+
+-- A handler that makes several turns at once is the next one again after each that asks nothing, as it would be if each turn
+-- were made for itself.
+abbrev pub HandlersComeAgain : Type 0
+HandlersComeAgain =
+    (most h n : ℕ) (j : Job) (c : Center) → pick_for h c ≡ Some j → goes_on j ≡ true → comes_again j (picked h j c) ≡ true →
+    next (settles most h j (suc n) want.Continue (picked h j c)) ≡ Some (h, job.Go)
+
+-- Where no handler of the world has anything to do, none has a turn in the machine.
+abbrev pub IdleWorldIsIdle : Type 0
+IdleWorldIsIdle =
+    (s : System) (p : Image) (w : World) (x : PlainWorld) → StandsFor s p w x → next x.center ≡ None →
+    machine.some_has_turn w.count w ≡ false
+
+-- The turns of these handlers lead the machine to this state. They are so many at most, and fewer only where no handler
+-- has a turn any more.
+pub record IsRunWithin (limit : ℕ) (hs : List ℕ) (w : World) : Type 0 where
+  pub few : length hs ≤ limit
+  pub ends : (length hs ≡ limit) ⊎ (machine.some_has_turn w.count w ≡ false)
+
+-- Rounds that end lead a program's world to one that stands for a state to which such turns lead the machine.
+abbrev pub RoundsRunAsMachine : Type 0
+RoundsRunAsMachine = WhereAccepted λ s root.
+    (p : Image) (v : Version) (limit : ℕ) (y : PlainWorld) → IsProgramOf s root p → FitsRequests p →
+    EndsRounds limit (opened p v) y →
+    (hs : List ℕ) × StandsFor s p (run (most_handlers v) s hs (opening s root)) y
+    × IsRunWithin limit hs (run (most_handlers v) s hs (opening s root))
+
+-- Where memory was refused to one of their turns, the world is near the state to which those before it lead the
+-- machine.
+abbrev pub StoppedRoundsStayNear : Type 0
+StoppedRoundsStayNear = WhereAccepted λ s root.
+    (p : Image) (v : Version) (limit : ℕ) (y : PlainWorld) → IsProgramOf s root p → FitsRequests p →
+    StopsRounds limit (opened p v) y →
+    (hs : List ℕ) × StandsNear s p (run (most_handlers v) s hs (opening s root)) y

@@ -1,0 +1,54 @@
+-- For which state of the machine a world that runs stands.
+use Rattle.std.specs.Prelude.{◌≡◌, ◌⊎◌, ◌<◌, ◌≤◌, ℕ, false, List, None, Some, slice_get}
+use Rattle.sc_tree.specs.Plain.{System}
+use Rattle.sc_model.specs.Handlers as machine
+use Rattle.sc_code.specs.declared.program.Image.{Image}
+use Rattle.sc_code.specs.Programs.{pool_of}
+use Rattle.sc_region.specs.declared.job.Job.{Job}
+use Rattle.sc_request.specs.Handlers as core
+use Rattle.sc_request.specs.Halves.{IsHalfOf}
+use Rattle.sc_region_turns.specs.RegionHalves.{IsRegionOf, IsRegionHalf}
+use Rattle.sc_region_turns.specs.RegionSteps.{numbering_by}
+use Rattle.sc_region_turns.specs.RegionTurns.{Half}
+use Rattle.sc_play.specs.Regions.{IsRefused, PlainRegion, new_region}
+use Rattle.sc_world.specs.Worlds.{PlainWorld}
+
+-- the names of a program, in the order of their numbers
+abbrev pub names_in : Image → List (List ℕ)
+names_in p = (pool_of p.pool).names
+
+-- The region is that of the handler of the number: its store stands for the region's half of what the machine has of the
+-- handler, where that stands so in the core.
+pub record IsRegionFor (s : System) (p : Image) (h : ℕ) (x : machine.Handler) (stage : core.Stage) (r : PlainRegion) :
+    Type 0 where
+  pub handler : r.handler ≡ h
+  pub program : r.store.program ≡ p
+  pub untold : r.is_told ≡ false
+  pub half : Half
+  pub stands : IsRegionOf s half r.store
+  pub is_half : IsRegionHalf h x stage half
+
+-- The world, which runs the program of the system, stands for this state of the machine: the core is its half, no handler
+-- is out with a job, each handler has its region, and all other regions are new.
+pub record StandsFor (s : System) (p : Image) (w : machine.World) (x : PlainWorld) : Type 0 where
+  pub core : IsHalfOf (numbering_by (names_in p)) w x.center.state
+  pub none_out : (h : ℕ) → x.center.out h ≡ None
+  pub regions : (h : ℕ) → h < w.count →
+      (r : PlainRegion) × (slice_get x.regions h ≡ Some r)
+      × IsRegionFor s p h (w.handlers h) (x.center.state.handlers h).stage r
+  pub others : (h : ℕ) (r : PlainRegion) → w.count ≤ h → slice_get x.regions h ≡ Some r → r ≡ new_region p h
+
+-- ---- where memory was refused
+
+-- The region is the first one, or memory was refused to the first turn of that under a job.
+abbrev pub IsNear : PlainRegion → PlainRegion → Type 0
+IsNear x y = (y ≡ x) ⊎ ((j : Job) × IsRefused j x y)
+
+-- The world stands for the state, but that memory may have been refused to turns of its regions.
+pub record StandsNear (s : System) (p : Image) (w : machine.World) (x : PlainWorld) : Type 0 where
+  pub core : IsHalfOf (numbering_by (names_in p)) w x.center.state
+  pub none_out : (h : ℕ) → x.center.out h ≡ None
+  pub regions : (h : ℕ) → h < w.count →
+      (r : PlainRegion) × (slice_get x.regions h ≡ Some r)
+      × ((start : PlainRegion) × IsNear start r
+      × IsRegionFor s p h (w.handlers h) (x.center.state.handlers h).stage start)

@@ -1,0 +1,130 @@
+//! Laws of the world that runs beside the machine, each the contract of a function that does nothing.
+ghost use Rattle.sc_refines_world.specs.Anew.{AnewRunsAsMachine};
+ghost use Rattle.sc_refines_world.specs.Refining.{HandlersComeAgain, IdleWorldIsIdle, MachineHasHeadline, RefusedTurnStaysNear, RoundsAreTurns, RoundsRunAsMachine, StandingWorldIsNear};
+ghost use Rattle.sc_refines_world.specs.Refining.{StoppedRoundsStayNear, StoppedWorldStaysNear, WorldHasHeadline, WorldReportsAsMachine, WorldRunsAsMachine};
+
+use sc_machine_invariants::laws::settled_objects_meet;
+use sc_refines_core::laws::{core_settles_as_half_where_reached, entries_are_remembered};
+use sc_refines_region::laws::{
+    created_are_new, openings_are_in_order, others_keep_halves, regions_ask, regions_follow,
+    turns_keep_order,
+};
+use sc_refines_turn::sound::{new_stores_are_sound, sound_jobs_are_taken};
+use sc_request::laws::core_picks_where_the_machine_turns;
+use sc_world::laws::{
+    kept_alike_are_alike, openings_are_of_their_program, runs_stay_of_their_program,
+};
+
+/// The turns of any handlers lead the world of an accepted system's program to one that stands for the state to which they lead
+/// the machine.
+pub fn world_runs_as_machine()
+    ensures { WorldRunsAsMachine }
+{
+    core_picks_where_the_machine_turns();
+    core_settles_as_half_where_reached();
+    entries_are_remembered();
+    settled_objects_meet();
+    regions_follow();
+    regions_ask();
+    others_keep_halves();
+    created_are_new();
+    openings_are_in_order();
+    turns_keep_order();
+    new_stores_are_sound();
+    sound_jobs_are_taken();
+}
+
+/// So do turns that are each made in a world that is played anew, where that is kept alike with what the turn before left.
+pub fn anew_runs_as_machine()
+    ensures { AnewRunsAsMachine }
+{
+    core_picks_where_the_machine_turns();
+    core_settles_as_half_where_reached();
+    entries_are_remembered();
+    settled_objects_meet();
+    regions_follow();
+    regions_ask();
+    others_keep_halves();
+    created_are_new();
+    openings_are_in_order();
+    turns_keep_order();
+    new_stores_are_sound();
+    sound_jobs_are_taken();
+    kept_alike_are_alike();
+    openings_are_of_their_program();
+    runs_stay_of_their_program();
+}
+
+/// Where memory was refused to a turn behind so many, the world is near the state to which those lead the machine.
+pub fn stopped_world_stays_near()
+    ensures { StoppedWorldStaysNear }
+{
+    world_runs_as_machine();
+}
+
+/// The headline holds of each state that the machine on an accepted system reaches.
+pub fn machine_has_headline()
+    ensures { MachineHasHeadline }
+{
+    settled_objects_meet();
+}
+
+/// So each world that turns lead to stands for a state that the machine reaches, of which the headline holds.
+pub fn world_has_headline()
+    ensures { WorldHasHeadline }
+{
+    world_runs_as_machine();
+    machine_has_headline();
+}
+
+/// A world that stands for a state is near it.
+pub fn standing_world_is_near()
+    ensures { StandingWorldIsNear }
+{}
+
+/// So is one where memory was refused to the turn of a handler of a world that stands for it: the core is what it was, and no
+/// more than silent operations of that handler's region are done.
+pub fn refused_turn_stays_near()
+    ensures { RefusedTurnStaysNear }
+{}
+
+/// A world near a state reports what the machine reports of it, and each handler stands as it does there.
+pub fn world_reports_as_machine()
+    ensures { WorldReportsAsMachine }
+{
+    core_picks_where_the_machine_turns();
+}
+
+/// Where no handler of a world has anything to do, none has a turn in the state of the machine that it stands for.
+pub fn idle_world_is_idle()
+    ensures { IdleWorldIsIdle }
+{
+    core_picks_where_the_machine_turns();
+}
+
+/// Turns round and round, of which several may be made at once, are turns of handlers, one after the other.
+pub fn rounds_are_turns()
+    ensures { RoundsAreTurns }
+{}
+
+/// And the turns that are made at once are those that would be made round and round: after each the handler is the next one
+/// again.
+pub fn handlers_come_again()
+    ensures { HandlersComeAgain }
+{}
+
+/// So rounds that end lead a program's world to one that stands for a state to which as many turns lead the machine, or
+/// fewer where no handler has a turn any more.
+pub fn rounds_run_as_machine()
+    ensures { RoundsRunAsMachine }
+{
+    world_runs_as_machine();
+    core_picks_where_the_machine_turns();
+}
+
+/// Where memory was refused to one of their turns, the world is near the state to which those before it lead the machine.
+pub fn stopped_rounds_stay_near()
+    ensures { StoppedRoundsStayNear }
+{
+    world_runs_as_machine();
+}

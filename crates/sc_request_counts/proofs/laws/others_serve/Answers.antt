@@ -1,0 +1,5 @@
+use Rattle.sc_request_counts.proofs.Settling.{others_serve}
+use Rattle.sc_request_counts.proofs.laws.others_serve.Goals as goal
+
+pub returns : goal.returns
+returns c = others_serve

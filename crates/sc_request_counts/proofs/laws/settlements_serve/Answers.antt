@@ -1,0 +1,5 @@
+use Rattle.sc_request_counts.proofs.Settling.{settlements_serve}
+use Rattle.sc_request_counts.proofs.laws.settlements_serve.Goals as goal
+
+pub returns : goal.returns
+returns c = settlements_serve

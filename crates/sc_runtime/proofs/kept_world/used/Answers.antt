@@ -1,6 +1,0 @@
-use Rattle.std.proofs.Common.{arith}
-use Rattle.sc_runtime.proofs.Keeping.{new_past}
-use Rattle.sc_runtime.proofs.kept_world.used.Goals as goal
-
-pub loop-count-init : goal.loop-count-init
-loop-count-init c = record { few = omega arith; new = λ h past. new_past c.args.regions.now h (omega (arith, past)) }

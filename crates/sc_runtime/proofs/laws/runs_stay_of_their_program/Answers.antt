@@ -1,5 +1,0 @@
-use Rattle.sc_runtime.proofs.Keeping.{runs_stay_of}
-use Rattle.sc_runtime.proofs.laws.runs_stay_of_their_program.Goals as goal
-
-pub returns : goal.returns
-returns c = runs_stay_of

@@ -1,5 +1,0 @@
-use Rattle.sc_runtime.proofs.Freeing.{stopped_rounds_stay_linked}
-use Rattle.sc_runtime.proofs.laws.stopped_rounds_stay_linked.Goals as goal
-
-pub returns : goal.returns
-returns c = stopped_rounds_stay_linked

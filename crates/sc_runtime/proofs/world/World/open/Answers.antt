@@ -1,5 +1,0 @@
-use Rattle.sc_runtime.proofs.Freeing.{opened_linked}
-use Rattle.sc_runtime.proofs.world.World.open.Goals as goal
-
-pub invariant_of-result-clause-linked : goal.invariant_of-result-clause-linked
-invariant_of-result-clause-linked c = opened_linked c.args.program.now.image c.args.version _ _ c.in_ok-open_core.ensures.center c.in_ok-regions.ensures.regions

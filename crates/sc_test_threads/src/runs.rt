@@ -1,0 +1,122 @@
+//! A run by several workers, beside the replay of its record.
+
+use sc_audit::Record;
+use sc_auditing::{AuditFault, audit};
+use sc_class::Root;
+use sc_code::Program;
+use sc_driver::{Outcome, load_text, replay};
+use sc_plant::{Gate, Left, RunFault, run};
+use std::alloc::{AllocError, Global};
+use std::process::Abort;
+use std::sync::Wait;
+use std::sync::atomic::{AtomicU64, Ordering};
+use std::test::Fail;
+use std::thread::Threads;
+
+/// A gate that lets all pass.
+pub struct Open;
+
+impl Gate for Open {
+    fn began(&self, _handler: u16) {}
+
+    fn ended(&self, _handler: u16) {}
+}
+
+/// The program of a system that is sound.
+pub fn load<R: Abort>(rt: &R, alloc: Global, text: &str) -> Result<Program, Fail> {
+    let root = Root {
+        class: String::from_str(alloc, "application")?,
+        procedure: String::from_str(alloc, "make")?,
+    };
+    match load_text(alloc, text, &root) {
+        Ok(program) => Ok(program),
+        Err(why) => {
+            assert_eq!(rt; format!(in alloc; "{why:?}")?.as_str(), "a program");
+            Err(Fail::from(AllocError))
+        }
+    }
+}
+
+/// A gate that notes whether a turn began.
+#[derive(Drop)]
+struct Noting<'a, G: Gate> {
+    gate: &'a G,
+    begun: AtomicU64,
+}
+
+impl<'a, G: Gate> Gate for Noting<'a, G> {
+    fn began(&self, handler: u16) {
+        self.begun.store(1, Ordering::SeqCst);
+        self.gate.began(handler);
+    }
+
+    fn ended(&self, handler: u16) {
+        self.gate.ended(handler);
+    }
+}
+
+/// The report of what a run leaves, whose audit says yes. A replay of its record reports the same, also where memory was refused
+/// on the way, which leaves something where a turn began.
+pub fn leave<R: Abort + Threads + Wait + Sync, G: Gate>(
+    rt: &R,
+    alloc: Global,
+    program: &Program,
+    workers: u8,
+    limit: u32,
+    gate: &G,
+) -> Result<String, Fail> {
+    let noting = Noting {
+        gate,
+        begun: AtomicU64::new(0),
+    };
+    match run(rt, alloc, program, workers, limit, &noting) {
+        Ok(left) => audited(rt, alloc, program, left),
+        Err(RunFault::OutOfMemory(Some(left))) => {
+            replayed(rt, alloc, program, left)?;
+            Err(Fail::from(AllocError))
+        }
+        Err(RunFault::OutOfMemory(None)) => {
+            assert_eq!(rt; noting.begun.load(Ordering::SeqCst), 0);
+            Err(Fail::from(AllocError))
+        }
+        Err(RunFault::LogsDiffer(handler, _)) => panic!(rt; "the logs of handler {handler} differ"),
+        Err(_) => Err(Fail::from(AllocError)),
+    }
+}
+
+/// The report of what is left, whose audit says yes.
+fn audited<R: Abort>(
+    rt: &R,
+    alloc: Global,
+    program: &Program,
+    left: Left<'_>,
+) -> Result<String, Fail> {
+    match audit(alloc, program, &left) {
+        Ok(()) => replayed(rt, alloc, program, left),
+        Err(AuditFault::OutOfMemory) => Err(Fail::from(AllocError)),
+        Err(why) => panic!(rt; "the audit of a run: {why}"),
+    }
+}
+
+/// The report of what is left, which a replay of its record tells too.
+fn replayed<R: Abort>(
+    rt: &R,
+    alloc: Global,
+    program: &Program,
+    left: Left<'_>,
+) -> Result<String, Fail> {
+    let report = text_of(left.report(alloc)?)?;
+    let Left { lines, version, .. } = left;
+    let record = Record { version, lines };
+    let Outcome { report: told, .. } = replay(alloc, program, &record)?;
+    let told = text_of(told)?;
+    assert_eq!(rt; report.as_str(), told.as_str());
+    Ok(report)
+}
+
+fn text_of(bytes: Vec<u8>) -> Result<String, Fail> {
+    match String::from_utf8(bytes) {
+        Ok(text) => Ok(text),
+        Err(_) => Err(Fail::from("a report that is no text")),
+    }
+}

@@ -1,5 +1,0 @@
-use Rattle.sc_values.proofs.Requested.{callbacks_keep_it}
-use Rattle.sc_values.proofs.headline.callbacks_keep_it.Goals as goal
-
-pub returns : goal.returns
-returns c = callbacks_keep_it

@@ -1,5 +1,0 @@
-use Rattle.sc_values.proofs.Awaiting.{each_value_fits}
-use Rattle.sc_values.proofs.headline.each_value_fits.Goals as goal
-
-pub returns : goal.returns
-returns c = each_value_fits

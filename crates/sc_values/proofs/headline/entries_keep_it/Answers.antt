@@ -1,5 +1,0 @@
-use Rattle.sc_values.proofs.Calling.{entries_keep_it}
-use Rattle.sc_values.proofs.headline.entries_keep_it.Goals as goal
-
-pub returns : goal.returns
-returns c = entries_keep_it

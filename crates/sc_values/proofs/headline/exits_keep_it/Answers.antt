@@ -1,5 +1,0 @@
-use Rattle.sc_values.proofs.Ending.{exits_keep_it}
-use Rattle.sc_values.proofs.headline.exits_keep_it.Goals as goal
-
-pub returns : goal.returns
-returns c = exits_keep_it

@@ -1,5 +1,0 @@
-use Rattle.sc_values.proofs.Turning.{turns_from_ends}
-use Rattle.sc_values.proofs.headline.turns_from_ends.Goals as goal
-
-pub returns : goal.returns
-returns c = turns_from_ends

@@ -1,0 +1,159 @@
+-- Worlds that are kept.
+use Rattle.std.proofs.Common.{◌≡◌, ◌==◌, ◌∙◌, ℕ, zero, suc, ◌<◌, ◌≤◌, Bool, true, false, List, [], ◌∷◌, Option, Some, None, inl, inr, length, take, slice_set, refl, sym, ap, subst, length-take, arith}
+use Rattle.std.proofs.Math.Path.{fun_ext}
+use Rattle.std.proofs.lemmas.Bool.{cases_eq, cases_lt}
+use Rattle.std.proofs.lemmas.Option.{slice_get_past}
+use Rattle.std.specs.Prelude.{slice_get, if◌then◌else◌}
+use Rattle.sc_code.specs.declared.program.Image.{Image}
+use Rattle.sc_region.specs.declared.job.Job.{Job}
+use Rattle.sc_request.specs.Logs.{Center, pick_for}
+use Rattle.sc_play.specs.Contents.{Contents, contents_at, contents_in, contents_of, new_contents}
+use Rattle.sc_play.specs.Regions.{PlainRegion, new_region}
+use Rattle.sc_world.specs.Kept.{IsOf, KeptAlikeAreAlike, OpeningsAreOf, PlainKept, RunsStayOf, kept}
+use Rattle.sc_world.specs.Turning.{Makes, TurnsUnder}
+use Rattle.sc_world.specs.Worlds.{PlainWorld, max_handlers, new_regions}
+
+-- Where the whole could only be the same if this were, and this isn't, it is another one.
+pub differs : {P Q : Type 0} (r : Bool) → r ≡ false → (r ≡ true → P) × (P → r ≡ true) → (Q → P) → (false ≡ true → Q) × (Q → false ≡ true)
+differs r isnt both back = ((λ yes. (cc)), λ q. sym isnt ∙ both.1 (back q))
+
+-- ---- regions
+
+-- past all regions there are new ones
+pub new_past : (xs : List PlainRegion) (h : ℕ) → length xs ≤ h → contents_at xs h ≡ new_contents h
+new_past xs h past = ap (contents_in h) (slice_get_past xs h past)
+
+-- from one place fewer on all are new, where the region there is new too
+pub new_from_before : (xs : List PlainRegion) (n m : ℕ) → n ≡ suc m → contents_at xs m ≡ new_contents m → ((h : ℕ) → n ≤ h → contents_at xs h ≡ new_contents h) →
+    (h : ℕ) → m ≤ h → contents_at xs h ≡ new_contents h
+new_from_before xs n m one here beyond h past = elim (cases_lt m h) [
+  | inl above ↦ beyond h (omega (arith, one, above))
+  | inr up_to ↦ let e : h ≡ m = omega (arith, past, up_to) in rw e here
+]
+
+get_of_first : (xs : List PlainRegion) (n k : ℕ) → k < n → slice_get (take n xs) k ≡ slice_get xs k
+get_of_first xs zero k l = absurd (omega (arith, l))
+get_of_first [] (suc n) k l = refl
+get_of_first (x ∷ xs) (suc n) zero l = refl
+get_of_first (x ∷ xs) (suc n) (suc k) l = get_of_first xs n k (omega (arith, l))
+
+-- Without those at the end that are new they hold the same.
+same_first : (xs : List PlainRegion) (n : ℕ) (ys : List PlainRegion) → ys ≡ take n xs → ((h : ℕ) → n ≤ h → contents_at xs h ≡ new_contents h) → contents_at ys ≡ contents_at xs
+same_first xs n ys of beyond = fun_ext (λ h. elim (cases_lt h n) [
+  | inl below ↦ ap (λ zs. contents_at zs h) of ∙ ap (contents_in h) (get_of_first xs n h below)
+  | inr past ↦ new_past ys h (omega (arith, ap length of, length-take n xs, past)) ∙ sym (beyond h past)
+])
+
+pub same_without_new : (xs zs : List PlainRegion) (n : ℕ) (ys : List PlainRegion) → zs ≡ xs → ys ≡ take n xs → ((h : ℕ) → n ≤ h → contents_at zs h ≡ new_contents h) →
+    contents_at ys ≡ contents_at xs
+same_without_new xs zs n ys are of beyond = same_first xs n ys of (λ h past. ap (λ rs. contents_at rs h) (sym are) ∙ beyond h past)
+
+-- They hold the same where they do at each place before one past all.
+pub same_everywhere : (xs ys : List PlainRegion) (n : ℕ) → length xs ≤ n → length ys ≤ n → ((h : ℕ) → h < n → contents_at xs h ≡ contents_at ys h) → contents_at xs ≡ contents_at ys
+same_everywhere xs ys n few its_few each = fun_ext (λ h. elim (cases_lt h n) [
+  | inl below ↦ each h below
+  | inr past ↦ new_past xs h (omega (arith, few, past)) ∙ sym (new_past ys h (omega (arith, its_few, past)))
+])
+
+-- ---- of one program
+
+region_is : (p : Image) (x y : PlainRegion) → x.store.program ≡ p → y.store.program ≡ p → contents_of x ≡ contents_of y → x ≡ y
+region_is p x y e g same =
+    let program : x.store.program ≡ y.store.program = e ∙ sym g in
+    λ i. record {
+      handler = (same i).handler;
+      store = record {
+        program = program i;
+        objects = (same i).objects;
+        frames = (same i).frames;
+        output = (same i).output;
+        failure = (same i).failure;
+      };
+      is_told = (same i).is_told;
+    }
+
+lists_are : (p : Image) (xs ys : List PlainRegion) → length xs ≡ length ys → ((h : ℕ) (x : PlainRegion) → slice_get xs h ≡ Some x → x.store.program ≡ p) →
+    ((h : ℕ) (y : PlainRegion) → slice_get ys h ≡ Some y → y.store.program ≡ p) →
+    ((h : ℕ) (x y : PlainRegion) → slice_get xs h ≡ Some x → slice_get ys h ≡ Some y → contents_of x ≡ contents_of y) → xs ≡ ys
+lists_are p [] [] many of its each = refl
+lists_are p [] (y ∷ ys) many of its each = absurd (omega (arith, many))
+lists_are p (x ∷ xs) [] many of its each = absurd (omega (arith, many))
+lists_are p (x ∷ xs) (y ∷ ys) many of its each =
+    let head : x ≡ y = region_is p x y (of 0 x refl) (its 0 y refl) (each 0 x y refl refl) in
+    let tail : xs ≡ ys = lists_are p xs ys (omega (arith, many)) (λ h. of (suc h)) (λ h. its (suc h)) (λ h. each (suc h)) in
+    λ i. head i ∷ tail i
+
+hold_alike : (xs ys : List PlainRegion) (h : ℕ) (x y : PlainRegion) → contents_at xs ≡ contents_at ys → slice_get xs h ≡ Some x → slice_get ys h ≡ Some y → contents_of x ≡ contents_of y
+hold_alike xs ys h x y same there its_there = sym (ap (contents_in h) there) ∙ ap (λ (f : ℕ → Contents). f h) same ∙ ap (contents_in h) its_there
+
+pub kept_alike_are_alike : KeptAlikeAreAlike
+kept_alike_are_alike p most w v of its same =
+    let state : w.center.state ≡ v.center.state = ap (λ (k : PlainKept). k.state) same in
+    let out : w.center.out ≡ v.center.out = fun_ext (λ h. of.nobody_out h ∙ sym (its.nobody_out h)) in
+    let hold : contents_at w.regions ≡ contents_at v.regions = ap (λ (k : PlainKept). k.regions) same in
+    let regions : w.regions ≡ v.regions =
+    lists_are p w.regions v.regions (of.places ∙ sym its.places) of.programs its.programs (λ h x y there its_there. hold_alike w.regions v.regions h x y hold there its_there) in
+    let limit : w.most ≡ v.most = of.most ∙ sym its.most in
+    λ i. record { most = limit i; center = record { state = state i; out = out i; last = v.center.last }; regions = regions i }
+
+-- ---- at the opening
+
+so_many : (p : Image) (h n : ℕ) → length (new_regions p h n) ≡ n
+unfolding new_regions
+so_many p h zero = refl
+so_many p h (suc n) = ap suc (so_many p (suc h) n)
+
+all_of : (p : Image) (h n k : ℕ) (x : PlainRegion) → slice_get (new_regions p h n) k ≡ Some x → x.store.program ≡ p
+unfolding new_regions
+all_of p h zero k x e = absurd (cc)
+all_of p h (suc n) zero x e = let is : new_region p h ≡ x = cc in ap (λ (r : PlainRegion). r.store.program) (sym is)
+all_of p h (suc n) (suc k) x e = all_of p (suc h) n k x e
+
+pub openings_are_of : OpeningsAreOf
+openings_are_of p version = record { most = refl; nobody_out = λ h. refl; places = so_many p 0 max_handlers; programs = λ h x e. all_of p 0 max_handlers h x e }
+
+-- ---- in turns
+
+set_many : (xs : List PlainRegion) (h : ℕ) (y : PlainRegion) → length (slice_set xs h y) ≡ length xs
+set_many [] h y = refl
+set_many (x ∷ xs) zero y = refl
+set_many (x ∷ xs) (suc h) y = ap suc (set_many xs h y)
+
+set_here : (xs : List PlainRegion) (h : ℕ) (y z : PlainRegion) → slice_get (slice_set xs h y) h ≡ Some z → z ≡ y
+set_here [] h y z e = absurd (cc)
+set_here (x ∷ xs) zero y z e = cc
+set_here (x ∷ xs) (suc h) y z e = set_here xs h y z e
+
+set_elsewhere : (xs : List PlainRegion) (h k : ℕ) (y : PlainRegion) → (k ≡ h → ⊥) → slice_get (slice_set xs h y) k ≡ slice_get xs k
+set_elsewhere [] h k y apart = refl
+set_elsewhere (x ∷ xs) zero zero y apart = absurd (apart refl)
+set_elsewhere (x ∷ xs) zero (suc k) y apart = refl
+set_elsewhere (x ∷ xs) (suc h) zero y apart = refl
+set_elsewhere (x ∷ xs) (suc h) (suc k) y apart = set_elsewhere xs h k y (λ e. apart (ap suc e))
+
+is_in : (b : Bool) (j : Job) (o : Option Job) → o ≡ None → (if b then None else if b then Some j else o) ≡ None
+is_in true j o e = refl
+is_in false j o e = e
+
+made_stay : (p : Image) (most h : ℕ) (j : Job) (w v : PlainWorld) → IsOf p most w → Makes 1 h j 1 w v → IsOf p most v
+made_stay p most h j w v of makes = record {
+  most = makes.most ∙ of.most;
+  nobody_out = λ k. ap (λ (c : Center). c.out k) makes.settles.center ∙ is_in (k == h) j (w.center.out k) (of.nobody_out k);
+  places = ap length makes.regions ∙ set_many w.regions h makes.after ∙ of.places;
+  programs = λ k x there.
+      let set : slice_get (slice_set w.regions h makes.after) k ≡ Some x = ap (λ rs. slice_get rs k) (sym makes.regions) ∙ there in
+      elim (cases_eq k h) [
+        | inl is ↦
+            let at : slice_get (slice_set w.regions h makes.after) h ≡ Some x = ap (λ i. slice_get (slice_set w.regions h makes.after) i) (sym is) ∙ set in
+            ap (λ (r : PlainRegion). r.store.program) (set_here w.regions h makes.after x at) ∙ makes.settles.plays.program ∙ of.programs h makes.before makes.stands
+        | inr apart ↦ of.programs k x (sym (set_elsewhere w.regions h k makes.after apart) ∙ set)
+      ];
+}
+
+turn_stays : (p : Image) (most h : ℕ) (o : Option Job) (w v : PlainWorld) → IsOf p most w → TurnsUnder h o w v → IsOf p most v
+turn_stays p most h None w v of same = let P : PlainWorld → Type 0 = λ u. IsOf p most u in subst P (sym same) of
+turn_stays p most h (Some j) w v of makes = made_stay p most h j w v of makes
+
+pub runs_stay_of : RunsStayOf
+runs_stay_of p most [] w v of same = let P : PlainWorld → Type 0 = λ u. IsOf p most u in subst P (sym same) of
+runs_stay_of p most (h ∷ hs) w v of runs = runs_stay_of p most hs runs.0 v (turn_stays p most h (pick_for h w.center) w runs.0 of runs.1) runs.2

@@ -1,0 +1,5 @@
+use Rattle.sc_world.proofs.Freeing.{rounds_stay_linked}
+use Rattle.sc_world.proofs.laws.rounds_stay_linked.Goals as goal
+
+pub returns : goal.returns
+returns c = rounds_stay_linked

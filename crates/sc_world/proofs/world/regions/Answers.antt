@@ -1,0 +1,16 @@
+use Rattle.std.proofs.Common.{sym, ◌∙◌, arith}
+use Rattle.sc_world.proofs.Opening.{regions-more, regions-none}
+use Rattle.sc_world.proofs.world.regions.Goals as goal
+
+pub loop-handler-init : goal.loop-handler-init
+loop-handler-init c = record {
+  regions = c.in_ok-regions.ensures.items ∙ sym (regions-none c.args.program.now.image 0);
+  count = omega (arith, c.in_ok-regions.ensures.len, c.in_ok-regions.regions.ok.0);
+}
+
+pub loop-handler-preserved : goal.loop-handler-preserved
+loop-handler-preserved c = record {
+  regions = regions-more c.args.program.now.image c.loop-handler.handler c.loop-handler.regions.items _ c.new.result c.loop-handler.invariant.regions c.new.ensures
+      c.in_ok-push.ensures.items;
+  count = omega (arith, c.in_ok-push.ensures.len, c.push.new.self.ok.0, c.loop-handler.regions.ok.0, c.loop-handler.invariant.count);
+}

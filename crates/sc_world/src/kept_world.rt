@@ -1,0 +1,117 @@
+//! Worlds that are kept, to be compared with others.
+ghost use Rattle.std.specs.Prelude.{◌≡◌, ◌≤◌, ◌↔◌, ℕ, IfOk, IsTrue, length, vec_len};
+ghost use Rattle.sc_play.specs.Contents.{contents_at, new_contents};
+
+use crate::world::World;
+use sc_play::Region;
+use sc_request::KeptCore;
+use std::alloc::AllocError;
+use std::hash::{FoldHasher, Hasher};
+
+/// What a world held: the state of its core, and the regions of its handlers. It takes memory for the handlers that there
+/// are. The handler picked last and the log are no part of it.
+#[derive(Drop)]
+pub struct KeptWorld<'p> {
+    pub(crate) core: KeptCore,
+    /// The regions by number. All past these are new.
+    pub(crate) regions: Vec<Region<'p>>,
+    pub(crate) ghost few: { vec_len regions ≤ 512 },
+}
+
+impl<'p> World<'p> {
+    ghost use Rattle.sc_world.specs.Kept.{kept, kept_of};
+    ghost use Rattle.sc_world.specs.Views.{world_of};
+
+    /// What the world holds, to be kept. The world goes.
+    ///
+    /// # Errors
+    /// Where there is no memory. The world is gone then, too.
+    pub fn keep(self) -> Result<KeptWorld<'p>, AllocError>
+        ensures { IfOk result (λ world. kept_of world ≡ kept (world_of self.entry)) }
+    {
+        let core = self.core.keep(self.alloc)?;
+        let regions = without_new(self.regions);
+        Ok(KeptWorld { core, regions })
+    }
+
+    /// A number that differs for most worlds that hold something else. Nothing is promised of it. It takes time for each handler
+    /// that there is, for what it holds, and for each request that stands at it.
+    pub fn hash(&self) -> u64 {
+        let mut hasher = FoldHasher::default();
+        hasher.write_u64(self.core.hash());
+        for handler in 0..self.core.handler_count() {
+            hasher.write_u64(self.regions[handler].hash());
+        }
+        hasher.finish()
+    }
+}
+
+impl<'p> KeptWorld<'p> {
+    ghost use Rattle.sc_world.specs.Kept.{kept, kept_of};
+    ghost use Rattle.sc_world.specs.Views.{world_of};
+
+    /// Whether a world holds what is kept: the core's state, and in each region the same objects, frames, output and failure.
+    pub fn is_same(&self, world: &World<'_>) -> bool
+        ensures { IsTrue result ↔ kept_of self.now ≡ kept (world_of world.now) }
+    {
+        self.core.is_same(&world.core) && same_regions(&self.regions, &world.regions)
+    }
+}
+
+/// The regions, but for those at the end that are new.
+fn without_new<'p>(mut regions: Vec<Region<'p>>) -> Vec<Region<'p>>
+    requires { vec_len regions ≤ 512 }
+    ensures same { contents_at result.items ≡ contents_at regions.entry.items }
+    ensures few { vec_len result ≤ 512 }
+{
+    let count = used(&regions);
+    regions.truncate(count);
+    regions.shrink_to_fit();
+    regions
+}
+
+/// A number from which on all regions are new.
+fn used(regions: &[Region<'_>]) -> usize
+    requires { length regions.now ≤ 512 }
+    ensures { (handler : ℕ) → result ≤ handler → contents_at regions.now handler ≡ new_contents handler }
+{
+    let mut count = regions.len();
+    while count > 0 && is_new_at(regions, (count - 1) as u16) {
+        count -= 1;
+    }
+    count
+}
+
+/// Whether the region of a handler is new. Where there is none, it is.
+fn is_new_at(regions: &[Region<'_>], handler: u16) -> bool
+    ensures { IsTrue result ↔ contents_at regions.now handler ≡ new_contents handler }
+{
+    same_at(regions, &[], handler)
+}
+
+/// Whether the regions of all handlers hold the same, where all past these are new.
+fn same_regions(regions: &[Region<'_>], others: &[Region<'_>]) -> bool
+    requires few { length regions.now ≤ 512 }
+    requires few_others { length others.now ≤ 512 }
+    ensures { IsTrue result ↔ contents_at regions.now ≡ contents_at others.now }
+{
+    for handler in 0..512u16 {
+        if !same_at(regions, others, handler) {
+            return false;
+        }
+    }
+    true
+}
+
+/// Whether the regions of a handler hold the same, where one that there isn't is new.
+fn same_at(regions: &[Region<'_>], others: &[Region<'_>], handler: u16) -> bool
+    ensures { IsTrue result ↔ contents_at regions.now handler ≡ contents_at others.now handler }
+{
+    let place = handler as usize;
+    match (regions.get(place), others.get(place)) {
+        (Some(region), Some(other)) => region.is_alike(other),
+        (Some(region), None) => region.is_new(handler),
+        (None, Some(other)) => other.is_new(handler),
+        (None, None) => true,
+    }
+}

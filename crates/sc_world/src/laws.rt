@@ -1,0 +1,43 @@
+//! What holds in each world that turns lead to, each the contract of a function that does nothing.
+ghost use Rattle.sc_world.specs.Free.{OpeningsAreLinked, RoundsStayLinked, RunsStayLinked, StoppedRoundsStayLinked, StoppedRunsStayLinked};
+ghost use Rattle.sc_world.specs.Kept.{KeptAlikeAreAlike, OpeningsAreOf, RunsStayOf};
+
+/// At the opening each handler serves in the core what its region serves.
+pub fn openings_are_linked()
+    ensures { OpeningsAreLinked }
+{}
+
+/// So it is after the turns of any handlers, one after the other.
+pub fn runs_stay_linked()
+    ensures { RunsStayLinked }
+{}
+
+/// So it is where memory was refused to one of them.
+pub fn stopped_runs_stay_linked()
+    ensures { StoppedRunsStayLinked }
+{}
+
+/// So it is after turns round and round.
+pub fn rounds_stay_linked()
+    ensures { RoundsStayLinked }
+{}
+
+/// So it is where memory was refused to one of those.
+pub fn stopped_rounds_stay_linked()
+    ensures { StoppedRoundsStayLinked }
+{}
+
+/// At the opening of a program all regions are of it, and nobody is out,
+pub fn openings_are_of_their_program()
+    ensures { OpeningsAreOf }
+{}
+
+/// and it stays so after the turns of any handlers.
+pub fn runs_stay_of_their_program()
+    ensures { RunsStayOf }
+{}
+
+/// Worlds of one program of which the same is kept are the same, but for the handler picked last.
+pub fn kept_alike_are_alike()
+    ensures { KeptAlikeAreAlike }
+{}

@@ -1,0 +1,392 @@
+//! The world, and its turns.
+ghost use Rattle.std.specs.Prelude.{◌≡◌, ◌≤◌, ◌↔◌, ℕ, IfOk, IsTrue, OnErr, OnOk, Some, length, is_some, replicate, slice_get, true, vec_len};
+ghost use Rattle.std.specs.Option.{option_map};
+ghost use Rattle.sc_request_counts.proofs.Props.{linked_prop};
+ghost use Rattle.sc_request_counts.specs.Free.{AreLinked};
+ghost use Rattle.sc_lockpass.specs.Versions.{most_handlers};
+ghost use Rattle.sc_request.specs.Cores.{center_of, log_of};
+ghost use Rattle.sc_request.specs.Logged.{settlements_of};
+ghost use Rattle.sc_request.specs.Rooms.{HasRoomFor};
+ghost use Rattle.sc_request.specs.Logs as core;
+ghost use Rattle.sc_world.specs.Free.{FreeObjectMeets};
+ghost use Rattle.sc_world.specs.Reports as told;
+ghost use Rattle.sc_world.specs.Rounds.{AreCutShort, EndsRounds, IsRefusedNext, Played, StopsRounds, TurnsOfNext, turns_at_once};
+ghost use Rattle.sc_world.specs.Turning.{IsRefusedTurn, IsTurn, PutsBack, Runs, StopsBehind, StopsShort, TurnsUnderJob, turned_by};
+ghost use Rattle.sc_world.specs.Worlds.{max_handlers, new_regions, opened};
+
+use crate::report::{self, push_end, push_handler};
+use sc_code::Program;
+use sc_lockpass::Version;
+use sc_model::Status;
+use sc_play::Region;
+use sc_region::{Breakdown, Job, Want};
+use sc_request::{Core, Log};
+use std::alloc::{AllocError, Global};
+
+/// What a step of the world did.
+#[derive(Clone, Copy, Debug, PartialEq, Eq)]
+pub enum Turned {
+    /// The handler made a turn.
+    Moved,
+    /// There is no such handler, or it has nothing to do.
+    Nothing,
+}
+
+/// How many handlers there may be in any version.
+const MAX_HANDLERS: u16 = 512;
+
+/// A world of handlers, of which number 0 begins with the creation of the root object.
+///
+/// Each handler serves in the core what its region serves. So the region of a handler that is free has no frames, and each
+/// of its objects meets its class invariant.
+#[derive(Drop)]
+pub struct World<'p> {
+    pub(crate) alloc: Global,
+    pub(crate) core: Core,
+    /// The region of each handler by number, and places for those that there may be.
+    pub(crate) regions: Vec<Region<'p>>,
+    ghost places: { vec_len regions ≡ 512 },
+    ghost linked: { AreLinked (center_of core) regions.items } by { linked_prop (center_of core) regions.items },
+}
+
+impl<'p> World<'p> {
+    ghost use Rattle.sc_request.specs.Logs.{next, pick_for};
+    ghost use Rattle.sc_world.specs.Views.{world_of};
+
+    /// The world of a program at its opening, where there may be as many handlers as the version has. What grows later
+    /// takes its memory from this allocator.
+    ///
+    /// # Errors
+    /// Where there is no memory.
+    pub fn open(
+        alloc: Global,
+        program: &'p Program,
+        version: Version,
+    ) -> Result<World<'p>, AllocError>
+        ensures { IfOk result (λ world. world_of world ≡ opened program.now.image version) }
+    {
+        Ok(World {
+            alloc,
+            core: open_core(alloc, program, version)?,
+            regions: regions(alloc, program)?,
+        })
+    }
+
+    /// The turn of one handler: its silent steps, up to and with the next visible one.
+    ///
+    /// # Errors
+    /// Where there is no memory. Then nothing has changed.
+    pub fn turn(&mut self, handler: u16) -> Result<Turned, AllocError>
+        ensures ok { OnOk result (IsTurn handler (world_of self.old) (world_of self.new)) }
+        ensures turned { IfOk result (λ turned. turned ≡ turned_by (pick_for handler (world_of self.old).center)) }
+        ensures err { OnErr result (IsRefusedTurn handler (world_of self.old) (world_of self.new)) }
+    {
+        self.core.make_room()?;
+        if self.core.pick_at(handler) {
+            let region = &mut self.regions[handler as usize];
+            play(&mut self.core, region, handler, 1)?;
+            Ok(Turned::Moved)
+        } else {
+            Ok(Turned::Nothing)
+        }
+    }
+
+    /// The turns of the handlers, one after the other.
+    ///
+    /// # Errors
+    /// Where there is no memory. Then the world stands after the turns before.
+    pub fn turns(&mut self, handlers: &[u16]) -> Result<(), AllocError>
+        ensures ok { OnOk result (Runs handlers.now (world_of self.old) (world_of self.new)) }
+        ensures err { OnErr result ((n : ℕ) × StopsBehind n handlers.now (world_of self.old) (world_of self.new)) }
+    {
+        let (_, result) = self.turns_until(handlers);
+        result
+    }
+
+    /// The turns of the handlers, one after the other, as far as there is memory: how many of the handlers had theirs,
+    /// all of them where that is Ok.
+    pub fn turns_until(&mut self, handlers: &[u16]) -> (usize, Result<(), AllocError>)
+        ensures count { OnOk result.1 (result.0 ≡ length handlers.now) }
+        ensures ok { OnOk result.1 (Runs handlers.now (world_of self.old) (world_of self.new)) }
+        ensures err { OnErr result.1 (StopsBehind result.0 handlers.now (world_of self.old) (world_of self.new)) }
+    {
+        for (count, handler) in handlers.iter().enumerate() {
+            if self.turn(*handler).is_err() {
+                return (count, Err(AllocError));
+            }
+        }
+        (handlers.len(), Ok(()))
+    }
+
+    /// So many turns of one handler. Once it has nothing to do, the others would change nothing, and are left out.
+    ///
+    /// # Errors
+    /// Where there is no memory. Then the world stands after the turns before.
+    pub fn turns_of(&mut self, handler: u16, count: u32) -> Result<(), AllocError>
+        ensures ok { OnOk result (Runs (replicate count handler) (world_of self.old) (world_of self.new)) }
+        ensures err { OnErr result ((n : ℕ) ×
+            StopsBehind n (replicate count handler) (world_of self.old) (world_of self.new)) }
+    {
+        let mut left = count;
+        for _ in 0..count {
+            if left == 0 {
+                break;
+            }
+            let made = self.turns_under_job(handler, left)?;
+            if made == 0 {
+                break;
+            }
+            left = left.saturating_sub(made);
+        }
+        Ok(())
+    }
+
+    /// A handler plays so many turns at most under the job that it has, and they are settled as one: how many, none where it has
+    /// nothing to do. Fewer are made where one asks something.
+    ///
+    /// # Errors
+    /// Where memory is refused to one of them, perhaps behind others.
+    fn turns_under_job(&mut self, handler: u16, limit: u32) -> Result<u32, AllocError>
+        requires { 1 ≤ limit }
+        ensures ok { IfOk result (λ turns. TurnsUnderJob limit handler turns (world_of self.old) (world_of self.new)) }
+        ensures err { OnErr result (StopsShort limit handler (world_of self.old) (world_of self.new)) }
+    {
+        self.core.make_room()?;
+        if self.core.pick_at(handler) {
+            let region = &mut self.regions[handler as usize];
+            let (turns, cut_short) = play(&mut self.core, region, handler, limit)?;
+            if cut_short {
+                return Err(AllocError);
+            }
+            Ok(turns)
+        } else {
+            Ok(0)
+        }
+    }
+
+    /// A turn of each handler, in order of number and round and round, until none has anything to do or so many turns are
+    /// made. It begins behind the handler that made the last turn.
+    ///
+    /// # Errors
+    /// Where there is no memory. Then the world stands after the turns before, also where several are made at once.
+    pub fn rounds(&mut self, limit: u32) -> Result<(), AllocError>
+        ensures ok { OnOk result (EndsRounds limit (world_of self.old) (world_of self.new)) }
+        ensures err { OnErr result (StopsRounds limit (world_of self.old) (world_of self.new)) }
+    {
+        let mut left = limit;
+        for _ in 0..limit {
+            if left == 0 {
+                break;
+            }
+            let turns = self.next_turns(left)?;
+            if turns == 0 {
+                break;
+            }
+            left = left.saturating_sub(turns);
+        }
+        Ok(())
+    }
+
+    /// The next handler that has something to do makes a turn; or as many as are left, where it would be the next again
+    /// after each. Answers how many. Err where memory is refused to one of them, which may be behind others.
+    fn next_turns(&mut self, left: u32) -> Result<u32, AllocError>
+        requires { 1 ≤ left }
+        ensures ok { IfOk result (λ turns.
+            TurnsOfNext (next (world_of self.old).center) left turns (world_of self.old) (world_of self.new)) }
+        ensures err { OnErr result (IsRefusedNext left (world_of self.old) (world_of self.new)) }
+    {
+        self.core.make_room()?;
+        match self.core.pick() {
+            Some(handler) => {
+                let region = &mut self.regions[handler as usize];
+                let (turns, cut_short) = play_on(&mut self.core, region, handler, left)?;
+                if cut_short {
+                    return Err(AllocError);
+                }
+                Ok(turns)
+            }
+            None => Ok(0),
+        }
+    }
+
+    /// How many handlers there are.
+    pub fn handler_count(&self) -> usize
+        ensures { result ≡ (world_of self.now).center.state.count }
+    {
+        self.core.handler_count()
+    }
+
+    /// How a handler stands, or None where there is no such handler.
+    pub fn status(&self, handler: u16) -> Option<Status>
+        ensures { result ≡ core.status_for handler (world_of self.now).center }
+    {
+        self.core.status(handler)
+    }
+
+    /// If there is an object of this number on a handler, and the handler is free, so it hasn't failed, the object meets its
+    /// class invariant.
+    pub fn free_object_meets(&self, handler: u16, number: u32)
+        ensures { FreeObjectMeets handler number (world_of self.now) }
+    {
+        if let Some(region) = self.regions.get(handler as usize) {
+            let _ = region.settled(number);
+        }
+    }
+
+    /// How each handler stands, in order of number.
+    ///
+    /// # Errors
+    /// Where there is no memory.
+    pub fn statuses(&self) -> Result<Vec<Status>, AllocError>
+        ensures { IfOk result (λ statuses. statuses.items ≡ told.statuses (world_of self.now)) }
+    {
+        let mut statuses = Vec::new(self.alloc);
+        for handler in 0..self.core.handler_count() {
+            if let Some(status) = self.core.status(handler as u16) {
+                statuses.push(status)?;
+            }
+        }
+        Ok(statuses)
+    }
+
+    /// What the turns of handlers came to so far, the first one first.
+    pub fn log(&self) -> &Log
+        ensures { settlements_of result.now ≡ log_of self.now.core }
+    {
+        self.core.log()
+    }
+
+    /// The core.
+    pub fn core(&self) -> &Core
+        ensures center { center_of result.now ≡ (world_of self.now).center }
+        ensures log { log_of result.now ≡ log_of self.now.core }
+    {
+        &self.core
+    }
+
+    /// The region of a handler, or None where there can be no such handler in any version.
+    pub fn region(&self, handler: u16) -> Option<&Region<'p>>
+        ensures { option_map (λ region. region.now) result ≡ slice_get (world_of self.now).regions handler }
+    {
+        self.regions.get(handler as usize)
+    }
+
+    /// Where a handler was as it failed, or else is now, to be told to people; None where there is no such handler. Nothing
+    /// is promised of it: no turn depends on it.
+    pub fn breakdown(&self, handler: u16) -> Option<Breakdown> {
+        Some(self.regions.get(handler as usize)?.breakdown())
+    }
+
+    /// Each handler's line and output, and how the run has ended.
+    ///
+    /// # Errors
+    /// Where there is no memory.
+    pub fn report(&self) -> Result<Vec<u8>, AllocError>
+        ensures { IfOk result (λ report. report.items ≡ told.report (world_of self.now)) }
+    {
+        let mut report = Vec::new(self.alloc);
+        let mut is_busy = false;
+        for handler in 0..self.core.handler_count() {
+            let Some(status) = self.core.status(handler as u16) else {
+                break;
+            };
+            let refused = self.core.refused(handler as u16).unwrap_or(0);
+            let output = self.regions[handler].output();
+            push_handler(self.alloc, &mut report, handler, status, refused, output)?;
+            is_busy = is_busy || report::is_busy(status);
+        }
+        push_end(&mut report, is_busy)?;
+        Ok(report)
+    }
+}
+
+/// The core of a program, which has at most 256 classes.
+fn open_core(alloc: Global, program: &Program, version: Version) -> Result<Core, AllocError>
+    ensures center { IfOk result (λ c. center_of c ≡ (opened program.now.image version).center) }
+    ensures version { IfOk result (λ c. c.state.rights.version ≡ version) }
+{
+    let class = program.root_class().min(u8::MAX as usize);
+    let procedure = program.root_procedure().min(u32::MAX as usize);
+    Core::opening(alloc, class as u8, procedure as u32, version)
+}
+
+/// A region for each handler that there may be.
+fn regions<'p>(alloc: Global, program: &'p Program) -> Result<Vec<Region<'p>>, AllocError>
+    ensures regions { IfOk result (λ regions. regions.items ≡ new_regions program.now.image 0 max_handlers) }
+    ensures count { IfOk result (λ regions. vec_len regions ≡ 512) }
+{
+    let mut regions = Vec::with_capacity(alloc, MAX_HANDLERS as usize)?;
+    for handler in 0..MAX_HANDLERS {
+        regions.push(Region::new(alloc, program, handler))?;
+    }
+    Ok(regions)
+}
+
+/// How many turns a handler that is out may make at once, of so many that are left: all where it is the next one again as
+/// long as they ask nothing.
+fn turns_at_once(core: &mut Core, handler: u16, left: u32) -> u32
+    ensures turns { (job : Job) → (center_of core.old).out handler ≡ Some job → result ≡ turns_at_once left job (center_of core.old) }
+    ensures center { center_of core.new ≡ center_of core.old }
+    ensures log { log_of core.new ≡ log_of core.old }
+    ensures room { (n : ℕ) → HasRoomFor n core.old → HasRoomFor n core.new }
+    ensures version { core.new.state.rights.version ≡ core.old.state.rights.version }
+{
+    if core.comes_again(handler) { left } else { 1 }
+}
+
+/// Whether the turns that a handler made under its job were cut short: the last asks nothing, and there might be more.
+fn are_cut_short(limit: u32, turns: u32, asked: &Want) -> bool
+    ensures { IsTrue result ↔ AreCutShort limit turns asked.now }
+{
+    turns < limit && matches!(asked, Want::Continue)
+}
+
+/// The handler, which is out, plays at most so many turns under its job, and is settled: how many it played, and whether
+/// memory was refused to the next. Err where it was refused to the first: the handler is put back.
+fn play(
+    core: &mut Core,
+    region: &mut Region<'_>,
+    handler: u16,
+    limit: u32,
+) -> Result<(u32, bool), AllocError>
+    requires some { 1 ≤ limit }
+    requires out { is_some ((center_of core.old).out handler) ≡ true }
+    requires room { HasRoomFor 0 core.old }
+    ensures ok { IfOk result (λ played. (job : Job) → (center_of core.old).out handler ≡ Some job →
+        Played limit handler job played.0 (most_handlers core.old.state.rights.version) (center_of core.old) (center_of core.new) region.old region.new played.1) }
+    ensures err { OnErr result ((job : Job) → (center_of core.old).out handler ≡ Some job → PutsBack handler job (center_of core.old) (center_of core.new) region.old region.new) }
+    ensures version { core.new.state.rights.version ≡ core.old.state.rights.version }
+{
+    let Some(job) = core.job_out(handler) else {
+        unreachable!();
+    };
+    let mut asked = Want::Continue;
+    let Ok(turns) = region.play_asking(job, limit, &mut asked) else {
+        core.put_back(handler);
+        return Err(AllocError);
+    };
+    let cut_short = are_cut_short(limit, turns, &asked);
+    if core.settle(handler, turns, &asked).is_err() {
+        unreachable!();
+    }
+    Ok((turns, cut_short))
+}
+
+/// The handler, which is out, plays as many turns under its job as it may make at once, of so many that are left.
+fn play_on(
+    core: &mut Core,
+    region: &mut Region<'_>,
+    handler: u16,
+    left: u32,
+) -> Result<(u32, bool), AllocError>
+    requires some { 1 ≤ left }
+    requires out { is_some ((center_of core.old).out handler) ≡ true }
+    requires room { HasRoomFor 0 core.old }
+    ensures ok { IfOk result (λ played. (job : Job) → (center_of core.old).out handler ≡ Some job →
+        Played (turns_at_once left job (center_of core.old)) handler job played.0 (most_handlers core.old.state.rights.version) (center_of core.old) (center_of core.new) region.old region.new played.1) }
+    ensures err { OnErr result ((job : Job) → (center_of core.old).out handler ≡ Some job → PutsBack handler job (center_of core.old) (center_of core.new) region.old region.new) }
+    ensures version { core.new.state.rights.version ≡ core.old.state.rights.version }
+{
+    let limit = turns_at_once(core, handler, left);
+    play(core, region, handler, limit)
+}
