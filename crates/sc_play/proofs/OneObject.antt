@@ -116,12 +116,17 @@ turn_fails h x y z why w stops k r does wants =
 pub arrives_as : (now turns : ℕ) (step done : Result Unit Cause) (x y : PlainStore) → step ≡ done → Arrives (now - turns) step x y → Arrives (now - turns) done x y
 arrives_as now turns step done x y is arrives = subst (λ (s : Result Unit Cause). Arrives (now - turns) s x y) is arrives
 
+pub made_exactly : (turns now h : ℕ) (is_told : Bool) (j : Job) (z x y : PlainStore) (asked : Want) → AreMade turns h is_told j z x asked → asked ≡ want.Continue → turns ≤ now →
+    here.Turns x (now - turns) y → AreMade now h is_told j z y want.Continue
+made_exactly turns now h is_told j z x y asked made nothing more leads =
+    let many : turns + (now - turns) ≡ now = omega (arith, more) in
+    subst (λ (k : ℕ). AreMade k h is_told j z y want.Continue) many
+    (turns_made turns h is_told j z x (now - turns) y (subst (λ (w : Want). AreMade turns h is_told j z x w) nothing made) leads)
+
 pub made_by_now : (turns now h : ℕ) (is_told : Bool) (j : Job) (z x y : PlainStore) (asked : Want) (step : Result Unit Cause) → AreMade turns h is_told j z x asked → asked ≡ want.Continue →
     turns ≤ now → (arrives : Arrives (now - turns) step x y) → AreMade now h is_told j z arrives.last want.Continue
 made_by_now turns now h is_told j z x y asked step made nothing more arrives =
-    let many : turns + (now - turns) ≡ now = omega (arith, more) in
-    subst (λ (k : ℕ). AreMade k h is_told j z arrives.last want.Continue) many
-    (turns_made turns h is_told j z x (now - turns) arrives.last (subst (λ (w : Want). AreMade turns h is_told j z x w) nothing made) arrives.turns)
+    made_exactly turns now h is_told j z x arrives.last asked made nothing more arrives.turns
 
 pub made_next : (turns now h : ℕ) (is_told : Bool) (j : Job) (z x y u : PlainStore) (asked w : Want) → AreMade turns h is_told j z x asked → asked ≡ want.Continue → turns ≤ now →
     Arrives (now - turns) (Ok tt) x y → TurnOf h y u w → AreMade (now + 1) h is_told j z u w

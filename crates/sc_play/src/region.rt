@@ -87,12 +87,17 @@ fn play_on(
         if !is_continue(asked) {
             return Ok(turns);
         }
-        let (now, step) = run_current(store, turns, limit - 1);
+        let (now, step) = run_current(store, turns, limit);
         match step {
-            Ok(()) => match turn(store, handler, asked) {
-                Ok(()) => turns = now + 1,
-                Err(error) => return if now == 0 { Err(error) } else { Ok(now) },
-            },
+            Ok(()) => {
+                if now == limit {
+                    return Ok(now);
+                }
+                match turn(store, handler, asked) {
+                    Ok(()) => turns = now + 1,
+                    Err(error) => return if now == 0 { Err(error) } else { Ok(now) },
+                }
+            }
             Err(why) => {
                 fail(store, why, asked);
                 return Ok(now + 1);

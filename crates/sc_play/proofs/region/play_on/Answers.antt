@@ -1,10 +1,11 @@
-use Rattle.std.proofs.Common.{◌≡◌, ◌+◌, ◌-◌, ◌<◌, inl, inr, Ok, Err, refl, sym, ◌∙◌, subst, arith}
+use Rattle.std.proofs.Common.{◌≡◌, ◌+◌, ◌-◌, ◌<◌, inl, inr, Result, OnErr, Ok, Err, refl, sym, ◌∙◌, subst, arith}
+use Rattle.sc_model.specs.declared.cause.Cause.{Cause}
 use Rattle.sc_region.specs.declared.job.Want.{Want}
 use Rattle.sc_region.specs.declared.job.Want.TheVariants as want
 use Rattle.sc_region.specs.Stores.{PlainStore}
 use Rattle.sc_play.specs.Turns.{IsAhead, Turns}
 use Rattle.sc_play.proofs.Making.{are_turns, some_made}
-use Rattle.sc_play.proofs.OneObject.{ahead_here, ahead_none, arrives_as, made_by_now, made_failing, made_next}
+use Rattle.sc_play.proofs.OneObject.{ahead_here, ahead_none, arrives_as, made_by_now, made_exactly, made_failing, made_next}
 use Rattle.sc_play.proofs.region.play_on.Goals as goal
 
 pub turn-requires : goal.turn-requires
@@ -27,7 +28,7 @@ loop-turns-preserved c =
     let nothing : c.loop-turns.asked ≡ want.Continue = c.is_continue.ensures.0 c.if-not-is_continue.false in
     let arrives = arrives_as now c.loop-turns.turns c.run_current-now.result.1 (Ok tt) c.loop-turns.store c.run_current-now.new.store c.in-Ok.is c.run_current-now.ensures.arrives in
     let more = c.run_current-now.ensures.made in
-    let below : now < c.args.limit = omega (arith, c.run_current-now.ensures.few, c.requires.some) in
+    let below : now < c.args.limit = omega (arith, c.run_current-now.ensures.few, c.if-now-eq-limit.false) in
     record {
       some = omega (arith, c.loop-turns.invariant.some, more);
       few = omega (arith, below);
@@ -54,7 +55,7 @@ returns-else-now-eq0-clause-ok c =
     let kept : c.turn.new.asked ≡ c.loop-turns.asked = c.in-Err-turn.ensures.kept in
     let arrives = arrives_as now c.loop-turns.turns c.run_current-now.result.1 (Ok tt) c.loop-turns.store c.run_current-now.new.store c.in-Ok.is c.run_current-now.ensures.arrives in
     let more = c.run_current-now.ensures.made in
-    let below : now < c.args.limit = omega (arith, c.run_current-now.ensures.few, c.requires.some) in
+    let below : now < c.args.limit = omega (arith, c.run_current-now.ensures.few, c.if-now-eq-limit.false) in
     let some : 0 < now = omega (arith, c.if-now-eq0.false) in
     record {
       few = omega (arith, below);
@@ -77,7 +78,7 @@ returns-in-Err-clause-ok c =
     let nothing : c.loop-turns.asked ≡ want.Continue = c.is_continue.ensures.0 c.if-not-is_continue.false in
     let arrives = arrives_as now c.loop-turns.turns c.run_current-now.result.1 (Err c.in-Err.why) c.loop-turns.store c.run_current-now.new.store c.in-Err.is c.run_current-now.ensures.arrives in
     let more = c.run_current-now.ensures.made in
-    let below : now < c.args.limit = omega (arith, c.run_current-now.ensures.few, c.requires.some) in
+    let below : now < c.args.limit = subst (λ (r : Result Unit Cause). OnErr r (now < c.args.limit)) c.in-Err.is c.run_current-now.ensures.failing in
     let some : 0 < now + 1 = omega arith in
     record {
       few = omega (arith, below);
@@ -98,5 +99,23 @@ returns-clause-ok c =
       some = some;
       last = c.loop-turns.store;
       turns = λ t j z p. are_turns c.loop-turns.turns c.args.handler t j z c.loop-turns.store c.loop-turns.asked some (c.loop-turns.invariant.made t j z p);
+      ends = inl refl;
+    }
+
+pub returns-then-now-eq-limit-clause-ok : goal.returns-then-now-eq-limit-clause-ok
+returns-then-now-eq-limit-clause-ok c =
+    let now = c.run_current-now.result.0 in
+    let nothing : c.loop-turns.asked ≡ want.Continue = c.is_continue.ensures.0 c.if-not-is_continue.false in
+    let some : 0 < now = omega (arith, c.if-now-eq-limit.true, c.requires.some) in
+    let leads = c.run_current-now.ensures.exact c.if-now-eq-limit.true in
+    record {
+      few = c.run_current-now.ensures.few;
+      some = some;
+      last = c.run_current-now.new.store;
+      turns = λ t j z p.
+          subst (λ (w : Want). Turns c.args.handler t j z now c.run_current-now.new.store w) (sym nothing)
+          (are_turns now c.args.handler t j z c.run_current-now.new.store want.Continue some
+          (made_exactly c.loop-turns.turns now c.args.handler t j z c.loop-turns.store c.run_current-now.new.store c.loop-turns.asked (c.loop-turns.invariant.made t j z p) nothing
+          c.run_current-now.ensures.made leads));
       ends = inl refl;
     }
