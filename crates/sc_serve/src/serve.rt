@@ -497,7 +497,7 @@ fn play_record<'a, F: Files>(
     let name = options.record;
     let record = match read_record(alloc, &mut NamedFile::new(files, name)) {
         Ok(record) => record,
-        Err(fault) => return answer_no_record(alloc, name, fault),
+        Err(fault) => return answer_no_record(alloc, name, fault, options.is_explained),
     };
     let outcome = replay(alloc, program, &record)?;
     let exit = exit_of(outcome.statuses.as_slice());
@@ -533,21 +533,36 @@ fn note_of_replay(
     run_note(alloc, played, statuses)
 }
 
-/// What is answered where a file holds no record.
+/// What is answered where a file holds no record, and in which line of it, where that is asked for.
 fn answer_no_record<'a>(
     alloc: Global,
     name: &'a str,
     fault: ReadFault,
+    is_explained: bool,
 ) -> Result<Answer<'a>, Fault<'a>>
     ensures refused { IfOk result (λ answer. TellsBadRecord answer.text.items answer.exit) }
     ensures bad { OnOk result (IsBadRecord fault) }
     ensures unread { IfErr result (IsUnansweredOn (name.now ∷ [])) }
 {
     match fault {
-        ReadFault::BadRecord { line: _ } => answer_refused(alloc, b"refused A1 BadRecord\n"),
+        ReadFault::BadRecord { line } => {
+            let mut answer = answer_refused(alloc, b"refused A1 BadRecord\n")?;
+            if is_explained {
+                answer.note = bad_line_note(alloc, name, line)?;
+            }
+            Ok(answer)
+        }
         ReadFault::Unreadable(error) => Err(Fault::CannotRead(name, FileFault::Unreadable(error))),
         ReadFault::OutOfMemory => Err(Fault::OutOfMemory),
     }
+}
+
+/// In which line a file that should hold a record goes wrong.
+fn bad_line_note(alloc: Global, name: &str, line: usize) -> Result<Vec<u8>, AllocError> {
+    let told = format!(in alloc; "{name}:{line}: the record goes wrong in this line\n")?;
+    let mut note = Vec::from_slice(alloc, told.as_bytes())?;
+    note.extend_from_slice(b"`scoop explain A1` says more\n")?;
+    Ok(note)
 }
 
 /// The answer of a line that tells a refusal.

@@ -28,7 +28,7 @@ loop-turns-preserved c =
     let nothing : c.loop-turns.asked ≡ want.Continue = c.is_continue.ensures.0 c.if-not-is_continue.false in
     let arrives = arrives_as now c.loop-turns.turns c.run_current-now.result.1 (Ok tt) c.loop-turns.store c.run_current-now.new.store c.in-Ok.is c.run_current-now.ensures.arrives in
     let more = c.run_current-now.ensures.made in
-    let below : now < c.args.limit = omega (arith, c.run_current-now.ensures.few, c.if-now-eq-limit.false) in
+    let below : now < c.args.limit = omega (arith, c.run_current-now.ensures.few, c.if-now-limit.false) in
     record {
       some = omega (arith, c.loop-turns.invariant.some, more);
       few = omega (arith, below);
@@ -55,7 +55,7 @@ returns-else-now-eq0-clause-ok c =
     let kept : c.turn.new.asked ≡ c.loop-turns.asked = c.in-Err-turn.ensures.kept in
     let arrives = arrives_as now c.loop-turns.turns c.run_current-now.result.1 (Ok tt) c.loop-turns.store c.run_current-now.new.store c.in-Ok.is c.run_current-now.ensures.arrives in
     let more = c.run_current-now.ensures.made in
-    let below : now < c.args.limit = omega (arith, c.run_current-now.ensures.few, c.if-now-eq-limit.false) in
+    let below : now < c.args.limit = omega (arith, c.run_current-now.ensures.few, c.if-now-limit.false) in
     let some : 0 < now = omega (arith, c.if-now-eq0.false) in
     record {
       few = omega (arith, below);
@@ -102,12 +102,12 @@ returns-clause-ok c =
       ends = inl refl;
     }
 
-pub returns-then-now-eq-limit-clause-ok : goal.returns-then-now-eq-limit-clause-ok
-returns-then-now-eq-limit-clause-ok c =
+pub returns-then-now-limit-clause-ok : goal.returns-then-now-limit-clause-ok
+returns-then-now-limit-clause-ok c =
     let now = c.run_current-now.result.0 in
     let nothing : c.loop-turns.asked ≡ want.Continue = c.is_continue.ensures.0 c.if-not-is_continue.false in
-    let some : 0 < now = omega (arith, c.if-now-eq-limit.true, c.requires.some) in
-    let leads = c.run_current-now.ensures.exact c.if-now-eq-limit.true in
+    let some : 0 < now = omega (arith, c.if-now-limit.true, c.requires.some) in
+    let leads = c.run_current-now.ensures.exact c.if-now-limit.true in
     record {
       few = c.run_current-now.ensures.few;
       some = some;
