@@ -6,7 +6,7 @@ ghost use Rattle.sc_code.specs.declared.operation.Operation.TheVariants as coded
 ghost use Rattle.sc_code.specs.Programs.{pool_of};
 ghost use Rattle.sc_code.specs.View.{call_of, creation_of, named};
 ghost use Rattle.sc_interp.specs.Standing.{Follows, Stays, listed, call_in, creation_in};
-ghost use Rattle.sc_interp.specs.Told.{IsCallIn, IsCreationIn, Tells};
+ghost use Rattle.sc_interp.specs.Told.{IsCallIn, IsCreationIn, OnComes, Tells};
 
 use crate::act::{Act, Calling, Hop};
 use sc_code::{CallSite, ConstantPool, CreationSite, Program};
@@ -90,6 +90,7 @@ pub fn call_routine(
         result (activation_of activation.old) (activation_of activation.new) }
     ensures stays { Stays (activation_of activation.old) (activation_of activation.new) }
     ensures told { Tells program.now.image result (activation_of activation.new) }
+    ensures kept { OnComes result (activation_of activation.new ≡ activation_of activation.old) }
 {
     let Some(site) = call_at(program, number) else {
         return Hop::Failed(Cause::BadCode);
@@ -116,6 +117,7 @@ pub fn create(program: &Program, activation: &mut Activation, me: Reference, num
         result (activation_of activation.old) (activation_of activation.new) }
     ensures stays { Stays (activation_of activation.old) (activation_of activation.new) }
     ensures told { Tells program.now.image result (activation_of activation.new) }
+    ensures kept { OnComes result (activation_of activation.new ≡ activation_of activation.old) }
 {
     let Some(site) = creation_at(program, number) else {
         return Hop::Failed(Cause::BadCode);
@@ -142,6 +144,7 @@ pub fn create_handler(
         (activation_of activation.old) (activation_of activation.new) }
     ensures stays { Stays (activation_of activation.old) (activation_of activation.new) }
     ensures told { Tells program.now.image result (activation_of activation.new) }
+    ensures kept { OnComes result (activation_of activation.new ≡ activation_of activation.old) }
 {
     let Some(site) = creation_at(program, number) else {
         return Hop::Failed(Cause::BadCode);

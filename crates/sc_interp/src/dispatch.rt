@@ -3,7 +3,7 @@ ghost use Rattle.std.specs.Prelude.{◌≡◌, IfNone, IfOk, IfSome, OnErr, fals
 ghost use Rattle.sc_code.specs.declared.program.Image.{Image};
 ghost use Rattle.sc_region.specs.Frames.{activation_of};
 ghost use Rattle.sc_interp.specs.Standing.{Follows, Stays, is_simple, is_step, stepped};
-ghost use Rattle.sc_interp.specs.Told.{Tells};
+ghost use Rattle.sc_interp.specs.Told.{OnComes, Tells};
 
 use crate::act::{Act, Hop};
 use crate::blocks::open;
@@ -76,6 +76,7 @@ pub fn hop_on(
     ensures stays { Stays (activation_of activation.old) (activation_of activation.new) }
     ensures err { OnErr result (activation_of activation.new ≡ activation_of activation.old) }
     ensures told { IfOk result (λ hop. Tells program.now.image hop (activation_of activation.new)) }
+    ensures kept { IfOk result (λ hop. OnComes hop (activation_of activation.new ≡ activation_of activation.old)) }
 {
     match operation {
         Operation::KeepOld => keep_old(activation, count),

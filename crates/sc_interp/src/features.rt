@@ -11,7 +11,7 @@ ghost use Rattle.sc_interp.specs.Features.{Calls, IsFeature, IsFeatureAt, IsSite
 ghost use Rattle.sc_interp.specs.Playing.{Plays, Remains};
 ghost use Rattle.sc_interp.specs.Standing.{Stays, listed};
 ghost use Rattle.sc_interp.specs.Values.{reference_of, value_of};
-ghost use Rattle.sc_interp.specs.Told.{IsCallIn, IsDone, IsTold, Tells};
+ghost use Rattle.sc_interp.specs.Told.{IsCallIn, IsDone, IsTold, OnComes, Tells};
 
 use crate::act::{Act, Calling, Hop, stepped};
 use crate::attributes::{attribute_value, value_under, version_in};
@@ -122,6 +122,7 @@ fn enter_on(activation: &mut Activation, object: Reference, site: CallSite) -> H
         result (activation_of activation.old) (activation_of activation.new) }
     ensures stays { Stays (activation_of activation.old) (activation_of activation.new) }
     ensures told { (p : Image) → IsCallIn p site → Tells p result (activation_of activation.new) }
+    ensures kept { OnComes result (activation_of activation.new ≡ activation_of activation.old) }
 {
     let gives = site.gives.is_some();
     if !has_room_past(activation, site, gives) {
@@ -142,6 +143,7 @@ fn request_on(activation: &mut Activation, object: Reference, site: CallSite) ->
     ensures calls { (count : ℕ) → Calls count site (λ c k us f. flat.requests c (reference_of object) k us f) result (activation_of activation.old) (activation_of activation.new) }
     ensures stays { Stays (activation_of activation.old) (activation_of activation.new) }
     ensures told { (p : Image) → IsCallIn p site → Tells p result (activation_of activation.new) }
+    ensures kept { OnComes result (activation_of activation.new ≡ activation_of activation.old) }
 {
     if site.is_own {
         return refuse(activation, site, Cause::ForeignObject);
@@ -171,6 +173,7 @@ fn call_found(
     ensures calls { Calls count site (λ c k us f. calls_found c (reference_of object) k us found f) result (activation_of activation.old) (activation_of activation.new) }
     ensures stays { Stays (activation_of activation.old) (activation_of activation.new) }
     ensures told { (p : Image) → IsCallIn p site → Tells p result (activation_of activation.new) }
+    ensures kept { OnComes result (activation_of activation.new ≡ activation_of activation.old) }
 {
     match found {
         None => refuse(activation, site, Cause::BadCode),
@@ -192,6 +195,7 @@ fn call_on(
     ensures calls { Calls count site (λ c k us f. calls_seen c (reference_of me) k (value_of target) us found f) result (activation_of activation.old) (activation_of activation.new) }
     ensures stays { Stays (activation_of activation.old) (activation_of activation.new) }
     ensures told { (p : Image) → IsCallIn p site → Tells p result (activation_of activation.new) }
+    ensures kept { OnComes result (activation_of activation.new ≡ activation_of activation.old) }
 {
     match target {
         Value::Attached(object) => {
@@ -240,6 +244,7 @@ fn call_target(
     ensures plays { Plays me count (coded.CallFeature number) result store.old store.new }
     ensures remains { Remains store.old store.new }
     ensures told { IsTold result store.new }
+    ensures kept { OnComes result (store.new ≡ store.old) }
 {
     let found = feature_at(store, target, site.name);
     match store.top_mut() {
@@ -253,6 +258,7 @@ pub fn call_feature(store: &mut Store<'_>, me: Reference, count: usize, number: 
     ensures plays { Plays me count (coded.CallFeature number) result store.old store.new }
     ensures remains { Remains store.old store.new }
     ensures told { IsTold result store.new }
+    ensures kept { OnComes result (store.new ≡ store.old) }
 {
     match site_at(store, number) {
         None => Hop::Failed(Cause::BadCode),

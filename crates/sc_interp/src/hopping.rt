@@ -6,7 +6,7 @@ ghost use Rattle.sc_region.specs.Frames.{PlainActivation, top_activation, top_cu
 ghost use Rattle.sc_interp.specs.Hopping.{ComesTo, HasCode, IsNext, LeadsTo, NextIs};
 ghost use Rattle.sc_interp.specs.Playing.{Plays, Remains};
 ghost use Rattle.sc_interp.specs.Standing.{is_simple, is_step, is_step_in, stepped};
-ghost use Rattle.sc_interp.specs.Told.{IsTold};
+ghost use Rattle.sc_interp.specs.Told.{IsTold, OnComes};
 
 use crate::act::{Hop, stepped};
 use crate::attributes::{push_attribute, store_attribute};
@@ -76,6 +76,7 @@ fn hop_in_place(
     ensures remains { Remains store.old store.new }
     ensures err { OnErr result (store.new ≡ store.old) }
     ensures told { IfOk result (λ hop. IsTold hop store.new) }
+    ensures kept { IfOk result (λ hop. OnComes hop (store.new ≡ store.old)) }
 {
     let program = store.program();
     match store.top_mut() {
@@ -96,6 +97,7 @@ fn hop_by(
     ensures remains { Remains store.old store.new }
     ensures err { OnErr result (store.new ≡ store.old) }
     ensures told { IfOk result (λ hop. IsTold hop store.new) }
+    ensures kept { IfOk result (λ hop. OnComes hop (store.new ≡ store.old)) }
 {
     match operation {
         Operation::CallFeature(number) => Ok(call_feature(store, me, count, number)),
@@ -189,6 +191,7 @@ fn moves_in(store: &mut Store<'_>, me: Reference, code: &RoutineCode) -> Result<
     ensures remains { Remains store.old store.new }
     ensures err { OnErr result (LeadsTo store.old store.new) }
     ensures told { IfOk result (λ hop. IsTold hop store.new) }
+    ensures leads { IfOk result (λ hop. OnComes hop (LeadsTo store.old store.new)) }
 {
     let count = operation_count(code);
     for passed in 0..count + 1 {
@@ -208,13 +211,15 @@ fn moves_in(store: &mut Store<'_>, me: Reference, code: &RoutineCode) -> Result<
     Ok(Hop::Failed(Cause::BadCode))
 }
 
-/// The silent operations of the topmost routine are done, up to one that isn't silent, which is told as `hop` tells it.
-/// Err where there is no memory; as many silent operations are done then as there was memory for.
+/// The silent operations of the topmost routine are done, up to one that isn't silent, which is told as `hop` tells it: where
+/// it is still to be done, no more than they has changed. Err where there is no memory; as many silent operations are done then
+/// as there was memory for.
 pub fn moves(store: &mut Store<'_>) -> Result<Hop, AllocError>
     ensures comes { IfOk result (λ hop. ComesTo hop store.old store.new) }
     ensures remains { Remains store.old store.new }
     ensures err { OnErr result (LeadsTo store.old store.new) }
     ensures told { IfOk result (λ hop. IsTold hop store.new) }
+    ensures leads { IfOk result (λ hop. OnComes hop (LeadsTo store.old store.new)) }
 {
     match store.current() {
         None => Ok(Hop::Failed(Cause::BadCode)),

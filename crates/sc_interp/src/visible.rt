@@ -1,5 +1,5 @@
 //! Visible operations: what they name is told, and the routine stays as it is.
-ghost use Rattle.std.specs.Prelude.{ℕ, IfSome};
+ghost use Rattle.std.specs.Prelude.{◌≡◌, ℕ, IfSome};
 ghost use Rattle.sc_interp.specs.declared.act.Act.TheVariants as act;
 ghost use Rattle.sc_interp.specs.declared.act.Hop.TheVariants as outcome;
 ghost use Rattle.sc_code.specs.declared.operation.Operation.TheVariants as coded;
@@ -8,7 +8,7 @@ ghost use Rattle.sc_region.specs.declared.value.Reference as code;
 ghost use Rattle.sc_region.specs.Frames.{PlainActivation, activation_of};
 ghost use Rattle.sc_code.specs.Operations as flat;
 ghost use Rattle.sc_interp.specs.Standing.{Demands, Follows, Hops, Stays};
-ghost use Rattle.sc_interp.specs.Told.{HasDemand, Tells};
+ghost use Rattle.sc_interp.specs.Told.{HasDemand, OnComes, Tells};
 
 use crate::act::{Act, Hop, stepped};
 use crate::passing::skip;
@@ -21,6 +21,7 @@ pub fn print(activation: &mut Activation) -> Hop
     ensures hops { (count : ℕ) → Hops count flat.Print result (activation_of activation.old) (activation_of activation.new) }
     ensures stays { Stays (activation_of activation.old) (activation_of activation.new) }
     ensures told { (p : Image) → Tells p result (activation_of activation.new) }
+    ensures kept { OnComes result (activation_of activation.new ≡ activation_of activation.old) }
 {
     match activation.operands.pop() {
         Some(Value::Integer(value)) => {
@@ -52,6 +53,7 @@ pub fn end_loop(activation: &mut Activation, back: usize) -> Hop
     ensures hops { (count : ℕ) → Hops count (flat.EndLoop back) result (activation_of activation.old) (activation_of activation.new) }
     ensures stays { Stays (activation_of activation.old) (activation_of activation.new) }
     ensures told { (p : Image) → Tells p result (activation_of activation.new) }
+    ensures kept { OnComes result (activation_of activation.new ≡ activation_of activation.old) }
 {
     match activation.operands.pop() {
         Some(Value::Boolean(ends)) => {
@@ -67,6 +69,7 @@ fn demand_on(activation: &mut Activation, count: usize, number: usize) -> Hop
     ensures demands { Demands count number result (activation_of activation.old) (activation_of activation.new) }
     ensures stays { Stays (activation_of activation.old) (activation_of activation.new) }
     ensures told { (p : Image) → HasDemand p number → Tells p result (activation_of activation.new) }
+    ensures kept { OnComes result (activation_of activation.new ≡ activation_of activation.old) }
 {
     match activation.operands.pop() {
         Some(Value::Boolean(true)) => stepped(skip(activation, count, 0)),
@@ -83,6 +86,7 @@ pub fn demand(program: &Program, activation: &mut Activation, count: usize, numb
     ensures follows { (me : code.Reference) → Follows program.now.image me count (coded.Demand number) result (activation_of activation.old) (activation_of activation.new) }
     ensures stays { Stays (activation_of activation.old) (activation_of activation.new) }
     ensures told { Tells program.now.image result (activation_of activation.new) }
+    ensures kept { OnComes result (activation_of activation.new ≡ activation_of activation.old) }
 {
     if number < program.pool().demands.len() {
         demand_on(activation, count, number)

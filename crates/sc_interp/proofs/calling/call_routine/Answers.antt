@@ -11,7 +11,7 @@ use Rattle.sc_interp.specs.Values.{value_of, values_of, reference_of}
 use Rattle.sc_interp.specs.Standing.{call_in, state_of}
 use Rattle.sc_interp.proofs.Popping.{calls_follow, routine_short, routine_by, room_test, misfits}
 use Rattle.sc_model.specs.declared.cause.Cause.TheVariants as cause
-use Rattle.sc_interp.proofs.Told.{enter_ready, tells_failed}
+use Rattle.sc_interp.proofs.Told.{comes_failed, enter_ready, tells_failed}
 use Rattle.sc_interp.proofs.calling.call_routine.Goals as goal
 
 pub returns-then-count-len-clause-follows : goal.returns-then-count-len-clause-follows
@@ -52,3 +52,6 @@ pub returns-clause-told : goal.returns-clause-told
 returns-clause-told c =
     enter_ready c.args.program.now.image calling.Unqualified c.args.me c.in-Some.site c.is_some-gives.result c.has_room.result (activation_of c.args.activation.now) c.in-Some.ensures.there
     (omega (arith, c.if-count-len.false, c.len.ensures)) c.is_some-gives.ensures c.has_room.ensures c.if-not-has_room.false
+
+pub returns-then-not-has_room-clause-kept : goal.returns-then-not-has_room-clause-kept
+returns-then-not-has_room-clause-kept c = comes_failed c.misfit.result cause.BadCode _ c.misfit.ensures.failed

@@ -10,7 +10,7 @@ use Rattle.sc_interp.specs.Values.{value_of, values_of, reference_of}
 use Rattle.sc_interp.specs.Standing.{creation_in, state_of}
 use Rattle.sc_interp.proofs.Popping.{handler_short, handler_by, room_test, misfits}
 use Rattle.sc_model.specs.declared.cause.Cause.TheVariants as cause
-use Rattle.sc_interp.proofs.Told.{handler_ready, tells_failed}
+use Rattle.sc_interp.proofs.Told.{comes_failed, handler_ready, tells_failed}
 use Rattle.sc_interp.proofs.calling.create_handler.Goals as goal
 
 pub returns-then-count-len-clause-follows : goal.returns-then-count-len-clause-follows
@@ -55,3 +55,6 @@ pub returns-clause-told : goal.returns-clause-told
 returns-clause-told c =
     handler_ready c.args.program.now.image c.in-Some.site c.has_room.result (activation_of c.args.activation.now) c.in-Some.ensures.there
     (omega (arith, c.if-count-len.false, c.len.ensures)) c.has_room.ensures c.if-not-has_room.false
+
+pub returns-then-not-has_room-clause-kept : goal.returns-then-not-has_room-clause-kept
+returns-then-not-has_room-clause-kept c = comes_failed c.misfit.result cause.BadCode _ c.misfit.ensures.failed

@@ -1,4 +1,5 @@
-use Rattle.std.proofs.Common.{ap, ◌∙◌}
+use Rattle.std.proofs.Common.{◌≡◌, ap, ◌∙◌}
+use Rattle.std.proofs.lemmas.Result.{IfOk-weaker}
 use Rattle.sc_code.specs.declared.operation.Operation.{Operation}
 use Rattle.sc_code.specs.Programs.{pool_of}
 use Rattle.sc_code.specs.View.{operation_of}
@@ -6,6 +7,8 @@ use Rattle.sc_code.specs.Machine.{hop_of}
 use Rattle.sc_region.specs.Frames.{activation_of}
 use Rattle.sc_interp.specs.Values.{reference_of}
 use Rattle.sc_interp.specs.Standing.{state_of}
+use Rattle.sc_interp.specs.Told.{IsDone, OnComes}
+use Rattle.sc_interp.proofs.Told.{comes_done}
 use Rattle.sc_interp.proofs.dispatch.hop_on.Goals as goal
 
 pub returns-in-CallRoutine-clause-follows : goal.returns-in-CallRoutine-clause-follows
@@ -42,3 +45,11 @@ pub returns-in-Open-clause-follows : goal.returns-in-Open-clause-follows
 returns-in-Open-clause-follows c = λ s code objects serves fits.
     ap (λ (o : Operation). hop_of s code (reference_of c.args.me) (operation_of (pool_of c.args.program.now.image.pool) o) (state_of objects (activation_of c.args.activation.now))) c.in-Open.is
     ∙ c.open.ensures.follows c.args.me c.args.count s code objects serves fits
+
+pub returns-in-KeepOld-clause-kept : goal.returns-in-KeepOld-clause-kept
+returns-in-KeepOld-clause-kept c =
+    let same : Type 0 = activation_of c.keep_old.new.activation ≡ activation_of c.args.activation.now in
+    IfOk-weaker c.keep_old.result (λ h. IsDone h) (λ h. OnComes h same) (λ h done. comes_done h same done) c.keep_old.ensures.done
+
+pub returns-in-Test-clause-kept : goal.returns-in-Test-clause-kept
+returns-in-Test-clause-kept c = comes_done c.test.result _ c.test.ensures.done

@@ -6,7 +6,7 @@ use Rattle.sc_interp.specs.Features.{calls_found}
 use Rattle.sc_interp.specs.Standing.{actuals, call_in, state_of, without}
 use Rattle.sc_interp.specs.Values.{reference_of}
 use Rattle.sc_interp.proofs.Targeting.{refused}
-use Rattle.sc_interp.proofs.Told.{tells_done, tells_failed}
+use Rattle.sc_interp.proofs.Told.{comes_done, comes_failed, tells_done, tells_failed}
 use Rattle.sc_interp.proofs.features.call_found.Goals as goal
 
 pub returns-in-None-clause-calls : goal.returns-in-None-clause-calls
@@ -22,3 +22,9 @@ returns-in-None-clause-told c = λ p is. tells_failed p c.refuse.result (activat
 
 pub returns-in-Some-Attribute-clause-told : goal.returns-in-Some-Attribute-clause-told
 returns-in-Some-Attribute-clause-told c = λ p is. tells_done p c.read_on.result (activation_of c.read_on.new.activation) c.read_on.ensures.done
+
+pub returns-in-None-clause-kept : goal.returns-in-None-clause-kept
+returns-in-None-clause-kept c = comes_failed c.refuse.result cause.BadCode _ c.refuse.ensures.failed
+
+pub returns-in-Some-Attribute-clause-kept : goal.returns-in-Some-Attribute-clause-kept
+returns-in-Some-Attribute-clause-kept c = comes_done c.read_on.result _ c.read_on.ensures.done

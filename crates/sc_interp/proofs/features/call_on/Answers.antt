@@ -9,7 +9,7 @@ use Rattle.sc_interp.specs.Features.{calls_found, calls_seen}
 use Rattle.sc_interp.specs.Standing.{actuals, call_in, state_of, without}
 use Rattle.sc_interp.specs.Values.{reference_of, value_of}
 use Rattle.sc_interp.proofs.Targeting.{refused}
-use Rattle.sc_interp.proofs.Told.{tells_failed}
+use Rattle.sc_interp.proofs.Told.{comes_failed, tells_failed}
 use Rattle.sc_interp.proofs.features.call_on.Goals as goal
 
 pub returns-else-object-me-clause-calls : goal.returns-else-object-me-clause-calls
@@ -59,3 +59,12 @@ returns-in-Integer-clause-told c = λ p is. tells_failed p c.refuse-in-Integer.r
 
 pub returns-in-Boolean-clause-told : goal.returns-in-Boolean-clause-told
 returns-in-Boolean-clause-told c = λ p is. tells_failed p c.refuse-in-Boolean.result (activation_of c.refuse-in-Boolean.new.activation) cause.BadCode c.refuse-in-Boolean.ensures.failed
+
+pub returns-in-Void-clause-kept : goal.returns-in-Void-clause-kept
+returns-in-Void-clause-kept c = comes_failed c.refuse.result cause.VoidTarget _ c.refuse.ensures.failed
+
+pub returns-in-Integer-clause-kept : goal.returns-in-Integer-clause-kept
+returns-in-Integer-clause-kept c = comes_failed c.refuse-in-Integer.result cause.BadCode _ c.refuse-in-Integer.ensures.failed
+
+pub returns-in-Boolean-clause-kept : goal.returns-in-Boolean-clause-kept
+returns-in-Boolean-clause-kept c = comes_failed c.refuse-in-Boolean.result cause.BadCode _ c.refuse-in-Boolean.ensures.failed

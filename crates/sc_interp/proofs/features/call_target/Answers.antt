@@ -5,7 +5,7 @@ use Rattle.sc_region.specs.declared.frame.Activation.{Activation}
 use Rattle.sc_region.specs.Frames.{PlainActivation, activation_of, top_activation}
 use Rattle.sc_interp.proofs.Playing.{remains_top}
 use Rattle.sc_interp.proofs.Targeting.{calls_play}
-use Rattle.sc_interp.proofs.Told.{told_top}
+use Rattle.sc_interp.proofs.Told.{comes_top, told_top}
 use Rattle.sc_interp.proofs.features.call_target.Goals as goal
 
 pub returns-in-Some-clause-plays : goal.returns-in-Some-clause-plays
@@ -27,3 +27,10 @@ returns-in-Some-clause-told c =
     let a = activation_of c.in-Some.activation.now in
     let top : top_activation x.frames ≡ Some a = sym c.top_mut.ensures.value ∙ ap (option_map (λ (m : MutBor Activation). activation_of m.now)) c.in-Some.is in
     told_top x.program x c.call_on.new.activation a c.call_on.result refl top (c.call_on.ensures.told x.program c.requires.there)
+
+pub returns-in-Some-clause-kept : goal.returns-in-Some-clause-kept
+returns-in-Some-clause-kept c =
+    let x = c.args.store.now in
+    let a = activation_of c.in-Some.activation.now in
+    let top : top_activation x.frames ≡ Some a = sym c.top_mut.ensures.value ∙ ap (option_map (λ (m : MutBor Activation). activation_of m.now)) c.in-Some.is in
+    comes_top x c.call_on.new.activation a c.call_on.result top c.call_on.ensures.kept

@@ -9,7 +9,7 @@ use Rattle.sc_interp.specs.Standing.{actuals, enters, name_at, state_of, without
 use Rattle.sc_interp.specs.Values.{reference_of}
 use Rattle.sc_interp.proofs.Popping.{awaits_by, room_test}
 use Rattle.sc_interp.proofs.Targeting.{refused}
-use Rattle.sc_interp.proofs.Told.{enter_ready, tells_failed}
+use Rattle.sc_interp.proofs.Told.{comes_failed, enter_ready, tells_failed}
 use Rattle.sc_interp.proofs.features.enter_on.Goals as goal
 
 pub returns-then-not-has_room_past-clause-calls : goal.returns-then-not-has_room_past-clause-calls
@@ -37,3 +37,6 @@ pub returns-clause-told : goal.returns-clause-told
 returns-clause-told c = λ p is.
     enter_ready p calling.Qualified c.args.object c.args.site c.is_some-gives.result c.has_room_past.result (activation_of c.args.activation.now) is (omega (arith, c.requires)) c.is_some-gives.ensures
     c.has_room_past.ensures c.if-not-has_room_past.false
+
+pub returns-then-not-has_room_past-clause-kept : goal.returns-then-not-has_room_past-clause-kept
+returns-then-not-has_room_past-clause-kept c = comes_failed c.refuse.result cause.BadCode _ c.refuse.ensures.failed

@@ -7,7 +7,7 @@ use Rattle.sc_interp.specs.Standing.{actuals, name_at, state_of, without}
 use Rattle.sc_interp.specs.Values.{reference_of}
 use Rattle.sc_interp.proofs.Popping.{awaits_by, room_test}
 use Rattle.sc_interp.proofs.Targeting.{refused}
-use Rattle.sc_interp.proofs.Told.{request_ready, tells_failed}
+use Rattle.sc_interp.proofs.Told.{comes_failed, request_ready, tells_failed}
 use Rattle.sc_interp.proofs.features.request_on.Goals as goal
 
 pub returns-then-site-clause-calls : goal.returns-then-site-clause-calls
@@ -58,3 +58,9 @@ pub returns-clause-told : goal.returns-clause-told
 returns-clause-told c = λ p is.
     request_ready p c.args.object c.args.site c.is_some-gives.result c.has_room_past.result (activation_of c.args.activation.now) is c.requires c.is_some-gives.ensures c.has_room_past.ensures
     c.if-not-has_room_past.false
+
+pub returns-then-site-clause-kept : goal.returns-then-site-clause-kept
+returns-then-site-clause-kept c = comes_failed c.refuse.result cause.ForeignObject _ c.refuse.ensures.failed
+
+pub returns-then-not-has_room_past-clause-kept : goal.returns-then-not-has_room_past-clause-kept
+returns-then-not-has_room_past-clause-kept c = comes_failed c.refuse-then-not-has_room_past.result cause.BadCode _ c.refuse-then-not-has_room_past.ensures.failed

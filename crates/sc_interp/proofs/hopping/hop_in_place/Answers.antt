@@ -8,8 +8,8 @@ use Rattle.sc_interp.specs.Playing.{Plays}
 use Rattle.sc_interp.specs.Standing.{Follows}
 use Rattle.sc_interp.proofs.Playing.{remains_top}
 use Rattle.sc_interp.proofs.Moving.{in_place_plays, in_place_same}
-use Rattle.sc_interp.specs.Told.{IsTold, Tells}
-use Rattle.sc_interp.proofs.Told.{told_top}
+use Rattle.sc_interp.specs.Told.{IsTold, OnComes, Tells}
+use Rattle.sc_interp.proofs.Told.{comes_top, told_top}
 use Rattle.sc_interp.proofs.hopping.hop_in_place.Goals as goal
 
 pub returns-in-Some-clause-plays : goal.returns-in-Some-clause-plays
@@ -43,3 +43,11 @@ returns-in-Some-clause-told c =
     let w = c.hop_on.new.activation in
     let top : top_activation x.frames ≡ Some a = sym c.top_mut.ensures.value ∙ ap (option_map (λ (m : MutBor Activation). activation_of m.now)) c.in-Some.is in
     IfOk-weaker c.hop_on.result (λ h. Tells p h (activation_of w)) (λ h. IsTold h (with_top x w)) (λ h told. told_top p x w a h c.program-program.ensures top told) c.hop_on.ensures.told
+
+pub returns-in-Some-clause-kept : goal.returns-in-Some-clause-kept
+returns-in-Some-clause-kept c =
+    let x = c.args.store.now in
+    let a = activation_of c.in-Some.activation.now in
+    let w = c.hop_on.new.activation in
+    let top : top_activation x.frames ≡ Some a = sym c.top_mut.ensures.value ∙ ap (option_map (λ (m : MutBor Activation). activation_of m.now)) c.in-Some.is in
+    IfOk-weaker c.hop_on.result (λ h. OnComes h (activation_of w ≡ a)) (λ h. OnComes h (with_top x w ≡ x)) (λ h kept. comes_top x w a h top kept) c.hop_on.ensures.kept

@@ -5,9 +5,9 @@ use Rattle.sc_interp.specs.declared.act.Hop as outcome
 use Rattle.sc_interp.specs.declared.act.Hop.TheVariants as told
 use Rattle.sc_interp.specs.Hopping.{IsNext, Passes}
 use Rattle.sc_interp.specs.Playing.{Plays}
-use Rattle.sc_interp.proofs.Moving.{code_still, comes_after, comes_never, count_some, next_stuck, remains_after}
+use Rattle.sc_interp.proofs.Moving.{code_still, comes_after, comes_never, count_some, leads_after, next_stuck, remains_after}
 use Rattle.sc_interp.proofs.Stepping.{next_other, next_step, passes_on, remains_on, remains_other}
-use Rattle.sc_interp.specs.Told.{IsTold}
+use Rattle.sc_interp.specs.Told.{IsTold, OnComes}
 use Rattle.sc_interp.proofs.hopping.moves_in.Goals.{in-Some-Ok, in-None+in_ok-hop_by-in-None+in-Passed}
 use Rattle.sc_interp.proofs.hopping.moves_in.Goals as goal
 
@@ -108,3 +108,11 @@ returns-clause-comes c =
     comes_never c.operation_count-count.result (told.Failed cause.BadCode) x y
     (count_some x c.args.code.now c.operation_count-count.result c.requires.code c.operation_count-count.ensures.count)
     (subst (λ n. Passes n x y) all c.loop-passed.invariant.passes)
+
+pub returns-in-Comes-clause-leads : goal.returns-in-Comes-clause-leads
+returns-in-Comes-clause-leads c =
+    let x = c.args.store.now in
+    let y = c.loop-passed.store in
+    let z = c.hop_by.new.store in
+    let kept : z ≡ c.step_by.new.store = subst (λ h. OnComes h (z ≡ c.step_by.new.store)) c.in-Comes.is c.in_ok-hop_by-in-None.ensures.kept in
+    leads_after c.loop-passed.passed x y z c.loop-passed.invariant.passes (kept ∙ c.in-None.ensures.none)
