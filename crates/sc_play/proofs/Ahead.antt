@@ -1,37 +1,33 @@
--- Stores that silent operations lead to.
-use Rattle.std.proofs.Common.{◌≡◌, inl, inr, refl, sym, ◌∙◌, subst}
-use Rattle.sc_region.specs.Frames.{PlainActivation}
+-- Stores that silent operations lead to, where memory was refused.
+use Rattle.std.proofs.Common.{◌≡◌, Bool, true, false, Option, Some, None, refl, sym, ap, ◌∙◌}
+use Rattle.std.specs.Option.{option_map}
+use Rattle.sc_region.specs.declared.frame.Stage.{Stage}
+use Rattle.sc_region.specs.declared.frame.Stage.TheVariants as stage
+use Rattle.sc_region.specs.Frames.{PlainActivation, top_activation}
 use Rattle.sc_region.specs.Stores.{PlainStore}
-use Rattle.sc_interp.specs.declared.act.Hop.{Hop}
-use Rattle.sc_interp.specs.Hopping.{ComesTo, LeadsTo}
 use Rattle.sc_interp.specs.Playing.{Remains}
-use Rattle.sc_interp.specs.Standing.{Stays}
-use Rattle.sc_interp.proofs.Moving.{leads_after, passes_none}
-use Rattle.sc_interp.proofs.Playing.{some_same}
-use Rattle.sc_play.specs.Turns.{IsAhead}
+use Rattle.sc_interp.proofs.Moving.{remains_after, top_of}
+use Rattle.sc_interp.proofs.Onward.{leads_on}
+use Rattle.sc_interp.proofs.Playing.{none_some}
+use Rattle.sc_play.specs.Answering.{top_stage}
+use Rattle.sc_play.specs.Turns.{IsAhead, StopsFirst}
 
-stays_same : (a : PlainActivation) → Stays a a
-stays_same a = record { routine = refl; origin = refl; stage = refl; depth = refl; room = refl; reserved = refl; blocks = refl }
+-- the topmost routine stands at the stage at which it stood
+stays_at : (x y : PlainStore) (o : Option PlainActivation) → Remains x y → top_activation x.frames ≡ o → top_stage x ≡ Some stage.Runs → top_stage y ≡ Some stage.Runs
+stays_at x y None k e r = none_some stage.Runs (ap (option_map (λ (b : PlainActivation). b.stage)) (sym e) ∙ r)
+stays_at x y (Some a) k e r =
+    let m = top_of x.frames y.frames a e k.current in
+    let same = k.stays a m.0 e m.1 in
+    ap (option_map (λ (b : PlainActivation). b.stage)) m.1 ∙ ap (λ (s : Stage). Some s) same.stage
+    ∙ ap (option_map (λ (b : PlainActivation). b.stage)) (sym e) ∙ r
 
-remains_same : (x : PlainStore) → Remains x x
-remains_same x = record {
-  program = refl;
-  output = refl;
-  failure = refl;
-  current = refl;
-  below = refl;
-  stays = λ a b ta tb. subst (Stays a) (some_same a b (sym ta ∙ tb)) (stays_same a);
-  shapes = refl;
-}
+pub goes_on_there : (x y : PlainStore) → IsAhead x y → top_stage y ≡ Some stage.Runs
+goes_on_there x y a = stays_at x y (top_activation x.frames) a.remains refl a.runs
 
--- nothing was done
-pub ahead_same : (x y : PlainStore) → y ≡ x → IsAhead x y
-ahead_same x y e = subst (IsAhead x) (sym e) (record { leads = inl (leads_after 0 x x x (passes_none x x refl) refl); remains = remains_same x })
+-- one behind another
+ahead_then : (x y z : PlainStore) → IsAhead x y → IsAhead y z → IsAhead x z
+ahead_then x y z p q = record { runs = p.runs; leads = leads_on x y z p.leads p.remains q.leads; remains = remains_after x y z p.remains q.remains }
 
--- silent operations were done
-pub ahead_leads : (x y : PlainStore) → LeadsTo x y → Remains x y → IsAhead x y
-ahead_leads x y leads remains = record { leads = inl leads; remains = remains }
-
--- and came to one that wasn't
-pub ahead_comes : (h : Hop) (x y z : PlainStore) → ComesTo h x y → Remains x y → z ≡ y → IsAhead x z
-ahead_comes h x y z comes remains e = subst (IsAhead x) (sym e) (record { leads = inr (h, comes); remains = remains })
+pub stops_then : (b : Bool) (x y z : PlainStore) → StopsFirst b x y → StopsFirst b y z → StopsFirst b x z
+stops_then false x y z p q = q ∙ p
+stops_then true x y z p q = ahead_then x y z p q

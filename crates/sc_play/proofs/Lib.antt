@@ -8,5 +8,6 @@ pub mod Going
 pub mod Making
 pub mod Playing
 pub mod Programs
+pub mod Resuming
 pub mod Slots
 pub mod OneObject

@@ -1,5 +1,5 @@
 -- Turns that were made on one object, as turns of the handler.
-use Rattle.std.proofs.Common.{◌≡◌, ◌⊎◌, ℕ, ◌+◌, ◌-◌, ◌≤◌, Bool, inl, inr, Result, Ok, Err, Some, refl, sym, ap, ◌∙◌, subst, arith}
+use Rattle.std.proofs.Common.{◌≡◌, ℕ, ◌+◌, ◌-◌, ◌≤◌, Bool, inl, inr, Result, Ok, Err, Some, refl, sym, ap, ◌∙◌, subst, arith}
 use Rattle.sc_model.specs.declared.cause.Cause.{Cause}
 use Rattle.sc_region.specs.declared.frame.Stage.TheVariants as stage
 use Rattle.sc_region.specs.declared.job.Job.{Job}
@@ -9,9 +9,8 @@ use Rattle.sc_region.specs.Frames.{top_activation}
 use Rattle.sc_region.specs.Stores.{PlainStore, failed}
 use Rattle.sc_interp.specs.declared.act.Act.{Act}
 use Rattle.sc_interp.specs.declared.act.Act.TheVariants as act
-use Rattle.sc_interp.specs.declared.act.Hop.{Hop}
 use Rattle.sc_interp.specs.declared.act.Hop.TheVariants as hop
-use Rattle.sc_interp.specs.Hopping.{ComesTo, LeadsTo}
+use Rattle.sc_interp.specs.Hopping.{LeadsTo}
 use Rattle.sc_interp.specs.Playing.{Remains}
 use Rattle.sc_interp.specs.Running as here
 use Rattle.sc_interp.specs.Running.{Arrives, Does, RestsIn, Stops, Turn}
@@ -87,19 +86,21 @@ turns_none x _ _ (here.more turns next) e = absurd (omega (arith, e))
 
 -- ---- a turn behind them
 
+pub goes_behind : (h : ℕ) (x y z : PlainStore) (w : Want) → LeadsTo x y → Remains x y → GoesOn h y z w → GoesOn h x z w
+goes_behind h x y z w before k goes = record {
+  operation = goes.operation;
+  before = goes.before;
+  comes = comes_on goes.operation x y goes.before before k goes.comes;
+  remains = remains_after x y goes.before k goes.remains;
+  told = goes.told;
+  does = goes.does;
+  want = goes.want;
+}
+
 running_turn : (h : ℕ) (x y z : PlainStore) (w : Want) → LeadsTo x y → Remains x y → here.stage_in y ≡ Some stage.Runs → TurnOf h y z w → TurnOf h x z w
 running_turn h x y z w before k r turn =
-    let goes : GoesOn h y z w = subst (λ s. TurnIn s h y z w) r turn in
     subst (λ s. TurnIn s h x z w) (sym (still_runs x y (top_activation x.frames) k refl r))
-    (record {
-      operation = goes.operation;
-      before = goes.before;
-      comes = comes_on goes.operation x y goes.before before k goes.comes;
-      remains = remains_after x y goes.before k goes.remains;
-      told = goes.told;
-      does = goes.does;
-      want = goes.want;
-    })
+    (goes_behind h x y z w before k (subst (λ s. TurnIn s h y z w) r turn))
 
 turn_next : (h : ℕ) (x y z : PlainStore) (w : Want) → LeadsTo x y → Remains x y → RestsIn (Ok tt) x y → TurnOf h y z w → TurnOf h x z w
 turn_next h x y z w before k (inl r) turn = running_turn h x y z w before k r turn
@@ -142,12 +143,12 @@ made_failing turns now h is_told j z x y u asked w why made nothing more arrives
 
 -- ---- refused memory
 
-ahead_by : (x y z : PlainStore) → LeadsTo x y → Remains x y → Remains y z → LeadsTo y z ⊎ ((h : Hop) × ComesTo h y z) → IsAhead x z
-ahead_by x y z before k next (inl leads) = record { leads = inl (leads_on x y z before k leads); remains = remains_after x y z k next }
-ahead_by x y z before k next (inr comes) = record { leads = inr (comes.0, comes_on comes.0 x y z before k comes.1); remains = remains_after x y z k next }
-
 ahead_next : (x y z : PlainStore) → LeadsTo x y → Remains x y → IsAhead y z → IsAhead x z
-ahead_next x y z before k ahead = ahead_by x y z before k ahead.remains ahead.leads
+ahead_next x y z before k ahead = record {
+  runs = still_runs x y (top_activation x.frames) k refl ahead.runs;
+  leads = leads_on x y z before k ahead.leads;
+  remains = remains_after x y z k ahead.remains;
+}
 
 pub ahead_here : (n : ℕ) (x y z : PlainStore) → (arrives : Arrives n (Ok tt) x y) → IsAhead y z → IsAhead arrives.last z
 ahead_here n x y z arrives ahead = ahead_next arrives.last y z arrives.stops arrives.remains ahead

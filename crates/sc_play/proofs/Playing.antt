@@ -4,9 +4,9 @@ use Rattle.sc_region.specs.declared.job.Job.{Job}
 use Rattle.sc_region.specs.declared.job.Want.{Want}
 use Rattle.sc_region.specs.declared.job.Want.TheVariants as want
 use Rattle.sc_region.specs.Stores.{PlainStore}
-use Rattle.sc_play.specs.Regions.{EndsIn, PlainRegion, Plays, PlaysOn, PlaysUnder}
-use Rattle.sc_play.specs.Turns.{AreMade, Begins, FirstTurn, IsAhead, TurnOf, begun, first}
-use Rattle.sc_play.proofs.Programs.{turns_keep}
+use Rattle.sc_play.specs.Regions.{EndsIn, IsRefused, PlainRegion, Plays, PlaysOn, PlaysUnder, tells}
+use Rattle.sc_play.specs.Turns.{AreMade, Begins, FirstTurn, StopsFirst, TurnOf, begun, first, is_going}
+use Rattle.sc_play.proofs.Programs.{begun_keeps, turns_keep}
 
 made_first : (h : ℕ) (is_told : Bool) (j : Job) (x s : PlainStore) (v : Want) →
     Begins true h (λ z u. FirstTurn h is_told j x z u) (begun is_told j x) s v → AreMade 1 h is_told j x s v
@@ -44,9 +44,6 @@ pub never_first : {T E : Type 0} (r : Result T E) (made : ℕ) (P : Type 0) → 
 never_first (Ok t) made P one none = tt
 never_first (Err d) made P one none = absurd (omega (arith, one, none))
 
-pub ahead_of : {T E : Type 0} (r : Result T E) (x s y : PlainStore) → s ≡ x → OnErr r (IsAhead s y) → OnErr r (IsAhead x y)
-ahead_of r x s y e a = subst (λ (z : PlainStore). OnErr r (IsAhead z y)) e a
-
 -- ---- of a region
 
 ended_keeps : (n limit : ℕ) (x : PlainStore) (w : Want) (y : PlainStore) → EndsIn n limit x w y → y.program ≡ x.program
@@ -64,4 +61,17 @@ plays_by limit j x y n w p = record {
   ends = p.ends;
   same = refl;
   program = ended_keeps n limit p.last w y p.ends ∙ turns_keep x.handler x.is_told j x.store n p.last w p.turns;
+}
+
+stops_keep : (b : Bool) (x y : PlainStore) → StopsFirst b x y → y.program ≡ x.program
+stops_keep false x y same = ap (λ (z : PlainStore). z.program) same
+stops_keep true x y ahead = ahead.remains.program
+
+-- memory was refused to the first
+pub refused_by : (j : Job) (x : PlainRegion) (y : PlainStore) → StopsFirst (is_going j) (begun x.is_told j x.store) y →
+    IsRefused j x (record x { store = y; is_told = tells x.is_told j })
+refused_by j x y stops = record {
+  store = stops;
+  same = refl;
+  program = stops_keep (is_going j) (begun x.is_told j x.store) y stops ∙ begun_keeps x.is_told j x.store;
 }

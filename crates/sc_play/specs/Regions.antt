@@ -7,7 +7,7 @@ use Rattle.sc_region.specs.declared.job.Outcome.{Outcome}
 use Rattle.sc_region.specs.declared.job.Want.{Want}
 use Rattle.sc_region.specs.declared.job.Want.TheVariants as want
 use Rattle.sc_region.specs.Stores.{PlainStore, new_store}
-use Rattle.sc_play.specs.Turns.{AreMade, Turns, IsAhead, begun}
+use Rattle.sc_play.specs.Turns.{AreMade, IsAhead, StopsFirst, Turns, begun, is_going}
 
 pub record PlainRegion : Type 0 where
   pub handler : ℕ
@@ -62,8 +62,19 @@ tells is_told job.Refused = is_told
 tells is_told (job.Granted ks) = is_told
 tells is_told job.Go = is_told
 
--- Memory was refused to the first turn under the job. It has begun, and silent operations of it may be done.
+-- Memory was refused to the first turn under the job. The creator of a handler has been told its number then; and where the routine goes on, silent operations of
+-- it may be done. Nothing else has changed.
 pub record IsRefused (j : Job) (x y : PlainRegion) : Type 0 where
-  pub store : IsAhead (begun x.is_told j x.store) y.store
+  pub store : StopsFirst (is_going j) (begun x.is_told j x.store) y.store
   pub same : y ≡ record x { store = y.store; is_told = tells x.is_told j }
   pub program : y.store.program ≡ x.store.program
+
+-- ---- laws
+
+-- What the job comes to as it is played again it comes to from where it was played first:
+abbrev pub RefusedJobsGoOn : Type 0
+RefusedJobsGoOn = (limit : ℕ) (j : Job) (x y z : PlainRegion) (o : Outcome) → IsRefused j x y → Plays limit j y z o → Plays limit j x z o
+
+-- refused once more, it is as if it was refused once.
+abbrev pub RefusedTwiceIsRefused : Type 0
+RefusedTwiceIsRefused = (j : Job) (x y z : PlainRegion) → IsRefused j x y → IsRefused j y z → IsRefused j x z

@@ -1,5 +1,5 @@
 -- Turns of a handler on its store.
-use Rattle.std.specs.Prelude.{◌≡◌, ◌⊎◌, ℕ, zero, suc, ◌+◌, Bool, true, false, Option, Some, None}
+use Rattle.std.specs.Prelude.{◌≡◌, ℕ, zero, suc, ◌+◌, Bool, true, false, Option, Some, None}
 use Rattle.sc_model.specs.declared.cause.Cause.TheVariants as cause
 use Rattle.sc_region.specs.declared.frame.Stage.{Stage}
 use Rattle.sc_region.specs.declared.frame.Stage.TheVariants as stage
@@ -129,7 +129,23 @@ AreMade (suc n) h is_told j x y w = Turns h is_told j x (suc n) y w
 
 -- ---- refused memory
 
--- Silent operations of the topmost routine were done, or none, and what comes next wasn't.
+-- The topmost routine goes on: silent operations of it were done, or none, and what comes next wasn't.
 pub record IsAhead (x y : PlainStore) : Type 0 where
-  pub leads : LeadsTo x y ⊎ ((h : Hop) × ComesTo h x y)
+  pub runs : top_stage x ≡ Some stage.Runs
+  pub leads : LeadsTo x y
   pub remains : Remains x y
+
+-- Under this job a turn of the handler may be the first one.
+abbrev pub is_going : Job → Bool
+is_going (job.Take r) = false
+is_going (job.Reply v) = false
+is_going job.Failed = false
+is_going job.Refused = false
+is_going (job.Granted ks) = false
+is_going (job.Made k) = true
+is_going job.Go = true
+
+-- Memory was refused to a first turn in the first store, and left the second one: that itself, or one ahead where it was a turn of the handler.
+abbrev pub StopsFirst : Bool → PlainStore → PlainStore → Type 0
+StopsFirst false x y = y ≡ x
+StopsFirst true x y = IsAhead x y

@@ -7,6 +7,7 @@ mod acts;
 mod beginning;
 mod hashing;
 mod jobs;
+pub mod laws;
 mod region;
 mod steps;
 mod turn;

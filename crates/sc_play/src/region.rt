@@ -3,7 +3,7 @@ ghost use Rattle.std.specs.Prelude.{◌≡◌, ◌<◌, ◌≤◌, ◌↔◌, If
 ghost use Rattle.sc_region.specs.declared.job.Want.TheVariants as want;
 ghost use Rattle.sc_region.specs.Stores.{AreSame, failed, new_store};
 ghost use Rattle.sc_play.specs.Regions.{PlaysOn, PlaysUnder};
-ghost use Rattle.sc_play.specs.Turns.{IsAhead, begun};
+ghost use Rattle.sc_play.specs.Turns.{IsAhead, StopsFirst, begun, is_going};
 
 use crate::hashing::hash_store;
 use crate::turn::{first_turn, turn};
@@ -109,7 +109,7 @@ fn play_on(
 
 /// The first turn under the job, and further ones, as long as nothing is asked and fewer than `limit` are made: how many
 /// turns are made. Where memory is refused to a further one, they end before it. Err where it is refused to the first.
-#[tactic(auto, using(crate::proofs::Going::stays_so))]
+#[tactic(auto, using(crate::proofs::Going::stops_first))]
 fn play_under(
     store: &mut Store<'_>,
     handler: u16,
@@ -121,7 +121,7 @@ fn play_under(
     requires limit { 1 ≤ limit }
     requires asked { asked.old ≡ want.Continue }
     ensures ok { IfOk result (λ turns. PlaysUnder limit handler is_told job.now store.old store.new turns asked.new) }
-    ensures err { OnErr result (IsAhead (begun is_told job.now store.old) store.new) }
+    ensures err { OnErr result (StopsFirst (is_going job.now) (begun is_told job.now store.old) store.new) }
 {
     let made = first_turn(store, handler, job, is_told, asked)?;
     if made {
@@ -152,8 +152,9 @@ impl<'p> Region<'p> {
     }
 
     /// The first turn is that of the job; further ones follow as long as nothing is asked and fewer than `limit` are made.
-    /// Where memory is refused to one of these, they end before it. Err where memory is refused to the first: the job can be
-    /// played again then, and goes on where it stopped.
+    /// Where memory is refused to one of these, they end before it. Err where memory is refused to the first: no more is done
+    /// then than silent operations of a routine that goes on. The job can be played again, and comes to what it comes to from
+    /// the region as it was ([`refused_jobs_go_on`](crate::laws::refused_jobs_go_on)).
     pub fn play(&mut self, job: &Job, limit: u32) -> Result<Outcome, AllocError>
         requires { 1 ≤ limit }
         ensures ok { IfOk result (λ outcome. Plays limit job.now self.old self.new outcome) }

@@ -2,11 +2,15 @@
 //!
 //! A turn is given what is asked so far, which is nothing, and writes there what it asks: where a turn asks nothing, as most
 //! do, nothing is written. Where memory is refused, it stays nothing.
-ghost use Rattle.std.specs.Prelude.{◌≡◌, ℕ, IfOk, OnOk, OnErr};
+ghost use Rattle.std.specs.Prelude.{◌≡◌, ℕ, IfOk, OnOk, OnErr, false, true};
 ghost use Rattle.sc_play.specs.Answering.{top_stage};
 ghost use Rattle.sc_region.specs.Stores.{failed};
+ghost use Rattle.sc_interp.specs.declared.act.Act.{Act};
+ghost use Rattle.sc_interp.specs.declared.act.Hop.TheVariants as hop;
+ghost use Rattle.sc_interp.specs.Hopping.{LeadsTo};
+ghost use Rattle.sc_interp.specs.Playing.{Remains};
 ghost use Rattle.sc_region.specs.declared.job.Want.TheVariants as want;
-ghost use Rattle.sc_play.specs.Turns.{Becomes, Begins, FirstTurn, GoesOn, IsAhead, TurnMade, TurnOf, TurnUnder, asks_done, begun, done, rested};
+ghost use Rattle.sc_play.specs.Turns.{Becomes, Begins, FirstTurn, GoesOn, IsAhead, TurnMade, TurnOf, TurnUnder, asks_done, begun, done, is_going, rested};
 
 use crate::acts::act_on;
 use crate::jobs::{grant, reply, resume, take, tell, top_stage};
@@ -16,7 +20,7 @@ use sc_model::Cause;
 use sc_region::{Job, Stage, Store, Want};
 use std::alloc::AllocError;
 
-/// An operation that isn't silent is done. Err where there is no memory; nothing has changed then.
+/// An operation that isn't silent is done. Err where there is no memory for a visible one; nothing has changed then.
 ///
 /// It is part of a turn, and no call.
 #[inline(always)]
@@ -30,6 +34,7 @@ fn do_operation(
     ensures ok { OnOk result (store.new ≡ done handler operation store.old) }
     ensures want { OnOk result (asked.new ≡ asks_done handler operation store.old store.new) }
     ensures err { OnErr result (store.new ≡ store.old) }
+    ensures comes { OnErr result ((act : Act) × (operation ≡ hop.Comes act)) }
     ensures kept { OnErr result (asked.new ≡ asked.old) }
 {
     match operation {
@@ -51,7 +56,8 @@ fn do_operation(
 fn run_on(store: &mut Store<'_>, handler: u16, asked: &mut Want) -> Result<(), AllocError>
     requires { asked.old ≡ want.Continue }
     ensures ok { OnOk result (GoesOn handler store.old store.new asked.new) }
-    ensures err { OnErr result (IsAhead store.old store.new) }
+    ensures leads { OnErr result (LeadsTo store.old store.new) }
+    ensures remains { OnErr result (Remains store.old store.new) }
     ensures kept { OnErr result (asked.new ≡ asked.old) }
 {
     let operation = moves(store)?;
@@ -90,7 +96,7 @@ fn stay_in(store: &mut Store<'_>, stage: Option<Stage>, asked: &mut Want)
     }
 }
 
-/// A turn of the handler. Err where there is no memory: silent operations may be done then.
+/// A turn of the handler. Err where the topmost routine goes on and there is no memory: silent operations may be done then.
 ///
 /// It is part of the loop of turns, and no call, so that what it needs is laid out once for many.
 #[inline(always)]
@@ -152,7 +158,9 @@ fn turn_under(
 ) -> Result<bool, AllocError>
     requires { asked.old ≡ want.Continue }
     ensures ok { IfOk result (λ made. Begins made handler (λ z v. TurnUnder handler job.now store.old z v) store.old store.new asked.new) }
+    ensures going { IfOk result (λ made. made ≡ false → is_going job.now ≡ true) }
     ensures err { OnErr result (store.new ≡ store.old) }
+    ensures other { OnErr result (is_going job.now ≡ false) }
 {
     match job {
         Job::Take(request) => {
@@ -205,7 +213,9 @@ pub fn first_turn(
 ) -> Result<bool, AllocError>
     requires { asked.old ≡ want.Continue }
     ensures ok { IfOk result (λ made. Begins made handler (λ z v. FirstTurn handler is_told job.now store.old z v) (begun is_told job.now store.old) store.new asked.new) }
+    ensures going { IfOk result (λ made. made ≡ false → is_going job.now ≡ true) }
     ensures err { OnErr result (store.new ≡ begun is_told job.now store.old) }
+    ensures other { OnErr result (is_going job.now ≡ false) }
 {
     begin(store, job, is_told);
     turn_under(store, handler, job, asked)

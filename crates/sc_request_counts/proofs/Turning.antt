@@ -31,7 +31,7 @@ use Rattle.sc_play.specs.Acting.{acted, asks_acted}
 use Rattle.sc_play.specs.Answering.{block_granted, entry_granted, granted_in, replied_in, runs, told_on, top_stage}
 use Rattle.sc_play.specs.Regions.{EndsIn}
 use Rattle.sc_play.specs.Taking.{answered, asks_creation, asks_errand, asks_on, asks_version, attribute_at, born_by, taken_creation, taken_errand, taken_on, taken_version}
-use Rattle.sc_play.specs.Turns.{Becomes, GoesOn, IsAhead, TurnIn, TurnMade, TurnUnder, Turns, asks_done, begun, done, first, more, told_unless}
+use Rattle.sc_play.specs.Turns.{Becomes, GoesOn, IsAhead, StopsFirst, TurnIn, TurnMade, TurnUnder, Turns, asks_done, begun, done, first, is_going, more, told_unless}
 use Rattle.sc_request_counts.specs.Serving.{Serves}
 use Rattle.sc_request_counts.specs.Turns.{FirstTurnsServe, FurtherTurnsServe, RefusedRegionsServe, RegionsServe, ServesAfter, left_after, served_under}
 use Rattle.sc_request_counts.proofs.Acting.{acted_serves, beginning_left, handed_as_same}
@@ -223,5 +223,9 @@ regions_serve limit j x y o n s p =
     ends_after o.want (served_under j n) o.turns limit p.last y.store
     (turns_after x.handler x.is_told j x.store n o.turns p.last o.want s p.turns) p.ends
 
+stops_serve : (b : Bool) (n : ℕ) (x y : PlainStore) → Serves n x → StopsFirst b x y → Serves n y
+stops_serve false n x y s same = subst (Serves n) (sym same) s
+stops_serve true n x y s ahead = ahead_serves n x y s ahead
+
 pub refused_regions_serve : RefusedRegionsServe
-refused_regions_serve j x y n s r = ahead_serves n (begun x.is_told j x.store) y.store (begun_serves x.is_told j n x.store s) r.store
+refused_regions_serve j x y n s r = stops_serve (is_going j) n (begun x.is_told j x.store) y.store (begun_serves x.is_told j n x.store s) r.store

@@ -1,5 +1,6 @@
 use Rattle.std.proofs.Common.{refl}
-use Rattle.sc_play.proofs.Playing.{ahead_of, begins_nothing, never_first, plays_behind, plays_from}
+use Rattle.sc_play.proofs.Going.{stops_going}
+use Rattle.sc_play.proofs.Playing.{begins_nothing, never_first, plays_behind, plays_from}
 use Rattle.sc_play.proofs.region.play_under.Goals as goal
 
 pub returns-then-made-clause-ok : goal.returns-then-made-clause-ok
@@ -17,6 +18,6 @@ returns-else-made-clause-ok c =
 
 pub returns-else-made-clause-err : goal.returns-else-made-clause-err
 returns-else-made-clause-err c =
-    ahead_of c.play_on-else-made.result _ _ _
+    stops_going c.play_on-else-made.result c.args.job.now _ _ _ (c.in_ok-made.ensures.going c.if-made.false)
     (begins_nothing c.in_ok-made.made c.args.handler c.args.is_told c.args.job.now c.args.store.now c.first_turn.new.store c.first_turn.new.asked c.if-made.false c.in_ok-made.ensures.ok).0
     c.play_on-else-made.ensures.err

@@ -1,0 +1,5 @@
+use Rattle.sc_play.proofs.Resuming.{refused_jobs_go_on}
+use Rattle.sc_play.proofs.laws.refused_jobs_go_on.Goals as goal
+
+pub returns : goal.returns
+returns c = refused_jobs_go_on

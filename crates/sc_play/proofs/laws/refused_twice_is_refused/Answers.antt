@@ -1,0 +1,5 @@
+use Rattle.sc_play.proofs.Resuming.{refused_twice_is_refused}
+use Rattle.sc_play.proofs.laws.refused_twice_is_refused.Goals as goal
+
+pub returns : goal.returns
+returns c = refused_twice_is_refused
