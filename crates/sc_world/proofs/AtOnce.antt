@@ -460,14 +460,14 @@ module _ (limit h : ℕ) (j : Job) (turns : ℕ) (x y : PlainWorld) (picks : pic
       undone : put_back h (picked h job.Go there.center) ≡ put_back_with h (Some job.Go) (picked h job.Go there.center)
       undone = ap (λ (o : Option Job). put_back_with h o (picked h job.Go there.center)) is_out
 
-  goes_there : played.want ≡ want.Continue → pick_for h there.center ≡ Some job.Go
+  pub goes_there : played.want ≡ want.Continue → pick_for h there.center ≡ Some job.Go
   goes_there e =
       let some = turns_some m.before.handler m.before.is_told j m.before.store played.turns m.settles.plays.last played.want m.settles.plays.turns in
       ap (λ (n : ℕ). pick_for h (settles x.most h j n played.want (picked h j x.center))) some.1
       ∙ ap (λ (w : Want). pick_for h (settles x.most h j (suc some.0) w (picked h j x.center))) e
       ∙ picks_again x.most h j x.center picks (asks_nothing e) some.0
 
-  ahead_there : IsAhead m.settles.plays.last m.after.store → IsHeldUp h job.Go there y
+  pub ahead_there : IsAhead m.settles.plays.last m.after.store → IsHeldUp h job.Go there y
   ahead_there ahead = record {
     before = stopped;
     after = m.after;

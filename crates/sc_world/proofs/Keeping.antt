@@ -6,12 +6,13 @@ use Rattle.std.proofs.lemmas.Option.{slice_get_past}
 use Rattle.std.specs.Prelude.{slice_get, if◌then◌else◌}
 use Rattle.sc_code.specs.declared.program.Image.{Image}
 use Rattle.sc_region.specs.declared.job.Job.{Job}
-use Rattle.sc_request.specs.Logs.{Center, pick_for}
+use Rattle.sc_request.specs.Logs.{Center, pick_for, picked, put_back, put_back_with}
 use Rattle.sc_play.specs.Contents.{Contents, contents_at, contents_in, contents_of, new_contents}
 use Rattle.sc_play.specs.Regions.{PlainRegion, new_region}
-use Rattle.sc_world.specs.Kept.{IsOf, KeptAlikeAreAlike, OpeningsAreOf, PlainKept, RunsStayOf, kept}
-use Rattle.sc_world.specs.Turning.{Makes, TurnsUnder}
+use Rattle.sc_world.specs.Kept.{AttemptsStayOf, IsOf, KeptAlikeAreAlike, OpeningsAreOf, PlainKept, RunsStayOf, kept}
+use Rattle.sc_world.specs.Turning.{HeldUpUnder, IsHeldUp, IsRefusedTurn, Made, Makes, Refused, TurnsUnder}
 use Rattle.sc_world.specs.Worlds.{PlainWorld, max_handlers, new_regions}
+use Rattle.sc_world.proofs.Outs.{picked-out}
 
 -- Where the whole could only be the same if this were, and this isn't, it is another one.
 pub differs : {P Q : Type 0} (r : Bool) → r ≡ false → (r ≡ true → P) × (P → r ≡ true) → (Q → P) → (false ≡ true → Q) × (Q → false ≡ true)
@@ -157,3 +158,39 @@ turn_stays p most h (Some j) w v of makes = made_stay p most h j w v of makes
 pub runs_stay_of : RunsStayOf
 runs_stay_of p most [] w v of same = let P : PlainWorld → Type 0 = λ u. IsOf p most u in subst P (sym same) of
 runs_stay_of p most (h ∷ hs) w v of runs = runs_stay_of p most hs runs.0 v (turn_stays p most h (pick_for h w.center) w runs.0 of runs.1) runs.2
+
+-- ---- where memory is refused
+
+put_back_out : (h : ℕ) (j : Job) (c : Center) (k : ℕ) → c.out k ≡ None → (put_back h (picked h j c)).out k ≡ None
+put_back_out h j c k e =
+    ap (λ (o : Option Job). (put_back_with h o (picked h j c)).out k) (picked-out h j c (picked h j c) refl) ∙ is_in (k == h) j (c.out k) e
+
+held_stays : (p : Image) (most h : ℕ) (j : Job) (w v : PlainWorld) → IsOf p most w → IsHeldUp h j w v → IsOf p most v
+held_stays p most h j w v of held = record {
+  most = held.most ∙ of.most;
+  nobody_out = λ k. ap (λ (c : Center). c.out k) held.put_back.center ∙ put_back_out h j w.center k (of.nobody_out k);
+  places = ap length held.regions ∙ set_many w.regions h held.after ∙ of.places;
+  programs = λ k x there.
+      let set : slice_get (slice_set w.regions h held.after) k ≡ Some x = ap (λ rs. slice_get rs k) (sym held.regions) ∙ there in
+      elim (cases_eq k h) [
+        | inl is ↦
+            let at : slice_get (slice_set w.regions h held.after) h ≡ Some x = ap (λ i. slice_get (slice_set w.regions h held.after) i) (sym is) ∙ set in
+            ap (λ (r : PlainRegion). r.store.program) (set_here w.regions h held.after x at) ∙ held.put_back.refused.program ∙ of.programs h held.before held.stands
+        | inr apart ↦ of.programs k x (sym (set_elsewhere w.regions h k held.after apart) ∙ set)
+      ];
+}
+
+held_under : (p : Image) (most h : ℕ) (o : Option Job) (w v : PlainWorld) → IsOf p most w → HeldUpUnder h o w v → IsOf p most v
+held_under p most h None w v of same = let P : PlainWorld → Type 0 = λ u. IsOf p most u in subst P (sym same) of
+held_under p most h (Some j) w v of held = held_stays p most h j w v of held
+
+refused_stays : (p : Image) (most h : ℕ) (w v : PlainWorld) → IsOf p most w → IsRefusedTurn h w v → IsOf p most v
+refused_stays p most h w v of (inl same) = let P : PlainWorld → Type 0 = λ u. IsOf p most u in subst P (sym same) of
+refused_stays p most h w v of (inr held) = held_under p most h (pick_for h w.center) w v of held
+
+pub attempts_stay_of : AttemptsStayOf
+attempts_stay_of p most [] w v of same = let P : PlainWorld → Type 0 = λ u. IsOf p most u in subst P (sym same) of
+attempts_stay_of p most (Made h ∷ ts) w v of tried =
+    attempts_stay_of p most ts tried.0 v (turn_stays p most h (pick_for h w.center) w tried.0 of tried.1) tried.2
+attempts_stay_of p most (Refused h ∷ ts) w v of tried =
+    attempts_stay_of p most ts tried.0 v (refused_stays p most h w tried.0 of tried.1) tried.2

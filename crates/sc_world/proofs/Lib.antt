@@ -6,3 +6,4 @@ pub mod Rounding
 pub mod Running
 pub mod Telling
 pub mod Keeping
+pub mod Trying

@@ -56,7 +56,7 @@ one-turn h j turns most c d x y s =
       center = subst (λ (n : ℕ). d ≡ settles most h j n s.outcome.want c) one s.center;
     }
 
-makes-many : (limit given h : ℕ) (j : Job) (turns m m' n : ℕ) (c b d : Center) (rs : List PlainRegion) (x y : PlainRegion) → given ≡ limit →
+pub makes-many : (limit given h : ℕ) (j : Job) (turns m m' n : ℕ) (c b d : Center) (rs : List PlainRegion) (x y : PlainRegion) → given ≡ limit →
     slice_get rs h ≡ Some x → m' ≡ m → n ≡ m → b ≡ picked h j c → Settles given h j turns m' b d x y →
     Makes limit h j turns (record { most = m; center = c; regions = rs }) (record { most = n; center = d; regions = slice_set rs h y })
 makes-many limit given h j turns m m' n c b d rs x y so-many stands same kept out settles =

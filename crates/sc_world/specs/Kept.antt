@@ -8,7 +8,7 @@ use Rattle.sc_request.specs.Kept as core
 use Rattle.sc_play.specs.Contents.{Contents, contents_at}
 use Rattle.sc_play.specs.Regions.{PlainRegion}
 use Rattle.sc_world.specs.declared.kept_world.KeptWorld as coded
-use Rattle.sc_world.specs.Turning.{Runs}
+use Rattle.sc_world.specs.Turning.{Attempt, Attempts, Runs}
 use Rattle.sc_world.specs.Worlds.{PlainWorld, max_handlers, opened}
 
 -- The state of the core, and what the region of each handler holds. Which handlers are out, and which was picked last, is no part of it.
@@ -46,3 +46,7 @@ OpeningsAreOf = (p : Image) (version : Version) → IsOf p (most_handlers versio
 -- and stays so where handlers have their turns.
 abbrev pub RunsStayOf : Type 0
 RunsStayOf = (p : Image) (most : ℕ) (handlers : List ℕ) (w v : PlainWorld) → IsOf p most w → Runs handlers w v → IsOf p most v
+
+-- It does so too where memory is refused to some of these turns.
+abbrev pub AttemptsStayOf : Type 0
+AttemptsStayOf = (p : Image) (most : ℕ) (attempts : List Attempt) (w v : PlainWorld) → IsOf p most w → Attempts attempts w v → IsOf p most v

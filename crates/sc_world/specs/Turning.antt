@@ -1,12 +1,14 @@
 -- Turns of a world.
 use Rattle.std.specs.Prelude.{◌≡◌, ◌<◌, ◌≤◌, ◌⊎◌, ℕ, List, [], ◌∷◌, Option, Some, None, replicate, slice_get, slice_set, take}
+use Rattle.sc_lockpass.specs.declared.version.Version.{Version}
+use Rattle.sc_code.specs.declared.program.Image.{Image}
 use Rattle.sc_region.specs.declared.job.Job.{Job}
 use Rattle.sc_region.specs.declared.job.Outcome.{Outcome}
 use Rattle.sc_request.specs.Logs.{Center, pick_for, picked, put_back, settles}
 use Rattle.sc_play.specs.Regions.{PlainRegion, Plays, IsRefused}
 use Rattle.sc_world.specs.declared.world.Turned.{Turned}
 use Rattle.sc_world.specs.declared.world.Turned.TheVariants.{Moved, Nothing}
-use Rattle.sc_world.specs.Worlds.{PlainWorld}
+use Rattle.sc_world.specs.Worlds.{PlainWorld, opened}
 
 -- The handler, which is out with the job, plays so many turns under it, at most the limit, and what they come to is settled.
 pub record Settles (limit h : ℕ) (j : Job) (turns most : ℕ) (c d : Center) (x y : PlainRegion) : Type 0 where
@@ -75,6 +77,35 @@ pub record StopsBehind (n : ℕ) (hs : List ℕ) (x y : PlainWorld) : Type 0 whe
   pub runs : Runs (take n hs) x before
   pub stands : slice_get hs n ≡ Some next
   pub refused : IsRefusedTurn next before y
+
+-- ---- turns that were made or refused
+
+-- what came of the turn of a handler: it was made, or memory was refused to it
+pub data Attempt : Type 0 where
+  Made : (handler : ℕ) → Attempt
+  Refused : (handler : ℕ) → Attempt
+
+abbrev pub IsAttempt : Attempt → PlainWorld → PlainWorld → Type 0
+IsAttempt (Made h) x y = IsTurn h x y
+IsAttempt (Refused h) x y = IsRefusedTurn h x y
+
+-- These attempts, one after the other, lead from the first world to the second.
+abbrev pub Attempts : List Attempt → PlainWorld → PlainWorld → Type 0
+Attempts [] x y = y ≡ x
+Attempts (t ∷ ts) x y = (z : PlainWorld) × IsAttempt t x z × Attempts ts z y
+
+-- the handlers whose turns were made, in order
+abbrev pub made_by : List Attempt → List ℕ
+made_by [] = []
+made_by (Made h ∷ ts) = h ∷ made_by ts
+made_by (Refused h ∷ ts) = made_by ts
+
+-- From the opening of a program, some attempts lead to the world.
+pub record IsTried (x : PlainWorld) : Type 0 where
+  pub program : Image
+  pub version : Version
+  pub attempts : List Attempt
+  pub lead : Attempts attempts (opened program version) x
 
 -- ---- turns of one handler
 

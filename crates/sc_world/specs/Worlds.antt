@@ -3,6 +3,8 @@ use Rattle.std.specs.Prelude.{ℕ, zero, suc, min, List, [], ◌∷◌}
 use Rattle.sc_lockpass.specs.declared.version.Version.{Version}
 use Rattle.sc_lockpass.specs.Versions.{most_handlers}
 use Rattle.sc_code.specs.declared.program.Image.{Image}
+use Rattle.sc_request.specs.declared.center.Core as coded
+use Rattle.sc_request.specs.Cores.{center_of}
 use Rattle.sc_request.specs.Logs as core
 use Rattle.sc_request.specs.Logs.{Center, root_of}
 use Rattle.sc_play.specs.Regions.{PlainRegion, new_region}
@@ -12,6 +14,10 @@ pub record PlainWorld : Type 0 where
   pub most : ℕ
   pub center : Center
   pub regions : List PlainRegion
+
+-- what a core and the regions beside it are
+abbrev pub world_with : coded.Core → List PlainRegion → PlainWorld
+world_with c rs = record { most = most_handlers c.state.rights.version; center = center_of c; regions = rs }
 
 -- ---- how it opens
 

@@ -1,6 +1,6 @@
 //! What holds in each world that turns lead to, each the contract of a function that does nothing.
 ghost use Rattle.sc_world.specs.Free.{OpeningsAreLinked, RoundsStayLinked, RunsStayLinked, StoppedRoundsStayLinked, StoppedRunsStayLinked};
-ghost use Rattle.sc_world.specs.Kept.{KeptAlikeAreAlike, OpeningsAreOf, RunsStayOf};
+ghost use Rattle.sc_world.specs.Kept.{AttemptsStayOf, KeptAlikeAreAlike, OpeningsAreOf, RunsStayOf};
 
 /// At the opening each handler serves in the core what its region serves.
 pub fn openings_are_linked()
@@ -35,6 +35,11 @@ pub fn openings_are_of_their_program()
 /// and it stays so after the turns of any handlers.
 pub fn runs_stay_of_their_program()
     ensures { RunsStayOf }
+{}
+
+/// So it does where memory is refused to some of them.
+pub fn attempts_stay_of_their_program()
+    ensures { AttemptsStayOf }
 {}
 
 /// Worlds of one program of which the same is kept are the same, but for the handler picked last.

@@ -11,8 +11,8 @@ ghost use Rattle.sc_request.specs.Logs as core;
 ghost use Rattle.sc_world.specs.Free.{FreeObjectMeets};
 ghost use Rattle.sc_world.specs.Reports as told;
 ghost use Rattle.sc_world.specs.Rounds.{AreCutShort, EndsRounds, IsRefusedNext, Played, StopsRounds, TurnsOfNext, turns_at_once};
-ghost use Rattle.sc_world.specs.Turning.{IsRefusedTurn, IsTurn, PutsBack, Runs, StopsBehind, StopsShort, TurnsUnderJob, turned_by};
-ghost use Rattle.sc_world.specs.Worlds.{max_handlers, new_regions, opened};
+ghost use Rattle.sc_world.specs.Turning.{IsRefusedTurn, IsTried, IsTurn, PutsBack, Runs, StopsBehind, StopsShort, TurnsUnderJob, turned_by};
+ghost use Rattle.sc_world.specs.Worlds.{max_handlers, new_regions, opened, world_with};
 
 use crate::report::{self, push_end, push_handler};
 use sc_code::Program;
@@ -39,6 +39,10 @@ const MAX_HANDLERS: u16 = 512;
 ///
 /// Each handler serves in the core what its region serves. So the region of a handler that is free has no frames, and each
 /// of its objects meets its class invariant.
+///
+/// Turns that were made, and turns that memory was refused to, lead to the world from the opening of a program, in any mix. A turn
+/// that was refused leaves the core and the other regions as they are, and its own region but for silent operations of a routine
+/// that goes on. The handler keeps its job, and its next turn goes on from there as if memory had never been refused.
 #[derive(Drop)]
 pub struct World<'p> {
     pub(crate) alloc: Global,
@@ -47,6 +51,7 @@ pub struct World<'p> {
     pub(crate) regions: Vec<Region<'p>>,
     ghost places: { vec_len regions ≡ 512 },
     ghost linked: { AreLinked (center_of core) regions.items } by { linked_prop (center_of core) regions.items },
+    pub ghost tried: { ∥ IsTried (world_with core regions.items) ∥₁ },
 }
 
 impl<'p> World<'p> {
@@ -75,7 +80,8 @@ impl<'p> World<'p> {
     /// The turn of one handler: its silent steps, up to and with the next visible one.
     ///
     /// # Errors
-    /// Where there is no memory. Then nothing has changed.
+    /// Where there is no memory. Then nothing has changed, but that silent steps of the turn may be done: it is still to be made,
+    /// and the machine stands where it stood.
     pub fn turn(&mut self, handler: u16) -> Result<Turned, AllocError>
         ensures ok { OnOk result (IsTurn handler (world_of self.old) (world_of self.new)) }
         ensures turned { IfOk result (λ turned. turned ≡ turned_by (pick_for handler (world_of self.old).center)) }
@@ -94,7 +100,7 @@ impl<'p> World<'p> {
     /// The turns of the handlers, one after the other.
     ///
     /// # Errors
-    /// Where there is no memory. Then the world stands after the turns before.
+    /// Where there is no memory. Then the world stands after the turns before, but that silent steps of the next may be done.
     pub fn turns(&mut self, handlers: &[u16]) -> Result<(), AllocError>
         ensures ok { OnOk result (Runs handlers.now (world_of self.old) (world_of self.new)) }
         ensures err { OnErr result ((n : ℕ) × StopsBehind n handlers.now (world_of self.old) (world_of self.new)) }
@@ -121,7 +127,7 @@ impl<'p> World<'p> {
     /// So many turns of one handler. Once it has nothing to do, the others would change nothing, and are left out.
     ///
     /// # Errors
-    /// Where there is no memory. Then the world stands after the turns before.
+    /// Where there is no memory. Then the world stands after the turns before, but that silent steps of the next may be done.
     pub fn turns_of(&mut self, handler: u16, count: u32) -> Result<(), AllocError>
         ensures ok { OnOk result (Runs (replicate count handler) (world_of self.old) (world_of self.new)) }
         ensures err { OnErr result ((n : ℕ) ×
@@ -168,7 +174,8 @@ impl<'p> World<'p> {
     /// made. It begins behind the handler that made the last turn.
     ///
     /// # Errors
-    /// Where there is no memory. Then the world stands after the turns before, also where several are made at once.
+    /// Where there is no memory. Then the world stands after the turns before, also where several are made at once, but that
+    /// silent steps of the next may be done.
     pub fn rounds(&mut self, limit: u32) -> Result<(), AllocError>
         ensures ok { OnOk result (EndsRounds limit (world_of self.old) (world_of self.new)) }
         ensures err { OnErr result (StopsRounds limit (world_of self.old) (world_of self.new)) }

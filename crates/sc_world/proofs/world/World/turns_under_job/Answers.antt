@@ -9,6 +9,7 @@ use Rattle.sc_world.proofs.AtOnce.{all_told, none_told, refused_told, some_told}
 use Rattle.sc_world.proofs.Freeing.{linked_still, played_linked}
 use Rattle.sc_world.proofs.Outs.{err-at, held-up, none-job, none-picked, ok-at, on-err, picked-out, refused-some, some-of, some-picked, world-is}
 use Rattle.sc_world.proofs.Rounding.{makes-all, makes-some}
+use Rattle.sc_world.proofs.Trying.{played_tried, same_tried}
 use Rattle.sc_world.proofs.world.World.turns_under_job.Goals as goal
 
 pub play-requires-clause-out : goal.play-requires-clause-out
@@ -88,7 +89,11 @@ returns-else-pick_at-clause-ok c =
     (world-is _ _ _ _ _ (ap most_handlers (c.pick_at.ensures.version ∙ c.in_ok-make_room.ensures.version)) (kept ∙ room))
 
 pub invariant_of-self : goal.invariant_of-self
-invariant_of-self c = record { places = c.args.self.now.places; linked = linked_still _ _ _ c.make_room.ensures.center c.args.self.now.linked }
+invariant_of-self c = record {
+  places = c.args.self.now.places;
+  linked = linked_still _ _ _ c.make_room.ensures.center c.args.self.now.linked;
+  tried = same_tried _ _ _ _ c.args.self.now.regions.items (ap most_handlers c.make_room.ensures.version) c.make_room.ensures.center c.args.self.now.tried;
+}
 
 pub invariant_of-self-else-pick_at-clause-linked : goal.invariant_of-self-else-pick_at-clause-linked
 invariant_of-self-else-pick_at-clause-linked c =
@@ -109,5 +114,29 @@ invariant_of-self-then-pick_at-clause-linked c =
     let stands = slice_get_read c.args.self.now.regions.items 512 h c.index_mut-region.result.now count (c.pick_at.ensures.below c.if-pick_at.true) c.index_mut-region.ensures.value in
     played_linked c.args.limit h j _ (center_of c.args.self.now.core) _ _ c.args.self.now.regions.items _ _ c.play.result c.args.self.now.linked
     (sym (job ∙ ap (pick_for h) room)) stands (out ∙ ap (picked h j) room)
+    (ok-at c.play.result ((center_of c.pick_at.new.self).out h) _ j is_out c.play.ensures.ok)
+    (err-at c.play.result ((center_of c.pick_at.new.self).out h) _ j is_out c.play.ensures.err)
+
+pub invariant_of-self-else-pick_at-clause-tried : goal.invariant_of-self-else-pick_at-clause-tried
+invariant_of-self-else-pick_at-clause-tried c =
+    let none = none-job (pick_for c.args.handler (center_of c.make_room.new.self)) (sym c.pick_at.ensures.picked ∙ c.if-pick_at.false) in
+    let kept = none-picked c.args.handler (center_of c.make_room.new.self) (center_of c.pick_at.new.self) none c.pick_at.ensures.center in
+    same_tried _ _ _ _ c.args.self.now.regions.items (ap most_handlers (c.pick_at.ensures.version ∙ c.in_ok-make_room.ensures.version)) (kept ∙ c.in_ok-make_room.ensures.center)
+    c.args.self.now.tried
+
+pub invariant_of-self-then-pick_at-clause-tried : goal.invariant_of-self-then-pick_at-clause-tried
+invariant_of-self-then-pick_at-clause-tried c =
+    let h = c.args.handler in
+    let room = c.in_ok-make_room.ensures.center in
+    let found = some-of (pick_for h (center_of c.make_room.new.self)) (sym c.pick_at.ensures.picked ∙ c.if-pick_at.true) in
+    let j = found.0 in
+    let job = sym found.1 in
+    let out = some-picked h j (center_of c.make_room.new.self) (center_of c.pick_at.new.self) job c.pick_at.ensures.center in
+    let is_out = picked-out h j (center_of c.make_room.new.self) (center_of c.pick_at.new.self) out in
+    let count : 512 ≡ length c.args.self.now.regions.items = omega (arith, c.args.self.now.places, c.args.self.now.regions.ok.0) in
+    let stands = slice_get_read c.args.self.now.regions.items 512 h c.index_mut-region.result.now count (c.pick_at.ensures.below c.if-pick_at.true) c.index_mut-region.ensures.value in
+    let version = c.pick_at.ensures.version ∙ c.in_ok-make_room.ensures.version in
+    played_tried c.args.limit h j _ _ _ (center_of c.args.self.now.core) _ _ c.args.self.now.regions.items _ _ c.play.result c.args.self.now.tried
+    (sym (job ∙ ap (pick_for h) room)) stands (ap most_handlers version) (ap most_handlers (c.play.ensures.version ∙ version)) (out ∙ ap (picked h j) room)
     (ok-at c.play.result ((center_of c.pick_at.new.self).out h) _ j is_out c.play.ensures.ok)
     (err-at c.play.result ((center_of c.pick_at.new.self).out h) _ j is_out c.play.ensures.err)

@@ -1,0 +1,5 @@
+use Rattle.sc_world.proofs.Keeping.{attempts_stay_of}
+use Rattle.sc_world.proofs.laws.attempts_stay_of_their_program.Goals as goal
+
+pub returns : goal.returns
+returns c = attempts_stay_of
