@@ -1,5 +1,6 @@
 mod Asked
 mod Assembling
+mod Attempts
 pub mod Rounds
 mod ComingAgain
 mod Contracts
@@ -12,6 +13,7 @@ pub mod Picking
 pub mod PuttingBack
 mod Reaching
 mod Refined
+mod Staying
 mod Reporting
 mod Running
 mod Wants

@@ -1,5 +1,5 @@
 -- Where memory is refused to a turn, its handler is put back, and the core is what it was.
-use Rattle.std.proofs.Common.{◌≡◌, ◌<◌, ◌==◌, ◌&&◌, ◌||◌, ◌⊎◌, inl, inr, ℕ, Bool, true, false, List, [], ◌∷◌, Option, Some, None, is_none, slice_get, slice_set, refl, sym, ap, subst, ◌∙◌}
+use Rattle.std.proofs.Common.{◌≡◌, ◌≤◌, ◌==◌, ◌&&◌, ◌||◌, ◌⊎◌, inl, inr, ℕ, Bool, true, false, List, [], ◌∷◌, Option, Some, None, is_none, slice_get, slice_set, refl, sym, ap, subst, ◌∙◌, arith}
 use Rattle.std.proofs.lemmas.Bool.{cases_eq, eq-eqb, eqb-true}
 use Rattle.std.proofs.Math.Path.{fun_ext}
 use Rattle.std.specs.List.{list_all}
@@ -24,6 +24,7 @@ use Rattle.sc_world.specs.Turning.{HeldUpUnder, IsHeldUp}
 use Rattle.sc_world.specs.Worlds.{PlainWorld}
 use Rattle.sc_refines_world.specs.Refining.{RefusedTurnStaysNear, StandingWorldIsNear}
 use Rattle.sc_refines_world.specs.Standing.{IsNear, IsRegionFor, StandsFor, StandsNear, names_in}
+use Rattle.sc_refines_world.proofs.Picking.{has_job}
 use Rattle.sc_world.proofs.AtOnce.{picks_job, set_other, set_same}
 
 -- ---- who is granted was nobody's
@@ -151,67 +152,133 @@ standing_world_is_near s p w x stands = record {
   core = stands.core;
   none_out = stands.none_out;
   regions = λ h few. (let r = stands.regions h few in (r.0, r.1, (r.0, inl refl, r.2)));
+  others = stands.others;
 }
 
 same_region : (a b : PlainRegion) → Some a ≡ Some b → a ≡ b
 same_region a b e = cc
 
+-- the regions of a handler in two worlds, where it has this to do: both are there and near, or neither is there
+abbrev pub AreNearAt : Option Job → Option PlainRegion → Option PlainRegion → Type 0
+AreNearAt due None r = r ≡ None
+AreNearAt due (Some start) r = (q : PlainRegion) × (r ≡ Some q) × IsNear due start q
+
+no_region : {A : Type 0} (r : PlainRegion) → None ≡ Some r → A
+no_region r e = cc
+
+near_from : (due : Option Job) (r start q : PlainRegion) → r ≡ start → IsNear due r q → IsNear due start q
+near_from due r start q e near = subst (λ (t : PlainRegion). IsNear due t q) e near
+
+near_to : (due : Option Job) (start r q : PlainRegion) → r ≡ q → IsNear due start r → IsNear due start q
+near_to due start r q e near = subst (λ (t : PlainRegion). IsNear due start t) e near
+
+pub near_at : (due : Option Job) (a b : Option PlainRegion) (start q : PlainRegion) → a ≡ Some start → b ≡ Some q → IsNear due start q → AreNearAt due a b
+near_at due None b start q e f near = no_region start e
+near_at due (Some r) b start q e f near = (q, f, near_from due start r q (sym (same_region r start e)) near)
+
+-- the one in the second world, where it is there in the first
+pub near_behind : (due : Option Job) (a b : Option PlainRegion) (start : PlainRegion) → AreNearAt due a b → a ≡ Some start → (q : PlainRegion) × (b ≡ Some q) × IsNear due start q
+near_behind due None b start near e = no_region start e
+near_behind due (Some r) b start near e = (near.0, near.1, near_from due r start near.0 (same_region r start e) near.2)
+
+-- the one in the first world, where it is there in the second
+pub near_before : (due : Option Job) (a b : Option PlainRegion) (q : PlainRegion) → AreNearAt due a b → b ≡ Some q → (start : PlainRegion) × (a ≡ Some start) × IsNear due start q
+near_before due None b q near e = no_region q (sym near ∙ e)
+near_before due (Some start) b q near e = (start, refl, near_to due start near.0 q (same_region near.0 q (sym near.1 ∙ e)) near.2)
+
+near_kept : (due later : Option Job) (a b : Option PlainRegion) →
+    ((start q : PlainRegion) → a ≡ Some start → IsNear due start q → IsNear later start q) → AreNearAt due a b → AreNearAt later a b
+near_kept due later None b keep near = near
+near_kept due later (Some start) b keep near = (near.0, near.1, keep start near.0 refl near.2)
+
+-- the same two under another job, where they stay near
+pub near_still : (due later : Option Job) (a b c d : Option PlainRegion) → c ≡ a → d ≡ b →
+    ((start q : PlainRegion) → a ≡ Some start → IsNear due start q → IsNear later start q) → AreNearAt due a b → AreNearAt later c d
+near_still due later a b c d e f keep near =
+    subst (λ (r : Option PlainRegion). AreNearAt later r d) (sym e)
+    (subst (λ (r : Option PlainRegion). AreNearAt later a r) (sym f) (near_kept due later a b keep near))
+
+-- The second world is the first one, but that memory was refused to turns that its handlers are to make next.
+pub record IsNearTo (x y : PlainWorld) : Type 0 where
+  pub most : y.most ≡ x.most
+  pub state : y.center.state ≡ x.center.state
+  pub none_out : (k : ℕ) → y.center.out k ≡ None
+  pub regions : (k : ℕ) → AreNearAt (job_of k x.center.state) (slice_get x.regions k) (slice_get y.regions k)
+
+-- Where the first one stands for a state, the second is near it.
+pub near_world : (s : System) (p : Image) (w : World) (x y : PlainWorld) → StandsFor s p w x → IsNearTo x y → StandsNear s p w y
+near_world s p w x y stands near = record {
+  core = subst (IsHalfOf (numbering_by (names_in p)) w) (sym near.state) stands.core;
+  none_out = near.none_out;
+  regions = λ h few. (
+      let one = stands.regions h few in
+      let q = near_behind (job_of h x.center.state) (slice_get x.regions h) (slice_get y.regions h) one.0 (near.regions h) one.1 in
+      (q.0, q.1, (one.0, subst (λ (t : State). IsNear (job_of h t) one.0 q.0) (sym near.state) q.2, still h one.0 one.2)));
+  others = λ h r past at. (
+      let one = near_before (job_of h x.center.state) (slice_get x.regions h) (slice_get y.regions h) r (near.regions h) at in
+      unmoved h r one.0 past one.2 ∙ stands.others h one.0 past one.1);
+}
+  where
+    still : (k : ℕ) (r : PlainRegion) → IsRegionFor s p k (w.handlers k) (x.center.state.handlers k).stage r → IsRegionFor s p k (w.handlers k) (y.center.state.handlers k).stage r
+    still k r one = subst (λ (t : State). IsRegionFor s p k (w.handlers k) (t.handlers k).stage r) (sym near.state) one
+
+    -- one that isn't there yet has nothing to do
+    unmoved : (h : ℕ) (r start : PlainRegion) → w.count ≤ h → IsNear (job_of h x.center.state) start r → r ≡ start
+    unmoved h r start past (inl same) = same
+    unmoved h r start past (inr (j, due, refused)) =
+        let few = has_job h x.center.state j due in
+        let count = stands.core.count in
+        absurd (omega (arith, few, count, past))
+
 -- The world is the first one, but that memory was refused to a turn of this handler: silent operations of its region may be done.
 pub record IsFurther (h : ℕ) (x y : PlainWorld) : Type 0 where
+  pub most : y.most ≡ x.most
   pub state : y.center.state ≡ x.center.state
   pub none_out : (k : ℕ) → x.center.out k ≡ None → y.center.out k ≡ None
   pub start : PlainRegion
   pub after : PlainRegion
   pub stands : slice_get x.regions h ≡ Some start
-  pub near : IsNear start after
+  pub near : IsNear (job_of h x.center.state) start after
   pub regions : y.regions ≡ slice_set x.regions h after
 
 pub held_further : (h : ℕ) (j : Job) (x y : PlainWorld) → job_of h x.center.state ≡ Some j → IsHeldUp h j x y → IsFurther h x y
 held_further h j x y is held = record {
+  most = held.most;
   state = ap (λ (d : Center). d.state) held.put_back.center ∙ back_state h j x.center is;
   none_out = λ k none. ap (λ (d : Center). d.out k) held.put_back.center ∙ back_out h j x.center k none;
   start = held.before;
   after = held.after;
   stands = held.stands;
-  near = inr (j, held.put_back.refused);
+  near = inr (j, is, held.put_back.refused);
   regions = held.regions;
 }
 
--- Where the first one stands for a state, the world is near it.
-pub further_near : (s : System) (p : Image) (w : World) (h : ℕ) (x y : PlainWorld) → StandsFor s p w x → IsFurther h x y → StandsNear s p w y
-further_near s p w h x y stands further = record {
-  core = subst (IsHalfOf (numbering_by (names_in p)) w) (sym further.state) stands.core;
-  none_out = λ k. further.none_out k (stands.none_out k);
-  regions = near;
+here_near : (due : Option Job) (a b : Option PlainRegion) → b ≡ a → AreNearAt due a b
+here_near due None b e = e
+here_near due (Some r) b e = (r, e, inl refl)
+
+further_near : (h : ℕ) (x y : PlainWorld) → ((k : ℕ) → x.center.out k ≡ None) → IsFurther h x y → IsNearTo x y
+further_near h x y none_out further = record {
+  most = further.most;
+  state = further.state;
+  none_out = λ k. further.none_out k (none_out k);
+  regions = λ k. by k (cases_eq k h);
 }
   where
-    still : (k : ℕ) (r : PlainRegion) → IsRegionFor s p k (w.handlers k) (x.center.state.handlers k).stage r → IsRegionFor s p k (w.handlers k) (y.center.state.handlers k).stage r
-    still k r one = subst (λ (t : State). IsRegionFor s p k (w.handlers k) (t.handlers k).stage r) (sym further.state) one
-
-    near : (k : ℕ) → k < w.count → (r : PlainRegion) × (slice_get y.regions k ≡ Some r)
-        × ((start : PlainRegion) × IsNear start r × IsRegionFor s p k (w.handlers k) (y.center.state.handlers k).stage start)
-    near k few =
-        let one = stands.regions k few in
-        elim (cases_eq k h) [
-          | inl e ↦
-              let at : slice_get x.regions k ≡ Some further.start = ap (slice_get x.regions) e ∙ further.stands in
-              let start : one.0 ≡ further.start = same_region one.0 further.start (sym one.1 ∙ at) in (
-                further.after,
-                ap (λ (rs : List PlainRegion). slice_get rs k) further.regions ∙ ap (slice_get (slice_set x.regions h further.after)) e
-                    ∙ set_same x.regions h further.start further.after further.stands,
-                (further.start, further.near, still k further.start (subst (IsRegionFor s p k (w.handlers k) (x.center.state.handlers k).stage) start one.2)),
-              )
-          | inr apart ↦ (
-            one.0,
-            ap (λ (rs : List PlainRegion). slice_get rs k) further.regions ∙ set_other x.regions h k further.after apart ∙ one.1,
-            (one.0, inl refl, still k one.0 one.2),
-          )
-        ]
+    by : (k : ℕ) → (k ≡ h) ⊎ (k ≡ h → ⊥) → AreNearAt (job_of k x.center.state) (slice_get x.regions k) (slice_get y.regions k)
+    by k (inl e) =
+        near_at (job_of k x.center.state) (slice_get x.regions k) (slice_get y.regions k) further.start further.after (ap (slice_get x.regions) e ∙ further.stands)
+        (ap (λ (rs : List PlainRegion). slice_get rs k) further.regions ∙ ap (slice_get (slice_set x.regions h further.after)) e
+        ∙ set_same x.regions h further.start further.after further.stands)
+        (subst (λ (i : ℕ). IsNear (job_of i x.center.state) further.start further.after) (sym e) further.near)
+    by k (inr apart) =
+        here_near (job_of k x.center.state) (slice_get x.regions k) (slice_get y.regions k)
+        (ap (λ (rs : List PlainRegion). slice_get rs k) further.regions ∙ set_other x.regions h k further.after apart)
 
 -- So it is where nothing has changed, or memory was refused to one handler's turn.
 pub same_or_further_near : (s : System) (p : Image) (w : World) (x y : PlainWorld) → StandsFor s p w x → (y ≡ x) ⊎ ((h : ℕ) × IsFurther h x y) → StandsNear s p w y
 same_or_further_near s p w x y stands (inl same) = subst (StandsNear s p w) (sym same) (standing_world_is_near s p w x stands)
-same_or_further_near s p w x y stands (inr (h, further)) = further_near s p w h x y stands further
+same_or_further_near s p w x y stands (inr (h, further)) = near_world s p w x y stands (further_near h x y stands.none_out further)
 
 refused_further : (h : ℕ) (o : Option Job) (x y : PlainWorld) → job_of h x.center.state ≡ o → HeldUpUnder h o x y → (y ≡ x) ⊎ ((h : ℕ) × IsFurther h x y)
 refused_further h None x y e same = inl same

@@ -22,7 +22,7 @@ use Rattle.sc_request.specs.Picking.{job_of, status_idle, status_with}
 use Rattle.sc_request.specs.Laws.{PicksWhereTurns}
 use Rattle.sc_region_turns.specs.RegionSteps.{numbering_by}
 use Rattle.sc_play.specs.Regions.{PlainRegion}
-use Rattle.sc_play.specs.Turns.{begun}
+use Rattle.sc_play.specs.Turns.{StopsFirst, begun, is_going}
 use Rattle.sc_world.specs.Reports.{handler_report, handlers_report, is_busy, output_in, report, report_of, some_is_busy, statuses}
 use Rattle.sc_world.specs.Worlds.{PlainWorld}
 use Rattle.sc_refines_world.specs.Refining.{WorldReportsAsMachine}
@@ -72,9 +72,13 @@ begun_output b job.Refused x = refl
 begun_output b (job.Granted ks) x = refl
 begun_output b job.Go x = refl
 
-near_output : (x y : PlainRegion) → IsNear x y → y.store.output ≡ x.store.output
-near_output x y (inl same) = ap (λ (r : PlainRegion). r.store.output) same
-near_output x y (inr (j, refused)) = refused.store.remains.output ∙ begun_output x.is_told j x.store
+stops_output : (b : Bool) (x y : PlainStore) → StopsFirst b x y → y.output ≡ x.output
+stops_output false x y same = ap (λ (z : PlainStore). z.output) same
+stops_output true x y ahead = ahead.remains.output
+
+near_output : (due : Option Job) (x y : PlainRegion) → IsNear due x y → y.store.output ≡ x.store.output
+near_output due x y (inl same) = ap (λ (r : PlainRegion). r.store.output) same
+near_output due x y (inr (j, is, refused)) = stops_output (is_going j) (begun x.is_told j x.store) y.store refused.store ∙ begun_output x.is_told j x.store
 
 module _ (picks : PicksWhereTurns) (s : System) (p : Image) (w : World) (x : PlainWorld) (stands : StandsNear s p w x) where
   -- each handler stands as in the machine
@@ -97,7 +101,7 @@ module _ (picks : PicksWhereTurns) (s : System) (p : Image) (w : World) (x : Pla
   line_same h few =
       let r = stands.regions h few in
       let output : output_in (slice_get x.regions h) ≡ (w.handlers h).output =
-      ap output_in r.1 ∙ near_output r.2.0 r.0 r.2.1 ∙ r.2.2.stands.output ∙ r.2.2.is_half.output in
+      ap output_in r.1 ∙ near_output (job_of h x.center.state) r.2.0 r.0 r.2.1 ∙ r.2.2.stands.output ∙ r.2.2.is_half.output in
       ap (λ (status : Status). handler_report h status (x.center.state.handlers h).refused (output_in (slice_get x.regions h))) (status_same h)
       ∙ ap (λ (k : ℕ). handler_report h (status_of h w) k (output_in (slice_get x.regions h))) (stands.core.handlers h).refused
       ∙ ap (λ (text : List ℕ). handler_report h (status_of h w) (w.handlers h).refused text) output

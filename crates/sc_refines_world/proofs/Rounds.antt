@@ -1,17 +1,17 @@
 -- Turns round and round are turns of handlers, one after the other.
 use Rattle.std.proofs.Common.{◌≡◌, ◌<◌, ◌≤◌, ◌+◌, ◌⊎◌, inl, inr, ℕ, zero, suc, Bool, true, false, List, [], ◌∷◌, ◌++◌, Option, Some, None, replicate, slice_set, refl, sym, ap, ◌∙◌, arith}
 use Rattle.std.proofs.lemmas.List.{length-append, length-replicate}
-use Rattle.std.specs.Prelude.{if◌then◌else◌}
+use Rattle.std.specs.Prelude.{if◌then◌else◌, is_some}
 use Rattle.sc_region.specs.declared.job.Job.{Job}
 use Rattle.sc_region.specs.declared.job.Job.TheVariants as job
-use Rattle.sc_region.specs.declared.job.Want.{Want}
 use Rattle.sc_request.specs.Candidates.{comes_again}
 use Rattle.sc_request.specs.Logs.{Center, next, pick_for, picked}
+use Rattle.sc_request.specs.Picking.{job_of}
 use Rattle.sc_play.specs.Regions.{EndsIn, PlainRegion}
 use Rattle.sc_world.specs.Rounds.{IsRefusedNext, StopsNext, more as one_more, none, turns_of_picked}
 use Rattle.sc_world.specs.Turning.{Makes, Runs as RunsBy}
 use Rattle.sc_world.specs.Worlds.{PlainWorld}
-use Rattle.sc_world.proofs.AtOnce.{all_run, center_there, picks_job, played, runs_join, same_region, set_same, stopped, there, turns_there}
+use Rattle.sc_world.proofs.AtOnce.{all_run, center_there, goes_there, picks_job, runs_join, same_region, set_same, stopped, there, turns_there}
 use Rattle.sc_world.proofs.Freeing.{next_picks}
 use Rattle.sc_refines_world.specs.Refining.{RoundsAreTurns}
 use Rattle.sc_refines_world.specs.Standing.{IsNear}
@@ -24,6 +24,10 @@ set_again [] h x y = refl
 set_again (r ∷ rs) zero x y = refl
 set_again (r ∷ rs) (suc h) x y = ap (λ (ts : List PlainRegion). r ∷ ts) (set_again rs h x y)
 
+picked_job : (b : Bool) (o : Option Job) (j : Job) → (if b then None else o) ≡ Some j → o ≡ Some j
+picked_job true o j e = cc
+picked_job false o j e = e
+
 module _ (limit h : ℕ) (j : Job) (turns : ℕ) (x y : PlainWorld) (picks : pick_for h x.center ≡ Some j) (m : Makes limit h j turns x y) where
   -- the region where its last turn left it
   abbrev start : PlainRegion
@@ -34,18 +38,23 @@ module _ (limit h : ℕ) (j : Job) (turns : ℕ) (x y : PlainWorld) (picks : pic
   before = there limit h j turns x y picks m
 
   -- it is there, or ahead of it by silent operations of one that was refused memory
-  near_there : (n : ℕ) (w : Want) → EndsIn n limit m.settles.plays.last w m.after.store → IsNear start m.after
-  near_there n w (inl e) = inl (same_region limit h j turns x y picks m e)
-  near_there n w (inr (few, nothing, ahead)) = inr (job.Go, record { store = ahead; same = m.settles.plays.same; program = ahead.remains.program })
+  near_there : EndsIn m.settles.outcome.turns limit m.settles.plays.last m.settles.outcome.want m.after.store → IsNear (job_of h before.center.state) start m.after
+  near_there (inl e) = inl (same_region limit h j turns x y picks m e)
+  near_there (inr (few, nothing, ahead)) = inr (
+    job.Go,
+    picked_job (is_some (before.center.out h)) (job_of h before.center.state) job.Go (goes_there limit h j turns x y picks m nothing),
+    record { store = ahead; same = m.settles.plays.same; program = ahead.remains.program },
+  )
 
   further_there : IsFurther h before y
   further_there = record {
+    most = m.most;
     state = ap (λ (d : Center). d.state) (center_there limit h j turns x y picks m);
     none_out = λ k none. ap (λ (d : Center). d.out k) (center_there limit h j turns x y picks m) ∙ none;
     start = start;
     after = m.after;
     stands = set_same x.regions h m.before start m.stands;
-    near = near_there (played limit h j turns x y picks m).turns (played limit h j turns x y picks m).want m.settles.plays.ends;
+    near = near_there m.settles.plays.ends;
     regions = m.regions ∙ sym (set_again x.regions h start m.after);
   }
 

@@ -1,6 +1,6 @@
 -- What is said of each world that turns lead to, from the opening of the program of an accepted system on.
 use Rattle.std.specs.List.{range_with_len}
-use Rattle.std.specs.Prelude.{◌≡◌, ◌⊎◌, ◌≤◌, ◌+◌, ℕ, suc, Bool, true, false, List, Option, Some, None, Contains, length, map, take}
+use Rattle.std.specs.Prelude.{◌≡◌, ◌⊎◌, ◌≤◌, ◌+◌, ◌++◌, ℕ, suc, Bool, true, false, List, [], ◌∷◌, Option, Some, None, Contains, drop, length, map, slice_get, take}
 use Rattle.sc_tree.specs.Plain.{System}
 use Rattle.sc_proctype.specs.declared.entity_type.EntityType.{EntityType}
 use Rattle.sc_proctype.specs.declared.tag.Reserved.{Reserved}
@@ -32,11 +32,12 @@ use Rattle.sc_machine_values.specs.Values.{WhereAccepted}
 use Rattle.sc_machine_preconditions.specs.Starting.{StartsWhereTheyHold}
 use Rattle.sc_world.specs.Reports.{report, statuses}
 use Rattle.sc_world.specs.Rounds.{EndsRounds, Rounds, StopsRounds}
-use Rattle.sc_world.specs.Turning.{IsRefusedTurn, Runs, StopsBehind}
+use Rattle.sc_play.specs.Regions.{PlainRegion}
+use Rattle.sc_world.specs.Turning.{Attempt, Attempts, IsRefusedTurn, IsTurn, Runs, StopsBehind, made_by}
 use Rattle.sc_world.specs.Worlds.{PlainWorld, opened}
 use Rattle.sc_refines_world.specs.Belonging.{FramesRunOnOwn, NoTurnIsExcluded, ObjectsAreOfClasses, ReferencesLead, RequestsStandAtTargets}
 use Rattle.sc_refines_world.specs.Moving.{TurnsMoveRequests, WaitersHaveRequests}
-use Rattle.sc_refines_world.specs.Standing.{StandsFor, StandsNear}
+use Rattle.sc_refines_world.specs.Standing.{IsRegionFor, StandsFor, StandsNear}
 
 -- ---- the state that a world stands for
 
@@ -119,6 +120,39 @@ abbrev pub WorldReportsAsMachine : Type 0
 WorldReportsAsMachine =
     (s : System) (p : Image) (w : World) (x : PlainWorld) → StandsNear s p w x →
     (report x ≡ machine.report w) × (statuses x ≡ map (λ h. machine.status_of h w) (range_with_len 0 w.count))
+
+-- ---- turns that were made or refused
+
+-- Any turns of which some were made, and memory was refused to the others, lead a program's world near the state to which those
+-- that were made lead the machine.
+abbrev pub AttemptsRunAsMachine : Type 0
+AttemptsRunAsMachine = WhereAccepted λ s root.
+    (p : Image) (v : Version) (ts : List Attempt) (y : PlainWorld) → IsProgramOf s root p → FitsRequests p →
+    Attempts ts (opened p v) y → StandsNear s p (run (most_handlers v) s (made_by ts) (opening s root)) y
+
+-- So each world that they lead to is near a state that is reached, of which the headline holds.
+abbrev pub AttemptsHaveHeadline : Type 0
+AttemptsHaveHeadline = WhereAccepted λ s root.
+    (p : Image) (v : Version) (ts : List Attempt) (y : PlainWorld) → IsProgramOf s root p → FitsRequests p →
+    Attempts ts (opened p v) y →
+    (w : World) × IsReached (most_handlers v) s root w × StandsNear s p w y × HasHeadline (most_handlers v) s w
+
+-- A handler that makes a turn behind them stands exactly again, whatever was refused to it before.
+abbrev pub TurnsStandExactly : Type 0
+TurnsStandExactly = WhereAccepted λ s root.
+    (p : Image) (v : Version) (ts : List Attempt) (h : ℕ) (j : Job) (x y : PlainWorld) → IsProgramOf s root p →
+    FitsRequests p → Attempts ts (opened p v) x → pick_for h x.center ≡ Some j → IsTurn h x y →
+    (r : PlainRegion) × (slice_get y.regions h ≡ Some r)
+    × IsRegionFor s p h ((run (most_handlers v) s (made_by ts ++ h ∷ []) (opening s root)).handlers h)
+    (y.center.state.handlers h).stage r
+
+-- Where memory was refused behind so many turns of a list, and the rest of the list follows then, the world is near the state to
+-- which the whole list leads the machine.
+abbrev pub RestRunsAsMachine : Type 0
+RestRunsAsMachine = WhereAccepted λ s root.
+    (p : Image) (v : Version) (ts : List Attempt) (n : ℕ) (hs : List ℕ) (x y z : PlainWorld) → IsProgramOf s root p →
+    FitsRequests p → Attempts ts (opened p v) x → StopsBehind n hs x y → Runs (drop n hs) y z →
+    StandsNear s p (run (most_handlers v) s (made_by ts ++ hs) (opening s root)) z
 
 -- ---- turns round and round
 

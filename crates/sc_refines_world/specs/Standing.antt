@@ -1,5 +1,5 @@
 -- For which state of the machine a world that runs stands.
-use Rattle.std.specs.Prelude.{◌≡◌, ◌⊎◌, ◌<◌, ◌≤◌, ℕ, false, List, None, Some, slice_get}
+use Rattle.std.specs.Prelude.{◌≡◌, ◌⊎◌, ◌<◌, ◌≤◌, ℕ, false, List, None, Option, Some, slice_get}
 use Rattle.sc_tree.specs.Plain.{System}
 use Rattle.sc_model.specs.Handlers as machine
 use Rattle.sc_code.specs.declared.program.Image.{Image}
@@ -7,6 +7,7 @@ use Rattle.sc_code.specs.Programs.{pool_of}
 use Rattle.sc_region.specs.declared.job.Job.{Job}
 use Rattle.sc_request.specs.Handlers as core
 use Rattle.sc_request.specs.Halves.{IsHalfOf}
+use Rattle.sc_request.specs.Picking.{job_of}
 use Rattle.sc_region_turns.specs.RegionHalves.{IsRegionOf, IsRegionHalf}
 use Rattle.sc_region_turns.specs.RegionSteps.{numbering_by}
 use Rattle.sc_region_turns.specs.RegionTurns.{Half}
@@ -40,15 +41,16 @@ pub record StandsFor (s : System) (p : Image) (w : machine.World) (x : PlainWorl
 
 -- ---- where memory was refused
 
--- The region is the first one, or memory was refused to the first turn of that under a job.
-abbrev pub IsNear : PlainRegion → PlainRegion → Type 0
-IsNear x y = (y ≡ x) ⊎ ((j : Job) × IsRefused j x y)
+-- The region is the first one, or memory was refused to the first turn of that under the job that its handler has.
+abbrev pub IsNear : Option Job → PlainRegion → PlainRegion → Type 0
+IsNear due x y = (y ≡ x) ⊎ ((j : Job) × (due ≡ Some j) × IsRefused j x y)
 
--- The world stands for the state, but that memory may have been refused to turns of its regions.
+-- The world stands for the state, but that memory may have been refused to turns that its handlers are to make next.
 pub record StandsNear (s : System) (p : Image) (w : machine.World) (x : PlainWorld) : Type 0 where
   pub core : IsHalfOf (numbering_by (names_in p)) w x.center.state
   pub none_out : (h : ℕ) → x.center.out h ≡ None
   pub regions : (h : ℕ) → h < w.count →
       (r : PlainRegion) × (slice_get x.regions h ≡ Some r)
-      × ((start : PlainRegion) × IsNear start r
+      × ((start : PlainRegion) × IsNear (job_of h x.center.state) start r
       × IsRegionFor s p h (w.handlers h) (x.center.state.handlers h).stage start)
+  pub others : (h : ℕ) (r : PlainRegion) → w.count ≤ h → slice_get x.regions h ≡ Some r → r ≡ new_region p h

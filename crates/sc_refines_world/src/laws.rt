@@ -1,6 +1,7 @@
 //! Laws of the world that runs beside the machine, each the contract of a function that does nothing.
 ghost use Rattle.sc_refines_world.specs.Anew.{AnewRunsAsMachine};
 ghost use Rattle.sc_refines_world.specs.Refining.{HandlersComeAgain, IdleWorldIsIdle, MachineHasHeadline, RefusedTurnStaysNear, RoundsAreTurns, RoundsRunAsMachine, StandingWorldIsNear};
+ghost use Rattle.sc_refines_world.specs.Refining.{AttemptsHaveHeadline, AttemptsRunAsMachine, RestRunsAsMachine, TurnsStandExactly};
 ghost use Rattle.sc_refines_world.specs.Refining.{StoppedRoundsStayNear, StoppedWorldStaysNear, WorldHasHeadline, WorldReportsAsMachine, WorldRunsAsMachine};
 
 use sc_machine_invariants::laws::settled_objects_meet;
@@ -100,6 +101,37 @@ pub fn idle_world_is_idle()
     ensures { IdleWorldIsIdle }
 {
     core_picks_where_the_machine_turns();
+}
+
+/// Any turns, of which some were made and others were refused memory, lead a program's world near the state to which those that
+/// were made lead the machine.
+pub fn attempts_run_as_machine()
+    ensures { AttemptsRunAsMachine }
+{
+    world_runs_as_machine();
+}
+
+/// So each world that they lead to is near a state that the machine reaches, of which the headline holds.
+pub fn attempts_have_headline()
+    ensures { AttemptsHaveHeadline }
+{
+    attempts_run_as_machine();
+    machine_has_headline();
+}
+
+/// A handler that makes a turn behind them stands exactly again.
+pub fn turns_stand_exactly()
+    ensures { TurnsStandExactly }
+{
+    world_runs_as_machine();
+}
+
+/// Where memory was refused behind so many turns of a list, the rest of the list leads near the state to which the whole list
+/// leads the machine.
+pub fn rest_runs_as_machine()
+    ensures { RestRunsAsMachine }
+{
+    world_runs_as_machine();
 }
 
 /// Turns round and round, of which several may be made at once, are turns of handlers, one after the other.
