@@ -3,3 +3,4 @@ mod Threaded
 mod Exactness
 mod Searching
 mod Stuck
+mod Everywhere

@@ -3,3 +3,4 @@ pub mod ThreadsHeadline
 pub mod Audited
 pub mod Exactly
 pub mod Searched
+pub mod Everywhere

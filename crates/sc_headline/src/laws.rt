@@ -1,17 +1,21 @@
 //! Laws of worlds and replays, from the bytes of a source text on, each the contract of a function that does nothing.
 ghost use Rattle.sc_headline.specs.Audited.{AuditedWorldsHaveHeadline};
+ghost use Rattle.sc_headline.specs.Everywhere.{HasHeadlineAnyhow};
 ghost use Rattle.sc_headline.specs.Exactly.{AuditsAreExact, OneWorld, RunsAreAnsweredYes};
 ghost use Rattle.sc_headline.specs.Headline.{Headline, MachineHeadline, ReplaysAreTheMachines, RunsAreTheMachines};
 ghost use Rattle.sc_headline.specs.Searched.{FoundOrdersAreTheMachines, StuckHaveNoTurn, WholeSearchesFindAll};
 ghost use Rattle.sc_headline.specs.ThreadsHeadline.{ThreadsHaveHeadline, ThreadsReportAsMachine};
+ghost use Rattle.sc_world.specs.Views.{world_of};
 
 use sc_auditing::laws::{misfits_are_no_record, one_misfit, runs_audit_yes};
 use sc_plant::laws::runs_are_one_threads;
 use sc_refines_world::laws::{
-    anew_runs_as_machine, idle_world_is_idle, machine_has_headline, standing_world_is_near,
-    world_has_headline, world_reports_as_machine, world_runs_as_machine,
+    anew_runs_as_machine, attempts_have_headline, idle_world_is_idle, machine_has_headline,
+    standing_world_is_near, world_has_headline, world_reports_as_machine, world_runs_as_machine,
 };
 use sc_refines_world::once::runs_are_functional;
+use sc_world::World;
+use sc_world::laws::{attempts_stay_of_their_program, openings_are_of_their_program};
 
 /// For every source text that is accepted, and whatever handlers make turns, in every order, of the state that the machine on
 /// trees reaches: requests are posted under a right, and taken once and in order; the handlers of formals and of open separate
@@ -29,6 +33,18 @@ pub fn headline()
     ensures { Headline }
 {
     world_has_headline();
+}
+
+/// For every source text that is accepted, it is so of any world of the text's program that there is, whatever turns were made and
+/// whatever turns were refused memory: the world is near a state that the machine on trees reaches, and of that state the
+/// headline holds.
+pub fn every_world_has_headline(world: &World<'_>)
+    ensures { HasHeadlineAnyhow (world_of world.now) }
+{
+    attempts_have_headline();
+    openings_are_of_their_program();
+    attempts_stay_of_their_program();
+    let _world = world;
 }
 
 /// What a replay of a record leaves is what the machine on trees reports after the turns of the record's lines.
