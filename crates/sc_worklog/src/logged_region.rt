@@ -53,6 +53,20 @@ impl<'p> LoggedRegion<'p> {
         }
     }
 
+    /// The region of the handler of a number, with a log that replays to it.
+    pub fn with_log(region: Region<'p>, handler: u16, log: Log) -> LoggedRegion<'p>
+        requires number { region.handler ≡ handler }
+        requires replays { ∥ Replays region.store.program region.handler (settlements_of log) region ∥₁ }
+        ensures region { region_of result ≡ region.entry }
+        ensures entries { entries_of result ≡ settlements_of log }
+    {
+        LoggedRegion {
+            region,
+            handler,
+            log,
+        }
+    }
+
     /// The first turn is that of the job; further ones follow as long as nothing is asked and fewer than `limit` are made.
     /// Where memory is refused to one of these, they end before it. The log has one more entry then, that of the job and of
     /// its outcome.
