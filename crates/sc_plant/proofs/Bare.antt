@@ -1,9 +1,9 @@
 -- What workers leave, without the logs of its regions.
 use Rattle.std.proofs.Common.{◌≡◌, ◌++◌, ℕ, zero, suc, List, [], ◌∷◌, Option, None, Some, All, map, reverse, slice_get, refl, sym, ap, subst, ◌∙◌, append_assoc}
-use Rattle.std.proofs.Math.Logic.{∥∥₁_map}
 use Rattle.std.proofs.lemmas.List.{reverse-append}
 use Rattle.std.proofs.lemmas.List.Elements.{All-head, All-map, All-tail, All-weaker}
 use Rattle.sc_lockpass.specs.declared.version.Version.{Version}
+use Rattle.sc_lockpass.specs.declared.version.Version.TheVariants.{Two}
 use Rattle.sc_audit.specs.declared.line.RecordLine.{RecordLine}
 use Rattle.sc_code.specs.declared.program.Image.{Image}
 use Rattle.sc_request.specs.declared.center.Core as coded
@@ -15,7 +15,8 @@ use Rattle.sc_worklog.specs.LoggedRegions.{entries_of, region_of}
 use Rattle.sc_worklog.specs.Replaying.{AreMade, Replays}
 use Rattle.sc_plant.specs.declared.left.Left.{Left}
 use Rattle.sc_plant.specs.declared.left.LoggedLeft.{LoggedLeft}
-use Rattle.sc_plant.specs.Left.{AgreesAt, AreMadeBy, AreReplayed, IsLeft, IsLeftLogged, IsLeftWith, IsOver, IsRun, IsStopped}
+use Rattle.sc_plant.specs.Alone.{AreOwn, IsOnWay, IsOwn}
+use Rattle.sc_plant.specs.Left.{AgreesAt, AreReplayed, IsLeft, IsLeftLogged, IsLeftWith, IsStopped}
 use Rattle.sc_plant.specs.Recorded.{settlements_for}
 use Rattle.sc_plant.specs.Regions.{Agrees, AgreesIn, IsMadeByLog}
 
@@ -49,13 +50,6 @@ program_at : (p : Image) (rs : List LoggedRegion) (h : ℕ) (x : PlainRegion) (r
 program_at p rs h x r programs e same =
     ap (λ (y : PlainRegion). y.store.program) same ∙ all_at (λ (y : PlainRegion). y.store.program ≡ p) (map region_of rs) h x programs e
 
-made_at : (p : Image) (es : List Settlement) (n : ℕ) (r : LoggedRegion) → (region_of r).store.program ≡ p → Agrees n es r → IsMadeByLog r →
-    AreMade (settlements_for n es) (new_region p n) (region_of r)
-made_at p es n r program agrees made =
-    subst (λ (fs : List Settlement). AreMade fs (new_region p n) (region_of r)) agrees.1
-    (subst (λ (k : ℕ). AreMade (entries_of r) (new_region p k) (region_of r)) agrees.0
-    (subst (λ (q : Image). AreMade (entries_of r) (new_region q (region_of r).handler) (region_of r)) program made))
-
 replayed_at : (p : Image) (es : List Settlement) (n : ℕ) (r : LoggedRegion) → (region_of r).store.program ≡ p → Agrees n es r →
     ∥ Replays p n (settlements_for n es) (region_of r) ∥₁
 replayed_at p es n r program agrees =
@@ -65,15 +59,6 @@ replayed_at p es n r program agrees =
 
 -- ---- all of them
 
-made_by : (p : Image) (es : List Settlement) (rs : List LoggedRegion) → Programs p (map region_of rs) → ((h : ℕ) → AgreesIn rs es h) →
-    All (λ (r : LoggedRegion). ∥ IsMadeByLog r ∥₁) rs → AreMadeBy p es (map region_of rs)
-made_by p es rs programs agree made h x e =
-    let at = mapped_at region_of rs h x e in
-    let r = at.0 in
-    subst (λ (y : PlainRegion). ∥ AreMade (settlements_for h es) (new_region p h) y ∥₁) at.2
-    (∥∥₁_map (all_at (λ (r : LoggedRegion). ∥ IsMadeByLog r ∥₁) rs h r made at.1)
-    (λ (is : IsMadeByLog r). made_at p es h r (program_at p rs h x r programs e at.2) (agree h r at.1) is))
-
 replayed_by : (p : Image) (es : List Settlement) (rs : List LoggedRegion) → Programs p (map region_of rs) → ((h : ℕ) → AgreesIn rs es h) →
     AreReplayed p es (map region_of rs)
 replayed_by p es rs programs agree h x e =
@@ -81,6 +66,19 @@ replayed_by p es rs programs agree h x e =
     let r = at.0 in
     subst (λ (y : PlainRegion). ∥ Replays p h (settlements_for h es) y ∥₁) at.2
     (replayed_at p es h r (program_at p rs h x r programs e at.2) (agree h r at.1))
+
+own_by : (p : Image) (es : List Settlement) (rs : List LoggedRegion) → Programs p (map region_of rs) → ((h : ℕ) → AgreesIn rs es h) →
+    All (λ (r : LoggedRegion). ∥ IsMadeByLog r ∥₁) rs → AreOwn p es (map region_of rs)
+own_by p es rs programs agree made h x e =
+    let at = mapped_at region_of rs h x e in
+    let r = at.0 in
+    let agrees = agree h r at.1 in
+    subst (IsOwn p es h) at.2 (record {
+      handler = agrees.0;
+      program = program_at p rs h x r programs e at.2;
+      made = subst (λ (fs : List Settlement). ∥ AreMade fs (new_region (region_of r).store.program (region_of r).handler) (region_of r) ∥₁) agrees.1
+          (all_at (λ (r : LoggedRegion). ∥ IsMadeByLog r ∥₁) rs h r made at.1);
+    })
 
 -- ---- what is left
 
@@ -93,13 +91,18 @@ module _ (p : Image) (a : LoggedLeft) (b : Left) (version : b.version ≡ a.vers
       (subst (λ (c : coded.Core). IsLeftWith p a.version (map region_of a.regions.items) c b.lines.items) (sym core)
       (subst (λ (ls : List RecordLine). IsLeftWith p a.version (map region_of a.regions.items) a.core ls) (sym lines) is)))
 
-  pub bare_run : (limit : ℕ) → IsOver limit (center_of a.core) a.lines.items → All (λ (r : LoggedRegion). ∥ IsMadeByLog r ∥₁) a.regions.items → IsRun p limit b
-  bare_run limit over made = record {
-    left_is = bare_left;
-    over = subst (λ (c : coded.Core). IsOver limit (center_of c) b.lines.items) (sym core)
-        (subst (λ (ls : List RecordLine). IsOver limit (center_of a.core) ls) (sym lines) over);
-    made = subst (λ (c : coded.Core). AreMadeBy p (log_of c) b.regions.items) (sym core)
-        (subst (AreMadeBy p (log_of a.core)) (sym regions) (made_by p (log_of a.core) a.regions.items is.programs agree made));
+  pub bare_way : a.core.state.rights.version ≡ Two → ((h : ℕ) → (center_of a.core).out h ≡ None) →
+      All (λ (r : LoggedRegion). ∥ IsMadeByLog r ∥₁) a.regions.items → IsOnWay p b
+  bare_way rights home made = record {
+    version = bare_left.version;
+    rights = subst (λ (c : coded.Core). c.state.rights.version ≡ Two) (sym core) rights;
+    count = bare_left.count;
+    plays = bare_left.plays;
+    below = bare_left.below;
+    lines = bare_left.lines;
+    home = subst (λ (c : coded.Core). (h : ℕ) → (center_of c).out h ≡ None) (sym core) home;
+    regions = subst (λ (c : coded.Core). AreOwn p (log_of c) b.regions.items) (sym core)
+        (subst (AreOwn p (log_of a.core)) (sym regions) (own_by p (log_of a.core) a.regions.items is.programs agree made));
   }
 
   pub bare_stopped : ((h : ℕ) → (center_of a.core).out h ≡ None) → IsStopped p b
@@ -115,9 +118,6 @@ module _ (p : Image) (a : LoggedLeft) (b : Left) (version : b.version ≡ a.vers
 abbrev pub Bared : List LoggedRegion → List PlainRegion → List LoggedRegion → Type 0
 Bared rest xs all = xs ++ map region_of (reverse rest) ≡ map region_of all
 
-pub bare_none : (rs ss : List LoggedRegion) (xs : List PlainRegion) → xs ≡ [] → reverse ss ≡ rs → Bared ss xs rs
-bare_none rs ss xs none back = ap (λ (ys : List PlainRegion). ys ++ map region_of (reverse ss)) none ∙ ap (map region_of) back
-
 pub bare_more : (all rest more : List LoggedRegion) (r : LoggedRegion) (xs ys : List PlainRegion) (x : PlainRegion) → Bared more xs all →
     more ≡ rest ++ r ∷ [] → x ≡ region_of r → ys ≡ xs ++ x ∷ [] → Bared rest ys all
 bare_more all rest more r xs ys x before last is one =
@@ -125,11 +125,3 @@ bare_more all rest more r xs ys x before last is one =
     ∙ append_assoc xs (region_of r ∷ []) (map region_of (reverse rest))
     ∙ ap (λ (ss : List LoggedRegion). xs ++ map region_of ss) (sym (ap reverse last ∙ reverse-append rest (r ∷ [])))
     ∙ before
-
-pub bare_all : (all : List LoggedRegion) (xs : List PlainRegion) (rest : List LoggedRegion) → rest ≡ [] → Bared rest xs all → xs ≡ map region_of all
-bare_all all xs rest none before =
-    sym (nothing xs) ∙ ap (λ (ss : List LoggedRegion). xs ++ map region_of (reverse ss)) (sym none) ∙ before
-  where
-    nothing : (ys : List PlainRegion) → ys ++ [] ≡ ys
-    nothing [] = refl
-    nothing (y ∷ ys) = ap (λ (zs : List PlainRegion). y ∷ zs) (nothing ys)

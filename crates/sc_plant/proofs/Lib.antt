@@ -8,6 +8,7 @@ mod Openings
 mod PuttingBack
 mod Recording
 mod Reporting
+mod Locking
 mod Slots
 pub mod Stopping
 mod Threaded

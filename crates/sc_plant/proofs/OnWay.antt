@@ -1,5 +1,5 @@
 -- How a run on one thread goes on.
-use Rattle.std.proofs.Common.{◌≡◌, ◌⊎◌, ◌<◌, ◌++◌, ◌∷◌, [], inl, inr, ℕ, zero, suc, List, None, Some, All, Result, Ok, Err, OnErr, is_err, length, slice_get, slice_set, true, refl, sym, ap, subst, ◌∙◌}
+use Rattle.std.proofs.Common.{◌≡◌, ◌⊎◌, ◌<◌, ◌++◌, ◌∷◌, [], inl, inr, ℕ, zero, suc, List, None, Some, All, Result, Ok, Err, OnErr, IfOk, is_err, Bool, false, length, slice_get, slice_set, true, refl, sym, ap, subst, ◌∙◌}
 use Rattle.std.proofs.Math.Logic.{∥∥₁_map}
 use Rattle.std.proofs.lemmas.Bool.{cases_eq}
 use Rattle.std.proofs.lemmas.List.Elements.{All-cons, All-nil}
@@ -51,7 +51,7 @@ set_length (z ∷ xs) zero y = refl
 set_length (z ∷ xs) (suc h) y = ap suc (set_length xs h y)
 
 -- what holds of the one that is written, and of the others, holds of each
-set_each : {A : Type 0} (P : ℕ → A → Type 0) (xs : List A) (h : ℕ) (x y : A) → slice_get xs h ≡ Some x → P h y →
+pub set_each : {A : Type 0} (P : ℕ → A → Type 0) (xs : List A) (h : ℕ) (x y : A) → slice_get xs h ≡ Some x → P h y →
     ((k : ℕ) (z : A) → (k ≡ h → ⊥) → slice_get xs k ≡ Some z → P k z) → (k : ℕ) (z : A) → slice_get (slice_set xs h y) k ≡ Some z → P k z
 set_each P xs h x y at own others k z e = elim (cases_eq k h) [
   | inl same ↦
@@ -256,7 +256,7 @@ module _ (p : Image) (x y : Left) (h turns limit : ℕ) (w : Want) (r s : PlainR
 
 -- ---- new regions
 
-get_past : {A : Type 0} (xs : List A) (x y : A) (k : ℕ) → slice_get (xs ++ x ∷ []) k ≡ Some y → (slice_get xs k ≡ Some y) ⊎ ((k ≡ length xs) × (x ≡ y))
+pub get_past : {A : Type 0} (xs : List A) (x y : A) (k : ℕ) → slice_get (xs ++ x ∷ []) k ≡ Some y → (slice_get xs k ≡ Some y) ⊎ ((k ≡ length xs) × (x ≡ y))
 get_past [] x y zero e = inr (refl, some_is x y e)
 get_past [] x y (suc k) e = cc
 get_past (z ∷ xs) x y zero e = inl e
@@ -291,3 +291,8 @@ new_own p es rs none new h r e =
 pub err_holds : {T E : Type 0} (r : Result T E) (P : Type 0) → is_err r ≡ true → OnErr r P → P
 err_holds (Ok t) P e p = absurd (cc)
 err_holds (Err d) P e p = p
+
+-- what is so where it says yes, as it does
+pub over_holds : {E : Type 0} (r : Result Bool E) (P : Type 0) → is_err r ≡ false → IfOk r (λ b. b ≡ true) → IfOk r (λ b. b ≡ true → P) → P
+over_holds (Ok b) P e is p = p is
+over_holds (Err d) P e is p = absurd (cc)

@@ -9,12 +9,14 @@ ghost use Rattle.sc_region.specs.declared.job.Job.{Job};
 ghost use Rattle.sc_region.specs.declared.job.Want.TheVariants as want;
 ghost use Rattle.sc_request.specs.Cores.{center_of};
 ghost use Rattle.sc_request.specs.Rooms.{HasRoomFor};
+ghost use Rattle.sc_plant.specs.declared.alone.Until.TheVariants.{Over};
 ghost use Rattle.sc_plant.specs.Alone.{AreNew, IsBack, IsOnWay, IsPlayed};
 ghost use Rattle.sc_plant.specs.Left.{IsOver, IsRun, IsStopped, SaysWhy, TellsLeft};
 
 use crate::due::settle_out;
-use crate::ending::is_idle_or_full;
+use crate::ending::{is_idle_or_full, turns_left};
 use crate::gate::Gate;
+use crate::granularity::Granularity;
 use crate::left::{Left, RunFault};
 use crate::opening::{MAX_HANDLERS, open_core};
 use crate::scheduler::{MOST_LINES, MOST_TURNS};
@@ -61,14 +63,14 @@ fn play_opened<'p, R: Wait, G: Gate>(
     ensures err { (p : Image) → IsOnWay p left.entry → IfErr result (SaysWhy p) }
     ensures left { IfErr result TellsLeft }
 {
-    if play_all(rt, &mut left, limit, gate).is_err() {
+    if play_all(rt, &mut left, Until::Over, limit, gate).is_err() {
         return Err(RunFault::OutOfMemory(Some(left)));
     }
     Ok(left)
 }
 
 /// What is there before the first turn.
-fn open_left<'p>(alloc: Global, program: &'p Program) -> Result<Left<'p>, AllocError>
+pub fn open_left<'p>(alloc: Global, program: &'p Program) -> Result<Left<'p>, AllocError>
     ensures { IfOk result (IsOnWay program.now.image) }
 {
     let regions = open_regions(alloc, program)?;
@@ -93,32 +95,57 @@ fn open_regions<'p>(alloc: Global, program: &'p Program) -> Result<Vec<Region<'p
     Ok(regions)
 }
 
-/// Plays the handlers until the run is over. Err where memory is refused.
-fn play_all<R: Wait, G: Gate>(
+/// How far one thread plays.
+#[derive(Clone, Copy)]
+pub enum Until {
+    /// Until the run is over.
+    Over,
+    /// Until that, or until several workers would play it faster.
+    CoarseGrained,
+}
+
+/// Plays the handlers so far: whether the run is over. Err where memory is refused.
+pub fn play_all<R: Wait, G: Gate>(
     rt: &R,
     left: &mut Left<'_>,
+    until: Until,
     limit: u32,
     gate: &G,
-) -> Result<(), AllocError>
+) -> Result<bool, AllocError>
     requires count { length left.old.regions.items ≡ 512 }
     requires version { left.old.core.state.rights.version ≡ Two }
     ensures on { OnOk result ((p : Image) → IsOnWay p left.old → IsOnWay p left.new) }
-    ensures over { OnOk result (IsOver limit (center_of left.new.core) left.new.lines.items) }
+    ensures over { IfOk result (λ is_over. is_over ≡ true → IsOver limit (center_of left.new.core) left.new.lines.items) }
+    ensures whole { until ≡ Over → IfOk result (λ is_over. is_over ≡ true) }
     ensures err { OnErr result ((p : Image) → IsOnWay p left.old → IsStopped p left.new) }
 {
     let mut asked = Want::Continue;
-    let mut turns = limit;
+    let mut turns = turns_left(left.lines.as_slice(), limit);
+    let mut granularity = Granularity::new();
     for _ in rt.forever() {
         let made = play_next(left, turns.min(MOST_TURNS), &mut asked, gate)?;
         turns = turns.saturating_sub(made);
-        if made > 0 {
+        if made == 0 {
+            if is_over(left, limit) {
+                return Ok(true);
+            }
             continue;
         }
-        if is_over(left, limit) {
-            return Ok(());
+        if matches!(until, Until::CoarseGrained)
+            && is_coarse(&mut granularity, left.lines.as_slice())
+        {
+            return Ok(false);
         }
     }
     unreachable!()
+}
+
+/// Counts the last task: whether several workers would play such tasks faster.
+fn is_coarse(granularity: &mut Granularity, lines: &[RecordLine]) -> bool {
+    if let Some(line) = lines.last() {
+        granularity.note(*line);
+    }
+    granularity.is_coarse()
 }
 
 /// Whether the run is over.

@@ -52,6 +52,11 @@ pub fn is_idle_or_full(core: &mut Core, lines: &[RecordLine], limit: u32) -> boo
     false
 }
 
+/// How many turns may still be made behind the lines of a record.
+pub fn turns_left(lines: &[RecordLine], limit: u32) -> u32 {
+    limit.saturating_sub(turns_in(lines).unwrap_or(limit))
+}
+
 /// How many turns there are in the lines of a record, where that is below 2^32.
 fn turns_in(lines: &[RecordLine]) -> Option<u32>
     ensures { IfSome result (λ n. n ≡ turns_in lines.now) }

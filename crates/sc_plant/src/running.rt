@@ -1,24 +1,22 @@
 //! Runs of a program on several threads.
-ghost use Rattle.std.specs.Prelude.{◌≡◌, ◌≤◌, ℕ, [], IfErr, IfOk, IsTrue, None, Some, vec_capacity, vec_len};
+ghost use Rattle.std.specs.Prelude.{◌≡◌, ℕ, IfErr, IfOk, IsTrue, None, Some, true};
 ghost use Rattle.sc_code.specs.declared.program.Image.{Image};
 ghost use Rattle.sc_request.specs.Cores.{center_of};
 ghost use Rattle.sc_plant.specs.Left.{IsOver, IsRun, SaysWhy, TellsLeft};
+ghost use Rattle.sc_plant.specs.Sharing.{IsOnWayIn};
 
-use crate::alone::run_alone;
-use crate::ending::is_over;
+use crate::alone::{Until, open_left, play_all, run_alone};
+use crate::ending::{is_over, turns_left};
 use crate::gate::Gate;
 use crate::leaving::{difference, left_of, without_logs};
 use crate::left::{Left, RunFault};
 use crate::of_program::OfProgram;
-use crate::opening::{MAX_HANDLERS, open_core, open_recorded, open_slots};
 use crate::recorded_core::RecordedCore;
 use crate::scheduler::{Scheduler, Stop};
+use crate::sharing::{Shared, share};
 use crate::slot::Slot;
 use crate::workers::start_and_join;
 use sc_code::Program;
-use sc_lockpass::Version;
-use sc_play::Region;
-use sc_worklog::LoggedRegion;
 use std::alloc::Global;
 use std::marker::Brand;
 use std::sync::{Mutex, Wait};
@@ -63,57 +61,70 @@ fn run_open<'p, P: OfProgram + Send + Sync, R: Threads + Wait + Sync, G: Gate>(
     ensures ok { IfOk result (IsRun program.now.image limit) }
     ensures err { IfErr result (SaysWhy program.now.image) }
 {
-    let Ok(slots) = open_slots::<P>(alloc, program) else {
+    let Ok(left) = open_left(alloc, program) else {
         return Err(RunFault::OutOfMemory(None));
     };
-    let Ok(room) = Vec::with_capacity(alloc, MAX_HANDLERS as usize) else {
-        return Err(RunFault::OutOfMemory(None));
-    };
-    let Ok(room_for_bare) = Vec::with_capacity(alloc, MAX_HANDLERS as usize) else {
-        return Err(RunFault::OutOfMemory(None));
-    };
-    let Ok(core) = open_core(alloc, program, Version::Two) else {
-        return Err(RunFault::OutOfMemory(None));
-    };
-    let scheduler = Scheduler {
-        recorded: open_recorded::<P>(alloc, program, core),
-        turns: limit,
-        asleep: 0,
-        short: 0,
-        stop: None,
-    };
-    let rooms = Rooms {
-        logged: room,
-        bare: room_for_bare,
-    };
-    run_opened(rt, scheduler, slots, rooms, workers, limit, gate)
+    play_in_turns::<P, R, G>(rt, alloc, left, workers, limit, gate)
 }
 
-/// Room for the regions that are left, with their logs and without.
-struct Rooms<'p> {
-    logged: Vec<LoggedRegion<'p>>,
-    bare: Vec<Region<'p>>,
-}
-
-/// A run that has opened.
-fn run_opened<'p, P: OfProgram + Send + Sync, R: Threads + Wait + Sync, G: Gate>(
+/// Plays a run that has opened, by several workers as long as that is faster, and in turns with that by one.
+fn play_in_turns<'p, P: OfProgram + Send + Sync, R: Threads + Wait + Sync, G: Gate>(
     rt: &R,
-    scheduler: Scheduler<P>,
-    slots: Vec<Mutex<Slot<'p, P>>>,
-    rooms: Rooms<'p>,
+    alloc: Global,
+    mut left: Left<'p>,
     workers: u8,
     limit: u32,
     gate: &G,
 ) -> Result<Left<'p>, RunFault<'p>>
-    requires count { vec_len slots ≡ 512 }
-    requires logged { (512 ≤ vec_capacity rooms.logged) × (rooms.logged.items ≡ []) }
-    requires bare { (512 ≤ vec_capacity rooms.bare) × (rooms.bare.items ≡ []) }
+    requires { IsOnWayIn P.image left }
     ensures ok { (p : Image) → P.image ≡ Some p → IfOk result (IsRun p limit) }
     ensures err { (p : Image) → P.image ≡ Some p → IfErr result (SaysWhy p) }
     ensures left { IfErr result TellsLeft }
 {
+    for _ in rt.forever() {
+        let (next, is_over) = play_shared::<P, R, G>(rt, alloc, left, workers, limit, gate)?;
+        left = next;
+        if is_over {
+            return Ok(left);
+        }
+        let Ok(is_over) = play_all(rt, &mut left, Until::CoarseGrained, limit, gate) else {
+            return Err(RunFault::OutOfMemory(Some(left)));
+        };
+        if is_over {
+            return Ok(left);
+        }
+    }
+    unreachable!()
+}
+
+/// Plays by several workers: what they leave, and whether the run is over.
+fn play_shared<'p, P: OfProgram + Send + Sync, R: Threads + Wait + Sync, G: Gate>(
+    rt: &R,
+    alloc: Global,
+    left: Left<'p>,
+    workers: u8,
+    limit: u32,
+    gate: &G,
+) -> Result<(Left<'p>, bool), RunFault<'p>>
+    requires { IsOnWayIn P.image left }
+    ensures on { IfOk result (λ r. IsOnWayIn P.image r.0) }
+    ensures over { IfOk result (λ r. r.1 ≡ true → IsOver limit (center_of r.0.core) r.0.lines.items) }
+    ensures err { (p : Image) → P.image ≡ Some p → IfErr result (SaysWhy p) }
+    ensures left { IfErr result TellsLeft }
+{
+    let shared = match share::<P>(alloc, left) {
+        Ok(shared) => shared,
+        Err(left) => return Err(RunFault::OutOfMemory(Some(left))),
+    };
+    let Shared {
+        recorded,
+        slots,
+        logged,
+        bare,
+    } = shared;
+    let turns = turns_left(recorded.lines.as_slice(), limit);
+    let scheduler = Scheduler::new(recorded, turns);
     let (recorded, stop) = rounds(rt, scheduler, &slots, workers, limit, gate);
-    let Rooms { logged, bare } = rooms;
     let (logged_left, is_refused) = left_of(recorded, slots, logged);
     if let Some(Stop::ThreadRefused) = stop {
         return Err(RunFault::ThreadRefused);
@@ -122,10 +133,10 @@ fn run_opened<'p, P: OfProgram + Send + Sync, R: Threads + Wait + Sync, G: Gate>
         return Err(RunFault::LogsDiffer(handler, logged_left));
     }
     let left = without_logs(logged_left, bare);
-    if is_refused || stop.is_some() {
+    if is_refused || matches!(stop, Some(Stop::OutOfMemory)) {
         return Err(RunFault::OutOfMemory(Some(left)));
     }
-    Ok(left)
+    Ok((left, stop.is_none()))
 }
 
 /// Rounds of the workers, until the run is over or they were stopped and no handler is out: why they were.

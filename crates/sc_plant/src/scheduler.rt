@@ -1,17 +1,15 @@
 //! Which handler a worker plays next: what lies under the lock of the core.
+ghost use Rattle.std.specs.Prelude.{◌≡◌};
+
 use crate::due::{Undue, is_granting};
+use crate::granularity::Granularity;
 use crate::of_program::OfProgram;
 use crate::recorded_core::RecordedCore;
 use crate::task::{Played, Task};
+use sc_audit::RecordLine;
 
 /// The most turns of a task.
 pub const MOST_TURNS: u32 = 256;
-
-/// A task of fewer turns is a short one: it takes less time than to exchange it.
-const FEW_TURNS: u32 = 16;
-
-/// After so many short tasks one worker goes on alone.
-const SHORT_TASKS: u32 = 64;
 
 /// The most lines of a record.
 pub const MOST_LINES: usize = 1_000_000;
@@ -23,6 +21,8 @@ pub enum Stop {
     OutOfMemory,
     /// There was no thread.
     ThreadRefused,
+    /// One worker plays such short tasks faster.
+    FineGrained,
 }
 
 /// What a worker does next.
@@ -38,21 +38,34 @@ pub enum Next {
     End,
 }
 
-/// The core with its record, how many turns are left to be picked, how many workers sleep, how many short tasks came back one
-/// after the other, and why all workers end, if they are to.
+/// The core with its record, how many turns are left to be picked, how many workers sleep, how long the tasks are that come
+/// back, and why all workers end, if they are to.
 #[derive(Drop)]
 pub struct Scheduler<P: OfProgram> {
     pub recorded: RecordedCore<P>,
     pub turns: u32,
     pub asleep: u32,
-    pub short: u32,
+    pub granularity: Granularity,
     pub stop: Option<Stop>,
 }
 
 impl<P: OfProgram> Scheduler<P> {
-    /// The workers are to end.
+    /// Before the first task.
+    pub fn new(recorded: RecordedCore<P>, turns: u32) -> Scheduler<P>
+        ensures { result.recorded ≡ recorded }
+    {
+        Scheduler {
+            recorded,
+            turns,
+            asleep: 0,
+            granularity: Granularity::new(),
+            stop: None,
+        }
+    }
+
+    /// The workers are to end. Where something was refused, it is for that.
     pub fn stop_for(&mut self, why: Stop) {
-        if self.stop.is_none() {
+        if let None | Some(Stop::FineGrained) = self.stop {
             self.stop = Some(why);
         }
     }
@@ -73,20 +86,18 @@ impl<P: OfProgram> Scheduler<P> {
         }
     }
 
-    /// Counts short tasks.
-    pub fn weigh(&mut self, played: Played) {
-        if let Played::Made(turns) = played {
-            self.short = if turns < FEW_TURNS {
-                self.short.saturating_add(1)
-            } else {
-                0
-            };
+    /// Counts a task by how long it was.
+    pub fn weigh(&mut self, task: &Task, played: Played) {
+        let Played::Made(turns) = played else {
+            return;
+        };
+        self.granularity.note(RecordLine {
+            handler: task.handler,
+            turns,
+        });
+        if self.granularity.pays_alone(self.recorded.lines.len()) {
+            self.stop_for(Stop::FineGrained);
         }
-    }
-
-    /// Whether tasks are so short that several workers would wait for the lock of the core more than they would play.
-    fn is_fine(&self) -> bool {
-        self.short >= SHORT_TASKS
     }
 
     /// The handler of a task isn't out any more, and nothing of its job is settled.
@@ -123,7 +134,7 @@ impl<P: OfProgram> Scheduler<P> {
 
     /// What comes next for a worker, whose task is written over.
     pub fn next(&mut self, task: &mut Task) -> Next {
-        if self.stop.is_none() && self.is_fine() && self.recorded.core.out_count() > 0 {
+        if self.stop.is_none() && self.granularity.is_fine() && self.recorded.core.out_count() > 0 {
             return Next::Wait;
         }
         if self.stop.is_none() && !self.is_full() {
@@ -155,7 +166,7 @@ impl<P: OfProgram> Scheduler<P> {
 
     /// Whether a worker that sleeps may find something to do, beside the handler that goes out, and it pays to wake it.
     pub fn wakes(&mut self, handler: u16) -> bool {
-        self.asleep > 0 && !self.is_fine() && !self.recorded.is_idle(handler)
+        self.asleep > 0 && !self.granularity.is_fine() && !self.recorded.is_idle(handler)
     }
 
     /// A worker goes to sleep.

@@ -6,14 +6,15 @@ ghost use Rattle.sc_formula.specs.contracts.formula.Formula as formula;
 ghost use Rattle.sc_formula.specs.contracts.term.Term as term;
 ghost use Rattle.sc_worklog.specs.LoggedRegions.{region_of};
 ghost use Rattle.sc_plant.specs.Regions.{IsMadeByLog};
+ghost use Rattle.sc_plant.specs.Sharing.{Fits};
 
 use crate::of_program::OfProgram;
 use crate::task::{Played, Task};
 use crate::wants::clear_want;
-use sc_code::Program;
+use sc_play::Region;
 use sc_region::{Job, Want};
+use sc_request::Log;
 use sc_worklog::LoggedRegion;
-use std::alloc::Global;
 use std::marker::PhantomData;
 
 /// The region of a handler of a run's program. Where memory was refused to none of its turns, the turns of its log lead to
@@ -29,12 +30,12 @@ pub struct Slot<'p, P: OfProgram> {
 }
 
 impl<'p, P: OfProgram> Slot<'p, P> {
-    /// The region of the handler of a number, which played nothing yet.
-    pub fn new(alloc: Global, program: &'p Program, handler: u16) -> Slot<'p, P>
-        requires { P.image ≡ Some program.now.image }
+    /// The region of the handler of a number, with a log whose turns lead to it.
+    pub fn new(region: Region<'p>, handler: u16, log: Log) -> Slot<'p, P>
+        requires { Fits P.image handler region log }
     {
         Slot {
-            region: LoggedRegion::new(alloc, program, handler),
+            region: LoggedRegion::with_log(region, handler, log),
             is_refused: false,
             of: PhantomData,
         }

@@ -19,7 +19,7 @@ fn exchange<'p, P: OfProgram, R: Wait>(
     played: Played,
 ) -> bool {
     let mut held = scheduler.lock(rt);
-    held.weigh(played);
+    held.weigh(task, played);
     held.take_in(task, played);
     for _ in rt.forever() {
         match held.next(task) {

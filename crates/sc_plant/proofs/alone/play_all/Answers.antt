@@ -5,18 +5,18 @@ use Rattle.sc_plant.proofs.alone.play_all.Goals as goal
 pub loop-init : goal.loop-init
 loop-init g c = record { count = c.requires.count; version = c.requires.version; on = λ p way. way }
 
-pub loop-preserved-then-made-gt0 : goal.loop-preserved-then-made-gt0
-loop-preserved-then-made-gt0 g c = record {
-  count = c.in_ok-made.ensures.count;
-  version = c.in_ok-made.ensures.version;
-  on = λ p way. c.in_ok-made.ensures.on p (c.loop.invariant.on p way);
+pub loop-preserved-then-made-eq0 : goal.loop-preserved-then-made-eq0
+loop-preserved-then-made-eq0 g c = record {
+  count = c.is_over.ensures.count ∙ c.in_ok-made.ensures.count;
+  version = c.is_over.ensures.version ∙ c.in_ok-made.ensures.version;
+  on = λ p way. c.is_over.ensures.on p (c.in_ok-made.ensures.on p (c.loop.invariant.on p way));
 }
 
 pub loop-preserved : goal.loop-preserved
 loop-preserved g c = record {
-  count = c.is_over.ensures.count ∙ c.in_ok-made.ensures.count;
-  version = c.is_over.ensures.version ∙ c.in_ok-made.ensures.version;
-  on = λ p way. c.is_over.ensures.on p (c.in_ok-made.ensures.on p (c.loop.invariant.on p way));
+  count = c.in_ok-made.ensures.count;
+  version = c.in_ok-made.ensures.version;
+  on = λ p way. c.in_ok-made.ensures.on p (c.loop.invariant.on p way);
 }
 
 pub returns-in_err-made-clause-err : goal.returns-in_err-made-clause-err

@@ -1,5 +1,5 @@
 use Rattle.std.proofs.Common.{arith}
-use Rattle.sc_plant.proofs.Bare.{bare_all, bare_more, bare_none}
+use Rattle.sc_plant.proofs.Bare.{bare_more}
 use Rattle.sc_plant.proofs.leaving.bare.Goals as goal
 
 pub loop-region-preserved : goal.loop-region-preserved

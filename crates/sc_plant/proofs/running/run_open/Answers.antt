@@ -1,7 +1,7 @@
 use Rattle.sc_plant.proofs.running.run_open.Goals as goal
 
 pub returns-clause-ok : goal.returns-clause-ok
-returns-clause-ok g c = c.run_opened.ensures.ok c.args.program.now.image c.requires
+returns-clause-ok g c = c.play_in_turns.ensures.ok c.args.program.now.image c.requires
 
 pub returns-clause-err : goal.returns-clause-err
-returns-clause-err g c = c.run_opened.ensures.err c.args.program.now.image c.requires
+returns-clause-err g c = c.play_in_turns.ensures.err c.args.program.now.image c.requires
