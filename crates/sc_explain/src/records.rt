@@ -35,10 +35,22 @@ record has one text alone, and a text that is nearly one is none.
 An audit doesn't end in what the run left: of the handler that is named, the
 least one, an object, a frame, a request, a right, a count or the output differs.
 
-No run was seen to end so. A run writes down who made how many turns, and one
-thread that makes these turns comes to the same, whatever the workers did at the
-same time. With the record of five turns the line `0 4` in place of `0 5` would
-be `audit A2 Differs 0`.
+No run was seen to end so, and no text or option brings it about: a run writes
+down who made how many turns, and one thread that makes these turns comes to the
+same, whatever the workers did at the same time.
+
+This makes 5 turns:
+
+    class APPLICATION create make
+    feature
+        n: INTEGER
+        make do raise print (n) end
+        raise do n := n + 1 end
+    end
+
+Its record has the line `0 5`. If it had `0 4`, the audit of what the run left
+would be `audit A2 Differs 0`: the turn that ends `make` is missing, so handler 0
+is free in what was left, and busy in what the audit comes to.
 
 Why: That both come to the same is proved. The audit tests it besides, of this
 very run.
@@ -75,9 +87,11 @@ machine may allow fewer. `--workers 1` starts none.
 What the turns of a handler came to isn't what was settled of it: `logs differ`,
 with status 5, and no report.
 
-No run was seen to end so. When all threads have ended, the log of each handler
-is compared with the settlements of its turns; a report is written only where
-they are the same.
+No run was seen to end so, and there is no example: no text, option or file, and
+no want of memory, brings it about. When all threads have ended, the log of each
+handler is compared with the settlements of its turns, and a report is written
+only where they are the same. Where they aren't, a worker has carried something
+else to a handler, or back, than it was given.
 
 Why: What a run promises rests on this comparison, and not on the workers.
 "#,
