@@ -2,4 +2,5 @@ mod Turning
 mod Keeping
 mod Ending
 mod Trying
+mod Reasons
 mod Verdicts

@@ -41,3 +41,9 @@ abbrev pub IsMet : Aim → List Status → Type 0
 IsMet aim.Stuck statuses = AreStuck statuses
 IsMet aim.Fails statuses = HasFailed statuses
 IsMet aim.Any statuses = AreStuck statuses ⊎ HasFailed statuses
+
+-- A failure is told where they do; else it is that they are stuck.
+abbrev pub tells_failure : Aim → List Status → Bool
+tells_failure aim.Stuck statuses = false
+tells_failure aim.Fails statuses = some_is kind.HasFailed statuses
+tells_failure aim.Any statuses = some_is kind.HasFailed statuses

@@ -2,6 +2,8 @@ pub mod Aims
 pub mod Found
 pub mod Ends
 pub mod Closed
+pub mod Limits
 pub mod Steps
 pub mod Views
+pub mod Stops
 pub mod Verdicts

@@ -30,6 +30,10 @@ pub record Stands (p : Image) (v : Version) (ks : List PlainKept) (number : ℕ)
   pub runs : Runs path (opened p v) w
   pub stands : slice_get ks number ≡ Some (kept w)
 
+-- These turns lead to a world in the state of this number.
+abbrev pub IsLedTo : Image → Version → List PlainKept → ℕ → List ℕ → Type 0
+IsLedTo p v ks number path = (w : PlainWorld) × Stands p v ks number path w
+
 -- States are met behind these, in none of which the handlers stand as is looked for.
 pub record Extends (p : Image) (v : Version) (a : Aim) (ks ls : List PlainKept) : Type 0 where
   pub stay : (i : ℕ) (k : PlainKept) → slice_get ks i ≡ Some k → slice_get ls i ≡ Some k

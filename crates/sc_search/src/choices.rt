@@ -1,4 +1,6 @@
 //! The search over choices alone.
+ghost use Rattle.std.specs.Prelude.{IfNone, IfOk, IfSome};
+ghost use Rattle.sc_search.specs.Stops.{ChoiceStopsFor, HasReached};
 
 use crate::movers::{Rest, play_movers};
 use crate::progress::{Progress, Stop, Way};
@@ -16,7 +18,11 @@ pub(crate) fn play_choices<'p, W: Watch>(
     progress: &mut Progress<'p>,
     limit: u32,
     watch: &mut W,
-) -> Result<Option<Stop>, AllocError> {
+) -> Result<Option<Stop>, AllocError>
+    requires { HasReached subject.program.now.image subject.version subject.aim progress.old }
+    ensures reached { IfOk result (λ stop. IfNone stop (HasReached subject.entry.program.now.image subject.entry.version subject.entry.aim progress.new)) }
+    ensures stops { IfOk result (λ stop. IfSome stop (ChoiceStopsFor subject.entry.program.now.image subject.entry.version subject.entry.aim limit)) }
+{
     let opening = Way {
         parent: None,
         turns: Vec::new(subject.alloc),
@@ -43,8 +49,12 @@ fn choose<'p>(
     progress: &mut Progress<'p>,
     number: u32,
     limit: u32,
-) -> Result<Option<Stop>, AllocError> {
-    let path = progress.states.path(number)?;
+) -> Result<Option<Stop>, AllocError>
+    requires { HasReached subject.program.now.image subject.version subject.aim progress.old }
+    ensures reached { IfOk result (λ stop. IfNone stop (HasReached subject.entry.program.now.image subject.entry.version subject.entry.aim progress.new)) }
+    ensures stops { IfOk result (λ stop. IfSome stop (ChoiceStopsFor subject.entry.program.now.image subject.entry.version subject.entry.aim limit)) }
+{
+    let path = progress.states.order(number)?;
     let world = world_after(subject, &path)?;
     for handler in 0..world.core().handler_count() {
         let handler = handler as u16;
@@ -71,7 +81,11 @@ fn follow<'p>(
     progress: &mut Progress<'p>,
     mut way: Way,
     limit: u32,
-) -> Result<Option<Stop>, AllocError> {
+) -> Result<Option<Stop>, AllocError>
+    requires { HasReached subject.program.now.image subject.version subject.aim progress.old }
+    ensures reached { IfOk result (λ stop. IfNone stop (HasReached subject.entry.program.now.image subject.entry.version subject.entry.aim progress.new)) }
+    ensures stops { IfOk result (λ stop. IfSome stop (ChoiceStopsFor subject.entry.program.now.image subject.entry.version subject.entry.aim limit)) }
+{
     match play_movers(subject, &mut way.turns)? {
         Rest::Met => Ok(Some(Stop::Met(way.turns))),
         Rest::Endless => Ok(Some(Stop::Endless)),

@@ -1,8 +1,9 @@
 //! The search over all turns.
-ghost use Rattle.std.specs.Prelude.{◌≡◌, [], IfNone, IfOk};
+ghost use Rattle.std.specs.Prelude.{◌≡◌, ◌<◌, [], IfNone, IfOk, IfSome, length};
 ghost use Rattle.sc_world.specs.Views.{world_of};
 ghost use Rattle.sc_search.specs.Closed.{IsClosed};
-ghost use Rattle.sc_search.specs.Steps.{Opens, Stands, Tries, TriesAll};
+ghost use Rattle.sc_search.specs.Steps.{IsLedTo, Opens, Stands, Tries, TriesAll};
+ghost use Rattle.sc_search.specs.Stops.{HasReached, StopsFor};
 ghost use Rattle.sc_search.specs.Views.{states_of};
 
 use crate::progress::{Progress, Stop, Way};
@@ -21,8 +22,10 @@ pub(crate) fn play_all<'p, W: Watch>(
     limit: u32,
     watch: &mut W,
 ) -> Result<Option<Stop>, AllocError>
-    requires { states_of progress.old ≡ [] }
-    ensures { IfOk result (λ stop. IfNone stop (IsClosed subject.entry.program.now.image subject.entry.version subject.entry.aim (states_of progress.new))) }
+    requires none { states_of progress.old ≡ [] }
+    requires reached { HasReached subject.program.now.image subject.version subject.aim progress.old }
+    ensures closed { IfOk result (λ stop. IfNone stop (IsClosed subject.entry.program.now.image subject.entry.version subject.entry.aim (states_of progress.new))) }
+    ensures stops { IfOk result (λ stop. IfSome stop (StopsFor subject.entry.program.now.image subject.entry.version subject.entry.aim limit)) }
 {
     if let Some(stop) = keep_opening(subject, progress, limit)? {
         return Ok(Some(stop));
@@ -50,8 +53,11 @@ fn keep_opening<'p>(
     progress: &mut Progress<'p>,
     limit: u32,
 ) -> Result<Option<Stop>, AllocError>
-    requires { states_of progress.old ≡ [] }
-    ensures { IfOk result (λ stop. IfNone stop (Opens subject.entry.program.now.image subject.entry.version subject.entry.aim (states_of progress.new))) }
+    requires none { states_of progress.old ≡ [] }
+    requires reached { HasReached subject.program.now.image subject.version subject.aim progress.old }
+    ensures opens { IfOk result (λ stop. IfNone stop (Opens subject.entry.program.now.image subject.entry.version subject.entry.aim (states_of progress.new))) }
+    ensures reached { IfOk result (λ stop. IfNone stop (HasReached subject.entry.program.now.image subject.entry.version subject.entry.aim progress.new)) }
+    ensures stops { IfOk result (λ stop. IfSome stop (StopsFor subject.entry.program.now.image subject.entry.version subject.entry.aim limit)) }
 {
     let turns = Vec::new(subject.alloc);
     let world = world_after(subject, &turns)?;
@@ -70,10 +76,14 @@ fn try_all<'p>(
     number: u32,
     limit: u32,
 ) -> Result<Option<Stop>, AllocError>
-    ensures { IfOk result (λ stop. IfNone stop
+    requires there { number < length (states_of progress.old) }
+    requires reached { HasReached subject.program.now.image subject.version subject.aim progress.old }
+    ensures tries { IfOk result (λ stop. IfNone stop
         (TriesAll subject.entry.program.now.image subject.entry.version subject.entry.aim (states_of progress.old) (states_of progress.new) number)) }
+    ensures reached { IfOk result (λ stop. IfNone stop (HasReached subject.entry.program.now.image subject.entry.version subject.entry.aim progress.new)) }
+    ensures stops { IfOk result (λ stop. IfSome stop (StopsFor subject.entry.program.now.image subject.entry.version subject.entry.aim limit)) }
 {
-    let path = progress.states.path(number)?;
+    let path = progress.states.order(number)?;
     let world = world_after(subject, &path)?;
     if !progress.states.is_at(number, &world) {
         return Ok(Some(Stop::Cut));
@@ -97,9 +107,12 @@ fn try_turn<'p>(
     handler: u16,
     limit: u32,
 ) -> Result<Option<Stop>, AllocError>
-    requires { Stands subject.program.now.image subject.version (states_of progress.old) number path.now (world_of world.now) }
-    ensures { IfOk result (λ stop. IfNone stop
+    requires stands { Stands subject.program.now.image subject.version (states_of progress.old) number path.now (world_of world.now) }
+    requires reached { HasReached subject.program.now.image subject.version subject.aim progress.old }
+    ensures tries { IfOk result (λ stop. IfNone stop
         (Tries subject.entry.program.now.image subject.entry.version subject.entry.aim (states_of progress.old) (states_of progress.new) number handler)) }
+    ensures reached { IfOk result (λ stop. IfNone stop (HasReached subject.entry.program.now.image subject.entry.version subject.entry.aim progress.new)) }
+    ensures stops { IfOk result (λ stop. IfSome stop (StopsFor subject.entry.program.now.image subject.entry.version subject.entry.aim limit)) }
 {
     if world.core().pick_for(handler).is_none() {
         return Ok(None);
@@ -116,8 +129,12 @@ fn move_on<'p>(
     handler: u16,
     limit: u32,
 ) -> Result<Option<Stop>, AllocError>
-    ensures { IfOk result (λ stop. IfNone stop
+    requires leads { IsLedTo subject.program.now.image subject.version (states_of progress.old) number path.now }
+    requires reached { HasReached subject.program.now.image subject.version subject.aim progress.old }
+    ensures tries { IfOk result (λ stop. IfNone stop
         (Tries subject.entry.program.now.image subject.entry.version subject.entry.aim (states_of progress.old) (states_of progress.new) number handler)) }
+    ensures reached { IfOk result (λ stop. IfNone stop (HasReached subject.entry.program.now.image subject.entry.version subject.entry.aim progress.new)) }
+    ensures stops { IfOk result (λ stop. IfSome stop (StopsFor subject.entry.program.now.image subject.entry.version subject.entry.aim limit)) }
 {
     let mut world = world_after(subject, path)?;
     if !progress.states.is_at(number, &world) {

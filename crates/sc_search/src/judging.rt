@@ -1,6 +1,6 @@
 //! How the handlers of a state stand to what is looked for.
 ghost use Rattle.std.specs.Prelude.{◌≡◌, ◌↔◌, IsTrue};
-ghost use Rattle.sc_search.specs.Aims.{AreStuck, HasFailed, IsMet, is_of, some_is};
+ghost use Rattle.sc_search.specs.Aims.{AreStuck, HasFailed, IsMet, is_of, some_is, tells_failure};
 
 use crate::aims::Aim;
 use sc_model::Status;
@@ -36,6 +36,16 @@ pub(crate) fn has_failed(statuses: &[Status]) -> bool
     ensures { IsTrue result ↔ HasFailed statuses.now }
 {
     some_is(Kind::HasFailed, statuses)
+}
+
+/// Whether a failure is told where what is looked for is met; else it is that they are stuck.
+pub(crate) fn tells_failure(aim: Aim, statuses: &[Status]) -> bool
+    ensures { result ≡ tells_failure aim statuses.now }
+{
+    match aim {
+        Aim::Stuck => false,
+        Aim::Fails | Aim::Any => has_failed(statuses),
+    }
 }
 
 /// Whether one of the handlers stands so.

@@ -3,6 +3,9 @@
 //! A turn of a handler is a choice if it reserves handlers, creates one, or fails; if it asks with lock passing, unless
 //! nobody else can be in its way; and if it takes a request while another handler may post to it. Any other is a mover: it
 //! comes to the same before and behind the turns of others, so that these needn't be tried before it.
+ghost use Rattle.std.specs.Prelude.{◌≡◌, IfOk};
+ghost use Rattle.sc_world.specs.Views.{world_of};
+ghost use Rattle.sc_search.specs.Stops.{Moves, RestsAt};
 
 use crate::judging::is_met;
 use crate::replay::{Subject, world_after};
@@ -57,7 +60,9 @@ enum Moved {
 pub(crate) fn play_movers<'p>(
     subject: Subject<'p>,
     turns: &mut Vec<u16>,
-) -> Result<Rest<'p>, AllocError> {
+) -> Result<Rest<'p>, AllocError>
+    ensures { IfOk result (RestsAt subject.entry.program.now.image subject.entry.version subject.entry.aim turns.new.items) }
+{
     let mut peeks = vec![in subject.alloc; Peek::Unknown; MAX_HANDLERS]?;
     for _ in 0..MOST_MOVERS {
         let mut world = world_after(subject, turns)?;
@@ -79,7 +84,9 @@ fn move_on(
     world: &mut World<'_>,
     turns: &mut Vec<u16>,
     peeks: &mut Vec<Peek>,
-) -> Result<Moved, AllocError> {
+) -> Result<Moved, AllocError>
+    ensures { IfOk result (λ moved. moved ≡ Moved.All → Moves turns.old.items turns.new.items (world_of world.old) (world_of world.new)) }
+{
     for _ in 0..MOST_MOVERS {
         let Some(handler) = next_mover(world.core(), peeks) else {
             return Ok(Moved::All);

@@ -1,6 +1,8 @@
 //! How far a search has come.
-ghost use Rattle.std.specs.Prelude.{◌≡◌, [], IfNone, IfOk};
+ghost use Rattle.std.specs.Prelude.{◌≡◌, [], IfNone, IfOk, IfSome};
+ghost use Rattle.sc_world.specs.Turning.{Runs};
 ghost use Rattle.sc_world.specs.Views.{world_of};
+ghost use Rattle.sc_world.specs.Worlds.{opened};
 ghost use Rattle.sc_search.specs.Steps.{Keeps};
 
 use crate::ends::{Outcome, push_outcome};
@@ -47,6 +49,7 @@ pub(crate) struct Way {
 }
 
 impl<'p> Progress<'p> {
+    ghost use Rattle.sc_search.specs.Stops.{HasReached, StopsFor};
     ghost use Rattle.sc_search.specs.Views.{states_of};
 
     /// Nothing.
@@ -54,7 +57,8 @@ impl<'p> Progress<'p> {
     /// # Errors
     /// Where there is no memory.
     pub(crate) fn new(subject: Subject<'p>) -> Result<Progress<'p>, AllocError>
-        ensures { IfOk result (λ progress. states_of progress ≡ []) }
+        ensures none { IfOk result (λ progress. states_of progress ≡ []) }
+        ensures reached { IfOk result (HasReached subject.entry.program.now.image subject.entry.version subject.entry.aim) }
     {
         Ok(Progress {
             states: States::new(subject.alloc)?,
@@ -76,7 +80,11 @@ impl<'p> Progress<'p> {
         way: Way,
         limit: u32,
     ) -> Result<Option<Stop>, AllocError>
-        ensures { IfOk result (λ stop. IfNone stop (Keeps subject.entry.aim (world_of world.entry) (states_of self.old) (states_of self.new))) }
+        requires leads { Runs way.turns.items (opened subject.program.now.image subject.version) (world_of world) }
+        requires reached { HasReached subject.program.now.image subject.version subject.aim self.old }
+        ensures keeps { IfOk result (λ stop. IfNone stop (Keeps subject.entry.aim (world_of world.entry) (states_of self.old) (states_of self.new))) }
+        ensures reached { IfOk result (λ stop. IfNone stop (HasReached subject.entry.program.now.image subject.entry.version subject.entry.aim self.new)) }
+        ensures stops { IfOk result (λ stop. IfSome stop (StopsFor subject.entry.program.now.image subject.entry.version subject.entry.aim limit)) }
     {
         let statuses = world.statuses()?;
         if is_met(subject.aim, &statuses) {
@@ -88,20 +96,21 @@ impl<'p> Progress<'p> {
             return Ok(None);
         }
         let number = self.states.len();
-        if number >= limit || self.turns / TURNS_A_STATE >= limit as u64 {
+        if number >= limit || self.turns >= TURNS_A_STATE * limit as u64 {
             return Ok(Some(Stop::Cut));
         }
         if !some_is(Kind::IsBusy, &statuses) {
             push_outcome(subject.alloc, &mut self.outcomes, &world, &way.turns)?;
         }
         self.push_edge(&way, number)?;
-        self.states.push(world, way.parent, &way.turns, way.from)?;
+        self.states.push(world, way.turns)?;
         Ok(None)
     }
 
     /// Adds that the way leads to the state of the number.
     fn push_edge(&mut self, way: &Way, to: u32) -> Result<(), AllocError>
-        ensures { self.new.states ≡ self.old.states }
+        ensures states { self.new.states ≡ self.old.states }
+        ensures turns { self.new.turns ≡ self.old.turns }
     {
         if let Some(from) = way.parent {
             let turns = way

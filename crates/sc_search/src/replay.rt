@@ -1,12 +1,15 @@
 //! Worlds that are played anew.
-ghost use Rattle.std.specs.Prelude.{IfOk, IfSome};
+ghost use Rattle.std.specs.Prelude.{IfNone, IfOk, IfSome};
 ghost use Rattle.sc_world.specs.Turning.{Runs};
 ghost use Rattle.sc_world.specs.Views.{world_of};
 ghost use Rattle.sc_world.specs.Worlds.{opened};
+ghost use Rattle.sc_world.specs.Reports.{statuses};
+ghost use Rattle.sc_search.specs.Aims.{IsMet};
 ghost use Rattle.sc_search.specs.Found.{IsFirst, IsFound, RunsUnmet, turns_of};
+ghost use Rattle.sc_search.specs.Stops.{IsOrdered, MissesAfter};
 
 use crate::aims::Aim;
-use crate::judging::{are_stuck, has_failed, is_met};
+use crate::judging::{is_met, tells_failure};
 use crate::lines::lines_of;
 use crate::verdict::{Finding, Order};
 use sc_audit::RecordLine;
@@ -59,20 +62,21 @@ pub(crate) fn finding_after(
 ) -> Result<Option<Finding>, AllocError>
     ensures found { IfOk result (λ found. IfSome found (IsFound subject.entry.program.now.image subject.entry.version)) }
     ensures first { IfOk result (λ found. IfSome found (IsFirst subject.entry.program.now.image subject.entry.version subject.entry.aim)) }
+    ensures ordered { IfOk result (λ found. IfSome found IsOrdered) }
+    ensures none { IfOk result (λ found. IfNone found (MissesAfter subject.entry.program.now.image subject.entry.version subject.entry.aim turns.now)) }
 {
     let (world, made) = play_until_met(subject, turns)?;
     let statuses = world.statuses()?;
     if !is_met(subject.aim, &statuses) {
         return Ok(None);
     }
-    let lines = lines_of(subject.alloc, &made)?;
-    if subject.aim != Aim::Stuck && has_failed(&statuses) {
-        return Ok(Some(Finding::Fails(Order { lines })));
+    let order = Order {
+        lines: lines_of(subject.alloc, &made)?,
+    };
+    if tells_failure(subject.aim, &statuses) {
+        return Ok(Some(Finding::Fails(order)));
     }
-    if are_stuck(&statuses) {
-        return Ok(Some(Finding::Stuck(Order { lines })));
-    }
-    Ok(None)
+    Ok(Some(Finding::Stuck(order)))
 }
 
 /// Plays these turns from the opening on, as far as what is looked for is met: where that is, and the turns that led there. Those of
@@ -81,14 +85,16 @@ fn play_until_met<'p>(
     subject: Subject<'p>,
     turns: &[u16],
 ) -> Result<(World<'p>, Vec<u16>), AllocError>
-    ensures { IfOk result (λ reached. RunsUnmet subject.entry.aim reached.1.items
+    ensures runs { IfOk result (λ reached. RunsUnmet subject.entry.aim reached.1.items
         (opened subject.entry.program.now.image subject.entry.version) (world_of reached.0)) }
+    ensures all { IfOk result (λ reached. (IsMet subject.entry.aim (statuses (world_of reached.0)) → ⊥) →
+        Runs turns.now (opened subject.entry.program.now.image subject.entry.version) (world_of reached.0)) }
 {
     let mut world = World::open(subject.alloc, subject.program, subject.version)?;
     let mut made = Vec::new(subject.alloc);
     for handler in turns {
         if is_met(subject.aim, &world.statuses()?) {
-            break;
+            return Ok((world, made));
         }
         match world.turn(*handler)? {
             Turned::Moved => made.push(*handler)?,

@@ -1,7 +1,9 @@
 //! The search.
-ghost use Rattle.std.specs.Prelude.{◌≡◌, IfOk, None, length, min, true};
+ghost use Rattle.std.specs.Prelude.{◌≡◌, ℕ, IfOk, IfSome, None, false, length, min, true};
 ghost use Rattle.sc_search.specs.Ends.{AreEnds};
 ghost use Rattle.sc_search.specs.Found.{IsFirst, IsFound};
+ghost use Rattle.sc_search.specs.Limits.{SaysWhy};
+ghost use Rattle.sc_search.specs.Stops.{HasStopped, goes_on, is_undecided};
 ghost use Rattle.sc_search.specs.Verdicts.{IsShown};
 ghost use Rattle.sc_search.specs.Views.{states_of};
 
@@ -19,7 +21,7 @@ use sc_lockpass::Version;
 use std::alloc::{AllocError, Global};
 
 /// Looks for an order of turns of a program, where there may be as many handlers as the version has, that leads to what is
-/// looked for. No more than so many states are kept.
+/// looked for. It gives up where it would have to keep more than so many states, or has played 2,000 turns for each of them.
 ///
 /// First orders that differ only in turns that touch nothing of others are played once. If nothing is found so, all are played.
 ///
@@ -37,6 +39,7 @@ pub fn search<W: Watch>(
     ensures first { IfOk result (λ verdict. IsFirst program.now.image version aim verdict.finding) }
     ensures ends { IfOk result (λ verdict. AreEnds program.now.image version verdict.ends.items) }
     ensures whole { IfOk result (IsShown program.now.image version aim) }
+    ensures why { IfOk result (λ verdict. SaysWhy program.now.image version aim states verdict.is_whole verdict.finding) }
 {
     let subject = Subject {
         alloc,
@@ -46,16 +49,29 @@ pub fn search<W: Watch>(
     };
     let mut progress = Progress::new(subject)?;
     let stop = play_choices(subject, &mut progress, states, watch)?;
-    let may_go_on = matches!(stop, None | Some(Stop::Endless));
+    let may_go_on = goes_on(&stop);
     let found = verdict_of(subject, progress, stop, false)?;
     if !may_go_on {
         return Ok(found);
     }
     let whole = search_all(subject, states, watch)?;
-    if matches!(whole.finding, Finding::Undecided) {
+    if is_undecided(&whole.finding) {
         return Ok(found);
     }
     Ok(whole)
+}
+
+/// Whether the search over all turns follows one over choices that stopped so.
+fn goes_on(stop: &Option<Stop>) -> bool
+    ensures { result ≡ goes_on stop.now }
+{
+    matches!(stop, None | Some(Stop::Endless))
+}
+
+fn is_undecided(finding: &Finding) -> bool
+    ensures { result ≡ is_undecided finding.now }
+{
+    matches!(finding, Finding::Undecided)
 }
 
 /// The search over all turns.
@@ -68,6 +84,7 @@ fn search_all<W: Watch>(
     ensures first { IfOk result (λ verdict. IsFirst subject.entry.program.now.image subject.entry.version subject.entry.aim verdict.finding) }
     ensures ends { IfOk result (λ verdict. AreEnds subject.entry.program.now.image subject.entry.version verdict.ends.items) }
     ensures whole { IfOk result (IsShown subject.entry.program.now.image subject.entry.version subject.entry.aim) }
+    ensures why { IfOk result (λ verdict. SaysWhy subject.entry.program.now.image subject.entry.version subject.entry.aim limit verdict.is_whole verdict.finding) }
 {
     let mut progress = Progress::new(subject)?;
     let stop = play_all(subject, &mut progress, limit, watch)?;
@@ -86,12 +103,14 @@ fn verdict_of(
     ensures ends { IfOk result (λ verdict. AreEnds subject.entry.program.now.image subject.entry.version verdict.ends.items) }
     ensures states { IfOk result (λ verdict. verdict.states ≡ min (length (states_of progress.entry)) 4294967295) }
     ensures whole { IfOk result (λ verdict. verdict.is_whole ≡ true → (is_all ≡ true) × (stop ≡ None) × (verdict.finding ≡ Finding.Nothing)) }
+    ensures done { stop ≡ None → IfOk result (λ verdict. (verdict.finding ≡ Finding.Nothing) × (verdict.is_whole ≡ is_all)) }
+    ensures why { IfOk result (λ verdict. (limit : ℕ) → HasStopped subject.entry.program.now.image subject.entry.version subject.entry.aim limit stop → SaysWhy subject.entry.program.now.image subject.entry.version subject.entry.aim limit false verdict.finding) }
 {
     let states = progress.states.len();
     let is_whole = is_all && stop.is_none();
     let length = match stop {
         None => {
-            let first = progress.states.path(0)?.len().min(u32::MAX as usize) as u32;
+            let first = progress.states.order(0)?.len().min(u32::MAX as usize) as u32;
             length_of(subject.alloc, first, states as usize, &progress.edges)?
         }
         Some(_) => Length::Unknown,
@@ -112,6 +131,7 @@ fn finding_of(subject: Subject<'_>, stop: Option<Stop>) -> Result<Finding, Alloc
     ensures found { IfOk result (IsFound subject.entry.program.now.image subject.entry.version) }
     ensures first { IfOk result (IsFirst subject.entry.program.now.image subject.entry.version subject.entry.aim) }
     ensures none { stop ≡ None → IfOk result (λ finding. finding ≡ Finding.Nothing) }
+    ensures why { IfOk result (λ finding. (limit : ℕ) → HasStopped subject.entry.program.now.image subject.entry.version subject.entry.aim limit stop → SaysWhy subject.entry.program.now.image subject.entry.version subject.entry.aim limit false finding) }
 {
     match stop {
         None => Ok(Finding::Nothing),

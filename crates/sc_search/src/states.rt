@@ -1,6 +1,6 @@
 //! The states that a search has met.
 ghost use Rattle.std.specs.Option.{option_map};
-ghost use Rattle.std.specs.Prelude.{◌≡◌, ◌++◌, ◌∷◌, [], IfOk, IfSome, IsTrue, OnOk, Some, length, min, slice_get};
+ghost use Rattle.std.specs.Prelude.{◌≡◌, ◌↔◌, ◌++◌, ◌∷◌, [], ℕ, IfOk, IfSome, IsTrue, List, OnOk, Some, length, min, slice_get};
 ghost use Rattle.sc_world.specs.Kept.{kept};
 ghost use Rattle.sc_world.specs.Views.{world_of};
 
@@ -10,14 +10,9 @@ use std::alloc::{AllocError, Global};
 /// How many lists the numbers of states lie in, by hash.
 const BUCKETS: usize = 65_536;
 
-/// How a state was met first.
+/// Where a state lies.
 #[derive(Clone, Copy)]
-struct Origin {
-    /// The state before it; None of the first one.
-    parent: Option<u32>,
-    /// Where the turns from that to it begin, and where they end.
-    from: usize,
-    to: usize,
+struct Link {
     hash: u64,
     /// The next one in the list that it lies in.
     next: Option<u32>,
@@ -28,28 +23,29 @@ struct Origin {
 pub(crate) struct States<'p> {
     alloc: Global,
     kept: Vec<KeptWorld<'p>>,
-    origins: Vec<Origin>,
-    /// The turns that led from states to others.
-    turns: Vec<u16>,
+    /// The turns that led to each, from the opening on.
+    orders: Vec<Vec<u16>>,
+    links: Vec<Link>,
     /// The first number in each list.
     buckets: Vec<Option<u32>>,
 }
 
 impl<'p> States<'p> {
-    ghost use Rattle.sc_search.specs.Views.{states_in};
+    ghost use Rattle.sc_search.specs.Views.{orders_in, states_in};
 
     /// None.
     ///
     /// # Errors
     /// Where there is no memory.
     pub(crate) fn new(alloc: Global) -> Result<States<'p>, AllocError>
-        ensures { IfOk result (λ states. states_in states ≡ []) }
+        ensures states { IfOk result (λ states. states_in states ≡ []) }
+        ensures orders { IfOk result (λ states. orders_in states ≡ []) }
     {
         Ok(States {
             alloc,
             kept: Vec::new(alloc),
-            origins: Vec::new(alloc),
-            turns: Vec::new(alloc),
+            orders: Vec::new(alloc),
+            links: Vec::new(alloc),
             buckets: vec![in alloc; None; BUCKETS]?,
         })
     }
@@ -63,7 +59,7 @@ impl<'p> States<'p> {
 
     /// Whether the world stands in the state of the number.
     pub(crate) fn is_at(&self, number: u32, world: &World<'_>) -> bool
-        ensures { IsTrue result → slice_get (states_in self.now) number ≡ Some (kept (world_of world.now)) }
+        ensures { IsTrue result ↔ slice_get (states_in self.now) number ≡ Some (kept (world_of world.now)) }
     {
         match self.kept_at(number) {
             Some(kept) => kept.is_same(world),
@@ -84,13 +80,13 @@ impl<'p> States<'p> {
     {
         let hash = world.hash();
         let mut at = self.first_of(hash);
-        for _ in 0..self.origins.len() {
+        for _ in 0..self.links.len() {
             let number = at?;
-            let origin = self.origins.get(number as usize)?;
-            if origin.hash == hash && self.is_at(number, world) {
+            let link = self.links.get(number as usize)?;
+            if link.hash == hash && self.is_at(number, world) {
                 return Some(number);
             }
-            at = origin.next;
+            at = link.next;
         }
         None
     }
@@ -100,36 +96,23 @@ impl<'p> States<'p> {
         *self.buckets.get(bucket_of(hash))?
     }
 
-    /// Keeps the state that the world stands in after these turns. Those from a place on led to it from another state.
+    /// Keeps the state that the world stands in, to which these turns led from the opening.
     ///
     /// # Errors
     /// Where there is no memory.
-    pub(crate) fn push(
-        &mut self,
-        world: World<'p>,
-        parent: Option<u32>,
-        turns: &[u16],
-        from: usize,
-    ) -> Result<(), AllocError>
-        ensures { OnOk result (states_in self.new ≡ states_in self.old ++ kept (world_of world.entry) ∷ []) }
+    pub(crate) fn push(&mut self, world: World<'p>, order: Vec<u16>) -> Result<(), AllocError>
+        ensures states { OnOk result (states_in self.new ≡ states_in self.old ++ kept (world_of world.entry) ∷ []) }
+        ensures orders { OnOk result (orders_in self.new ≡ orders_in self.old ++ order.items ∷ []) }
     {
         let hash = world.hash();
         let next = self.first_of(hash);
-        let number = self.origins.len();
-        let start = self.turns.len();
-        push_from(&mut self.turns, turns, from)?;
-        let to = self.turns.len();
-        self.origins.push(Origin {
-            parent,
-            from: start,
-            to,
-            hash,
-            next,
-        })?;
+        let number = self.links.len();
+        self.links.push(Link { hash, next })?;
         if let Some(place) = self.buckets.get_mut(bucket_of(hash)) {
             *place = u32::try_from(number).ok();
         }
         self.kept.push(world.keep()?)?;
+        self.orders.push(order)?;
         Ok(())
     }
 
@@ -137,34 +120,14 @@ impl<'p> States<'p> {
     ///
     /// # Errors
     /// Where there is no memory.
-    pub(crate) fn path(&self, number: u32) -> Result<Vec<u16>, AllocError> {
-        let mut turns = Vec::new(self.alloc);
-        let mut at = Some(number);
-        for _ in 0..self.origins.len() {
-            let Some(number) = at else {
-                break;
-            };
-            let Some(origin) = self.origins.get(number as usize) else {
-                break;
-            };
-            for place in (origin.from..origin.to).rev() {
-                if let Some(handler) = self.turns.get(place) {
-                    turns.push(*handler)?;
-                }
-            }
-            at = origin.parent;
+    pub(crate) fn order(&self, number: u32) -> Result<Vec<u16>, AllocError>
+        ensures { IfOk result (λ turns. (order : List ℕ) → slice_get (orders_in self.now) number ≡ Some order → turns.items ≡ order) }
+    {
+        match self.orders.get(number as usize) {
+            Some(order) => Vec::from_slice(self.alloc, order),
+            None => Ok(Vec::new(self.alloc)),
         }
-        turns.as_mut_slice().reverse();
-        Ok(turns)
     }
-}
-
-/// Adds the turns from a place on.
-fn push_from(turns: &mut Vec<u16>, others: &[u16], from: usize) -> Result<(), AllocError> {
-    for place in from..others.len() {
-        turns.push(others[place])?;
-    }
-    Ok(())
 }
 
 /// The list that a hash lies in.

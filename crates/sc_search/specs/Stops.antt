@@ -1,0 +1,103 @@
+-- What a search has played, and why it stops.
+use Rattle.std.specs.Prelude.{◌≡◌, ◌++◌, ℕ, Bool, true, false, List, Option, Some, None, length, slice_get}
+use Rattle.sc_lockpass.specs.declared.version.Version.{Version}
+use Rattle.sc_code.specs.declared.program.Image.{Image}
+use Rattle.sc_world.specs.Kept.{PlainKept, kept}
+use Rattle.sc_world.specs.Reports.{statuses}
+use Rattle.sc_world.specs.Turning.{Runs}
+use Rattle.sc_world.specs.Views.{world_of}
+use Rattle.sc_world.specs.Worlds.{PlainWorld, opened}
+use Rattle.sc_search.specs.declared.aims.Aim.{Aim}
+use Rattle.sc_search.specs.declared.movers.Rest.{Rest}
+use Rattle.sc_search.specs.declared.movers.Rest.TheVariants as rest
+use Rattle.sc_search.specs.declared.progress.Progress.{Progress}
+use Rattle.sc_search.specs.declared.progress.Stop.{Stop}
+use Rattle.sc_search.specs.declared.progress.Stop.TheVariants as stop
+use Rattle.sc_search.specs.declared.verdict.Finding.{Finding}
+use Rattle.sc_search.specs.declared.verdict.Finding.TheVariants as finding
+use Rattle.sc_search.specs.Aims.{IsMet}
+use Rattle.sc_search.specs.Limits.{ArePlayed, GivesUp}
+use Rattle.sc_search.specs.Views.{orders_of, states_of}
+
+-- The order of the number leads to a world in the state, whose handlers don't stand as is looked for.
+pub record IsReached (p : Image) (v : Version) (a : Aim) (orders : List (List ℕ)) (number : ℕ) (k : PlainKept) : Type 0 where
+  pub order : List ℕ
+  pub stands : slice_get orders number ≡ Some order
+  pub world : PlainWorld
+  pub runs : Runs order (opened p v) world
+  pub kept_is : kept world ≡ k
+  pub unmet : IsMet a (statuses world) → ⊥
+
+-- Each state is reached so, and so many turns were played.
+pub record AreReached (p : Image) (v : Version) (a : Aim) (ks : List PlainKept) (orders : List (List ℕ)) (turns : ℕ) : Type 0 where
+  pub each : (number : ℕ) (k : PlainKept) → slice_get ks number ≡ Some k → IsReached p v a orders number k
+  pub count : length orders ≡ length ks
+  pub played : ArePlayed p v turns
+
+abbrev pub HasReached : Image → Version → Aim → Progress → Type 0
+HasReached p v a x = AreReached p v a (states_of x) (orders_of x) x.turns
+
+-- ---- why a search stops
+
+-- These turns lead from the opening to a world whose handlers stand as is looked for,
+pub record MeetsAfter (p : Image) (v : Version) (a : Aim) (turns : List ℕ) : Type 0 where
+  pub world : PlainWorld
+  pub runs : Runs turns (opened p v) world
+  pub met : IsMet a (statuses world)
+
+-- or to one whose handlers don't.
+pub record MissesAfter (p : Image) (v : Version) (a : Aim) (turns : List ℕ) : Type 0 where
+  pub world : PlainWorld
+  pub runs : Runs turns (opened p v) world
+  pub unmet : IsMet a (statuses world) → ⊥
+
+-- a search over all turns
+abbrev pub StopsFor : Image → Version → Aim → ℕ → Stop → Type 0
+StopsFor p v a limit (stop.Met turns) = MeetsAfter p v a turns.items
+StopsFor p v a limit stop.Cut = GivesUp p v a limit
+StopsFor p v a limit stop.Endless = ⊥
+
+-- a search over choices
+abbrev pub ChoiceStopsFor : Image → Version → Aim → ℕ → Stop → Type 0
+ChoiceStopsFor p v a limit (stop.Met turns) = MeetsAfter p v a turns.items
+ChoiceStopsFor p v a limit stop.Cut = GivesUp p v a limit
+ChoiceStopsFor p v a limit stop.Endless = Unit {0}
+
+-- It has stopped, for such a reason.
+abbrev pub HasStopped : Image → Version → Aim → ℕ → Option Stop → Type 0
+HasStopped p v a limit None = ⊥
+HasStopped p v a limit (Some s) = StopsFor p v a limit s
+
+-- A search over all turns follows one over choices that has played all, or in which movers went on and on.
+abbrev pub goes_on : Option Stop → Bool
+goes_on None = true
+goes_on (Some (stop.Met turns)) = false
+goes_on (Some stop.Cut) = false
+goes_on (Some stop.Endless) = true
+
+abbrev pub is_undecided : Finding → Bool
+is_undecided finding.Nothing = false
+is_undecided (finding.Stuck order) = false
+is_undecided (finding.Fails order) = false
+is_undecided finding.Undecided = true
+
+-- an order
+abbrev pub IsOrdered : Finding → Type 0
+IsOrdered finding.Nothing = ⊥
+IsOrdered (finding.Stuck order) = Unit {0}
+IsOrdered (finding.Fails order) = Unit {0}
+IsOrdered finding.Undecided = ⊥
+
+-- ---- movers
+
+-- Behind the turns stand others, which lead from the first world to the second.
+pub record Moves (before after : List ℕ) (x y : PlainWorld) : Type 0 where
+  pub more : List ℕ
+  pub all : after ≡ before ++ more
+  pub runs : Runs more x y
+
+-- where the turns led
+abbrev pub RestsAt : Image → Version → Aim → List ℕ → Rest → Type 0
+RestsAt p v a turns rest.Met = MeetsAfter p v a turns
+RestsAt p v a turns (rest.At world) = Runs turns (opened p v) (world_of world)
+RestsAt p v a turns rest.Endless = Unit {0}
