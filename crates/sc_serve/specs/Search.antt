@@ -105,8 +105,8 @@ found_for name finding.Nothing = None
 found_for name finding.Undecided = None
 
 -- The answer to a search of the program: a verdict on its orders of turns, of which the order that was found leads to what is
--- said, and no shorter beginning of it; there is none where it is whole, and else the search has given up; the status that goes with it; and the order that was found for the file of the
--- record, where one was named.
+-- said, and no shorter beginning of it. There is none where the verdict is whole; where it isn't and none was found, the search has
+-- given up. The status goes with it, and the order that was found is for the file of the record, where one was named.
 pub record IsSearchOf (program : Image) (options : SearchOptions) (output : List ℕ) (exit : Exit) (recording : Option Recording) :
     Type 0 where
   pub verdict : Verdict
