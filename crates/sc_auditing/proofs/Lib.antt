@@ -2,3 +2,4 @@ mod Misfits
 mod Turns
 mod Agreeing
 mod Reporting
+mod Rows

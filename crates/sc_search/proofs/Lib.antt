@@ -4,3 +4,4 @@ mod Ending
 mod Trying
 mod Reasons
 mod Verdicts
+mod Rows

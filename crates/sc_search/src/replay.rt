@@ -70,13 +70,11 @@ pub(crate) fn finding_after(
     if !is_met(subject.aim, &statuses) {
         return Ok(None);
     }
-    let order = Order {
-        lines: lines_of(subject.alloc, &made)?,
-    };
+    let lines = lines_of(subject.alloc, &made)?;
     if tells_failure(subject.aim, &statuses) {
-        return Ok(Some(Finding::Fails(order)));
+        return Ok(Some(Finding::Fails(Order { lines })));
     }
-    Ok(Some(Finding::Stuck(order)))
+    Ok(Some(Finding::Stuck(Order { lines })))
 }
 
 /// Plays these turns from the opening on, as far as what is looked for is met: where that is, and the turns that led there. Those of
