@@ -1,7 +1,8 @@
 -- What a search has played, and why it stops.
-use Rattle.std.proofs.Common.{◌≡◌, ◌⊎◌, ◌<◌, ◌≤◌, ◌+◌, ◌*◌, ◌++◌, ◌∙◌, ◌↔◌, inl, inr, ℕ, zero, suc, Bool, true, false, IsTrue, List, [], ◌∷◌, Option, Some, None, length, length-append, slice_get, refl, sym, ap, subst, arith}
-use Rattle.std.specs.Prelude.{IfSome}
+use Rattle.std.proofs.Common.{◌≡◌, ◌⊎◌, ◌<◌, ◌≤◌, ◌+◌, ◌*◌, ◌++◌, ◌∙◌, ◌↔◌, inl, inr, ℕ, zero, suc, Bool, true, false, IsTrue, List, [], ◌∷◌, Option, Some, None, Result, Ok, Err, length, length-append, slice_get, refl, sym, ap, subst, arith}
+use Rattle.std.specs.Prelude.{IfOk, IfSome}
 use Rattle.std.proofs.lemmas.List.Sums.{sum_by_push}
+use Rattle.std.proofs.lemmas.Option.{slice_get_within}
 use Rattle.sc_lockpass.specs.declared.version.Version.{Version}
 use Rattle.sc_model.specs.declared.status.Status.{Status}
 use Rattle.sc_code.specs.declared.program.Image.{Image}
@@ -15,6 +16,7 @@ use Rattle.sc_search.specs.declared.progress.Stop.{Stop}
 use Rattle.sc_search.specs.declared.progress.Stop.TheVariants as stop
 use Rattle.sc_search.specs.declared.verdict.Finding.{Finding}
 use Rattle.sc_search.specs.declared.verdict.Finding.TheVariants as finding
+use Rattle.sc_search.specs.declared.verdict.Verdict.{Verdict}
 use Rattle.sc_search.specs.Aims.{AreStuck, HasFailed, IsMet, tells_failure}
 use Rattle.sc_search.specs.Limits.{AllMet, AllPlayed, ArePlayed, GivesUp, IsOrder, NothingSays, SaysWhy, Two, turns_a_state}
 use Rattle.sc_search.specs.Steps.{IsLedTo}
@@ -27,6 +29,10 @@ there_is : {X : Type 0} (xs : List X) (i : ℕ) → i < length xs → (x : X) ×
 there_is [] i below = absurd (omega (arith, below))
 there_is (x ∷ xs) zero below = (x, refl)
 there_is (x ∷ xs) (suc i) below = there_is xs i (omega (arith, below))
+
+-- where what stands in a list stands in the other, at its place, there is as much in that
+pub still_there : {X : Type 0} (xs ys : List X) (i : ℕ) → ((j : ℕ) (x : X) → slice_get xs j ≡ Some x → slice_get ys j ≡ Some x) → i < length xs → i < length ys
+still_there xs ys i stay below = let x = there_is xs i below in slice_get_within ys i x.0 (stay i x.0 x.1)
 
 -- what stands in the longer list stood before, or is the last one, at its place
 get_split : {X : Type 0} (xs : List X) (x : X) (i : ℕ) (k : X) → slice_get (xs ++ x ∷ []) i ≡ Some k → (slice_get xs i ≡ Some k) ⊎ ((i ≡ length xs) × (k ≡ x))
@@ -89,8 +95,14 @@ module _ (p : Image) (v : Version) (a : Aim) where
       AreReached p v a ks os turns → AreReached p v a ls ms more
   reached_new ks ls os ms turns more order w runs unmet le states orders so = record {
     each = λ i k at. one i k (get_split ks (kept w) i k (subst (λ (xs : List PlainKept). slice_get xs i ≡ Some k) states at));
-    count = omega (arith, ap (λ (xs : List PlainKept). length xs) states, ap (λ (xs : List (List ℕ)). length xs) orders, so.count,
-        length-append ks (kept w ∷ []), length-append os (order ∷ []));
+    count = omega (
+      arith,
+      ap (λ (xs : List PlainKept). length xs) states,
+      ap (λ (xs : List (List ℕ)). length xs) orders,
+      so.count,
+      length-append ks (kept w ∷ []),
+      length-append os (order ∷ []),
+    );
     played = played_more turns more order w runs le so.played;
   }
     where
@@ -135,24 +147,26 @@ module _ (p : Image) (v : Version) (a : Aim) where
   -- turns lead to a world in a state, and to one that isn't
   pub lost : (ks : List PlainKept) (number : ℕ) (path : List ℕ) (w : PlainWorld) (limit : ℕ) → IsLedTo p v ks number path → Runs path (opened p v) w →
       (slice_get ks number ≡ Some (kept w) → ⊥) → GivesUp p v a limit
-  lost ks number path w limit led runs no = Two (record {
+  lost ks number path w limit led runs apart = Two (record {
     order = path;
     one = led.0;
     other = w;
     leads_to_one = led.1.runs;
     leads_to_other = runs;
-    differ = λ e. no (led.1.stands ∙ ap (λ (x : PlainWorld). Some (kept x)) e);
+    differ = λ e. apart (led.1.stands ∙ ap (λ (x : PlainWorld). Some (kept x)) e);
   })
 
   pub led : (ks : List PlainKept) (os : List (List ℕ)) (turns number : ℕ) (path : List ℕ) → AreReached p v a ks os turns → number < length ks →
       ((order : List ℕ) → slice_get os number ≡ Some order → path ≡ order) → IsLedTo p v ks number path
   led ks os turns number path so there same =
       let k = there_is ks number there in
-      let r = so.each number k.0 k.1 in
-      (r.world, record {
-        runs = subst (λ (hs : List ℕ). Runs hs (opened p v) r.world) (sym (same r.order r.stands)) r.runs;
-        stands = k.1 ∙ ap (λ (x : PlainKept). Some x) (sym r.kept_is);
-      })
+      let r = so.each number k.0 k.1 in (
+        r.world,
+        record {
+          runs = subst (λ (hs : List ℕ). Runs hs (opened p v) r.world) (sym (same r.order r.stands)) r.runs;
+          stands = k.1 ∙ ap (λ (x : PlainKept). Some x) (sym r.kept_is);
+        },
+      )
 
   -- turns lead to a world whose handlers stand as is looked for, and to one whose don't
   pub differs : (turns : List ℕ) (limit : ℕ) → MeetsAfter p v a turns → MissesAfter p v a turns → GivesUp p v a limit
@@ -175,10 +189,10 @@ module _ (p : Image) (v : Version) (a : Aim) where
   says_why limit b finding.Undecided up = up
 
   pub says_ordered : (limit : ℕ) (b : Bool) (f : Finding) → IsOrdered f → SaysWhy p v a limit b f
-  says_ordered limit b finding.Nothing no = absurd no
+  says_ordered limit b finding.Nothing never = absurd never
   says_ordered limit b (finding.Stuck order) is = tt
   says_ordered limit b (finding.Fails order) is = tt
-  says_ordered limit b finding.Undecided no = absurd no
+  says_ordered limit b finding.Undecided never = absurd never
 
   pub says_whole : (limit : ℕ) (b : Bool) (f : Finding) → SaysWhy p v a limit false f → SaysWhy p v a limit b f
   says_whole limit true finding.Nothing is = tt
@@ -212,3 +226,9 @@ module _ (p : Image) (v : Version) (a : Aim) where
       let d = done refl in
       subst (λ (g : Finding). SaysWhy p v a limit b g) (sym d.0) (subst (λ (c : Bool). NothingSays p v a limit c) (sym d.1) tt)
   whole_says limit (Some s) b f is done why = says_whole limit b f (why is)
+
+  pub whole_verdict : {E : Type 0} (r : Result Verdict E) (s : Option Stop) (limit : ℕ) → IfSome s (StopsFor p v a limit) →
+      (s ≡ None → IfOk r (λ d. (d.finding ≡ finding.Nothing) × (d.is_whole ≡ true))) →
+      IfOk r (λ d. (l : ℕ) → HasStopped p v a l s → SaysWhy p v a l false d.finding) → IfOk r (λ d. SaysWhy p v a limit d.is_whole d.finding)
+  whole_verdict (Ok d) s limit is done why = whole_says limit s d.is_whole d.finding is done (why limit)
+  whole_verdict (Err e) s limit is done why = tt

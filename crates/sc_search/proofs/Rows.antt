@@ -1,10 +1,10 @@
 -- Values of the definitions, worked out by hand.
-use Rattle.std.proofs.Common.{◌≡◌, ◌⊎◌, inl, inr, ℕ, true, false, List, [], ◌∷◌, refl}
+use Rattle.std.proofs.Common.{◌≡◌, inl, inr, ℕ, true, false, [], ◌∷◌, refl}
 use Rattle.sc_audit.specs.declared.line.RecordLine.{RecordLine}
 use Rattle.sc_model.specs.declared.cause.Cause.{Cause}
 use Rattle.sc_model.specs.declared.status.Status.TheVariants.{Failed, Busy, Waiting, Free}
 use Rattle.sc_search.specs.declared.aims.Aim.TheVariants as aim
-use Rattle.sc_search.specs.Aims.{AreStuck, HasFailed, IsMet}
+use Rattle.sc_search.specs.Aims.{AreStuck, IsMet}
 use Rattle.sc_search.specs.Found.{turns_of}
 
 abbrev line : ℕ → ℕ → RecordLine

@@ -1,20 +1,25 @@
-use Rattle.std.proofs.Common.{◌∙◌, IsTrue, arith, rules}
+use Rattle.std.proofs.Common.{◌∙◌, IsTrue, List, sym, subst, arith, rules}
 use Rattle.std.proofs.lemmas.Grind.{common_steps}
+use Rattle.sc_model.specs.declared.status.Status.{Status}
 use Rattle.sc_world.specs.Views.{world_of}
-use Rattle.sc_search.specs.Aims.{AreStuck, HasFailed}
+use Rattle.sc_search.specs.Aims.{AreStuck, HasFailed, IsMet}
+use Rattle.sc_search.proofs.Reasons.{stuck_else, tells}
 use Rattle.sc_search.proofs.Verdicts.{leads}
 use Rattle.sc_search.proofs.replay.finding_after.Goals as goal
 
-pub returns-then-has_failed-clause-found : goal.returns-then-has_failed-clause-found
-returns-then-has_failed-clause-found c =
-    let there : IsTrue c.has_failed.result = first_of (search rules, grind (arith, common_steps)) in
+pub returns-then-tells_failure-clause-found : goal.returns-then-tells_failure-clause-found
+returns-then-tells_failure-clause-found c =
     leads c.args.subject.program.now.image c.args.subject.version c.args.subject.aim c.in_ok-lines.lines.items c.in_ok-world.made.items
-    (world_of c.in_ok-world.world) HasFailed c.deref-then-ne.result.now (c.in_ok-lines.ensures ∙ c.deref-2.ensures.value) c.in_ok-world.ensures
-    (c.deref-then-ne.ensures.value ∙ c.in_ok-statuses.ensures) (c.has_failed.ensures.0 there)
+    (world_of c.in_ok-world.world) HasFailed c.deref-3.result.now (c.in_ok-lines.ensures ∙ c.deref-2.ensures.value) c.in_ok-world.ensures.runs
+    (c.deref-3.ensures.value ∙ c.in_ok-statuses.ensures)
+    (tells c.args.subject.aim c.deref-3.result.now (sym c.tells_failure.ensures ∙ c.if-tells_failure.true))
 
-pub returns-then-are_stuck-clause-found : goal.returns-then-are_stuck-clause-found
-returns-then-are_stuck-clause-found c =
-    let there : IsTrue c.are_stuck.result = first_of (search rules, grind (arith, common_steps)) in
-    leads c.args.subject.program.now.image c.args.subject.version c.args.subject.aim c.in_ok-lines.lines.items c.in_ok-world.made.items
-    (world_of c.in_ok-world.world) AreStuck c.deref-3.result.now (c.in_ok-lines.ensures ∙ c.deref-2.ensures.value) c.in_ok-world.ensures
-    (c.deref-3.ensures.value ∙ c.in_ok-statuses.ensures) (c.are_stuck.ensures.0 there)
+pub returns-clause-found : goal.returns-clause-found
+returns-clause-found c =
+    let a = c.args.subject.aim in
+    let there : IsTrue c.is_met.result = first_of (search rules, grind (arith, common_steps)) in
+    let met = subst (λ (ss : List Status). IsMet a ss) (c.deref.ensures.value ∙ sym c.deref-3.ensures.value) (c.is_met.ensures.0 there) in
+    leads c.args.subject.program.now.image c.args.subject.version a c.in_ok-lines.lines.items c.in_ok-world.made.items
+    (world_of c.in_ok-world.world) AreStuck c.deref-3.result.now (c.in_ok-lines.ensures ∙ c.deref-2.ensures.value) c.in_ok-world.ensures.runs
+    (c.deref-3.ensures.value ∙ c.in_ok-statuses.ensures)
+    (stuck_else a c.deref-3.result.now met (sym c.tells_failure.ensures ∙ c.if-tells_failure.false))
