@@ -1,9 +1,9 @@
 -- Values of the definitions, worked out by hand.
 use Rattle.std.proofs.Common.{◌≡◌, ◌<◌, ℕ, zero, suc, List, [], ◌∷◌, refl, arith}
 use Rattle.std.specs.List.{All}
+use Rattle.sc_lockpass.specs.Versions.{most_handlers}
 use Rattle.sc_lockpass.specs.declared.version.Version.TheVariants.{One, Two}
 use Rattle.sc_audit.specs.declared.line.RecordLine.{RecordLine}
-use Rattle.sc_audit.specs.Records.{IsRecord}
 use Rattle.sc_auditing.specs.Audits.{turns_of}
 use Rattle.sc_auditing.specs.Misfits.{IsFirstMisfit, IsLine}
 
@@ -38,8 +38,8 @@ third_line = record {
   before = 1;
   number_is = refl;
   fits = record {
-    handlers = alone _ (line 0 2) (omega arith);
-    some = alone _ (line 0 2) (omega arith);
+    handlers = alone (λ (l : RecordLine). l.handler < most_handlers One) (line 0 2) (omega arith);
+    some = alone (λ (l : RecordLine). 0 < l.turns) (line 0 2) (omega arith);
     few = omega arith;
     short = omega arith;
   };

@@ -17,8 +17,7 @@ use Rattle.sc_search.specs.declared.verdict.Length.{Length}
 use Rattle.sc_search.specs.declared.verdict.Length.TheVariants as span
 use Rattle.sc_search.specs.declared.verdict.Order.{Order}
 use Rattle.sc_search.specs.declared.verdict.Verdict.{Verdict}
-use Rattle.sc_search.specs.Found.{IsFirst, IsFound}
-use Rattle.sc_search.specs.Limits.{SaysWhy}
+use Rattle.sc_search.specs.Found.{IsFound}
 use Rattle.sc_search.specs.Verdicts.{IsShown}
 use Rattle.sc_arguments.specs.declared.arguments.searching.SearchOptions.{SearchOptions}
 use Rattle.sc_arguments.specs.declared.arguments.searching.Sought.{Sought}
@@ -105,14 +104,12 @@ found_for name finding.Nothing = None
 found_for name finding.Undecided = None
 
 -- The answer to a search of the program: a verdict on its orders of turns, of which the order that was found leads to what is
--- said, and no shorter beginning of it. There is none where the verdict is whole; where it isn't and none was found, the search has
--- given up. The status goes with it, and the order that was found is for the file of the record, where one was named.
+-- said, and there is none where it is whole; the status that goes with it; and the order that was found for the file of the
+-- record, where one was named.
 pub record IsSearchOf (program : Image) (options : SearchOptions) (output : List ℕ) (exit : Exit) (recording : Option Recording) :
     Type 0 where
   pub verdict : Verdict
   pub found : IsFound program Two verdict.finding
-  pub first : IsFirst program Two (aim_of options.sought) verdict.finding
-  pub why : SaysWhy program Two (aim_of options.sought) options.states verdict.is_whole verdict.finding
   pub whole : IsShown program Two (aim_of options.sought) verdict
   pub told : IsTold options.sought options.lists_outcomes verdict output
   pub status : exit ≡ exit_for verdict.finding

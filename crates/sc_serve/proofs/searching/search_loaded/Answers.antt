@@ -6,8 +6,6 @@ returns-clause-answer g c =
     record {
       verdict = c.in_ok-verdict.verdict;
       found = c.in_ok-verdict.ensures.found;
-      first = rw c.aim_of-aim.ensures at c.in_ok-verdict.ensures.first;
-      why = rw c.aim_of-aim.ensures at c.in_ok-verdict.ensures.why;
       whole = rw c.aim_of-aim.ensures at c.in_ok-verdict.ensures.whole;
       told = c.in_ok-text.ensures;
       status = c.exit_of_finding-exit.ensures;
