@@ -2,42 +2,32 @@
 
 use crate::declared::class_around;
 use crate::redefinition::{push_redefine, push_unfit};
-use sc_explain_text::{is_slip, push_instead_of, push_meant, push_near_built_in, word_at};
+use sc_explain_text::{Lines, is_slip, push_instead_of, push_meant, push_near_built_in, word_at};
 use sc_text::Span;
 use sc_tree::{Class, ClassMark, System};
-use std::alloc::AllocError;
 
 /// Adds what helps with a fault of this code at a part of the text of a system, where something does: a `redefine` that is
 /// missing, what a redefinition lacks, or what is written in place of what is left out. Whether something was added.
-///
-/// # Errors
-///
-/// That memory ran out.
 pub fn explain_class_fault(
-    lines: &mut String,
+    lines: &mut Lines,
     text: &str,
     system: &System,
     code: &str,
     span: Span,
-) -> Result<bool, AllocError> {
+) -> bool {
     match code {
         "C2" => push_near_class(lines, text, system, word_at(text, span)),
         "C4" => push_redefine(lines, text, system, span),
         "C5" => push_unfit(lines, system, span),
         "C8" => push_left_out(lines, text, system, span),
-        _ => Ok(false),
+        _ => false,
     }
 }
 
 /// Adds what is written in place of a part of Eiffel that is left out.
-fn push_left_out(
-    lines: &mut String,
-    text: &str,
-    system: &System,
-    span: Span,
-) -> Result<bool, AllocError> {
+fn push_left_out(lines: &mut Lines, text: &str, system: &System, span: Span) -> bool {
     let Some((_, class)) = class_around(&system.classes, span) else {
-        return Ok(false);
+        return false;
     };
     match &class.mark {
         Some(mark) if class.name.span == span => push_instead_of(
@@ -45,8 +35,8 @@ fn push_left_out(
             word_at(text, span_of(mark)),
         ),
         _ => {
-            lines.push_str(help_of_left_out(class, span))?;
-            Ok(true)
+            lines.push(help_of_left_out(class, span));
+            true
         }
     }
 }
@@ -69,19 +59,14 @@ fn help_of_left_out(class: &Class, span: Span) -> &'static str {
 
 /// Adds a line that asks whether another class was meant, or else what is written in place of what this name shows, and
 /// whether there is one: the first class in the text whose name one slip of the pen makes this one.
-pub fn push_near_class(
-    lines: &mut String,
-    text: &str,
-    system: &System,
-    name: &str,
-) -> Result<bool, AllocError> {
-    if push_instead_of(lines, name)? {
-        return Ok(true);
+pub fn push_near_class(lines: &mut Lines, text: &str, system: &System, name: &str) -> bool {
+    if push_instead_of(lines, name) {
+        return true;
     }
     for class in system.classes.iter() {
         if is_slip(class.name.text.as_bytes(), name.as_bytes()) {
-            push_meant(lines, word_at(text, class.name.span))?;
-            return Ok(true);
+            push_meant(lines, word_at(text, class.name.span));
+            return true;
         }
     }
     push_near_built_in(lines, name)

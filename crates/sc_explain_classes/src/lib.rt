@@ -6,9 +6,11 @@
 
 mod declared;
 mod helps;
+mod reading;
 mod redefinition;
 mod root;
 
 pub use declared::{class_around, feature_around, other_declaration};
 pub use helps::{explain_class_fault, push_near_class};
+pub use reading::{let_tables_go, tables_of};
 pub use root::explain_root;

@@ -1,27 +1,21 @@
 //! What a redefinition lacks.
 
 use crate::declared::{class_around, feature_around, inherits, parent_of};
-use sc_explain_text::{push_all, word_at};
+use sc_explain_text::{Lines, word_at};
 use sc_text::Span;
 use sc_tree::{Class, Feature, FeatureKind, Name, System};
-use std::alloc::AllocError;
 
 /// Adds how a feature that has the name of an inherited one is declared, where the one at fault has or is inherited, and
 /// whether it is that.
-pub fn push_redefine(
-    lines: &mut String,
-    text: &str,
-    system: &System,
-    span: Span,
-) -> Result<bool, AllocError> {
+pub fn push_redefine(lines: &mut Lines, text: &str, system: &System, span: Span) -> bool {
     let Some((_, class)) = class_around(&system.classes, span) else {
-        return Ok(false);
+        return false;
     };
     let Some(feature) = feature_around(class, span) else {
-        return Ok(false);
+        return false;
     };
     if feature.name.span != span {
-        return Ok(false);
+        return false;
     }
     for other in system.classes.iter() {
         if let Some(known) = declared_in(other, &feature.name) {
@@ -33,52 +27,49 @@ pub fn push_redefine(
             }
         }
     }
-    Ok(false)
+    false
 }
 
 /// Adds how a class declares a feature again that it inherits.
 fn push_for_heir(
-    lines: &mut String,
+    lines: &mut Lines,
     text: &str,
     heir: &Class,
     inherited: &Feature,
     own: &Feature,
-) -> Result<bool, AllocError> {
+) -> bool {
     if !is_routine(inherited) || !is_routine(own) {
-        lines.push_str(
+        lines.push(
             "help: give it another name: an attribute isn't redefined, and redefines nothing\n",
-        )?;
-        return Ok(true);
+        );
+        return true;
     }
     let Some(parent) = heir.parents.first() else {
-        return Ok(false);
+        return false;
     };
     let class = word_at(text, heir.name.span);
     let parent = word_at(text, parent.name.span);
     let name = word_at(text, own.name.span);
-    push_all(
-        lines,
-        &[
-            "help: to redefine it, ",
-            class,
-            " says so: `inherit ",
-            parent,
-            " redefine ",
-            name,
-            " end`\n",
-        ],
-    )?;
-    Ok(true)
+    lines.push_all(&[
+        "help: to redefine it, ",
+        class,
+        " says so: `inherit ",
+        parent,
+        " redefine ",
+        name,
+        " end`\n",
+    ]);
+    true
 }
 
 /// Adds what a redefinition at fault lacks.
-pub fn push_unfit(lines: &mut String, system: &System, span: Span) -> Result<bool, AllocError> {
+pub fn push_unfit(lines: &mut Lines, system: &System, span: Span) -> bool {
     let said = match class_around(&system.classes, span) {
-        None => return Ok(false),
+        None => return false,
         Some((_, class)) => lacking(system, class, span),
     };
-    push_all(lines, &["help: ", said, "\n"])?;
-    Ok(true)
+    lines.push_all(&["help: ", said, "\n"]);
+    true
 }
 
 /// What a redefinition at fault in this class lacks.

@@ -2,31 +2,18 @@
 
 use crate::declared::parent_of;
 use sc_class::Root;
-use sc_explain_text::{push_all, word_at};
+use sc_explain_text::{Lines, word_at};
 use sc_tree::{Class, Feature, FeatureKind, System};
-use std::alloc::AllocError;
 
 /// Adds why the system of a text isn't run from this root, and what helps.
-///
-/// # Errors
-///
-/// That memory ran out.
-pub fn explain_root(
-    lines: &mut String,
-    text: &str,
-    system: &System,
-    root: &Root,
-) -> Result<(), AllocError> {
+pub fn explain_root(lines: &mut Lines, text: &str, system: &System, root: &Root) {
     match class_named(system, &root.class) {
         None => {
-            push_all(
-                lines,
-                &[
-                    "no class is called `",
-                    root.class.as_str(),
-                    "`, in any letter case\n",
-                ],
-            )?;
+            lines.push_all(&[
+                "no class is called `",
+                root.class.as_str(),
+                "`, in any letter case\n",
+            ]);
             push_other_root(lines, text, system, root)
         }
         Some(class) => push_unfit(lines, text, system, class, root),
@@ -44,21 +31,21 @@ enum Unfit {
 
 /// Adds why this class isn't run from the root's procedure, and what helps.
 fn push_unfit<'s>(
-    lines: &mut String,
+    lines: &mut Lines,
     text: &str,
     system: &'s System,
     class: &'s Class,
     root: &Root,
-) -> Result<(), AllocError> {
+) {
     let procedure = root.procedure.as_str();
     let (said, help) = words_of(why_unfit(feature_named(system, class, procedure)));
-    push_all(lines, &["`", procedure, "` of the class `"])?;
-    push_all(lines, &[word_at(text, class.name.span), "`"])?;
-    lines.push_str(said)?;
-    if push_other_procedure(lines, text, system, class)? {
-        return Ok(());
+    lines.push_all(&["`", procedure, "` of the class `"]);
+    lines.push_all(&[word_at(text, class.name.span), "`"]);
+    lines.push(said);
+    if push_other_procedure(lines, text, system, class) {
+        return;
     }
-    lines.push_str(help)
+    lines.push(help)
 }
 
 /// What is said of a procedure that is no root for this reason, and what helps where its class has no other.
@@ -98,56 +85,45 @@ fn why_unfit(feature: Option<&Feature>) -> Unfit {
 
 /// Adds another procedure of the class that it can be run from, and whether there is one.
 fn push_other_procedure<'s>(
-    lines: &mut String,
+    lines: &mut Lines,
     text: &str,
     system: &'s System,
     class: &'s Class,
-) -> Result<bool, AllocError> {
+) -> bool {
     for creator in class.creators.iter() {
         if is_root(system, class, &creator.text) {
             let name = word_at(text, class.name.span);
             let procedure = word_at(text, creator.span);
-            push_all(
-                lines,
-                &[
-                    "help: `--root ",
-                    name,
-                    ".",
-                    procedure,
-                    "` runs it from there\n",
-                ],
-            )?;
-            return Ok(true);
+            lines.push_all(&[
+                "help: `--root ",
+                name,
+                ".",
+                procedure,
+                "` runs it from there\n",
+            ]);
+            return true;
         }
     }
-    Ok(false)
+    false
 }
 
 /// Adds the first class that the system can be run from, or how one is declared.
-fn push_other_root(
-    lines: &mut String,
-    text: &str,
-    system: &System,
-    root: &Root,
-) -> Result<(), AllocError> {
+fn push_other_root(lines: &mut Lines, text: &str, system: &System, root: &Root) {
     for class in system.classes.iter() {
-        if push_other_procedure(lines, text, system, class)? {
-            return Ok(());
+        if push_other_procedure(lines, text, system, class) {
+            return;
         }
     }
     let procedure = root.procedure.as_str();
-    push_all(
-        lines,
-        &[
-            "help: declare it: `class ",
-            root.class.as_str(),
-            " create ",
-            procedure,
-            " feature ",
-            procedure,
-            " do .. end end`\n",
-        ],
-    )
+    lines.push_all(&[
+        "help: declare it: `class ",
+        root.class.as_str(),
+        " create ",
+        procedure,
+        " feature ",
+        procedure,
+        " do .. end end`\n",
+    ])
 }
 
 /// Whether a class has a procedure of this name without formals.

@@ -8,12 +8,14 @@ use crate::words::{
 };
 use sc_class::{ClassId, Tables};
 use sc_excerpt::excerpt;
+use sc_explain_text::Lines;
+use sc_explain_waiting::push_place;
 use sc_model::Cause;
 use sc_region::{BrokenInvariant, Errand, Point};
-use sc_source::source::{Place, Source};
+use sc_source::source::Source;
 use sc_text::Span;
 use sc_whereabouts::{Kind, Whereabouts, invariant_clause, locate};
-use std::alloc::{AllocError, Global};
+use std::alloc::Global;
 
 /// What a run is of: a text, its classes, and the names that its code has by numbers.
 #[derive(Clone, Copy)]
@@ -33,29 +35,21 @@ struct Declared {
 
 impl<'r> Origin<'r> {
     /// Adds where a handler stood as it failed, as far as that is known, and for whom it ran.
-    pub fn push_failing(
-        self,
-        lines: &mut Vec<u8>,
-        failing: Failing,
-        moment: Option<&Moment>,
-    ) -> Result<(), AllocError> {
-        self.push_stood(lines, failing)?;
+    pub fn push_failing(self, lines: &mut Lines, failing: Failing, moment: Option<&Moment>) {
+        self.push_stood(lines, failing);
         if let Some(broken) = failing.breakdown.invariant {
-            self.push_invariant(lines, broken)?;
+            self.push_invariant(lines, broken);
         }
         if let Some(moment) = moment {
-            lines.extend_from_slice(moment.values.as_slice())?;
+            lines.push_lines(&moment.values);
         }
-        push_needed(self.alloc, lines, failing)?;
+        push_needed(lines, failing);
         if let Some(served) = failing.served {
-            self.push_served(lines, served)?;
+            self.push_served(lines, served);
         }
-        match moment {
-            Some(moment) => {
-                lines.extend_from_slice(moment.callers.as_slice())?;
-                lines.extend_from_slice(moment.requests.as_slice())
-            }
-            None => Ok(()),
+        if let Some(moment) = moment {
+            lines.push_lines(&moment.callers);
+            lines.push_lines(&moment.requests);
         }
     }
 
@@ -70,95 +64,86 @@ impl<'r> Origin<'r> {
     }
 
     /// Adds where a routine stood, or what was asked for where none ran.
-    fn push_stood(self, lines: &mut Vec<u8>, failing: Failing) -> Result<(), AllocError> {
+    fn push_stood(self, lines: &mut Lines, failing: Failing) {
         let ending = failing.ending;
         match (ending.is_at_once, failing.breakdown.point, failing.served) {
             (true, _, Some(served)) => self.push_at_once(lines, served, failing.cause),
             (false, Some(point), _) => {
                 self.push_point(lines, point, failing.cause, ending.is_behind)
             }
-            _ => Ok(()),
+            _ => {}
         }
     }
 
     /// Adds where a routine stood, whose handler failed behind an operation or at it.
-    fn push_point(
-        self,
-        lines: &mut Vec<u8>,
-        point: Point,
-        cause: Cause,
-        is_behind: bool,
-    ) -> Result<(), AllocError> {
+    fn push_point(self, lines: &mut Lines, point: Point, cause: Cause, is_behind: bool) {
         let Some(there) = whereabouts(self.tables, point, cause, is_behind) else {
-            return Ok(());
+            return;
         };
         let text = self.source.text();
         let [routine, class] = routine_words(text, there);
         if cause == Cause::SupplierFailed && point.place == 0 {
             let reserves = Phrase::plain("which reserves the handlers of its formals");
-            let words = [routine, class, reserves];
-            return push_place(self.alloc, lines, self.source, there.routine, &words);
+            return self.push_place(lines, there.routine, &[routine, class, reserves]);
         }
         let [operation, of, origin] = site_words(text, there, cause);
         let words = [routine, class, operation, of, origin];
-        push_place(self.alloc, lines, self.source, there.site.span, &words)
+        self.push_place(lines, there.site.span, &words)
     }
 
     /// Adds which clause of a class invariant is false.
-    fn push_invariant(
-        self,
-        lines: &mut Vec<u8>,
-        broken: BrokenInvariant,
-    ) -> Result<(), AllocError> {
+    fn push_invariant(self, lines: &mut Lines, broken: BrokenInvariant) {
         let number = broken.class as usize;
-        let Some(clause) = invariant_clause(self.tables, number, broken.clause) else {
-            return Ok(());
-        };
-        let Some(class) = name_of_class(self.tables, number) else {
-            return Ok(());
-        };
-        let text = self.source.text();
-        let [of, origin] = invariant_words(text, class, clause.class);
-        let words = [clause_words(text, clause.tag), of, origin];
-        push_place(self.alloc, lines, self.source, clause.span, &words)
+        if let Some(clause) = invariant_clause(self.tables, number, broken.clause)
+            && let Some(class) = name_of_class(self.tables, number)
+        {
+            let text = self.source.text();
+            let [of, origin] = invariant_words(text, class, clause.class);
+            let words = [clause_words(text, clause.tag), of, origin];
+            self.push_place(lines, clause.span, &words)
+        }
     }
 
     /// Adds where the attribute is declared that was asked for while it was Void: no routine ran for that.
-    fn push_at_once(
-        self,
-        lines: &mut Vec<u8>,
-        asked: Asked,
-        cause: Cause,
-    ) -> Result<(), AllocError> {
-        let (Cause::UnsetEntity, Errand::Calls(name)) = (cause, asked.errand) else {
-            return Ok(());
-        };
-        let Some(declared) = self.feature_asked(asked, name) else {
-            return Ok(());
-        };
-        let Some(class) = name_of_class(self.tables, declared.class) else {
-            return Ok(());
-        };
-        let text = self.source.text();
-        let words = [
-            Phrase::around("`", written(text, declared.name), "` of "),
-            Phrase::around("", written(text, class), " is read"),
-        ];
-        push_place(self.alloc, lines, self.source, declared.name, &words)
+    fn push_at_once(self, lines: &mut Lines, asked: Asked, cause: Cause) {
+        if let (Cause::UnsetEntity, Errand::Calls(name)) = (cause, asked.errand)
+            && let Some(declared) = self.feature_asked(asked, name)
+            && let Some(class) = name_of_class(self.tables, declared.class)
+        {
+            let text = self.source.text();
+            let words = [
+                Phrase::around("`", written(text, declared.name), "` of "),
+                Phrase::around("", written(text, class), " is read"),
+            ];
+            self.push_place(lines, declared.name, &words)
+        }
     }
 
     /// Adds whose request it was that the handler served.
-    fn push_served(self, lines: &mut Vec<u8>, asked: Asked) -> Result<(), AllocError> {
+    fn push_served(self, lines: &mut Lines, asked: Asked) {
         let Some(poster) = asked.poster else {
-            return lines.extend_from_slice(b"it was creating the root object\n");
+            return lines.push("it was creating the root object\n");
         };
-        push_numbered(self.alloc, lines, "it served handler ", poster)?;
-        let [errand, feature] = self.errand_words(asked);
-        let end = Phrase::plain("\n");
-        push_phrases(
-            lines,
-            &[Phrase::plain(", which asked for "), errand, feature, end],
-        )
+        lines.push("it served handler ");
+        lines.push_number(u64::from(poster));
+        lines.push(", which asked for ");
+        push_phrases(lines, &self.errand_words(asked));
+        lines.push("\n")
+    }
+
+    /// Adds a place of the text with what is said of it, and its line with carets.
+    fn push_place(self, lines: &mut Lines, span: Span, words: &[Phrase<'_>]) {
+        let Some(place) = self.source.place_of(span.start) else {
+            return;
+        };
+        push_place(lines, place);
+        lines.push(": ");
+        push_phrases(lines, words);
+        lines.push("\n");
+        match excerpt(self.alloc, self.source.text().as_bytes(), span) {
+            Ok(shown) => lines.push_bytes(shown.as_slice()),
+            Err(_) => lines.lack(),
+        }
     }
 
     /// What is asked for.
@@ -219,52 +204,17 @@ fn whereabouts(
 }
 
 /// Adds which handler the failed one needed, where it failed by what came of that.
-fn push_needed(alloc: Global, lines: &mut Vec<u8>, failing: Failing) -> Result<(), AllocError> {
+fn push_needed(lines: &mut Lines, failing: Failing) {
     let what = match failing.cause {
         Cause::SupplierFailed => ", which has failed\n",
         Cause::Precondition => ", which refused\n",
-        _ => return Ok(()),
+        _ => return,
     };
-    match failing.supplier {
-        Some(supplier) if failing.ending.is_behind => {
-            push_numbered(alloc, lines, "it needed handler ", supplier)?;
-            lines.extend_from_slice(what.as_bytes())
-        }
-        _ => Ok(()),
+    if let Some(supplier) = failing.supplier
+        && failing.ending.is_behind
+    {
+        lines.push("it needed handler ");
+        lines.push_number(u64::from(supplier));
+        lines.push(what)
     }
-}
-
-/// Adds words and a number.
-fn push_numbered(
-    alloc: Global,
-    lines: &mut Vec<u8>,
-    words: &str,
-    number: u16,
-) -> Result<(), AllocError> {
-    let told = format!(in alloc; "{words}{number}")?;
-    lines.extend_from_slice(told.as_bytes())
-}
-
-/// Adds a place of the text with what is said of it, and its line with carets.
-fn push_place(
-    alloc: Global,
-    lines: &mut Vec<u8>,
-    source: &Source,
-    span: Span,
-    words: &[Phrase<'_>],
-) -> Result<(), AllocError> {
-    let Some(place) = source.place_of(span.start) else {
-        return Ok(());
-    };
-    push_position(alloc, lines, place)?;
-    push_phrases(lines, words)?;
-    lines.push(b'\n')?;
-    let shown = excerpt(alloc, source.text().as_bytes(), span)?;
-    lines.extend_from_slice(shown.as_slice())
-}
-
-fn push_position(alloc: Global, lines: &mut Vec<u8>, place: Place<'_>) -> Result<(), AllocError> {
-    let Place { file, line, column } = place;
-    let told = format!(in alloc; "{file}:{line}:{column}: ")?;
-    lines.extend_from_slice(told.as_bytes())
 }

@@ -4,19 +4,18 @@ use crate::breakdown::Origin;
 use crate::failing::failing_in;
 use crate::limit::{Limit, push_limit};
 use crate::moments::{Kind, Moment, moments_of};
-use crate::words::{Phrase, push_phrases};
 use sc_audit::RecordLine;
 use sc_check::{CheckFault, Checked, check};
-use sc_class::{ClassFault, Root, Tables, tables};
+use sc_class::{Root, Tables};
 use sc_code::Program;
 use sc_explain::find;
-use sc_explain_waiting::waiting_note;
+use sc_explain_classes::{let_tables_go, tables_of};
+use sc_explain_text::{Lines, let_go, system_of};
+use sc_explain_waiting::push_waits;
 use sc_lockpass::Version;
 use sc_lower::{Lowering, lower};
 use sc_model::{Cause, Status};
-use sc_parse::{ParseFault, parse};
 use sc_source::source::Source;
-use sc_text::{LexFault, Token, lex};
 use sc_tree::System;
 use sc_world::{Turned, World, code_of};
 use std::alloc::{AllocError, Global};
@@ -55,7 +54,11 @@ pub fn run_note(
     }
     match system_of(alloc, played.source.text()) {
         Ok(None) => note(alloc, statuses, None),
-        Ok(Some(system)) => note_of_system(alloc, played, statuses, &system),
+        Ok(Some(system)) => {
+            let note = note_of_system(alloc, played, statuses, &system);
+            let_go(system);
+            note
+        }
         Err(error) => Err(error),
     }
 }
@@ -69,7 +72,11 @@ fn note_of_system(
 ) -> Result<Vec<u8>, AllocError> {
     match tables_of(alloc, system, played.root) {
         Ok(None) => note(alloc, statuses, None),
-        Ok(Some(tables)) => note_of_tables(alloc, played, statuses, system, &tables),
+        Ok(Some(tables)) => {
+            let note = note_of_tables(alloc, played, statuses, system, &tables);
+            let_tables_go(tables);
+            note
+        }
         Err(error) => Err(error),
     }
 }
@@ -144,37 +151,6 @@ fn are_free(statuses: &[Status]) -> bool {
     statuses.iter().all(|status| matches!(status, Status::Free))
 }
 
-/// The system of a text, if it spells one.
-fn system_of(alloc: Global, text: &str) -> Result<Option<System>, AllocError> {
-    match lex(alloc, text) {
-        Ok(tokens) => parsed(alloc, &tokens),
-        Err(LexFault::OutOfMemory) => Err(AllocError),
-        Err(_) => Ok(None),
-    }
-}
-
-/// The system of these tokens, if they spell one.
-fn parsed(alloc: Global, tokens: &[Token]) -> Result<Option<System>, AllocError> {
-    match parse(alloc, tokens) {
-        Ok(system) => Ok(Some(system)),
-        Err(ParseFault::OutOfMemory) => Err(AllocError),
-        Err(_) => Ok(None),
-    }
-}
-
-/// The tables of a system, if it has no fault.
-fn tables_of<'s>(
-    alloc: Global,
-    system: &'s System,
-    root: &Root,
-) -> Result<Option<Tables<'s>>, AllocError> {
-    match tables(alloc, system, root) {
-        Ok(tables) => Ok(Some(tables)),
-        Err(ClassFault::OutOfMemory) => Err(AllocError),
-        Err(_) => Ok(None),
-    }
-}
-
 /// The program of a system, if it is sound and its code isn't too long.
 fn program_of(alloc: Global, system: &System, root: &Root) -> Result<Option<Program>, AllocError> {
     match tables_of(alloc, system, root) {
@@ -208,34 +184,27 @@ fn note(
     statuses: &[Status],
     rerun: Option<Rerun<'_>>,
 ) -> Result<Vec<u8>, AllocError> {
-    let mut lines = Vec::new(alloc);
+    let mut lines = Lines::new(alloc);
     for (handler, status) in statuses.iter().enumerate() {
         if let Status::Failed(cause) = status {
-            push_failure(alloc, &mut lines, handler, *cause, rerun)?;
+            push_failure(&mut lines, handler, *cause, rerun);
         }
     }
     if let Some(rerun) = rerun {
-        push_refusals(&mut lines, rerun.moments)?;
-        push_limit(alloc, &mut lines, rerun.played, statuses)?;
-        push_waits(&mut lines, rerun)?;
+        push_refusals(&mut lines, rerun.moments);
+        push_limit(&mut lines, rerun.played, statuses);
+        push_waits(rerun.origin.shared(), &mut lines, rerun.world)?;
     }
-    Ok(lines)
+    lines.finish()
 }
 
 /// Adds which requests were refused for which nobody waited.
-fn push_refusals(lines: &mut Vec<u8>, moments: &[Moment]) -> Result<(), AllocError> {
+fn push_refusals(lines: &mut Lines, moments: &[Moment]) {
     for moment in moments {
         if moment.kind == Kind::Refusal {
-            lines.extend_from_slice(moment.requests.as_slice())?;
+            lines.push_lines(&moment.requests);
         }
     }
-    Ok(())
-}
-
-/// Adds why handlers wait or are busy.
-fn push_waits(lines: &mut Vec<u8>, rerun: Rerun<'_>) -> Result<(), AllocError> {
-    let note = waiting_note(rerun.origin.shared(), rerun.world)?;
-    lines.extend_from_slice(note.as_slice())
 }
 
 /// What there was in front of the failure of a handler.
@@ -249,50 +218,31 @@ fn failure_of(moments: &[Moment], handler: u16) -> Option<&Moment> {
 }
 
 /// Adds what the failure of a handler is, where it was, and where more is said of it.
-fn push_failure(
-    alloc: Global,
-    lines: &mut Vec<u8>,
-    handler: usize,
-    cause: Cause,
-    rerun: Option<Rerun<'_>>,
-) -> Result<(), AllocError> {
+fn push_failure(lines: &mut Lines, handler: usize, cause: Cause, rerun: Option<Rerun<'_>>) {
     let code = code_of(cause);
     if let Some(page) = find(code) {
-        push_heading(alloc, lines, handler, page)?;
+        push_heading(lines, handler, page);
     }
     if let Some(rerun) = rerun {
         let number = handler.min(u16::MAX as usize) as u16;
         if let Some(failing) = failing_in(rerun.world, number, cause) {
             let moment = failure_of(rerun.moments, number);
-            rerun.origin.push_failing(lines, failing, moment)?;
+            rerun.origin.push_failing(lines, failing, moment);
         }
     }
-    push_phrases(
-        lines,
-        &[Phrase::around("`scoop explain ", code, "` says more\n")],
-    )
+    lines.push_all(&["`scoop explain ", code, "` says more\n"])
 }
 
 /// Adds by what a handler has failed: the heading of a page, and what it says first.
-fn push_heading(
-    alloc: Global,
-    lines: &mut Vec<u8>,
-    handler: usize,
-    page: &str,
-) -> Result<(), AllocError> {
-    let begin = format!(in alloc; "handler {handler} has failed by ")?;
-    lines.extend_from_slice(begin.as_bytes())?;
-    push_beginning(lines, page)
-}
-
-/// Adds the heading of a page and what it says first.
-fn push_beginning(lines: &mut Vec<u8>, page: &str) -> Result<(), AllocError> {
+fn push_heading(lines: &mut Lines, handler: usize, page: &str) {
+    lines.push("handler ");
+    lines.push_number(handler as u64);
+    lines.push(" has failed by ");
     for (number, line) in page.lines().enumerate() {
         if number > 2 && line.is_empty() {
-            return Ok(());
+            return;
         }
-        lines.extend_from_slice(line.as_bytes())?;
-        lines.extend_from_slice(if number == 0 { b":" } else { b"\n" })?;
+        lines.push(line);
+        lines.push(if number == 0 { ":" } else { "\n" });
     }
-    Ok(())
 }

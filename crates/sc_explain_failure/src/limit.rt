@@ -2,8 +2,8 @@
 
 use crate::failure::Played;
 use sc_audit::RecordLine;
+use sc_explain_text::Lines;
 use sc_model::Status;
-use std::alloc::{AllocError, Global};
 
 /// The most turns that a run may make.
 const MOST_TURNS: u32 = 10_000_000;
@@ -18,33 +18,34 @@ pub enum Limit {
 }
 
 /// Adds how many turns were made, where a handler still has something to do, and what helps.
-pub fn push_limit(
-    alloc: Global,
-    lines: &mut Vec<u8>,
-    played: Played<'_>,
-    statuses: &[Status],
-) -> Result<(), AllocError> {
-    if !statuses.iter().any(|status| matches!(status, Status::Busy)) {
-        return Ok(());
+pub fn push_limit(lines: &mut Lines, played: Played<'_>, statuses: &[Status]) {
+    if statuses.iter().any(|status| matches!(status, Status::Busy)) {
+        push_ended(lines, played.limit, turns_in(played.lines))
     }
-    let made = turns_in(played.lines);
-    let noun = if made == 1 { "turn" } else { "turns" };
-    let most = MOST_TURNS;
-    let told = match played.limit {
-        Limit::Record => format!(in alloc;
-            "stopped limit: the record ends behind {made} {noun}\n"
-        )?,
-        Limit::Turns(limit) if made < u64::from(limit) => format!(in alloc;
-            "stopped limit: {made} {noun} were made, and the record of the run has as many lines as it may have\n"
-        )?,
-        Limit::Turns(limit) if limit >= MOST_TURNS => format!(in alloc;
-            "stopped limit: {made} {noun} were made, which is the most that `--turns` takes\n"
-        )?,
-        Limit::Turns(_) => format!(in alloc;
-            "stopped limit: {made} {noun} were made; `--turns` takes up to {most}\n"
-        )?,
-    };
-    lines.extend_from_slice(told.as_bytes())
+}
+
+/// Adds that a run ended behind so many turns, and what helps.
+fn push_ended(lines: &mut Lines, limit: Limit, made: u64) {
+    lines.push("stopped limit: ");
+    if let Limit::Record = limit {
+        lines.push("the record ends behind ");
+    }
+    lines.push_number(made);
+    lines.push(if made == 1 { " turn" } else { " turns" });
+    match limit {
+        Limit::Record => lines.push("\n"),
+        Limit::Turns(limit) if made < u64::from(limit) => lines.push(
+            " were made, and the record of the run has as many lines as it may have\n",
+        ),
+        Limit::Turns(limit) if limit >= MOST_TURNS => {
+            lines.push(" were made, which is the most that `--turns` takes\n")
+        }
+        Limit::Turns(_) => {
+            lines.push(" were made; `--turns` takes up to ");
+            lines.push_number(u64::from(MOST_TURNS));
+            lines.push("\n")
+        }
+    }
 }
 
 /// How many turns these lines have.

@@ -5,8 +5,9 @@ use crate::failure::Played;
 use crate::history::taken_before;
 use sc_audit::RecordLine;
 use sc_code::Program;
+use sc_explain_text::Lines;
 use sc_explain_waiting::{
-    attributes_note, false_clause_note, push_name, push_request, push_stand, values_note,
+    push_attributes, push_false_clause, push_name, push_operation_values, push_request, push_stand,
 };
 use sc_model::{Cause, Status};
 use sc_region::{BrokenInvariant, Job, Reference, Request, Value, Want};
@@ -39,11 +40,11 @@ pub struct Moment {
     place: usize,
     is_told: bool,
     /// The values of what failed.
-    pub values: Vec<u8>,
+    pub values: Lines,
     /// The handlers that waited for it, the innermost first.
-    pub callers: Vec<u8>,
+    pub callers: Lines,
     /// The requests that were lost.
-    pub requests: Vec<u8>,
+    pub requests: Lines,
 }
 
 /// What there was in front of each failure of a run that was played, and of each refusal for which nobody waited.
@@ -87,9 +88,9 @@ fn add(
         kind,
         place,
         is_told: false,
-        values: Vec::new(origin.alloc),
-        callers: Vec::new(origin.alloc),
-        requests: Vec::new(origin.alloc),
+        values: Lines::new(origin.alloc),
+        callers: Lines::new(origin.alloc),
+        requests: Lines::new(origin.alloc),
     })?;
     Ok(())
 }
@@ -191,7 +192,7 @@ impl<'r, 'p> Rewound<'r, 'p> {
             {
                 moment.is_told = true;
                 self.advance(moment.place)?;
-                self.tell(ended, moment)?;
+                self.tell(ended, moment);
             }
         }
         Ok(())
@@ -216,107 +217,95 @@ impl<'r, 'p> Rewound<'r, 'p> {
         Ok(())
     }
 
-    fn tell(&self, ended: &World<'_>, moment: &mut Moment) -> Result<(), AllocError> {
-        let Some(settlement) = ended.log().get(moment.place) else {
-            return Ok(());
-        };
-        match moment.kind {
-            Kind::Refusal => self.tell_refusal(ended.log(), moment),
-            Kind::Failure => {
-                self.tell_values(ended, &settlement, moment)?;
-                self.tell_callers(ended.log(), moment)?;
-                self.tell_dropped(&settlement, moment)
+    fn tell(&self, ended: &World<'_>, moment: &mut Moment) {
+        if let Some(settlement) = ended.log().get(moment.place) {
+            match moment.kind {
+                Kind::Refusal => self.tell_refusal(ended.log(), moment),
+                Kind::Failure => self.tell_failure(ended, &settlement, moment),
             }
         }
     }
 
+    fn tell_failure(&self, ended: &World<'_>, settlement: &Settlement, moment: &mut Moment) {
+        self.tell_values(ended, settlement, moment);
+        self.tell_callers(ended.log(), moment);
+        self.tell_dropped(settlement, moment)
+    }
+
     /// Which request is refused, and by which clause.
-    fn tell_refusal(&self, log: &Log, moment: &mut Moment) -> Result<(), AllocError> {
-        let Some(settlement) = served_before(log, moment.handler, moment.place) else {
-            return Ok(());
-        };
-        let Job::Take(request) = &settlement.job else {
-            return Ok(());
-        };
+    fn tell_refusal(&self, log: &Log, moment: &mut Moment) {
+        if let Some(settlement) = served_before(log, moment.handler, moment.place)
+            && let Job::Take(request) = &settlement.job
+        {
+            self.tell_refused(request, moment)
+        }
+    }
+
+    fn tell_refused(&self, request: &Request, moment: &mut Moment) {
+        let origin = self.origin.shared();
         let handler = moment.handler;
         let lines = &mut moment.requests;
-        lines.extend_from_slice(b"handler ")?;
-        push_name(self.origin.shared(), lines, &self.world, handler)?;
-        lines.extend_from_slice(b" refused ")?;
-        push_request(self.origin.shared(), lines, &self.world, request)?;
-        lines.extend_from_slice(b", and nobody waited for it\n")?;
-        let clause = false_clause_note(self.origin.shared(), &self.world, handler)?;
-        lines.extend_from_slice(clause.as_slice())
+        lines.push("handler ");
+        push_name(origin, lines, &self.world, handler);
+        lines.push(" refused ");
+        push_request(origin, lines, &self.world, request);
+        lines.push(", and nobody waited for it\n");
+        push_false_clause(origin, lines, &self.world, handler)
     }
 
     /// The values of what failed.
-    fn tell_values(
-        &self,
-        ended: &World<'_>,
-        settlement: &Settlement,
-        moment: &mut Moment,
-    ) -> Result<(), AllocError> {
-        let Some(answer) = answer_of(settlement) else {
-            return Ok(());
-        };
-        let Some(breakdown) = ended.breakdown(moment.handler) else {
-            return Ok(());
-        };
-        match (breakdown.invariant, breakdown.point) {
-            (Some(broken), _) => self.tell_attributes(ended, broken, moment),
-            (None, Some(point)) if has_values(settlement) => {
-                let origin = self.origin.shared();
-                let handler = moment.handler;
-                let values = values_note(origin, &self.world, handler, answer, point.place)?;
-                moment.values.extend_from_slice(values.as_slice())
+    fn tell_values(&self, ended: &World<'_>, settlement: &Settlement, moment: &mut Moment) {
+        if let Some(answer) = answer_of(settlement)
+            && let Some(breakdown) = ended.breakdown(moment.handler)
+        {
+            match (breakdown.invariant, breakdown.point) {
+                (Some(broken), _) => self.tell_attributes(ended, broken, moment),
+                (None, Some(point)) if has_values(settlement) => push_operation_values(
+                    self.origin.shared(),
+                    &mut moment.values,
+                    &self.world,
+                    moment.handler,
+                    answer,
+                    point.place,
+                ),
+                _ => {}
             }
-            _ => Ok(()),
         }
     }
 
     /// Who waited for the handler, and who for that one, and so on: where each asked for what, and for whom.
-    fn tell_callers(&self, log: &Log, moment: &mut Moment) -> Result<(), AllocError> {
+    fn tell_callers(&self, log: &Log, moment: &mut Moment) {
         let origin = self.origin.shared();
         let mut handler = moment.handler;
-        let place = moment.place;
+        let end = moment.place.saturating_add(1);
         let lines = &mut moment.callers;
         for _caller in 0..MOST_CALLERS {
-            let Some(client) = client_of(log, handler, place.saturating_add(1)) else {
-                return Ok(());
+            let Some(client) = client_of(log, handler, end) else {
+                return;
             };
-            lines.extend_from_slice(b"handler ")?;
-            push_name(origin, lines, &self.world, client)?;
-            lines.extend_from_slice(b" waited for it")?;
-            push_stand(origin, lines, &self.world, client)?;
-            lines.push(b'\n')?;
+            lines.push("handler ");
+            push_name(origin, lines, &self.world, client);
+            lines.push(" waited for it");
+            push_stand(origin, lines, &self.world, client);
+            lines.push("\n");
             handler = client;
         }
-        Ok(())
     }
 
     /// The attributes that a clause of an invariant names, which the object that the handler was at has broken.
-    fn tell_attributes(
-        &self,
-        ended: &World<'_>,
-        broken: BrokenInvariant,
-        moment: &mut Moment,
-    ) -> Result<(), AllocError> {
+    fn tell_attributes(&self, ended: &World<'_>, broken: BrokenInvariant, moment: &mut Moment) {
         let class = broken.class as usize;
-        let Some(clause) = invariant_clause(self.origin.tables, class, broken.clause) else {
-            return Ok(());
-        };
-        let Some(object) = current_of(&self.world, moment.handler) else {
-            return Ok(());
-        };
-        if object.class != broken.class {
-            return Ok(());
+        if let Some(clause) = invariant_clause(self.origin.tables, class, broken.clause)
+            && let Some(object) = current_of(&self.world, moment.handler)
+            && object.class == broken.class
+        {
+            let origin = self.origin.shared();
+            push_attributes(origin, &mut moment.values, ended, object, clause.span)
         }
-        let values = attributes_note(self.origin.shared(), ended, object, clause.span)?;
-        moment.values.extend_from_slice(values.as_slice())
     }
 
     /// How many requests stood behind the one that failed.
-    fn tell_dropped(&self, settlement: &Settlement, moment: &mut Moment) -> Result<(), AllocError> {
+    fn tell_dropped(&self, settlement: &Settlement, moment: &mut Moment) {
         let standing = self.world.core().queue_len(moment.handler);
         let takes = matches!(&settlement.job, Job::Take(_));
         let count = if takes {
@@ -324,36 +313,28 @@ impl<'r, 'p> Rewound<'r, 'p> {
         } else {
             standing
         };
-        if count == 0 {
-            return Ok(());
+        if count > 0 {
+            let first = self.world.core().first_asked(moment.handler);
+            self.push_dropped(
+                &mut moment.requests,
+                count,
+                if takes { None } else { first },
+            )
         }
-        let told = if count == 1 {
-            format!(in self.origin.alloc; "1 request that stood behind it was dropped")?
-        } else {
-            format!(in self.origin.alloc; "{count} requests that stood behind it were dropped")?
-        };
-        moment.requests.extend_from_slice(told.as_bytes())?;
-        match self.world.core().first_asked(moment.handler) {
-            Some(request) if !takes => self.tell_first(count, request, moment)?,
-            _ => {}
-        }
-        moment.requests.push(b'\n')?;
-        Ok(())
     }
 
-    fn tell_first(
-        &self,
-        count: usize,
-        request: &Request,
-        moment: &mut Moment,
-    ) -> Result<(), AllocError> {
-        let lines = &mut moment.requests;
-        lines.extend_from_slice(if count == 1 {
-            b": ".as_slice()
+    fn push_dropped(&self, lines: &mut Lines, count: usize, first: Option<&Request>) {
+        lines.push_number(count as u64);
+        lines.push(if count == 1 {
+            " request that stood behind it was dropped"
         } else {
-            b": first ".as_slice()
-        })?;
-        push_request(self.origin.shared(), lines, &self.world, request)
+            " requests that stood behind it were dropped"
+        });
+        if let Some(request) = first {
+            lines.push(if count == 1 { ": " } else { ": first " });
+            push_request(self.origin.shared(), lines, &self.world, request);
+        }
+        lines.push("\n")
     }
 }
 

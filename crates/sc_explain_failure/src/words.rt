@@ -1,10 +1,10 @@
 //! What stands at a place of a routine, in words.
 
+use sc_explain_text::Lines;
 use sc_model::Cause;
 use sc_text::Span;
 use sc_tree::UnaryOperator;
 use sc_whereabouts::{Assertion, Kind, Whereabouts, binary_spelling};
-use std::alloc::AllocError;
 
 /// A part of a text, and what is said around it.
 #[derive(Clone, Copy)]
@@ -35,13 +35,10 @@ impl<'t> Phrase<'t> {
 }
 
 /// Adds the phrases, one behind the other.
-pub fn push_phrases(lines: &mut Vec<u8>, phrases: &[Phrase<'_>]) -> Result<(), AllocError> {
+pub fn push_phrases(lines: &mut Lines, phrases: &[Phrase<'_>]) {
     for phrase in phrases {
-        lines.extend_from_slice(phrase.before.as_bytes())?;
-        lines.extend_from_slice(phrase.part.as_bytes())?;
-        lines.extend_from_slice(phrase.behind.as_bytes())?;
+        lines.push_all(&[phrase.before, phrase.part, phrase.behind]);
     }
-    Ok(())
 }
 
 /// The part of a text, with the letters that stand there.

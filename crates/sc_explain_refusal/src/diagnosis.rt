@@ -1,12 +1,13 @@
 //! What is said of one refusal.
 
-use crate::reading::system_of;
 use crate::scope::part_of;
 use crate::sentences::{Sentence, sentence_of};
 use crate::told::Refused;
 use sc_class::Root;
 use sc_explain_classes::{explain_class_fault, explain_root, other_declaration, push_near_class};
-use sc_explain_text::{Related, explain_character, explain_grammar, push_all, word_at};
+use sc_explain_text::{
+    Lines, Related, explain_character, explain_grammar, let_go, system_of, word_at,
+};
 use sc_text::Span;
 use sc_tree::System;
 use std::alloc::{AllocError, Global};
@@ -14,7 +15,7 @@ use std::alloc::{AllocError, Global};
 /// What is said of a refusal: lines of text, and another place, if one goes with the fault.
 #[derive(Drop)]
 pub struct Diagnosis {
-    pub lines: String,
+    pub lines: Vec<u8>,
     pub related: Option<Related>,
 }
 
@@ -31,109 +32,111 @@ pub fn diagnose(
     code: &str,
     span: Option<Span>,
 ) -> Result<Diagnosis, AllocError> {
-    let mut diagnosis = Diagnosis {
-        lines: String::new(alloc),
-        related: None,
-    };
-    let Some(sentence) = sentence_of(code) else {
-        return Ok(diagnosis);
-    };
-    match span {
-        None => tell_of_all(alloc, &mut diagnosis.lines, sentence, text, root)?,
-        Some(span) => {
+    let mut lines = Lines::new(alloc);
+    let related = match (sentence_of(code), span) {
+        (None, _) => None,
+        (Some(sentence), None) => {
+            tell_of_all(alloc, &mut lines, sentence, text, root);
+            None
+        }
+        (Some(sentence), Some(span)) => {
             let refused = Refused {
                 text,
                 root,
                 code,
                 span,
             };
-            tell(alloc, &mut diagnosis, sentence, refused)?;
+            tell(alloc, &mut lines, sentence, refused)?
         }
-    }
-    Ok(diagnosis)
+    };
+    Ok(Diagnosis {
+        lines: lines.finish()?,
+        related,
+    })
 }
 
 /// Adds what is said of a fault of the whole text: why it isn't run from the root, or its sentence.
-fn tell_of_all(
-    alloc: Global,
-    lines: &mut String,
-    sentence: &Sentence,
-    text: &str,
-    root: &Root,
-) -> Result<(), AllocError> {
+fn tell_of_all(alloc: Global, lines: &mut Lines, sentence: Sentence, text: &str, root: &Root) {
     if sentence.code != "C6" {
         return push_told(lines, sentence, "");
     }
     match system_of(alloc, text) {
         Ok(None) => push_told(lines, sentence, ""),
-        Ok(Some(system)) => explain_root(lines, text, &system, root),
-        Err(error) => Err(error),
+        Ok(Some(system)) => {
+            explain_root(lines, text, &system, root);
+            let_go(system)
+        }
+        Err(_) => lines.lack(),
     }
 }
 
-/// Adds what is said of the part of a text that is at fault: what the classes tell of it, or else its sentence.
+/// Adds what is said of the part of the text that is at fault: what the classes tell of it, or else its sentence. Another place,
+/// if one goes with the fault.
 fn tell(
     alloc: Global,
-    diagnosis: &mut Diagnosis,
-    sentence: &Sentence,
+    lines: &mut Lines,
+    sentence: Sentence,
     refused: Refused<'_>,
-) -> Result<(), AllocError> {
-    if is_told(alloc, &mut diagnosis.lines, refused)? {
-        return Ok(());
+) -> Result<Option<Related>, AllocError> {
+    if is_told(alloc, lines, refused)? {
+        return Ok(None);
     }
     match refused.code {
-        "L1" => explain_character(&mut diagnosis.lines, refused.text, refused.span),
-        "P1" => {
-            let lines = &mut diagnosis.lines;
-            diagnosis.related = explain_grammar(alloc, lines, refused.text, refused.span)?;
-            Ok(())
+        "L1" => {
+            explain_character(lines, refused.text, refused.span);
+            Ok(None)
         }
+        "P1" => explain_grammar(alloc, lines, refused.text, refused.span),
         "C1" | "C2" | "C4" | "C5" | "C8" | "V1" => {
-            add_declared(alloc, diagnosis, sentence, refused)
+            Ok(push_declared(alloc, lines, sentence, refused))
         }
-        _ => push_told(
-            &mut diagnosis.lines,
-            sentence,
-            part_of(refused.text, refused.span),
-        ),
+        _ => {
+            push_told(lines, sentence, part_of(refused.text, refused.span));
+            Ok(None)
+        }
     }
 }
 
 /// Adds what the classes tell of the refusal by a rule, and whether there is something.
-fn is_told(alloc: Global, lines: &mut String, refused: Refused<'_>) -> Result<bool, AllocError> {
+fn is_told(alloc: Global, lines: &mut Lines, refused: Refused<'_>) -> Result<bool, AllocError> {
     let Some(aim) = refused.aim() else {
         return Ok(false);
     };
     match system_of(alloc, refused.text) {
         Ok(None) => Ok(false),
-        Ok(Some(system)) => refused.push_told(alloc, lines, &system, aim),
+        Ok(Some(system)) => {
+            let is_told = refused.push_told(alloc, lines, &system, aim);
+            let_go(system);
+            is_told
+        }
         Err(error) => Err(error),
     }
 }
 
-/// Adds the sentence, what helps in these classes, and the other declaration of the name at fault.
-fn add_declared(
+/// Adds the sentence, and what helps in these classes. The other declaration of the name at fault.
+fn push_declared(
     alloc: Global,
-    diagnosis: &mut Diagnosis,
-    sentence: &Sentence,
+    lines: &mut Lines,
+    sentence: Sentence,
     refused: Refused<'_>,
-) -> Result<(), AllocError> {
-    let part = part_of(refused.text, refused.span);
-    push_sentence(&mut diagnosis.lines, sentence.text, part)?;
+) -> Option<Related> {
+    push_sentence(lines, sentence.text, part_of(refused.text, refused.span));
     match system_of(alloc, refused.text) {
-        Ok(None) => Ok(()),
-        Ok(Some(system)) => add_helps(diagnosis, refused, &system),
-        Err(error) => Err(error),
+        Ok(None) => None,
+        Ok(Some(system)) => {
+            let related = push_class_helps(lines, refused, &system);
+            let_go(system);
+            related
+        }
+        Err(_) => {
+            lines.lack();
+            None
+        }
     }
 }
 
-/// Adds what helps in the classes of a text that spells this system, and the other declaration of the name at fault.
-fn add_helps(
-    diagnosis: &mut Diagnosis,
-    refused: Refused<'_>,
-    system: &System,
-) -> Result<(), AllocError> {
-    let lines = &mut diagnosis.lines;
+/// Adds what helps in the classes of a text that spells this system. The other declaration of the name at fault.
+fn push_class_helps(lines: &mut Lines, refused: Refused<'_>, system: &System) -> Option<Related> {
     let Refused {
         text,
         code,
@@ -142,27 +145,26 @@ fn add_helps(
     } = refused;
     let name = word_at(text, span);
     if code == "V1" {
-        push_near_class(lines, text, system, name)?;
-        return Ok(());
+        push_near_class(lines, text, system, name);
+        return None;
     }
-    explain_class_fault(lines, text, system, code, span)?;
-    if code != "C2" && code != "C8" {
-        diagnosis.related = other_declaration(system, code == "C1", name, span);
+    explain_class_fault(lines, text, system, code, span);
+    if code == "C2" || code == "C8" {
+        return None;
     }
-    Ok(())
+    other_declaration(system, code == "C1", name, span)
 }
 
 /// Adds the sentence on a part of the text, and what helps where something does.
-fn push_told(lines: &mut String, sentence: &Sentence, part: &str) -> Result<(), AllocError> {
-    push_sentence(lines, said_of(sentence, part), part)?;
-    if sentence.help.is_empty() {
-        return Ok(());
+fn push_told(lines: &mut Lines, sentence: Sentence, part: &str) {
+    push_sentence(lines, said_of(sentence, part), part);
+    if !sentence.help.is_empty() {
+        push_help(lines, sentence.help, part)
     }
-    push_help(lines, sentence.help, part)
 }
 
 /// What is said of a part of the text.
-fn said_of(sentence: &Sentence, part: &str) -> &'static str {
+fn said_of(sentence: Sentence, part: &str) -> &'static str {
     if sentence.code == "V7" && part.eq_ignore_ascii_case("result") {
         return "# stands in a function alone";
     }
@@ -170,7 +172,7 @@ fn said_of(sentence: &Sentence, part: &str) -> &'static str {
 }
 
 /// Adds a sentence with the part of the text in quotes at its `#`.
-fn push_sentence(lines: &mut String, text: &str, part: &str) -> Result<(), AllocError> {
+fn push_sentence(lines: &mut Lines, text: &str, part: &str) {
     if part.is_empty() {
         push_with(lines, text, "", "this")
     } else {
@@ -179,8 +181,8 @@ fn push_sentence(lines: &mut String, text: &str, part: &str) -> Result<(), Alloc
 }
 
 /// Adds what helps, with the part of the text at its `#`.
-fn push_help(lines: &mut String, text: &str, part: &str) -> Result<(), AllocError> {
-    lines.push_str("help: ")?;
+fn push_help(lines: &mut Lines, text: &str, part: &str) {
+    lines.push("help: ");
     if part.is_empty() {
         push_with(lines, text, "", "..")
     } else {
@@ -189,9 +191,9 @@ fn push_help(lines: &mut String, text: &str, part: &str) -> Result<(), AllocErro
 }
 
 /// Adds a line of text with a part between two marks at its `#`.
-fn push_with(lines: &mut String, text: &str, mark: &str, part: &str) -> Result<(), AllocError> {
+fn push_with(lines: &mut Lines, text: &str, mark: &str, part: &str) {
     match text.split_once('#') {
-        None => push_all(lines, &[text, "\n"]),
-        Some((before, after)) => push_all(lines, &[before, mark, part, mark, after, "\n"]),
+        None => lines.push_all(&[text, "\n"]),
+        Some((before, after)) => lines.push_all(&[before, mark, part, mark, after, "\n"]),
     }
 }

@@ -1,22 +1,20 @@
 //! A name that is known nowhere in a text.
 
 /// The names that are tried, in order.
-const NAMES: [&str; 24] = [
-    "x", "y", "z", "it", "one", "other", "known", "found", "x1", "x2", "x3", "x4", "x5", "x6",
-    "x7", "x8", "x9", "y1", "y2", "y3", "y4", "y5", "y6", "y7",
-];
+const NAMES: &str =
+    "x y z it one other known found x1 x2 x3 x4 x5 x6 x7 x8 x9 y1 y2 y3 y4 y5 y6 y7";
 
 /// The first of the names that stands nowhere in the text, but for so many of them; nothing where all do.
 pub fn fresh_name(text: &str, but: usize) -> &'static str {
-    fresh_among(&NAMES, text.as_bytes(), but)
+    fresh_among(NAMES, text.as_bytes(), but)
 }
 
-fn fresh_among(names: &[&'static str], text: &[u8], but: usize) -> &'static str {
+fn fresh_among<'n>(names: &'n str, text: &[u8], but: usize) -> &'n str {
     let mut left = but;
-    for name in names {
+    for name in names.split(' ') {
         if !has_word(text, name.as_bytes()) {
             if left == 0 {
-                return *name;
+                return name;
             }
             left -= 1;
         }

@@ -5,16 +5,15 @@ use crate::remark::{Making, Misfit, Remark, Wanted};
 use crate::scope::{Scope, part_of, push_type};
 use crate::site::Place;
 use crate::types::Compared;
-use sc_class::ClassId;
-use sc_explain_text::{is_slip, push_all, push_instead_of, push_meant, push_near_word, word_at};
+use sc_class::{ClassId, FeatureEntry};
+use sc_explain_text::{Lines, is_slip, push_instead_of, push_meant, push_near_word, word_at};
 use sc_proctype::{EntityType, Tag, conforms};
 use sc_rules::Context;
 use sc_text::Span;
-use std::alloc::AllocError;
 
 impl<'s> Scope<'s> {
     /// Adds what helps, where something does.
-    pub fn push_helps(&self, lines: &mut String, remark: Remark) -> Result<(), AllocError> {
+    pub fn push_helps(&self, lines: &mut Lines, remark: Remark) {
         match remark {
             Remark::Name(misfit) => self.push_name_help(lines, misfit),
             Remark::Assigned(types, taker) => self.push_fitting(lines, types, taker),
@@ -25,8 +24,8 @@ impl<'s> Scope<'s> {
             Remark::Target(given) if given.attached => self.push_reservation(lines, given),
             Remark::Target(given) => self.push_question(lines, given, Asked::Target),
             Remark::Made(making) => self.push_making(lines, making),
-            Remark::Old(context) => lines.push_str(help_of_old(context)),
-            _ => Ok(()),
+            Remark::Old(context) => lines.push(help_of_old(context)),
+            _ => {}
         }
     }
 
@@ -36,107 +35,82 @@ impl<'s> Scope<'s> {
         if part.is_empty() { ".." } else { part }
     }
 
-    fn push_name_help(&self, lines: &mut String, misfit: Misfit) -> Result<(), AllocError> {
+    fn push_name_help(&self, lines: &mut Lines, misfit: Misfit) {
         let name = word_at(self.text, self.span);
         match misfit {
             Misfit::Unknown => self.push_known(lines, name),
             Misfit::Lacking(class) => self.push_near_or_instead(lines, class, name),
             Misfit::Fixed(Some(_)) => self.push_local(lines, name),
             Misfit::Fixed(None) => {
-                lines.push_str(
+                lines.push(
                     "help: `Result` is what a function gives, and an attribute or a local keeps a value\n",
                 )
             }
-            _ => Ok(()),
+            _ => {}
         }
     }
 
     /// Adds a feature of the class that is near to a name, or what is written in place of what it shows.
-    fn push_near_or_instead(
-        &self,
-        lines: &mut String,
-        class: ClassId,
-        name: &str,
-    ) -> Result<(), AllocError> {
-        if !push_instead_of(lines, name)? {
-            self.push_near_feature(lines, class, name)?;
+    fn push_near_or_instead(&self, lines: &mut Lines, class: ClassId, name: &str) {
+        if !push_instead_of(lines, name) {
+            self.push_near_feature(lines, class, name);
         }
-        Ok(())
     }
 
     /// Adds that a local takes what is to be assigned to this name.
-    fn push_local(&self, lines: &mut String, name: &str) -> Result<(), AllocError> {
+    fn push_local(&self, lines: &mut Lines, name: &str) {
         let local = fresh_name(self.text, 0);
-        push_all(
-            lines,
-            &[
-                "help: use a local: declare `",
-                local,
-                "` under `local`, and begin with `",
-            ],
-        )?;
-        push_all(lines, &[local, " := "])?;
-        push_all(lines, &[name, "`\n"])
+        lines.push_all(&[
+            "help: use a local: declare `",
+            local,
+            "` under `local`, and begin with `",
+        ]);
+        lines.push_all(&[local, " := "]);
+        lines.push_all(&[name, "`\n"])
     }
 
     /// Adds a name that is known there and near to this one, or what is written in place of what it shows.
-    fn push_known(&self, lines: &mut String, name: &str) -> Result<(), AllocError> {
-        if push_instead_of(lines, name)? {
-            return Ok(());
-        }
-        if self.push_near_entity(lines, name)? {
-            return Ok(());
-        }
+    fn push_known(&self, lines: &mut Lines, name: &str) {
         let class = ClassId::Declared(self.routine.class);
-        if self.push_near_feature(lines, class, name)? {
-            return Ok(());
+        let is_told = push_instead_of(lines, name)
+            || self.push_near_entity(lines, name)
+            || self.push_near_feature(lines, class, name);
+        if !is_told {
+            push_near_word(lines, name)
         }
-        push_near_word(lines, name)
     }
 
-    fn push_near_entity(&self, lines: &mut String, name: &str) -> Result<bool, AllocError> {
+    fn push_near_entity(&self, lines: &mut Lines, name: &str) -> bool {
         for known in self.names.iter() {
             if is_slip(known.name.as_bytes(), name.as_bytes()) {
-                push_meant(lines, known.name)?;
-                return Ok(true);
+                push_meant(lines, known.name);
+                return true;
             }
         }
-        Ok(false)
+        false
     }
 
     /// Adds a feature of the class whose name is near to one that isn't known, and whether there is one.
-    fn push_near_feature(
-        &self,
-        lines: &mut String,
-        class: ClassId,
-        name: &str,
-    ) -> Result<bool, AllocError> {
+    fn push_near_feature(&self, lines: &mut Lines, class: ClassId, name: &str) -> bool {
         let routine = self.routine;
-        let features = routine.tables.features(routine.alloc, class)?;
-        for entry in features.iter() {
-            let known = &entry.feature.name.text;
-            if is_slip(known.as_bytes(), name.as_bytes()) {
-                push_meant(lines, known)?;
-                return Ok(true);
+        match routine.tables.features(routine.alloc, class) {
+            Ok(features) => push_near_among(lines, &features, name),
+            Err(_) => {
+                lines.lack();
+                true
             }
         }
-        Ok(false)
     }
 
     /// Adds what helps where a value of one type doesn't fit the other, by what alone is between them.
-    fn push_fitting(
-        &self,
-        lines: &mut String,
-        types: Compared,
-        taker: Span,
-    ) -> Result<(), AllocError> {
+    fn push_fitting(&self, lines: &mut Lines, types: Compared, taker: Span) {
         let Compared { given, taken } = types;
         let taker = part_of(self.text, taker);
         match self.between(given, taken) {
-            Between::More => Ok(()),
+            Between::More => {}
             Between::Void => {
                 let behind = "` is declared `detachable`\n";
-                push_all(lines, &["help: Void is taken where `", taker, behind])
+                lines.push_all(&["help: Void is taken where `", taker, behind])
             }
             Between::Mark => self.push_question(lines, given, Asked::Value),
             Between::Tag => self.push_wider(lines, taken, taker),
@@ -144,14 +118,9 @@ impl<'s> Scope<'s> {
     }
 
     /// Adds how an entity of this type is declared to take objects of other handlers.
-    fn push_wider(
-        &self,
-        lines: &mut String,
-        taken: EntityType,
-        taker: &str,
-    ) -> Result<(), AllocError> {
+    fn push_wider(&self, lines: &mut Lines, taken: EntityType, taker: &str) {
         let before = "help: objects of other handlers are taken where `";
-        push_all(lines, &[before, taker, "` is declared "])?;
+        lines.push_all(&[before, taker, "` is declared "]);
         let wider = EntityType {
             tag: Tag::Any,
             ..taken
@@ -181,16 +150,11 @@ impl<'s> Scope<'s> {
     }
 
     /// Adds how it is asked whether the part at fault is Void, where that is of this type.
-    fn push_question(
-        &self,
-        lines: &mut String,
-        given: EntityType,
-        asked: Asked,
-    ) -> Result<(), AllocError> {
+    fn push_question(&self, lines: &mut Lines, given: EntityType, asked: Asked) {
         let name = fresh_name(self.text, 0);
         let (before, behind) = match self.way_to_ask(given.tag, asked) {
             Way::Nowhere => {
-                return lines.push_str(
+                return lines.push(
                     "help: an invariant is a formula over attributes of its own object\n",
                 );
             }
@@ -207,24 +171,24 @@ impl<'s> Scope<'s> {
             Way::Condition => ("help: ask first: `attached ", " and then ..`\n"),
             Way::Around => ("help: ask first: `if attached ", " then .. end`\n"),
         };
-        self.push_named(lines, before, name)?;
-        lines.push_str(behind)
+        self.push_named(lines, before, name);
+        lines.push(behind)
     }
 
     /// Adds the part at fault under this name, behind another text.
-    fn push_named(&self, lines: &mut String, before: &str, name: &str) -> Result<(), AllocError> {
-        lines.push_str(before)?;
-        push_all(lines, &[self.part(), " as "])?;
-        lines.push_str(name)
+    fn push_named(&self, lines: &mut Lines, before: &str, name: &str) {
+        lines.push(before);
+        lines.push_all(&[self.part(), " as "]);
+        lines.push(name)
     }
 
     /// Adds how it is asked whether the part at fault is Void, and how its handler is reserved then.
-    fn push_question_and_block(&self, lines: &mut String, name: &str) -> Result<(), AllocError> {
+    fn push_question_and_block(&self, lines: &mut Lines, name: &str) {
         let before = "help: ask first, and reserve it: `if attached ";
-        self.push_named(lines, before, name)?;
-        push_all(lines, &[" then separate ", name, " as "])?;
+        self.push_named(lines, before, name);
+        lines.push_all(&[" then separate ", name, " as "]);
         let other = fresh_name(self.text, 1);
-        push_all(lines, &[other, " do .. end end`\n"])
+        lines.push_all(&[other, " do .. end end`\n"])
     }
 
     /// How it is asked there whether what has this tag is Void.
@@ -249,7 +213,7 @@ impl<'s> Scope<'s> {
     }
 
     /// Adds how the handler of the part at fault is reserved, where that is of this type.
-    fn push_reservation(&self, lines: &mut String, given: EntityType) -> Result<(), AllocError> {
+    fn push_reservation(&self, lines: &mut Lines, given: EntityType) {
         let name = fresh_name(self.text, 0);
         if !self.is_in_body() {
             return self.push_formal(lines, given, name);
@@ -259,23 +223,15 @@ impl<'s> Scope<'s> {
             Place::Condition => "help: reserve it, and ask inside: `separate ",
             Place::Instruction => "help: reserve it: `separate ",
         };
-        self.push_named(lines, before, name)?;
-        lines.push_str(" do .. end`\n")
+        self.push_named(lines, before, name);
+        lines.push(" do .. end`\n")
     }
 
     /// Adds which function reserves an object of this class each time that it is called.
-    fn push_reserving_function(
-        &self,
-        lines: &mut String,
-        class: ClassId,
-        name: &str,
-    ) -> Result<(), AllocError> {
+    fn push_reserving_function(&self, lines: &mut Lines, class: ClassId, name: &str) {
         let before = "help: let a function reserve it each time: `f (";
-        push_all(
-            lines,
-            &[before, name, ": separate ", self.class_name(class)],
-        )?;
-        lines.push_str("): BOOLEAN do Result := .. end`\n")
+        lines.push_all(&[before, name, ": separate ", self.class_name(class)]);
+        lines.push("): BOOLEAN do Result := .. end`\n")
     }
 
     /// Whether it stands in a body.
@@ -287,14 +243,9 @@ impl<'s> Scope<'s> {
     }
 
     /// Adds that a contract calls what is reserved for a formal.
-    fn push_formal(
-        &self,
-        lines: &mut String,
-        given: EntityType,
-        name: &str,
-    ) -> Result<(), AllocError> {
+    fn push_formal(&self, lines: &mut Lines, given: EntityType, name: &str) {
         if self.part().eq_ignore_ascii_case("result") {
-            return lines.push_str(
+            return lines.push(
                 "help: leave the clause out: in a contract the handlers of formals alone are reserved\n",
             );
         }
@@ -302,59 +253,59 @@ impl<'s> Scope<'s> {
             attached: true,
             ..given
         };
-        push_all(
-            lines,
-            &[
-                "help: take it as an attached formal, which is reserved: `",
-                name,
-                "` of type ",
-            ],
-        )?;
+        lines.push_all(&[
+            "help: take it as an attached formal, which is reserved: `",
+            name,
+            "` of type ",
+        ]);
         push_type(lines, self.words_of(attached), "\n")
     }
 
     /// Adds how an object is made.
-    fn push_making(&self, lines: &mut String, making: Making) -> Result<(), AllocError> {
+    fn push_making(&self, lines: &mut Lines, making: Making) {
         let (class, is_plain) = match making {
             Making::Plain(class) => (class, true),
             Making::By(class) => (class, false),
         };
         let ClassId::Declared(number) = class else {
-            return lines.push_str(help_of_built_in(class));
+            return lines.push(help_of_built_in(class));
         };
         let name = word_at(self.text, self.span);
         let creators = self.routine.tables.creators(number);
         match creators.first() {
-            None => push_all(
-                lines,
-                &[
-                    "help: `create` takes the variable alone, or the class lists it: `create ",
-                    name,
-                    "`\n",
-                ],
-            ),
-            Some(first) if is_plain => push_all(
-                lines,
-                &[
-                    "help: name a procedure that it lists: `create ",
-                    name,
-                    ".",
-                    first.text.as_str(),
-                    "`\n",
-                ],
-            ),
-            Some(first) => push_all(
-                lines,
-                &[
-                    "help: it lists `",
-                    first.text.as_str(),
-                    "`, and takes `",
-                    name,
-                    "` once that is listed too\n",
-                ],
-            ),
+            None => lines.push_all(&[
+                "help: `create` takes the variable alone, or the class lists it: `create ",
+                name,
+                "`\n",
+            ]),
+            Some(first) if is_plain => lines.push_all(&[
+                "help: name a procedure that it lists: `create ",
+                name,
+                ".",
+                first.text.as_str(),
+                "`\n",
+            ]),
+            Some(first) => lines.push_all(&[
+                "help: it lists `",
+                first.text.as_str(),
+                "`, and takes `",
+                name,
+                "` once that is listed too\n",
+            ]),
         }
     }
+}
+
+/// Adds the first of these features whose name is near to one, and whether there is one.
+fn push_near_among(lines: &mut Lines, features: &[FeatureEntry<'_>], name: &str) -> bool {
+    for entry in features {
+        let known = &entry.feature.name.text;
+        if is_slip(known.as_bytes(), name.as_bytes()) {
+            push_meant(lines, known);
+            return true;
+        }
+    }
+    false
 }
 
 /// What is asked whether it is Void.

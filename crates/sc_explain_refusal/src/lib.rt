@@ -7,7 +7,6 @@
 mod diagnosis;
 mod fresh;
 mod helps;
-mod reading;
 mod remark;
 mod remark_text;
 mod scope;

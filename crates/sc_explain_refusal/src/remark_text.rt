@@ -4,16 +4,15 @@ use crate::remark::{Making, Misfit, Remark, Wanted};
 use crate::scope::{Scope, TypeWords, part_of, push_quoted, push_type};
 use crate::types::Compared;
 use sc_class::ClassId;
-use sc_explain_text::push_all;
+use sc_explain_text::Lines;
 use sc_rules::{Context, Role};
 use sc_text::Span;
 use sc_tree::{BinaryOperator, UnaryOperator};
 use sc_whereabouts::binary_spelling;
-use std::alloc::AllocError;
 
 impl<'s> Scope<'s> {
     /// Adds what is said of the part of the text that is at fault, without a line feed.
-    pub fn push_remark(&self, lines: &mut String, remark: Remark) -> Result<(), AllocError> {
+    pub fn push_remark(&self, lines: &mut Lines, remark: Remark) {
         let part = part_of(self.text, self.span);
         match remark {
             Remark::Assigned(types, taker) => {
@@ -30,8 +29,8 @@ impl<'s> Scope<'s> {
                 push_operand(lines, operator, self.words_of(given))
             }
             Remark::Operands(operator, left, right) => {
-                push_operator(lines, operator)?;
-                push_type(lines, self.words_of(left), " and of type ")?;
+                push_operator(lines, operator);
+                push_type(lines, self.words_of(left), " and of type ");
                 push_type(lines, self.words_of(right), "")
             }
             Remark::Name(Misfit::Lacking(class)) => {
@@ -45,11 +44,11 @@ impl<'s> Scope<'s> {
     }
 
     /// Adds why no object is made so.
-    fn push_made(&self, lines: &mut String, part: &str, making: Making) -> Result<(), AllocError> {
+    fn push_made(&self, lines: &mut Lines, part: &str, making: Making) {
         match making {
             Making::Plain(class) => {
-                push_all(lines, &["the class `", self.class_name(class), "`"])?;
-                lines.push_str(said_of_plain(class))
+                lines.push_all(&["the class `", self.class_name(class), "`"]);
+                lines.push(said_of_plain(class))
             }
             Making::By(class) => {
                 push_quoted(
@@ -57,8 +56,8 @@ impl<'s> Scope<'s> {
                     "",
                     part,
                     " isn't in the `create` list of the class `",
-                )?;
-                push_all(lines, &[self.class_name(class), "`"])
+                );
+                lines.push_all(&[self.class_name(class), "`"])
             }
         }
     }
@@ -66,41 +65,32 @@ impl<'s> Scope<'s> {
     /// Adds that the part of the text is of one type, and what stands there takes another.
     fn push_compared(
         &self,
-        lines: &mut String,
+        lines: &mut Lines,
         part: &str,
         types: Compared,
         and: &'static str,
         taker: Span,
-    ) -> Result<(), AllocError> {
-        push_given(lines, part, self.words_of(types.given), and)?;
-        push_quoted(lines, "", part_of(self.text, taker), " takes ")?;
+    ) {
+        push_given(lines, part, self.words_of(types.given), and);
+        push_quoted(lines, "", part_of(self.text, taker), " takes ");
         push_type(lines, self.words_of(types.taken), "")
     }
 }
 
 /// Adds that the part of the text is of this type, and what stands behind that.
-fn push_given(
-    lines: &mut String,
-    part: &str,
-    given: TypeWords<'_>,
-    behind: &'static str,
-) -> Result<(), AllocError> {
-    push_quoted(lines, "", part, " is of type ")?;
+fn push_given(lines: &mut Lines, part: &str, given: TypeWords<'_>, behind: &'static str) {
+    push_quoted(lines, "", part, " is of type ");
     push_type(lines, given, behind)
 }
 
-fn push_operand(
-    lines: &mut String,
-    operator: UnaryOperator,
-    given: TypeWords<'_>,
-) -> Result<(), AllocError> {
-    lines.push_str(taken_by_unary(operator))?;
-    lines.push_str(", and its operand is of type ")?;
+fn push_operand(lines: &mut Lines, operator: UnaryOperator, given: TypeWords<'_>) {
+    lines.push(taken_by_unary(operator));
+    lines.push(", and its operand is of type ");
     push_type(lines, given, "")
 }
 
 /// Adds what is said of a name at fault, whose class isn't told.
-fn push_misfit(lines: &mut String, name: &str, misfit: Misfit) -> Result<(), AllocError> {
+fn push_misfit(lines: &mut Lines, name: &str, misfit: Misfit) {
     match misfit {
         Misfit::Arity(taken, given) => push_arity(lines, name, taken, given),
         Misfit::Unknown => push_quoted(lines, "nothing that is known here has the name ", name, ""),
@@ -109,13 +99,13 @@ fn push_misfit(lines: &mut String, name: &str, misfit: Misfit) -> Result<(), All
 }
 
 /// Adds that a class has no feature of the name.
-fn push_lacking(lines: &mut String, class: &str, name: &str) -> Result<(), AllocError> {
-    push_all(lines, &["the class `", class])?;
+fn push_lacking(lines: &mut Lines, class: &str, name: &str) {
+    lines.push_all(&["the class `", class]);
     push_quoted(lines, "` has no feature ", name, "")
 }
 
 /// Adds which operands an operator takes.
-fn push_operator(lines: &mut String, operator: BinaryOperator) -> Result<(), AllocError> {
+fn push_operator(lines: &mut Lines, operator: BinaryOperator) {
     let parts = [
         "`",
         binary_spelling(operator),
@@ -123,7 +113,7 @@ fn push_operator(lines: &mut String, operator: BinaryOperator) -> Result<(), All
         taken_by_binary(operator),
         ", and its operands are of type ",
     ];
-    push_all(lines, &parts)
+    lines.push_all(&parts)
 }
 
 /// What is said behind the type of a value that isn't one that is wanted.
@@ -196,30 +186,31 @@ fn taken_by_binary(operator: BinaryOperator) -> &'static str {
 }
 
 /// Adds how many actuals are taken, and how many are given.
-fn push_arity(
-    lines: &mut String,
-    name: &str,
-    taken: usize,
-    given: usize,
-) -> Result<(), AllocError> {
-    push_quoted(lines, "", name, " takes ")?;
-    push_actuals(lines, taken)?;
+fn push_arity(lines: &mut Lines, name: &str, taken: usize, given: usize) {
+    push_quoted(lines, "", name, " takes ");
+    push_actuals(lines, taken);
     push_given_number(lines, given)
 }
 
 /// Adds how many actuals are taken.
-fn push_actuals(lines: &mut String, count: usize) -> Result<(), AllocError> {
+fn push_actuals(lines: &mut Lines, count: usize) {
     match count {
-        0 => lines.push_str("no actuals"),
-        1 => lines.push_str("1 actual"),
-        _ => write!(lines, "{count} actuals"),
+        0 => lines.push("no actuals"),
+        1 => lines.push("1 actual"),
+        _ => {
+            lines.push_number(count as u64);
+            lines.push(" actuals")
+        }
     }
 }
 
 /// Adds how many are given.
-fn push_given_number(lines: &mut String, count: usize) -> Result<(), AllocError> {
+fn push_given_number(lines: &mut Lines, count: usize) {
     match count {
-        0 => lines.push_str(", and is given none"),
-        _ => write!(lines, ", and is given {count}"),
+        0 => lines.push(", and is given none"),
+        _ => {
+            lines.push(", and is given ");
+            lines.push_number(count as u64)
+        }
     }
 }

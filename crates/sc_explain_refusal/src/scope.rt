@@ -2,13 +2,12 @@
 
 use crate::site::Place;
 use sc_class::ClassId;
-use sc_explain_text::push_all;
+use sc_explain_text::Lines;
 use sc_proctype::{EntityType, Reserved, Tag};
 use sc_rules::{Context, Role};
 use sc_text::Span;
 use sc_tree::Declaration;
 use sc_typing::{Entity, RoutineContext};
-use std::alloc::AllocError;
 
 /// A part of a routine at which the rule of this code fails: the text of the system, the routine, and the names that are
 /// known there.
@@ -69,23 +68,19 @@ pub struct TypeWords<'n> {
 }
 
 /// Adds a type in quotes, as it is declared, and what stands behind it.
-pub fn push_type(
-    lines: &mut String,
-    words: TypeWords<'_>,
-    behind: &'static str,
-) -> Result<(), AllocError> {
-    push_all(lines, &["`", mark_of(words.given)])?;
-    push_handler(lines, words.given.tag, words.handler)?;
-    lines.push_str(words.class)?;
-    push_all(lines, &["`", unknown_handler(words.given), behind])
+pub fn push_type(lines: &mut Lines, words: TypeWords<'_>, behind: &'static str) {
+    lines.push_all(&["`", mark_of(words.given)]);
+    push_handler(lines, words.given.tag, words.handler);
+    lines.push(words.class);
+    lines.push_all(&["`", unknown_handler(words.given), behind])
 }
 
 /// Adds what stands in a type before the name of the class: whose handler it is of, which may have a name.
-fn push_handler(lines: &mut String, tag: Tag, name: &str) -> Result<(), AllocError> {
+fn push_handler(lines: &mut Lines, tag: Tag, name: &str) {
     match tag {
-        Tag::Own | Tag::None => Ok(()),
-        Tag::Any => lines.push_str("separate "),
-        Tag::With(_) => push_all(lines, &["separate <", name, ".handler> "]),
+        Tag::Own | Tag::None => {}
+        Tag::Any => lines.push("separate "),
+        Tag::With(_) => lines.push_all(&["separate <", name, ".handler> "]),
     }
 }
 
@@ -156,14 +151,9 @@ fn is_closed(part: &str) -> bool {
 }
 
 /// Adds a part of the text in quotes, or `this` where there is none, between words.
-pub fn push_quoted(
-    lines: &mut String,
-    before: &str,
-    part: &str,
-    behind: &str,
-) -> Result<(), AllocError> {
+pub fn push_quoted(lines: &mut Lines, before: &str, part: &str, behind: &str) {
     if part.is_empty() {
-        return push_all(lines, &[before, "this", behind]);
+        return lines.push_all(&[before, "this", behind]);
     }
-    push_all(lines, &[before, "`", part, "`", behind])
+    lines.push_all(&[before, "`", part, "`", behind])
 }

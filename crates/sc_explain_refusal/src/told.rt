@@ -1,13 +1,13 @@
 //! A sentence on one fault, with the types and names that are found in the checked tables.
 
-use crate::reading::tables_of;
 use crate::remark::{Misfit, Remark};
 use crate::scope::{Scope, part_of};
 use crate::site::{Aim, Found, Kind, Place, Search, Site, pass_clauses};
 use crate::untold::Untold;
 use crate::walk::Walk;
 use sc_class::{ClassId, Root, Tables};
-use sc_explain_classes::{class_around, feature_around};
+use sc_explain_classes::{class_around, feature_around, let_tables_go, tables_of};
+use sc_explain_text::Lines;
 use sc_rules::Context;
 use sc_text::Span;
 use sc_tree::{Class, Feature, FeatureKind, Name, Routine, System};
@@ -61,13 +61,17 @@ impl<'s> Refused<'s> {
     pub fn push_told(
         self,
         alloc: Global,
-        lines: &mut String,
+        lines: &mut Lines,
         system: &System,
         aim: Aim,
     ) -> Result<bool, AllocError> {
         match tables_of(alloc, system, self.root) {
             Ok(None) => Ok(false),
-            Ok(Some(tables)) => self.push_found(alloc, lines, &tables, aim),
+            Ok(Some(tables)) => {
+                let is_told = self.push_found(alloc, lines, &tables, aim);
+                let_tables_go(tables);
+                is_told
+            }
             Err(error) => Err(error),
         }
     }
@@ -76,7 +80,7 @@ impl<'s> Refused<'s> {
     fn push_found(
         self,
         alloc: Global,
-        lines: &mut String,
+        lines: &mut Lines,
         tables: &Tables<'_>,
         aim: Aim,
     ) -> Result<bool, AllocError> {
@@ -93,7 +97,7 @@ impl<'s> Refused<'s> {
     /// Adds what is told of the part that is aimed at, where it stands in this class.
     fn push_in_class(
         self,
-        lines: &mut String,
+        lines: &mut Lines,
         around: &'s RoutineContext<'s, 's>,
         aim: Aim,
         class: &'s Class,
@@ -110,7 +114,7 @@ impl<'s> Refused<'s> {
     /// Adds what is told of the part that is aimed at, where it stands in this routine of the class.
     fn push_in_routine(
         self,
-        lines: &mut String,
+        lines: &mut Lines,
         class: &'s RoutineContext<'s, 's>,
         aim: Aim,
         text: &'s Routine,
@@ -122,7 +126,7 @@ impl<'s> Refused<'s> {
     /// Adds what is told of the part that is aimed at, where a walk through this text of a routine comes to it.
     fn push_passed(
         self,
-        lines: &mut String,
+        lines: &mut Lines,
         routine: &'s RoutineContext<'s, 's>,
         aim: Aim,
         text: &'s Routine,
@@ -136,7 +140,7 @@ impl<'s> Refused<'s> {
     /// creators.
     fn push_beside_routines(
         self,
-        lines: &mut String,
+        lines: &mut Lines,
         around: &'s RoutineContext<'s, 's>,
         aim: Aim,
         class: &'s Class,
@@ -145,7 +149,7 @@ impl<'s> Refused<'s> {
         pass_clauses(&mut walk.search, Context::Invariant, &class.invariant);
         match walk.push_found(lines)? {
             Some(is_told) => Ok(is_told),
-            None => walk.scope.push_creator(lines, &class.creators),
+            None => Ok(walk.scope.push_creator(lines, &class.creators)),
         }
     }
 
@@ -172,7 +176,7 @@ impl<'s> Refused<'s> {
 
 impl<'s> Walk<'s> {
     /// Adds what is told of what was looked for, and whether there is something; nothing where it wasn't found.
-    fn push_found(&mut self, lines: &mut String) -> Result<Option<bool>, AllocError> {
+    fn push_found(&mut self, lines: &mut Lines) -> Result<Option<bool>, AllocError> {
         match self.search.found {
             Found::Nothing => Ok(None),
             Found::At(site) => {
@@ -187,34 +191,37 @@ impl<'s> Walk<'s> {
 
 impl<'s> Scope<'s> {
     /// Adds what is told of what stands there, and whether there is something.
-    fn push_at(&mut self, lines: &mut String, site: Site<'s>) -> Result<bool, AllocError> {
+    fn push_at(&mut self, lines: &mut Lines, site: Site<'s>) -> Result<bool, AllocError> {
         self.context = site.context;
         self.place = site.place;
         match self.remark(site) {
-            Ok(remark) => self.push_lines(lines, remark),
+            Ok(remark) => {
+                self.push_lines(lines, remark);
+                Ok(true)
+            }
             Err(Untold::Nothing) => Ok(false),
             Err(Untold::OutOfMemory) => Err(AllocError),
         }
     }
 
     /// Adds what is told of a name that the class lists under `create`, and whether it is one.
-    fn push_creator(&self, lines: &mut String, creators: &[Name]) -> Result<bool, AllocError> {
-        if !is_among(self.span, creators) {
-            return Ok(false);
+    fn push_creator(&self, lines: &mut Lines, creators: &[Name]) -> bool {
+        let is_creator = is_among(self.span, creators);
+        if is_creator {
+            let misfit = match self.code {
+                "V1" => Misfit::Lacking(ClassId::Declared(self.routine.class)),
+                _ => Misfit::Creator,
+            };
+            self.push_lines(lines, Remark::Name(misfit));
         }
-        let misfit = match self.code {
-            "V1" => Misfit::Lacking(ClassId::Declared(self.routine.class)),
-            _ => Misfit::Creator,
-        };
-        self.push_lines(lines, Remark::Name(misfit))
+        is_creator
     }
 
     /// Adds a remark, and what helps.
-    fn push_lines(&self, lines: &mut String, remark: Remark) -> Result<bool, AllocError> {
-        self.push_remark(lines, remark)?;
-        lines.push_str("\n")?;
-        self.push_helps(lines, remark)?;
-        Ok(true)
+    fn push_lines(&self, lines: &mut Lines, remark: Remark) {
+        self.push_remark(lines, remark);
+        lines.push("\n");
+        self.push_helps(lines, remark)
     }
 }
 

@@ -1,24 +1,22 @@
 //! What is said of a character that begins no token.
 
 use crate::foreign::push_instead_at;
-use crate::words::push_all;
+use crate::lines::Lines;
 use sc_text::Span;
-use std::alloc::AllocError;
 
 /// Adds what is said of the character that begins here and begins no token, and what is written in its place, or why it
 /// can't stand there.
-pub fn explain_character(lines: &mut String, text: &str, span: Span) -> Result<(), AllocError> {
+pub fn explain_character(lines: &mut Lines, text: &str, span: Span) {
     let from = text.get(span.start..).unwrap_or("");
     let character = first_character(from);
     if character.is_empty() || is_control(character) {
-        lines.push_str("this begins no token\n")?;
+        lines.push("this begins no token\n");
     } else {
-        push_all(lines, &["`", character, "` begins no token\n"])?;
+        lines.push_all(&["`", character, "` begins no token\n"]);
     }
-    if push_instead_at(lines, from, 1)? || character.is_ascii() {
-        return Ok(());
+    if !push_instead_at(lines, from, 1) && !character.is_ascii() {
+        lines.push("help: outside of texts and comments there are ASCII characters alone\n")
     }
-    lines.push_str("help: outside of texts and comments there are ASCII characters alone\n")
 }
 
 /// The first character of a text; nothing where it has none.

@@ -1,82 +1,81 @@
 //! What could stand at a place at which no system goes on.
 
 use crate::beginning::Beginning;
-use crate::words::push_all;
+use crate::lines::Lines;
 use std::alloc::{AllocError, Global};
 
-/// What is tried: how it is called, and a token of it.
-const TOKENS: &[(&str, &str)] = &[
-    ("a name", "x"),
-    ("an integer", "1"),
-    ("a string", "\"\""),
-    ("`and`", "and"),
-    ("`as`", "as"),
-    ("`attached`", "attached"),
-    ("`check`", "check"),
-    ("`class`", "class"),
-    ("`create`", "create"),
-    ("`Current`", "current"),
-    ("`deferred`", "deferred"),
-    ("`detachable`", "detachable"),
-    ("`do`", "do"),
-    ("`else`", "else"),
-    ("`elseif`", "elseif"),
-    ("`end`", "end"),
-    ("`ensure`", "ensure"),
-    ("`expanded`", "expanded"),
-    ("`False`", "false"),
-    ("`feature`", "feature"),
-    ("`from`", "from"),
-    ("`frozen`", "frozen"),
-    ("`if`", "if"),
-    ("`implies`", "implies"),
-    ("`indexing`", "indexing"),
-    ("`inherit`", "inherit"),
-    ("`invariant`", "invariant"),
-    ("`is`", "is"),
-    ("`local`", "local"),
-    ("`loop`", "loop"),
-    ("`note`", "note"),
-    ("`not`", "not"),
-    ("`old`", "old"),
-    ("`or`", "or"),
-    ("`redefine`", "redefine"),
-    ("`require`", "require"),
-    ("`Result`", "result"),
-    ("`separate`", "separate"),
-    ("`then`", "then"),
-    ("`True`", "true"),
-    ("`until`", "until"),
-    ("`Void`", "void"),
-    ("`xor`", "xor"),
-    ("`:=`", ":="),
-    ("`=`", "="),
-    ("`/=`", "/="),
-    ("`<`", "<"),
-    ("`<=`", "<="),
-    ("`>`", ">"),
-    ("`>=`", ">="),
-    ("`+`", "+"),
-    ("`-`", "-"),
-    ("`*`", "*"),
-    ("`//`", "//"),
-    ("`\\\\`", "\\\\"),
-    ("`.`", "."),
-    ("`,`", ","),
-    ("`:`", ":"),
-    ("`;`", ";"),
-    ("`?`", "?"),
-    ("`!`", "!"),
-    ("`(`", "("),
-    ("`)`", ")"),
-    ("`{`", "{"),
-    ("`}`", "}"),
-];
+/// What is tried, a line each: how it is called, and behind a tab a token of it.
+const TOKENS: &str = "\
+a name\tx
+an integer\t1
+a string\t\"\"
+`and`\tand
+`as`\tas
+`attached`\tattached
+`check`\tcheck
+`class`\tclass
+`create`\tcreate
+`Current`\tcurrent
+`deferred`\tdeferred
+`detachable`\tdetachable
+`do`\tdo
+`else`\telse
+`elseif`\telseif
+`end`\tend
+`ensure`\tensure
+`expanded`\texpanded
+`False`\tfalse
+`feature`\tfeature
+`from`\tfrom
+`frozen`\tfrozen
+`if`\tif
+`implies`\timplies
+`indexing`\tindexing
+`inherit`\tinherit
+`invariant`\tinvariant
+`is`\tis
+`local`\tlocal
+`loop`\tloop
+`note`\tnote
+`not`\tnot
+`old`\told
+`or`\tor
+`redefine`\tredefine
+`require`\trequire
+`Result`\tresult
+`separate`\tseparate
+`then`\tthen
+`True`\ttrue
+`until`\tuntil
+`Void`\tvoid
+`xor`\txor
+`:=`\t:=
+`=`\t=
+`/=`\t/=
+`<`\t<
+`<=`\t<=
+`>`\t>
+`>=`\t>=
+`+`\t+
+`-`\t-
+`*`\t*
+`//`\t//
+`\\\\`\t\\\\
+`.`\t.
+`,`\t,
+`:`\t:
+`;`\t;
+`?`\t?
+`!`\t!
+`(`\t(
+`)`\t)
+`{`\t{
+`}`\t}";
 
 /// Adds a line that says which tokens may stand behind a beginning, where it is short enough to try them all.
 pub fn push_expected(
     alloc: Global,
-    lines: &mut String,
+    lines: &mut Lines,
     beginning: &Beginning,
 ) -> Result<(), AllocError> {
     if beginning.is_short() {
@@ -88,19 +87,23 @@ pub fn push_expected(
 /// Adds the same of these tokens.
 fn push_all_expected(
     alloc: Global,
-    lines: &mut String,
+    lines: &mut Lines,
     beginning: &Beginning,
-    tokens: &[(&str, &str)],
+    tokens: &str,
 ) -> Result<(), AllocError> {
-    let mut separator = "help: here may stand ";
-    for (name, token) in tokens {
+    let mut is_first = true;
+    for row in tokens.lines() {
+        let (name, token) = row.split_once('\t').unwrap_or((row, row));
         if beginning.goes_on(alloc, token)? {
-            push_all(lines, &[separator, name])?;
-            separator = ", ";
+            let before = if is_first {
+                "help: here may stand "
+            } else {
+                ", "
+            };
+            lines.push_all(&[before, name]);
+            is_first = false;
         }
     }
-    if separator == ", " {
-        lines.push_str("\n")?;
-    }
+    lines.push(if is_first { "" } else { "\n" });
     Ok(())
 }

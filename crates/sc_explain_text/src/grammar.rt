@@ -4,10 +4,10 @@ use crate::beginning::Beginning;
 use crate::expected::push_expected;
 use crate::foreign::{push_instead_at, push_instead_of, push_instead_of_word};
 use crate::layout::open_construct;
+use crate::lines::Lines;
 use crate::nearest::{near_word, push_meant};
 use crate::reading::{tokens_of, word_at};
 use crate::related::Related;
-use crate::words::push_all;
 use sc_text::{Span, Terminal, Token, TokenKind};
 use std::alloc::{AllocError, Global};
 
@@ -29,7 +29,7 @@ struct Stop<'t> {
 /// That memory ran out.
 pub fn explain_grammar(
     alloc: Global,
-    lines: &mut String,
+    lines: &mut Lines,
     text: &str,
     span: Span,
 ) -> Result<Option<Related>, AllocError> {
@@ -59,11 +59,11 @@ fn number_of(tokens: &[Token], span: Span) -> usize {
 }
 
 impl<'t> Stop<'t> {
-    fn explain(self, alloc: Global, lines: &mut String) -> Result<Option<Related>, AllocError> {
-        self.push_place(lines)?;
-        let is_told = self.push_foreign_word(lines)?
+    fn explain(self, alloc: Global, lines: &mut Lines) -> Result<Option<Related>, AllocError> {
+        self.push_place(lines);
+        let is_told = self.push_foreign_word(lines)
             || self.push_meant(alloc, lines)?
-            || self.push_foreign_sign(lines)?;
+            || self.push_foreign_sign(lines);
         if is_told {
             return Ok(None);
         }
@@ -80,57 +80,54 @@ impl<'t> Stop<'t> {
     }
 
     /// Adds which token is at fault.
-    fn push_place(self, lines: &mut String) -> Result<(), AllocError> {
+    fn push_place(self, lines: &mut Lines) {
         match self.tokens.get(self.number) {
-            None => lines.push_str("the text ends before its last class does\n"),
+            None => lines.push("the text ends before its last class does\n"),
             Some(token) => {
                 let word = word_at(self.text, token.span);
-                push_all(
-                    lines,
-                    &["no system begins with the text up to `", word, "`\n"],
-                )
+                lines.push_all(&["no system begins with the text up to `", word, "`\n"])
             }
         }
     }
 
     /// Adds what is written in place of a construct that a word shows, and whether there is something.
-    fn push_foreign_word(self, lines: &mut String) -> Result<bool, AllocError> {
-        Ok(self.push_word(lines)? || self.push_word_in_line(lines)?)
+    fn push_foreign_word(self, lines: &mut Lines) -> bool {
+        self.push_word(lines) || self.push_word_in_line(lines)
     }
 
     /// Adds what is written in place of a construct that signs show, and whether there is something.
-    fn push_foreign_sign(self, lines: &mut String) -> Result<bool, AllocError> {
-        Ok(self.push_real(lines)? || self.push_sign(lines)?)
+    fn push_foreign_sign(self, lines: &mut Lines) -> bool {
+        self.push_real(lines) || self.push_sign(lines)
     }
 
     /// Adds what is written in place of a construct that the token at fault shows.
-    fn push_word(self, lines: &mut String) -> Result<bool, AllocError> {
+    fn push_word(self, lines: &mut Lines) -> bool {
         match self.tokens.get(self.number) {
-            None => Ok(false),
+            None => false,
             Some(token) => push_instead_of_word(lines, word_at(self.text, token.span)),
         }
     }
 
     /// Adds what is written in place of a number with a point.
-    fn push_real(self, lines: &mut String) -> Result<bool, AllocError> {
+    fn push_real(self, lines: &mut Lines) -> bool {
         match (self.kind(1), self.kind(0)) {
             (Some(TokenKind::Integer(_)), Some(TokenKind::Terminal(Terminal::Dot))) => {
                 push_instead_of(lines, "real")
             }
-            _ => Ok(false),
+            _ => false,
         }
     }
 
     /// Adds what is written in place of signs: of several that begin at the token at fault, of those that begin at the
     /// token before it and reach over that, or of the one at fault.
-    fn push_sign(self, lines: &mut String) -> Result<bool, AllocError> {
+    fn push_sign(self, lines: &mut Lines) -> bool {
         let over = self.length(1).saturating_add(1);
         for (back, least) in [(0_usize, 2_usize), (1, over), (0, 1)] {
-            if self.is_sign(back) && push_instead_at(lines, self.text_from(back), least)? {
-                return Ok(true);
+            if self.is_sign(back) && push_instead_at(lines, self.text_from(back), least) {
+                return true;
             }
         }
-        Ok(false)
+        false
     }
 
     /// Whether so many tokens before that at fault stands no name and no number.
@@ -159,15 +156,15 @@ impl<'t> Stop<'t> {
 
     /// Adds what is written in place of a construct that a word shows which stands in the line before the fault and is
     /// declared nowhere.
-    fn push_word_in_line(self, lines: &mut String) -> Result<bool, AllocError> {
+    fn push_word_in_line(self, lines: &mut Lines) -> bool {
         for token in self.tokens_in_line() {
             if let TokenKind::Name(name) = &token.kind {
-                if !self.is_declared(name) && push_instead_of_word(lines, name)? {
-                    return Ok(true);
+                if !self.is_declared(name) && push_instead_of_word(lines, name) {
+                    return true;
                 }
             }
         }
-        Ok(false)
+        false
     }
 
     /// Whether the name stands somewhere as one that is declared or assigned.
@@ -207,11 +204,11 @@ impl<'t> Stop<'t> {
 
     /// Adds which word was meant, where a system goes on further with one that is near to one written here, and whether
     /// there is one.
-    fn push_meant(self, alloc: Global, lines: &mut String) -> Result<bool, AllocError> {
+    fn push_meant(self, alloc: Global, lines: &mut Lines) -> Result<bool, AllocError> {
         for back in 0..4_usize {
             if let Some(word) = self.near(back) {
                 if self.is_better(alloc, back, word)? {
-                    push_meant(lines, word)?;
+                    push_meant(lines, word);
                     return Ok(true);
                 }
             }

@@ -1,6 +1,8 @@
 //! A text read again for what is said of it. What is wrong with it was told before; want of memory is told here.
 
+use sc_parse::{ParseFault, parse};
 use sc_text::{LexFault, Span, Token, lex};
+use sc_tree::System;
 use std::alloc::{AllocError, Global};
 
 /// The tokens of a text, if it has some.
@@ -11,6 +13,27 @@ pub fn tokens_of(alloc: Global, text: &str) -> Result<Option<Vec<Token>>, AllocE
         Err(_) => Ok(None),
     }
 }
+
+/// The system of a text, if it spells one.
+pub fn system_of(alloc: Global, text: &str) -> Result<Option<System>, AllocError> {
+    match tokens_of(alloc, text) {
+        Ok(None) => Ok(None),
+        Ok(Some(tokens)) => parsed(alloc, &tokens),
+        Err(error) => Err(error),
+    }
+}
+
+/// The system of these tokens, if they spell one.
+fn parsed(alloc: Global, tokens: &[Token]) -> Result<Option<System>, AllocError> {
+    match parse(alloc, tokens) {
+        Ok(system) => Ok(Some(system)),
+        Err(ParseFault::OutOfMemory) => Err(AllocError),
+        Err(_) => Ok(None),
+    }
+}
+
+/// Lets a system go. Each crate in which one goes proves once more that all of it may.
+pub fn let_go(_system: System) {}
 
 /// What a part of the text says; nothing where it begins or ends inside of a character.
 pub fn word_at(text: &str, span: Span) -> &str {

@@ -1,6 +1,7 @@
 //! Who waits for whom: cycles, and the chains that lead to them or to one that waits for something else.
 
-use crate::waits::Wait;
+use crate::waits::{Wait, keeper_in};
+use sc_request::Core;
 use std::alloc::{AllocError, Global};
 
 /// For each handler the one that keeps it waiting, if a waiting one does; one of a cycle, or that leads to a cycle, where
@@ -11,24 +12,12 @@ pub struct Chains {
 }
 
 impl Chains {
-    pub fn of(alloc: Global, waits: &[Wait]) -> Result<Chains, AllocError> {
-        let mut stuck = Vec::new(alloc);
-        for wait in waits {
-            stuck.push(wait.is_waiting())?;
-        }
-        let mut next = Vec::new(alloc);
-        for wait in waits {
-            next.push(first_of(wait, &stuck))?;
-        }
-        free_all(waits, &mut stuck);
-        for (handler, wait) in waits.iter().enumerate() {
-            let keeper = first_of(wait, &stuck);
-            if let Some(place) = next.get_mut(handler)
-                && keeper.is_some()
-            {
-                *place = keeper;
-            }
-        }
+    pub fn of(alloc: Global, core: &Core, waits: &[Wait]) -> Result<Chains, AllocError> {
+        let mut next = vec![in alloc; None; waits.len()]?;
+        let mut stuck = waiting_set(alloc, waits)?;
+        set_keepers(core, waits, &stuck, &mut next);
+        free_all(core, waits, &mut stuck);
+        set_keepers(core, waits, &stuck, &mut next);
         Ok(Chains { next })
     }
 
@@ -73,36 +62,52 @@ fn contains(handlers: &[u16], handler: u16) -> bool {
     handlers.iter().any(|other| *other == handler)
 }
 
-/// The first of those that keep it waiting that is in the set.
-fn first_of(wait: &Wait, set: &[bool]) -> Option<u16> {
-    let keepers = wait.keepers();
-    for keeper in keepers.as_slice() {
-        if is_in(set, *keeper) {
-            return Some(*keeper);
-        }
+/// The handlers that wait.
+fn waiting_set(alloc: Global, waits: &[Wait]) -> Result<Vec<bool>, AllocError> {
+    let mut set = Vec::new(alloc);
+    for wait in waits {
+        set.push(wait.is_waiting())?;
     }
-    None
+    Ok(set)
 }
 
-fn is_in(set: &[bool], handler: u16) -> bool {
-    set.get(handler as usize).copied().unwrap_or(false)
+/// Sets for each handler the first in the set that keeps it waiting, where there is one.
+fn set_keepers(core: &Core, waits: &[Wait], set: &[bool], next: &mut [Option<u16>]) {
+    for handler in 0..number_of(waits) {
+        let keeper = first_of(core, waits, handler, set);
+        if let Some(place) = next.get_mut(handler as usize)
+            && keeper.is_some()
+        {
+            *place = keeper;
+        }
+    }
+}
+
+/// How many handlers there are.
+pub fn number_of(waits: &[Wait]) -> u16 {
+    waits.len().min(u16::MAX as usize) as u16
+}
+
+/// The first of those that keep a handler waiting that is in the set.
+fn first_of(core: &Core, waits: &[Wait], handler: u16, set: &[bool]) -> Option<u16> {
+    keeper_in(core, handler, *waits.get(handler as usize)?, set)
 }
 
 /// Takes those out of the set that no one in it keeps waiting, one after the other: what is left leads to a cycle.
-fn free_all(waits: &[Wait], stuck: &mut Vec<bool>) {
+fn free_all(core: &Core, waits: &[Wait], stuck: &mut [bool]) {
     for _round in 0..waits.len() {
-        if !free_some(waits, stuck) {
+        if !free_some(core, waits, stuck) {
             return;
         }
     }
 }
 
 /// Takes those out of the set that no one in it keeps waiting: whether there was one.
-fn free_some(waits: &[Wait], stuck: &mut Vec<bool>) -> bool {
+fn free_some(core: &Core, waits: &[Wait], stuck: &mut [bool]) -> bool {
     let mut is_changed = false;
-    for (handler, wait) in waits.iter().enumerate() {
-        let is_kept = first_of(wait, stuck).is_some();
-        if let Some(place) = stuck.get_mut(handler)
+    for handler in 0..number_of(waits) {
+        let is_kept = first_of(core, waits, handler, stuck).is_some();
+        if let Some(place) = stuck.get_mut(handler as usize)
             && *place
             && !is_kept
         {

@@ -1,86 +1,85 @@
 //! What is said of a clause that is false, and which values the parts of a text had.
 
-use crate::evaluation::{Reached, Seen, false_clause, from_place, from_stand};
+use crate::evaluation::{Reached, Seen, Start, Until, reach};
+use crate::naming::push_place;
 use crate::origin::Origin;
 use crate::waits::standing_of;
-use crate::words::{push, push_flat};
 use sc_code::Version;
+use sc_explain_text::Lines;
 use sc_region::{Reference, Value};
 use sc_text::Span;
 use sc_whereabouts::{Kind, locate};
 use sc_world::World;
-use std::alloc::AllocError;
 
 /// How many values are told at most.
 const MOST_VALUES: usize = 8;
 
-/// Which clause of the precondition of the routine that a handler is in is false, with the values of what it names, on a line, as
-/// far as that is found on the objects as they are; else nothing.
-pub fn false_clause_note(
-    origin: Origin<'_>,
-    world: &World<'_>,
-    handler: u16,
-) -> Result<Vec<u8>, AllocError> {
-    let mut lines = Vec::new(origin.alloc);
-    if let Some(reached) = false_clause(origin.alloc, world, handler)? {
-        origin.push_false(&mut lines, &reached)?;
+/// Adds which clause of the precondition of the routine that a handler is in is false, with the values of what it names, on a
+/// line, as far as that is found on the objects as they are; else nothing.
+pub fn push_false_clause(origin: Origin<'_>, lines: &mut Lines, world: &World<'_>, handler: u16) {
+    let start = Start::Place(0);
+    match reach(origin.alloc, world, handler, start, Until::FalseClause) {
+        Ok(Some(reached)) => origin.push_false(lines, &reached),
+        Ok(None) => {}
+        Err(_) => lines.lack(),
     }
-    Ok(lines)
 }
 
-/// The values of what the topmost routine of a handler reads and calls for the operation at a place of it, where it goes on to there
-/// without asking anything of others, and gets this answer first if one has come: a line, or nothing.
-pub fn values_note(
+/// Adds the values of what the topmost routine of a handler reads and calls for the operation at a place of it, where it goes on
+/// to there without asking anything of others, and gets this answer first if one has come: a line, or nothing.
+pub fn push_operation_values(
     origin: Origin<'_>,
+    lines: &mut Lines,
     world: &World<'_>,
     handler: u16,
     answer: Option<Value>,
     place: usize,
-) -> Result<Vec<u8>, AllocError> {
-    let mut lines = Vec::new(origin.alloc);
+) {
     let Some(standing) = standing_of(world, handler) else {
-        return Ok(lines);
+        return;
     };
     let Some(there) = locate(origin.tables, standing.routine, place) else {
-        return Ok(lines);
+        return;
     };
-    let first = origin.first_place(standing.routine, place, there.site.span);
+    let whole = there.site.span;
+    let first = origin.first_place(standing.routine, place, whole);
     let is_clause = matches!(there.site.kind, Kind::Clause(_, _));
-    let reached = if is_clause && first < standing.place {
-        from_place(origin.alloc, world, handler, first, place)?
+    let start = if is_clause && first < standing.place {
+        Start::Place(first)
     } else {
-        from_stand(origin.alloc, world, handler, answer, place)?
+        Start::Here(answer)
     };
-    if let Some(reached) = reached
-        && origin.push_values(&mut lines, "where ", there.site.span, &reached)?
-    {
-        push(&mut lines, "\n")?;
+    match reach(origin.alloc, world, handler, start, Until::Place(place)) {
+        Ok(Some(reached)) => {
+            let is_told = origin.push_values(lines, "where ", whole, &reached);
+            lines.push(if is_told { "\n" } else { "" })
+        }
+        Ok(None) => {}
+        Err(_) => lines.lack(),
     }
-    Ok(lines)
 }
 
-/// The values that the attributes of an object have which a part of the text names: a line, or nothing.
-pub fn attributes_note(
+/// Adds the values that the attributes of an object have which a part of the text names: a line, or nothing.
+pub fn push_attributes(
     origin: Origin<'_>,
+    lines: &mut Lines,
     world: &World<'_>,
     object: Reference,
     part: Span,
-) -> Result<Vec<u8>, AllocError> {
-    let mut lines = Vec::new(origin.alloc);
+) {
     let mut told = Vec::new(origin.alloc);
     let text = origin.written(part);
     let mut start = 0;
     for (at, byte) in text.bytes().enumerate() {
         if !is_in_name(byte) {
             let word = text.get(start..at).unwrap_or("");
-            origin.push_attribute(&mut lines, world, object, word, &mut told)?;
+            origin.push_attribute(lines, world, object, word, &mut told);
             start = at.saturating_add(1);
         }
     }
     let word = text.get(start..).unwrap_or("");
-    origin.push_attribute(&mut lines, world, object, word, &mut told)?;
-    push(&mut lines, if told.is_empty() { "" } else { "\n" })?;
-    Ok(lines)
+    origin.push_attribute(lines, world, object, word, &mut told);
+    lines.push(if told.is_empty() { "" } else { "\n" })
 }
 
 fn is_in_name(byte: u8) -> bool {
@@ -91,24 +90,20 @@ impl<'r> Origin<'r> {
     /// Adds the attribute of this name of an object, unless it is told.
     fn push_attribute(
         self,
-        lines: &mut Vec<u8>,
+        lines: &mut Lines,
         world: &World<'_>,
         object: Reference,
         name: &'r str,
         told: &mut Vec<&'r str>,
-    ) -> Result<(), AllocError> {
-        if is_listed(told.as_slice(), name) {
-            return Ok(());
-        }
-        match self.attribute_of(world, object, name) {
-            Some(value) => {
-                push(lines, if told.is_empty() { "where " } else { ", " })?;
-                push(lines, name)?;
-                self.push_value(lines, value)?;
-                told.push(name)?;
-                Ok(())
+    ) {
+        if !is_listed(told.as_slice(), name)
+            && let Some(value) = self.attribute_of(world, object, name)
+        {
+            lines.push_all(&[if told.is_empty() { "where " } else { ", " }, name]);
+            push_value(lines, value);
+            if told.push(name).is_err() {
+                lines.lack()
             }
-            None => Ok(()),
         }
     }
 
@@ -136,20 +131,17 @@ impl<'r> Origin<'r> {
         None
     }
 
-    fn push_false(self, lines: &mut Vec<u8>, reached: &Reached) -> Result<(), AllocError> {
-        let Some(span) = self.span_at(reached.routine, reached.place) else {
-            return Ok(());
-        };
-        let Some(place) = self.source.place_of(span.start) else {
-            return Ok(());
-        };
-        let (file, line, column) = (place.file, place.line, place.column);
-        let at = format!(in self.alloc; "{file}:{line}:{column}: `")?;
-        push(lines, at.as_str())?;
-        push_flat(lines, self.written(span))?;
-        push(lines, "` is false")?;
-        self.push_values(lines, ": ", span, reached)?;
-        push(lines, "\n")
+    fn push_false(self, lines: &mut Lines, reached: &Reached) {
+        if let Some(span) = self.span_at(reached.routine, reached.place)
+            && let Some(place) = self.source.place_of(span.start)
+        {
+            push_place(lines, place);
+            lines.push(": `");
+            lines.push_flat(self.written(span));
+            lines.push("` is false");
+            self.push_values(lines, ": ", span, reached);
+            lines.push("\n")
+        }
     }
 
     /// The place of the first operation of a routine, of those before one, that was made of the same part of the text.
@@ -170,13 +162,7 @@ impl<'r> Origin<'r> {
     }
 
     /// Adds what was read and called in a part of the text, each once, as far as it is no object: whether there is such a thing.
-    fn push_values(
-        self,
-        lines: &mut Vec<u8>,
-        before: &str,
-        whole: Span,
-        reached: &Reached,
-    ) -> Result<bool, AllocError> {
+    fn push_values(self, lines: &mut Lines, before: &str, whole: Span, reached: &Reached) -> bool {
         let first = self.first_place(reached.routine, reached.place, whole);
         let mut told = Vec::new(self.alloc);
         for seen in &reached.seen {
@@ -185,13 +171,15 @@ impl<'r> Origin<'r> {
                 && told.len() < MOST_VALUES
                 && !is_listed(told.as_slice(), part)
             {
-                push(lines, if told.is_empty() { before } else { ", " })?;
-                push_flat(lines, part)?;
-                self.push_value(lines, seen.value)?;
-                told.push(part)?;
+                lines.push(if told.is_empty() { before } else { ", " });
+                lines.push_flat(part);
+                push_value(lines, seen.value);
+                if told.push(part).is_err() {
+                    lines.lack()
+                }
             }
         }
-        Ok(!told.is_empty())
+        !told.is_empty()
     }
 
     /// What the text has there, where that lies in the whole and its value is no object.
@@ -204,18 +192,18 @@ impl<'r> Origin<'r> {
             _ => Some(self.written(span)),
         }
     }
+}
 
-    fn push_value(self, lines: &mut Vec<u8>, value: Value) -> Result<(), AllocError> {
-        match value {
-            Value::Integer(value) => {
-                let told = format!(in self.alloc; " = {value}")?;
-                push(lines, told.as_str())
-            }
-            Value::Boolean(true) => push(lines, " = True"),
-            Value::Boolean(false) => push(lines, " = False"),
-            Value::Void => push(lines, " = Void"),
-            Value::Attached(_) => Ok(()),
+fn push_value(lines: &mut Lines, value: Value) {
+    match value {
+        Value::Integer(value) => {
+            lines.push(if value < 0 { " = -" } else { " = " });
+            lines.push_number(value.unsigned_abs())
         }
+        Value::Boolean(true) => lines.push(" = True"),
+        Value::Boolean(false) => lines.push(" = False"),
+        Value::Void => lines.push(" = Void"),
+        Value::Attached(_) => {}
     }
 }
 

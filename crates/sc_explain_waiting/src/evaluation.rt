@@ -1,7 +1,7 @@
 //! The code of a routine, gone through once more from where it stands: without any effect, on the objects as they are.
 
-use crate::frame::{Frame, Step, reads};
-use sc_code::{CallSite, Operation, Program, RoutineCode, Version};
+use crate::frame::{Frame, Values};
+use sc_code::{CallSite, Operation, Program, Version};
 use sc_region::{Reference, Value};
 use sc_world::World;
 use std::alloc::{AllocError, Global};
@@ -27,6 +27,15 @@ pub struct Reached {
     pub seen: Vec<Seen>,
 }
 
+/// From where a routine is gone through.
+#[derive(Clone, Copy)]
+pub enum Start {
+    /// From where it stands. It gets this answer first, if one has come.
+    Here(Option<Value>),
+    /// From the operation at this place, before which nothing was read that is needed.
+    Place(usize),
+}
+
 /// How far a routine is gone through.
 #[derive(Clone, Copy)]
 pub enum Until {
@@ -44,334 +53,289 @@ struct Write {
     value: Value,
 }
 
-/// What is evaluated: objects of a world, and routines of its program in the middle of their run, the outermost first.
+/// What is evaluated: a routine of the program of a world, on the objects of that.
 #[derive(Drop)]
-struct Evaluation<'r> {
-    alloc: Global,
+pub struct Evaluation<'r> {
     world: &'r World<'r>,
     program: &'r Program,
-    frames: Vec<Frame>,
+    /// The routine that runs.
+    pub frame: Frame,
+    /// Those that wait for it to end, the outermost first.
+    callers: Vec<Frame>,
+    pub values: Values,
     seen: Vec<Seen>,
     writes: Vec<Write>,
+    /// Whether memory was refused on the way.
+    is_lacking: bool,
 }
 
-/// The first false clause of the precondition of the routine that a handler is in, from its beginning on, if that is found.
-pub fn false_clause(
+/// What the topmost routine of a handler reads and calls from a place of it to another one, if it comes to there without asking
+/// anything of others.
+pub fn reach(
     alloc: Global,
     world: &World<'_>,
     handler: u16,
+    start: Start,
+    until: Until,
 ) -> Result<Option<Reached>, AllocError> {
-    let Some(mut frame) = topmost(alloc, world, handler)? else {
+    let Some(mut evaluation) = standing(alloc, world, handler) else {
         return Ok(None);
     };
-    frame.place = 0;
-    frame.operands.clear();
-    reach(alloc, world, handler, frame, Until::FalseClause)
-}
-
-/// What the topmost routine of a handler reads and calls from where it stands to the operation at a place, if it comes there. It
-/// gets this answer first, if one has come.
-pub fn from_stand(
-    alloc: Global,
-    world: &World<'_>,
-    handler: u16,
-    answer: Option<Value>,
-    place: usize,
-) -> Result<Option<Reached>, AllocError> {
-    let Some(mut frame) = topmost(alloc, world, handler)? else {
-        return Ok(None);
-    };
-    if let Some(value) = answer {
-        frame.operands.push(value)?;
-    }
-    reach(alloc, world, handler, frame, Until::Place(place))
-}
-
-/// The same from the operation at another place, before which nothing was read that is needed.
-pub fn from_place(
-    alloc: Global,
-    world: &World<'_>,
-    handler: u16,
-    from: usize,
-    place: usize,
-) -> Result<Option<Reached>, AllocError> {
-    let Some(mut frame) = topmost(alloc, world, handler)? else {
-        return Ok(None);
-    };
-    frame.place = from;
-    frame.operands.clear();
-    reach(alloc, world, handler, frame, Until::Place(place))
+    evaluation.begin(start);
+    let is_there = evaluation.run(until);
+    evaluation.end(is_there)
 }
 
 /// The topmost routine of a handler, as it stands.
-fn topmost(alloc: Global, world: &World<'_>, handler: u16) -> Result<Option<Frame>, AllocError> {
-    match world.region(handler) {
-        Some(region) => Frame::topmost(alloc, region.store()),
-        None => Ok(None),
-    }
-}
-
-fn reach(
-    alloc: Global,
-    world: &World<'_>,
-    handler: u16,
-    frame: Frame,
-    until: Until,
-) -> Result<Option<Reached>, AllocError> {
-    let Some(region) = world.region(handler) else {
-        return Ok(None);
-    };
-    let mut evaluation = Evaluation {
-        alloc,
+fn standing<'r>(alloc: Global, world: &'r World<'r>, handler: u16) -> Option<Evaluation<'r>> {
+    let store = world.region(handler)?.store();
+    let top = store.top()?;
+    let current = store.current()?;
+    let values = Values::of(alloc, top);
+    Some(Evaluation {
         world,
-        program: region.store().program(),
-        frames: Vec::new(alloc),
+        program: store.program(),
+        frame: Frame {
+            routine: top.routine,
+            current,
+            place: top.place,
+            floor: 0,
+            slots: 0,
+            operands: top.slots.len(),
+            olds: 0,
+            result: top.result,
+        },
+        callers: Vec::new(alloc),
+        values,
         seen: Vec::new(alloc),
         writes: Vec::new(alloc),
-    };
-    evaluation.begin(frame)?;
-    evaluation.run(until)
+        is_lacking: false,
+    })
 }
 
 impl<'r> Evaluation<'r> {
-    /// The outermost routine stands so. Where it stands behind a call, the last operand is what that has given.
-    fn begin(&mut self, frame: Frame) -> Result<(), AllocError> {
-        let place = frame.place.saturating_sub(1);
-        let before = self.operation_at(frame.routine, place);
+    /// The outermost routine stands where it starts. Where it stands behind a call, the last operand is what that has given.
+    fn begin(&mut self, start: Start) {
+        match start {
+            Start::Here(None) => {}
+            Start::Here(Some(value)) => self.values.push(value),
+            Start::Place(place) => {
+                self.frame.place = place;
+                let operands = self.frame.operands;
+                self.values.cut(operands)
+            }
+        }
+        let place = self.frame.place.saturating_sub(1);
         let is_behind_call = matches!(
-            before,
+            self.operation_at(place),
             Some(Operation::CallFeature(_) | Operation::CallRoutine(_))
         );
-        if let Some(value) = frame.operands.last().copied()
+        if let Some(value) = self.values.last(self.frame)
             && is_behind_call
         {
-            self.note(place, value)?;
+            self.note(place, value)
         }
-        self.frames.push(frame)?;
-        Ok(())
     }
 
-    /// Goes through the outermost routine so far.
-    fn run(mut self, until: Until) -> Result<Option<Reached>, AllocError> {
+    /// Goes through the outermost routine so far: whether it comes to there.
+    fn run(&mut self, until: Until) -> bool {
         for _operation in 0..MOST_OPERATIONS {
-            let Some(frame) = self.frames.pop() else {
-                return Ok(None);
-            };
-            if self.is_reached(&frame, until) {
-                return Ok(Some(Reached {
-                    routine: frame.routine,
-                    place: frame.place,
-                    seen: self.seen,
-                }));
+            if self.is_reached(until) {
+                return true;
             }
-            if !self.advance(frame)? {
-                return Ok(None);
+            if self.is_lacking || !self.advance() {
+                return false;
             }
         }
-        Ok(None)
+        false
     }
 
     /// Whether the routine stands where the outermost one is to come to.
-    fn is_reached(&self, frame: &Frame, until: Until) -> bool {
-        if !self.frames.is_empty() {
+    fn is_reached(&self, until: Until) -> bool {
+        if !self.callers.is_empty() {
             return false;
         }
         match until {
-            Until::Place(place) => frame.place == place,
+            Until::Place(place) => self.frame.place == place,
             Until::FalseClause => {
-                matches!(self.operation_of(frame), Some(Operation::Demand(_)))
-                    && matches!(frame.operands.last(), Some(Value::Boolean(false)))
+                matches!(
+                    self.operation_at(self.frame.place),
+                    Some(Operation::Demand(_))
+                ) && matches!(self.values.last(self.frame), Some(Value::Boolean(false)))
             }
         }
     }
 
+    /// What was seen, where the routine is there.
+    fn end(self, is_there: bool) -> Result<Option<Reached>, AllocError> {
+        if self.is_lacking || self.values.is_lacking {
+            return Err(AllocError);
+        }
+        if !is_there {
+            return Ok(None);
+        }
+        Ok(Some(Reached {
+            routine: self.frame.routine,
+            place: self.frame.place,
+            seen: self.seen,
+        }))
+    }
+
     /// The routine does its next operation: whether it can be gone on.
-    fn advance(&mut self, mut frame: Frame) -> Result<bool, AllocError> {
-        match self.operation_of(&frame) {
-            None => Ok(false),
-            Some(Operation::CallRoutine(number)) => self.call(frame, number, false),
-            Some(Operation::CallFeature(number)) => self.call(frame, number, true),
+    fn advance(&mut self) -> bool {
+        match self.operation_at(self.frame.place) {
+            None => false,
+            Some(Operation::CallRoutine(number)) => self.call(number, false),
+            Some(Operation::CallFeature(number)) => self.call(number, true),
             Some(
                 Operation::PushAttribute {
                     is_attached: _,
                     name,
                 },
             ) => {
-                let step = reads(self.own_attribute(&frame, name));
-                self.follow(frame, step)
+                let value = self.own_attribute(name);
+                self.read(value)
             }
-            Some(Operation::StoreAttribute(name)) => self.store(frame, name),
-            Some(Operation::Test(number)) => {
-                let step = match self.program.pool().tests.get(number) {
-                    Some(test) if test.tested.is_none() => frame.test(test.slot),
-                    _ => Step::Unknown,
-                };
-                self.follow(frame, step)
-            }
-            Some(Operation::KeepOld) => {
-                frame.keep()?;
-                self.follow(frame, Step::Passes(0))
-            }
-            Some(operation) => {
-                let step = frame.step(operation);
-                self.follow(frame, step)
-            }
+            Some(Operation::StoreAttribute(name)) => self.store_attribute(name),
+            Some(Operation::Test(number)) => match self.program.pool().tests.get(number) {
+                Some(test) if test.tested.is_none() => self.test(test.slot),
+                _ => false,
+            },
+            Some(Operation::Start) => !self.callers.is_empty() && self.pass(0),
+            Some(Operation::Exit) => self.exit(),
+            Some(operation) => self.step(operation),
         }
     }
 
-    fn operation_of(&self, frame: &Frame) -> Option<Operation> {
-        self.operation_at(frame.routine, frame.place)
-    }
-
-    fn operation_at(&self, routine: usize, place: usize) -> Option<Operation> {
+    /// The operation at a place of the routine that runs.
+    fn operation_at(&self, place: usize) -> Option<Operation> {
         self.program
-            .routine(routine)?
+            .routine(self.frame.routine)?
             .operations
             .get(place)
             .copied()
     }
 
-    /// The routine takes a step: whether it can be gone on.
-    fn follow(&mut self, mut frame: Frame, step: Step) -> Result<bool, AllocError> {
-        let is_outermost = self.frames.is_empty();
-        let passed = match step {
-            Step::Passes(passed) => passed,
-            Step::Back(back) => {
-                frame.place = frame.place.saturating_sub(back);
-                self.frames.push(frame)?;
-                return Ok(true);
-            }
-            Step::Gives { value, passed } => {
-                frame.operands.push(value)?;
-                passed
-            }
-            Step::Reads(value) => {
-                self.give(frame, value)?;
-                return Ok(true);
-            }
-            Step::Exits => return self.exit(frame.result),
-            Step::Tests(true) => 0,
-            Step::Starts if !is_outermost => 0,
-            _ => return Ok(false),
-        };
-        frame.place = frame.place.saturating_add(1).saturating_add(passed);
-        self.frames.push(frame)?;
-        Ok(true)
+    /// The routine goes on behind so many operations more.
+    pub fn pass(&mut self, passed: usize) -> bool {
+        self.frame.place = self.frame.place.saturating_add(1).saturating_add(passed);
+        true
     }
 
-    /// A routine ends with this result, which its caller gets: whether there is one.
-    fn exit(&mut self, given: Option<Value>) -> Result<bool, AllocError> {
-        match (self.frames.pop(), given) {
-            (Some(caller), Some(value)) => {
-                self.give(caller, value)?;
-                Ok(true)
+    /// The routine gets a value that was read or that a call gives, if there is one: whether it does.
+    pub fn read(&mut self, value: Option<Value>) -> bool {
+        match value {
+            Some(value) => {
+                let place = self.frame.place;
+                self.note(place, value);
+                self.values.push(value);
+                self.pass(0)
             }
-            _ => Ok(false),
+            None => false,
         }
-    }
-
-    /// The routine gets a value that was read or that a call gives.
-    fn give(&mut self, mut frame: Frame, value: Value) -> Result<(), AllocError> {
-        self.note(frame.place, value)?;
-        frame.operands.push(value)?;
-        frame.place = frame.place.saturating_add(1);
-        self.frames.push(frame)?;
-        Ok(())
     }
 
     /// Notes what was read for a clause of the outermost routine.
-    fn note(&mut self, place: usize, value: Value) -> Result<(), AllocError> {
-        if self.frames.is_empty() {
-            self.seen.push(Seen { place, value })?;
+    fn note(&mut self, place: usize, value: Value) {
+        if self.callers.is_empty() && self.seen.push(Seen { place, value }).is_err() {
+            self.is_lacking = true
         }
-        Ok(())
+    }
+
+    /// The routine ends, and its caller gets its result: whether there are both.
+    fn exit(&mut self) -> bool {
+        let ended = self.frame;
+        match self.callers.pop() {
+            Some(caller) => {
+                self.values.cut(ended.floor);
+                self.values.cut_olds(ended.olds);
+                self.frame = caller;
+                self.read(ended.result)
+            }
+            None => false,
+        }
     }
 
     /// An attribute of Current gets the last operand: whether it can be gone on.
-    fn store(&mut self, mut frame: Frame, name: usize) -> Result<bool, AllocError> {
-        let version = self.version(frame.current, name);
-        match (frame.operands.pop(), version) {
+    fn store_attribute(&mut self, name: usize) -> bool {
+        let object = self.frame.current;
+        let version = self.version(object, name);
+        match (self.values.pop(self.frame), version) {
             (Some(value), Some(Version::Attribute(attribute))) => {
-                self.writes.push(Write {
-                    object: frame.current,
+                self.note_write(Write {
+                    object,
                     attribute,
                     value,
-                })?;
-                self.follow(frame, Step::Passes(0))
+                });
+                self.pass(0)
             }
-            _ => Ok(false),
+            _ => false,
+        }
+    }
+
+    fn note_write(&mut self, write: Write) {
+        if self.writes.push(write).is_err() {
+            self.is_lacking = true
         }
     }
 
     /// A feature is called, of a target or of Current: whether it can be gone on.
-    fn call(
-        &mut self,
-        mut frame: Frame,
-        number: usize,
-        has_target: bool,
-    ) -> Result<bool, AllocError> {
+    fn call(&mut self, number: usize, has_target: bool) -> bool {
         let Some(site) = self.program.pool().calls.get(number).copied() else {
-            return Ok(false);
+            return false;
         };
-        let Some(actuals) = taken(self.alloc, &mut frame.operands, site.count)? else {
-            return Ok(false);
+        let Some(slots) = self.values.first_of(self.frame, site.count) else {
+            return false;
         };
-        let target = if has_target {
-            frame.operands.pop()
-        } else {
-            Some(Value::Attached(frame.current))
+        if !has_target {
+            let current = self.frame.current;
+            return self.call_of(current, site, slots, slots);
+        }
+        let Some(floor) = self
+            .values
+            .first_of(self.frame, site.count.saturating_add(1))
+        else {
+            return false;
         };
-        match target {
-            Some(Value::Attached(object)) => self.call_of(frame, object, site, actuals),
-            _ => Ok(false),
+        match self.values.at(floor) {
+            Some(Value::Attached(object)) => self.call_of(object, site, slots, floor),
+            _ => false,
         }
     }
 
-    fn call_of(
-        &mut self,
-        frame: Frame,
-        object: Reference,
-        site: CallSite,
-        actuals: Vec<Value>,
-    ) -> Result<bool, AllocError> {
+    /// A feature of an object is called with the values from a place on. Behind the call those are left in front of the floor.
+    fn call_of(&mut self, object: Reference, site: CallSite, slots: usize, floor: usize) -> bool {
         match self.version(object, site.name) {
             Some(Version::Attribute(number)) => {
-                let step = reads(self.attribute(object, number));
-                self.follow(frame, step)
+                self.values.cut(floor);
+                let value = self.attribute(object, number);
+                self.read(value)
             }
-            Some(Version::Routine(routine)) => match self.program.routine(routine) {
-                Some(code) => {
-                    self.frames.push(frame)?;
-                    self.enter(object, routine, code, actuals)
-                }
-                None => Ok(false),
-            },
-            None => Ok(false),
+            Some(Version::Routine(routine)) => self.enter(object, routine, slots, floor),
+            None => false,
         }
     }
 
     /// A routine is entered on an object: whether it can be.
-    fn enter(
-        &mut self,
-        object: Reference,
-        routine: usize,
-        code: &RoutineCode,
-        mut slots: Vec<Value>,
-    ) -> Result<bool, AllocError> {
-        for _slot in slots.len()..code.slots {
-            slots.push(Value::Void)?;
+    fn enter(&mut self, object: Reference, routine: usize, slots: usize, floor: usize) -> bool {
+        let Some(code) = self.program.routine(routine) else {
+            return false;
+        };
+        if self.callers.push(self.frame).is_err() {
+            self.is_lacking = true
         }
-        let given = code.result.map(|(default, _)| Value::of_default(default));
-        self.frames.push(Frame {
+        self.values.fill(slots.saturating_add(code.slots));
+        self.frame = Frame {
             routine,
             current: object,
             place: 0,
+            floor,
             slots,
-            operands: Vec::new(self.alloc),
-            olds: Vec::new(self.alloc),
-            result: given,
-        })?;
-        Ok(self.frames.len() <= MOST_FRAMES)
+            operands: self.values.len(),
+            olds: self.values.olds_len(),
+            result: code.result.map(|(default, _)| Value::of_default(default)),
+        };
+        self.callers.len() < MOST_FRAMES
     }
 
     /// What a feature of this name is in the class of an object.
@@ -380,9 +344,9 @@ impl<'r> Evaluation<'r> {
         *class.versions.get(name)?
     }
 
-    fn own_attribute(&self, frame: &Frame, name: usize) -> Option<Value> {
-        match self.version(frame.current, name)? {
-            Version::Attribute(number) => self.attribute(frame.current, number),
+    fn own_attribute(&self, name: usize) -> Option<Value> {
+        match self.version(self.frame.current, name)? {
+            Version::Attribute(number) => self.attribute(self.frame.current, number),
             Version::Routine(_) => None,
         }
     }
@@ -397,18 +361,4 @@ impl<'r> Evaluation<'r> {
         let region = self.world.region(object.handler)?;
         region.store().read(object.number, number)
     }
-}
-
-/// The last operands, so many, in their order, if there are so many.
-fn taken(
-    alloc: Global,
-    operands: &mut Vec<Value>,
-    count: usize,
-) -> Result<Option<Vec<Value>>, AllocError> {
-    let Some(first) = operands.len().checked_sub(count) else {
-        return Ok(None);
-    };
-    let values = Vec::from_slice(alloc, operands.get(first..).unwrap_or(&[]))?;
-    operands.truncate(first);
-    Ok(Some(values))
 }

@@ -1,213 +1,157 @@
-//! A routine whose code is gone through for the values that it comes to, and what one operation of it comes to.
+//! Routines whose code is gone through, and the values that they have.
 
-use crate::operators::{binary_value, decided_by, unary_value};
-use sc_code::Operation;
-use sc_region::{Activation, Reference, Store, Value};
-use sc_tree::BinaryOperator;
-use std::alloc::{AllocError, Global};
+use sc_region::{Activation, Reference, Value};
+use std::alloc::Global;
 
-/// A routine in the middle of its run.
-#[derive(Drop)]
+/// A routine in the middle of its run. Its values are some of those of all routines.
+#[derive(Clone, Copy)]
 pub struct Frame {
     pub routine: usize,
     pub current: Reference,
     pub place: usize,
-    pub slots: Vec<Value>,
-    pub operands: Vec<Value>,
-    /// The values of before that its postcondition keeps.
-    pub olds: Vec<Value>,
+    /// How many values are left behind its end.
+    pub floor: usize,
+    /// Where its slots begin.
+    pub slots: usize,
+    /// Where its slots end, and its operands begin.
+    pub operands: usize,
+    /// Where the values of before begin that its postcondition keeps.
+    pub olds: usize,
     pub result: Option<Value>,
 }
 
-/// What an operation comes to.
-#[derive(Clone, Copy)]
-pub enum Step {
-    /// So many operations are passed.
-    Passes(usize),
-    /// So many operations back.
-    Back(usize),
-    /// A value, behind which so many operations are passed.
-    Gives { value: Value, passed: usize },
-    /// The value of an entity or of a feature.
-    Reads(Value),
-    Exits,
-    /// A clause of a precondition, and whether it holds.
-    Tests(bool),
-    /// The clauses of a precondition hold.
-    Starts,
-    /// What isn't known here.
-    Unknown,
+/// The values of all routines in the middle of their run, those of the outermost first: of each its slots, and then its operands.
+#[derive(Drop)]
+pub struct Values {
+    values: Vec<Value>,
+    olds: Vec<Value>,
+    /// Whether memory was refused to some.
+    pub is_lacking: bool,
 }
 
-impl Frame {
-    /// The topmost routine of a handler, if it has frames.
-    pub fn topmost(alloc: Global, store: &Store<'_>) -> Result<Option<Frame>, AllocError> {
-        match (store.top(), store.current()) {
-            (Some(top), Some(current)) => Ok(Some(Frame {
-                routine: top.routine,
-                current,
-                place: top.place,
-                slots: Vec::from_slice(alloc, top.slots.as_slice())?,
-                operands: operands_of(alloc, top)?,
-                olds: olds_of(alloc, top)?,
-                result: top.result,
-            })),
-            _ => Ok(None),
-        }
-    }
-
-    /// The last operand is kept for an `old`.
-    pub fn keep(&mut self) -> Result<(), AllocError> {
-        match self.operands.pop() {
-            Some(value) => {
-                self.olds.push(value)?;
-                Ok(())
-            }
-            None => Ok(()),
-        }
-    }
-
-    /// Whether the last operand is an object, or another value: then it goes into the slot.
-    pub fn test(&mut self, slot: usize) -> Step {
-        match self.operands.pop() {
-            None => Step::Unknown,
-            Some(Value::Void) => gives(Value::Boolean(false)),
-            Some(value) => match self.put(slot, value) {
-                Step::Passes(_) => gives(Value::Boolean(true)),
-                _ => Step::Unknown,
-            },
-        }
-    }
-
-    /// What an operation comes to that looks at this routine alone, whose operands it takes.
-    pub fn step(&mut self, operation: Operation) -> Step {
-        match operation {
-            Operation::PushInteger(value) => gives(Value::Integer(value)),
-            Operation::PushBoolean(value) => gives(Value::Boolean(value)),
-            Operation::PushVoid => gives(Value::Void),
-            Operation::PushCurrent => gives(Value::Attached(self.current)),
-            Operation::PushResult { is_attached: _ } => reads(self.result),
-            Operation::PushOld(number) => reads(self.olds.get(number).copied()),
-            Operation::PushSlot {
-                is_attached: _,
-                slot,
-            } => reads(self.slots.get(slot).copied()),
-            Operation::ApplyUnary(operator) => {
-                let operand = self.operands.pop();
-                gives_if(operand.and_then(|operand| unary_value(operator, operand)))
-            }
-            Operation::ApplyBinary(operator) => gives_if(self.binary(operator)),
-            Operation::Decide { operator, passed } => self.decide(operator, passed),
-            Operation::StoreSlot(slot) => self.store(slot),
-            Operation::Initialize { value, slot } => self.put(slot, Value::of_default(value)),
-            operation => self.flow(operation),
-        }
-    }
-
-    /// What an operation comes to that chooses the next one.
-    fn flow(&mut self, operation: Operation) -> Step {
-        match operation {
-            Operation::Conclude => Step::Passes(0),
-            Operation::StoreResult => {
-                self.result = self.operands.pop();
-                Step::Passes(0)
-            }
-            Operation::Jump(passed) => Step::Passes(passed),
-            Operation::SkipIfFalse(passed) => self.choose(Step::Passes(0), Step::Passes(passed)),
-            Operation::EndLoop(back) => self.choose(Step::Passes(0), Step::Back(back)),
-            Operation::Demand(_) => self.choose(Step::Tests(true), Step::Tests(false)),
-            Operation::Expect(_) => self.choose(Step::Passes(0), Step::Unknown),
-            Operation::Start => Step::Starts,
-            Operation::Exit => Step::Exits,
-            _ => Step::Unknown,
-        }
-    }
-
-    /// The one step where the last operand is True, the other where it is False.
-    fn choose(&mut self, holds: Step, fails: Step) -> Step {
-        match self.operands.pop() {
-            Some(Value::Boolean(true)) => holds,
-            Some(Value::Boolean(false)) => fails,
-            _ => Step::Unknown,
-        }
-    }
-
-    fn binary(&mut self, operator: BinaryOperator) -> Option<Value> {
-        let right = self.operands.pop()?;
-        let left = self.operands.pop()?;
-        binary_value(operator, left, right)
-    }
-
-    /// Where the left operand decides, the right one is passed.
-    fn decide(&mut self, operator: BinaryOperator, passed: usize) -> Step {
-        let Some(left) = self.operands.pop() else {
-            return Step::Unknown;
+impl Values {
+    /// Those of one routine.
+    pub fn of(alloc: Global, top: &Activation) -> Values {
+        let mut values = Values {
+            values: Vec::new(alloc),
+            olds: Vec::new(alloc),
+            is_lacking: false,
         };
-        match decided_by(operator, left) {
-            Some(value) => Step::Gives {
-                value: Value::Boolean(value),
-                passed,
-            },
-            None => Step::Passes(0),
+        for value in top.slots.iter() {
+            values.push(*value);
         }
-    }
-
-    /// The last operand goes into the slot.
-    fn store(&mut self, slot: usize) -> Step {
-        match self.operands.pop() {
-            Some(value) => self.put(slot, value),
-            None => Step::Unknown,
-        }
-    }
-
-    fn put(&mut self, slot: usize, value: Value) -> Step {
-        match self.slots.get_mut(slot) {
-            Some(place) => {
-                *place = value;
-                Step::Passes(0)
+        for count in (0..top.operands.len()).rev() {
+            if let Some(value) = top.operands.under(count) {
+                values.push(value);
             }
-            None => Step::Unknown,
+        }
+        for number in 0..u16::MAX {
+            match top.olds.get(number as usize) {
+                Some(value) => values.keep(value),
+                None => break,
+            }
+        }
+        values
+    }
+
+    /// How many there are.
+    pub fn len(&self) -> usize {
+        self.values.len()
+    }
+
+    /// How many are kept.
+    pub fn olds_len(&self) -> usize {
+        self.olds.len()
+    }
+
+    /// Adds an operand.
+    pub fn push(&mut self, value: Value) {
+        if self.values.push(value).is_err() {
+            self.is_lacking = true
         }
     }
-}
 
-/// The operands of a routine, the last one last.
-fn operands_of(alloc: Global, activation: &Activation) -> Result<Vec<Value>, AllocError> {
-    let mut operands = Vec::new(alloc);
-    for count in (0..activation.operands.len()).rev() {
-        if let Some(value) = activation.operands.under(count) {
-            operands.push(value)?;
+    /// Keeps a value for an `old`.
+    pub fn keep(&mut self, value: Value) {
+        if self.olds.push(value).is_err() {
+            self.is_lacking = true
         }
     }
-    Ok(operands)
-}
 
-fn olds_of(alloc: Global, activation: &Activation) -> Result<Vec<Value>, AllocError> {
-    let mut olds = Vec::new(alloc);
-    for number in 0..u16::MAX {
-        match activation.olds.get(number as usize) {
-            Some(value) => olds.push(value)?,
-            None => break,
+    /// Adds Void until there are so many.
+    pub fn fill(&mut self, count: usize) {
+        for _slot in self.values.len()..count {
+            self.push(Value::Void);
         }
     }
-    Ok(olds)
-}
 
-fn gives(value: Value) -> Step {
-    Step::Gives { value, passed: 0 }
-}
-
-fn gives_if(value: Option<Value>) -> Step {
-    match value {
-        Some(value) => gives(value),
-        None => Step::Unknown,
+    /// Leaves so many at most.
+    pub fn cut(&mut self, count: usize) {
+        self.values.truncate(count)
     }
-}
 
-/// The value that was read, if there is one.
-pub fn reads(value: Option<Value>) -> Step {
-    match value {
-        Some(value) => Step::Reads(value),
-        None => Step::Unknown,
+    /// Keeps so many at most.
+    pub fn cut_olds(&mut self, count: usize) {
+        self.olds.truncate(count)
+    }
+
+    /// The value at a place.
+    pub fn at(&self, place: usize) -> Option<Value> {
+        self.values.get(place).copied()
+    }
+
+    /// The kept value of a number of a routine.
+    pub fn old(&self, frame: Frame, number: usize) -> Option<Value> {
+        self.olds.get(frame.olds.saturating_add(number)).copied()
+    }
+
+    /// Where a slot of a routine is, if it has it.
+    fn slot_place(&self, frame: Frame, slot: usize) -> Option<usize> {
+        let place = frame.slots.saturating_add(slot);
+        if place < frame.operands {
+            Some(place)
+        } else {
+            None
+        }
+    }
+
+    /// The value of a slot of a routine.
+    pub fn slot(&self, frame: Frame, slot: usize) -> Option<Value> {
+        self.at(self.slot_place(frame, slot)?)
+    }
+
+    /// A value goes into a slot of a routine: whether it has that.
+    pub fn put(&mut self, frame: Frame, slot: usize, value: Value) -> bool {
+        if let Some(place) = self.slot_place(frame, slot)
+            && let Some(place) = self.values.get_mut(place)
+        {
+            *place = value;
+            true
+        } else {
+            false
+        }
+    }
+
+    /// The last operand of the routine that runs.
+    pub fn last(&self, frame: Frame) -> Option<Value> {
+        self.at(self.first_of(frame, 1)?)
+    }
+
+    /// Takes the last operand of the routine that runs.
+    pub fn pop(&mut self, frame: Frame) -> Option<Value> {
+        let place = self.first_of(frame, 1)?;
+        let value = self.at(place);
+        self.values.truncate(place);
+        value
+    }
+
+    /// Where the last operands of the routine that runs begin, so many, if it has so many.
+    pub fn first_of(&self, frame: Frame, count: usize) -> Option<usize> {
+        let place = self.values.len().checked_sub(count)?;
+        if place < frame.operands {
+            None
+        } else {
+            Some(place)
+        }
     }
 }

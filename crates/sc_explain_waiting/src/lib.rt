@@ -1,5 +1,5 @@
 //! Why handlers wait or are busy where a run has stopped, beside its report: who waits for whom, for which condition, and which
-//! requests nobody takes. See [`waiting_note`].
+//! requests nobody takes. See [`push_waits`].
 //!
 //! The sentences are for people: nothing of the answer, which is the report, depends on them.
 #![tactic(auto)]
@@ -12,11 +12,11 @@ mod naming;
 mod operators;
 mod origin;
 mod scene;
+mod steps;
 mod telling;
 mod waits;
-mod words;
 
-pub use clause::{attributes_note, false_clause_note, values_note};
-pub use naming::{push_name, push_request, push_stand};
+pub use clause::{push_attributes, push_false_clause, push_operation_values};
+pub use naming::{push_name, push_place, push_request, push_stand};
 pub use origin::Origin;
-pub use telling::waiting_note;
+pub use telling::push_waits;

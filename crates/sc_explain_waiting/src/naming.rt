@@ -2,13 +2,13 @@
 
 use crate::origin::Origin;
 use crate::waits::{Standing, standing_of};
-use crate::words::{push, push_number};
 use sc_class::ClassId;
+use sc_explain_text::Lines;
 use sc_region::{Errand, Request};
+use sc_source::source::Place;
 use sc_text::Span;
 use sc_whereabouts::locate;
 use sc_world::World;
-use std::alloc::AllocError;
 
 /// Where a handler stands: the part of the text, and the name of the routine.
 #[derive(Clone, Copy)]
@@ -56,61 +56,43 @@ fn asked_feature<'r>(origin: Origin<'r>, request: &Request) -> Option<&'r str> {
 }
 
 /// Adds the number of a handler, and the class of its root object.
-pub fn push_name(
-    origin: Origin<'_>,
-    lines: &mut Vec<u8>,
-    world: &World<'_>,
-    handler: u16,
-) -> Result<(), AllocError> {
-    push_number(origin.alloc, lines, "", handler)?;
+pub fn push_name(origin: Origin<'_>, lines: &mut Lines, world: &World<'_>, handler: u16) {
+    lines.push_number(u64::from(handler));
     if let Some(class) = root_class(origin, world, handler) {
-        push(lines, " (")?;
-        push(lines, class)?;
-        push(lines, ")")?;
+        lines.push_all(&[" (", class, ")"]);
     }
-    Ok(())
 }
 
 /// Adds what a request asks for, and for whom.
-pub fn push_request(
-    origin: Origin<'_>,
-    lines: &mut Vec<u8>,
-    world: &World<'_>,
-    request: &Request,
-) -> Result<(), AllocError> {
+pub fn push_request(origin: Origin<'_>, lines: &mut Lines, world: &World<'_>, request: &Request) {
     if matches!(request.errand, Errand::Makes(_)) {
-        push(lines, "its creation")?;
+        lines.push("its creation");
     } else if let Some(feature) = asked_feature(origin, request) {
-        push(lines, "`")?;
-        push(lines, feature)?;
-        push(lines, "`")?;
+        lines.push_all(&["`", feature, "`"]);
     } else {
-        push(lines, "a feature")?;
+        lines.push("a feature");
     }
-    match request.poster {
-        None => Ok(()),
-        Some(poster) => {
-            push(lines, " for ")?;
-            push_name(origin, lines, world, poster)
-        }
+    if let Some(poster) = request.poster {
+        lines.push(" for ");
+        push_name(origin, lines, world, poster);
     }
 }
 
 /// Adds where a handler stands in the text, if it has frames.
-pub fn push_stand(
-    origin: Origin<'_>,
-    lines: &mut Vec<u8>,
-    world: &World<'_>,
-    handler: u16,
-) -> Result<(), AllocError> {
-    let Some(stand) = stand_of(origin, world, handler) else {
-        return Ok(());
-    };
-    let Some(place) = origin.source.place_of(stand.span.start) else {
-        return Ok(());
-    };
-    let (file, line, column) = (place.file, place.line, place.column);
-    let at = format!(in origin.alloc; ", at {file}:{line}:{column} in ")?;
-    push(lines, at.as_str())?;
-    push(lines, stand.routine)
+pub fn push_stand(origin: Origin<'_>, lines: &mut Lines, world: &World<'_>, handler: u16) {
+    if let Some(stand) = stand_of(origin, world, handler)
+        && let Some(place) = origin.source.place_of(stand.span.start)
+    {
+        lines.push(", at ");
+        push_place(lines, place);
+        lines.push_all(&[" in ", stand.routine]);
+    }
+}
+
+/// Adds a file, a line and a column.
+pub fn push_place(lines: &mut Lines, place: Place<'_>) {
+    lines.push_all(&[place.file, ":"]);
+    lines.push_number(place.line as u64);
+    lines.push(":");
+    lines.push_number(place.column as u64)
 }

@@ -1,14 +1,13 @@
 //! What is said of one handler, one cycle, one chain.
 
-use crate::chains::Chains;
-use crate::clause::false_clause_note;
+use crate::chains::{Chains, number_of};
+use crate::clause::push_false_clause;
 use crate::naming::{push_name, push_request, push_stand, stand_of};
 use crate::origin::Origin;
-use crate::waits::{Wait, Wanted};
-use crate::words::{push, push_number};
+use crate::waits::{Wait, keeper_of};
+use sc_explain_text::Lines;
 use sc_model::Status;
 use sc_world::World;
-use std::alloc::AllocError;
 
 /// How many handlers a list names at most.
 const MOST_LISTED: usize = 8;
@@ -22,172 +21,151 @@ pub struct Scene<'r> {
     pub chains: &'r Chains,
 }
 
-/// How the members of a cycle wait for each other.
-#[derive(Clone, Copy, PartialEq, Eq)]
-enum CycleKind {
-    Reservations,
-    Answers,
-    Mixed,
-}
-
 impl<'r> Scene<'r> {
     /// How many handlers there are.
     pub fn count(self) -> u16 {
-        self.waits.len().min(u16::MAX as usize) as u16
+        number_of(self.waits)
     }
 
     /// What a handler waits for.
-    pub fn wait(self, handler: u16) -> Option<&'r Wait> {
-        self.waits.get(handler as usize)
+    pub fn wait(self, handler: u16) -> Wait {
+        self.waits
+            .get(handler as usize)
+            .copied()
+            .unwrap_or(Wait::Nothing)
     }
 
     /// Whether a handler waits.
     pub fn is_waiting(self, handler: u16) -> bool {
-        match self.wait(handler) {
-            Some(wait) => wait.is_waiting(),
-            None => false,
-        }
+        self.wait(handler).is_waiting()
     }
 
     /// Adds a cycle of handlers, and how they wait for each other.
-    pub fn push_cycle(self, lines: &mut Vec<u8>, cycle: &[u16]) -> Result<(), AllocError> {
-        push(lines, "deadlock: ")?;
+    pub fn push_cycle(self, lines: &mut Lines, cycle: &[u16]) {
+        lines.push("deadlock: ");
         for member in cycle {
-            push_number(self.origin.alloc, lines, "", *member)?;
-            push(lines, " -> ")?;
+            lines.push_number(u64::from(*member));
+            lines.push(" -> ");
         }
-        push_number(
-            self.origin.alloc,
-            lines,
-            "",
-            cycle.first().copied().unwrap_or(0),
-        )?;
-        push(
-            lines,
-            match self.kind_of(cycle) {
-                CycleKind::Reservations => ", each waits to reserve what the next one has\n",
-                CycleKind::Answers => ", each waits for the answer of the next one\n",
-                CycleKind::Mixed =>
-                    ", each waits for the next one: for its answer, or to reserve it\n",
-            },
-        )
+        lines.push_number(u64::from(cycle.first().copied().unwrap_or(0)));
+        lines.push(self.kind_of(cycle))
     }
 
-    fn kind_of(self, cycle: &[u16]) -> CycleKind {
+    /// How the members of a cycle wait for each other.
+    fn kind_of(self, cycle: &[u16]) -> &'static str {
         let mut answers = 0_usize;
         for member in cycle {
-            if self.awaits_answer(*member) {
+            if matches!(self.wait(*member), Wait::Answer(_)) {
                 answers = answers.saturating_add(1);
             }
         }
         if answers == 0 {
-            CycleKind::Reservations
+            ", each waits to reserve what the next one has\n"
         } else if answers == cycle.len() {
-            CycleKind::Answers
+            ", each waits for the answer of the next one\n"
         } else {
-            CycleKind::Mixed
+            ", each waits for the next one: for its answer, or to reserve it\n"
         }
-    }
-
-    fn awaits_answer(self, handler: u16) -> bool {
-        matches!(self.wait(handler), Some(Wait::Answer(_)))
     }
 
     /// Adds what stands over those that wait for a condition.
-    pub fn push_conditions(self, lines: &mut Vec<u8>) -> Result<(), AllocError> {
+    pub fn push_conditions(self, lines: &mut Lines) {
         let is_any_busy = self.waits.iter().any(|wait| matches!(wait, Wait::Busy));
-        push(
-            lines,
-            if is_any_busy {
-                "a wait condition that isn't true so far:\n"
-            } else {
-                "a wait condition that nobody is left to make true:\n"
-            },
-        )
+        lines.push(if is_any_busy {
+            "a wait condition that isn't true so far:\n"
+        } else {
+            "a wait condition that nobody is left to make true:\n"
+        })
     }
 
     /// Adds a chain of handlers, where it has several: each waits for the next.
-    pub fn push_chain(self, lines: &mut Vec<u8>, chain: &[u16]) -> Result<(), AllocError> {
+    pub fn push_chain(self, lines: &mut Lines, chain: &[u16]) {
         if chain.len() < 2 {
-            return Ok(());
+            return;
         }
         for (place, member) in chain.iter().enumerate() {
-            let before = if place == 0 { "chain: " } else { " -> " };
-            push_number(self.origin.alloc, lines, before, *member)?;
+            lines.push(if place == 0 { "chain: " } else { " -> " });
+            lines.push_number(u64::from(*member));
         }
-        push(lines, ", each waits for the next one\n")
+        lines.push(", each waits for the next one\n")
     }
 
     /// Adds a handler: what it holds, what it waits for, and where it stands.
-    pub fn push_handler(self, lines: &mut Vec<u8>, handler: u16) -> Result<(), AllocError> {
-        push(lines, "handler ")?;
-        self.push_name(lines, handler)?;
-        self.push_held(lines, handler)?;
-        match self.wait(handler) {
-            None | Some(Wait::Nothing) => {}
-            Some(Wait::Busy) => self.push_busy(lines, handler)?,
-            Some(Wait::Reservation(wanted)) => self.push_wanted(lines, wanted.as_slice())?,
-            Some(Wait::Condition(wanted)) => {
-                self.push_wanted(lines, wanted.as_slice())?;
-                push(lines, " until the precondition holds")?;
-            }
-            Some(Wait::Answer(supplier)) => {
-                push(lines, " waits for the answer of ")?;
-                self.push_name(lines, *supplier)?;
-            }
-        }
-        push_stand(self.origin, lines, self.world, handler)?;
-        push(lines, "\n")?;
-        match self.wait(handler) {
-            Some(Wait::Condition(_)) => {
-                let clause = false_clause_note(self.origin, self.world, handler)?;
-                lines.extend_from_slice(clause.as_slice())
-            }
-            _ => Ok(()),
+    pub fn push_handler(self, lines: &mut Lines, handler: u16) {
+        lines.push("handler ");
+        self.push_name(lines, handler);
+        self.push_held(lines, handler);
+        self.push_wait(lines, handler);
+        push_stand(self.origin, lines, self.world, handler);
+        lines.push("\n");
+        if let Wait::Condition = self.wait(handler) {
+            push_false_clause(self.origin, lines, self.world, handler)
         }
     }
 
-    fn push_name(self, lines: &mut Vec<u8>, handler: u16) -> Result<(), AllocError> {
+    /// Adds what a handler waits for.
+    fn push_wait(self, lines: &mut Lines, handler: u16) {
+        match self.wait(handler) {
+            Wait::Nothing => {}
+            Wait::Busy => self.push_busy(lines, handler),
+            Wait::Reservation => self.push_wanted(lines, handler),
+            Wait::Condition => {
+                self.push_wanted(lines, handler);
+                lines.push(" until the precondition holds")
+            }
+            Wait::Answer(supplier) => {
+                lines.push(" waits for the answer of ");
+                self.push_name(lines, supplier)
+            }
+        }
+    }
+
+    fn push_name(self, lines: &mut Lines, handler: u16) {
         push_name(self.origin, lines, self.world, handler)
     }
 
     /// Adds the handlers that this one holds.
-    fn push_held(self, lines: &mut Vec<u8>, holder: u16) -> Result<(), AllocError> {
+    fn push_held(self, lines: &mut Lines, holder: u16) {
         let mut count = 0_usize;
         for handler in 0..self.count() {
             if self.world.core().holder(handler) == Some(holder) {
                 if count < MOST_LISTED {
-                    push(lines, if count == 0 { " holds " } else { ", " })?;
-                    self.push_name(lines, handler)?;
+                    lines.push(if count == 0 { " holds " } else { ", " });
+                    self.push_name(lines, handler);
                 }
                 count = count.saturating_add(1);
             }
         }
         if count > MOST_LISTED {
-            push(lines, " and others")?;
+            lines.push(" and others");
         }
-        push(lines, if count > 0 { "," } else { "" })
+        lines.push(if count > 0 { "," } else { "" })
     }
 
     /// Adds what a handler waits to reserve, and who keeps it from each.
-    fn push_wanted(self, lines: &mut Vec<u8>, wanted: &[Wanted]) -> Result<(), AllocError> {
-        for (place, one) in wanted.iter().enumerate() {
-            push(
-                lines,
-                if place == 0 {
-                    " waits for "
-                } else {
-                    ", and for "
-                },
-            )?;
-            self.push_name(lines, one.handler)?;
-            match one.keeper {
-                None => {}
-                Some(keeper) if keeper == one.handler => push(lines, self.unready(keeper))?,
-                Some(keeper) => push_number(self.origin.alloc, lines, ", held by ", keeper)?,
+    fn push_wanted(self, lines: &mut Lines, handler: u16) {
+        let needed = self.world.core().needed_by(handler);
+        for (place, one) in needed.as_slice().iter().enumerate() {
+            lines.push(if place == 0 {
+                " waits for "
+            } else {
+                ", and for "
+            });
+            self.push_name(lines, *one);
+            self.push_keeper(lines, *one);
+        }
+    }
+
+    /// Adds who keeps others from reserving a handler.
+    fn push_keeper(self, lines: &mut Lines, handler: u16) {
+        match keeper_of(self.world.core(), handler) {
+            None => {}
+            Some(keeper) if keeper == handler => lines.push(self.unready(keeper)),
+            Some(keeper) => {
+                lines.push(", held by ");
+                lines.push_number(u64::from(keeper))
             }
         }
-        Ok(())
     }
 
     /// Why a handler can't be reserved that nobody holds.
@@ -199,47 +177,42 @@ impl<'r> Scene<'r> {
     }
 
     /// Adds what a handler has to do.
-    fn push_busy(self, lines: &mut Vec<u8>, handler: u16) -> Result<(), AllocError> {
-        push(lines, " is busy")?;
-        match self.world.core().first_asked(handler) {
-            Some(request) if self.is_without_frames(handler) => {
-                push(lines, ": it is to take ")?;
-                push_request(self.origin, lines, self.world, request)
-            }
-            _ => Ok(()),
+    fn push_busy(self, lines: &mut Lines, handler: u16) {
+        lines.push(" is busy");
+        if let Some(request) = self.world.core().first_asked(handler)
+            && stand_of(self.origin, self.world, handler).is_none()
+        {
+            lines.push(": it is to take ");
+            push_request(self.origin, lines, self.world, request)
         }
-    }
-
-    fn is_without_frames(self, handler: u16) -> bool {
-        stand_of(self.origin, self.world, handler).is_none()
     }
 
     /// Adds which requests stand at a handler that waits, if any do: whether some do.
-    pub fn push_requests(self, lines: &mut Vec<u8>, handler: u16) -> Result<bool, AllocError> {
+    pub fn push_requests(self, lines: &mut Lines, handler: u16) -> bool {
         let count = self.world.core().queue_len(handler);
         let Some(request) = self.world.core().first_asked(handler) else {
-            return Ok(false);
+            return false;
         };
-        let told = if count == 1 {
-            format!(in self.origin.alloc; "1 request stands at handler ")?
+        lines.push_number(count as u64);
+        lines.push(if count == 1 {
+            " request stands at handler "
         } else {
-            format!(in self.origin.alloc; "{count} requests stand at handler ")?
-        };
-        push(lines, told.as_str())?;
-        self.push_name(lines, handler)?;
-        push(lines, ", which can't take any: ")?;
-        push(lines, if count == 1 { "" } else { "first " })?;
-        push_request(self.origin, lines, self.world, request)?;
-        push(lines, "\n")?;
-        Ok(true)
+            " requests stand at handler "
+        });
+        self.push_name(lines, handler);
+        lines.push(", which can't take any: ");
+        lines.push(if count == 1 { "" } else { "first " });
+        push_request(self.origin, lines, self.world, request);
+        lines.push("\n");
+        true
     }
 
     /// Adds of how many handlers nothing is said.
-    pub fn push_left_out(self, lines: &mut Vec<u8>, count: usize) -> Result<(), AllocError> {
-        if count == 0 {
-            return Ok(());
+    pub fn push_left_out(self, lines: &mut Lines, count: usize) {
+        if count > 0 {
+            lines.push("and ");
+            lines.push_number(count as u64);
+            lines.push(" more, which wait or are busy\n")
         }
-        let told = format!(in self.origin.alloc; "and {count} more, which wait or are busy\n")?;
-        push(lines, told.as_str())
     }
 }

@@ -1,60 +1,65 @@
 //! What each handler waits for.
 
-use arrayvec::ArrayVec;
 use sc_model::Status;
 use sc_region::Stage;
 use sc_request::Core;
 use sc_world::World;
 use std::alloc::{AllocError, Global};
 
-/// A handler that another one is to reserve.
-#[derive(Clone, Copy, Default)]
-pub struct Wanted {
-    pub handler: u16,
-    /// Who keeps it from that: the one that holds it, or itself where it isn't idle. None where it can be had.
-    pub keeper: Option<u16>,
-}
-
 /// What a handler waits for.
-#[derive(Drop)]
+#[derive(Clone, Copy)]
 pub enum Wait {
     /// Nothing: it is free, or has failed.
     Nothing,
     /// Nothing: it has something to do.
     Busy,
-    /// It is to reserve these, and can't.
-    Reservation(ArrayVec<Wanted, 16>),
-    /// It could reserve these, but a wait condition was false when it last did.
-    Condition(ArrayVec<Wanted, 16>),
+    /// It is to reserve the handlers that it needs, and can't.
+    Reservation,
+    /// It could reserve them, but a wait condition was false when it last did.
+    Condition,
     /// For the answer of this handler.
     Answer(u16),
 }
 
 impl Wait {
     /// Whether it waits.
-    pub fn is_waiting(&self) -> bool {
+    pub fn is_waiting(self) -> bool {
         !matches!(self, Wait::Nothing | Wait::Busy)
-    }
-
-    /// The handlers that keep it waiting.
-    pub fn keepers(&self) -> ArrayVec<u16, 16> {
-        let mut keepers = ArrayVec::new();
-        match self {
-            Wait::Reservation(wanted) => add_keepers(&mut keepers, wanted.as_slice()),
-            Wait::Answer(supplier) => {
-                let _ = keepers.try_push(*supplier);
-            }
-            _ => {}
-        }
-        keepers
     }
 }
 
-fn add_keepers(keepers: &mut ArrayVec<u16, 16>, wanted: &[Wanted]) {
-    for one in wanted {
-        if let Some(keeper) = one.keeper {
-            let _ = keepers.try_push(keeper);
+/// The first of those that keep a handler waiting that is in the set.
+pub fn keeper_in(core: &Core, handler: u16, wait: Wait, set: &[bool]) -> Option<u16> {
+    match wait {
+        Wait::Reservation => holder_in(core, handler, set),
+        Wait::Answer(supplier) if is_in(set, supplier) => Some(supplier),
+        _ => None,
+    }
+}
+
+/// The first of those that keep a handler from what it is to reserve that is in the set.
+fn holder_in(core: &Core, handler: u16, set: &[bool]) -> Option<u16> {
+    let needed = core.needed_by(handler);
+    for one in needed.as_slice() {
+        if let Some(keeper) = keeper_of(core, *one)
+            && is_in(set, keeper)
+        {
+            return Some(keeper);
         }
+    }
+    None
+}
+
+fn is_in(set: &[bool], handler: u16) -> bool {
+    set.get(handler as usize).copied().unwrap_or(false)
+}
+
+/// Who keeps others from reserving a handler: the one that holds it, or itself where it isn't idle. None where it can be had.
+pub fn keeper_of(core: &Core, handler: u16) -> Option<u16> {
+    match (core.holder(handler), core.status(handler)) {
+        (Some(holder), _) => Some(holder),
+        (None, Some(Status::Busy | Status::Waiting)) => Some(handler),
+        _ => None,
     }
 }
 
@@ -77,32 +82,22 @@ fn wait_of(world: &World<'_>, handler: u16) -> Wait {
 
 /// What a handler waits for that has nothing to do and isn't free.
 fn wait_in(core: &Core, handler: u16) -> Wait {
-    if let Some(supplier) = core.awaits(handler) {
-        return Wait::Answer(supplier);
+    match core.awaits(handler) {
+        Some(supplier) => Wait::Answer(supplier),
+        None if core.is_put_off(handler) && is_unkept(core, handler) => Wait::Condition,
+        None => Wait::Reservation,
     }
-    let mut wanted = ArrayVec::new();
+}
+
+/// Whether a handler can have all that it needs.
+fn is_unkept(core: &Core, handler: u16) -> bool {
     let needed = core.needed_by(handler);
     for one in needed.as_slice() {
-        let _ = wanted.try_push(wanted_in(core, *one));
+        if keeper_of(core, *one).is_some() {
+            return false;
+        }
     }
-    if core.is_put_off(handler) && are_free(wanted.as_slice()) {
-        Wait::Condition(wanted)
-    } else {
-        Wait::Reservation(wanted)
-    }
-}
-
-fn wanted_in(core: &Core, handler: u16) -> Wanted {
-    let keeper = match (core.holder(handler), core.status(handler)) {
-        (Some(holder), _) => Some(holder),
-        (None, Some(Status::Busy | Status::Waiting)) => Some(handler),
-        _ => None,
-    };
-    Wanted { handler, keeper }
-}
-
-fn are_free(wanted: &[Wanted]) -> bool {
-    wanted.iter().all(|one| one.keeper.is_none())
+    true
 }
 
 /// The routine that a handler has come to last, how far it is there, and whether it is to reserve the handlers of its formals.

@@ -8,7 +8,6 @@
 
 mod delivery;
 mod json;
-mod printing;
 mod progress;
 mod refusal;
 mod running;

@@ -10,7 +10,6 @@ ghost use Rattle.sc_serve.specs.Answer.{IsBadRecord, IsReplayOn, IsReplayTo, IsU
 
 use crate::delivery::deliver;
 use crate::json::answer_object;
-use crate::printing::left_out;
 use crate::progress::Progress;
 use crate::refusal::Refusal;
 use crate::running::answer_run;
@@ -24,6 +23,7 @@ use sc_excerpt::excerpt;
 use sc_explain::{find, list};
 use sc_explain_failure::{Limit, Played, run_note};
 use sc_explain_refusal::{Related, diagnose};
+use sc_explain_text::left_out;
 use sc_model::Status;
 use sc_search::Watch;
 use sc_source::files::{Files, NamedFile, read_source};
@@ -358,7 +358,7 @@ fn explanation(
     };
     let code = refusal.code;
     let diagnosis = diagnose(alloc, source.text(), root, code, refusal.span)?;
-    lines.extend_from_slice(diagnosis.lines.as_bytes())?;
+    lines.extend_from_slice(diagnosis.lines.as_slice())?;
     if let Some(related) = diagnosis.related {
         push_related(alloc, &mut lines, source, related)?;
     }

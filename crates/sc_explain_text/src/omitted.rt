@@ -1,25 +1,32 @@
 //! What the canonical text of a system leaves out.
 
-use sc_text::{LexFault, Terminal, Token, TokenKind, lex};
+use crate::lines::Lines;
+use crate::reading::tokens_of;
+use sc_text::{Terminal, Token, TokenKind};
 use std::alloc::{AllocError, Global};
 
 /// How many comments stand in a text, and whether there are notes, a line for each. Its canonical text has none of them.
 pub fn left_out(alloc: Global, text: &str) -> Result<Vec<u8>, AllocError> {
-    let tokens = match lex(alloc, text) {
-        Ok(tokens) => tokens,
-        Err(LexFault::OutOfMemory) => return Err(AllocError),
-        Err(_) => return Ok(Vec::new(alloc)),
-    };
-    let mut lines = Vec::new(alloc);
-    let comments = comment_count(text.as_bytes(), tokens.as_slice());
+    match tokens_of(alloc, text) {
+        Ok(None) => Ok(Vec::new(alloc)),
+        Ok(Some(tokens)) => left_out_between(alloc, text, &tokens).finish(),
+        Err(error) => Err(error),
+    }
+}
+
+/// The same of a text of these tokens.
+fn left_out_between(alloc: Global, text: &str, tokens: &[Token]) -> Lines {
+    let mut lines = Lines::new(alloc);
+    let comments = comment_count(text.as_bytes(), tokens);
     if comments > 0 {
-        let line = format!(in alloc; "comments left out: {comments}\n")?;
-        lines.extend_from_slice(line.as_bytes())?;
+        lines.push("comments left out: ");
+        lines.push_number(comments as u64);
+        lines.push("\n");
     }
     if tokens.iter().any(|token| begins_note(token)) {
-        lines.extend_from_slice(b"notes left out\n")?;
+        lines.push("notes left out\n");
     }
-    Ok(lines)
+    lines
 }
 
 fn begins_note(token: &Token) -> bool {

@@ -1,0 +1,86 @@
+//! Lines that are written for people.
+
+use std::alloc::{AllocError, Global};
+
+/// How many bytes of a part of a text are told at most.
+const MOST_BYTES: usize = 120;
+
+/// Lines, to which words are added. Where memory is refused to some of them they are lacking, and all is no answer in the end.
+#[derive(Drop)]
+pub struct Lines {
+    alloc: Global,
+    bytes: Vec<u8>,
+    is_lacking: bool,
+}
+
+impl Lines {
+    /// No lines.
+    pub fn new(alloc: Global) -> Lines {
+        Lines {
+            alloc,
+            bytes: Vec::new(alloc),
+            is_lacking: false,
+        }
+    }
+
+    /// Adds these bytes.
+    pub fn push_bytes(&mut self, bytes: &[u8]) {
+        if self.bytes.extend_from_slice(bytes).is_err() {
+            self.is_lacking = true;
+        }
+    }
+
+    /// Adds these words.
+    pub fn push(&mut self, words: &str) {
+        self.push_bytes(words.as_bytes())
+    }
+
+    /// Adds these words, one after the other.
+    pub fn push_all(&mut self, words: &[&str]) {
+        for word in words {
+            self.push(*word);
+        }
+    }
+
+    /// Adds a number.
+    pub fn push_number(&mut self, number: u64) {
+        match format!(in self.alloc; "{number}") {
+            Ok(digits) => self.push(digits.as_str()),
+            Err(_) => self.is_lacking = true,
+        }
+    }
+
+    /// Adds a part of a text on one line: what separates its words is one space, and what is too long ends by two dots.
+    pub fn push_flat(&mut self, part: &str) {
+        let mut is_first = true;
+        let mut room = MOST_BYTES;
+        for word in part.split_whitespace() {
+            if word.len() >= room {
+                return self.push(" ..");
+            }
+            room = room.saturating_sub(word.len().saturating_add(1));
+            self.push(if is_first { "" } else { " " });
+            self.push(word);
+            is_first = false;
+        }
+    }
+
+    /// Adds what others have, and lacks what they lack.
+    pub fn push_lines(&mut self, others: &Lines) {
+        self.push_bytes(others.bytes.as_slice());
+        self.is_lacking = self.is_lacking || others.is_lacking;
+    }
+
+    /// Memory was refused to what was to be added.
+    pub fn lack(&mut self) {
+        self.is_lacking = true;
+    }
+
+    /// The lines, where nothing is lacking.
+    pub fn finish(self) -> Result<Vec<u8>, AllocError> {
+        if self.is_lacking {
+            return Err(AllocError);
+        }
+        Ok(self.bytes)
+    }
+}
