@@ -3,6 +3,7 @@
 use crate::programs::program_within;
 use sc_code::Program;
 use std::alloc::{AllocError, Global};
+use std::process::Abort;
 use std::test::Fail;
 
 /// How many features a program is asked for.
@@ -34,25 +35,36 @@ const REDEFINING: &str = "\
 class APPLICATION create make feature n: INTEGER make do n := step end step: INTEGER do Result := 1 end invariant n >= 0 end
 class HEIR inherit APPLICATION redefine step end feature step: INTEGER do Result := 2 end end";
 
-/// Sources, within how many instructions they are lowered, and what comes of it.
-const ROWS: [(&str, u32, &str); 7] = [
-    (COUNTING, 0, "too long, 9: 0 1 2 0 0 0 0 0"),
-    (COUNTING, 1, "too long, 9: 0 1 2 0 0 0 0 0"),
-    (COUNTING, 8, "too long, 9: 0 1 2 0 0 0 0 0"),
-    (COUNTING, 9, "9: 0 1 2 0 0 0 0 0"),
-    (COUNTING, u32::MAX, "9: 0 1 2 0 0 0 0 0"),
-    (REDEFINING, 8, "too long, 9: 0 1 1 1 0 0 0 0"),
-    (REDEFINING, 9, "9: 0 1 1 1 0 0 0 0"),
-];
+/// Within how many instructions a source is lowered, and what comes of it: for each of two sources.
+const COUNTED: &str = "0|too long, 9: 0 1 2 0 0 0 0 0
+1|too long, 9: 0 1 2 0 0 0 0 0
+8|too long, 9: 0 1 2 0 0 0 0 0
+9|9: 0 1 2 0 0 0 0 0
+4294967295|9: 0 1 2 0 0 0 0 0";
 
-#[test]
-fn code_is_as_long_as_it_may_be(rt: HostRuntime) -> Result<(), Fail> {
+const REDEFINED: &str = "8|too long, 9: 0 1 1 1 0 0 0 0
+9|9: 0 1 1 1 0 0 0 0";
+
+fn expect_rows<R: Abort + AllocGlobal>(rt: &R, source: &str, rows: &str) -> Result<(), Fail> {
     let alloc = rt.alloc();
-    for &(source, most, wanted) in &ROWS {
-        let (program, is_too_long) = program_within(alloc, source, "application", "make", most)?;
+    for row in rows.lines() {
+        let (most, wanted) = row.split_once('|').ok_or("a row without a bar")?;
+        let (program, is_too_long) = program_within(
+            alloc,
+            source,
+            "application",
+            "make",
+            most.parse()?,
+        )?;
         let before = if is_too_long { "too long, " } else { "" };
         let got = told(alloc, before, &program)?;
         assert_eq!(rt; got.as_str(), wanted, "of {source} within {most}");
     }
     Ok(())
+}
+
+#[test]
+fn code_is_as_long_as_it_may_be(rt: HostRuntime) -> Result<(), Fail> {
+    expect_rows(&rt, COUNTING, COUNTED)?;
+    expect_rows(&rt, REDEFINING, REDEFINED)
 }

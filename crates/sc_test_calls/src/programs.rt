@@ -2,9 +2,11 @@
 
 use crate::reading::{root_of, system_of};
 use sc_check::{CheckFault, Checked, check};
-use sc_class::{Tables, tables};
+use sc_class::{Root, Tables, tables};
 use sc_code::Program;
+use sc_explain_text::let_go;
 use sc_lower::{Lowering, lower, lower_within};
+use sc_tree::System;
 use std::alloc::Global;
 use std::test::Fail;
 
@@ -27,9 +29,21 @@ pub fn program_within(
     procedure: &str,
     most: u32,
 ) -> Result<(Program, bool), Fail> {
-    let system = system_of(alloc, source)?;
     let root = root_of(alloc, class, procedure)?;
-    judged(alloc, tables(alloc, &system, &root)?, most)
+    let system = system_of(alloc, source)?;
+    let program = program_of_system(alloc, &system, &root, most);
+    let_go(system);
+    program
+}
+
+/// The same of a system.
+fn program_of_system(
+    alloc: Global,
+    system: &System,
+    root: &Root,
+    most: u32,
+) -> Result<(Program, bool), Fail> {
+    judged(alloc, tables(alloc, system, root)?, most)
 }
 
 /// The same of classes.

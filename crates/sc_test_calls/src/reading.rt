@@ -1,16 +1,16 @@
 //! The systems of source texts, and what they are run from.
 
 use sc_class::Root;
-use sc_parse::parse;
-use sc_text::lex;
 use sc_tree::System;
 use std::alloc::{AllocError, Global};
 use std::test::Fail;
 
 /// The system that a source text spells.
 pub fn system_of(alloc: Global, source: &str) -> Result<System, Fail> {
-    let tokens = lex(alloc, source)?;
-    Ok(parse(alloc, &tokens)?)
+    match sc_explain_text::system_of(alloc, source)? {
+        Some(system) => Ok(system),
+        None => Err(Fail::new("no system")),
+    }
 }
 
 /// The root of a class and a procedure.

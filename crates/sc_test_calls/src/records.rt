@@ -1,44 +1,37 @@
 //! Records whose readers and writers fail.
 
 use sc_audit::{ReadFault, RecordLine, read_record, write_record};
-use sc_lockpass::Version;
-use std::alloc::Global;
+use std::alloc::{AllocError, Global};
 use std::io::{self, ErrorKind, Read, Write};
 use std::process::Abort;
 use std::test::Fail;
 
 /// What a text is read as: its version and how many lines it has, or the line at fault, or that the reader failed.
-#[derive(Clone, Copy, Debug, PartialEq, Eq)]
-enum Outcome {
-    Record(Version, usize),
-    Bad(usize),
-    Unreadable,
-    OutOfMemory,
-}
-
-fn outcome_of<R: Read>(alloc: Global, reader: &mut R) -> Outcome {
+fn outcome_of<R: Read>(alloc: Global, reader: &mut R) -> Result<String, Fail> {
     match read_record(alloc, reader) {
-        Ok(record) => Outcome::Record(record.version, record.lines.len()),
-        Err(ReadFault::BadRecord { line }) => Outcome::Bad(line),
-        Err(ReadFault::Unreadable(_)) => Outcome::Unreadable,
-        Err(ReadFault::OutOfMemory) => Outcome::OutOfMemory,
+        Ok(record) => {
+            let lines = record.lines.len();
+            Ok(format!(in alloc; "{:?} {lines}", record.version)?)
+        }
+        Err(ReadFault::BadRecord { line }) => Ok(format!(in alloc; "bad {line}")?),
+        Err(ReadFault::Unreadable(_)) => Ok(String::from_str(alloc, "unreadable")?),
+        Err(ReadFault::OutOfMemory) => Ok(String::from_str(alloc, "out of memory")?),
     }
 }
 
-/// A small record.
-const SMALL: &[u8; 25] = b"scoop record 1\n0 5\nend 1\n";
-
-/// A reader that gives one byte a call, and fails from some call on.
+/// A reader that gives one byte a call, and fails once at a call, with a kind of error.
 #[derive(Drop)]
 struct Failing<'a> {
     bytes: &'a [u8],
     calls_left: usize,
+    kind: ErrorKind,
 }
 
 impl<'a> Read for Failing<'a> {
     fn read(&mut self, buf: &mut [u8]) -> io::Result<usize> {
         if self.calls_left == 0 {
-            return Err(io::Error::from(ErrorKind::Other));
+            self.calls_left = usize::MAX;
+            return Err(io::Error::from(self.kind));
         }
         self.calls_left -= 1;
         let most = buf.len().min(1);
@@ -46,31 +39,57 @@ impl<'a> Read for Failing<'a> {
     }
 }
 
-/// Texts, after how many bytes it is clear what they are, and what they are.
-const CLEAR: [(&[u8], usize, Outcome); 5] = [
-    (SMALL, 26, Outcome::Record(Version::One, 1)),
-    (b"scoop record 1\n0 05\nend 1\n", 18, Outcome::Bad(2)),
-    (b"scoop record 4\n0 5\nend 1\n", 14, Outcome::Bad(1)),
-    (b"scoop record 1\n0 5\nend 2\n", 24, Outcome::Bad(3)),
-    (b"scoop record 1\n0 5\nend 1\n\n", 26, Outcome::Bad(4)),
-];
+/// Texts, with a stroke in place of each line feed, after how many bytes it is clear what they are, and what they are.
+const CLEAR: &str = "scoop record 1/0 5/end 1/|26|One 1
+scoop record 1/0 05/end 1/|18|bad 2
+scoop record 4/0 5/end 1/|14|bad 1
+scoop record 1/0 5/end 2/|24|bad 3
+scoop record 1/0 5/end 1//|26|bad 4";
+
+/// Reads the text of a row by readers that fail at a call, with this kind of error: what is told of that, if it ends the reading.
+fn expect_clear<R: Abort + AllocGlobal>(
+    rt: &R,
+    row: &str,
+    kind: ErrorKind,
+    failed: Option<&str>,
+) -> Result<(), Fail> {
+    let alloc = rt.alloc();
+    let (text, rest) = row.split_once('|').ok_or("a row without a bar")?;
+    let (clear, wanted) = rest.split_once('|').ok_or("a row without a bar")?;
+    let clear: usize = clear.parse()?;
+    let bytes = with_line_feeds(alloc, text)?;
+    for calls_left in 0..40 {
+        let mut reader = Failing {
+            bytes: bytes.as_slice(),
+            calls_left,
+            kind,
+        };
+        let outcome = outcome_of(alloc, &mut reader)?;
+        let wanted = if calls_left < clear {
+            failed.unwrap_or(wanted)
+        } else {
+            wanted
+        };
+        assert_eq!(rt; outcome.as_str(), wanted, "of {text} after {calls_left}");
+    }
+    Ok(())
+}
+
+/// The bytes of a text, with a line feed for each stroke.
+fn with_line_feeds(alloc: Global, text: &str) -> Result<Vec<u8>, AllocError> {
+    let mut bytes = Vec::new(alloc);
+    for byte in text.bytes() {
+        bytes.push(if byte == b'/' { b'\n' } else { byte })?;
+    }
+    Ok(bytes)
+}
 
 #[test]
 fn readers_that_fail_behind_the_line_at_fault_are_not_told(rt: HostRuntime) -> Result<(), Fail> {
-    for &(bytes, clear, wanted) in &CLEAR {
-        for calls_left in 0..40 {
-            let mut reader = Failing { bytes, calls_left };
-            let wanted = if calls_left < clear {
-                Outcome::Unreadable
-            } else {
-                wanted
-            };
-            assert_eq!(rt;
-                outcome_of(rt.alloc(), &mut reader),
-                wanted,
-                "after {calls_left}"
-            );
-        }
+    for row in CLEAR.lines() {
+        expect_clear(&rt, row, ErrorKind::Other, Some("unreadable"))?;
+        expect_clear(&rt, row, ErrorKind::OutOfMemory, Some("out of memory"))?;
+        expect_clear(&rt, row, ErrorKind::Interrupted, None)?;
     }
     Ok(())
 }

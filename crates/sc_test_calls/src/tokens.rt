@@ -5,40 +5,32 @@ use std::alloc::{AllocError, Global};
 use std::process::Abort;
 use std::test::Fail;
 
-/// Texts, and their tokens.
-const TOKENS: [(&str, &str); 13] = [
-    ("", ""),
-    (" \t\r\n", ""),
-    ("x2_ 1__0 \"a\"", "0..3 x2_, 4..8 10, 9..12 \"a\""),
-    (
-        "Ab_C ELSEIF Result",
-        "0..4 ab_c, 5..11 Elseif, 12..18 Result",
-    ),
-    ("1a 007", "0..1 1, 1..2 a, 3..6 7"),
-    ("9223372036854775807", "0..19 9223372036854775807"),
-    (":= : =", "0..2 Becomes, 3..4 Colon, 5..6 Equal"),
-    (
-        "/=<=>=//\\\\",
-        "0..2 NotEqual, 2..4 LessEqual, 4..6 GreaterEqual, 6..8 Quotient, 8..10 Remainder",
-    ),
-    (
-        ".,:;(){}",
-        "0..1 Dot, 1..2 Comma, 2..3 Colon, 3..4 Semicolon, 4..5 OpenParenthesis, 5..6 CloseParenthesis, 6..7 OpenBrace, 7..8 CloseBrace",
-    ),
-    (
-        "?!=<>+-*",
-        "0..1 Question, 1..2 Exclamation, 2..3 Equal, 3..4 Less, 4..5 Greater, 5..6 Plus, 6..7 Minus, 7..8 Times",
-    ),
-    ("a--b", "0..1 a"),
-    (
-        "a---\u{1F600}\r b\nc- -",
-        "0..1 a, 12..13 c, 13..14 Minus, 15..16 Minus",
-    ),
-    (
-        "\"%N%T%%%\"%'é\u{1F600}\"x",
-        "0..18 \"\\n\\t%\\\"'é😀\", 18..19 x",
-    ),
-];
+/// Texts, each with its tokens behind a bar. Between two stands a line with a sign that begins no token.
+const TOKENS: &str = "|
+#
+ \t\r\n|
+#
+x2_ 1__0 \"a\"|0..3 x2_, 4..8 10, 9..12 \"a\"
+#
+Ab_C ELSEIF Result|0..4 ab_c, 5..11 Elseif, 12..18 Result
+#
+1a 007|0..1 1, 1..2 a, 3..6 7
+#
+9223372036854775807|0..19 9223372036854775807
+#
+:= : =|0..2 Becomes, 3..4 Colon, 5..6 Equal
+#
+/=<=>=//\\\\|0..2 NotEqual, 2..4 LessEqual, 4..6 GreaterEqual, 6..8 Quotient, 8..10 Remainder
+#
+.,:;(){}|0..1 Dot, 1..2 Comma, 2..3 Colon, 3..4 Semicolon, 4..5 OpenParenthesis, 5..6 CloseParenthesis, 6..7 OpenBrace, 7..8 CloseBrace
+#
+?!=<>+-*|0..1 Question, 1..2 Exclamation, 2..3 Equal, 3..4 Less, 4..5 Greater, 5..6 Plus, 6..7 Minus, 7..8 Times
+#
+a--b|0..1 a
+#
+a---\u{1F600}\r b\nc- -|0..1 a, 12..13 c, 13..14 Minus, 15..16 Minus
+#
+\"%N%T%%%\"%'é\u{1F600}\"x|0..18 \"\\n\\t%\\\"'é😀\", 18..19 x";
 
 /// The reserved words. Each is the terminal of this very name.
 const RESERVED: &str =
@@ -78,7 +70,8 @@ fn expect_told<R: Abort + AllocGlobal>(rt: &R, text: &str, wanted: &str) -> Resu
 
 #[test]
 fn tells_tokens(rt: HostRuntime) -> Result<(), Fail> {
-    for &(text, wanted) in &TOKENS {
+    for row in TOKENS.split("\n#\n") {
+        let (text, wanted) = row.split_once('|').ok_or("a row without a bar")?;
         expect_told(&rt, text, wanted)?;
     }
     Ok(())

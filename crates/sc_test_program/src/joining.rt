@@ -7,24 +7,41 @@ use std::io::{self, ErrorKind, Read};
 use std::process::Abort;
 use std::test::Fail;
 
-/// A file of a test, of which a call reads at most `piece` bytes. One that is broken fails in place of its end.
+/// How files of a test are read, and where that fails.
 #[derive(Clone, Copy)]
-struct Piecewise<'a> {
+struct Reading {
+    /// How many bytes a call reads at most.
+    piece: usize,
+    /// The file of this number fails once, in the call behind so many, by this kind.
+    failing: Option<(usize, usize, ErrorKind)>,
+    /// The file of this number fails in place of its end.
+    broken: Option<usize>,
+}
+
+/// All of each file.
+const WHOLE: Reading = Reading {
+    piece: usize::MAX,
+    failing: None,
+    broken: None,
+};
+
+/// A file of a test.
+#[derive(Clone, Copy)]
+struct FakeReader<'a> {
     bytes: &'a [u8],
     piece: usize,
+    calls_left: usize,
+    kind: ErrorKind,
     is_broken: bool,
 }
 
-/// A file of a test whose reader fails once at a call, with a kind of error.
-#[derive(Clone, Copy)]
-struct FailingAt<'a> {
-    bytes: &'a [u8],
-    calls_left: usize,
-    kind: ErrorKind,
-}
-
-impl<'a> Read for Piecewise<'a> {
+impl<'a> Read for FakeReader<'a> {
     fn read(&mut self, buf: &mut [u8]) -> io::Result<usize> {
+        if self.calls_left == 0 {
+            self.calls_left = usize::MAX;
+            return Err(io::Error::from(self.kind));
+        }
+        self.calls_left -= 1;
         if self.bytes.is_empty() && self.is_broken {
             return Err(io::Error::from(ErrorKind::Other));
         }
@@ -33,144 +50,178 @@ impl<'a> Read for Piecewise<'a> {
     }
 }
 
-impl<'a> Read for FailingAt<'a> {
-    fn read(&mut self, buf: &mut [u8]) -> io::Result<usize> {
-        if self.calls_left == 0 {
-            self.calls_left = usize::MAX;
-            return Err(io::Error::from(self.kind));
-        }
-        self.calls_left -= 1;
-        let most = buf.len().min(1);
-        self.bytes.read(&mut buf[..most])
+/// The reader of the file of this number.
+fn reader_of(number: usize, bytes: &[u8], reading: Reading) -> FakeReader<'_> {
+    let (calls_left, kind) = match reading.failing {
+        Some((failing, calls, kind)) if failing == number => (calls, kind),
+        _ => (usize::MAX, ErrorKind::Other),
+    };
+    FakeReader {
+        bytes,
+        piece: reading.piece,
+        calls_left,
+        kind,
+        is_broken: reading.broken == Some(number),
     }
 }
 
-fn expect_join<H: Abort + AllocGlobal, R: Read>(
-    rt: &H,
-    readers: &mut [R],
-    wanted: Result<&str, SourceFault>,
-) -> Result<(), Fail> {
-    match (join_sources(rt.alloc(), readers), wanted) {
-        (Err(SourceFault::OutOfMemory), _) => return Err(Fail::new("out of memory")),
-        (Ok(text), Ok(wanted)) => assert_eq!(rt; text.as_str(), wanted),
-        (Ok(text), Err(wanted)) => assert!(rt; false, "{wanted:?} is wanted, and not {text:?}"),
-        (Err(fault), wanted) => assert_eq!(rt; Err(fault), wanted),
+/// What files join to that are read so: the bytes of the text in hexadecimal digits, or what is at fault.
+fn joined(alloc: Global, files: &[Vec<u8>], reading: Reading) -> Result<String, Fail> {
+    let mut readers = Vec::new(alloc);
+    for (number, bytes) in files.iter().enumerate() {
+        readers.push(reader_of(number, bytes.as_slice(), reading))?;
     }
+    match join_sources(alloc, readers.as_mut_slice()) {
+        Ok(text) => Ok(digits_of(alloc, text.as_str())?),
+        Err(SourceFault::OutOfMemory) => Err(Fail::new("out of memory")),
+        Err(fault) => Ok(format!(in alloc; "{fault:?}")?),
+    }
+}
+
+fn digits_of(alloc: Global, text: &str) -> Result<String, AllocError> {
+    let mut digits = String::new(alloc);
+    for byte in text.bytes() {
+        write!(digits, "{byte:02x}")?;
+    }
+    Ok(digits)
+}
+
+/// The bytes of some hexadecimal digits.
+fn bytes_of(alloc: Global, digits: &str) -> Result<Vec<u8>, AllocError> {
+    let mut bytes = Vec::new(alloc);
+    let mut high = None;
+    for digit in digits.bytes() {
+        let value = if digit <= b'9' {
+            digit.wrapping_sub(b'0')
+        } else {
+            digit.wrapping_sub(b'a').wrapping_add(10)
+        };
+        match high {
+            None => high = Some(value),
+            Some(high_value) => {
+                bytes.push(high_value << 4 | value)?;
+                high = None;
+            }
+        }
+    }
+    Ok(bytes)
+}
+
+/// The files that these words are: hexadecimal digits of each, or a dash for one that is empty.
+fn files_of(alloc: Global, words: &str) -> Result<Vec<Vec<u8>>, AllocError> {
+    let mut files = Vec::new(alloc);
+    for word in words.split(' ') {
+        if !word.is_empty() {
+            files.push(bytes_of(alloc, if word == "-" { "" } else { word })?)?;
+        }
+    }
+    Ok(files)
+}
+
+/// What files join to that are read so is this.
+fn expect<R: Abort + AllocGlobal>(
+    rt: &R,
+    words: &str,
+    reading: Reading,
+    wanted: &str,
+) -> Result<(), Fail> {
+    let files = files_of(rt.alloc(), words)?;
+    let found = joined(rt.alloc(), &files, reading)?;
+    let piece = reading.piece;
+    assert_eq!(rt; found.as_str(), wanted, "of {words}, {piece} bytes a call");
     Ok(())
 }
 
-/// The files of a system, and their text or what is at fault.
-const JOINED: [(&[&[u8]], Result<&str, SourceFault>); 14] = [
-    (&[], Ok("")),
-    (&[b""], Ok("\n")),
-    (&[b"", b""], Ok("\n\n")),
-    (&[b"\xef\xbb\xbfa", b"b"], Ok("a\nb\n")),
-    (&[b"a", b"\xef\xbb\xbfb"], Ok("a\nb\n")),
-    (&[b"\xef\xbb\xbf"], Ok("\n")),
-    (&[b"\xef\xbb\xbf\xef\xbb\xbfa"], Ok("\u{feff}a\n")),
-    (&[b"a\xef\xbb\xbf"], Ok("a\u{feff}\n")),
-    (&[b"a\n", b"\r\n\xc3\xa9"], Ok("a\n\n\r\n\u{e9}\n")),
-    (
-        &[b"a", b"b\xff", b"\xff"],
-        Err(SourceFault::NotUtf8 { file: 1 }),
-    ),
-    (&[b"\xef\xbb", b"b"], Err(SourceFault::NotUtf8 { file: 0 })),
-    (&[b"\xef", b"b"], Err(SourceFault::NotUtf8 { file: 0 })),
-    // A character isn't begun in one file and ended in the next.
-    (
-        &[b"caf\xc3", b"\xa9"],
-        Err(SourceFault::NotUtf8 { file: 0 }),
-    ),
-    (
-        &[b"\xef\xbb\xbf\xed\xa0\x80"],
-        Err(SourceFault::NotUtf8 { file: 0 }),
-    ),
-];
-
-/// Readers of these files, of which a call reads so many bytes at most. The reader of one may fail at its end.
-fn readers_of<'a>(
-    alloc: Global,
-    files: &[&'a [u8]],
-    piece: usize,
-    broken: Option<usize>,
-) -> Result<Vec<Piecewise<'a>>, AllocError> {
-    let mut readers = Vec::new(alloc);
-    for (file, bytes) in files.iter().enumerate() {
-        readers.push(Piecewise {
-            bytes,
-            piece,
-            is_broken: broken == Some(file),
-        })?;
-    }
-    Ok(readers)
-}
+/// Files, and the bytes of the text that they join to, or what is at fault. Three have a byte order mark, two of them twice or not at
+/// the start. In one a character begins that would end in the next.
+const JOINED: &str = "|
+-|0a
+- -|0a0a
+efbbbf61 62|610a620a
+61 efbbbf62|610a620a
+efbbbf|0a
+efbbbfefbbbf61|efbbbf610a
+61efbbbf|61efbbbf0a
+610a 0d0ac3a9|610a0a0d0ac3a90a
+61 62ff ff|NotUtf8 { file: 1 }
+efbb 62|NotUtf8 { file: 0 }
+ef 62|NotUtf8 { file: 0 }
+636166c3 a9|NotUtf8 { file: 0 }
+efbbbfeda080|NotUtf8 { file: 0 }";
 
 #[test]
 fn joins_the_texts_of_files(rt: HostRuntime) -> Result<(), Fail> {
-    for &(files, wanted) in &JOINED {
-        let mut readers = Vec::from_slice(rt.alloc(), files)?;
-        expect_join(&rt, readers.as_mut_slice(), wanted)?;
-        for piece in 1..5 {
-            let mut readers = readers_of(rt.alloc(), files, piece, None)?;
-            expect_join(&rt, readers.as_mut_slice(), wanted)?;
+    for row in JOINED.lines() {
+        let (words, wanted) = row.split_once('|').ok_or("a row without a bar")?;
+        for piece in 0..5 {
+            let mut reading = WHOLE;
+            if piece > 0 {
+                reading.piece = piece;
+            }
+            expect(&rt, words, reading, wanted)?;
         }
     }
     Ok(())
 }
 
-/// Joins these files, of which the reader of one may fail at its end, and compares what is at fault.
-fn expect_fault<R: Abort + AllocGlobal>(
+/// A file that is one byte too long, and one behind which a line feed fits.
+#[test]
+fn finds_that_a_text_is_too_long(rt: HostRuntime) -> Result<(), Fail> {
+    let alloc = rt.alloc();
+    let long = " ".repeat(alloc, MAX_SOURCE_BYTES)?;
+    let rest = " ".repeat(alloc, MAX_SOURCE_BYTES - 2)?;
+    let mut files = vec![in alloc; long.into_bytes()]?;
+    expect_too_long(&rt, &files, 0)?;
+    // With its line feed the second file is just too long.
+    files.clear();
+    files.push(rest.into_bytes())?;
+    files.push(Vec::new(alloc))?;
+    files.push(Vec::new(alloc))?;
+    expect_too_long(&rt, &files, 2)
+}
+
+fn expect_too_long<R: Abort + AllocGlobal>(
     rt: &R,
-    files: &[&[u8]],
-    broken: Option<usize>,
-    wanted: Option<SourceFault>,
+    files: &[Vec<u8>],
+    broken: usize,
 ) -> Result<(), Fail> {
-    let mut readers = readers_of(rt.alloc(), files, usize::MAX, broken)?;
-    let joined = join_sources(rt.alloc(), readers.as_mut_slice());
-    if let Err(SourceFault::OutOfMemory) = joined {
-        return Err(Fail::new("out of memory"));
-    }
-    assert_eq!(rt; joined.err(), wanted);
+    let mut reading = WHOLE;
+    reading.broken = Some(broken);
+    let found = joined(rt.alloc(), files, reading)?;
+    assert_eq!(rt; found.as_str(), "SourceTooLong");
     Ok(())
 }
 
+/// Files of which one is broken, its number, and what is at fault.
+const BROKEN: &str = "61 62|1|Unreadable { file: 1 }
+61ff 62|0|Unreadable { file: 0 }
+61ff 62|1|NotUtf8 { file: 0 }";
+
 #[test]
 fn finds_the_first_file_at_fault(rt: HostRuntime) -> Result<(), Fail> {
-    let long = " ".repeat(rt.alloc(), MAX_SOURCE_BYTES)?;
-    let too_long = Some(SourceFault::SourceTooLong);
-    expect_fault(&rt, &[long.as_bytes()], Some(0), too_long)?;
-    // With its line feed the second file is just too long.
-    let rest = &long.as_bytes()[2..];
-    expect_fault(&rt, &[rest, b"", b""], Some(2), too_long)?;
-    let second = Some(SourceFault::Unreadable { file: 1 });
-    expect_fault(&rt, &[b"a", b"b"], Some(1), second)?;
-    let first = Some(SourceFault::Unreadable { file: 0 });
-    expect_fault(&rt, &[b"a\xff", b"b"], Some(0), first)?;
-    let first = Some(SourceFault::NotUtf8 { file: 0 });
-    expect_fault(&rt, &[b"a\xff", b"b"], Some(1), first)
+    for row in BROKEN.lines() {
+        let (words, rest) = row.split_once('|').ok_or("a row without a bar")?;
+        let (broken, wanted) = rest.split_once('|').ok_or("a row without a bar")?;
+        let mut reading = WHOLE;
+        reading.broken = Some(broken.parse()?);
+        expect(&rt, words, reading, wanted)?;
+    }
+    Ok(())
 }
 
 #[test]
 fn fails_where_a_reader_fails(rt: HostRuntime) -> Result<(), Fail> {
-    // Each file is read byte by byte, and one call more tells its end.
-    for calls_left in 0..8 {
-        for failing in 0..2 {
-            let file = |number, bytes| FailingAt {
-                bytes,
-                calls_left: if number == failing {
-                    calls_left
-                } else {
-                    usize::MAX
-                },
-                kind: ErrorKind::Other,
+    let faults = ["Unreadable { file: 0 }", "Unreadable { file: 1 }"];
+    for (failing, fault) in faults.iter().enumerate() {
+        // Each file is read byte by byte, and one call more tells its end.
+        for calls in 0..8 {
+            let reading = Reading {
+                piece: 1,
+                failing: Some((failing, calls, ErrorKind::Other)),
+                broken: None,
             };
-            let mut readers = [file(0, b"\xef\xbb\xbfa"), file(1, b"bcde")];
-            let wanted = if calls_left < 5 {
-                Err(SourceFault::Unreadable { file: failing })
-            } else {
-                Ok("a\nbcde\n")
-            };
-            expect_join(&rt, &mut readers, wanted)?;
+            let wanted = if calls < 5 { *fault } else { "610a626364650a" };
+            expect(&rt, "efbbbf61 62636465", reading, wanted)?;
         }
     }
     Ok(())
@@ -178,13 +229,13 @@ fn fails_where_a_reader_fails(rt: HostRuntime) -> Result<(), Fail> {
 
 #[test]
 fn reads_on_where_a_read_was_interrupted(rt: HostRuntime) -> Result<(), Fail> {
-    for calls_left in 0..8 {
-        let mut readers = [FailingAt {
-            bytes: b"\xef\xbb\xbfab",
-            calls_left,
-            kind: ErrorKind::Interrupted,
-        }];
-        expect_join(&rt, &mut readers, Ok("ab\n"))?;
+    for calls in 0..8 {
+        let reading = Reading {
+            piece: 1,
+            failing: Some((0, calls, ErrorKind::Interrupted)),
+            broken: None,
+        };
+        expect(&rt, "efbbbf6162", reading, "61620a")?;
     }
     Ok(())
 }

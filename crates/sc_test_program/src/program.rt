@@ -3,51 +3,88 @@
 mod broken;
 mod fake;
 mod output;
-mod reasons;
 mod records;
 
-use crate::program::fake::{FakeFile, FakeFiles};
+use crate::program::fake::{ENDLESS, FakeFiles, FakeWriter, Patience};
 use sc_serve::serve::{Exit, serve};
-use std::alloc::{AllocError, Global};
+use std::alloc::AllocError;
 use std::process::Abort;
 use std::sync::Wait;
 use std::test::Fail;
 use std::thread::Threads;
 
-/// Calls the program, and compares what it writes and its status. A call for which memory runs out has no answer: the test
-/// ends there and says so.
-fn expect<R: Abort + Threads + Wait + Sync + AllocGlobal>(
-    rt: &R,
-    arguments: &[&str],
-    files: &[FakeFile<'_>],
-    (status, out, err): (Exit, &str, &str),
-) -> Result<(), Fail> {
-    let mut wrote = Vec::new(rt.alloc());
-    let mut told = Vec::new(rt.alloc());
-    let ended = serve(
-        rt,
-        arguments,
-        &FakeFiles { files },
-        &mut wrote,
-        &mut told,
-        false,
-    );
-    if ended == Exit::Broken as u8 {
-        return Err(Fail::new("out of memory"));
-    }
-    let line = line_of(rt.alloc(), arguments)?;
-    assert_eq!(rt; String::from_utf8(told)?.as_str(), err, "for {line}");
-    assert_eq!(rt; String::from_utf8(wrote)?.as_str(), out, "for {line}");
-    assert_eq!(rt; ended, status as u8, "for {line}");
-    Ok(())
+/// A call of the program: its words, its files, and how long standard output and standard error are written to.
+#[derive(Clone, Copy)]
+struct Call<'a> {
+    words: &'a str,
+    files: FakeFiles<'a>,
+    out: Patience,
+    err: Patience,
 }
 
-/// The arguments of a call, one after the other.
-fn line_of(alloc: Global, arguments: &[&str]) -> Result<String, AllocError> {
-    let mut line = String::new(alloc);
-    for word in arguments {
-        line.push_str(word)?;
-        line.push_str(" ")?;
+/// What a call has written, and its status.
+#[derive(Drop)]
+struct Said {
+    status: u8,
+    out: Vec<u8>,
+    err: Vec<u8>,
+}
+
+impl<'a> Call<'a> {
+    /// One whose output doesn't fail.
+    fn of(words: &'a str, files: FakeFiles<'a>) -> Call<'a> {
+        Call {
+            words,
+            files,
+            out: ENDLESS,
+            err: ENDLESS,
+        }
     }
-    Ok(line)
+}
+
+/// What a call answers.
+fn answer_of<R: Threads + Wait + Sync + AllocGlobal>(
+    rt: &R,
+    call: Call<'_>,
+) -> Result<Said, AllocError> {
+    let mut words = Vec::new(rt.alloc());
+    for word in call.words.split(' ') {
+        words.push(word)?;
+    }
+    let mut out = FakeWriter::new(rt.alloc(), call.out);
+    let mut err = FakeWriter::new(rt.alloc(), call.err);
+    let status = serve(rt, words.as_slice(), &call.files, &mut out, &mut err, false);
+    Ok(Said {
+        status,
+        out: out.bytes,
+        err: err.bytes,
+    })
+}
+
+/// Compares what a call answers: its status, what it writes on standard output, and what on standard error. One for which memory runs
+/// out has no answer, and writes nothing but that: the test ends there and says so.
+fn expect<R: Abort + Threads + Wait + Sync + AllocGlobal>(
+    rt: &R,
+    call: Call<'_>,
+    (status, out, err): (u8, &str, &str),
+) -> Result<(), Fail> {
+    let said = answer_of(rt, call)?;
+    if said.status == Exit::Broken as u8 && (status != said.status || said.out.len() < out.len()) {
+        return Err(Fail::new("out of memory"));
+    }
+    let alloc = rt.alloc();
+    let (wrote, told, ended) = (
+        str::from_utf8(&said.out)?,
+        str::from_utf8(&said.err)?,
+        said.status,
+    );
+    let answer = format!(in alloc; "{ended}\n{wrote}\n{told}")?;
+    let wanted = format!(in alloc; "{status}\n{out}\n{err}")?;
+    let (words, calls) = (call.words, call.out.calls_left);
+    assert_eq!(rt;
+        answer.as_str(),
+        wanted.as_str(),
+        "of {words}, after {calls} calls"
+    );
+    Ok(())
 }

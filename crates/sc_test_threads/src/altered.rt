@@ -3,7 +3,7 @@
 //! The numbers are counted by hand. In a line of one digit, a space and one digit, nine other handlers and eight other
 //! numbers of turns make other records; in the first line the other version does; elsewhere no byte may be another.
 
-use crate::audits::FIVE_TURNS;
+use crate::audits::{FIVE_TURNS, told};
 use crate::runs::{Open, load};
 use crate::together::RELAY;
 use sc_audit::{ReadFault, Record, read_record};
@@ -17,36 +17,75 @@ use std::test::Fail;
 /// What an audit answers.
 type Answer = Result<(), AuditFault>;
 
-/// Answers, and how many texts have each.
+/// How many texts have each answer.
 #[derive(Drop)]
 struct Counts {
-    counts: Vec<(Answer, u32)>,
+    yes: u32,
+    /// By the handler that differs.
+    differs: Vec<u32>,
+    /// By the line at fault.
+    bad: Vec<u32>,
+    others: u32,
 }
 
 impl Counts {
-    fn add(&mut self, answer: Answer) -> Result<(), AllocError> {
-        for (known, count) in &mut self.counts {
-            if *known == answer {
-                *count = count.saturating_add(1);
-                return Ok(());
-            }
-        }
-        self.counts.push((answer, 1))?;
-        Ok(())
+    fn new(alloc: Global) -> Result<Counts, AllocError> {
+        Ok(Counts {
+            yes: 0,
+            differs: vec![in alloc; 0; 8]?,
+            bad: vec![in alloc; 0; 32]?,
+            others: 0,
+        })
     }
 
-    fn of(&self, answer: Answer) -> u32 {
-        for (known, count) in &self.counts {
-            if *known == answer {
-                return *count;
+    fn add(&mut self, answer: Answer) {
+        let others = match answer {
+            Ok(()) => {
+                self.yes = self.yes.saturating_add(1);
+                0
             }
+            Err(AuditFault::Differs { handler }) => count_at(&mut self.differs, handler as usize),
+            Err(AuditFault::BadRecord { line }) => count_at(&mut self.bad, line as usize),
+            Err(AuditFault::OutOfMemory) => 1,
+        };
+        self.others = self.others.saturating_add(others);
+    }
+
+    /// The answers that some text has, each with how many have it.
+    fn told(&self, alloc: Global) -> Result<String, AllocError> {
+        let (yes, others) = (self.yes, self.others);
+        let mut told = format!(in alloc; "yes: {yes}")?;
+        tell_each(&mut told, "differs", &self.differs)?;
+        tell_each(&mut told, "bad", &self.bad)?;
+        if others > 0 {
+            write!(told, ", others: {others}")?;
         }
-        0
+        Ok(told)
     }
 }
 
+/// Counts one more at a place: how many are left, as there is no such place.
+fn count_at(counts: &mut Vec<u32>, place: usize) -> u32 {
+    match counts.get_mut(place) {
+        Some(count) => {
+            *count = count.saturating_add(1);
+            0
+        }
+        None => 1,
+    }
+}
+
+fn tell_each(told: &mut String, answer: &str, counts: &[u32]) -> Result<(), AllocError> {
+    for (number, count) in counts.iter().enumerate() {
+        if *count > 0 {
+            write!(told, ", {answer} {number}: {count}")?;
+        }
+    }
+    Ok(())
+}
+
 /// What the audit of a run answers with the record that a text is, or the line at which it is none.
-fn answer(
+fn answer_to(
     alloc: Global,
     program: &Program,
     left: &mut Left<'_>,
@@ -63,11 +102,10 @@ fn answer(
         }
         Err(_) => return Err(Fail::from(AllocError)),
     }
-    let answer = audit(alloc, program, left);
-    if answer == Err(AuditFault::OutOfMemory) {
-        return Err(Fail::from(AllocError));
+    match audit(alloc, program, left) {
+        Err(AuditFault::OutOfMemory) => Err(Fail::from(AllocError)),
+        answer => Ok(answer),
     }
-    Ok(answer)
 }
 
 /// The answers to a text in which each byte in turn is each other one.
@@ -77,17 +115,14 @@ fn answers(
     left: &mut Left<'_>,
     text: &[u8],
 ) -> Result<Counts, Fail> {
-    let mut answers = Counts {
-        counts: Vec::new(alloc),
-    };
+    let mut answers = Counts::new(alloc)?;
     let mut altered = Vec::from_slice(alloc, text)?;
     for (place, byte) in text.iter().enumerate() {
         for other in 0..=u8::MAX {
-            if other == *byte {
-                continue;
+            if other != *byte {
+                replace(&mut altered, place, other);
+                answers.add(answer_to(alloc, program, left, altered.as_slice())?);
             }
-            replace(&mut altered, place, other);
-            answers.add(answer(alloc, program, left, altered.as_slice())?)?;
         }
         replace(&mut altered, place, *byte);
     }
@@ -100,86 +135,103 @@ fn replace(text: &mut Vec<u8>, place: usize, byte: u8) {
     }
 }
 
-/// This handler is the least that differs.
-fn differs(handler: u16) -> Answer {
-    Err(AuditFault::Differs { handler })
+/// So many of the texts that are this one but for a byte have each of these answers, and none has another one.
+fn expect_altered<R: Abort>(
+    rt: &R,
+    alloc: Global,
+    program: &Program,
+    left: &mut Left<'_>,
+    (text, wanted): (&str, &str),
+) -> Result<(), Fail> {
+    let answers = answers(alloc, program, left, text.as_bytes())?;
+    let told = answers.told(alloc)?;
+    assert_eq!(rt; told.as_str(), wanted, "of {text}");
+    Ok(())
 }
 
-/// This line is the first that doesn't fit.
-fn bad(line: u32) -> Answer {
-    Err(AuditFault::BadRecord { line })
+/// What the audit of a run answers to this text.
+fn expect_answer<R: Abort>(
+    rt: &R,
+    alloc: Global,
+    program: &Program,
+    left: &mut Left<'_>,
+    (text, wanted): (&str, &str),
+) -> Result<(), Fail> {
+    let told = told(alloc, answer_to(alloc, program, left, text.as_bytes())?)?;
+    assert_eq!(rt; told.as_str(), wanted, "of {text}");
+    Ok(())
 }
 
-/// So many texts have each of these answers, and none has another one.
-fn expect<R: Abort>(rt: &R, counts: &Counts, wanted: &[(Answer, u32)]) {
-    for (answer, count) in wanted {
-        assert_eq!(rt; counts.of(*answer), *count, "{answer:?}");
-    }
-    assert_eq!(rt; counts.counts.len(), wanted.len());
-}
-
-/// The record of its run, in both versions. In each the first line has one byte that may be the other version's.
-const FIVE_TURNS_RECORDS: [&str; 2] = [
-    "scoop record 1\n0 5\nend 1\n",
-    "scoop record 2\n0 5\nend 1\n",
-];
+/// 6 to 9 turns are as good as 5, of which the rest change nothing. In both versions the first line has one byte that may be the
+/// other version's.
+const FIVE_TURNS_ANSWERS: &str = "yes: 5, differs 0: 13, bad 1: 3824, bad 2: 1003, bad 3: 1530";
 
 #[test]
 fn altered_records_of_the_smallest_run(rt: HostRuntime) -> Result<(), Fail> {
     let alloc = rt.alloc();
     let program = load(&rt, alloc, FIVE_TURNS)?;
-    let Ok(mut left) = run(&rt, alloc, &program, 1, 1_000_000, &Open) else {
-        return Err(Fail::from(AllocError));
-    };
-    // 6 to 9 turns are as good as 5, of which the rest change nothing.
-    let wanted = [
-        (Ok(()), 5),
-        (differs(0), 13),
-        (bad(1), 3824),
-        (bad(2), 1003),
-        (bad(3), 1530),
-    ];
-    for text in &FIVE_TURNS_RECORDS {
-        let counts = answers(alloc, &program, &mut left, text.as_bytes())?;
-        expect(&rt, &counts, &wanted);
+    match run(&rt, alloc, &program, 1, 1_000_000, &Open) {
+        Ok(mut left) => {
+            let first = ("scoop record 1\n0 5\nend 1\n", FIVE_TURNS_ANSWERS);
+            expect_altered(&rt, alloc, &program, &mut left, first)?;
+            let second = ("scoop record 2\n0 5\nend 1\n", FIVE_TURNS_ANSWERS);
+            expect_altered(&rt, alloc, &program, &mut left, second)
+        }
+        Err(_) => Err(Fail::from(AllocError)),
+    }
+}
+
+/// Texts, and what the audit of the same run answers to each behind a bar. Between two stands a line with a sign.
+const TEXTS: &str = "scoop record 1
+0 5
+end 1
+|yes
+#
+scoop record 1
+0 6
+end 1
+|yes
+#
+scoop record 1
+0 4
+end 1
+|differs 0
+#
+scoop record 1
+0 05
+end 1
+|bad 2
+#
+scoop record 1
+0 5
+|bad 3
+#
+scoop record 1
+0 5
+end 2
+|bad 3";
+
+fn expect_texts<R: Abort>(
+    rt: &R,
+    alloc: Global,
+    program: &Program,
+    left: &mut Left<'_>,
+) -> Result<(), Fail> {
+    for row in TEXTS.split("\n#\n") {
+        let row = row.split_once('|').ok_or("a row without a bar")?;
+        expect_answer(rt, alloc, program, left, row)?;
     }
     Ok(())
 }
-
-/// Texts, and what the audit of the same run answers to each.
-const TEXTS: [(&str, Answer); 6] = [
-    ("scoop record 1\n0 5\nend 1\n", Ok(())),
-    ("scoop record 1\n0 6\nend 1\n", Ok(())),
-    (
-        "scoop record 1\n0 4\nend 1\n",
-        Err(AuditFault::Differs { handler: 0 }),
-    ),
-    (
-        "scoop record 1\n0 05\nend 1\n",
-        Err(AuditFault::BadRecord { line: 2 }),
-    ),
-    (
-        "scoop record 1\n0 5\n",
-        Err(AuditFault::BadRecord { line: 3 }),
-    ),
-    (
-        "scoop record 1\n0 5\nend 2\n",
-        Err(AuditFault::BadRecord { line: 3 }),
-    ),
-];
 
 #[test]
 fn texts_that_are_nearly_its_record(rt: HostRuntime) -> Result<(), Fail> {
     let alloc = rt.alloc();
     let program = load(&rt, alloc, FIVE_TURNS)?;
-    let Ok(mut left) = run(&rt, alloc, &program, 1, 1_000_000, &Open) else {
-        return Err(Fail::from(AllocError));
-    };
-    for (text, wanted) in &TEXTS {
-        let audited = answer(alloc, &program, &mut left, text.as_bytes())?;
-        assert_eq!(rt; audited, *wanted, "{text:?}");
+    match run(&rt, alloc, &program, 1, 1_000_000, &Open) {
+        Ok(mut left) => expect_texts(&rt, alloc, &program, &mut left),
+        Err(_) => Err(Fail::from(AllocError)),
     }
-    Ok(())
 }
 
 /// The record of the run of RELAY on one worker: handlers take turns in the order of their numbers, and each goes on until it
@@ -209,29 +261,23 @@ const RELAY_RECORD: &str = "scoop record 2
 end 21
 ";
 
+const RELAY_ANSWERS: &str = "yes: 122, differs 0: 195, differs 1: 41, bad 1: 3824, \
+    bad 2: 1003, bad 3: 1003, bad 4: 1003, bad 5: 1003, bad 6: 1003, bad 7: 1003, bad 8: 1003, \
+    bad 9: 1003, bad 10: 1003, bad 11: 1003, bad 12: 1003, bad 13: 1003, bad 14: 1003, bad 15: 1003, \
+    bad 16: 1003, bad 17: 1003, bad 18: 1003, bad 19: 1003, bad 20: 1003, bad 21: 1003, bad 22: 1003, \
+    bad 23: 1785";
+
 #[test]
 fn altered_records_of_a_failure_in_a_chain(rt: HostRuntime) -> Result<(), Fail> {
     let alloc = rt.alloc();
     let program = load(&rt, alloc, RELAY)?;
-    let Ok(mut left) = run(&rt, alloc, &program, 1, 1_000_000, &Open) else {
-        return Err(Fail::from(AllocError));
-    };
-    let mut wanted = Vec::from_slice(
-        alloc,
-        &[
-            (Ok(()), 122),
-            (differs(0), 195),
-            (differs(1), 41),
-            (bad(1), 3824),
-            (bad(23), 1785),
-        ],
-    )?;
-    for line in 2..23 {
-        wanted.push((bad(line), 1003))?;
+    match run(&rt, alloc, &program, 1, 1_000_000, &Open) {
+        Ok(mut left) => {
+            let own = (RELAY_RECORD, "yes");
+            expect_answer(&rt, alloc, &program, &mut left, own)?;
+            let altered = (RELAY_RECORD, RELAY_ANSWERS);
+            expect_altered(&rt, alloc, &program, &mut left, altered)
+        }
+        Err(_) => Err(Fail::from(AllocError)),
     }
-    let text = RELAY_RECORD.as_bytes();
-    assert_eq!(rt; answer(alloc, &program, &mut left, text)?, Ok(()));
-    let counts = answers(alloc, &program, &mut left, text)?;
-    expect(&rt, &counts, wanted.as_slice());
-    Ok(())
 }

@@ -19,27 +19,87 @@ feature
 invariant n >= 0
 end";
 
-/// Whether an audit answers this where the record has these lines, each a handler and its turns.
-fn expect<R: Abort>(
+/// Lines of records of the second version, each a handler and its turns, and what the audit of that run answers. Further turns change
+/// nothing.
+const ROWS: &str = "0 1|differs 0
+0 2|differs 0
+0 3|differs 0
+0 4|differs 0
+0 5|yes
+0 6|yes
+0 7|yes
+0 8|yes
+0 9|yes
+1 5|differs 0
+2 5|differs 0
+3 5|differs 0
+4 5|differs 0
+5 5|differs 0
+6 5|differs 0
+7 5|differs 0
+8 5|differs 0
+9 5|differs 0
+0 2, 511 1, 0 3|yes
+0 0|bad 2
+0 10000001|bad 2
+0 5, 512 1|bad 3
+0 5, 0 9999996|bad 3";
+
+/// The same of the first version.
+const FIRST_ROWS: &str = "0 5, 63 1|yes
+0 5, 64 1|bad 3";
+
+/// What an audit answers, in words.
+pub fn told(alloc: Global, answer: Result<(), AuditFault>) -> Result<String, Fail> {
+    match answer {
+        Ok(()) => Ok(String::from_str(alloc, "yes")?),
+        Err(AuditFault::Differs { handler }) => Ok(format!(in alloc; "differs {handler}")?),
+        Err(AuditFault::BadRecord { line }) => Ok(format!(in alloc; "bad {line}")?),
+        Err(AuditFault::OutOfMemory) => Err(Fail::from(AllocError)),
+    }
+}
+
+/// Adds the lines that these words name.
+fn add_lines(lines: &mut Vec<RecordLine>, words: &str) -> Result<(), Fail> {
+    for line in words.split(", ") {
+        let (handler, turns) = line.split_once(' ').ok_or("a line without turns")?;
+        lines.push(RecordLine {
+            handler: handler.parse()?,
+            turns: turns.parse()?,
+        })?;
+    }
+    Ok(())
+}
+
+/// What an audit answers where the record has the lines of a row.
+fn expect_row<R: Abort>(
     rt: &R,
     alloc: Global,
     program: &Program,
     left: &mut Left<'_>,
-    lines: &[(u16, u32)],
-    answer: Result<(), AuditFault>,
+    row: &str,
 ) -> Result<(), Fail> {
+    let (words, wanted) = row.split_once('|').ok_or("a row without a bar")?;
     left.lines.clear();
-    for (handler, turns) in lines {
-        left.lines.push(RecordLine {
-            handler: *handler,
-            turns: *turns,
-        })?;
+    add_lines(&mut left.lines, words)?;
+    let answer = told(alloc, audit(alloc, program, left))?;
+    assert_eq!(rt; answer.as_str(), wanted, "of {words}");
+    Ok(())
+}
+
+fn expect_rows<R: Abort>(
+    rt: &R,
+    alloc: Global,
+    program: &Program,
+    left: &mut Left<'_>,
+) -> Result<(), Fail> {
+    for row in ROWS.lines() {
+        expect_row(rt, alloc, program, left, row)?;
     }
-    let audited = audit(alloc, program, left);
-    if audited == Err(AuditFault::OutOfMemory) {
-        return Err(Fail::from(AllocError));
+    left.version = Version::One;
+    for row in FIRST_ROWS.lines() {
+        expect_row(rt, alloc, program, left, row)?;
     }
-    assert_eq!(rt; audited, answer);
     Ok(())
 }
 
@@ -47,41 +107,8 @@ fn expect<R: Abort>(
 fn other_records(rt: HostRuntime) -> Result<(), Fail> {
     let alloc = rt.alloc();
     let program = load(&rt, alloc, FIVE_TURNS)?;
-    let Ok(mut left) = run(&rt, alloc, &program, 1, 1_000_000, &Open) else {
-        return Err(Fail::from(AllocError));
-    };
-    let differs = Err(AuditFault::Differs { handler: 0 });
-    for turns in 1..5 {
-        expect(&rt, alloc, &program, &mut left, &[(0, turns)], differs)?;
+    match run(&rt, alloc, &program, 1, 1_000_000, &Open) {
+        Ok(mut left) => expect_rows(&rt, alloc, &program, &mut left),
+        Err(_) => Err(Fail::from(AllocError)),
     }
-    for turns in 5..10 {
-        expect(&rt, alloc, &program, &mut left, &[(0, turns)], Ok(()))?;
-    }
-    for handler in 1..10 {
-        expect(&rt, alloc, &program, &mut left, &[(handler, 5)], differs)?;
-    }
-    expect(
-        &rt,
-        alloc,
-        &program,
-        &mut left,
-        &[(0, 2), (511, 1), (0, 3)],
-        Ok(()),
-    )?;
-    let second = Err(AuditFault::BadRecord { line: 2 });
-    let third = Err(AuditFault::BadRecord { line: 3 });
-    expect(&rt, alloc, &program, &mut left, &[(0, 0)], second)?;
-    expect(&rt, alloc, &program, &mut left, &[(0, 10_000_001)], second)?;
-    expect(&rt, alloc, &program, &mut left, &[(0, 5), (512, 1)], third)?;
-    expect(
-        &rt,
-        alloc,
-        &program,
-        &mut left,
-        &[(0, 5), (0, 9_999_996)],
-        third,
-    )?;
-    left.version = Version::One;
-    expect(&rt, alloc, &program, &mut left, &[(0, 5), (63, 1)], Ok(()))?;
-    expect(&rt, alloc, &program, &mut left, &[(0, 5), (64, 1)], third)
 }

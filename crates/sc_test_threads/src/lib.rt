@@ -6,8 +6,6 @@ mod altered;
 #[cfg(test)]
 mod audits;
 #[cfg(test)]
-mod rows;
-#[cfg(test)]
 mod runs;
 #[cfg(test)]
 mod together;

@@ -1,6 +1,6 @@
 //! Workers that play at the same time, and one that waits for another.
 
-use crate::runs::{Open, leave, load};
+use crate::runs::{leave, load};
 use sc_plant::Gate;
 use std::process::Abort;
 use std::sync::Wait;
@@ -240,43 +240,4 @@ stopped idle
 #[test]
 fn one_comes_late(rt: HostRuntime) -> Result<(), Fail> {
     expect(&rt, RELAY, 2, Waits::UntilEndedTwice, RELAY_REPORT)
-}
-
-/// One that makes 63 others, and asks each of them for a hundred things.
-const MANY: &str = "class APPLICATION create make
-feature
-    s: separate CELL
-    i, total: INTEGER
-    make do from i := 0 until i = 63 loop create s use (s) i := i + 1 end print (total) end
-    use (c: separate CELL)
-        local j: INTEGER
-        do from j := 0 until j = 100 loop c.hit j := j + 1 end total := total + c.n end
-end
-class CELL
-feature
-    n: INTEGER
-    hit do n := n + 1 end
-end
-";
-
-#[test]
-fn many_handlers(rt: HostRuntime) -> Result<(), Fail> {
-    let alloc = rt.alloc();
-    let program = load(&rt, alloc, MANY)?;
-    let left = leave(&rt, alloc, &program, 8, 1_000_000, &Open)?;
-    let Some(others) = left
-        .as_str()
-        .strip_prefix("handler 0 free refused 0 output 4\n6300\n")
-    else {
-        panic!(rt; "another report of handler 0");
-    };
-    let mut count = 0u32;
-    for line in others.lines() {
-        if line.ends_with("free refused 0 output 0") {
-            count = count.saturating_add(1);
-        }
-    }
-    assert_eq!(rt; count, 63);
-    assert!(rt; others.ends_with("\n\nstopped idle\n"));
-    Ok(())
 }

@@ -1,8 +1,9 @@
-//! Files for tests, which stand in the test itself.
+//! Files and writers for tests, which stand in the test itself.
 
 use sc_source::files::Files;
 use sc_source::writing::Remains;
-use std::io::{self, ErrorKind, Read, Sink};
+use std::alloc::Global;
+use std::io::{self, ErrorKind, Read, Write};
 
 /// A file of a test. One that is broken fails once its bytes are read.
 #[derive(Clone, Copy)]
@@ -12,10 +13,29 @@ pub struct FakeFile<'a> {
     pub is_broken: bool,
 }
 
-/// Only these files can be read, and none can be written.
+/// How long something is written to that takes one byte a call: so many calls. Each one behind them fails, by this kind.
+#[derive(Clone, Copy)]
+pub struct Patience {
+    pub calls_left: usize,
+    pub kind: ErrorKind,
+}
+
+/// All is written.
+pub const ENDLESS: Patience = Patience {
+    calls_left: usize::MAX,
+    kind: ErrorKind::BrokenPipe,
+};
+
+/// Only these files can be read, unless there is a reason why none can be opened.
 #[derive(Clone, Copy)]
 pub struct FakeFiles<'a> {
+    pub alloc: Global,
     pub files: &'a [FakeFile<'a>],
+    pub unopened: Option<ErrorKind>,
+    /// How long files are written to.
+    pub patience: Patience,
+    /// Whether what was written takes its name at the end.
+    pub is_committed: bool,
 }
 
 /// What is left to be read of a file.
@@ -23,6 +43,13 @@ pub struct FakeFiles<'a> {
 pub struct FakeReader<'a> {
     bytes: &'a [u8],
     is_broken: bool,
+}
+
+/// What was written, and how long more is.
+#[derive(Drop)]
+pub struct FakeWriter {
+    pub bytes: Vec<u8>,
+    pub patience: Patience,
 }
 
 impl<'a> FakeFile<'a> {
@@ -45,12 +72,28 @@ impl<'a> FakeFile<'a> {
     }
 }
 
+impl<'a> FakeFiles<'a> {
+    /// These files, and no others.
+    pub fn of(alloc: Global, files: &'a [FakeFile<'a>]) -> Self {
+        FakeFiles {
+            alloc,
+            files,
+            unopened: None,
+            patience: ENDLESS,
+            is_committed: true,
+        }
+    }
+}
+
 impl<'a> Files for FakeFiles<'a> {
     type Reader = FakeReader<'a>;
 
-    type Writer = Sink;
+    type Writer = FakeWriter;
 
     fn reader(&self, name: &str) -> io::Result<FakeReader<'a>> {
+        if let Some(kind) = self.unopened {
+            return Err(io::Error::from(kind));
+        }
         for file in self.files {
             if file.name == name {
                 return Ok(FakeReader {
@@ -62,16 +105,21 @@ impl<'a> Files for FakeFiles<'a> {
         Err(io::Error::from(ErrorKind::NotFound))
     }
 
-    fn writer(&self, _name: &str) -> io::Result<Sink> {
-        Err(io::Error::from(ErrorKind::PermissionDenied))
+    fn writer(&self, _name: &str) -> io::Result<FakeWriter> {
+        Ok(FakeWriter::new(self.alloc, self.patience))
     }
 
-    fn commit(&self, _writer: Sink) -> Result<(), (io::Error, Remains)> {
-        Ok(())
+    fn commit(&self, _writer: FakeWriter) -> Result<(), (io::Error, Remains)> {
+        if self.is_committed {
+            Ok(())
+        } else {
+            let error = io::Error::from(ErrorKind::PermissionDenied);
+            Err((error, Remains::Unchanged))
+        }
     }
 
-    fn discard(&self, _writer: Sink) -> Remains {
-        Remains::Unchanged
+    fn discard(&self, _writer: FakeWriter) -> Remains {
+        Remains::Beginning
     }
 }
 
@@ -81,5 +129,40 @@ impl<'a> Read for FakeReader<'a> {
             return Err(io::Error::from(ErrorKind::Other));
         }
         self.bytes.read(buf)
+    }
+}
+
+impl FakeWriter {
+    /// Nothing was written.
+    pub fn new(alloc: Global, patience: Patience) -> Self {
+        FakeWriter {
+            bytes: Vec::new(alloc),
+            patience,
+        }
+    }
+
+    fn count(&mut self) -> io::Result<()> {
+        if self.patience.calls_left == 0 {
+            return Err(io::Error::from(self.patience.kind));
+        }
+        self.patience.calls_left -= 1;
+        Ok(())
+    }
+}
+
+impl Write for FakeWriter {
+    fn write(&mut self, buf: &[u8]) -> io::Result<usize> {
+        self.count()?;
+        match buf.first() {
+            Some(byte) => {
+                self.bytes.push(*byte)?;
+                Ok(1)
+            }
+            None => Ok(0),
+        }
+    }
+
+    fn flush(&mut self) -> io::Result<()> {
+        self.count()
     }
 }

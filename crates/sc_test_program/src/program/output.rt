@@ -1,144 +1,100 @@
-//! Writers that fail.
+//! Standard output and standard error that fail.
 
-use super::line_of;
-use crate::program::fake::{FakeFile, FakeFiles};
-use sc_serve::serve::{Exit, serve};
-use std::io::{self, ErrorKind, Write};
+use super::{Call, answer_of, expect};
+use crate::program::fake::{FakeFile, FakeFiles, Patience};
+use sc_serve::serve::Exit;
+use std::io::ErrorKind;
 use std::process::Abort;
 use std::sync::Wait;
 use std::test::Fail;
 use std::thread::Threads;
 
-/// A writer that takes one byte a call, and fails from some call on.
-#[derive(Drop)]
-struct FailingWriter {
-    bytes: Vec<u8>,
-    calls_left: usize,
+/// How output fails.
+#[derive(Clone, Copy)]
+struct Failure<'a> {
+    kind: ErrorKind,
+    /// The status then, and what is told.
+    status: u8,
+    told: &'a str,
 }
 
-impl FailingWriter {
-    fn count(&mut self) -> io::Result<()> {
-        if self.calls_left == 0 {
-            return Err(io::Error::from(ErrorKind::BrokenPipe));
-        }
-        self.calls_left -= 1;
-        Ok(())
-    }
-}
+const BROKEN: Failure<'static> = Failure {
+    kind: ErrorKind::BrokenPipe,
+    status: 2,
+    told: "cannot write standard output\n",
+};
 
-impl Write for FailingWriter {
-    fn write(&mut self, buf: &[u8]) -> io::Result<usize> {
-        self.count()?;
-        match buf.first() {
-            Some(byte) => {
-                self.bytes.push(*byte)?;
-                Ok(1)
-            }
-            None => Ok(0),
-        }
-    }
-
-    fn flush(&mut self) -> io::Result<()> {
-        self.count()
-    }
-}
-
-/// What a call writes to writers that fail after so many calls, and its status.
-fn call_failing<R: Threads + Wait + Sync + AllocGlobal>(
-    rt: &R,
-    arguments: &[&str],
-    files: &[FakeFile<'_>],
-    calls: [usize; 2],
-) -> Result<(u8, Vec<u8>, Vec<u8>), Fail> {
-    let mut out = FailingWriter {
-        bytes: Vec::new(rt.alloc()),
-        calls_left: calls[0],
-    };
-    let mut err = FailingWriter {
-        bytes: Vec::new(rt.alloc()),
-        calls_left: calls[1],
-    };
-    let status = serve(
-        rt,
-        arguments,
-        &FakeFiles { files },
-        &mut out,
-        &mut err,
-        false,
-    );
-    if status == Exit::Broken as u8 {
-        return Err(Fail::new("out of memory"));
-    }
-    Ok((status, out.bytes, err.bytes))
-}
-
-/// Compares what such a call writes, and its status, with those of a call whose output doesn't fail.
-fn expect_cut<R: Abort + Threads + Wait + Sync + AllocGlobal>(
-    rt: &R,
-    arguments: &[&str],
-    files: &[FakeFile<'_>],
-    calls: usize,
-    (status, wanted): (u8, &str),
-) -> Result<(), Fail> {
-    let (got, out, err) = call_failing(rt, arguments, files, [calls, usize::MAX])?;
-    let is_whole = calls > wanted.len();
-    let status = if is_whole { status } else { 2 };
-    assert_eq!(rt; got, status, "after {calls} calls");
-    let told = if is_whole {
-        ""
-    } else {
-        "cannot write standard output\n"
-    };
-    assert_eq!(rt; err.as_slice(), told.as_bytes(), "after {calls} calls");
-    let count = calls.min(wanted.len());
-    assert_eq!(rt;
-        out.as_slice(),
-        &wanted.as_bytes()[..count],
-        "after {calls} calls"
-    );
-    Ok(())
-}
+const NO_MEMORY: Failure<'static> = Failure {
+    kind: ErrorKind::OutOfMemory,
+    status: 5,
+    told: "out of memory\n",
+};
 
 const TEXT: &str = "class APPLICATION create make feature make do print (8) end end";
 
-/// Arguments, and the status and the output of their call.
-const CALLS: [(&[&str], u8, &str); 3] = [
-    (&["scoop", "check", "a.e"], 0, "ok\n"),
-    (&["scoop", "check", "b.e"], 1, "refused C6 NoRoot\n"),
-    (
-        &["scoop", "run", "a.e"],
-        0,
-        "handler 0 free refused 0 output 1\n8\nstopped idle\n",
-    ),
-];
-
-#[test]
-fn ends_with_2_where_the_output_fails(rt: HostRuntime) -> Result<(), Fail> {
+/// A call of this status prints this: where the output fails so, as much of it as was taken.
+fn expect_cut<R: Abort + Threads + Wait + Sync + AllocGlobal>(
+    rt: &R,
+    failure: Failure<'_>,
+    words: &str,
+    (status, printed): (u8, &str),
+) -> Result<(), Fail> {
     let files = [FakeFile::new("a.e", TEXT), FakeFile::new("b.e", "")];
-    for &(arguments, status, wanted) in &CALLS {
-        // One call for each byte, and one to flush.
-        for calls in 0..wanted.len() + 2 {
-            expect_cut(&rt, arguments, &files, calls, (status, wanted))?;
-        }
+    // One call for each byte, and one to flush.
+    for calls in 0..printed.len() + 2 {
+        let mut call = Call::of(words, FakeFiles::of(rt.alloc(), &files));
+        call.out = Patience {
+            calls_left: calls,
+            kind: failure.kind,
+        };
+        let taken = printed.get(..calls).unwrap_or("");
+        let wanted = if calls > printed.len() {
+            (status, printed, "")
+        } else {
+            (failure.status, taken, failure.told)
+        };
+        expect(rt, call, wanted)?;
     }
     Ok(())
 }
 
-/// Arguments whose calls tell a fault.
-const FAULTY: [&[&str]; 3] = [
-    &["scoop", "run"],
-    &["scoop", "run", "--root", "A", "a.e"],
-    &["scoop", "run", "a.e"],
-];
+fn expect_cuts<R: Abort + Threads + Wait + Sync + AllocGlobal>(
+    rt: &R,
+    failure: Failure<'_>,
+) -> Result<(), Fail> {
+    expect_cut(rt, failure, "scoop check a.e", (0, "ok\n"))?;
+    let refused = (1, "refused C6 NoRoot\n");
+    expect_cut(rt, failure, "scoop check b.e", refused)?;
+    let report = "handler 0 free refused 0 output 1\n8\nstopped idle\n";
+    expect_cut(rt, failure, "scoop run a.e", (0, report))
+}
+
+#[test]
+fn ends_with_2_or_5_where_the_output_fails(rt: HostRuntime) -> Result<(), Fail> {
+    expect_cuts(&rt, BROKEN)?;
+    expect_cuts(&rt, NO_MEMORY)
+}
+
+/// Calls that tell a fault.
+const FAULTY: &str = "scoop run
+scoop run --root A a.e
+scoop run a.e";
 
 #[test]
 fn keeps_its_status_where_standard_error_fails(rt: HostRuntime) -> Result<(), Fail> {
-    for &arguments in &FAULTY {
+    for words in FAULTY.lines() {
         for calls in 0..40 {
-            let (status, out, _) = call_failing(&rt, arguments, &[], [usize::MAX, calls])?;
-            let line = line_of(rt.alloc(), arguments)?;
-            assert_eq!(rt; status, 2, "for {line}after {calls} calls");
-            assert!(rt; out.is_empty(), "for {line}");
+            let mut call = Call::of(words, FakeFiles::of(rt.alloc(), &[]));
+            call.err = Patience {
+                calls_left: calls,
+                kind: ErrorKind::BrokenPipe,
+            };
+            let said = answer_of(&rt, call)?;
+            if said.status == Exit::Broken as u8 {
+                return Err(Fail::new("out of memory"));
+            }
+            assert_eq!(rt; said.status, 2, "of {words}, after {calls} calls");
+            assert_eq!(rt; said.out.len(), 0, "of {words}, after {calls} calls");
         }
     }
     Ok(())
