@@ -37,7 +37,9 @@ impl<'t> Phrase<'t> {
 /// Adds the phrases, one behind the other.
 pub fn push_phrases(lines: &mut Lines, phrases: &[Phrase<'_>]) {
     for phrase in phrases {
-        lines.push_all(&[phrase.before, phrase.part, phrase.behind]);
+        lines.push(phrase.before);
+        lines.push(phrase.part);
+        lines.push(phrase.behind);
     }
 }
 
