@@ -184,7 +184,7 @@ take-short (f ∷ fs) (suc i) =
 -- sound files are kept from being joined by their readers alone
 pub fault-of-sound : (files : List (List ℕ)) (i : ℕ) (fault : FileFault) → IsJoinFault files (record { file = i; fault = fault }) →
     AreSound files → IsReaderFault fault
-fault-of-sound files i (file_fault.Unreadable error) is sound = tt
+fault-of-sound files i (file_fault.Unreadable error) is sound = is.true_of_it
 fault-of-sound files i file_fault.OutOfMemory is sound = tt
 fault-of-sound files i (file_fault.NotUtf8 offset) is sound = is.true_of_it.1.0 (All-get_or IsUtf8 files i [] is.here sound.utf8)
 fault-of-sound files i file_fault.TooLong is sound =
@@ -223,3 +223,14 @@ told-all left of readers now names i files same many so-far told =
 pub or-fault : {A E : Type 0} (r : Result A E) (P : A → Type 0) (Q R : E → Type 0) → MatchResult r P R → MatchResult r P (λ e. Q e ⊎ R e)
 or-fault (Ok x) P Q R it = it
 or-fault (Err e) P Q R it = inr it
+
+-- what is said to be too long is, with the files behind it
+pub long-source : (files : List (List ℕ)) (why : JoinFault) → IsJoinFault files why → why.fault ≡ file_fault.TooLong →
+    max_source_bytes < length (source_text files)
+long-source files why is long =
+    let told : IsFileFault (get_or files why.file []) (max_source_bytes - length (source_text (take why.file files))) file_fault.TooLong =
+    rw long at is.true_of_it in
+    let size = length-more files why.file is.here in
+    let many : max_source_bytes - length (source_text (take why.file files)) ≤ length (unmarked (get_or files why.file [])) = told in
+    let part = take-short files (why.file + 1) in
+    omega (arith, size, many, part)

@@ -1,5 +1,7 @@
--- What is left to be read of a file by name.
-use Rattle.std.specs.Prelude.{ℕ, List, [], Option, Some}
+-- What is read of a file by name.
+use Rattle.std.specs.Prelude.{ℕ, Bool, true, false, List, [], Option, Some}
+use Rattle.sc_source.specs.declared.files.SystemReader.{SystemReader}
+use Rattle.sc_source.specs.declared.files.SystemReader.TheVariants as system
 use Rattle.sc_source.specs.declared.files.FileState.{FileState}
 use Rattle.sc_source.specs.declared.files.FileState.TheVariants as state
 
@@ -8,3 +10,8 @@ abbrev pub left_of : {R : Type 0} → (R → Option (List ℕ)) → Option (List
 left_of of_reader text state.Unopened = text
 left_of of_reader text (state.Open reader) = of_reader reader
 left_of of_reader text state.AtEnd = Some []
+
+-- whether it reads standard input
+abbrev pub is_input : {F I : Type 0} → SystemReader F I → Bool
+is_input (system.File file) = false
+is_input (system.Input input) = true

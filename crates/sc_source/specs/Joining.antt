@@ -1,9 +1,12 @@
 -- What joining the files of a system comes to.
-use Rattle.std.specs.Prelude.{ℕ, zero, suc, ◌≡◌, ◌+◌, ◌-◌, ◌<◌, ◌≤◌, List, [], ◌∷◌, Option, Some, length, take, drop, map}
+use Rattle.std.specs.Prelude.{ℕ, zero, suc, ◌≡◌, ◌≢◌, ◌+◌, ◌-◌, ◌<◌, ◌≤◌, List, [], ◌∷◌, Option, Some, length, take, drop, map}
 use Rattle.std.specs.List.{All, slice_index_or}
 use Rattle.std.specs.Str.{IsUtf8, IsValidUpTo, valid_up_to}
 use Rattle.std.specs.declared.str.Utf8Error.{Utf8Error}
 use Rattle.std.specs.Io.KnownBytes.{Consumes}
+use Rattle.std.specs.IoError.{error_kind}
+use Rattle.std.specs.declared.io.ErrorKind.{ErrorKind}
+use Rattle.std.specs.declared.io.ErrorKind.TheVariants as kind
 use Rattle.sc_text.specs.Spelling.{max_source_bytes}
 use Rattle.sc_source.specs.Source.{File, joined_texts, texts_of, unmarked}
 use Rattle.sc_source.specs.declared.source.JoinFault.{JoinFault}
@@ -24,9 +27,20 @@ no_memory = fault.OutOfMemory
 abbrev pub not_utf8 : Utf8Error → FileFault
 not_utf8 error = fault.NotUtf8 (valid_up_to error)
 
+-- A reader failed for good: a read that was interrupted is made again, and want of memory is told as that.
+abbrev pub IsForGood : ErrorKind → Type 0
+IsForGood why = (why ≢ kind.Interrupted) × (why ≢ kind.OutOfMemory)
+
+-- Where a reader is said to have failed it did so for good.
+abbrev pub FailsForGood : FileFault → Type 0
+FailsForGood (fault.Unreadable error) = IsForGood (error_kind error)
+FailsForGood fault.OutOfMemory = Unit {0}
+FailsForGood fault.TooLong = Unit {0}
+FailsForGood (fault.NotUtf8 offset) = Unit {0}
+
 -- The reader failed, or memory ran out.
 abbrev pub IsReaderFault : FileFault → Type 0
-IsReaderFault (fault.Unreadable error) = Unit {0}
+IsReaderFault (fault.Unreadable error) = IsForGood (error_kind error)
 IsReaderFault fault.OutOfMemory = Unit {0}
 IsReaderFault fault.TooLong = ⊥
 IsReaderFault (fault.NotUtf8 offset) = ⊥
@@ -35,14 +49,14 @@ IsReaderFault (fault.NotUtf8 offset) = ⊥
 abbrev pub IsReadFault : List ℕ → ℕ → FileFault → Type 0
 IsReadFault file room fault.TooLong = room ≤ length (unmarked file)
 IsReadFault file room (fault.NotUtf8 offset) = ⊥
-IsReadFault file room (fault.Unreadable error) = Unit {0}
+IsReadFault file room (fault.Unreadable error) = IsForGood (error_kind error)
 IsReadFault file room fault.OutOfMemory = Unit {0}
 
 -- The same, where the file is to be UTF-8 too.
 abbrev pub IsFileFault : List ℕ → ℕ → FileFault → Type 0
 IsFileFault file room fault.TooLong = room ≤ length (unmarked file)
 IsFileFault file room (fault.NotUtf8 offset) = (length (unmarked file) < room) × (¬ IsUtf8 file × IsValidUpTo file offset)
-IsFileFault file room (fault.Unreadable error) = Unit {0}
+IsFileFault file room (fault.Unreadable error) = IsForGood (error_kind error)
 IsFileFault file room fault.OutOfMemory = Unit {0}
 
 -- ---- the files of a system

@@ -1,8 +1,9 @@
 //! Files by name.
 
-ghost use Rattle.std.specs.Prelude.{◌≡◌, ◌<◌, ◌⊎◌, ℕ, List, Option, None, Some, IfErr, IfOk, IfSome, IsErr, MatchResult, length, map};
+ghost use Rattle.std.specs.Prelude.{◌≡◌, ◌<◌, ◌⊎◌, ◌↔◌, ℕ, List, Option, None, Some, IfErr, IfOk, IfSome, IsErr, IsTrue, MatchResult, codes, length, map};
 ghost use Rattle.sc_text.specs.Spelling.{max_source_bytes};
-ghost use Rattle.sc_source.specs.Joining.{AreJoined, AreSound, AreTold, IsJoinFault, IsReaderFault, no_memory, source_text};
+ghost use Rattle.sc_source.specs.Joining.{AreJoined, AreSound, AreTold, FailsForGood, IsJoinFault, IsReaderFault, no_memory, source_text};
+ghost use Rattle.sc_source.specs.Files.{is_input};
 ghost use Rattle.sc_source.specs.Source.{names_of};
 
 use crate::source::{JoinFault, Source};
@@ -57,7 +58,10 @@ impl<'r, R: rt::Files + Input + AllocGlobal> Files for SystemFiles<'r, R> {
 
     type Writer = SystemWriter<R::File>;
 
-    fn reader(&self, name: &str) -> io::Result<SystemReader<R::File, R::Reader>> {
+    fn reader(&self, name: &str) -> io::Result<SystemReader<R::File, R::Reader>>
+        ensures source { IfOk result (λ reader. IsTrue (is_input reader) ↔ name.now ≡ codes "-") }
+        ensures told { IfOk result (λ reader. IfSome (None) (λ (bytes : List ℕ). None ≡ Some bytes)) }
+    {
         if name == "-" {
             return Ok(SystemReader::Input(self.rt.reader()));
         }
@@ -153,6 +157,7 @@ pub fn read_source<F: Files>(alloc: Global, files: &F, names: &[&str]) -> Result
     ensures named { IfOk result (λ source. names_of source ≡ map (λ name. name.now) names.now) }
     ensures which { let named = map (λ name. name.now) names.now in
         IfErr result (λ why. (why.fault ≡ no_memory) ⊎ (why.file < length named)) }
+    ensures failed { IfErr result (λ why. FailsForGood why.fault) }
 {
     let mut readers = Vec::with_capacity(alloc, names.len())?;
     for name in names {

@@ -4,7 +4,7 @@ ghost use Rattle.std.specs.Prelude.{◌≡◌, ◌+◌, ◌-◌, ◌<◌, ◌≤
 ghost use Rattle.sc_text.specs.Spelling.{max_source_bytes};
 ghost use Rattle.std.specs.Io.KnownBytes.{Consumes, IsAtEnd};
 ghost use Rattle.sc_source.specs.Source as spec;
-ghost use Rattle.sc_source.specs.Joining.{no_memory, not_utf8, IsReadFault, IsReaderFault, TakesAtMost};
+ghost use Rattle.sc_source.specs.Joining.{no_memory, not_utf8, FailsForGood, IsReadFault, IsReaderFault, TakesAtMost};
 ghost use Rattle.sc_source.specs.Internal.Blocks.{TakesMore};
 
 use std::alloc::{AllocError, Global};
@@ -54,6 +54,7 @@ pub fn read_bytes<R: Read>(alloc: Global, reader: &mut R, room: usize) -> Result
     ensures short { IfOk result (λ file. length (spec.unmarked file.items) < room) }
     ensures ok { IfOk result (λ file. IfSome (R.remaining reader.old) (λ told. file.items ≡ told)) }
     ensures err { IfErr result (λ fault. IfSome (R.remaining reader.old) (λ told. IsReadFault told room fault)) }
+    ensures failed { IfErr result FailsForGood }
     ensures fits { IfSome (R.remaining reader.old) (λ told. length (spec.unmarked told) < room → IfErr result IsReaderFault) }
     ensures too_long { IfSome (R.remaining reader.old) (λ told. room ≤ length (spec.unmarked told) → IsErr result) }
     ensures end { OnOk result (IsAtEnd (R.remaining reader.new)) }
@@ -71,7 +72,7 @@ pub fn read_bytes<R: Read>(alloc: Global, reader: &mut R, room: usize) -> Result
             Progress::End => return Err(FileFault::TooLong),
         }
     }
-    Err(FileFault::Unreadable(io::Error::from(ErrorKind::Interrupted)))
+    Err(FileFault::Unreadable(io::Error::from(ErrorKind::TimedOut)))
 }
 
 /// How far a file is read.

@@ -5,7 +5,7 @@ ghost use Rattle.std.specs.List.{All};
 ghost use Rattle.std.specs.Str.{IsUtf8};
 ghost use Rattle.std.specs.Io.KnownBytes.{IsAtEnd};
 ghost use Rattle.sc_text.specs.Spelling.{max_source_bytes};
-ghost use Rattle.sc_source.specs.Joining.{AreJoined, AreSound, AreTold, IsFileFault, IsJoinFault, IsReaderFault, TakesAtMost, names_for, no_memory, source_text};
+ghost use Rattle.sc_source.specs.Joining.{AreJoined, AreSound, AreTold, FailsForGood, IsFileFault, IsJoinFault, IsReaderFault, TakesAtMost, names_for, no_memory, source_text};
 ghost use Rattle.sc_source.specs.Internal.Files.{files_in};
 ghost use Rattle.sc_source.specs.Source as spec;
 
@@ -112,6 +112,7 @@ impl Source {
         ensures ended { OnOk result (All (λ reader. IsAtEnd (R.remaining reader)) readers.new) }
         ensures unread { IfErr result (λ fault. drop (fault.file + 1) readers.new ≡ drop (fault.file + 1) readers.old) }
         ensures which { IfErr result (λ why. why.file < length readers.old) }
+        ensures failed { IfErr result (λ why. FailsForGood why.fault) }
     {
         let mut source = Source::new(alloc);
         for (file, reader) in readers.iter_mut().enumerate() {
@@ -134,6 +135,7 @@ impl Source {
             × ((length (spec.unmarked file) < spec.room_after self.old)
             × (self.new ≡ self.old ++ record { name = name.now; text = spec.unmarked file } ∷ [])))) }
         ensures err { IfErr result (λ fault. IfSome (R.remaining reader.old) (λ file. IsFileFault file (spec.room_after self.old) fault)) }
+        ensures failed { IfErr result FailsForGood }
         ensures named { OnOk result (spec.names_of self.new ≡ spec.names_of self.old ++ name.now ∷ []) }
         ensures unchanged { OnErr result (self.new ≡ self.old) }
         ensures end { OnOk result (IsAtEnd (R.remaining reader.new)) }
