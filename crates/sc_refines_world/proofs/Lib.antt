@@ -30,3 +30,4 @@ mod Turned
 mod Waiting
 mod Worlds
 mod OneRun
+mod BadStates

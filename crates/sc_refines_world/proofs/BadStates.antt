@@ -1,0 +1,321 @@
+-- States of which the headline doesn't hold, each for one of its parts: whatever the system is, that part refuses it.
+use Rattle.std.proofs.Common.{ℕ, suc, ◌≡◌, ◌<◌, ◌==◌, ◌⊎◌, inl, inr, Bool, true, false, List, [], ◌∷◌, Some, None, length, refl, ap, sym, ◌∙◌, arith}
+use Rattle.std.specs.Prelude.{pos, map, Contains, if◌then◌else◌}
+use Rattle.sc_class.specs.declared.identity.ClassId.TheVariants as class
+use Rattle.sc_tree.specs.Plain.{System, no_instrs}
+use Rattle.sc_proctype.specs.declared.entity_type.EntityType.{EntityType}
+use Rattle.sc_proctype.specs.declared.tag.Tag.{Tag}
+use Rattle.sc_proctype.specs.declared.tag.Tag.TheVariants as tag
+use Rattle.sc_rules.specs.declared.position.Role.{Role}
+use Rattle.sc_rules.specs.declared.position.Role.TheVariants as role
+use Rattle.sc_lockpass.specs.Rights.{Rights, unreserved}
+use Rattle.sc_model.specs.declared.cause.Cause.{Cause}
+use Rattle.sc_model.specs.declared.cause.Cause.TheVariants as cause
+use Rattle.sc_model.specs.Chains.{WaitsFor, waits}
+use Rattle.sc_model.specs.Environments.{Binding, bind, known_of}
+use Rattle.sc_model.specs.Fits.{Fits, IsUnset}
+use Rattle.sc_model.specs.Handlers.{Awaits, Called, Calls, Failed, Frame, Handler, InCall, Origin, Reply, Request, Requested, Runs, Stage, World, new_handler}
+use Rattle.sc_model.specs.Objects.{Object, fresh_object}
+use Rattle.sc_model.specs.Routines.{Routine, Text}
+use Rattle.sc_model.specs.Steps.{Unqualified}
+use Rattle.sc_model.specs.Values.{Attached, Integer, Reference, Void}
+use Rattle.sc_machine_rights.specs.Headline.{topmost}
+use Rattle.sc_machine_values.specs.Fitting.{IsThere, is_due, is_made}
+use Rattle.sc_machine_values.specs.Places.{StandsAs, attribute, no_names}
+use Rattle.sc_machine_values.specs.Steps.{is_excluded}
+use Rattle.sc_refines_world.specs.Moving.{Begins, FramesMove, HasRequestAt, call, end, fall, go_on, return, stay, take_callback, take_next}
+use Rattle.sc_refines_world.specs.Refining.{HasHeadline}
+
+-- ---- states
+
+-- two handlers, and who holds whom
+abbrev two : Handler → Handler → Rights → World
+two x y r = record { count = 2; handlers = λ k. if k == 0 then x else (if k == 1 then y else new_handler); rights = r }
+
+-- the first of these, beside a new one that nobody holds
+abbrev alone : Handler → World
+alone x = two x new_handler unreserved
+
+abbrev object_of : ℕ → List Binding → Object
+object_of k bs = record { class = k; attributes = bs }
+
+-- the first object of the handler, of the first class
+abbrev first_of : ℕ → Reference
+first_of h = record { handler = h; number = 1; class = 0 }
+
+abbrev type_of : Tag → EntityType
+type_of t = record { attached = true; tag = t; class = class.Any }
+
+abbrev text : Text
+text = record { class = 0; formals = []; result = None }
+
+-- a routine that does nothing
+abbrev routine : Routine
+routine = record { name = []; text = text; locals = []; body = no_instrs; contract = text; require = []; ensure = [] }
+
+-- it runs on the first object of its handler
+abbrev frame : Origin → Stage → Frame
+frame o how = record {
+  current = first_of 0;
+  routine = routine;
+  origin = o;
+  stage = how;
+  text = text;
+  environment = [];
+  result = None;
+  olds = [];
+  tasks = [];
+  values = [];
+  reserved = [];
+  blocks = [];
+  mark = [];
+}
+
+-- a call of the first object of the handler by another one
+abbrev request : ℕ → ℕ → Bool → Request
+request p h is_waited =
+    record { poster = Some p; target = first_of h; errand = Calls []; actuals = []; is_waited = is_waited; passed = None }
+
+-- one of a list of one
+first : {A : Type 0} (x : A) → Contains (x ∷ []) x
+first x = (0, omega arith, refl)
+
+none-of-none : {A : Type 0} (x : A) → Contains [] x → ⊥
+none-of-none x is = omega (arith, is.1)
+
+apart : true ≡ false → ⊥
+apart e = cc
+
+none-is-some : {A : Type 0} {x : A} → None ≡ Some x → ⊥
+none-is-some e = cc
+
+-- ---- failures that are excluded
+
+abbrev failed_by : Cause → Handler
+failed_by why = record new_handler { failure = Some why }
+
+-- A handler has failed by F13, F14, F15 or F16.
+pub failed : (most : ℕ) (s : System) (why : Cause) → is_excluded why ≡ true → HasHeadline most s (alone (failed_by why)) → ⊥
+failed most s why is h =
+    let not_excluded : is_excluded why ≡ false = h.no_turn_is_excluded 2 0 why refl in
+    apart (sym is ∙ not_excluded)
+
+pub excluded_are : (is_excluded cause.NotHeld ≡ true) × (is_excluded cause.ForeignObject ≡ true)
+    × (is_excluded cause.VoidTarget ≡ true) × (is_excluded cause.BadCode ≡ true)
+excluded_are = (refl, refl, refl, refl)
+
+-- One fails so in its next turn: its topmost frame is in a call.
+pub fails_next : (most : ℕ) (s : System) →
+    HasHeadline most s (alone (record new_handler { stack = frame (Called Unqualified) (InCall None) ∷ [] })) → ⊥
+fails_next most s h = apart (h.no_turn_is_excluded 0 0 cause.BadCode refl)
+
+-- ---- whose is what
+
+-- An object is of a class that isn't there.
+pub of_no_class : (most : ℕ) (s : System) →
+    HasHeadline most s (alone (record new_handler { objects = object_of (length s.classes) [] ∷ [] })) → ⊥
+of_no_class most s h =
+    let is : length s.classes < length s.classes =
+    (h.objects_are_of_classes 0 (object_of (length s.classes) []) (omega arith) (first (object_of (length s.classes) []))).is_class in
+    omega (arith, is)
+
+-- An object has one attribute more than its class.
+abbrev more : System → Object
+more s = object_of 0 (bind [] (type_of tag.Own) role.Local Void ∷ (fresh_object s 0).attributes)
+
+pub has_more : (most : ℕ) (s : System) → HasHeadline most s (alone (record new_handler { objects = more s ∷ [] })) → ⊥
+has_more most s h =
+    let same = (h.objects_are_of_classes 0 (more s) (omega arith) (first (more s))).has_attributes in
+    let long : suc (length (map known_of (fresh_object s 0).attributes)) ≡ length (map known_of (fresh_object s 0).attributes) = ap length same in
+    omega (arith, long)
+
+-- A reference leads to a handler that isn't there.
+abbrev lost : Binding
+lost = bind [] (type_of tag.Any) role.Local (Attached (first_of 7))
+
+not-there : (x : Handler) → IsThere (alone x) (first_of 7) → ⊥
+not-there x (is_made below at of) = omega (arith, below)
+not-there x (is_due below none next target makes number) = omega (arith, below)
+
+pub leads_nowhere : (most : ℕ) (s : System) → HasHeadline most s (alone (record new_handler { objects = object_of 0 (lost ∷ []) ∷ [] })) → ⊥
+leads_nowhere most s h =
+    let x : Handler = record new_handler { objects = object_of 0 (lost ∷ []) ∷ [] } in
+    let stands : StandsAs s (alone x) 0 no_names lost.value lost.type true =
+    attribute (omega arith) (first (object_of 0 (lost ∷ []))) (first lost) in
+    not-there x (h.references_lead 0 no_names (first_of 7) (type_of tag.Any) true stands)
+
+-- An object of another handler stands where a type says that it is of this one.
+abbrev stray : Binding
+stray = bind [] (type_of tag.Own) role.Local (Attached (first_of 1))
+
+pub is_anothers : (most : ℕ) (s : System) → HasHeadline most s (alone (record new_handler { objects = object_of 0 (stray ∷ []) ∷ [] })) → ⊥
+is_anothers most s h =
+    let x : Handler = record new_handler { objects = object_of 0 (stray ∷ []) ∷ [] } in
+    let stands : StandsAs s (alone x) 0 no_names stray.value stray.type true =
+    attribute (omega arith) (first (object_of 0 (stray ∷ []))) (first stray) in
+    let own : 1 ≡ 0 = h.non_separate_is_own 0 no_names (first_of 1) (type_of tag.Own) true stands refl in
+    omega (arith, own)
+
+-- An attribute of type BOOLEAN has an INTEGER.
+abbrev boolean : EntityType
+boolean = record { attached = true; tag = tag.Own; class = class.Boolean }
+
+abbrev wrong : Binding
+wrong = bind [] boolean role.Local (Integer (pos 0))
+
+unfit : (s : System) → Fits s 0 no_names (Integer (pos 0)) boolean ⊎ ((true ≡ true) × IsUnset (Integer (pos 0)) boolean) → ⊥
+unfit s (inl fits) = apart (sym fits)
+unfit s (inr unset) =
+    let is : Integer (pos 0) ≡ Void = unset.1.0 in
+    cc
+
+pub is_of_another_type : (most : ℕ) (s : System) → HasHeadline most s (alone (record new_handler { objects = object_of 0 (wrong ∷ []) ∷ [] })) → ⊥
+is_of_another_type most s h =
+    let x : Handler = record new_handler { objects = object_of 0 (wrong ∷ []) ∷ [] } in
+    let stands : StandsAs s (alone x) 0 no_names wrong.value wrong.type true =
+    attribute (omega arith) (first (object_of 0 (wrong ∷ []))) (first wrong) in
+    unfit s (h.values_fit 0 no_names (Integer (pos 0)) boolean true stands)
+
+-- A frame runs on an object of another handler.
+pub runs_on_anothers : (most : ℕ) (s : System) →
+    HasHeadline most s (alone (record new_handler { stack = record (frame (Called Unqualified) Runs) { current = first_of 1 } ∷ [] })) → ⊥
+runs_on_anothers most s h =
+    let f : Frame = record (frame (Called Unqualified) Runs) { current = first_of 1 } in
+    let own : 1 ≡ 0 = (h.frames_run_on_own 0 f (omega arith) (first f)).current_is_own in
+    omega (arith, own)
+
+-- A frame runs on an object that isn't there.
+pub runs_on_none : (most : ℕ) (s : System) →
+    HasHeadline most s (alone (record new_handler { stack = frame (Called Unqualified) Runs ∷ [] })) → ⊥
+runs_on_none most s h =
+    let f : Frame = frame (Called Unqualified) Runs in
+    none-is-some (h.frames_run_on_own 0 f (omega arith) (first f)).current_is_there.is_there
+
+-- A request stands at a handler that isn't its target's.
+pub stands_elsewhere : (most : ℕ) (s : System) →
+    HasHeadline most s (alone (record new_handler { queue = request 1 1 false ∷ [] })) → ⊥
+stands_elsewhere most s h =
+    let here : 1 ≡ 0 = (h.requests_stand_at_targets 0 (request 1 1 false) (omega arith) (first (request 1 1 false))).target_is_here in
+    omega (arith, here)
+
+-- ---- who waits
+
+-- A handler waits for another one at which nothing of it stands.
+abbrev waiter : Handler
+waiter = record new_handler { stack = frame (Called Unqualified) (Awaits 1 None false) ∷ [] }
+
+without : (None ≡ Some Failed) ⊎ HasRequestAt (alone waiter) 0 1 → ⊥
+without (inl told) = none-is-some told
+without (inr has) = none-of-none has.request has.stands
+
+pub waits_for_nothing : (most : ℕ) (s : System) → HasHeadline most s (alone waiter) → ⊥
+waits_for_nothing most s h = without (h.waiters_have_requests 0 1 (topmost refl refl refl) refl)
+
+-- It waits for one that nobody holds.
+lives : (b c : Bool) → (if b then waiter else (if c then new_handler else new_handler)).failure ≡ None
+lives true c = refl
+lives false true = refl
+lives false false = refl
+
+nobody : (z : ℕ) → (None ≡ Some z) ⊎ (None ≡ Some z) → ⊥
+nobody z (inl is) = none-is-some is
+nobody z (inr is) = none-is-some is
+
+pub waits_for_free : (most : ℕ) (s : System) → HasHeadline most s (alone waiter) → ⊥
+waits_for_free most s h =
+    let awaits : WaitsFor (alone waiter) 0 1 = waits {f = frame (Called Unqualified) (Awaits 1 None false)} (first (frame (Called Unqualified) (Awaits 1 None false))) refl in
+    let held = h.chains_hold 0 1 awaits (λ z among. lives (z == 0) (z == 1)) in
+    nobody held.0 held.1
+
+-- A handler that waits for none is told of a failure.
+idle-waits : (k : ℕ) → WaitsFor (alone (record new_handler { answer = Some Failed })) 0 k → ⊥
+idle-waits k (waits {f = f} among stage) = none-of-none f among
+
+pub told_of_nothing : (most : ℕ) (s : System) → HasHeadline most s (alone (record new_handler { answer = Some Failed })) → ⊥
+told_of_nothing most s h =
+    let told = h.only_waiters_are_told 0 refl in
+    idle-waits told.0 told.1
+
+-- A handler waits for one that has failed, and isn't told.
+pub waits_untold : (most : ℕ) (s : System) → HasHeadline most s (two waiter (failed_by cause.Check) unreserved) → ⊥
+waits_untold most s h = none-is-some (h.waiters_are_told 0 1 (topmost refl refl refl) refl)
+
+-- What the entry of a frame that runs has reserved is nobody's.
+pub holds_nothing : (most : ℕ) (s : System) →
+    HasHeadline most s (alone (record new_handler { stack = record (frame (Called Unqualified) Runs) { reserved = 1 ∷ [] } ∷ [] })) → ⊥
+holds_nothing most s h =
+    none-is-some (h.reserved_are_held 0 1 (record (frame (Called Unqualified) Runs) { reserved = 1 ∷ [] }) [] (1 ∷ []) refl refl refl
+    (first (1 ∷ [])) (first 1))
+
+-- A formal of a frame that runs lies on a handler that isn't held, and so does the name of a block.
+abbrev knowing : Role → Handler
+knowing r = record new_handler { stack = record (frame (Called Unqualified) Runs) { environment = bind [] (type_of tag.Any) r (Attached (first_of 1)) ∷ [] } ∷ [] }
+
+pub formal_is_unheld : (most : ℕ) (s : System) → HasHeadline most s (alone (knowing role.Formal)) → ⊥
+formal_is_unheld most s h =
+    apart (sym (h.formals_are_held 0 1 (record (frame (Called Unqualified) Runs) { environment = bind [] (type_of tag.Any) role.Formal (Attached (first_of 1)) ∷ [] })
+    [] (Attached (first_of 1)) refl refl refl (first (Attached (first_of 1))) refl))
+
+pub name_is_unheld : (most : ℕ) (s : System) → HasHeadline most s (alone (knowing role.Block)) → ⊥
+name_is_unheld most s h =
+    apart (sym (h.names_are_held 0 1 (record (frame (Called Unqualified) Runs) { environment = bind [] (type_of tag.Any) role.Block (Attached (first_of 1)) ∷ [] })
+    [] (Attached (first_of 1)) refl refl refl (first (Attached (first_of 1))) refl))
+
+-- A callback stands at a handler that may be reserved.
+pub is_unkept : (most : ℕ) (s : System) → HasHeadline most s (alone (record new_handler { callback = Some (request 1 0 true) })) → ⊥
+is_unkept most s h = apart (h.targets_are_kept 0 (request 1 0 true) (first (request 1 0 true)))
+
+-- A callback stands beside a reply.
+pub comes_late : (most : ℕ) (s : System) →
+    HasHeadline most s (alone (record waiter { callback = Some (request 1 0 true); answer = Some (Reply None) })) → ⊥
+comes_late most s h = apart (h.callbacks_come_first 0 (request 1 0 true) refl)
+
+-- Who has a reply waits for another request, which may end.
+pub has_two : (most : ℕ) (s : System) →
+    HasHeadline most s (two (record new_handler { stack = frame (Requested (request 1 0 true)) Runs ∷ [] })
+    (record new_handler { answer = Some (Reply None) }) unreserved) → ⊥
+has_two most s h =
+    apart (h.replies_meet_none 0 1 (frame (Requested (request 1 0 true)) Runs) [] (request 1 0 true) refl refl refl refl refl refl refl refl)
+
+-- ---- turns
+
+-- the origin of the topmost frame
+abbrev origin_in : Origin → List Frame → Origin
+origin_in o [] = o
+origin_in o (f ∷ fs) = f.origin
+
+-- A handler without frames takes the first of its queue, which stays in it.
+pub stays_queued : (s : System) (w : World) (h : ℕ) (r : Request) →
+    FramesMove s w h (record new_handler { queue = r ∷ [] })
+    (record new_handler { queue = r ∷ []; stack = frame (Requested r) Runs ∷ [] }) → ⊥
+stays_queued s w h r (stay same) = cc
+stays_queued s w h r (go_on before after comes) = cc
+stays_queued s w h r (call before after comes begins) = cc
+stays_queued s w h r (return c v before origin after) = cc
+stays_queued s w h r (end q before origin after) = cc
+stays_queued s w h r (take_next q none queue taken) =
+    let long : 1 ≡ 2 = ap length queue in
+    omega (arith, long)
+stays_queued s w h r (take_callback q callback gone taken) = cc
+stays_queued s w h r (fall none fails) = cc
+
+-- The request that is taken begins a frame of another one.
+pub begins_anothers : (s : System) (w : World) (h : ℕ) →
+    FramesMove s w h (record new_handler { queue = request 1 0 true ∷ [] })
+    (record new_handler { stack = frame (Requested (request 1 0 false)) Runs ∷ [] }) → ⊥
+begins_anothers s w h (stay same) = cc
+begins_anothers s w h (go_on before after comes) = cc
+begins_anothers s w h (call before after comes begins) = cc
+begins_anothers s w h (return c v before origin after) = cc
+begins_anothers s w h (end q before origin after) = cc
+begins_anothers s w h (take_next q none queue (inl done)) = cc
+begins_anothers s w h (take_next q none queue (inr begun)) =
+    let is : Requested (request 1 0 false) ≡ Requested q =
+    ap (λ fs. origin_in (Called Unqualified) fs) begun.1 ∙ begun.2.origin_is in
+    cc
+begins_anothers s w h (take_callback q callback gone taken) = cc
+begins_anothers s w h (fall none fails) = cc
+
+-- A frame that has its body alone before it doesn't begin: the precondition comes first.
+pub skips_all : (o : Origin) → Begins o (record (frame o Runs) { tasks = [] }) → ⊥
+skips_all o begins = cc
