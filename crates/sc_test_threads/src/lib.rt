@@ -1,4 +1,4 @@
-//! Tests alone: systems that several workers run, beside replays of their records.
+//! Tests alone: systems that several workers run, beside replays of their records; and worlds that one thread plays.
 #![tactic(auto)]
 
 #[cfg(test)]
@@ -9,3 +9,5 @@ mod audits;
 mod runs;
 #[cfg(test)]
 mod together;
+#[cfg(test)]
+mod worlds;

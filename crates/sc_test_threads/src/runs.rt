@@ -114,7 +114,7 @@ fn replayed<R: Abort>(
     Ok(report)
 }
 
-fn text_of(bytes: Vec<u8>) -> Result<String, Fail> {
+pub fn text_of(bytes: Vec<u8>) -> Result<String, Fail> {
     match String::from_utf8(bytes) {
         Ok(text) => Ok(text),
         Err(_) => Err(Fail::from("a report that is no text")),

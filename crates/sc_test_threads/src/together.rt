@@ -224,7 +224,7 @@ feature
 end
 ";
 
-const RELAY_REPORT: &str = "handler 0 failed F8 refused 0 output 0
+pub const RELAY_REPORT: &str = "handler 0 failed F8 refused 0 output 0
 
 handler 1 free refused 0 output 0
 

@@ -1,0 +1,164 @@
+//! Worlds that one thread plays, number by number, also where memory is refused to a turn.
+
+use crate::runs::{load, text_of};
+use crate::together::{RELAY, RELAY_REPORT};
+use sc_lockpass::Version;
+use sc_world::{Turned, World};
+use std::alloc::AllocError;
+use std::process::Abort;
+use std::test::Fail;
+
+/// The turn of a handler. Where memory is refused to it nothing has changed, so that it can be made again.
+fn turn_again(world: &mut World<'_>, handler: u16) -> Result<Turned, AllocError> {
+    match world.turn(handler) {
+        Err(_) => world.turn(handler),
+        turned => turned,
+    }
+}
+
+/// A call back to the caller's handler.
+const CALLBACK: &str = "class APPLICATION create make
+feature
+    n: INTEGER
+    w: separate WORKER
+    make do create w go (w) print (n) end
+    go (x: separate WORKER) do x.serve (Current) end
+    bump do n := n + 1 print (n) end
+invariant n >= 0
+end
+class WORKER
+feature
+    serve (a: separate APPLICATION) do a.bump print (a.n) end
+end
+";
+
+/// Its turns, of which each moves.
+const CALLBACK_TURNS: [u16; 22] = [
+    0, 0, 0, 1, 0, 0, 1, 1, 1, 0, 0, 0, 1, 1, 0, 1, 1, 1, 0, 0, 0, 0,
+];
+
+const CALLBACK_REPORT: &str = "handler 0 free refused 0 output 2
+11
+handler 1 free refused 0 output 1
+1
+stopped idle
+";
+
+#[test]
+fn says_whether_a_turn_moves(rt: HostRuntime) -> Result<(), Fail> {
+    let program = load(&rt, rt.alloc(), CALLBACK)?;
+    let mut world = World::open(rt.alloc(), &program, Version::One)?;
+    for handler in &CALLBACK_TURNS {
+        let turned = turn_again(&mut world, *handler)?;
+        assert!(rt; matches!(turned, Turned::Moved));
+        // A handler that isn't there has no turn.
+        for other in [2, 63, 64, 255, 511, 512, 65535] {
+            let turned = turn_again(&mut world, other)?;
+            assert!(rt; matches!(turned, Turned::Nothing));
+        }
+    }
+    for handler in [0, 1] {
+        let turned = turn_again(&mut world, handler)?;
+        assert!(rt; matches!(turned, Turned::Nothing));
+    }
+    let report = text_of(world.report()?)?;
+    assert_eq!(rt; report.as_str(), CALLBACK_REPORT);
+    Ok(())
+}
+
+/// A handler that calls a routine of its own.
+const RAISING: &str = "class APPLICATION create make
+feature
+    n: INTEGER
+    make do raise print (n) end
+    raise do n := n + 1 end
+invariant n >= 0
+end
+";
+
+const RAISING_REPORT: &str = "handler 0 free refused 0 output 1
+1
+stopped idle
+";
+
+/// A buffer of one place, with a consumer that waits for the producer.
+const BUFFER: &str = "class APPLICATION create make
+feature
+    b: separate BUFFER
+    p: separate PRODUCER
+    c: separate CONSUMER
+    make do create b create c.make (b) create p.make (b) end
+end
+class BUFFER
+feature
+    item, count: INTEGER
+    put (v: INTEGER) require count = 0 do item := v count := 1 end
+    remove require count = 1 do count := 0 end
+invariant count = 0 or count = 1
+end
+class CONSUMER create make
+feature
+    make (x: separate BUFFER)
+        require x.count = 1
+        do print (x.item) x.remove end
+end
+class PRODUCER create make
+feature
+    make (x: separate BUFFER) require x.count = 0 do x.put (7) end
+end
+";
+
+const BUFFER_TURNS: [u16; 38] = [
+    0, 0, 0, 0, 0, 1, 2, 2, 2, 1, 2, 2, 2, 3, 3, 3, 1, 3, 3, 3, 3, 1, 1, 1, 2, 2, 1, 2, 2, 2, 1, 2,
+    2, 2, 2, 1, 1, 1,
+];
+
+const BUFFER_REPORT: &str = "handler 0 free refused 0 output 0
+
+handler 1 free refused 0 output 0
+
+handler 2 free refused 0 output 1
+7
+handler 3 free refused 0 output 0
+
+stopped idle
+";
+
+/// Systems, the turns of each, and its report then.
+const SYSTEMS: [(&str, &[u16], &str); 3] = [
+    (RAISING, &[0, 0, 0, 0, 0], RAISING_REPORT),
+    (BUFFER, &BUFFER_TURNS, BUFFER_REPORT),
+    (CALLBACK, &CALLBACK_TURNS, CALLBACK_REPORT),
+];
+
+/// The turns of these handlers lead a system to this report. Where memory is refused to one of them, so do the turns before it
+/// and then the rest.
+fn expect_report<R: Abort + AllocGlobal>(
+    rt: &R,
+    text: &str,
+    handlers: &[u16],
+    report: &str,
+) -> Result<(), Fail> {
+    let program = load(rt, rt.alloc(), text)?;
+    let mut world = World::open(rt.alloc(), &program, Version::One)?;
+    let (made, result) = world.turns_until(handlers);
+    if result.is_err() {
+        world.turns(handlers.get(made..).unwrap_or(&[]))?;
+    }
+    let told = text_of(world.report()?)?;
+    assert_eq!(rt; told.as_str(), report);
+    Ok(())
+}
+
+#[test]
+fn goes_on_where_memory_was_refused(rt: HostRuntime) -> Result<(), Fail> {
+    for &(text, handlers, report) in &SYSTEMS {
+        expect_report(&rt, text, handlers, report)?;
+    }
+    // Locks that are passed twice, then a failure: more rounds of the five handlers than there are turns.
+    let mut handlers = Vec::new(rt.alloc());
+    for turn in 0..200_u16 {
+        handlers.push(turn % 5)?;
+    }
+    expect_report(&rt, RELAY, handlers.as_slice(), RELAY_REPORT)
+}
