@@ -19,9 +19,6 @@ fn outcome_of<R: Read>(alloc: Global, reader: &mut R) -> Result<String, Fail> {
     }
 }
 
-/// A small record.
-const SMALL: &[u8; 25] = b"scoop record 1\n0 5\nend 1\n";
-
 /// A reader that gives one byte a call, and fails once at a call, with a kind of error.
 #[derive(Drop)]
 struct Failing<'a> {
@@ -87,32 +84,12 @@ fn with_line_feeds(alloc: Global, text: &str) -> Result<Vec<u8>, AllocError> {
     Ok(bytes)
 }
 
-/// Kinds of errors of readers, and what is told of them, if they end the reading.
-const KINDS: [(ErrorKind, Option<Outcome>); 3] = [
-    (ErrorKind::Other, Some(Outcome::Unreadable)),
-    (ErrorKind::OutOfMemory, Some(Outcome::OutOfMemory)),
-    (ErrorKind::Interrupted, None),
-];
-
 #[test]
 fn readers_that_fail_behind_the_line_at_fault_are_not_told(rt: HostRuntime) -> Result<(), Fail> {
-    for &(kind, failed) in &KINDS {
-        for &(bytes, clear, wanted) in &CLEAR {
-            for calls_left in 0..40 {
-                let mut reader = Failing {
-                    bytes,
-                    calls_left,
-                    kind,
-                };
-                let wanted = if calls_left < clear {
-                    failed.unwrap_or(wanted)
-                } else {
-                    wanted
-                };
-                let outcome = outcome_of(rt.alloc(), &mut reader);
-                assert_eq!(rt; outcome, wanted, "after {calls_left}");
-            }
-        }
+    for row in CLEAR.lines() {
+        expect_clear(&rt, row, ErrorKind::Other, Some("unreadable"))?;
+        expect_clear(&rt, row, ErrorKind::OutOfMemory, Some("out of memory"))?;
+        expect_clear(&rt, row, ErrorKind::Interrupted, None)?;
     }
     Ok(())
 }

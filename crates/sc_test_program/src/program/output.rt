@@ -33,11 +33,11 @@ const NO_MEMORY: Failure<'static> = Failure {
 const TEXT: &str = "class APPLICATION create make feature make do print (8) end end";
 
 /// A call of this status prints this: where the output fails so, as much of it as was taken.
-fn expect_cut<R: Abort + Threads + Wait + Sync + AllocGlobal>(
+fn expect_cut<'a, R: Abort + Threads + Wait + Sync + AllocGlobal>(
     rt: &R,
-    failure: Failure<'_>,
+    failure: Failure<'a>,
     words: &str,
-    (status, printed): (u8, &str),
+    (status, printed): (u8, &'a str),
 ) -> Result<(), Fail> {
     let files = [FakeFile::new("a.e", TEXT), FakeFile::new("b.e", "")];
     // One call for each byte, and one to flush.
@@ -48,12 +48,11 @@ fn expect_cut<R: Abort + Threads + Wait + Sync + AllocGlobal>(
             kind: failure.kind,
         };
         let taken = printed.get(..calls).unwrap_or("");
-        let wanted = if calls > printed.len() {
-            (status, printed, "")
+        if calls > printed.len() {
+            expect(rt, call, (status, printed, ""))?;
         } else {
-            (failure.status, taken, failure.told)
-        };
-        expect(rt, call, wanted)?;
+            expect(rt, call, (failure.status, taken, failure.told))?;
+        }
     }
     Ok(())
 }
