@@ -16,6 +16,8 @@ pub mod SystemComplete
 pub mod SystemSound
 pub mod SystemLaws
 pub mod TypeLaws
+pub mod OldOperands
+mod FirstFaults
 pub mod WellFormed
 pub mod EachTyped
 pub mod CallLaws

@@ -1,5 +1,5 @@
 -- Where a rule fails at an expression or in a part of it, judging refuses it.
-use Rattle.std.proofs.Common.{◌≡◌, ℕ, suc, ◌==◌, Bool, true, false, List, [], ◌∷◌, length, Option, Some, None, Ok, Err, refl, ap, sym, ◌∙◌, subst, arith}
+use Rattle.std.proofs.Common.{◌≡◌, ℕ, zero, suc, ◌==◌, Bool, true, false, List, [], ◌∷◌, length, Option, Some, None, Ok, Err, refl, ap, sym, ◌∙◌, subst, arith}
 use Rattle.std.proofs.lemmas.Option.{slice_get-map}
 use Rattle.std.specs.Prelude.{not, ◌&&◌, ◌||◌, is_some, if◌then◌else◌, slice_get}
 use Rattle.std.specs.Option.{option_map, option_map_or}
@@ -27,7 +27,7 @@ use Rattle.sc_rules.specs.Positions.{span_of, is_old, is_require, is_ensure, is_
 use Rattle.sc_rules.specs.Names.{RoutineContext, Entities, FormalType, of_expanded, Meaning, named, meaning_of}
 use Rattle.sc_rules.specs.Typing.{Typing, typing, is_foreign_type, known_handlers, known_handler, named_formal, takes, may_call, is_exported_to, old_stands, HasType, HasReceiver, implicit, explicit}
 use Rattle.sc_rules.specs.Sites.{Site, expression, instruction, instructions, branches, IsActual, first_actual, later_actual, Part, target_part, actual_part, operand_part, left_part, right_part, joined_left_part, joined_right_part, tested_part}
-use Rattle.sc_rules.specs.CallRules.{count, ActualAt, actual_here, actual_later, names_none, names_one, Untaken, differs, reference, Mismatches, first_pair, later_pair, AtName, unknown_name, wrong_count, procedure_as_value, query_as_instruction, impure, hidden, CallFails, detachable, uncontrolled, argument, reference_in_precondition, at_name}
+use Rattle.sc_rules.specs.CallRules.{count, ActualAt, actual_here, actual_later, names_none, names_one, names_missing, Untaken, differs, reference, Mismatches, first_pair, later_pair, AtName, unknown_name, wrong_count, procedure_as_value, query_as_instruction, impure, hidden, CallFails, detachable, uncontrolled, argument, reference_in_precondition, at_name}
 use Rattle.sc_rules.specs.TextRules.{ExpressionFails, void_use, no_result, in_call, operand, operands, joined_operands, old_outside, old_over_separate, misplaced_test, tested_type}
 use Rattle.sc_rules.specs.Judging.{Judged, ◌>>=◌, required, judge_type, judge_tested, judge_target, JudgedActual, judged_type, judged_types, formals_of, target_of, is_taken, rest, may_pass, judge_actuals, judge_use, judge_name, judge_actuals_and_name, judge_called, judge_operation, judge_result, judge, judge_receiver, judged_actuals, judge_given}
 use Rattle.sc_rules.specs.JudgingText.{judge_instr, judge_instrs, judge_branches}
@@ -144,6 +144,14 @@ unfolding judged_actuals
 found_at {h} {c} {n} (actual_here {es}) d = ap (λ j. Some (judged_type j)) (typed d)
 found_at (actual_later k) d = found_at k d
 
+-- nothing was found of an actual that is missing
+missing_at : (h : RoutineContext) (c : Context) (n : Entities) (es : Exprs) (y : ℕ) →
+    ((e : Expr) → ActualAt e es y → ⊥) → slice_get (judged_types (judged_actuals h c n es)) y ≡ None
+unfolding judged_actuals
+missing_at h c n no_exprs y f = refl
+missing_at h c n (expr_then e es) zero f = absurd (f e actual_here)
+missing_at h c n (expr_then e es) (suc y) f = missing_at h c n es y (λ d k. f d (actual_later k))
+
 -- what is combined stays the same where what is known of the formal that is named does
 same_tag : (t f : Tag) (ks ls : List Known) → ((y : ℕ) → named_formal f ≡ Some y → slice_get ks y ≡ slice_get ls y) →
     argument_tag t f ks ≡ argument_tag t f ls
@@ -179,6 +187,15 @@ untaken_refused {h} {c} {n} {all} {t} (differs {f} {a} {ks} (names_one {y} {e = 
       ap (conforms h.system a) (same_argument t f (known_handlers (judged_types (judged_actuals h c n all))) ks
           (λ z j. subst (λ z. slice_get (known_handlers (judged_types (judged_actuals h c n all))) z ≡ slice_get ks z) (same_name (named_formal f.tag) y z i j)
           (slice_get-map known_handler (judged_types (judged_actuals h c n all)) y ∙ ap (option_map known_handler) (found_at k g) ∙ sym l))),
+      e,
+    ) refl
+untaken_refused {h} {c} {n} {all} {t} (differs {f} {a} {ks} (names_missing {y} i m l) e) =
+    simp (
+      i,
+      missing_at h c n all y m,
+      ap (conforms h.system a) (same_argument t f (known_handlers (judged_types (judged_actuals h c n all))) ks
+          (λ z j. subst (λ z. slice_get (known_handlers (judged_types (judged_actuals h c n all))) z ≡ slice_get ks z) (same_name (named_formal f.tag) y z i j)
+          (slice_get-map known_handler (judged_types (judged_actuals h c n all)) y ∙ ap (option_map known_handler) (missing_at h c n all y m) ∙ sym l))),
       e,
     ) refl
 

@@ -29,9 +29,9 @@ use Rattle.sc_rules.specs.Types.{declared_tag, declared_type, is_marked, TypeFai
 use Rattle.sc_rules.specs.Positions.{span_of, is_old, is_and_then, is_require, is_ensure, is_condition, wants_pure, takes_void, operand_context, operand_position, shares_names}
 use Rattle.sc_rules.specs.declared.position.Role.TheVariants as role
 use Rattle.sc_rules.specs.Names.{RoutineName, RoutineContext, Entities, Entity, entity, test_type, FormalType, of_type, of_none, of_expanded, Signature, Meaning, unknown, target_untyped, named, current, print_signature, entity_or, entity_named, meaning_of_feature, meaning_of, is_qualified}
-use Rattle.sc_rules.specs.Typing.{Typing, typing, simple_typing, types, may_target, is_foreign_type, known_handlers, named_formal, has_type, named_actual_has_type, takes, takes_if_any, formals_take, is_value, passes_values, may_call, is_exported_to, is_testable, old_stands, HasType, number, truth, void, current_object, result, call, untyped_target_call, unary, binary, and_then, test, HasReceiver, implicit, explicit, HasTypes, none, more, Gives, by_test, by_both, nothing}
+use Rattle.sc_rules.specs.Typing.{Typing, typing, simple_typing, types, may_target, is_foreign_type, known_handlers, named_formal, is_untyped, names_untyped, takes, takes_if_any, formals_take, is_value, passes_values, may_call, is_exported_to, is_testable, old_stands, HasType, number, truth, void, current_object, result, call, untyped_target_call, unary, binary, and_then, test, HasReceiver, implicit, explicit, HasTypes, none, more, Gives, by_test, by_both, nothing}
 use Rattle.sc_rules.specs.Sites.{Site, expression, IsActual, first_actual, later_actual, Part, target_part, actual_part, operand_part, left_part, right_part, joined_left_part, joined_right_part, tested_part, itself, inside}
-use Rattle.sc_rules.specs.CallRules.{count, ActualAt, actual_here, actual_later, IsKnown, names_none, names_one, Untaken, differs, reference, Mismatches, first_pair, later_pair, AtName, unknown_name, wrong_count, procedure_as_value, query_as_instruction, impure, hidden, CallFails, detachable, uncontrolled, argument, reference_in_precondition, at_name}
+use Rattle.sc_rules.specs.CallRules.{count, ActualAt, actual_here, actual_later, IsKnown, names_none, names_one, names_missing, Untaken, differs, reference, Mismatches, first_pair, later_pair, AtName, unknown_name, wrong_count, procedure_as_value, query_as_instruction, impure, hidden, CallFails, detachable, uncontrolled, argument, reference_in_precondition, at_name}
 use Rattle.sc_rules.specs.TextRules.{ExpressionFails, void_use, no_result, in_call, operand, operands, joined_operands, old_outside, old_over_separate, misplaced_test, tested_type, at_expression, Fails, fails}
 use Rattle.sc_rules.specs.Judging.{Judged, ◌>>=◌, required, judge_type, judge_tested, judge_target, JudgedActual, judged_type, judged_types, formals_of, target_of, is_taken, rest, may_pass, judge_actuals, judge_use, judge_name, judge_actuals_and_name, judge_called, judge_operation, judge_result, judge, judge_receiver, judged_actuals, judge_given}
 use Rattle.sc_rules.proofs.Refusals.{Gave, gave, refuses, gave_then, gave_more, gave_map, gave_if, gave_required}
@@ -160,41 +160,57 @@ pub record KnownAt (h : RoutineContext) (c : Context) (n : Entities) (es : Exprs
   pub typed_so : HasType h c Source n actual (typing (Some type) is_separate)
   pub known_so : slice_get (known_handlers (judged_types rs)) y ≡ Some (known_of type.tag)
 
+-- what is known of the actual at a number, where one is there that has a type, or none is there
+pub data Knows (h : RoutineContext) (c : Context) (n : Entities) (es : Exprs) (rs : List JudgedActual) (y : ℕ) :
+    Type 0 where
+  knows_type : KnownAt h c n es rs y → Knows h c n es rs y
+  knows_missing : ((e : Expr) → ActualAt e es y → ⊥) → slice_get (known_handlers (judged_types rs)) y ≡ None →
+      Knows h c n es rs y
+
 first_known : (h : RoutineContext) (c : Context) (n : Entities) (e : Expr) (es : Exprs) (rs : List JudgedActual)
     (j : Judged Typing) → Told h c Source n e j →
-    has_type (Some (judged_type j)) ≡ true → KnownAt h c n (expr_then e es) ((span_of e, j) ∷ rs) zero
+    is_untyped (Some (judged_type j)) ≡ false → Knows h c n (expr_then e es) ((span_of e, j) ∷ rs) zero
 first_known h c n e es rs j (gave {x} d) i = of_type_of x.type x.is_separate d i
   where
-    of_type_of : (o : Option EntityType) (b : Bool) → HasType h c Source n e (typing o b) → has_type (Some o) ≡ true →
-        KnownAt h c n (expr_then e es) ((span_of e, Ok (typing o b)) ∷ rs) zero
+    of_type_of : (o : Option EntityType) (b : Bool) → HasType h c Source n e (typing o b) →
+        is_untyped (Some o) ≡ false →
+        Knows h c n (expr_then e es) ((span_of e, Ok (typing o b)) ∷ rs) zero
     of_type_of None b d i = cc
-    of_type_of (Some t) b d i = record { actual = e; type = t; is_separate = b; stands_there = actual_here; typed_so = d; known_so = refl }
+    of_type_of (Some t) b d i = knows_type (record { actual = e; type = t; is_separate = b; stands_there = actual_here; typed_so = d; known_so = refl })
 first_known h c n e es rs j (refuses f) i = cc
 
 known_further : {h : RoutineContext} {c : Context} {n : Entities} {es : Exprs} {rs : List JudgedActual} {y : ℕ}
-    (e : Expr) (j : Judged Typing) → KnownAt h c n es rs y →
-    KnownAt h c n (expr_then e es) ((span_of e, j) ∷ rs) (suc y)
-known_further e j k =
-    record { actual = k.actual; type = k.type; is_separate = k.is_separate; stands_there = actual_later k.stands_there; typed_so = k.typed_so; known_so = k.known_so }
+    (e : Expr) (j : Judged Typing) → Knows h c n es rs y →
+    Knows h c n (expr_then e es) ((span_of e, j) ∷ rs) (suc y)
+known_further e j (knows_type k) =
+    knows_type (record { actual = k.actual; type = k.type; is_separate = k.is_separate; stands_there = actual_later k.stands_there; typed_so = k.typed_so; known_so = k.known_so })
+known_further {h} {c} {n} {es} {rs} {y} e j (knows_missing m k) = knows_missing none_further k
+  where
+    none_further : (d : Expr) → ActualAt d (expr_then e es) (suc y) → ⊥
+    none_further d (actual_later i) = m d i
+
+no_actual : {y : ℕ} (e : Expr) → ActualAt e no_exprs y → ⊥
+no_actual e i = elim (i) [ ]
 
 known_at : {h : RoutineContext} {c : Context} {n : Entities} {es : Exprs} {rs : List JudgedActual} →
     AllTold h c n es rs → (y : ℕ) →
-    has_type (slice_get (judged_types rs) y) ≡ true →
-    KnownAt h c n es rs y
-known_at told_none y i = cc
+    is_untyped (slice_get (judged_types rs) y) ≡ false →
+    Knows h c n es rs y
+known_at told_none y i = knows_missing no_actual refl
 known_at {h} {c} {n} (told_more {e} {es} {j} {rs} d a) zero i = first_known h c n e es rs j d i
 known_at (told_more {e} {es} {j} {rs} d a) (suc y) i = known_further e j (known_at a y i)
 
--- a formal that is judged names no other, or one whose actual has a type
+-- a formal that is judged names no other, or one whose actual has a type or is missing
 told_known : {h : RoutineContext} {c : Context} {n : Entities} {all : Exprs} {rs : List JudgedActual} →
     AllTold h c n all rs → (f : EntityType) (o : Option ℕ) →
     named_formal f.tag ≡ o →
-    named_actual_has_type (judged_types rs) o ≡ true → IsKnown h c n all f (known_handlers (judged_types rs))
+    names_untyped (judged_types rs) o ≡ false → IsKnown h c n all f (known_handlers (judged_types rs))
 told_known a f None e i = names_none e
 told_known {h} {c} {n} {all} {rs} a f (Some y) e i = from_actual (known_at a y i)
   where
-    from_actual : KnownAt h c n all rs y → IsKnown h c n all f (known_handlers (judged_types rs))
-    from_actual k = names_one e k.stands_there k.typed_so k.known_so
+    from_actual : Knows h c n all rs y → IsKnown h c n all f (known_handlers (judged_types rs))
+    from_actual (knows_type k) = names_one e k.stands_there k.typed_so k.known_so
+    from_actual (knows_missing m k) = names_missing e m k
 
 untaken : {h : RoutineContext} {c : Context} {n : Entities} {all : Exprs} {rs : List JudgedActual} →
     AllTold h c n all rs → (t : EntityType) (f : FormalType) (a : EntityType) →
@@ -202,15 +218,15 @@ untaken : {h : RoutineContext} {c : Context} {n : Entities} {all : Exprs} {rs : 
 untaken a t of_none b e = cc
 untaken a t of_expanded b e = reference e
 untaken {h} {c} {n} {all} {rs} a t (of_type f) b e =
-    of_both (named_actual_has_type (judged_types rs) (named_formal f.tag))
+    of_both (names_untyped (judged_types rs) (named_formal f.tag))
     (conforms h.system b (combined_argument t f (known_handlers (judged_types rs)))) refl refl e
   where
-    of_both : (i j : Bool) → named_actual_has_type (judged_types rs) (named_formal f.tag) ≡ i →
+    of_both : (i j : Bool) → names_untyped (judged_types rs) (named_formal f.tag) ≡ i →
         conforms h.system b (combined_argument t f (known_handlers (judged_types rs))) ≡ j →
-        (not i || j) ≡ false → Untaken h c n all t (of_type f) b
-    of_both true true k l e = cc
-    of_both true false k l e = differs (told_known a f (named_formal f.tag) refl k) l
-    of_both false j k l e = cc
+        (i || j) ≡ false → Untaken h c n all t (of_type f) b
+    of_both false true k l e = cc
+    of_both false false k l e = differs (told_known a f (named_formal f.tag) refl k) l
+    of_both true j k l e = cc
 
 -- the actual isn't taken by its formal
 not_taken : {h : RoutineContext} {c : Context} {n : Entities} {all : Exprs} {rs : List JudgedActual}

@@ -28,13 +28,16 @@ pub data ActualAt (e : Expr) : Exprs → ℕ → Type 0 where
   actual_here : {es : Exprs} → ActualAt e (expr_then e es) zero
   actual_later : {d : Expr} {es : Exprs} {i : ℕ} → ActualAt e es i → ActualAt e (expr_then d es) (suc i)
 
--- What is known of the actuals tells the handler that a formal of this type names, if it names one.
+-- What is known of the actuals tells the handler that a formal of this type names, if it names one; where the actual of
+-- the formal that it names is missing, it tells that nothing is known.
 pub data IsKnown (h : RoutineContext) (c : Context) (n : Entities) (es : Exprs) (f : EntityType)
     (ks : List Known) : Type 0 where
   names_none : named_formal f.tag ≡ None → IsKnown h c n es f ks
   names_one : {y : ℕ} {e : Expr} {t : EntityType} {b : Bool} → named_formal f.tag ≡ Some y → ActualAt e es y →
       HasType h c Source n e (typing (Some t) b) →
       slice_get ks y ≡ Some (known_of t.tag) → IsKnown h c n es f ks
+  names_missing : {y : ℕ} → named_formal f.tag ≡ Some y → ((e : Expr) → ActualAt e es y → ⊥) → slice_get ks y ≡ None →
+      IsKnown h c n es f ks
 
 -- An actual of this type can't be passed to the formal, behind a target of that type.
 pub data Untaken (h : RoutineContext) (c : Context) (n : Entities) (es : Exprs) (t : EntityType) : FormalType →

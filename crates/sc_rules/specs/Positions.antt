@@ -38,9 +38,14 @@ abbrev pub is_ensure : Context → Bool
 is_ensure context.Ensure = true
 is_ensure _ = false
 
+-- where the operand of `old` stands: in a precondition it stays in that, whose rule on separate calls has no exception
+abbrev pub below_old : Context → Context
+below_old context.Require = context.Require
+below_old _ = context.Old
+
 -- where the operand of a unary operator stands
 abbrev pub operand_context : UnaryOperator → Context → Context
-operand_context unary.Old c = context.Old
+operand_context unary.Old c = below_old c
 operand_context unary.Not c = c
 operand_context unary.Plus c = c
 operand_context unary.Minus c = c

@@ -71,20 +71,22 @@ named_formal tag.Own = None
 named_formal tag.Any = None
 named_formal tag.None = None
 
-abbrev pub has_type : Option (Option EntityType) → Bool
-has_type (Some (Some t)) = true
-has_type (Some None) = false
-has_type None = false
+-- an actual is there, and has no type
+abbrev pub is_untyped : Option (Option EntityType) → Bool
+is_untyped None = false
+is_untyped (Some None) = true
+is_untyped (Some (Some t)) = false
 
--- a formal whose tag names another is judged where that one's actual has a type
-abbrev pub named_actual_has_type : List (Option EntityType) → Option ℕ → Bool
-named_actual_has_type ts None = true
-named_actual_has_type ts (Some y) = has_type (slice_get ts y)
+-- the formal that a formal's tag names, if it names one, has such an actual
+abbrev pub names_untyped : List (Option EntityType) → Option ℕ → Bool
+names_untyped ts None = false
+names_untyped ts (Some y) = is_untyped (slice_get ts y)
 
--- An actual with a type may be passed to the formal, where the target and all actuals have these types.
+-- An actual with a type may be passed to the formal, where the target and all actuals have these types. Where a formal's
+-- tag names another whose actual has no type, nothing is judged; where that actual is missing, the tag names no handler.
 abbrev pub takes : System → EntityType → List (Option EntityType) → FormalType → EntityType → Bool
 takes s t ts (of_type f) a =
-    not (named_actual_has_type ts (named_formal f.tag)) || conforms s a (combined_argument t f (known_handlers ts))
+    names_untyped ts (named_formal f.tag) || conforms s a (combined_argument t f (known_handlers ts))
 takes s t ts of_none a = true
 takes s t ts of_expanded a = is_expanded a.class
 

@@ -13,7 +13,7 @@ pub enum Context {
     Check,
     /// A clause of a class's invariant.
     Invariant,
-    /// The operand of `old`.
+    /// The operand of an `old` that stands in no precondition.
     Old,
 }
 

@@ -1,6 +1,6 @@
 -- Actuals and formals, read by number.
 use Rattle.std.proofs.Common.{◌≡◌, ℕ, zero, suc, true, List, [], ◌∷◌, drop, map, Option, Some, None, refl, ap, ◌∙◌}
-use Rattle.std.specs.Prelude.{is_some, slice_get}
+use Rattle.std.specs.Prelude.{Bool, false, not, is_some, slice_get}
 use Rattle.std.specs.Option.{option_map, option_map_or}
 use Rattle.std.specs.Borrow.{Bor}
 use Rattle.std.proofs.lemmas.Option.{slice_get-map}
@@ -10,7 +10,7 @@ use Rattle.sc_tree.specs.View.{declaration_of, type_of}
 use Rattle.sc_proctype.specs.declared.entity_type.EntityType.{EntityType}
 use Rattle.sc_rules.specs.Types.{declared_type}
 use Rattle.sc_rules.specs.Names.{FormalType, formal_type}
-use Rattle.sc_rules.specs.Typing.{has_type, takes_if_any}
+use Rattle.sc_rules.specs.Typing.{is_untyped, takes_if_any}
 use Rattle.sc_rules.specs.Judging as judging
 use Rattle.sc_rules.specs.Judging.{judged_type, is_taken}
 use Rattle.sc_typing.specs.declared.routine_context.Formals.{Formals}
@@ -24,9 +24,11 @@ type_at fs i f e =
     slice_get-map (λ (r : judging.JudgedActual). judged_type r.1) (map actual_in fs) i
     ∙ ap (option_map (λ (r : judging.JudgedActual). judged_type r.1)) (slice_get-map actual_in fs i ∙ ap (option_map actual_in) e)
 
-pub has_type-some : (t : Option EntityType) → is_some t ≡ has_type (Some t)
-has_type-some None = refl
-has_type-some (Some t) = refl
+pub untyped-some : (t : Option EntityType) (b : Bool) → is_some t ≡ not b → b ≡ is_untyped (Some t)
+untyped-some None true e = refl
+untyped-some None false e = cc
+untyped-some (Some t) true e = cc
+untyped-some (Some t) false e = refl
 
 -- the formal at a number
 pub formal_is : (s : plain.System) (fs : Formals) (ds : Bor (List Declaration)) (i : ℕ) (d : Declaration) → fs ≡ Declared ds → slice_get ds.now i ≡ Some d →

@@ -86,23 +86,24 @@ fn named_formal(tag: Tag) -> Option<usize>
     }
 }
 
-/// Whether there is an actual at a number, and it has a type.
-fn has_type(found: &[JudgedActual], number: usize) -> bool
-    ensures { result ≡ spec.has_type (slice_get (types_in found.now) number) }
+/// Whether there is an actual at a number, and it has no type.
+fn is_untyped(found: &[JudgedActual], number: usize) -> bool
+    ensures { result ≡ spec.is_untyped (slice_get (types_in found.now) number) }
 {
     match found.get(number) {
         None => false,
-        Some(actual) => judged_type(actual.judged).is_some(),
+        Some(actual) => judged_type(actual.judged).is_none(),
     }
 }
 
-/// Whether the actual of the formal that a tag names has a type, if it names one: the other's type is combined with it.
-fn named_actual_has_type(found: &[JudgedActual], named: Option<usize>) -> bool
-    ensures { result ≡ spec.named_actual_has_type (types_in found.now) named }
+/// Whether the formal that a tag names, if it names one, has such an actual: then nothing can be combined with it. Where
+/// its actual is missing, the tag names no handler.
+fn names_untyped(found: &[JudgedActual], named: Option<usize>) -> bool
+    ensures { result ≡ spec.names_untyped (types_in found.now) named }
 {
     match named {
-        None => true,
-        Some(number) => has_type(found, number),
+        None => false,
+        Some(number) => is_untyped(found, number),
     }
 }
 
@@ -144,7 +145,7 @@ impl<'a> Passing<'a> {
     {
         match formal {
             FormalType::Typed(formal) => {
-                !named_actual_has_type(self.found, named_formal(formal.tag))
+                names_untyped(self.found, named_formal(formal.tag))
                     || conforms(
                         tables,
                         actual,

@@ -40,12 +40,23 @@ pub fn is_ensure(context: Context) -> bool
     matches!(context, Context::Ensure)
 }
 
+/// Where the operand of `old` stands: in a precondition it stays in that.
+fn below_old(context: Context) -> Context
+    ensures { result ≡ positions.below_old context }
+{
+    match context {
+        Context::Require => Context::Require,
+        Context::Body | Context::Ensure | Context::Check | Context::Invariant | Context::Old =>
+            Context::Old,
+    }
+}
+
 /// Where the operand of a unary operator stands.
 pub fn operand_context(operator: UnaryOperator, context: Context) -> Context
     ensures { result ≡ positions.operand_context operator context }
 {
     match operator {
-        UnaryOperator::Old => Context::Old,
+        UnaryOperator::Old => below_old(context),
         UnaryOperator::Not | UnaryOperator::Plus | UnaryOperator::Minus => context,
     }
 }

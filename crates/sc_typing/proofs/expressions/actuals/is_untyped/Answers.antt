@@ -2,12 +2,12 @@ use Rattle.std.proofs.Common.{refl, ap, sym, ◌∙◌}
 use Rattle.std.specs.Prelude.{is_some}
 use Rattle.sc_class.proofs.Anys.{got}
 use Rattle.sc_class.proofs.FeatureLemmas.{got_item}
-use Rattle.sc_rules.specs.Typing.{has_type}
-use Rattle.sc_typing.proofs.Passing.{type_at, has_type-some}
-use Rattle.sc_typing.proofs.expressions.actuals.has_type.Goals as goal
+use Rattle.sc_rules.specs.Typing.{is_untyped}
+use Rattle.sc_typing.proofs.Passing.{type_at, untyped-some}
+use Rattle.sc_typing.proofs.expressions.actuals.is_untyped.Goals as goal
 
 pub returns-in-Some : goal.returns-in-Some
 returns-in-Some c =
-    c.is_some.ensures ∙ ap is_some c.judged_type.ensures ∙ has_type-some _
-    ∙ sym (ap has_type (type_at c.args.found.now c.args.number c.in-Some.actual.now
+    untyped-some _ _ (sym (ap is_some c.judged_type.ensures) ∙ c.is_none.ensures)
+    ∙ sym (ap is_untyped (type_at c.args.found.now c.args.number c.in-Some.actual.now
     (got_item c.args.found.now c.args.found.now c.args.number c.get.result c.in-Some.actual (got c.args.found.now c.args.number c.get.result c.get.ensures.lookup) c.in-Some.is refl)))
