@@ -30,6 +30,7 @@ use Rattle.sc_rules.specs.Laws.{AllDeclared, HasResult, are_typed}
 use Rattle.sc_rules.proofs.Complete as complete
 use Rattle.sc_rules.specs.Judging.{judge_given}
 use Rattle.sc_rules.proofs.Refused.{same_ok}
+use Rattle.sc_rules.proofs.OldOperands.{operand_of_old}
 use Rattle.sc_rules.proofs.TypeLaws.{one_type}
 use Rattle.sc_rules.proofs.Typings.{some_map, every_typed, receiver_typed, gives_typed}
 use Rattle.sc_model.specs.Olds.{olds_of, olds_of_each, olds_in}
@@ -182,9 +183,9 @@ mutual
       each_both (OldTyped h n) (olds_of y) (olds_of_each es) (olds_typed all has w d refl) (each_old_typed all has w ds) j a e
   olds_typed {h} {n} all has w (untyped_target_call {a = y} {es = es} (explicit d) i ds) k j a e =
       each_both (OldTyped h n) (olds_of y) (olds_of_each es) (olds_typed all has w d refl) (each_old_typed all has w ds) j a e
-  olds_typed {h} {n} all has w (unary {op = unary.Old} {a = x} {t = t} d o i) k zero a e =
+  olds_typed {h} {c} {n} all has w (unary {op = unary.Old} {a = x} {t = t} d o i) k zero a e =
       let here = some_there t.type (every_typed all has w d) in
-      let type = subst (λ o. HasType h context.Old spot.Plain n x (typing o t.is_separate)) here.1 d in
+      let type = subst (λ o. HasType h context.Old spot.Plain n x (typing o t.is_separate)) here.1 (operand_of_old c d o) in
       subst (OldTyped h n) (some_is x a e) (here.0, t.is_separate, type)
   olds_typed all has w (unary {op = unary.Old} d o i) k (suc j) a e = cc
   olds_typed all has w (unary {op = unary.Not} d o i) k j a e = olds_typed all has w d refl j a e
@@ -347,7 +348,7 @@ module _ (h : Setting) (pure : RoutineName → Bool) (all : AllDeclared h.system
         (expressions_typed ds w (i + olds_in a) (λ z. kept_right pure h n i (olds_of a) (olds_of_each es) (o z)))
     expression_typed (untyped_target_call {r = r} v e ds) k w i o = absurd (untyped r.type e (receiver_typed all has w v))
     expression_typed {c} {n} (unary {s = q} {op = unary.Old} {a = a} {t = t} {r = r} d s e) k w i o =
-        old_operation c n i q a t r d e (o (ensured c t s))
+        old_operation c n i q a t r (operand_of_old c d s) e (o (ensured c t s))
     expression_typed {n} (unary {s = q} {op = unary.Not} {a = a} {t = t} {r = r} d s e) k w i o =
         unary_operation n i q unary.Not a t.type r refl (expression_typed d refl w i o) e
     expression_typed {n} (unary {s = q} {op = unary.Plus} {a = a} {t = t} {r = r} d s e) k w i o =

@@ -4,7 +4,7 @@ use crate::fresh::fresh_name;
 use crate::remark::{Making, Misfit, Remark, Wanted};
 use crate::scope::{Scope, part_of, push_type};
 use crate::site::Place;
-use crate::types::Compared;
+use crate::types::{Compared, Passed};
 use sc_class::{ClassId, FeatureEntry};
 use sc_explain_text::{Lines, is_slip, push_instead_of, push_meant, push_near_word, word_at};
 use sc_proctype::{EntityType, Tag, conforms};
@@ -17,7 +17,7 @@ impl<'s> Scope<'s> {
         match remark {
             Remark::Name(misfit) => self.push_name_help(lines, misfit),
             Remark::Assigned(types, taker) => self.push_fitting(lines, types, taker),
-            Remark::Passed(passed) => self.push_fitting(lines, passed.compared, passed.formal),
+            Remark::Passed(passed) => self.push_passing(lines, passed),
             Remark::Given(given, Wanted::Reserved) if !given.attached => {
                 self.push_question(lines, given, Asked::Value)
             }
@@ -115,6 +115,27 @@ impl<'s> Scope<'s> {
             Between::Mark => self.push_question(lines, given, Asked::Value),
             Between::Tag => self.push_wider(lines, taken, taker),
         }
+    }
+
+    /// Adds what helps where an actual doesn't fit its formal. Where the handler alone is between them, that may be the one of
+    /// an actual that is missing.
+    fn push_passing(&self, lines: &mut Lines, passed: Passed) {
+        let Compared { given, taken } = passed.compared;
+        match (passed.missing, self.between(given, taken)) {
+            (Some(missing), Between::Tag) => self.push_missing(lines, passed.formal, missing),
+            _ => self.push_fitting(lines, passed.compared, passed.formal),
+        }
+    }
+
+    /// Adds that there is no actual for the formal that another's tag names.
+    fn push_missing(&self, lines: &mut Lines, taker: Span, missing: Span) {
+        let missing = part_of(self.text, missing);
+        lines.push_all(&[
+            "help: there is no actual for `",
+            missing,
+            "`, on whose handler `",
+        ]);
+        lines.push_all(&[part_of(self.text, taker), "` lies\n"])
     }
 
     /// Adds how an entity of this type is declared to take objects of other handlers.

@@ -9,7 +9,7 @@ use crate::scope::Scope;
 use crate::untold::Untold;
 use sc_class::{ClassId, Tables};
 use sc_combine::{Known, combine_argument};
-use sc_proctype::{EntityType, Tag, conforms};
+use sc_proctype::{EntityType, Reserved, Tag, conforms};
 use sc_rules::{Context, Position};
 use sc_text::Span;
 use sc_tree::{Call, Declaration, Expr, Variable};
@@ -28,6 +28,8 @@ pub struct Compared {
 pub struct Passed {
     pub compared: Compared,
     pub formal: Span,
+    /// The place of the name of the formal that its tag names, where there is no actual for that one.
+    pub missing: Option<Span>,
 }
 
 /// The types, where the one doesn't conform to the other.
@@ -55,6 +57,20 @@ fn known_handler(actual: &JudgedActual) -> Known {
     match judged_type(actual.judged) {
         Some(actual) => Known::of(actual.tag),
         None => Known::Neither,
+    }
+}
+
+/// The place of the name of the formal that the tag of this type names, where it is none of so many first ones.
+fn missing_formal(formals: &[Declaration], declared: EntityType, actuals: usize) -> Option<Span> {
+    let Tag::With(Reserved::Formal(number)) = declared.tag else {
+        return None;
+    };
+    if number < actuals {
+        return None;
+    }
+    match formals.get(number) {
+        None => None,
+        Some(formal) => Some(formal.name.span),
     }
 }
 
@@ -114,28 +130,17 @@ impl<'s> Scope<'s> {
         let Some(formal) = formals.get(number) else {
             return Err(Untold::Nothing);
         };
-        let taken = self.type_taken(found, target, formals, formal)?;
+        let tables = self.routine.tables;
+        let Some(declared) = declared_type(tables, formals, &formal.declared_type) else {
+            return Err(Untold::Nothing);
+        };
+        let known = known_handlers(self.routine.alloc, found)?;
+        let taken = combine_argument(target, declared, &known);
         Ok(Passed {
-            compared: mismatch(self.routine.tables, given, taken)?,
+            compared: mismatch(tables, given, taken)?,
             formal: formal.name.span,
+            missing: missing_formal(formals, declared, found.len()),
         })
-    }
-
-    /// The type that a formal takes, behind a target and beside these actuals, if it has one.
-    fn type_taken(
-        &self,
-        found: &[JudgedActual],
-        target: EntityType,
-        formals: &[Declaration],
-        formal: &Declaration,
-    ) -> Result<EntityType, Untold> {
-        match declared_type(self.routine.tables, formals, &formal.declared_type) {
-            None => Err(Untold::Nothing),
-            Some(declared) => {
-                let known = known_handlers(self.routine.alloc, found)?;
-                Ok(combine_argument(target, declared, &known))
-            }
-        }
     }
 
     /// The type of an expression at this position, which is no condition's, if it has one.

@@ -42,6 +42,7 @@ use Rattle.sc_rules.specs.Typing.{Typing, typing, may_call, HasType, number, tru
 use Rattle.sc_rules.proofs.CallLaws.{calls_stand_lem}
 use Rattle.sc_rules.proofs.EachTyped.{each_is_typed_lem}
 use Rattle.sc_rules.proofs.InstructionLaws.{variables_stand_lem}
+use Rattle.sc_rules.proofs.OldOperands.{below_wants_pure}
 use Rattle.sc_rules.proofs.PureBodies.{pure_bodies_have_no_effect, pure_bodies_call_pure}
 use Rattle.sc_rules.proofs.PurityLaws.{pure_is_closed}
 use Rattle.sc_rules.proofs.TextLaws.{conditions_give}
@@ -274,7 +275,7 @@ record Wants (c : Context) (q : Position) (n : Entities) (e : Expr) : Type 0 whe
   wants : wants_pure c ≡ true
 
 wants_operand : (op : UnaryOperator) (c : Context) → wants_pure c ≡ true → wants_pure (operand_context op c) ≡ true
-wants_operand unary.Old c e = refl
+wants_operand unary.Old c e = below_wants_pure c
 wants_operand unary.Not c e = e
 wants_operand unary.Plus c e = e
 wants_operand unary.Minus c e = e

@@ -17,7 +17,7 @@ use Rattle.sc_combine.specs.Combiners.{combined_argument, known_of, known_tag}
 use Rattle.sc_combine.specs.declared.known.Known.{Known}
 use Rattle.sc_rules.specs.Names.{formal_type, of_type}
 use Rattle.sc_rules.specs.Types.{declared_tag, declared_type, is_marked, is_nameable, is_own, is_separate, number_of_named, typed}
-use Rattle.sc_rules.specs.Typing.{formals_take, has_type, known_handler, known_handlers, named_actual_has_type, named_formal, takes, takes_if_any}
+use Rattle.sc_rules.specs.Typing.{formals_take, is_untyped, known_handler, known_handlers, named_formal, names_untyped, takes, takes_if_any}
 use Rattle.sc_model.specs.Fits.{Fits, Lies}
 use Rattle.sc_model.specs.Values.{Attached, Boolean, Integer, Operand, Reference, Value, Void, handler_of}
 use Rattle.sc_machine_values.specs.Fitting.{ActualsFit, no_more, one_more}
@@ -164,9 +164,9 @@ module _ (s : System) (me k : ℕ) (of : Reserved → Option ℕ) (t : EntityTyp
       ∙ ap (option_map known_handler) (slice_get-map (λ (t : EntityType). Some t) (types_of every) y
       ∙ ap (option_map (λ (t : EntityType). Some t)) (slice_get-map (λ (u : Operand). u.type) every y ∙ ap (option_map (λ (u : Operand). u.type)) e))
 
-  typed_at : (y : ℕ) (u : Operand) → slice_get every y ≡ Some u → has_type (slice_get tys y) ≡ true
+  typed_at : (y : ℕ) (u : Operand) → slice_get every y ≡ Some u → is_untyped (slice_get tys y) ≡ false
   unfolding tys
-  typed_at y u e = ap has_type (slice_get-map (λ (t : EntityType). Some t) (types_of every) y
+  typed_at y u e = ap is_untyped (slice_get-map (λ (t : EntityType). Some t) (types_of every) y
       ∙ ap (option_map (λ (t : EntityType). Some t)) (slice_get-map (λ (u : Operand). u.type) every y ∙ ap (option_map (λ (u : Operand). u.type)) e))
 
   handler_at : (y : ℕ) (u : Operand) → slice_get every y ≡ Some u → of_actuals vals (Formal y) ≡ handler_of u.value
@@ -198,9 +198,9 @@ module _ (s : System) (me k : ℕ) (of : Reserved → Option ℕ) (t : EntityTyp
   attached_object Void o g a x f = let y : true ≡ false = sym a ∙ f.0 in cc
   attached_object (Attached q) o g a x f = (q, refl)
 
-  conforming : (g a : EntityType) (b : Bool) → named_actual_has_type tys (named_formal g.tag) ≡ b → b ≡ true → takes s t tys (of_type g) a ≡ true →
+  conforming : (g a : EntityType) (b : Bool) → names_untyped tys (named_formal g.tag) ≡ b → b ≡ false → takes s t tys (of_type g) a ≡ true →
       conforms s a (combined_argument t g (known_handlers tys)) ≡ true
-  conforming g a b e i m = subst (λ b. (not b || conforms s a (combined_argument t g (known_handlers tys))) ≡ true) (e ∙ i) m
+  conforming g a b e i m = subst (λ b. (b || conforms s a (combined_argument t g (known_handlers tys))) ≡ true) (e ∙ i) m
 
   -- the nameable formal of a pair: attached, of tag `any`, and of a reference class
   record IsAny (g : EntityType) : Type 0 where
@@ -237,8 +237,8 @@ module _ (s : System) (me k : ℕ) (of : Reserved → Option ℕ) (t : EntityTyp
   any_untold : (g : Tag) (ks : List Known) → g ≡ tag.Any → IsTold me of (of_actuals vals) ks g
   any_untold g ks e y n a j i m = let x : tag.Any ≡ tag.With (Formal y) = sym e ∙ n in cc
 
-  any_told : (g : Tag) → g ≡ tag.Any → named_actual_has_type tys (named_formal g) ≡ true
-  any_told g e = ap (λ g. named_actual_has_type tys (named_formal g)) e
+  any_told : (g : Tag) → g ≡ tag.Any → names_untyped tys (named_formal g) ≡ false
+  any_told g e = ap (λ g. names_untyped tys (named_formal g)) e
 
   -- an actual for a nameable formal is an object that fits its own type
   object_at : (d : Declaration) (u : Operand) → is_nameable d ≡ true → Passes d u → (q : Reference) × (u.value ≡ Attached q)
@@ -246,7 +246,7 @@ module _ (s : System) (me k : ℕ) (of : Reserved → Option ℕ) (t : EntityTyp
       let a : IsAny p.type = nameable_any d p.type n p.is_declared in
       attached_object u.value (of_actuals vals) p.type a.attached_is a.class_is
       (actual_fits s me k of (of_actuals vals) t p.type (known_handlers tys) u.value l (any_untold p.type.tag (known_handlers tys) a.tag_is)
-      (conforms_fits s me of u.value u.type (combined_argument t p.type (known_handlers tys)) (conforming p.type u.type true (any_told p.type.tag a.tag_is) refl p.taken) p.fits))
+      (conforms_fits s me of u.value u.type (combined_argument t p.type (known_handlers tys)) (conforming p.type u.type false (any_told p.type.tag a.tag_is) refl p.taken) p.fits))
 
   same_known : (a b : Known) → Some a ≡ Some b → a ≡ b
   same_known a b e = cc
@@ -264,10 +264,10 @@ module _ (s : System) (me k : ℕ) (of : Reserved → Option ℕ) (t : EntityTyp
       handler_at y at.actual at.is_there
       ∙ told_by at.actual o.0 j at.pair.fits o.1 (subst (λ a. Lies (known_tag a) me of j) (same_known a (known_of at.actual.type.tag) (sym i ∙ known_at y at.actual at.is_there)) m)
 
-  is_told_at : EachPair Passes all every → (g : EntityType) (d : Declaration) → declared_type s all d.declared_type ≡ Some g → named_actual_has_type tys (named_formal g.tag) ≡ true
+  is_told_at : EachPair Passes all every → (g : EntityType) (d : Declaration) → declared_type s all d.declared_type ≡ Some g → names_untyped tys (named_formal g.tag) ≡ false
   is_told_at p g d e = by g.tag refl
     where
-      by : (h : Tag) → g.tag ≡ h → named_actual_has_type tys (named_formal h) ≡ true
+      by : (h : Tag) → g.tag ≡ h → names_untyped tys (named_formal h) ≡ false
       by tag.Own n = refl
       by tag.Any n = refl
       by tag.None n = refl
@@ -280,7 +280,7 @@ module _ (s : System) (me k : ℕ) (of : Reserved → Option ℕ) (t : EntityTyp
   pair_fits : EachPair Passes all every → (d : Declaration) (u : Operand) (q : Passes d u) → Fits s k (of_actuals vals) u.value q.type
   pair_fits p d u q =
       actual_fits s me k of (of_actuals vals) t q.type (known_handlers tys) u.value l (told p q.type d q.is_declared)
-      (conforms_fits s me of u.value u.type (combined_argument t q.type (known_handlers tys)) (conforming q.type u.type true (is_told_at p q.type d q.is_declared) refl q.taken) q.fits)
+      (conforms_fits s me of u.value u.type (combined_argument t q.type (known_handlers tys)) (conforming q.type u.type false (is_told_at p q.type d q.is_declared) refl q.taken) q.fits)
 
   all_fit : EachPair Passes all every → (ds : List Declaration) (us : List Operand) → EachPair Passes ds us → ActualsFit s k all (of_actuals vals) ds (map (λ (u : Operand). u.value) us)
   all_fit p [] [] q = no_more

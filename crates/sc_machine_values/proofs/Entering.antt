@@ -19,6 +19,7 @@ use Rattle.sc_rules.specs.declared.position.Context.{Context}
 use Rattle.sc_rules.specs.declared.position.Context.TheVariants as context
 use Rattle.sc_rules.specs.declared.position.Position.{Position}
 use Rattle.sc_rules.specs.declared.position.Position.TheVariants.{Condition, Plain, Source}
+use Rattle.sc_rules.proofs.OldOperands.{operand_of_old}
 use Rattle.sc_rules.proofs.Typings.{every_typed}
 use Rattle.sc_model.specs.Environments.{is_formal}
 use Rattle.sc_model.specs.Olds.{olds_in, olds_of, olds_of_clauses, olds_of_each}
@@ -55,10 +56,10 @@ module _ (s : System) (declared_all : AllDeclared s) (t : Text) (has : HasResult
     olds_typed i (typing.call {a = tree.target a} {es} (typing.explicit d) m z ds f p l v y w) =
         each_append (IsOldTyped s t n) (olds_of a) (olds_of_each es) (olds_typed refl d) (each_old_typed ds)
     olds_typed i (typing.untyped_target_call {a} {es} (typing.explicit d) e ds) = each_append (IsOldTyped s t n) (olds_of a) (olds_of_each es) (olds_typed refl d) (each_old_typed ds)
-    olds_typed i (typing.unary {op = unary.Old} {a} {t = y} d o e) = (of_type (some_there y.type (every_typed declared_all has n_typed d)), tt)
+    olds_typed {c} i (typing.unary {op = unary.Old} {a} {t = y} d o e) = (of_type (some_there y.type (every_typed declared_all has n_typed d)), tt)
       where
         of_type : (u : EntityType) × (y.type ≡ Some u) → IsOldTyped s t n a
-        of_type (u, i) = (u, y.is_separate, subst (λ o. HasType (place_in s t) context.Old Plain n a (typing o y.is_separate)) i d)
+        of_type (u, i) = (u, y.is_separate, subst (λ o. HasType (place_in s t) context.Old Plain n a (typing o y.is_separate)) i (operand_of_old c d o))
     olds_typed i (typing.unary {op = unary.Not} d o e) = olds_typed refl d
     olds_typed i (typing.unary {op = unary.Plus} d o e) = olds_typed refl d
     olds_typed i (typing.unary {op = unary.Minus} d o e) = olds_typed refl d

@@ -25,6 +25,7 @@ use Rattle.sc_rules.specs.declared.position.Context.{Context}
 use Rattle.sc_rules.specs.declared.position.Context.TheVariants as context
 use Rattle.sc_rules.specs.declared.position.Position.{Position}
 use Rattle.sc_rules.specs.declared.position.Position.TheVariants.{Condition, Plain, Source}
+use Rattle.sc_rules.proofs.OldOperands.{operand_of_old}
 use Rattle.sc_rules.proofs.TypeLaws.{one_type}
 use Rattle.sc_rules.proofs.Typings.{named_declared}
 use Rattle.sc_model.specs.Calls.{given_by}
@@ -269,7 +270,7 @@ module _ (s : System) (pure : RoutineName → Bool) (r : Routine) (me : Referenc
       of_kept (u, w, d', found_at) = of_there (old_there p.olds i u (ap (slice_get (types_of p.olds)) (omega arith) ∙ found_at))
         where
           typed_as : y.type ≡ Some u
-          typed_as = ap (λ (y : Typing). y.type) (one_type (place_in s p.text) context.Old Plain (scope_of p.environment) f y (typing (Some u) w) d d')
+          typed_as = ap (λ (y : Typing). y.type) (one_type (place_in s p.text) context.Old Plain (scope_of p.environment) f y (typing (Some u) w) (operand_of_old c d o) d')
 
           is_a : u ≡ a
           is_a = same_some (same_some (sym (ap (unary_result unary.Old) typed_as) ∙ t ∙ ap (λ t. Some t) e))

@@ -1,19 +1,19 @@
 -- Actuals that conform one by one may be passed together.
 use Rattle.std.specs.Option.{option_map}
 use Rattle.std.specs.Prelude.{length, slice_get}
-use Rattle.std.proofs.Common.{◌&&◌, ◌+◌, Bool, List, None, Option, Some, [], ap, arith, false, not, refl, subst, suc, sym, true, zero, ◌||◌, ℕ, ◌∙◌, ◌∷◌, ◌≡◌}
+use Rattle.std.proofs.Common.{◌&&◌, ◌+◌, Bool, List, None, Option, Some, [], ap, arith, false, refl, subst, suc, sym, true, zero, ◌||◌, ℕ, ◌∙◌, ◌∷◌, ◌≡◌}
 use Rattle.std.proofs.lemmas.Option.{slice_get-map}
 use Rattle.sc_tree.specs.Plain.{Expr, Exprs, expr_then, no_exprs}
 use Rattle.sc_class.specs.Tables.Conformance.{is_expanded}
 use Rattle.sc_proctype.specs.Conformance.{conforms}
 use Rattle.sc_proctype.specs.declared.entity_type.EntityType.{EntityType}
 use Rattle.sc_combine.specs.Combiners.{combined_argument}
-use Rattle.sc_rules.specs.CallRules.{ActualAt, IsKnown, actual_here, actual_later, count, names_none, names_one}
+use Rattle.sc_rules.specs.CallRules.{ActualAt, IsKnown, actual_here, actual_later, count, names_missing, names_none, names_one}
 use Rattle.sc_rules.specs.Names.{Entities, FormalType, RoutineContext, Signature, of_expanded, of_none, of_type}
 use Rattle.sc_rules.specs.Sites.{IsActual, first_actual, later_actual}
 use Rattle.sc_rules.specs.SystemLaws.{Conform}
 use Rattle.sc_rules.specs.Typing as typing
-use Rattle.sc_rules.specs.Typing.{HasType, HasTypes, Typing, formals_take, has_type, known_handler, known_handlers, named_actual_has_type, named_formal, takes, takes_if_any, types, typing}
+use Rattle.sc_rules.specs.Typing.{HasType, HasTypes, Typing, formals_take, is_untyped, known_handler, known_handlers, named_formal, names_untyped, takes, takes_if_any, types, typing}
 use Rattle.sc_rules.specs.declared.position.Context.{Context}
 use Rattle.sc_rules.specs.declared.position.Position.TheVariants.{Source}
 use Rattle.sc_machine_values.proofs.Actuals.{somes}
@@ -64,6 +64,11 @@ module _ (h : RoutineContext) (c : Context) (n : Entities) where
       record { actual = d; is_there = actual_here; is_separate = v.is_separate; typed = subst (λ o. HasType h c Source n d (typing o v.is_separate)) (same_some e) f }
   source_at (typing.more f fs) (suc y) t e = source_later (source_at fs y t e)
 
+  none_at : {es : Exprs} {ts : List Typing} → HasTypes h c n es ts → (y : ℕ) → slice_get (types ts) y ≡ None → (e : Expr) → ActualAt e es y → ⊥
+  none_at typing.none y i e a = elim a [ ]
+  none_at (typing.more f fs) zero i e a = cc
+  none_at (typing.more f fs) (suc y) i e (actual_later a) = none_at fs y i e a
+
   module _ (es : Exprs) (ts : List Typing) (all : HasTypes h c n es ts) (g : Signature) (conform : Conform h c n es g)
       (expanded : (i : ℕ) (e : Expr) (a : EntityType) (b : Bool) → ActualAt e es i → slice_get g.formals i ≡ Some of_expanded → HasType h c Source n e (typing (Some a) b) → is_expanded a.class ≡ true) where
     -- an actual may be passed to its formal
@@ -73,20 +78,20 @@ module _ (h : RoutineContext) (c : Context) (n : Entities) where
     one_taken i e of_expanded a b place l d = expanded i e a b place l d
     one_taken i e (of_type f) a b place l d = by (named_formal f.tag) refl
       where
-        taken : IsKnown h c n es f (known_handlers (types ts)) → (m : Bool) → (not m || conforms h.system a (combined_argument g.target f (known_handlers (types ts)))) ≡ true
-        taken z true = conform i e f a b (known_handlers (types ts)) place l d z
-        taken z false = refl
+        taken : IsKnown h c n es f (known_handlers (types ts)) → (m : Bool) → (m || conforms h.system a (combined_argument g.target f (known_handlers (types ts)))) ≡ true
+        taken z true = refl
+        taken z false = conform i e f a b (known_handlers (types ts)) place l d z
 
         of_named : (y : ℕ) (o : Option (Option EntityType)) → named_formal f.tag ≡ Some y → slice_get (types ts) y ≡ o →
-            (not (has_type o) || conforms h.system a (combined_argument g.target f (known_handlers (types ts)))) ≡ true
-        of_named y None e i = refl
+            (is_untyped o || conforms h.system a (combined_argument g.target f (known_handlers (types ts)))) ≡ true
+        of_named y None e i = taken (names_missing e (none_at all y i) (slice_get-map known_handler (types ts) y ∙ ap (option_map known_handler) i)) false
         of_named y (Some None) e i = refl
         of_named y (Some (Some t)) e i = let z = source_at all y t i in
-            taken (names_one e z.is_there z.typed (slice_get-map known_handler (types ts) y ∙ ap (option_map known_handler) i)) true
+            taken (names_one e z.is_there z.typed (slice_get-map known_handler (types ts) y ∙ ap (option_map known_handler) i)) false
 
-        by : (o : Option ℕ) → named_formal f.tag ≡ o → (not (named_actual_has_type (types ts) (named_formal f.tag)) || conforms h.system a (combined_argument g.target f (known_handlers (types ts)))) ≡ true
-        by None e = subst (λ o. (not (named_actual_has_type (types ts) o) || conforms h.system a (combined_argument g.target f (known_handlers (types ts)))) ≡ true) (sym e) (taken (names_none e) true)
-        by (Some y) e = subst (λ o. (not (named_actual_has_type (types ts) o) || conforms h.system a (combined_argument g.target f (known_handlers (types ts)))) ≡ true) (sym e)
+        by : (o : Option ℕ) → named_formal f.tag ≡ o → (names_untyped (types ts) (named_formal f.tag) || conforms h.system a (combined_argument g.target f (known_handlers (types ts)))) ≡ true
+        by None e = subst (λ o. (names_untyped (types ts) o || conforms h.system a (combined_argument g.target f (known_handlers (types ts)))) ≡ true) (sym e) (taken (names_none e) false)
+        by (Some y) e = subst (λ o. (names_untyped (types ts) o || conforms h.system a (combined_argument g.target f (known_handlers (types ts)))) ≡ true) (sym e)
             (of_named y (slice_get (types ts) y) e refl)
 
     -- these formals take these actuals, of which the first have these numbers

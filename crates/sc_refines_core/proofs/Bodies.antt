@@ -46,6 +46,7 @@ use Rattle.sc_rules.specs.Typing as typing
 use Rattle.sc_rules.specs.Typing.{Gives, HasReceiver, HasType, HasTypes, Typing, is_foreign_type, is_testable, may_call, may_target, typing, types}
 use Rattle.sc_rules.proofs.CallLaws.{calls_stand_lem}
 use Rattle.sc_rules.proofs.EachTyped.{each_is_typed_lem}
+use Rattle.sc_rules.proofs.OldOperands.{operand_of_old}
 use Rattle.sc_rules.proofs.Typings.{every_typed, gives_typed}
 use Rattle.sc_rules.proofs.WellFormed.{further}
 use Rattle.sc_model.specs.declared.cause.Cause.{Cause}
@@ -570,7 +571,7 @@ module _ (s : System) (pure : RoutineName → Bool) (r : Routine) (me : Referenc
         by (o, typed) = of_feature o typed
             (feature_meant s o (feature_named s o.class x.text) g (ap (λ v. meaning_of (context_in s pure t) n (tree.target f) v x) (sym typed) ∙ m))
     eval_fine c i q _ _ a vs p b j w olds (typing.untyped_target_call d ta ds) e k = cc
-    eval_fine c i q _ _ a vs p b j w olds (typing.unary {s = sp} {op = unary.Old} {a = f} {t = y} d o u) e k = by (olds sp f refl y d)
+    eval_fine c i q _ _ a vs p b j w olds (typing.unary {s = sp} {op = unary.Old} {a = f} {t = y} d o u) e k = by (olds sp f refl y (operand_of_old c d o))
       where
         by : (v : Operand) × (slice_get p.olds i ≡ Some v) × (y.type ≡ Some v.type) → Fine (gives_found (slice_get p.olds i) p)
         by (v, there, typed) = subst (λ o. Fine (gives_found o p)) (sym there) (given vs a p v.value v.type b k

@@ -45,6 +45,7 @@ use Rattle.sc_rules.specs.Typing as typing
 use Rattle.sc_rules.specs.Typing.{HasType, HasTypes, Typing, typing}
 use Rattle.sc_rules.specs.Versions.{Keeps, TextStands, keeps, texts}
 use Rattle.sc_rules.proofs.EachTyped.{each_is_typed_lem}
+use Rattle.sc_rules.proofs.OldOperands.{below_is_old, below_wants_pure, operand_of_old}
 use Rattle.sc_rules.proofs.PureBodies.{pure_bodies_call_pure, pure_bodies_have_no_effect}
 use Rattle.sc_rules.proofs.PurityLaws.{pure_is_closed}
 use Rattle.sc_rules.proofs.ScopedSites.{tags_name_known}
@@ -272,12 +273,12 @@ module _ (s : System) (pure : RoutineName → Bool) (r : Routine) (me : Referenc
     olds_calm i (typing.untyped_target_call {a} {es} (typing.explicit d) e ds) w =
         each_append (Evaluated context.Old) (olds_of a) (olds_of_each es) (olds_calm refl d (part_calm s pure r me z r.contract site.target_part (λ k. k) refl w))
         (each_calm ds (λ e a. part_calm s pure r me z r.contract (site.actual_part a) (λ k. k) refl w))
-    olds_calm i (typing.unary {op = unary.Old} {a} {t = y} d o e) w = (by (has_type s pure r me z r.contract (inr refl) n typed_n context.Old Plain a y d), tt)
+    olds_calm {c} i (typing.unary {op = unary.Old} {a} {t = y} d o e) w = (by (has_type s pure r me z r.contract (inr refl) n typed_n context.Old Plain a y (operand_of_old c d o)), tt)
       where
         by : (u : EntityType) × (y.type ≡ Some u) → Evaluated context.Old a
         by (u, j) = (
-          part_calm s pure r me z r.contract site.operand_part (λ k. refl) refl w,
-          (u, y.is_separate, subst (λ o. HasType (context_in s pure r.contract) context.Old Plain n a (typing o y.is_separate)) j d),
+          subst (λ c. IsCalm s pure r r.contract c Plain n a) (below_is_old c y o) (part_calm s pure r me z r.contract site.operand_part (λ k. below_wants_pure c) refl w),
+          (u, y.is_separate, subst (λ o. HasType (context_in s pure r.contract) context.Old Plain n a (typing o y.is_separate)) j (operand_of_old c d o)),
         )
     olds_calm i (typing.unary {op = unary.Not} d o e) w = olds_calm refl d (part_calm s pure r me z r.contract site.operand_part (λ k. k) refl w)
     olds_calm i (typing.unary {op = unary.Plus} d o e) w = olds_calm refl d (part_calm s pure r me z r.contract site.operand_part (λ k. k) refl w)
