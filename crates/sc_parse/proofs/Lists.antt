@@ -40,6 +40,14 @@ module _ (n i : ℕ) (found : List Name) (ts : Ahead) where
       ap (λ (xs : List Name). more_names (n - (i + 1)) xs rest) u
       ∙ sym (more_names_turn p ∙ choose_true (sees terminal.Comma ts) _ _ (sym q ∙ d) ∙ ap (λ (r : Ahead). name r >>= next_more_names (n - (i + 1)) found) (sym w) ∙ bind_ok _ _ (next_more_names (n - (i + 1)) found) e)
 
+  pub more_names_none : (b : Bool) → i < n → b ≡ sees terminal.Comma ts → b ≡ false → more_names (n - i) found ts ≡ Ok (found, ts)
+  more_names_none b p q d = more_names_turn p ∙ choose_false (sees terminal.Comma ts) _ _ (sym q ∙ d)
+
+  pub more_names_fail : (b : Bool) (r : Ahead) (e : ParseFault) → i < n → b ≡ sees terminal.Comma ts → b ≡ true → r ≡ past ts → Fails (name r) e → Fails (more_names (n - i) found ts) e
+  more_names_fail b r e p q d w f =
+      Fails-along _ _ e (more_names_turn p ∙ choose_true (sees terminal.Comma ts) _ _ (sym q ∙ d) ∙ ap (λ (r : Ahead). name r >>= next_more_names (n - (i + 1)) found) (sym w))
+      (Fails-bind (name r) (next_more_names (n - (i + 1)) found) e f)
+
 pub declarations_begin : (ts : Ahead) (found : List Declaration) → more_declarations (length ts.rest - 0) found ts ≡ more_declarations (left ts) found ts
 declarations_begin ts found = ap (λ (f : ℕ). more_declarations f found ts) (turns_of ts)
 
@@ -86,6 +94,13 @@ module _ (n i : ℕ) (found : List Declaration) (ts : Ahead) where
       ap (λ (xs : List Declaration). locals_from (n - (i + 1)) xs next) u ∙ ap (λ (r : Ahead). locals_from (n - (i + 1)) (found ++ x) r) v
       ∙ sym (locals_turn p ∙ choose_true (name_ahead ts) _ _ (sym q ∙ d) ∙ bind_ok _ _ (next_locals (n - (i + 1)) found) e)
 
+  pub locals_none : (b : Bool) → i < n → b ≡ name_ahead ts → b ≡ false → locals_from (n - i) found ts ≡ Ok (found, ts)
+  locals_none b p q d = locals_turn p ∙ choose_false (name_ahead ts) _ _ (sym q ∙ d)
+
+  pub locals_fail : (b : Bool) (e : ParseFault) → i < n → b ≡ name_ahead ts → b ≡ true → Fails (declaration ts) e → Fails (locals_from (n - i) found ts) e
+  locals_fail b e p q d f =
+      Fails-along _ _ e (locals_turn p ∙ choose_true (name_ahead ts) _ _ (sym q ∙ d)) (Fails-bind (declaration ts) (next_locals (n - (i + 1)) found) e f)
+
 pub parents_begin : (ts : Ahead) (x : Parent) (found : List Parent) (r : Ahead) → found ≡ x ∷ [] → r ≡ skip terminal.Semicolon ts →
     parents_from (length ts.rest - 0) found r ≡ parents_from (left ts) (x ∷ []) (skip terminal.Semicolon ts)
 parents_begin ts x found r e q =
@@ -108,6 +123,13 @@ module _ (n i : ℕ) (found : List Parent) (ts : Ahead) where
   parents_more b x rest next xs p q d e u v =
       ap (λ (xs : List Parent). parents_from (n - (i + 1)) xs next) u ∙ ap (λ (r : Ahead). parents_from (n - (i + 1)) (found ++ x ∷ []) r) v
       ∙ sym (parents_turn p ∙ choose_true (name_ahead ts) _ _ (sym q ∙ d) ∙ bind_ok _ _ (next_parents (n - (i + 1)) found) e)
+
+  pub parents_none : (b : Bool) → i < n → b ≡ name_ahead ts → b ≡ false → parents_from (n - i) found ts ≡ Ok (found, ts)
+  parents_none b p q d = parents_turn p ∙ choose_false (name_ahead ts) _ _ (sym q ∙ d)
+
+  pub parents_fail : (b : Bool) (e : ParseFault) → i < n → b ≡ name_ahead ts → b ≡ true → Fails (parent ts) e → Fails (parents_from (n - i) found ts) e
+  parents_fail b e p q d f =
+      Fails-along _ _ e (parents_turn p ∙ choose_true (name_ahead ts) _ _ (sym q ∙ d)) (Fails-bind (parent ts) (next_parents (n - (i + 1)) found) e f)
 
 -- ---- features of one section
 
@@ -211,6 +233,20 @@ module _ (room n i : ℕ) (found : List Clause) (high : ℕ) (ts : Ahead) where
       ap (λ (xs : List Clause). clauses_from room (n - (i + 1)) xs (max high h) after) u ∙ ap (λ (r : Ahead). clauses_from room (n - (i + 1)) (found ++ x ∷ []) (max high h) r) v
       ∙ sym (clauses_turn p ∙ choose_true (begins_expr ts) _ _ (sym q ∙ d) ∙ bind_ok _ _ (next_clauses room (n - (i + 1)) found high) e ∙ choose_false (goes_on rest) _ _ (sym o ∙ l))
 
+  pub clauses_none : (b : Bool) → i < n → b ≡ begins_expr ts → b ≡ false → clauses_from room (n - i) found high ts ≡ Ok (found, high, ts)
+  clauses_none b p q d = clauses_turn p ∙ choose_false (begins_expr ts) _ _ (sym q ∙ d)
+
+  clauses_some : (b : Bool) → i < n → b ≡ begins_expr ts → b ≡ true → clauses_from room (n - i) found high ts ≡ (clause room ts >>= next_clauses room (n - (i + 1)) found high)
+  clauses_some b p q d = clauses_turn p ∙ choose_true (begins_expr ts) _ _ (sym q ∙ d)
+
+  pub clauses_fail : (b : Bool) (e : ParseFault) → i < n → b ≡ begins_expr ts → b ≡ true → Fails (clause room ts) e → Fails (clauses_from room (n - i) found high ts) e
+  clauses_fail b e p q d f = Fails-along _ _ e (clauses_some b p q d) (Fails-bind (clause room ts) (next_clauses room (n - (i + 1)) found high) e f)
+
+  pub clauses_wrong : (b : Bool) (x : Clause) (h : ℕ) (rest : Ahead) (g : Bool) → i < n → b ≡ begins_expr ts → b ≡ true → clause room ts ≡ Ok (x, h, rest) → g ≡ goes_on rest → g ≡ true →
+      clauses_from room (n - i) found high ts ≡ Err Wrong
+  clauses_wrong b x h rest g p q d e o l =
+      clauses_some b p q d ∙ bind_ok _ _ (next_clauses room (n - (i + 1)) found high) e ∙ choose_true (goes_on rest) _ _ (sym o ∙ l)
+
 -- ---- classes
 
 abbrev pub next_classes : ℕ → ℕ → List Class → ℕ → Class × ℕ × Ahead → Read (List Class)
@@ -234,6 +270,13 @@ module _ (room n i : ℕ) (found : List Class) (high : ℕ) (ts : Ahead) where
   classes_more b x h rest xs p q d e u =
       ap (λ (xs : List Class). classes_from room (n - (i + 1)) xs (max high h) rest) u
       ∙ sym (classes_turn p ∙ choose_false (is_done ts) _ _ (sym q ∙ d) ∙ bind_ok _ _ (next_classes room (n - (i + 1)) found high) e)
+
+  pub classes_none : (b : Bool) → i < n → b ≡ is_done ts → b ≡ true → classes_from room (n - i) found high ts ≡ Ok (found, high, ts)
+  classes_none b p q d = classes_turn p ∙ choose_true (is_done ts) _ _ (sym q ∙ d)
+
+  pub classes_fail : (b : Bool) (e : ParseFault) → i < n → b ≡ is_done ts → b ≡ false → Fails (class room ts) e → Fails (classes_from room (n - i) found high ts) e
+  classes_fail b e p q d f =
+      Fails-along _ _ e (classes_turn p ∙ choose_false (is_done ts) _ _ (sym q ∙ d)) (Fails-bind (class room ts) (next_classes room (n - (i + 1)) found high) e f)
 
 -- ---- lists in memory
 

@@ -27,12 +27,6 @@ pub calling_is : (inner : ℕ → Ahead → Read Expr) (start : ℕ) (a : Target
 unfolding calling
 calling_is inner start a ts x r es h rest t p q w = rw (p, q, w) refl
 
--- what follows `attached`
-pub object_test_is : (inner : ℕ → Ahead → Read Expr) (room : ℕ) (ts : Ahead) (o : Option DeclaredType) (r : Ahead) (t : Expr) (h : ℕ) (s u : Ahead) (x : Name) (rest : Ahead) (e : Expr) →
-    tested_type ts ≡ Ok (o, r) → chain inner room r ≡ Ok (t, h, s) → expect terminal.As s ≡ Ok u → name u ≡ Ok (x, rest) → e ≡ ObjectTest (up_to ts.last.start rest) o t x → object_test inner room ts ≡ Ok (e, h, rest)
-unfolding object_test
-object_test_is inner room ts o r t h s u x rest e p q v w y = rw (p, q, v, w, y) refl
-
 -- ---- instructions
 
 module _ (room : ℕ) (inner : Ahead → Read Instrs) (ts : Ahead) (i : Instr) where
@@ -50,21 +44,9 @@ module _ (room : ℕ) (inner : Ahead → Read Instrs) (ts : Ahead) (i : Instr) w
   unfolding creation
   create_is v r b p q d e = let f = sym q ∙ d in rw (p, f, e) refl
 
-  pub iteration_is : (a : Instrs) (ha : ℕ) (r s : Ahead) (t : Expr) (ht : ℕ) (u v : Ahead) (b : Instrs) (hb : ℕ) (w rest : Ahead) →
-      inner ts ≡ Ok (a, ha, r) → expect terminal.Until r ≡ Ok s → nested room top s ≡ Ok (t, ht, u) → expect terminal.Loop u ≡ Ok v → inner v ≡ Ok (b, hb, w) → expect terminal.End w ≡ Ok rest →
-      i ≡ Loop (up_to ts.last.start rest) a t b → iteration room inner ts ≡ Ok (i, suc (max ha (max ht hb)), rest)
-  unfolding iteration
-  iteration_is a ha r s t ht u v b hb w rest p q x y z l e = rw (p, q, x, y, z, l, e) refl
-
   pub checking_is : (cs : List Clause) (h : ℕ) (r rest : Ahead) → checked room inner ts ≡ Ok (cs, h, r) → expect terminal.End r ≡ Ok rest → i ≡ Check (up_to ts.last.start rest) cs → checking room inner ts ≡ Ok (i, h, rest)
   unfolding checking
   checking_is cs h r rest p q e = rw (p, q, e) refl
-
-  pub block_is : (hs : List Head) (h : ℕ) (r s : Ahead) (b : Instrs) (g : ℕ) (u rest : Ahead) →
-      heads room inner ts ≡ Ok (hs, h, r) → expect terminal.Do r ≡ Ok s → inner s ≡ Ok (b, g, u) → expect terminal.End u ≡ Ok rest → i ≡ Block (up_to ts.last.start rest) hs b →
-      block room inner ts ≡ Ok (i, suc (max h g), rest)
-  unfolding block
-  block_is hs h r s b g u rest p q w x e = rw (p, q, w, x, e) refl
 
 not_zero : (room : ℕ) → 0 < room → (room == 0) ≡ false
 not_zero room a = grind arith
@@ -79,11 +61,6 @@ pub creation_is : (room : ℕ) (inner : Ahead → Read Instrs) (ts : Ahead) (v :
     i ≡ Create (up_to ts.last.start rest) (record { variable = v; call = Some (record { name = x; actuals = es }) }) → creation room inner ts ≡ Ok (i, max 1 h, rest)
 unfolding creation
 creation_is room inner ts v r b s x u es h rest i a p q d w y z e = let f = sym q ∙ d in let k : name (past r) ≡ Ok (x, u) = ap name (sym w) ∙ y in rw (p, f, not_zero room a, k, z, e) refl
-
-pub head_is : (room : ℕ) (inner : Ahead → Read Instrs) (ts : Ahead) (t : Expr) (h : ℕ) (r s : Ahead) (x : Name) (rest : Ahead) (k : Head) →
-    nested_chain room ts ≡ Ok (t, h, r) → expect terminal.As r ≡ Ok s → name s ≡ Ok (x, rest) → k ≡ record { value = t; name = x } → head room inner ts ≡ Ok (k, h, rest)
-unfolding head
-head_is room inner ts t h r s x rest k p q w e = rw (p, q, w, e) refl
 
 -- What is read from memory as a call is one.
 one_call : (s : Span) (t : code.Held-Call-target) (n : code_name.Name) (shape : _) (es : _) → ((x : code_call.Call) → variants.Call' s t n shape es ≡ variants.Call x → ⊥) → ⊥

@@ -147,6 +147,9 @@ module _ (inner : ℕ → Ahead → Read Expr) (room n i : ℕ) (t : Expr) (h : 
   unfolding calls
   calls_turn p = let z : n - i ≡ suc (n - (i + 1)) = omega arith in ap (λ (f : ℕ). calls inner room f t h ts) z
 
+  pub calls_none : (b : Bool) → i < n → b ≡ sees terminal.Dot ts → b ≡ false → calls inner room (n - i) t h ts ≡ Ok (t, h, ts)
+  calls_none b p q d = calls_turn p ∙ choose_false (sees terminal.Dot ts) _ _ (sym q ∙ d)
+
 module _ (inner : ℕ → Ahead → Read Expr) (room n i : ℕ) (t : Expr) (h : ℕ) (ts : Ahead) (all : Read Expr) (same : calls inner room (n - i) t h ts ≡ all)
     (c : Bool) (r : Ahead) (a : Target) (p : i < n) (q : c ≡ sees terminal.Dot ts) (d : c ≡ true) (b : h < room) (w : r ≡ past ts) (l : a ≡ target t)
     (start : ℕ) (z : start ≡ (span_of t).start) where
@@ -187,6 +190,14 @@ module _ (inner : ℕ → Ahead → Read Expr) (n i : ℕ) (found : Exprs) (high
   exprs_more b r x h rest xs m p q d w e u v =
       ap (λ (m : ℕ). more_exprs inner (n - (i + 1)) xs m rest) v ∙ ap (λ (xs : Exprs). more_exprs inner (n - (i + 1)) xs (max high h) rest) u
       ∙ sym (exprs_turn p ∙ choose_true (sees terminal.Comma ts) _ _ (sym q ∙ d) ∙ ap (λ (r : Ahead). inner top r >>= next_exprs inner (n - (i + 1)) found high) (sym w) ∙ bind_ok _ _ (next_exprs inner (n - (i + 1)) found high) e)
+
+  pub exprs_none : (b : Bool) → i < n → b ≡ sees terminal.Comma ts → b ≡ false → more_exprs inner (n - i) found high ts ≡ Ok (found, high, ts)
+  exprs_none b p q d = exprs_turn p ∙ choose_false (sees terminal.Comma ts) _ _ (sym q ∙ d)
+
+  pub exprs_fail : (b : Bool) (r : Ahead) (e : ParseFault) → i < n → b ≡ sees terminal.Comma ts → b ≡ true → r ≡ past ts → Fails (inner top r) e → Fails (more_exprs inner (n - i) found high ts) e
+  exprs_fail b r e p q d w f =
+      Fails-along _ _ e (exprs_turn p ∙ choose_true (sees terminal.Comma ts) _ _ (sym q ∙ d) ∙ ap (λ (r : Ahead). inner top r >>= next_exprs inner (n - (i + 1)) found high) (sym w))
+      (Fails-bind (inner top r) (next_exprs inner (n - (i + 1)) found high) e f)
 
 -- what follows the first actual
 abbrev pub then_exprs : (ℕ → Ahead → Read Expr) → Expr × ℕ × Ahead → Read Exprs
@@ -274,6 +285,13 @@ module _ (room : ℕ) (n i : ℕ) (found : Instrs) (high : ℕ) (ts : Ahead) whe
       ap (λ (xs : Instrs). instrs_from room (nested_instrs room) (n - (i + 1)) xs (max high h) next) u ∙ ap (λ (r : Ahead). instrs_from room (nested_instrs room) (n - (i + 1)) (instrs_push found x) (max high h) r) v
       ∙ sym (instrs_turn p ∙ choose_true (begins_instr ts) _ _ (sym q ∙ d) ∙ bind_ok _ _ (next_instrs room (n - (i + 1)) found high) e)
 
+  pub instrs_none : (b : Bool) → i < n → b ≡ begins_instr ts → b ≡ false → instrs_from room (nested_instrs room) (n - i) found high ts ≡ Ok (found, high, ts)
+  instrs_none b p q d = instrs_turn p ∙ choose_false (begins_instr ts) _ _ (sym q ∙ d)
+
+  pub instrs_fail : (b : Bool) (e : ParseFault) → i < n → b ≡ begins_instr ts → b ≡ true → Fails (instr room (nested_instrs room) ts) e → Fails (instrs_from room (nested_instrs room) (n - i) found high ts) e
+  instrs_fail b e p q d f =
+      Fails-along _ _ e (instrs_turn p ∙ choose_true (begins_instr ts) _ _ (sym q ∙ d)) (Fails-bind (instr room (nested_instrs room) ts) (next_instrs room (n - (i + 1)) found high) e f)
+
 pub branches_begin : (room : ℕ) (ts : Ahead) (found : Branches) → found ≡ no_branches →
     branches room (nested_instrs room) (length ts.rest - 0) found 0 ts ≡ branches room (nested_instrs room) (left ts) no_branches 0 ts
 branches_begin room ts found e =
@@ -296,6 +314,15 @@ module _ (room : ℕ) (n i : ℕ) (found : Branches) (high : ℕ) (ts : Ahead) w
   branches_more b r x h rest xs p q d w e u =
       ap (λ (xs : Branches). branches room (nested_instrs room) (n - (i + 1)) xs (max high h) rest) u
       ∙ sym (branches_turn p ∙ choose_true (sees terminal.Elseif ts) _ _ (sym q ∙ d) ∙ ap (λ (r : Ahead). branch room (nested_instrs room) r >>= next_branches room (n - (i + 1)) found high) (sym w) ∙ bind_ok _ _ (next_branches room (n - (i + 1)) found high) e)
+
+  pub branches_none : (b : Bool) → i < n → b ≡ sees terminal.Elseif ts → b ≡ false → branches room (nested_instrs room) (n - i) found high ts ≡ Ok (found, high, ts)
+  branches_none b p q d = branches_turn p ∙ choose_false (sees terminal.Elseif ts) _ _ (sym q ∙ d)
+
+  pub branches_fail : (b : Bool) (r : Ahead) (e : ParseFault) → i < n → b ≡ sees terminal.Elseif ts → b ≡ true → r ≡ past ts → Fails (branch room (nested_instrs room) r) e →
+      Fails (branches room (nested_instrs room) (n - i) found high ts) e
+  branches_fail b r e p q d w f =
+      Fails-along _ _ e (branches_turn p ∙ choose_true (sees terminal.Elseif ts) _ _ (sym q ∙ d) ∙ ap (λ (r : Ahead). branch room (nested_instrs room) r >>= next_branches room (n - (i + 1)) found high) (sym w))
+      (Fails-bind (branch room (nested_instrs room) r) (next_branches room (n - (i + 1)) found high) e f)
 
 -- what follows the first head
 abbrev pub then_heads : ℕ → Head × ℕ × Ahead → Read (List Head)
@@ -328,3 +355,12 @@ module _ (room : ℕ) (n i : ℕ) (found : List Head) (high : ℕ) (ts : Ahead) 
   heads_more b r x h rest xs p q d w e u =
       ap (λ (xs : List Head). more_heads room (nested_instrs room) (n - (i + 1)) xs (max high h) rest) u
       ∙ sym (heads_turn p ∙ choose_true (sees terminal.Comma ts) _ _ (sym q ∙ d) ∙ ap (λ (r : Ahead). head room (nested_instrs room) r >>= next_heads room (n - (i + 1)) found high) (sym w) ∙ bind_ok _ _ (next_heads room (n - (i + 1)) found high) e)
+
+  pub heads_none : (b : Bool) → i < n → b ≡ sees terminal.Comma ts → b ≡ false → more_heads room (nested_instrs room) (n - i) found high ts ≡ Ok (found, high, ts)
+  heads_none b p q d = heads_turn p ∙ choose_false (sees terminal.Comma ts) _ _ (sym q ∙ d)
+
+  pub heads_fail : (b : Bool) (r : Ahead) (e : ParseFault) → i < n → b ≡ sees terminal.Comma ts → b ≡ true → r ≡ past ts → Fails (head room (nested_instrs room) r) e →
+      Fails (more_heads room (nested_instrs room) (n - i) found high ts) e
+  heads_fail b r e p q d w f =
+      Fails-along _ _ e (heads_turn p ∙ choose_true (sees terminal.Comma ts) _ _ (sym q ∙ d) ∙ ap (λ (r : Ahead). head room (nested_instrs room) r >>= next_heads room (n - (i + 1)) found high) (sym w))
+      (Fails-bind (head room (nested_instrs room) r) (next_heads room (n - (i + 1)) found high) e f)

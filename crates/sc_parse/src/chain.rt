@@ -127,7 +127,7 @@ impl<'a> Parser<'a> {
 
     /// What follows `attached`.
     #[cycle(expression)]
-    #[tactic(auto, unfolding(crate::specs::Reading::Expressions::object_test))]
+    #[tactic(auto, using(crate::proofs::Parts::object_test_is))]
     pub fn object_test(&mut self, room: u8) -> Result<(Expr, u8), ParseFault>
         ensures read { Reads expr_in (spec.object_test (spec.nested room) room (ahead self.old))
             result (ahead self.new) }
@@ -137,8 +137,7 @@ impl<'a> Parser<'a> {
         let declared = self.tested_type()?;
         let (tested, height) = self.chain(room)?;
         let tested = Box::new(self.alloc, tested)?;
-        self.expect(Terminal::As)?;
-        let name = self.name()?;
+        let name = self.named()?;
         let span = self.span_from(start);
         Ok((Expr::ObjectTest(span, declared, tested, name), height))
     }

@@ -20,7 +20,7 @@ pub struct Parser<'a> {
 
 impl<'a> Parser<'a> {
     ghost use Rattle.sc_parse.specs.Reading.Classes.{opening};
-    ghost use Rattle.sc_parse.specs.Reading.Reads.{ahead, name_in, text_in, Fails, Takes};
+    ghost use Rattle.sc_parse.specs.Reading.Reads.{ahead, name_in, named_ahead, text_in, Fails, Takes};
 
     /// The parser of these tokens.
     pub fn new(alloc: Global, tokens: &'a [Token]) -> Parser<'a>
@@ -156,6 +156,14 @@ impl<'a> Parser<'a> {
             }
             _ => Err(ParseFault::NotInGrammar { span: self.last }),
         }
+    }
+
+    /// Reads `as` and a name.
+    pub fn named(&mut self) -> Result<Name, ParseFault>
+        ensures { Takes name_in (named_ahead (ahead self.old)) result (ahead self.new) }
+    {
+        self.expect(Terminal::As)?;
+        self.name()
     }
 
     /// Reads a manifest string.

@@ -1,6 +1,7 @@
 //! Expressions (ECMA-367, 8.28).
 
 ghost use Rattle.std.specs.Prelude.{◌≡◌, ◌≤◌, ◌<◌, max, IfOk};
+ghost use Rattle.sc_tree.specs.Plain as plain;
 ghost use Rattle.sc_parse.specs.Reading.Looks.{left};
 ghost use Rattle.sc_parse.specs.Reading.Expressions as spec;
 ghost use Rattle.sc_parse.specs.Reading.Reads.{ahead, expr_in, Reads};
@@ -9,7 +10,8 @@ use crate::cursor::Parser;
 use crate::fault::ParseFault;
 use crate::operator::is_grouped;
 use sc_text::{Span, Terminal};
-use sc_tree::Expr;
+use sc_tree::{BinaryOperator, Expr};
+use std::alloc::{AllocError, Global};
 
 /// The class of a whole expression.
 pub const TOP: u8 = 6;
@@ -19,6 +21,25 @@ pub fn deeper(a: u8, b: u8) -> u8
     ensures { result ≡ max a b }
 {
     if a < b { b } else { a }
+}
+
+/// An operator with the operands before and behind it.
+fn joined(
+    alloc: Global,
+    left: Expr,
+    operator: BinaryOperator,
+    right: Expr,
+) -> Result<Expr, AllocError>
+    ensures { IfOk result (λ e. expr_in e
+        ≡ plain.Binary (spec.across (expr_in left) (expr_in right)) operator (expr_in left) (expr_in right)) }
+{
+    let span = Span {
+        start: left.span().start,
+        end: right.span().end,
+    };
+    let left = Box::new(alloc, left)?;
+    let right = Box::new(alloc, right)?;
+    Ok(Expr::Binary(span, operator, left, right))
 }
 
 impl<'a> Parser<'a> {
@@ -52,7 +73,7 @@ impl<'a> Parser<'a> {
 
     /// The first operand with the operators just above the class that follow it, and their right operands.
     #[cycle(expression)]
-    #[tactic(auto, using(crate::proofs::Turns::turns_of, crate::proofs::Turns::operators_end, crate::proofs::Turns::operators_turn), unfolding(sc_tree::specs::View::expr_of))]
+    #[tactic(auto, using(crate::proofs::Turns::turns_of, crate::proofs::Turns::operators_end, crate::proofs::Turns::operators_turn))]
     fn operators(
         &mut self,
         class: u8,
@@ -78,16 +99,7 @@ impl<'a> Parser<'a> {
             }
             self.take_operator(operator);
             let (right, right_height) = self.nested(class, room)?;
-            let span = Span {
-                start: left.span().start,
-                end: right.span().end,
-            };
-            left = Expr::Binary(
-                span,
-                operator,
-                Box::new(self.alloc, left)?,
-                Box::new(self.alloc, right)?,
-            );
+            left = joined(self.alloc, left, operator, right)?;
             height = deeper(height, right_height) + 1;
             if !is_grouped(class) {
                 return Ok((left, height));

@@ -4,7 +4,7 @@ ghost use Rattle.std.specs.Prelude.{◌≡◌};
 ghost use Rattle.sc_tree.specs.Plain.{no_branches};
 ghost use Rattle.sc_parse.specs.Reading.Instructions as spec;
 ghost use Rattle.sc_parse.specs.Reading.Looks.{begin, left, past};
-ghost use Rattle.sc_parse.specs.Reading.Reads.{ahead, variable_in, clauses_in, expr_in, head_in, heads_in, instr_in, instrs_in, branch_in, branches_in, Gives, Reads, Takes};
+ghost use Rattle.sc_parse.specs.Reading.Reads.{ahead, variable_in, clauses_in, expr_in, head_in, heads_in, instr_in, instrs_in, branch_in, branches_in, under_ahead, ended_ahead, Gives, Reads, Takes};
 
 use crate::cursor::Parser;
 use crate::expression::TOP;
@@ -42,6 +42,25 @@ impl<'a> Parser<'a> {
             return Err(ParseFault::TooDeep { span: self.last });
         }
         self.instructions(room - 1)
+    }
+
+    /// Instructions inside the construct whose part begins with this word.
+    #[cycle(instructions)]
+    fn under(&mut self, word: Terminal, room: u8) -> Result<Vec<Instr>, ParseFault>
+        ensures { Gives instrs_in (under_ahead room word (ahead self.old)) result (ahead self.new) }
+    {
+        self.expect(word)?;
+        self.instructions_inside(room)
+    }
+
+    /// The same, up to the `end` of the construct.
+    #[cycle(instructions)]
+    fn ended(&mut self, word: Terminal, room: u8) -> Result<Vec<Instr>, ParseFault>
+        ensures { Gives instrs_in (ended_ahead room word (ahead self.old)) result (ahead self.new) }
+    {
+        let body = self.under(word, room)?;
+        self.expect(Terminal::End)?;
+        Ok(body)
     }
 
     /// The instruction that begins here.
@@ -166,14 +185,13 @@ impl<'a> Parser<'a> {
 
     /// A condition and what stands under it.
     #[cycle(instructions)]
-    #[tactic(auto, unfolding(crate::specs::Reading::Instructions::branch))]
+    #[tactic(auto, using(crate::proofs::Parts::branch_is))]
     fn branch(&mut self, room: u8) -> Result<Branch, ParseFault>
         ensures { Gives branch_in (spec.branch room (spec.nested_instrs room) (ahead self.old))
             result (ahead self.new) }
     {
         let (condition, _) = self.nested(TOP, room)?;
-        self.expect(Terminal::Then)?;
-        let body = self.instructions_inside(room)?;
+        let body = self.under(Terminal::Then, room)?;
         Ok(Branch { condition, body })
     }
 
@@ -227,7 +245,7 @@ impl<'a> Parser<'a> {
 
     /// What follows `from`, up to its `end`.
     #[cycle(instructions)]
-    #[tactic(auto, unfolding(crate::specs::Reading::Instructions::iteration))]
+    #[tactic(auto, using(crate::proofs::Parts::iteration_is))]
     fn iteration(&mut self, room: u8) -> Result<Instr, ParseFault>
         ensures { Gives instr_in (spec.iteration room (spec.nested_instrs room) (ahead self.old))
             result (ahead self.new) }
@@ -236,9 +254,7 @@ impl<'a> Parser<'a> {
         let initial = self.instructions_inside(room)?;
         self.expect(Terminal::Until)?;
         let (condition, _) = self.nested(TOP, room)?;
-        self.expect(Terminal::Loop)?;
-        let body = self.instructions_inside(room)?;
-        self.expect(Terminal::End)?;
+        let body = self.ended(Terminal::Loop, room)?;
         let span = self.span_from(start);
         Ok(Instr::Loop(span, initial, condition, body))
     }
@@ -284,13 +300,12 @@ impl<'a> Parser<'a> {
     }
 
     /// What a block reserves, with its name there.
-    #[tactic(auto, unfolding(crate::specs::Reading::Instructions::head))]
+    #[tactic(auto, using(crate::proofs::Parts::head_is))]
     fn head(&mut self, room: u8) -> Result<Head, ParseFault>
         ensures { Gives head_in (spec.head room (spec.nested_instrs room) (ahead self.old)) result (ahead self.new) }
     {
         let (value, _) = self.nested_chain(room)?;
-        self.expect(Terminal::As)?;
-        let name = self.name()?;
+        let name = self.named()?;
         Ok(Head { value, name })
     }
 
@@ -315,15 +330,13 @@ impl<'a> Parser<'a> {
 
     /// What follows `separate`, up to its `end`.
     #[cycle(instructions)]
-    #[tactic(auto, unfolding(crate::specs::Reading::Instructions::block))]
+    #[tactic(auto, using(crate::proofs::Parts::block_is))]
     fn block(&mut self, room: u8) -> Result<Instr, ParseFault>
         ensures { Gives instr_in (spec.block room (spec.nested_instrs room) (ahead self.old)) result (ahead self.new) }
     {
         let start = self.last.start;
         let heads = self.heads(room)?;
-        self.expect(Terminal::Do)?;
-        let body = self.instructions_inside(room)?;
-        self.expect(Terminal::End)?;
+        let body = self.ended(Terminal::Do, room)?;
         Ok(Instr::Block(self.span_from(start), heads, body))
     }
 }

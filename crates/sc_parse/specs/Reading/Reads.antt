@@ -4,6 +4,7 @@ use Rattle.std.specs.declared.vec.Vec.{Vec}
 use Rattle.std.specs.declared.boxed.Box.{Box}
 use Rattle.std.specs.declared.string.String.{String}
 use Rattle.std.specs.declared.alloc.Global.{Global}
+use Rattle.sc_text.specs.declared.token.Terminal.{Terminal}
 use Rattle.sc_text.specs.declared.token.Terminal.TheVariants as terminal
 use Rattle.sc_tree.specs.declared.declaration.HandlerTag.{HandlerTag}
 use Rattle.sc_tree.specs.declared.declaration.DeclaredType.{DeclaredType}
@@ -27,7 +28,7 @@ use Rattle.sc_tree.specs.Grammar.Classes.{ends_class}
 use Rattle.sc_tree.specs.Internal.Reading.Looks.{Fault, Wrong, Deep, ◌>>=◌}
 use Rattle.sc_parse.specs.Reading.Looks.{Ahead, Read, Taken, skip, expect, name}
 use Rattle.sc_parse.specs.Reading.Assertions.{assertion}
-use Rattle.sc_parse.specs.Reading.Instructions.{instrs}
+use Rattle.sc_parse.specs.Reading.Instructions.{instrs, nested_instrs}
 use Rattle.sc_parse.specs.Reading.Classes.{locals, parents, creators, sections, past_note}
 use Rattle.sc_parse.specs.declared.cursor.Parser.{Parser}
 use Rattle.sc_parse.specs.declared.fault.ParseFault.{ParseFault}
@@ -134,6 +135,25 @@ abbrev pub system_in : System → plain.System
 system_in s = system_of s
 
 -- ---- what is read
+
+-- a name behind `as`
+abbrev pub named_ahead : Ahead → Taken plain.Name
+named_ahead ts = do
+  r ← expect terminal.As ts
+  name r
+
+-- what stands one deeper, behind a word
+abbrev pub under_ahead : ℕ → Terminal → Ahead → Read plain.Instrs
+under_ahead room word ts = do
+  r ← expect word ts
+  nested_instrs room r
+
+-- the same, up to the `end` behind it
+abbrev pub ended_ahead : ℕ → Terminal → Ahead → Read plain.Instrs
+ended_ahead room word ts = do
+  b ← under_ahead room word ts
+  rest ← expect terminal.End b.2
+  Ok (b.0, b.1, rest)
 
 -- what a routine has before its body
 abbrev pub opening_ahead : ℕ → Ahead → Read (List plain.Clause × List plain.Declaration)

@@ -1,30 +1,19 @@
 use Rattle.std.proofs.Common.{◌≡◌, ℕ, refl, ◌∙◌, ap, sym, List, [], ◌∷◌, ◌++◌, Ok, arith}
 use Rattle.std.proofs.lemmas.Result.{err_from_is_err_and}
 use Rattle.sc_tree.proofs.Combining.{choose_false}
-use Rattle.sc_tree.proofs.ViewLemmas.{expr_of-current, expr_of-result, expr_of-call, expr_of-binary, expr_of-object_test}
+use Rattle.sc_tree.proofs.ViewLemmas.{expr_of-current, expr_of-result, expr_of-call, expr_of-object_test}
 use Rattle.sc_parse.proofs.Views.{exprs_of-push}
 use Rattle.sc_tree.specs.declared.expression.Expr.{Expr}
 use Rattle.sc_text.specs.declared.token.Span.{Span}
-use Rattle.std.specs.declared.boxed.Box.{Box}
-use Rattle.std.specs.declared.alloc.Global.{Global}
-use Rattle.sc_tree.specs.declared.expression.BinaryOperator.{BinaryOperator}
-use Rattle.sc_tree.specs.declared.expression.Expr.TheVariants as variants
 use Rattle.sc_tree.specs.Plain as plain
 use Rattle.sc_tree.specs.View.{exprs_of}
-use Rattle.sc_tree.specs.Properties.{span_of}
-use Rattle.sc_parse.specs.Reading.Expressions.{across, nested, actuals}
+use Rattle.sc_parse.specs.Reading.Expressions.{nested, actuals}
 use Rattle.sc_parse.specs.Reading.Reads.{ahead, name_in, type_if_any_in, expr_in, exprs_in, target_in}
-use Rattle.sc_parse.proofs.Faults.{Reads-along}
-use Rattle.sc_parse.proofs.Turns.{operators_begin, operators_deep, operators_fail, operators_done, calls_begin, calls_fail, calls_more, chain_current, chain_result, chain_fail, chain_dots, exprs_begin, exprs_more}
-use Rattle.sc_parse.proofs.Steps.{calling_is, object_test_is}
+use Rattle.sc_parse.proofs.Faults.{Fails-along, Reads-along}
+use Rattle.sc_parse.proofs.Turns.{operators_end, operators_begin, operators_deep, operators_fail, operators_done, calls_begin, calls_fail, calls_more, chain_current, chain_result, chain_fail, chain_dots, exprs_begin, exprs_more, exprs_none, exprs_fail, exprs_end, calls_none, calls_end}
+use Rattle.sc_parse.proofs.Parts.{object_test_read}
+use Rattle.sc_parse.proofs.Steps.{calling_is}
 use Rattle.sc_parse.proofs.cursor.Parser.+expression.Goals as goal
-
--- the tree of an operator between two operands
-binary_is : (op : BinaryOperator) (a b : Expr) (p q : Box Expr Global) (start end : ℕ) → start ≡ (span_of (expr_in a)).start → end ≡ (span_of (expr_in b)).end → p.value ≡ a → q.value ≡ b →
-    expr_in (variants.Binary (record { start = start; end = end }) op p q) ≡ plain.Binary (across (expr_in a) (expr_in b)) op (expr_in a) (expr_in b)
-binary_is op a b p q start end s e u v =
-    let k = across (expr_in a) (expr_in b) in
-    rw (s, e) (expr_of-binary k op p q ∙ ap (λ (x : Expr). plain.Binary k op (expr_in x) (expr_in q.value)) u ∙ ap (λ (y : Expr). plain.Binary k op (expr_in a) (expr_in y)) v)
 
 pub operators-loop-turn-init : goal.operators-loop-turn-init
 operators-loop-turn-init t c = record { high = c.requires; same = operators_begin _ _ _ _ _ _ }
@@ -46,7 +35,7 @@ pub operators-returns-then-not-is_grouped-clause-read : goal.operators-returns-t
 operators-returns-then-not-is_grouped-clause-read t c =
     operators_done (nested c.args.room) c.args.room c.args.class _ c.loop-turn._turn (expr_in c.loop-turn.left) c.loop-turn.height (ahead c.loop-turn.self) _ c.loop-turn.invariant.same
     _ _ _ c.loop-turn-test.true c.operator.ensures c.in-Some.is c.if-room-height.false c.take_operator.ensures _ _ _ _ _ _ c.in_ok-right.ensures.read c.is_grouped.ensures c.if-not-is_grouped.true
-    (binary_is _ _ _ _ _ _ _ (ap (λ (s : Span). s.start) c.span.ensures) (ap (λ (s : Span). s.end) c.span-in-loop-turn.ensures) c.in_ok-new.ensures.ok c.in_ok-new-2.ensures.ok)
+    c.in_ok-left.ensures
     c.deeper-height.ensures
 
 -- ---- calls
@@ -103,7 +92,7 @@ chain-returns-clause-read t c =
 
 pub object_test-returns-clause-read : goal.object_test-returns-clause-read
 object_test-returns-clause-read t c =
-    object_test_is (nested c.args.room) c.args.room (ahead c.args.self.now) _ _ _ _ _ _ _ _ _ c.in_ok-declared.ensures c.in_ok-tested.ensures.read c.in_ok-expect.ensures c.in_ok-name.ensures
+    object_test_read (nested c.args.room) c.args.room (ahead c.args.self.now) _ _ _ _ _ _ _ _ c.in_ok-declared.ensures c.in_ok-tested.ensures.read c.in_ok-name.ensures
     (expr_of-object_test c.span_from-span.result c.in_ok-declared.declared c.in_ok-tested-2.tested c.in_ok-name.name
     ∙ ap (λ (e : Expr). plain.ObjectTest c.span_from-span.result (type_if_any_in c.in_ok-declared.declared) (expr_in e) (name_in c.in_ok-name.name)) c.in_ok-tested-2.ensures.ok
     ∙ ap (λ (s : Span). plain.ObjectTest s (type_if_any_in c.in_ok-declared.declared) (expr_in c.in_ok-tested.tested) (name_in c.in_ok-name.name)) c.span_from-span.ensures)
@@ -130,3 +119,34 @@ exprs-loop-turn-preserved t c = record {
       c.take.ensures.past c.in_ok-expr.ensures.read (ap (λ (es : List Expr). exprs_of es) c.in_ok-push-2.ensures.items ∙ exprs_of-push _ _) c.deeper-height.ensures
       ∙ c.loop-turn.invariant.same;
 }
+
+pub exprs-returns-then-not-sees-clause-read : goal.exprs-returns-then-not-sees-clause-read
+exprs-returns-then-not-sees-clause-read t c =
+    sym c.loop-turn.invariant.same
+    ∙ exprs_none (nested c.args.room) _ c.loop-turn._turn (exprs_in c.loop-turn.found) c.loop-turn.height (ahead c.loop-turn.self) _ c.loop-turn-test.true c.sees.ensures c.if-not-sees.true
+
+pub exprs-returns-in_err-expr-clause-read : goal.exprs-returns-in_err-expr-clause-read
+exprs-returns-in_err-expr-clause-read t c =
+    let p = err_from_is_err_and c.from_residual-in_err-expr.result c.from_residual-in_err-expr.ensures.1 in
+    rw (p.1, p.2)
+    (Fails-along _ _ c.in_err-expr.field-0.0 (sym c.loop-turn.invariant.same)
+    (exprs_fail (nested c.args.room) _ c.loop-turn._turn (exprs_in c.loop-turn.found) c.loop-turn.height (ahead c.loop-turn.self) _ _ c.in_err-expr.field-0.0
+    c.loop-turn-test.true c.sees.ensures c.if-not-sees.false c.take.ensures.past c.in_err-expr.ensures.read))
+
+pub exprs-returns-clause-read : goal.exprs-returns-clause-read
+exprs-returns-clause-read t c =
+    sym c.loop-turn.invariant.same ∙ exprs_end (nested c.args.room) _ c.loop-turn._turn (exprs_in c.loop-turn.found) c.loop-turn.height (ahead c.loop-turn.self) c.loop-turn-test.false
+
+pub calls-returns-then-not-sees-clause-read : goal.calls-returns-then-not-sees-clause-read
+calls-returns-then-not-sees-clause-read t c =
+    sym c.loop-turn.invariant.same
+    ∙ calls_none (nested c.args.room) c.args.room _ c.loop-turn._turn (expr_in c.loop-turn.chain) c.loop-turn.height (ahead c.loop-turn.self) _ c.loop-turn-test.true c.sees.ensures c.if-not-sees.true
+
+pub calls-returns-clause-read : goal.calls-returns-clause-read
+calls-returns-clause-read t c =
+    sym c.loop-turn.invariant.same ∙ calls_end (nested c.args.room) c.args.room _ c.loop-turn._turn (expr_in c.loop-turn.chain) c.loop-turn.height (ahead c.loop-turn.self) c.loop-turn-test.false
+
+pub operators-returns-clause-read : goal.operators-returns-clause-read
+operators-returns-clause-read t c =
+    sym c.loop-turn.invariant.same
+    ∙ operators_end (nested c.args.room) c.args.room c.args.class _ c.loop-turn._turn (expr_in c.loop-turn.left) c.loop-turn.height (ahead c.loop-turn.self) c.loop-turn-test.false

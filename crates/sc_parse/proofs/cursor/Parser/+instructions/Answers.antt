@@ -2,13 +2,15 @@ use Rattle.std.proofs.Common.{ap, sym, ◌∙◌, max, suc, arith}
 use Rattle.std.proofs.lemmas.Grind.{common_steps}
 use Rattle.sc_tree.proofs.ViewLemmas.{instr_of-if, instr_of-loop, instr_of-block}
 use Rattle.sc_parse.proofs.Views.{instrs_of-push, branches_of-push}
-use Rattle.sc_parse.specs.Reading.Instructions.{branch, conditional, nested_instrs}
+use Rattle.sc_parse.specs.Reading.Instructions.{conditional}
 use Rattle.sc_tree.specs.View.{instrs_of, branches_of}
 use Rattle.sc_text.specs.declared.token.Span.{Span}
 use Rattle.sc_tree.specs.Plain.{Loop, Block}
 use Rattle.sc_parse.specs.Reading.Reads.{ahead, expr_in, heads_in, instrs_in, branches_in}
-use Rattle.sc_parse.proofs.Turns.{instrs_begin, instrs_end, instrs_more, branches_begin, branches_more}
-use Rattle.sc_parse.proofs.Steps.{iteration_is, block_is}
+use Rattle.sc_parse.proofs.Turns.{instrs_begin, instrs_end, instrs_more, instrs_none, instrs_fail, branches_begin, branches_end, branches_more, branches_none, branches_fail}
+use Rattle.sc_parse.proofs.Parts.{branch_read, iteration_read, block_read}
+use Rattle.std.proofs.lemmas.Result.{err_from_is_err_and}
+use Rattle.sc_parse.proofs.Faults.{Fails-along}
 use Rattle.sc_parse.proofs.cursor.Parser.+instructions.Goals as goal
 
 pub instructions-loop-turn-init : goal.instructions-loop-turn-init
@@ -37,9 +39,14 @@ branches-loop-turn-preserved t c = (
       ∙ c.loop-turn.invariant.1,
 )
 
+pub ended-returns : goal.ended-returns
+ended-returns t c = (c.in_ok-body.ensures.0, grind (arith, common_steps))
+
 pub branch-returns : goal.branch-returns
-unfolding branch
-branch-returns t c = (max c.in_ok-condition.field-0-1 c.in_ok-body.ensures.0, grind (arith, common_steps))
+branch-returns t c = (
+  max c.in_ok-condition.field-0-1 c.in_ok-body.ensures.0,
+  branch_read c.args.room (ahead c.args.self.now) _ _ _ _ _ _ c.in_ok-condition.ensures.read c.in_ok-body.ensures.1,
+)
 
 pub conditional-returns : goal.conditional-returns
 unfolding conditional
@@ -49,12 +56,51 @@ conditional-returns t c =
 pub iteration-returns : goal.iteration-returns
 iteration-returns t c = (
   suc (max c.in_ok-initial.ensures.0 (max c.in_ok-condition.field-0-1 c.in_ok-body.ensures.0)),
-  iteration_is c.args.room (nested_instrs c.args.room) (ahead c.args.self.now) _ _ _ _ _ _ _ _ _ _ _ _ _ c.in_ok-initial.ensures.1 c.in_ok-expect.ensures c.in_ok-condition.ensures.read c.in_ok-expect-2.ensures
-      c.in_ok-body.ensures.1 c.in_ok-expect-3.ensures (instr_of-loop _ _ _ _ ∙ ap (λ (s : Span). Loop s (instrs_in c.in_ok-initial.initial) (expr_in c.in_ok-condition.condition) (instrs_in c.in_ok-body.body)) c.span_from-span.ensures),
+  iteration_read c.args.room (ahead c.args.self.now) _ _ _ _ _ _ _ _ _ _ _ c.in_ok-initial.ensures.1 c.in_ok-expect.ensures c.in_ok-condition.ensures.read c.in_ok-body.ensures.1
+      (instr_of-loop _ _ _ _ ∙ ap (λ (s : Span). Loop s (instrs_in c.in_ok-initial.initial) (expr_in c.in_ok-condition.condition) (instrs_in c.in_ok-body.body)) c.span_from-span.ensures),
 )
 
 pub block-returns : goal.block-returns
 block-returns t c = (
   suc (max c.in_ok-heads.ensures.0 c.in_ok-body.ensures.0),
-  block_is c.args.room (nested_instrs c.args.room) (ahead c.args.self.now) _ _ _ _ _ _ _ _ _ c.in_ok-heads.ensures.1 c.in_ok-expect.ensures c.in_ok-body.ensures.1 c.in_ok-expect-2.ensures (instr_of-block _ _ _ ∙ ap (λ (s : Span). Block s (heads_in c.in_ok-heads.heads) (instrs_in c.in_ok-body.body)) c.span_from.ensures),
+  block_read c.args.room (ahead c.args.self.now) _ _ _ _ _ _ _ c.in_ok-heads.ensures.1 c.in_ok-body.ensures.1
+      (instr_of-block _ _ _ ∙ ap (λ (s : Span). Block s (heads_in c.in_ok-heads.heads) (instrs_in c.in_ok-body.body)) c.span_from.ensures),
 )
+
+pub instructions-returns-then-not-begins_instruction : goal.instructions-returns-then-not-begins_instruction
+instructions-returns-then-not-begins_instruction t c =
+    let q = c.loop-turn.invariant in (
+      q.0,
+      sym q.1 ∙ instrs_none c.args.room _ c.loop-turn._turn (instrs_in c.loop-turn.found) q.0 (ahead c.loop-turn.self) _
+          c.loop-turn-test.true c.begins_instruction.ensures c.if-not-begins_instruction.true,
+    )
+
+pub instructions-returns-in_err-instr : goal.instructions-returns-in_err-instr
+instructions-returns-in_err-instr t c =
+    let q = c.loop-turn.invariant in
+    let p = err_from_is_err_and c.from_residual.result c.from_residual.ensures.1 in
+    rw (p.1, p.2)
+    (Fails-along _ _ c.in_err-instr.field-0.0 (sym q.1)
+    (instrs_fail c.args.room _ c.loop-turn._turn (instrs_in c.loop-turn.found) q.0 (ahead c.loop-turn.self) _ c.in_err-instr.field-0.0
+    c.loop-turn-test.true c.begins_instruction.ensures c.if-not-begins_instruction.false c.in_err-instr.ensures))
+
+pub branches-returns-then-not-sees : goal.branches-returns-then-not-sees
+branches-returns-then-not-sees t c =
+    let q = c.loop-turn.invariant in (
+      q.0,
+      sym q.1 ∙ branches_none c.args.room _ c.loop-turn._turn (branches_in c.loop-turn.found) q.0 (ahead c.loop-turn.self) _ c.loop-turn-test.true c.sees.ensures c.if-not-sees.true,
+    )
+
+pub branches-returns-in_err-branch : goal.branches-returns-in_err-branch
+branches-returns-in_err-branch t c =
+    let q = c.loop-turn.invariant in
+    let p = err_from_is_err_and c.from_residual.result c.from_residual.ensures.1 in
+    rw (p.1, p.2)
+    (Fails-along _ _ c.in_err-branch.field-0.0 (sym q.1)
+    (branches_fail c.args.room _ c.loop-turn._turn (branches_in c.loop-turn.found) q.0 (ahead c.loop-turn.self) _ _ c.in_err-branch.field-0.0
+    c.loop-turn-test.true c.sees.ensures c.if-not-sees.false c.take.ensures.past c.in_err-branch.ensures))
+
+pub branches-returns : goal.branches-returns
+branches-returns t c =
+    let q = c.loop-turn.invariant in
+    (q.0, sym q.1 ∙ branches_end c.args.room _ c.loop-turn._turn (branches_in c.loop-turn.found) q.0 (ahead c.loop-turn.self) c.loop-turn-test.false)

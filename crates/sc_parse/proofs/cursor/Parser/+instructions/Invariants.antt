@@ -8,29 +8,35 @@ use Rattle.sc_parse.proofs.cursor.Parser.+instructions.Given as goal
 abbrev pub decreases-instructions_inside : goal.decreases-instructions_inside
 decreases-instructions_inside l = l.room * 16
 
+abbrev pub decreases-under : goal.decreases-under
+decreases-under l = l.room * 16 + 1
+
+abbrev pub decreases-ended : goal.decreases-ended
+decreases-ended l = l.room * 16 + 2
+
 abbrev pub decreases-branch : goal.decreases-branch
-decreases-branch l = l.room * 16 + 1
+decreases-branch l = l.room * 16 + 2
 
 abbrev pub decreases-other : goal.decreases-other
 decreases-other l = l.room * 16 + 1
 
 abbrev pub decreases-iteration : goal.decreases-iteration
-decreases-iteration l = l.room * 16 + 1
+decreases-iteration l = l.room * 16 + 3
 
 abbrev pub decreases-block : goal.decreases-block
-decreases-block l = l.room * 16 + 1
+decreases-block l = l.room * 16 + 3
 
 abbrev pub decreases-branches : goal.decreases-branches
-decreases-branches l = l.room * 16 + 2
+decreases-branches l = l.room * 16 + 3
 
 abbrev pub decreases-conditional : goal.decreases-conditional
-decreases-conditional l = l.room * 16 + 3
+decreases-conditional l = l.room * 16 + 4
 
 abbrev pub decreases-instruction : goal.decreases-instruction
-decreases-instruction l = l.room * 16 + 4
+decreases-instruction l = l.room * 16 + 5
 
 abbrev pub decreases-instructions : goal.decreases-instructions
-decreases-instructions l = l.room * 16 + 5
+decreases-instructions l = l.room * 16 + 6
 
 abbrev pub invariant-instructions-loop-turn : goal.invariant-instructions-loop-turn
 invariant-instructions-loop-turn l =
