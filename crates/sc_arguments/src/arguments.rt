@@ -2,6 +2,7 @@
 
 mod explaining;
 mod format;
+mod options;
 mod root_option;
 mod searching;
 
@@ -10,7 +11,7 @@ ghost use Rattle.sc_arguments.specs.Usage as spec;
 
 use crate::arguments::explaining::{is_explained, with_explain};
 use crate::arguments::format::{format_argument, read_format};
-use clap::builder::ValueParser;
+use crate::arguments::options::{flag, number, option};
 use clap::error::ErrorKind;
 use clap::{Arg, ArgAction, ArgMatches};
 pub use format::Format;
@@ -360,12 +361,29 @@ fn read_files<'a>(alloc: Global, options: &ArgMatches<'a>) -> Result<Vec<&'a str
 }
 
 fn scoop_command<'a>(alloc: Global) -> Result<clap::Command<'a>, AllocError> {
-    let command = with_command(program(alloc), check_command(alloc));
-    let command = with_command(command, run_command(alloc));
-    let command = with_command(command, replay_command(alloc));
-    let command = with_command(command, searching::search_command(alloc));
-    let command = with_command(command, print_command(alloc));
-    with_command(command, explain_command(alloc))
+    let commands = commands(alloc)?;
+    with_commands(program(alloc), commands)
+}
+
+/// What the program can be told to do.
+fn commands<'a>(alloc: Global) -> Result<Vec<clap::Command<'a>>, AllocError> {
+    let mut commands = Vec::new(alloc);
+    add(&mut commands, check_command(alloc))?;
+    add(&mut commands, run_command(alloc))?;
+    add(&mut commands, replay_command(alloc))?;
+    add(&mut commands, searching::search_command(alloc))?;
+    add(&mut commands, print_command(alloc))?;
+    add(&mut commands, explain_command(alloc))?;
+    Ok(commands)
+}
+
+/// Adds this command, where memory sufficed for it.
+fn add<'a>(
+    commands: &mut Vec<clap::Command<'a>>,
+    command: Result<clap::Command<'a>, AllocError>,
+) -> Result<(), AllocError> {
+    commands.push(command?)?;
+    Ok(())
 }
 
 /// The program, without its commands.
@@ -393,10 +411,10 @@ fn check_command<'a>(alloc: Global) -> Result<clap::Command<'a>, AllocError> {
 
 fn run_command<'a>(alloc: Global) -> Result<clap::Command<'a>, AllocError> {
     let command = described(alloc, "run", RUN_ABOUT, RUN_LONG_ABOUT, RUN_AFTER_HELP);
-    let command = command.arg(workers_argument(alloc));
+    let command = with_argument(Ok(command), workers_argument(alloc));
     let command = with_argument(command, turns_argument(alloc));
-    let command = with_argument(command, kept_argument(alloc));
-    let command = with_argument(command, audit_argument(alloc));
+    let command = with_argument(command, option(alloc, "record", "PATH", KEPT_HELP));
+    let command = with_argument(command, flag(alloc, "audit", AUDIT_HELP));
     let command = with_explain(alloc, command, RUN_EXPLAIN_HELP);
     let command = with_argument(command, format_argument(alloc));
     let command = with_argument(command, root_argument(alloc));
@@ -426,7 +444,7 @@ fn print_command<'a>(alloc: Global) -> Result<clap::Command<'a>, AllocError> {
         PRINT_LONG_ABOUT,
         PRINT_AFTER_HELP,
     );
-    command.arg(file_argument(alloc))
+    with_argument(Ok(command), file_argument(alloc))
 }
 
 fn explain_command<'a>(alloc: Global) -> Result<clap::Command<'a>, AllocError> {
@@ -454,16 +472,13 @@ fn described<'a>(
         .after_help(after_help)
 }
 
-/// The command with this subcommand, where memory sufficed for both.
-fn with_command<'a>(
+/// The command with these subcommands, where memory sufficed for it.
+fn with_commands<'a>(
     command: Result<clap::Command<'a>, AllocError>,
-    subcommand: Result<clap::Command<'a>, AllocError>,
+    subcommands: Vec<clap::Command<'a>>,
 ) -> Result<clap::Command<'a>, AllocError> {
     match command {
-        Ok(command) => match subcommand {
-            Ok(subcommand) => command.subcommand(subcommand),
-            Err(error) => Err(error),
-        },
+        Ok(command) => command.subcommands(subcommands),
         Err(error) => Err(error),
     }
 }
@@ -480,43 +495,19 @@ fn with_argument<'a>(
 }
 
 fn root_argument<'a>(alloc: Global) -> Arg<'a> {
-    Arg::new(alloc, "root")
-        .long("root")
-        .value_name("CLASS.PROCEDURE")
-        .default_value("APPLICATION.make")
-        .help(ROOT_HELP)
+    option(alloc, "root", "CLASS.PROCEDURE", ROOT_HELP).default_value("APPLICATION.make")
 }
 
 fn turns_argument<'a>(alloc: Global) -> Arg<'a> {
-    Arg::new(alloc, "turns")
-        .long("turns")
-        .value_name("N")
-        .value_parser(ValueParser::signed(1, 10_000_000))
-        .default_value("1000000")
-        .help(TURNS_HELP)
+    number(
+        option(alloc, "turns", "N", TURNS_HELP),
+        10_000_000,
+        "1000000",
+    )
 }
 
 fn workers_argument<'a>(alloc: Global) -> Arg<'a> {
-    Arg::new(alloc, "workers")
-        .long("workers")
-        .value_name("N")
-        .value_parser(ValueParser::signed(1, 8))
-        .default_value("1")
-        .help(WORKERS_HELP)
-}
-
-fn kept_argument<'a>(alloc: Global) -> Arg<'a> {
-    Arg::new(alloc, "record")
-        .long("record")
-        .value_name("PATH")
-        .help(KEPT_HELP)
-}
-
-fn audit_argument<'a>(alloc: Global) -> Arg<'a> {
-    Arg::new(alloc, "audit")
-        .long("audit")
-        .action(ArgAction::SetTrue)
-        .help(AUDIT_HELP)
+    number(option(alloc, "workers", "N", WORKERS_HELP), 8, "1")
 }
 
 fn record_argument<'a>(alloc: Global) -> Arg<'a> {

@@ -1,7 +1,8 @@
 //! The options `--explain` and `--no-explain`: whether an answer is to be explained. Of both the last is meant.
 
+use crate::arguments::options::flag;
 use crate::arguments::with_argument;
-use clap::{Arg, ArgAction, ArgMatches, Command};
+use clap::{ArgMatches, Command};
 use std::alloc::{AllocError, Global};
 
 const UNEXPLAINED_HELP: &str = "Leaves that out";
@@ -20,11 +21,4 @@ pub fn with_explain<'a>(
 /// Whether an answer is to be explained, where `explains` says it unless an option does.
 pub fn is_explained(options: &ArgMatches<'_>, explains: bool) -> bool {
     options.get_flag("explain") || explains && !options.get_flag("no-explain")
-}
-
-fn flag<'a>(alloc: Global, name: &'a str, help: &'a str) -> Arg<'a> {
-    Arg::new(alloc, name)
-        .long(name)
-        .action(ArgAction::SetTrue)
-        .help(help)
 }

@@ -1,6 +1,6 @@
 //! The value of `--format`: how an answer is written.
 
-use clap::builder::ValueParser;
+use crate::arguments::options::{choice, option};
 use clap::{Arg, ArgMatches};
 use std::alloc::Global;
 
@@ -18,12 +18,11 @@ const FORMATS: [&str; 2] = ["text", "json"];
 const FORMAT_HELP: &str = "How the answer is written: as lines, or as one object of JSON";
 
 pub fn format_argument<'a>(alloc: Global) -> Arg<'a> {
-    Arg::new(alloc, "format")
-        .long("format")
-        .value_name("FORMAT")
-        .value_parser(ValueParser::Names(&FORMATS))
-        .default_value("text")
-        .help(FORMAT_HELP)
+    choice(
+        option(alloc, "format", "FORMAT", FORMAT_HELP),
+        &FORMATS,
+        "text",
+    )
 }
 
 pub fn read_format(options: &ArgMatches<'_>) -> Format {

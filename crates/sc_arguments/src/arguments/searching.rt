@@ -2,12 +2,12 @@
 
 use crate::arguments::explaining::{is_explained, with_explain};
 use crate::arguments::format::{Format, format_argument, read_format};
+use crate::arguments::options::{choice, flag, number, option};
 use crate::arguments::{
     Invocation, UsageFault, described, file_argument, read_files, read_root, root_argument,
     with_argument,
 };
-use clap::builder::ValueParser;
-use clap::{Arg, ArgAction, ArgMatches};
+use clap::{Arg, ArgMatches};
 use sc_class::Root;
 use std::alloc::{AllocError, Global};
 
@@ -94,10 +94,10 @@ pub fn search_command<'a>(alloc: Global) -> Result<clap::Command<'a>, AllocError
         SEARCH_LONG_ABOUT,
         SEARCH_AFTER_HELP,
     );
-    let command = command.arg(sought_argument(alloc));
+    let command = with_argument(Ok(command), sought_argument(alloc));
     let command = with_argument(command, states_argument(alloc));
-    let command = with_argument(command, found_argument(alloc));
-    let command = with_argument(command, outcomes_argument(alloc));
+    let command = with_argument(command, option(alloc, "record", "PATH", FOUND_HELP));
+    let command = with_argument(command, flag(alloc, "outcomes", OUTCOMES_HELP));
     let command = with_explain(alloc, command, SEARCH_EXPLAIN_HELP);
     let command = with_argument(command, format_argument(alloc));
     let command = with_argument(command, root_argument(alloc));
@@ -130,33 +130,13 @@ fn read_sought(options: &ArgMatches<'_>) -> Sought {
 }
 
 fn sought_argument<'a>(alloc: Global) -> Arg<'a> {
-    Arg::new(alloc, "for")
-        .long("for")
-        .value_name("WHAT")
-        .value_parser(ValueParser::Names(&SOUGHT))
-        .default_value("any")
-        .help(SOUGHT_HELP)
+    choice(option(alloc, "for", "WHAT", SOUGHT_HELP), &SOUGHT, "any")
 }
 
 fn states_argument<'a>(alloc: Global) -> Arg<'a> {
-    Arg::new(alloc, "states")
-        .long("states")
-        .value_name("N")
-        .value_parser(ValueParser::signed(1, 10_000_000))
-        .default_value("25000")
-        .help(STATES_HELP)
-}
-
-fn found_argument<'a>(alloc: Global) -> Arg<'a> {
-    Arg::new(alloc, "record")
-        .long("record")
-        .value_name("PATH")
-        .help(FOUND_HELP)
-}
-
-fn outcomes_argument<'a>(alloc: Global) -> Arg<'a> {
-    Arg::new(alloc, "outcomes")
-        .long("outcomes")
-        .action(ArgAction::SetTrue)
-        .help(OUTCOMES_HELP)
+    number(
+        option(alloc, "states", "N", STATES_HELP),
+        10_000_000,
+        "25000",
+    )
 }
