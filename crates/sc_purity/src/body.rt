@@ -21,11 +21,7 @@ fn copied<'s>(alloc: Global, names: &[Entity<'s>]) -> Result<Vec<Entity<'s>>, Ch
     ensures names { IfOk result (λ copy. copy.items ≡ names.now) }
     ensures memory { IfErr result (λ e. e ≡ OutOfMemory) }
 {
-    let mut copy = Vec::with_capacity(alloc, names.len())?;
-    for known in names {
-        copy.push(*known)?;
-    }
-    Ok(copy)
+    Ok(Vec::from_slice(alloc, names)?)
 }
 
 /// Adds what is done in a call that is an instruction.

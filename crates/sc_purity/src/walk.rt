@@ -186,11 +186,12 @@ pub fn add_expression<'s>(
         (expr_of e.now)) result }
 {
     match e {
-        Expr::Integer(_, _) => keep_fault(routine.expression(context, position, names, e)),
-        Expr::Boolean(_, _) => keep_fault(routine.expression(context, position, names, e)),
-        Expr::Void(_) => keep_fault(routine.expression(context, position, names, e)),
-        Expr::Current(_) => keep_fault(routine.expression(context, position, names, e)),
-        Expr::Result(_) => keep_fault(routine.expression(context, position, names, e)),
+        Expr::Integer(_, _) | Expr::Boolean(_, _) => {
+            keep_fault(routine.expression(context, position, names, e))
+        }
+        Expr::Void(_) | Expr::Current(_) | Expr::Result(_) => {
+            keep_fault(routine.expression(context, position, names, e))
+        }
         Expr::Call(call) => add_call(routine, context, names, call, effects),
         Expr::Unary(span, operator, operand) => {
             let inside = operand_context(*operator, context);
