@@ -10,7 +10,7 @@ ghost use Rattle.sc_routines.specs.Parts.{call_in};
 ghost use Rattle.sc_routines.specs.Settings.{setting_in};
 
 use crate::code::Code;
-use crate::leaves::{leaf, push_leaf, push_type};
+use crate::leaves::{push_leaf, push_type};
 use crate::lowered::{Lowered, LoweredActuals};
 use crate::operator_code::{Operands, close_binary, close_unary, open_right};
 use crate::setting::Setting;
@@ -43,17 +43,17 @@ impl<'t, 's> Setting<'t, 's> {
         let count = names.len();
         match e {
             Expr::Integer(_, value) => {
-                code.push(UnlinkedOperation::PushInteger(*value))?;
-                Ok(leaf(Some(EntityType::integer()), olds))
+                let operation = UnlinkedOperation::PushInteger(*value);
+                push_leaf(code, operation, EntityType::integer(), olds)
             }
             Expr::Boolean(_, value) => {
-                code.push(UnlinkedOperation::PushBoolean(*value))?;
-                Ok(leaf(Some(EntityType::boolean()), olds))
+                let operation = UnlinkedOperation::PushBoolean(*value);
+                push_leaf(code, operation, EntityType::boolean(), olds)
             }
             Expr::Void(_) => push_leaf(code, UnlinkedOperation::PushVoid, EntityType::void(), olds),
             Expr::Current(_) => {
-                code.push(UnlinkedOperation::PushCurrent)?;
-                Ok(leaf(Some(self.context.current()), olds))
+                let current = self.context.current();
+                push_leaf(code, UnlinkedOperation::PushCurrent, current, olds)
             }
             Expr::Result(_) => self.lower_result(olds, code),
             Expr::Call(call) => self.lower_call(names, olds, code, call),
