@@ -150,3 +150,11 @@ writes-rest a b c lines i block now (Ok x) past so-far is part = tt
 writes-rest a b c lines i block now (Err e) past so-far is part =
     let grown = writes-grown a b _ block (last_line (length lines)) now so-far is in
     writes-part a b c _ now (text_of Two lines) [] (lines-all lines i past ∙ sym (append-nil _)) grown part
+
+-- the text of a line whose numbers have one digit each
+pub short_line : (h t : ℕ) → h < 10 → t < 10 →
+    (48 + h) ∷ (32 ∷ ((48 + t) ∷ (10 ∷ []))) ≡ line_text (record { handler = h; turns = t })
+short_line h t few short =
+    let first = decimal_digit h few in
+    let second = decimal_digit t short in
+    rw (first, second) refl

@@ -1,6 +1,6 @@
 //! The text of a record, block by block.
 
-ghost use Rattle.std.specs.Prelude.{◌≡◌, ◌+◌, ◌≤◌, ◌++◌, OnErr, OnOk};
+ghost use Rattle.std.specs.Prelude.{◌≡◌, ◌+◌, ◌<◌, ◌≤◌, ◌++◌, OnErr, OnOk};
 ghost use Rattle.std.specs.Io.KnownBytes.{Appends};
 ghost use Rattle.sc_lockpass.specs.declared.version.Version.TheVariants.{Two};
 ghost use Rattle.arrayvec.specs.ArrayVec.{array_vec_len};
@@ -52,10 +52,24 @@ fn push_line(block: &mut Block, line: &RecordLine)
     requires { array_vec_len block.old + LONGEST ≤ BLOCK }
     ensures { block.new.items ≡ block.old.items ++ line_text line.now }
 {
+    if line.handler < 10 && line.turns < 10 {
+        push_short_line(block, line.handler as u8, line.turns as u8);
+        return;
+    }
     push_number(block, line.handler);
     block.push(b' ');
     push_number(block, line.turns);
     block.push(b'\n');
+}
+
+/// Adds the text of a line whose numbers have one digit each, as most lines of a run of short tasks: it is added at once.
+fn push_short_line(block: &mut Block, handler: u8, turns: u8)
+    requires room { array_vec_len block.old + LONGEST ≤ BLOCK }
+    requires digits { (handler < 10) × (turns < 10) }
+    ensures { block.new.items ≡ block.old.items ++ line_text (record { handler = handler; turns = turns }) }
+{
+    let text = [b'0' + handler, b' ', b'0' + turns, b'\n'];
+    block.try_extend_from_slice(&text).unwrap();
 }
 
 /// Adds the last line, behind so many others.

@@ -1,9 +1,6 @@
-use Rattle.std.proofs.Common.{◌≡◌, ◌++◌, ◌∙◌, List, [], length, refl, sym, ap, arith, append-nil, Result, Ok, Err, OnOk}
-use Rattle.std.specs.List.{flat_map}
+use Rattle.std.proofs.Common.{◌∙◌, arith}
 use Rattle.std.proofs.lemmas.Grind.{common_steps}
-use Rattle.sc_lockpass.specs.declared.version.Version.TheVariants.{Two}
-use Rattle.sc_audit.specs.Records.{first_line, last_line, line_text, text_of}
-use Rattle.sc_audit.proofs.WritingLemmas.{lines-begin, lines-all, told, written-last, writes-first, writes-line, writes-on, writes-part, writes-rest}
+use Rattle.sc_audit.proofs.WritingLemmas.{lines-begin, told, written-last, writes-first, writes-line, writes-on, writes-part, writes-rest}
 use Rattle.sc_audit.proofs.writing.write_record.Goals as goal
 
 pub loop-line-init : goal.loop-line-init
