@@ -1,11 +1,12 @@
 -- What was written of a text that is written part by part.
-use Rattle.std.proofs.Common.{◌≡◌, ℕ, ◌+◌, ◌-◌, ◌<◌, ◌≤◌, get_or, List, [], ◌∷◌, ◌++◌, Option, Result, Ok, Err, OnErr, OnOk, length, take, drop, refl, sym, ap, ◌∙◌, append_assoc, append-nil, take-append-drop, codes, arith}
+use Rattle.std.proofs.Common.{◌≡◌, ℕ, ◌+◌, ◌-◌, ◌^◌, ◌<◌, ◌≤◌, get_or, List, [], ◌∷◌, ◌++◌, Option, Result, Ok, Err, OnErr, OnOk, length, take, drop, set, decimal, refl, sym, ap, ◌∙◌, append_assoc, append-nil, take-append-drop, codes, arith}
 use Rattle.std.specs.Io.KnownBytes.{Appends, Keeps}
 use Rattle.std.proofs.KnownBytes.{Appends-kept, Appends-nil, Appends-trans}
-use Rattle.std.proofs.lemmas.Fmt.{decimal_digit}
+use Rattle.std.proofs.lemmas.Fmt.{decimal_digit, length-decimal-le}
 use Rattle.sc_lockpass.specs.declared.version.Version.TheVariants.{Two}
 use Rattle.std.specs.List.{flat_map}
-use Rattle.std.proofs.lemmas.List.{take_all, take_more}
+use Rattle.std.proofs.lemmas.List.{drop-set, take_all, take_more}
+use Rattle.std.proofs.Math.ListN.{drop_of_length-le}
 use Rattle.std.proofs.lemmas.Grind.{common_steps, flat_map-append}
 use Rattle.sc_audit.specs.declared.line.RecordLine.{RecordLine}
 use Rattle.sc_audit.specs.Records.{first_line, last_line, line_text, text_of}
@@ -158,3 +159,20 @@ short_line h t few short =
     let first = decimal_digit h few in
     let second = decimal_digit t short in
     rw (first, second) refl
+
+-- a number of 64 bits has 20 digits at most
+pub few_digits : (n : ℕ) → n < 2 ^ 64 → length (decimal n) ≤ 20
+few_digits n small = length-decimal-le 20 n (omega arith) (omega arith) small
+
+-- the text of a line that is written from its last byte on: the line feed, how many turns, the space and the handler's number
+pub line_from_end : (line : RecordLine) (h t at : ℕ) (first second last : List ℕ) → h ≡ line.handler → t ≡ line.turns → length first ≡ 48 →
+    1 ≤ at → at - 1 < length second → drop at second ≡ decimal t ++ drop 47 (set first 47 10) →
+    last ≡ decimal h ++ drop (at - 1) (set second (at - 1) 32) → last ≡ line_text line
+line_from_end line h t at first second last number turns long some within back front =
+    let feed : drop 47 (set first 47 10) ≡ 10 ∷ [] =
+    drop-set first 47 10 (omega (arith, long)) ∙ ap (λ xs. 10 ∷ xs) (drop_of_length-le first {i = 48} (omega (arith, long))) in
+    let next : at - 1 + 1 ≡ at = omega arith in
+    let space : drop (at - 1) (set second (at - 1) 32) ≡ 32 ∷ drop at second =
+    drop-set second (at - 1) 32 within ∙ ap (λ i. 32 ∷ drop i second) next in
+    front ∙ ap (λ xs. decimal h ++ xs) (space ∙ ap (λ xs. 32 ∷ xs) (back ∙ ap (λ xs. decimal t ++ xs) feed))
+    ∙ ap (λ n. decimal n ++ (32 ∷ (decimal t ++ (10 ∷ [])))) number ∙ ap (λ n. decimal line.handler ++ (32 ∷ (decimal n ++ (10 ∷ [])))) turns

@@ -1,6 +1,6 @@
 //! The text of a record, block by block.
 
-ghost use Rattle.std.specs.Prelude.{◌≡◌, ◌+◌, ◌<◌, ◌≤◌, ◌++◌, OnErr, OnOk};
+ghost use Rattle.std.specs.Prelude.{◌≡◌, ◌+◌, ◌<◌, ◌≤◌, ◌++◌, OnErr, OnOk, drop};
 ghost use Rattle.std.specs.Io.KnownBytes.{Appends};
 ghost use Rattle.sc_lockpass.specs.declared.version.Version.TheVariants.{Two};
 ghost use Rattle.arrayvec.specs.ArrayVec.{array_vec_len};
@@ -9,7 +9,7 @@ ghost use Rattle.sc_audit.specs.Writing.{Writes, WritesBeginning};
 
 use crate::line::RecordLine;
 use arrayvec::ArrayVec;
-use itoa::{Buffer, Integer};
+use itoa::{Buffer, Integer, write_digits};
 use std::io::{self, ErrorKind, Write};
 use thiserror::Error;
 
@@ -24,8 +24,11 @@ const FIRST_LINE: &[u8] = b"scoop record 2\n";
 /// How many bytes are written at once, at most.
 const BLOCK: usize = 8192;
 
-/// No line is longer.
+/// No line is longer, nor is the last one.
 const LONGEST: usize = 128;
+
+/// No line but the last one is longer.
+const LONGEST_LINE: usize = 48;
 
 /// A part of a record's text.
 pub type Block = ArrayVec<u8, BLOCK>;
@@ -56,10 +59,22 @@ fn push_line(block: &mut Block, line: &RecordLine)
         push_short_line(block, line.handler as u8, line.turns as u8);
         return;
     }
-    push_number(block, line.handler);
-    block.push(b' ');
-    push_number(block, line.turns);
-    block.push(b'\n');
+    let mut text = [0; LONGEST_LINE];
+    let from = write_line(&mut text, line);
+    block.try_extend_from_slice(&text[from..]).unwrap();
+}
+
+/// Writes the text of a line so that it ends with the buffer, from its last byte on, and answers where it starts.
+fn write_line(text: &mut [u8; LONGEST_LINE], line: &RecordLine) -> usize
+    ensures within { result ≤ LONGEST_LINE }
+    ensures written { drop result text.new ≡ line_text line.now }
+{
+    let end = LONGEST_LINE - 1;
+    text[end] = b'\n';
+    let turns = write_digits(u64::from(line.turns), text, end);
+    let space = turns - 1;
+    text[space] = b' ';
+    write_digits(u64::from(line.handler), text, space)
 }
 
 /// Adds the text of a line whose numbers have one digit each, as most lines of a run of short tasks: it is added at once.
