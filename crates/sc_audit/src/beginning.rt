@@ -4,7 +4,7 @@ ghost use Rattle.std.specs.Prelude.{◌≡◌, ◌≢◌, [], IsErrOf, IsOk, Mat
 ghost use Rattle.sc_audit.specs.Internal.Steps.{Ends, GoesOn, IsKept, Takes, TakesAll, line_of, read_of};
 
 use crate::line::RecordLine;
-use crate::writing::{Block, push_last_line};
+use crate::writing::{LastLine, push_last_line};
 use sc_lockpass::Version;
 use std::alloc::{AllocFailed, Global};
 use std::io;
@@ -301,7 +301,7 @@ impl Beginning {
         requires at { self.now.expected ≡ Expected.LastLine read }
         ensures { GoesOn self.now byte result }
     {
-        let mut line = Block::new();
+        let mut line = LastLine::new();
         push_last_line(&mut line, self.lines.len());
         let line = line.as_slice();
         if line[read] != byte {

@@ -22,7 +22,7 @@ pub struct Unwritable(pub io::Error);
 const FIRST_LINE: &[u8] = b"scoop record 2\n";
 
 /// How many bytes are written at once, at most.
-const BLOCK: usize = 8192;
+const BLOCK: usize = 65_536;
 
 /// No line is longer, nor is the last one.
 const LONGEST: usize = 128;
@@ -31,7 +31,10 @@ const LONGEST: usize = 128;
 const LONGEST_LINE: usize = 48;
 
 /// A part of a record's text.
-pub type Block = ArrayVec<u8, BLOCK>;
+type Block = ArrayVec<u8, BLOCK>;
+
+/// The last line, alone.
+pub type LastLine = ArrayVec<u8, LONGEST>;
 
 /// Writes the text of these lines, of version 2. Where the writer fails, a beginning of the text was written. It isn't
 /// flushed.
@@ -88,8 +91,8 @@ fn push_short_line(block: &mut Block, handler: u8, turns: u8)
 }
 
 /// Adds the last line, behind so many others.
-pub fn push_last_line(block: &mut Block, count: usize)
-    requires { array_vec_len block.old + LONGEST ≤ BLOCK }
+pub fn push_last_line<const ROOM: usize>(block: &mut ArrayVec<u8, ROOM>, count: usize)
+    requires { array_vec_len block.old + LONGEST ≤ ROOM }
     ensures { block.new.items ≡ block.old.items ++ last_line count }
 {
     block.try_extend_from_slice(b"end ").unwrap();
@@ -98,8 +101,8 @@ pub fn push_last_line(block: &mut Block, count: usize)
 }
 
 /// Adds a number.
-fn push_number<I: Integer>(block: &mut Block, number: I)
-    requires { array_vec_len block.old + 40 ≤ BLOCK }
+fn push_number<I: Integer, const ROOM: usize>(block: &mut ArrayVec<u8, ROOM>, number: I)
+    requires { array_vec_len block.old + 40 ≤ ROOM }
     ensures text { block.new.items ≡ block.old.items ++ I.text number }
     ensures short { array_vec_len block.new ≤ array_vec_len block.old + 40 }
 {
