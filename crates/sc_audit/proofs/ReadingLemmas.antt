@@ -8,7 +8,10 @@ use Rattle.sc_audit.specs.declared.beginning.Record.{Record}
 use Rattle.sc_audit.specs.declared.beginning.ReadFault.TheVariants as fault
 use Rattle.sc_audit.specs.Records.{BeginsRecord, IsRecordText}
 use Rattle.sc_audit.specs.Faults.{IsAtFault}
-use Rattle.sc_audit.specs.Reading.{IsReadFault, IsReaderFault, ReadsFitting, ReadsUpTo}
+use Rattle.sc_audit.specs.Reading.{IsForGood, IsReadFault, IsReaderFault, ReadsFitting, ReadsUpTo}
+use Rattle.std.specs.IoError.{error_kind}
+use Rattle.std.specs.declared.io.Error.{Error}
+use Rattle.std.specs.declared.io.ErrorKind.TheVariants as kind
 use Rattle.sc_audit.specs.Internal.Steps.{Ends, IsBlockFault, IsKept, read_of}
 use Rattle.sc_audit.proofs.Whole.{open-begins}
 
@@ -30,15 +33,27 @@ pub read-fault : (known mid now : Option (List ℕ)) (b : Beginning) (bytes : Li
     Consumes mid now bytes → IsBlockFault b bytes why → IsReadFault known now why
 read-fault known mid now b bytes (fault.BadRecord line) kept so-far block is = told-fault known mid now (read_of b) bytes line so-far block is
 read-fault known mid now b bytes (fault.Unreadable error) kept so-far block is =
-    let P : List ℕ → Type 0 = λ bs. Consumes known now bs in
-    record {
-      fitting = read_of b;
-      consumed = subst P (ap (λ bs. read_of b ++ bs) is ∙ append-nil (read_of b)) (Consumes-trans known mid now (read_of b) bytes so-far block);
-      begins = kept-begins b kept;
-    }
+    let P : List ℕ → Type 0 = λ bs. Consumes known now bs in (
+      is.0,
+      record {
+        fitting = read_of b;
+        consumed = subst P (ap (λ bs. read_of b ++ bs) is.1 ∙ append-nil (read_of b)) (Consumes-trans known mid now (read_of b) bytes so-far block);
+        begins = kept-begins b kept;
+      },
+    )
 read-fault known mid now b bytes fault.OutOfMemory kept so-far block is = tt
 
--- a reader that is given up
+timed-out-is-for-good : kind.TimedOut ≡ kind.Interrupted → ⊥
+timed-out-is-for-good e = cc
+
+timed-out-is-no-memory : kind.TimedOut ≡ kind.OutOfMemory → ⊥
+timed-out-is-no-memory e = cc
+
+-- a reader that is given up failed for good
+pub gave-up : (error : Error) → error_kind error ≡ kind.TimedOut → IsForGood (error_kind error)
+gave-up error is = (λ interrupted. timed-out-is-for-good (sym is ∙ interrupted), λ memory. timed-out-is-no-memory (sym is ∙ memory))
+
+-- and what it gave begins a record
 pub reads-fitting : (known now : Option (List ℕ)) (b : Beginning) → IsKept b → Consumes known now (read_of b) → ReadsFitting known now
 reads-fitting known now b kept so-far = record { fitting = read_of b; consumed = so-far; begins = kept-begins b kept }
 
@@ -76,7 +91,7 @@ pub fits-of : {T : Type 0} (known now : Option (List ℕ)) (r : Result T ReadFau
 fits-of None now r is = tt
 fits-of (Some x) now (Ok read) is = λ text. tt
 fits-of (Some x) now (Err (fault.BadRecord line)) is = λ text. is.no_record text
-fits-of (Some x) now (Err (fault.Unreadable error)) is = λ text. tt
+fits-of (Some x) now (Err (fault.Unreadable error)) is = λ text. is.0
 fits-of (Some x) now (Err fault.OutOfMemory) is = λ text. tt
 
 -- the bytes of one block more, which is the last

@@ -1,6 +1,9 @@
 -- What a reader gave of a record's text.
-use Rattle.std.specs.Prelude.{ℕ, ◌≤◌, List, ◌++◌, Option, IfSome, length}
+use Rattle.std.specs.Prelude.{ℕ, ◌≢◌, ◌≤◌, List, ◌++◌, Option, IfSome, length}
 use Rattle.std.specs.Io.KnownBytes.{Consumes}
+use Rattle.std.specs.IoError.{error_kind}
+use Rattle.std.specs.declared.io.ErrorKind.{ErrorKind}
+use Rattle.std.specs.declared.io.ErrorKind.TheVariants as kind
 use Rattle.sc_audit.specs.declared.beginning.ReadFault.{ReadFault}
 use Rattle.sc_audit.specs.declared.beginning.ReadFault.TheVariants as fault
 use Rattle.sc_audit.specs.Records.{BeginsRecord}
@@ -20,14 +23,18 @@ pub record ReadsFitting (known now : Option (List ℕ)) : Type 0 where
   pub consumed : Consumes known now fitting
   pub begins : BeginsRecord fitting
 
--- What is told is true of the bytes: the line is at fault, and where the reader failed nothing before it was.
+-- A reader failed for good: a read that was interrupted is made again, and want of memory is told as that.
+abbrev pub IsForGood : ErrorKind → Type 0
+IsForGood why = (why ≢ kind.Interrupted) × (why ≢ kind.OutOfMemory)
+
+-- What is told is true of the bytes: the line is at fault, and where the reader failed, for good, nothing before it was.
 abbrev pub IsReadFault : Option (List ℕ) → Option (List ℕ) → ReadFault → Type 0
 IsReadFault known now (fault.BadRecord line) = IfSome known (λ text. IsAtFault text line)
-IsReadFault known now (fault.Unreadable error) = ReadsFitting known now
+IsReadFault known now (fault.Unreadable error) = IsForGood (error_kind error) × ReadsFitting known now
 IsReadFault known now fault.OutOfMemory = Unit {0}
 
 -- The reader failed, or memory ran out.
 abbrev pub IsReaderFault : ReadFault → Type 0
 IsReaderFault (fault.BadRecord line) = ⊥
-IsReaderFault (fault.Unreadable error) = Unit {0}
+IsReaderFault (fault.Unreadable error) = IsForGood (error_kind error)
 IsReaderFault fault.OutOfMemory = Unit {0}

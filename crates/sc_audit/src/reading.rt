@@ -30,7 +30,7 @@ pub fn read_record<R: Read>(alloc: Global, reader: &mut R) -> Result<Record, Rea
             Progress::End => return beginning.end(),
         }
     }
-    Err(ReadFault::Unreadable(io::Error::from(ErrorKind::Interrupted)))
+    Err(ReadFault::Unreadable(io::Error::from(ErrorKind::TimedOut)))
 }
 
 /// How far the text is read.

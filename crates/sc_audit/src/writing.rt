@@ -126,8 +126,8 @@ fn make_room<W: Write>(writer: &mut W, block: &mut Block) -> Result<(), Unwritab
     Ok(())
 }
 
-/// Writes these bytes, by as many calls as the writer needs.
-fn write_whole<W: Write>(writer: &mut W, bytes: &[u8]) -> Result<(), Unwritable>
+/// Writes these bytes, by as many calls as the writer needs. Where it fails, a beginning of them was written.
+pub fn write_whole<W: Write>(writer: &mut W, bytes: &[u8]) -> Result<(), Unwritable>
     ensures ok { OnOk result (Appends (W.contents writer.old) (W.contents writer.new) bytes.now) }
     ensures err { OnErr result (WritesBeginning (W.contents writer.old) (W.contents writer.new) bytes.now) }
 {

@@ -7,11 +7,13 @@ use Rattle.sc_audit.specs.declared.beginning.Expected.{Expected}
 use Rattle.sc_audit.specs.declared.beginning.Expected.TheVariants as expected
 use Rattle.sc_audit.specs.declared.beginning.Beginning.{Beginning}
 use Rattle.std.specs.Io.KnownBytes.{Consumes}
+use Rattle.std.specs.IoError.{error_kind}
 use Rattle.sc_audit.specs.declared.beginning.Record.{Record}
 use Rattle.sc_audit.specs.declared.beginning.ReadFault.{ReadFault}
 use Rattle.sc_audit.specs.declared.beginning.ReadFault.TheVariants as fault
 use Rattle.sc_audit.specs.Records.{BeginsRecord, IsRecord, last_line, most_lines, most_turns, text_of, turns_of, version_number}
 use Rattle.sc_audit.specs.Faults.{IsAtFault}
+use Rattle.sc_audit.specs.Reading.{IsForGood}
 use Rattle.sc_audit.specs.Internal.Parts.{head_of, title}
 
 -- The bytes that were read, from the lines that are whole and from what is expected next.
@@ -90,10 +92,10 @@ abbrev pub TakesAll : Beginning → List ℕ → Beginning → Result (Unit {0})
 TakesAll old bytes new (Ok done) = IsKept new × (read_of new ≡ read_of old ++ bytes)
 TakesAll old bytes new (Err why) = IsMisfitIn old bytes why
 
--- What is wrong with a block: where the reader failed, it gave nothing.
+-- What is wrong with a block: where the reader failed, it did so for good and gave nothing.
 abbrev pub IsBlockFault : Beginning → List ℕ → ReadFault → Type 0
 IsBlockFault b bytes (fault.BadRecord line) = (rest : List ℕ) → IsAtFault (read_of b ++ (bytes ++ rest)) line
-IsBlockFault b bytes (fault.Unreadable error) = bytes ≡ []
+IsBlockFault b bytes (fault.Unreadable error) = IsForGood (error_kind error) × (bytes ≡ [])
 IsBlockFault b bytes fault.OutOfMemory = Unit {0}
 
 -- A reader gave a block.

@@ -1,7 +1,7 @@
 use Rattle.std.proofs.Common.{Err}
 use Rattle.sc_audit.specs.declared.beginning.ReadFault.TheVariants as fault
 use Rattle.sc_audit.specs.Reading.{IsReadFault}
-use Rattle.sc_audit.proofs.ReadingLemmas.{ended-err, err-told, fits-of, read-fault, reads-fitting, reads-no-more, reads-up-to}
+use Rattle.sc_audit.proofs.ReadingLemmas.{ended-err, err-told, fits-of, gave-up, read-fault, reads-fitting, reads-no-more, reads-up-to}
 use Rattle.sc_audit.proofs.reading.read_record.Goals as goal
 
 pub returns-in_err-read_block-clause-err : goal.returns-in_err-read_block-clause-err
@@ -22,7 +22,7 @@ returns-in-End-clause-stops g c =
     c.read_block.ensures.block.consumed c.read_block.ensures.block.few
 
 pub returns-clause-err : goal.returns-clause-err
-returns-clause-err g c = reads-fitting _ _ c.loop.beginning c.loop.invariant.kept c.loop.invariant.consumed
+returns-clause-err g c = (gave-up c.from.result c.from.ensures, reads-fitting _ _ c.loop.beginning c.loop.invariant.kept c.loop.invariant.consumed)
 
 pub returns-clause-stops : goal.returns-clause-stops
 returns-clause-stops g c = reads-no-more 8192 _ _ c.loop.beginning c.loop.invariant.kept c.loop.invariant.consumed
