@@ -1,3 +1,4 @@
+pub mod Asked
 pub mod Internal
 pub mod RootOption
 pub mod Usage

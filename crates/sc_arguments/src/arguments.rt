@@ -2,19 +2,23 @@
 
 mod explaining;
 mod format;
-mod options;
+mod given;
+mod help;
 mod root_option;
 mod searching;
 
-ghost use Rattle.std.specs.Prelude.{◌≡◌};
+ghost use Rattle.std.specs.Prelude.{◌≡◌, IfOk, codes, map};
+ghost use Rattle.sc_arguments.specs.Asked.{IsAskedFor, IsAskedOf};
 ghost use Rattle.sc_arguments.specs.Usage as spec;
 
 use crate::arguments::explaining::{is_explained, with_explain};
 use crate::arguments::format::{format_argument, read_format};
-use crate::arguments::options::{flag, number, option};
+use crate::arguments::given::given_in;
+use clap::builder::ValueParser;
 use clap::error::ErrorKind;
 use clap::{Arg, ArgAction, ArgMatches};
 pub use format::Format;
+pub use help::ask_for_help;
 use sc_class::Root;
 pub use searching::{SearchOptions, Sought};
 use std::alloc::{AllocError, Global};
@@ -271,11 +275,16 @@ pub fn read_arguments<'a, S: AsStr>(
     alloc: Global,
     arguments: &'a [S],
     explains: bool,
-) -> Result<Invocation<'a>, UsageFault> {
+) -> Result<Invocation<'a>, UsageFault>
+    ensures { IfOk result (IsAskedFor (map S.text arguments.entry.now)) }
+{
     let matches = scoop_command(alloc)?.try_get_matches_from(arguments)?;
-    match matches.subcommand() {
-        Some((name, options)) => read_command(alloc, name, options, explains),
-        None => Err(UsageFault::NoCommand),
+    match (matches.subcommand(), arguments) {
+        (Some((_, options)), [_, command, words @ ..]) => {
+            let given = given_in(alloc, words)?;
+            read_command(alloc, command.as_str(), given, options, explains)
+        }
+        _ => Err(UsageFault::NoCommand),
     }
 }
 
@@ -283,29 +292,27 @@ pub fn read_arguments<'a, S: AsStr>(
 fn read_command<'a>(
     alloc: Global,
     name: &str,
+    given: Vec<&'a str>,
     options: &ArgMatches<'a>,
     explains: bool,
-) -> Result<Invocation<'a>, UsageFault> {
+) -> Result<Invocation<'a>, UsageFault>
+    ensures { let texts = map (λ text. text.now) given.entry.items in IfOk result (IsAskedOf name.now texts) }
+{
     match name {
-        "replay" => read_replay(alloc, options, explains),
-        "explain" => Ok(Invocation::Explain(options.get_str("CODE"))),
-        "print" => on_files(alloc, Command::Print, options),
-        "run" => read_run(alloc, options, explains),
-        "search" => searching::read_search(alloc, options, explains),
-        _ => on_files(
-            alloc,
-            Command::Check(read_check(alloc, options, explains)?),
-            options,
-        ),
+        "check" => {
+            let check = read_check(alloc, options, explains)?;
+            Ok(Invocation::OnFiles(Command::Check(check), given))
+        }
+        "print" => Ok(Invocation::OnFiles(Command::Print, given)),
+        "run" => Ok(Invocation::Run(read_run(alloc, options, explains)?, given)),
+        "replay" => read_replay(alloc, given.as_slice(), options, explains),
+        "search" => {
+            let search = searching::read_search(alloc, options, explains)?;
+            Ok(Invocation::Search(search, given))
+        }
+        "explain" => Ok(Invocation::Explain(given.first().copied())),
+        _ => Err(UsageFault::NoCommand),
     }
-}
-
-fn on_files<'a>(
-    alloc: Global,
-    command: Command,
-    options: &ArgMatches<'a>,
-) -> Result<Invocation<'a>, UsageFault> {
-    Ok(Invocation::OnFiles(command, read_files(alloc, options)?))
 }
 
 fn read_check(
@@ -324,8 +331,8 @@ fn read_run<'a>(
     alloc: Global,
     options: &ArgMatches<'a>,
     explains: bool,
-) -> Result<Invocation<'a>, UsageFault> {
-    let run = RunOptions {
+) -> Result<RunOptions<'a>, UsageFault> {
+    Ok(RunOptions {
         root: read_root(alloc, options)?,
         workers: options.get_one("workers").unwrap_or(DEFAULT_WORKERS),
         turns: options.get_one("turns").unwrap_or(DEFAULT_TURNS),
@@ -333,31 +340,33 @@ fn read_run<'a>(
         is_audited: options.get_flag("audit"),
         is_explained: is_explained(options, explains),
         format: read_format(options),
-    };
-    Ok(Invocation::Run(run, read_files(alloc, options)?))
+    })
 }
 
+/// What is asked for where the first that is given is a record, and the rest are files.
 fn read_replay<'a>(
     alloc: Global,
+    given: &[&'a str],
     options: &ArgMatches<'a>,
     explains: bool,
-) -> Result<Invocation<'a>, UsageFault> {
+) -> Result<Invocation<'a>, UsageFault>
+    ensures { let texts = map (λ text. text.now) given.now in IfOk result (IsAskedOf (codes "replay") texts) }
+{
+    let Some((record, names)) = given.split_first() else {
+        return Err(UsageFault::NoCommand);
+    };
     let replay = ReplayOptions {
         root: read_root(alloc, options)?,
-        record: options.get_str("RECORD").unwrap_or(""),
+        record: *record,
         is_explained: is_explained(options, explains),
         format: read_format(options),
     };
-    Ok(Invocation::Replay(replay, read_files(alloc, options)?))
+    Ok(Invocation::Replay(replay, Vec::from_slice(alloc, names)?))
 }
 
 fn read_root(alloc: Global, options: &ArgMatches<'_>) -> Result<Root, UsageFault> {
     let text = options.get_str("root").unwrap_or("");
     root_option::root_of(alloc, text)?.ok_or(UsageFault::BadRoot)
-}
-
-fn read_files<'a>(alloc: Global, options: &ArgMatches<'a>) -> Result<Vec<&'a str>, AllocError> {
-    Vec::from_slice(alloc, options.get_strs("FILE").unwrap_or(&[]))
 }
 
 fn scoop_command<'a>(alloc: Global) -> Result<clap::Command<'a>, AllocError> {

@@ -8,5 +8,5 @@ mod arguments;
 
 pub use arguments::{
     CheckOptions, Command, Format, Invocation, ReplayOptions, RunOptions, SearchOptions, Sought,
-    UsageFault, read_arguments,
+    UsageFault, ask_for_help, read_arguments,
 };

@@ -4,8 +4,7 @@ use crate::arguments::explaining::{is_explained, with_explain};
 use crate::arguments::format::{Format, format_argument, read_format};
 use crate::arguments::options::{choice, flag, number, option};
 use crate::arguments::{
-    Invocation, UsageFault, described, file_argument, read_files, read_root, root_argument,
-    with_argument,
+    UsageFault, described, file_argument, read_root, root_argument, with_argument,
 };
 use clap::{Arg, ArgMatches};
 use sc_class::Root;
@@ -108,8 +107,8 @@ pub fn read_search<'a>(
     alloc: Global,
     options: &ArgMatches<'a>,
     explains: bool,
-) -> Result<Invocation<'a>, UsageFault> {
-    let search = SearchOptions {
+) -> Result<SearchOptions<'a>, UsageFault> {
+    Ok(SearchOptions {
         root: read_root(alloc, options)?,
         sought: read_sought(options),
         states: options.get_one("states").unwrap_or(DEFAULT_STATES),
@@ -117,8 +116,7 @@ pub fn read_search<'a>(
         lists_outcomes: options.get_flag("outcomes"),
         is_explained: is_explained(options, explains),
         format: read_format(options),
-    };
-    Ok(Invocation::Search(search, read_files(alloc, options)?))
+    })
 }
 
 fn read_sought(options: &ArgMatches<'_>) -> Sought {

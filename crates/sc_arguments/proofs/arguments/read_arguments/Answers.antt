@@ -1,0 +1,10 @@
+use Rattle.std.proofs.Common.{arith}
+use Rattle.std.proofs.lemmas.Grind.{common_steps}
+use Rattle.sc_arguments.proofs.AskedLemmas.{asked-for}
+use Rattle.sc_arguments.proofs.arguments.read_arguments.Goals as goal
+
+-- the words behind the command are read
+pub returns-in-Some-len2-up : goal.returns-in-Some-len2-up
+returns-in-Some-len2-up g c =
+    asked-for g.S.AsStr.text c.args.arguments.now c.command-item.result _ _ _ _ c.read_command.result c.in-Some-len2-up.len_at_least
+    c.command-item.is (grind (arith, common_steps)) c.as_str.ensures c.in_ok-given-in-Some-len2-up.ensures c.read_command.ensures
