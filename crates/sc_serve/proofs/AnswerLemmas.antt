@@ -6,7 +6,7 @@ use Rattle.sc_auditing.specs.declared.auditing.AuditFault.{AuditFault}
 use Rattle.sc_auditing.specs.Audits.{TellsWhy}
 use Rattle.sc_serve.specs.declared.serve.Exit.TheVariants.{Broken}
 use Rattle.std.specs.Option.{option_map}
-use Rattle.std.specs.Prelude.{IfErr, IfSome}
+use Rattle.std.specs.Prelude.{IfErr, IfSome, OnOk}
 use Rattle.sc_audit.specs.declared.beginning.ReadFault.{ReadFault}
 use Rattle.sc_audit.specs.declared.beginning.ReadFault.TheVariants as reading
 use Rattle.sc_audit.specs.Reading.{IsReadFault}
@@ -19,12 +19,16 @@ use Rattle.sc_serve.specs.declared.serve.Fault.{Fault}
 use Rattle.sc_serve.specs.declared.serve.Fault.TheVariants as fault
 use Rattle.sc_driver.specs.declared.rejection.Rejection.{Rejection}
 use Rattle.sc_driver.specs.declared.rejection.Rejection.TheVariants as rejection
+use Rattle.sc_arguments.specs.declared.arguments.Command.{Command}
 use Rattle.sc_arguments.specs.declared.arguments.RunOptions.{RunOptions}
 use Rattle.sc_class.specs.View.{root_of}
-use Rattle.sc_serve.specs.Answer.{IsBadRecord, IsJudged, IsRanOf, IsRefusalOf, IsReplayOn, IsReplayTo, IsRunOn, IsUnansweredOn, IsUnread, IsUnrun, IsUnrunOn, audit_line, line_of, out_of_memory, too_long}
+use Rattle.sc_serve.specs.Answer.{IsAnswerOn, IsAnswerTo, IsBadRecord, IsJudged, IsOfFile, IsRanOf, IsRecordUnread, IsRefusalOf, IsRejectedFor, IsReplayOn, IsReplayTo, IsRunOn, IsSourceOf, IsUnansweredOn, IsUnplayed, IsUnplayedRecord, IsUnread, IsUnrun, IsUnrunOn, TellsBadRecord, TellsTooLong, audit_line, line_of, out_of_memory, too_long}
 use Rattle.sc_serve.specs.Refusal.{Told, refusal_line, told}
-use Rattle.sc_source.specs.Source.{File, joined, names_of, place_at}
-use Rattle.sc_source.specs.Joining.{no_memory}
+use Rattle.sc_source.proofs.JoiningLemmas.{long-source}
+use Rattle.sc_source.specs.Source.{File, joined, place_at}
+use Rattle.sc_source.specs.Joining.{AreTold, FailsForGood, IsJoinFault, no_memory}
+use Rattle.sc_source.specs.declared.reading.FileFault.{FileFault}
+use Rattle.sc_source.specs.declared.reading.FileFault.TheVariants as of_file
 use Rattle.sc_source.specs.declared.source.JoinFault.{JoinFault}
 
 -- the line of a rejection that has a code
@@ -38,21 +42,76 @@ line-told source rejection.CodeTooLong t e = cc
 line-told source rejection.OutOfMemory t e = cc
 
 -- that memory ran out is why there is no answer
-pub unanswered : (names : List (List ℕ)) (f : Fault) → f ≡ out_of_memory → IsUnansweredOn names f
-unanswered names f e = subst (IsUnansweredOn names) (sym e) tt
+pub unanswered : (names : List (List ℕ)) (held : List (Option (List ℕ))) (f : Fault) → f ≡ out_of_memory → IsUnansweredOn names held f
+unanswered names held f e = subst (IsUnansweredOn names held) (sym e) tt
 
-pub unread : (names : List (List ℕ)) (why : JoinFault) (f : Fault) →
-    (why.fault ≡ no_memory) ⊎ (why.file < length names) → IsUnread names why f → IsUnansweredOn names f
-unread names why fault.OutOfMemory w u = tt
-unread names why (fault.Usage usage) w u = u
-unread names why (fault.NoCode word) w u = u
-unread names why (fault.CannotRead name reading) (inl e) u = absurd (u.0 e)
-unread names why (fault.CannotRead name reading) (inr l) u = (why.file, l, u.1)
-unread names why fault.CannotWrite w u = u
-unread names why (fault.CannotRecord name error remains) w u = u
-unread names why fault.NoThread w u = u
-unread names why fault.LogsDiffer w u = u
-unread names why fault.NotText w u = u
+-- a file at fault isn't want of memory
+of-file : {P : Type 0} (why : FileFault) → IsOfFile why → (why ≡ no_memory) ⊎ P → P
+of-file why is (inl e) = absurd (subst IsOfFile e is)
+of-file why is (inr p) = p
+
+-- the file that can't be read is told
+pub unread : (names : List (List ℕ)) (held : List (Option (List ℕ))) (why : JoinFault) (f : Fault) →
+    (why.fault ≡ no_memory) ⊎ (why.file < length names) → FailsForGood why.fault →
+    ((files : List (List ℕ)) → AreTold held files → (why.fault ≡ no_memory) ⊎ IsJoinFault files why) →
+    IsUnread names why f → IsUnansweredOn names held f
+unread names held why fault.OutOfMemory w good a u = tt
+unread names held why (fault.Usage usage) w good a u = u
+unread names held why (fault.NoCode word) w good a u = u
+unread names held why (fault.CannotRead name reading) w good a u =
+    let is : IsOfFile why.fault = subst IsOfFile u.0 u.1 in
+    record {
+      why = why;
+      there = of-file why.fault is w;
+      named = u.2;
+      same = u.0;
+      kind = u.1;
+      for_good = subst FailsForGood (sym u.0) good;
+      true_of_it = λ files told. of-file why.fault is (a files told);
+    }
+unread names held why fault.CannotWrite w good a u = u
+unread names held why (fault.CannotRecord name error remains) w good a u = u
+unread names held why fault.NoThread w good a u = u
+unread names held why fault.LogsDiffer w good a u = u
+unread names held why fault.NotText w good a u = u
+
+-- files that are too long aren't want of memory
+too-long-is-told : of_file.TooLong ≡ no_memory → ⊥
+too-long-is-told e = cc
+
+of-long : {P : Type 0} (why : FileFault) → why ≡ of_file.TooLong → (why ≡ no_memory) ⊎ P → P
+of-long why long (inl e) = absurd (too-long-is-told (sym long ∙ e))
+of-long why long (inr p) = p
+
+-- files whose text is too long are told so
+pub told_long : (held : List (Option (List ℕ))) (why : JoinFault) (r : Result Answer Fault) →
+    ((files : List (List ℕ)) → AreTold held files → (why.fault ≡ no_memory) ⊎ IsJoinFault files why) →
+    OnOk r (why.fault ≡ of_file.TooLong) → IfOk r (λ answer. IsRefusalOf [] too_long answer.text.items answer.exit) →
+    IfOk r (λ answer. TellsTooLong held answer.text.items answer.exit)
+told_long held why (Ok answer) a long refused =
+    record { long = λ files told. long-source files why (of-long why.fault long (a files told)) long; refused = refused }
+told_long held why (Err fault) a long refused = tt
+
+-- and that is what is answered
+pub long_on_files : (command : Command) (names : List (List ℕ)) (held : List (Option (List ℕ))) (r : Result Answer Fault) →
+    IfOk r (λ answer. TellsTooLong held answer.text.items answer.exit) →
+    IfOk r (λ answer. IsAnswerOn command names held answer.text.items answer.exit)
+long_on_files command names held (Ok answer) told = inr told
+long_on_files command names held (Err fault) told = tt
+
+-- what is answered to the files' source text is answered on the files
+pub answered : (command : Command) (names : List (List ℕ)) (held : List (Option (List ℕ))) (source : List File) (answer : Answer) →
+    IsSourceOf names held source → IsAnswerTo command (joined source) answer.text.items answer.exit →
+    IsAnswerOn command names held answer.text.items answer.exit
+answered command names held source answer of_them told = inl (source, of_them, inl told)
+
+-- and so is what is at fault in it
+pub rejected : (command : Command) (names : List (List ℕ)) (held : List (Option (List ℕ))) (source : List File) (why : Rejection)
+    (r : Result Answer Fault) → IsSourceOf names held source → IsRejectedFor command (joined source) why →
+    IfOk r (λ answer. IsRefusalOf source why answer.text.items answer.exit) →
+    IfOk r (λ answer. IsAnswerOn command names held answer.text.items answer.exit)
+rejected command names held source why (Ok answer) of_them is told = inl (source, of_them, inr (why, is, told))
+rejected command names held source why (Err fault) of_them is told = tt
 
 -- what is told to be no record is none
 pub no_record : (held now : Option (List ℕ)) (f : ReadFault) → IsReadFault held now f → IsBadRecord f → IfSome held (λ bytes. ¬ IsRecordText bytes)
@@ -61,31 +120,62 @@ no_record (Some bytes) now (reading.BadRecord line) is bad = is.no_record
 no_record held now (reading.Unreadable error) is bad = absurd bad
 no_record held now reading.OutOfMemory is bad = absurd bad
 
+-- why a record isn't read is why it isn't played
+pub unplayed_record : (name : List ℕ) (held now : Option (List ℕ)) (why : ReadFault) (f : Fault) → IsReadFault held now why →
+    IsRecordUnread name why f → IsUnplayedRecord name f
+unplayed_record name held now why (fault.CannotRead named (of_file.Unreadable error)) is u =
+    let P : ReadFault → Type 0 = λ w. IsReadFault held now w in
+    (u.0, (subst P u.1 is).0)
+unplayed_record name held now why (fault.CannotRead named (of_file.NotUtf8 offset)) is u = absurd u
+unplayed_record name held now why (fault.CannotRead named of_file.TooLong) is u = absurd u
+unplayed_record name held now why (fault.CannotRead named of_file.OutOfMemory) is u = absurd u
+unplayed_record name held now why fault.OutOfMemory is u = tt
+unplayed_record name held now why (fault.Usage usage) is u = u
+unplayed_record name held now why (fault.NoCode word) is u = u
+unplayed_record name held now why fault.CannotWrite is u = u
+unplayed_record name held now why (fault.CannotRecord named error remains) is u = u
+unplayed_record name held now why fault.NoThread is u = u
+unplayed_record name held now why fault.LogsDiffer is u = u
+unplayed_record name held now why fault.NotText is u = u
+
+-- that memory ran out is why, too
+pub unplayed : (name : List ℕ) (f : Fault) → f ≡ out_of_memory → IsUnplayedRecord name f
+unplayed name f e = subst (IsUnplayedRecord name) (sym e) tt
+
 -- what is answered with the program of the files' source text is answered on the files
-pub replayed_on_files : (root : Root) (held : Option (List ℕ)) (names : List (List ℕ)) (source : List File) (program : Image) (r : Result Answer Fault) →
-    names_of source ≡ names → IsLoaded (joined source) root program → IfOk r (λ answer. IsReplayTo program held answer.text.items answer.exit) →
-    IfOk r (λ answer. IsReplayOn root held names answer.text.items answer.exit)
-replayed_on_files root held names source program (Ok answer) named loaded told = inl (source, named, inl (program, loaded, told))
-replayed_on_files root held names source program (Err fault) named loaded told = tt
+pub replayed_on_files : (root : Root) (recorded : Option (List ℕ)) (names : List (List ℕ)) (held : List (Option (List ℕ))) (source : List File)
+    (program : Image) (r : Result Answer Fault) → IsSourceOf names held source → IsLoaded (joined source) root program →
+    IfOk r (λ answer. IsReplayTo program recorded answer.text.items answer.exit) →
+    IfOk r (λ answer. IsReplayOn root recorded names held answer.text.items answer.exit)
+replayed_on_files root recorded names held source program (Ok answer) of_them loaded told = inl (source, of_them, inl (program, loaded, told))
+replayed_on_files root recorded names held source program (Err fault) of_them loaded told = tt
 
 -- and so is what keeps that text from being run
-pub rejected_on_files : (root : Root) (held : Option (List ℕ)) (names : List (List ℕ)) (source : List File) (why : Rejection) (r : Result Answer Fault) →
-    names_of source ≡ names → IsNotRunFor (joined source) root why → IfOk r (λ answer. IsRefusalOf source why answer.text.items answer.exit) →
-    IfOk r (λ answer. IsReplayOn root held names answer.text.items answer.exit)
-rejected_on_files root held names source why (Ok answer) named is told = inl (source, named, inr (why, is, told))
-rejected_on_files root held names source why (Err fault) named is told = tt
+pub rejected_on_files : (root : Root) (recorded : Option (List ℕ)) (names : List (List ℕ)) (held : List (Option (List ℕ))) (source : List File)
+    (why : Rejection) (r : Result Answer Fault) → IsSourceOf names held source → IsNotRunFor (joined source) root why →
+    IfOk r (λ answer. IsRefusalOf source why answer.text.items answer.exit) →
+    IfOk r (λ answer. IsReplayOn root recorded names held answer.text.items answer.exit)
+rejected_on_files root recorded names held source why (Ok answer) of_them is told = inl (source, of_them, inr (why, is, told))
+rejected_on_files root recorded names held source why (Err fault) of_them is told = tt
+
+-- files whose text is too long
+pub too_long_to_replay : (root : Root) (recorded : Option (List ℕ)) (names : List (List ℕ)) (held : List (Option (List ℕ))) (r : Result Answer Fault) →
+    IfOk r (λ answer. TellsTooLong held answer.text.items answer.exit) →
+    IfOk r (λ answer. IsReplayOn root recorded names held answer.text.items answer.exit)
+too_long_to_replay root recorded names held (Ok answer) told = inr told
+too_long_to_replay root recorded names held (Err fault) told = tt
 
 -- ---- run
 
 -- what is answered to a run of the program of the files' source text is answered on the files
-pub ran_on_files : (options : RunOptions) (names : List (List ℕ)) (source : List File) (program : Image) (r : Result Answer Fault) →
-    names_of source ≡ names → IsLoaded (joined source) (root_of options.root) program →
+pub ran_on_files : (options : RunOptions) (names : List (List ℕ)) (held : List (Option (List ℕ))) (source : List File) (program : Image)
+    (r : Result Answer Fault) → IsSourceOf names held source → IsLoaded (joined source) (root_of options.root) program →
     IfOk r (λ answer. IsRanOf program options answer.text.items answer.exit answer.record) →
-    IfOk r (λ answer. IsRunOn options names answer.text.items answer.exit answer.record)
-ran_on_files options names source program (Ok answer) named loaded ran =
+    IfOk r (λ answer. IsRunOn options names held answer.text.items answer.exit answer.record)
+ran_on_files options names held source program (Ok answer) of_them loaded ran =
     inl (
       source,
-      named,
+      of_them,
       inl (record {
         lines = ran.lines;
         hows = ran.hows;
@@ -95,23 +185,23 @@ ran_on_files options names source program (Ok answer) named loaded ran =
         kept = ran.kept;
       }),
     )
-ran_on_files options names source program (Err fault) named loaded ran = tt
+ran_on_files options names held source program (Err fault) of_them loaded ran = tt
 
 -- and so is what keeps that text from being run
-pub not_ran_on_files : (options : RunOptions) (names : List (List ℕ)) (source : List File) (why : Rejection) (r : Result Answer Fault) →
-    names_of source ≡ names → IsNotRunFor (joined source) (root_of options.root) why →
+pub not_ran_on_files : (options : RunOptions) (names : List (List ℕ)) (held : List (Option (List ℕ))) (source : List File) (why : Rejection)
+    (r : Result Answer Fault) → IsSourceOf names held source → IsNotRunFor (joined source) (root_of options.root) why →
     IfOk r (λ answer. IsRefusalOf source why answer.text.items answer.exit) → IfOk r (λ answer. answer.record ≡ None) →
-    IfOk r (λ answer. IsRunOn options names answer.text.items answer.exit answer.record)
-not_ran_on_files options names source why (Ok answer) named is refused unkept =
-    inl (source, named, inr (record { why = why; true_of = is; refused = refused; unkept = unkept }))
-not_ran_on_files options names source why (Err fault) named is refused unkept = tt
+    IfOk r (λ answer. IsRunOn options names held answer.text.items answer.exit answer.record)
+not_ran_on_files options names held source why (Ok answer) of_them is refused unkept =
+    inl (source, of_them, inr (record { why = why; true_of = is; refused = refused; unkept = unkept }))
+not_ran_on_files options names held source why (Err fault) of_them is refused unkept = tt
 
 -- files whose text is too long
-pub too_long_to_run : (options : RunOptions) (names : List (List ℕ)) (r : Result Answer Fault) →
-    IfOk r (λ answer. IsRefusalOf [] too_long answer.text.items answer.exit) → IfOk r (λ answer. answer.record ≡ None) →
-    IfOk r (λ answer. IsRunOn options names answer.text.items answer.exit answer.record)
-too_long_to_run options names (Ok answer) refused unkept = inr (refused, unkept)
-too_long_to_run options names (Err fault) refused unkept = tt
+pub too_long_to_run : (options : RunOptions) (names : List (List ℕ)) (held : List (Option (List ℕ))) (r : Result Answer Fault) →
+    IfOk r (λ answer. TellsTooLong held answer.text.items answer.exit) → IfOk r (λ answer. answer.record ≡ None) →
+    IfOk r (λ answer. IsRunOn options names held answer.text.items answer.exit answer.record)
+too_long_to_run options names held (Ok answer) told unkept = inr (told, unkept)
+too_long_to_run options names held (Err fault) told unkept = tt
 
 -- an audit that doesn't say yes is told behind the report
 pub told_of_audit : (program : Image) (left : Left) (report line : List ℕ) (hows : List Status) (is_audited : Bool) (f told : AuditFault)
@@ -122,15 +212,62 @@ told_of_audit program left report line hows true f told output e why is said all
 told_of_audit program left report line hows false f told output e why is said all = cc
 
 -- that a program isn't run is why the files aren't
-pub not_run : (names : List (List ℕ)) (r : Result Answer Fault) → IfErr r IsUnrun → IfErr r (IsUnrunOn names)
-not_run names (Ok answer) is = tt
-not_run names (Err fault) is = inr is
+pub not_run : (names : List (List ℕ)) (held : List (Option (List ℕ))) (r : Result Answer Fault) → IfErr r IsUnrun → IfErr r (IsUnrunOn names held)
+not_run names held (Ok answer) is = tt
+not_run names held (Err fault) is = inr is
 
-pub not_answered : (names : List (List ℕ)) (r : Result Answer Fault) → IfErr r (λ fault. fault ≡ out_of_memory) → IfErr r (IsUnrunOn names)
-not_answered names (Ok answer) is = tt
-not_answered names (Err fault) is = inl (unanswered names fault is)
+pub not_answered : (names : List (List ℕ)) (held : List (Option (List ℕ))) (r : Result Answer Fault) → IfErr r (λ fault. fault ≡ out_of_memory) →
+    IfErr r (IsUnrunOn names held)
+not_answered names held (Ok answer) is = tt
+not_answered names held (Err fault) is = inl (unanswered names held fault is)
 
-pub not_read : (names : List (List ℕ)) (why : JoinFault) (r : Result Answer Fault) → (why.fault ≡ no_memory) ⊎ (why.file < length names) →
-    IfErr r (IsUnread names why) → IfErr r (IsUnrunOn names)
-not_read names why (Ok answer) which is = tt
-not_read names why (Err fault) which is = inl (unread names why fault which is)
+pub not_read : (names : List (List ℕ)) (held : List (Option (List ℕ))) (why : JoinFault) (r : Result Answer Fault) →
+    (why.fault ≡ no_memory) ⊎ (why.file < length names) → FailsForGood why.fault →
+    ((files : List (List ℕ)) → AreTold held files → (why.fault ≡ no_memory) ⊎ IsJoinFault files why) →
+    IfErr r (IsUnread names why) → IfErr r (IsUnrunOn names held)
+not_read names held why (Ok answer) which good a is = tt
+not_read names held why (Err fault) which good a is = inl (unread names held why fault which good a is)
+
+-- the same where only files or memory keep from an answer
+pub not_read_on : (names : List (List ℕ)) (held : List (Option (List ℕ))) (why : JoinFault) (r : Result Answer Fault) →
+    (why.fault ≡ no_memory) ⊎ (why.file < length names) → FailsForGood why.fault →
+    ((files : List (List ℕ)) → AreTold held files → (why.fault ≡ no_memory) ⊎ IsJoinFault files why) →
+    IfErr r (IsUnread names why) → IfErr r (IsUnansweredOn names held)
+not_read_on names held why (Ok answer) which good a is = tt
+not_read_on names held why (Err fault) which good a is = unread names held why fault which good a is
+
+pub not_answered_on : (names : List (List ℕ)) (held : List (Option (List ℕ))) (r : Result Answer Fault) →
+    IfErr r (λ fault. fault ≡ out_of_memory) → IfErr r (IsUnansweredOn names held)
+not_answered_on names held (Ok answer) is = tt
+not_answered_on names held (Err fault) is = unanswered names held fault is
+
+-- ---- why no record is played
+
+pub not_played_unread : (record_name : List ℕ) (names : List (List ℕ)) (held : List (Option (List ℕ))) (why : JoinFault) (r : Result Answer Fault) →
+    (why.fault ≡ no_memory) ⊎ (why.file < length names) → FailsForGood why.fault →
+    ((files : List (List ℕ)) → AreTold held files → (why.fault ≡ no_memory) ⊎ IsJoinFault files why) →
+    IfErr r (IsUnread names why) → IfErr r (IsUnplayed record_name names held)
+not_played_unread record_name names held why (Ok answer) which good a is = tt
+not_played_unread record_name names held why (Err fault) which good a is = inl (unread names held why fault which good a is)
+
+pub not_played : (record_name : List ℕ) (names : List (List ℕ)) (held : List (Option (List ℕ))) (r : Result Answer Fault) →
+    IfErr r (IsUnplayedRecord record_name) → IfErr r (IsUnplayed record_name names held)
+not_played record_name names held (Ok answer) is = tt
+not_played record_name names held (Err fault) is = inr is
+
+pub not_played_for_memory : (record_name : List ℕ) (names : List (List ℕ)) (held : List (Option (List ℕ))) (r : Result Answer Fault) →
+    IfErr r (λ fault. fault ≡ out_of_memory) → IfErr r (IsUnplayed record_name names held)
+not_played_for_memory record_name names held (Ok answer) is = tt
+not_played_for_memory record_name names held (Err fault) is = inl (unanswered names held fault is)
+
+-- what is told of a file that holds no record is what is answered
+pub told_no_record : (program : Image) (held now : Option (List ℕ)) (why : ReadFault) (r : Result Answer Fault) → IsReadFault held now why →
+    OnOk r (IsBadRecord why) → IfOk r (λ answer. TellsBadRecord answer.text.items answer.exit) →
+    IfOk r (λ answer. IsReplayTo program held answer.text.items answer.exit)
+told_no_record program held now why (Ok answer) is bad refused = inl (no_record held now why is bad, refused)
+told_no_record program held now why (Err fault) is bad refused = tt
+
+pub told_unread : (name : List ℕ) (held now : Option (List ℕ)) (why : ReadFault) (r : Result Answer Fault) → IsReadFault held now why →
+    IfErr r (IsRecordUnread name why) → IfErr r (IsUnplayedRecord name)
+told_unread name held now why (Ok answer) is u = tt
+told_unread name held now why (Err fault) is u = unplayed_record name held now why fault is u

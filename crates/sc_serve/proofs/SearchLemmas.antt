@@ -1,37 +1,37 @@
 -- What is answered to searches.
-use Rattle.std.proofs.Common.{◌≡◌, ◌<◌, ◌⊎◌, inl, inr, ℕ, List, [], Option, None, Result, Ok, Err, IfOk}
+use Rattle.std.proofs.Common.{◌≡◌, ◌⊎◌, inl, inr, ℕ, List, Option, None, Result, Ok, Err, IfOk}
 use Rattle.sc_arguments.specs.declared.arguments.searching.SearchOptions.{SearchOptions}
 use Rattle.sc_class.specs.View.{root_of}
 use Rattle.sc_code.specs.declared.program.Image.{Image}
 use Rattle.sc_driver.specs.Execution.{IsLoaded, IsNotRunFor}
 use Rattle.sc_driver.specs.declared.rejection.Rejection.{Rejection}
-use Rattle.sc_serve.specs.Answer.{IsRefusalOf, too_long}
+use Rattle.sc_serve.specs.Answer.{IsRefusalOf, IsSourceOf, TellsTooLong}
 use Rattle.sc_serve.specs.Search.{IsSearchOf, IsSearchOn}
 use Rattle.sc_serve.specs.declared.serve.Answer.{Answer}
 use Rattle.sc_serve.specs.declared.serve.Fault.{Fault}
-use Rattle.sc_source.specs.Source.{File, joined, names_of}
+use Rattle.sc_source.specs.Source.{File, joined}
 
 -- what is answered to a search of the program of the files' source text is answered on the files
-pub searched_on_files : (options : SearchOptions) (names : List (List ℕ)) (source : List File) (program : Image) (r : Result Answer Fault) →
-    names_of source ≡ names → IsLoaded (joined source) (root_of options.root) program →
+pub searched_on_files : (options : SearchOptions) (names : List (List ℕ)) (held : List (Option (List ℕ))) (source : List File) (program : Image)
+    (r : Result Answer Fault) → IsSourceOf names held source → IsLoaded (joined source) (root_of options.root) program →
     IfOk r (λ answer. IsSearchOf program options answer.text.items answer.exit answer.record) →
-    IfOk r (λ answer. IsSearchOn options names answer.text.items answer.exit answer.record)
-searched_on_files options names source program (Ok answer) named loaded searched =
-    inl (source, named, inl (record { program = program; loaded = loaded; searched = searched }))
-searched_on_files options names source program (Err fault) named loaded searched = tt
+    IfOk r (λ answer. IsSearchOn options names held answer.text.items answer.exit answer.record)
+searched_on_files options names held source program (Ok answer) of_them loaded searched =
+    inl (source, of_them, inl (record { program = program; loaded = loaded; searched = searched }))
+searched_on_files options names held source program (Err fault) of_them loaded searched = tt
 
 -- and so is what keeps that text from being searched
-pub not_searched_on_files : (options : SearchOptions) (names : List (List ℕ)) (source : List File) (why : Rejection) (r : Result Answer Fault) →
-    names_of source ≡ names → IsNotRunFor (joined source) (root_of options.root) why →
+pub not_searched_on_files : (options : SearchOptions) (names : List (List ℕ)) (held : List (Option (List ℕ))) (source : List File) (why : Rejection)
+    (r : Result Answer Fault) → IsSourceOf names held source → IsNotRunFor (joined source) (root_of options.root) why →
     IfOk r (λ answer. IsRefusalOf source why answer.text.items answer.exit) → IfOk r (λ answer. answer.record ≡ None) →
-    IfOk r (λ answer. IsSearchOn options names answer.text.items answer.exit answer.record)
-not_searched_on_files options names source why (Ok answer) named is refused unkept =
-    inl (source, named, inr (record { why = why; true_of = is; refused = refused; unkept = unkept }))
-not_searched_on_files options names source why (Err fault) named is refused unkept = tt
+    IfOk r (λ answer. IsSearchOn options names held answer.text.items answer.exit answer.record)
+not_searched_on_files options names held source why (Ok answer) of_them is refused unkept =
+    inl (source, of_them, inr (record { why = why; true_of = is; refused = refused; unkept = unkept }))
+not_searched_on_files options names held source why (Err fault) of_them is refused unkept = tt
 
 -- files whose text is too long
-pub too_long_to_search : (options : SearchOptions) (names : List (List ℕ)) (r : Result Answer Fault) →
-    IfOk r (λ answer. IsRefusalOf [] too_long answer.text.items answer.exit) → IfOk r (λ answer. answer.record ≡ None) →
-    IfOk r (λ answer. IsSearchOn options names answer.text.items answer.exit answer.record)
-too_long_to_search options names (Ok answer) refused unkept = inr (refused, unkept)
-too_long_to_search options names (Err fault) refused unkept = tt
+pub too_long_to_search : (options : SearchOptions) (names : List (List ℕ)) (held : List (Option (List ℕ))) (r : Result Answer Fault) →
+    IfOk r (λ answer. TellsTooLong held answer.text.items answer.exit) → IfOk r (λ answer. answer.record ≡ None) →
+    IfOk r (λ answer. IsSearchOn options names held answer.text.items answer.exit answer.record)
+too_long_to_search options names held (Ok answer) told unkept = inr (told, unkept)
+too_long_to_search options names held (Err fault) told unkept = tt

@@ -2,6 +2,8 @@
 use Rattle.std.specs.Prelude.{ℕ, ◌≡◌, ◌<◌, ◌⊎◌, Bool, true, false, if◌then◌else◌, List, [], ◌∷◌, ◌++◌, Option, Some, None, IfSome, codes, decimal, get_or, length}
 use Rattle.std.specs.List.{list_any}
 use Rattle.std.specs.Option.{option_map}
+use Rattle.std.specs.IoError.{error_kind}
+use Rattle.sc_text.specs.Spelling.{max_source_bytes}
 use Rattle.sc_text.specs.declared.fault.LexFault.TheVariants as lexing
 use Rattle.sc_lockpass.specs.declared.version.Version.{Version}
 use Rattle.sc_audit.specs.declared.line.RecordLine.{RecordLine}
@@ -31,7 +33,9 @@ use Rattle.sc_driver.specs.declared.rejection.Rejection.{Rejection}
 use Rattle.sc_driver.specs.declared.rejection.Rejection.TheVariants as rejection
 use Rattle.sc_serve.specs.Refusal.{refusal_line, told, too_long_line}
 use Rattle.sc_source.specs.Source.{File, joined, line_feed, names_of, place_at}
-use Rattle.sc_source.specs.Joining.{no_memory}
+use Rattle.sc_source.specs.Joining.{AreJoined, AreTold, FailsForGood, IsForGood, IsJoinFault, no_memory, source_text}
+use Rattle.sc_source.specs.declared.reading.FileFault.{FileFault}
+use Rattle.sc_source.specs.declared.reading.FileFault.TheVariants as of_file
 use Rattle.sc_source.specs.declared.source.JoinFault.{JoinFault}
 
 abbrev pub has_failed : Status → Bool
@@ -81,21 +85,46 @@ IsAnswerOf command source output exit =
 abbrev pub too_long : Rejection
 too_long = rejection.Text lexing.SourceTooLong
 
--- What is answered on files of these names, which are read in order: their source text may be too long.
-abbrev pub IsAnswerOn : Command → List (List ℕ) → List ℕ → Exit → Type 0
-IsAnswerOn command names output exit =
-    ((source : List File) × (names_of source ≡ names) × IsAnswerOf command source output exit)
-    ⊎ IsRefusalOf [] too_long output exit
+-- The source text of files of these names, which hold this: their texts, where it is known what each of them holds.
+pub record IsSourceOf (names : List (List ℕ)) (held : List (Option (List ℕ))) (source : List File) : Type 0 where
+  pub named : names_of source ≡ names
+  pub texts : (files : List (List ℕ)) → AreTold held files → AreJoined files source
+
+-- It is told that their source text is too long, and it is, where it is known what each of them holds.
+pub record TellsTooLong (held : List (Option (List ℕ))) (output : List ℕ) (exit : Exit) : Type 0 where
+  pub long : (files : List (List ℕ)) → AreTold held files → max_source_bytes < length (source_text files)
+  pub refused : IsRefusalOf [] too_long output exit
+
+-- What is answered on files of these names, which are read in order and hold this: their source text may be too long.
+abbrev pub IsAnswerOn : Command → List (List ℕ) → List (Option (List ℕ)) → List ℕ → Exit → Type 0
+IsAnswerOn command names held output exit =
+    ((source : List File) × IsSourceOf names held source × IsAnswerOf command source output exit) ⊎ TellsTooLong held output exit
 
 -- ---- no answer
+
+-- A reader failed, for good.
+abbrev pub IsReaderFailure : FileFault → Type 0
+IsReaderFailure (of_file.Unreadable error) = IsForGood (error_kind error)
+IsReaderFailure (of_file.NotUtf8 offset) = ⊥
+IsReaderFailure of_file.TooLong = ⊥
+IsReaderFailure of_file.OutOfMemory = ⊥
 
 abbrev pub out_of_memory : Fault
 out_of_memory = fault.OutOfMemory
 
--- The file of this number among those of these names can't be read, or memory ran out.
+-- A file can't be read: its reader failed, or it isn't UTF-8.
+abbrev pub IsOfFile : FileFault → Type 0
+IsOfFile (of_file.Unreadable error) = Unit {0}
+IsOfFile (of_file.NotUtf8 offset) = Unit {0}
+IsOfFile of_file.TooLong = ⊥
+IsOfFile of_file.OutOfMemory = ⊥
+
+-- The file of this number among those of these names is told with what is wrong with it; or memory ran out, perhaps as it was
+-- to be told that the files are too long.
 abbrev pub IsUnread : List (List ℕ) → JoinFault → Fault → Type 0
-IsUnread names why (fault.CannotRead name reading) = (why.fault ≡ no_memory → ⊥) × (name.now ≡ get_or names why.file [])
-IsUnread names why fault.OutOfMemory = Unit {0}
+IsUnread names why (fault.CannotRead name reading) =
+    (reading ≡ why.fault) × IsOfFile reading × (name.now ≡ get_or names why.file [])
+IsUnread names why fault.OutOfMemory = (why.fault ≡ no_memory) ⊎ (why.fault ≡ of_file.TooLong)
 IsUnread names why (fault.Usage usage) = ⊥
 IsUnread names why (fault.NoCode word) = ⊥
 IsUnread names why fault.CannotWrite = ⊥
@@ -104,18 +133,28 @@ IsUnread names why fault.NoThread = ⊥
 IsUnread names why fault.LogsDiffer = ⊥
 IsUnread names why fault.NotText = ⊥
 
--- Why nothing is answered on files of these names: one of them can't be read, or memory ran out.
-abbrev pub IsUnansweredOn : List (List ℕ) → Fault → Type 0
-IsUnansweredOn names (fault.CannotRead name reading) =
-    (file : ℕ) × (file < length names) × (name.now ≡ get_or names file [])
-IsUnansweredOn names fault.OutOfMemory = Unit {0}
-IsUnansweredOn names (fault.Usage usage) = ⊥
-IsUnansweredOn names (fault.NoCode word) = ⊥
-IsUnansweredOn names fault.CannotWrite = ⊥
-IsUnansweredOn names (fault.CannotRecord name error remains) = ⊥
-IsUnansweredOn names fault.NoThread = ⊥
-IsUnansweredOn names fault.LogsDiffer = ⊥
-IsUnansweredOn names fault.NotText = ⊥
+-- This keeps files of these names, which hold this, from being read: one of them is told with what is wrong with it. If its reader
+-- failed, it did so for good, and what is told is true where it is known what each of them holds.
+pub record IsFileAtFault (names : List (List ℕ)) (held : List (Option (List ℕ))) (name : List ℕ) (reading : FileFault) : Type 0 where
+  pub why : JoinFault
+  pub there : why.file < length names
+  pub named : name ≡ get_or names why.file []
+  pub same : reading ≡ why.fault
+  pub kind : IsOfFile reading
+  pub for_good : FailsForGood reading
+  pub true_of_it : (files : List (List ℕ)) → AreTold held files → IsJoinFault files why
+
+-- Why nothing is answered on files of these names, which hold this: one of them can't be read, or memory ran out.
+abbrev pub IsUnansweredOn : List (List ℕ) → List (Option (List ℕ)) → Fault → Type 0
+IsUnansweredOn names held (fault.CannotRead name reading) = IsFileAtFault names held name.now reading
+IsUnansweredOn names held fault.OutOfMemory = Unit {0}
+IsUnansweredOn names held (fault.Usage usage) = ⊥
+IsUnansweredOn names held (fault.NoCode word) = ⊥
+IsUnansweredOn names held fault.CannotWrite = ⊥
+IsUnansweredOn names held (fault.CannotRecord name error remains) = ⊥
+IsUnansweredOn names held fault.NoThread = ⊥
+IsUnansweredOn names held fault.LogsDiffer = ⊥
+IsUnansweredOn names held fault.NotText = ⊥
 
 -- ---- run
 
@@ -177,12 +216,12 @@ pub record IsNotRan (options : RunOptions) (source : List File) (output : List �
   pub refused : IsRefusalOf source why output exit
   pub unkept : recording ≡ None
 
--- What is answered to a run of files of these names.
-abbrev pub IsRunOn : RunOptions → List (List ℕ) → List ℕ → Exit → Option Recording → Type 0
-IsRunOn options names output exit recording =
-    ((source : List File) × (names_of source ≡ names)
+-- What is answered to a run of files of these names, which hold this.
+abbrev pub IsRunOn : RunOptions → List (List ℕ) → List (Option (List ℕ)) → List ℕ → Exit → Option Recording → Type 0
+IsRunOn options names held output exit recording =
+    ((source : List File) × IsSourceOf names held source
     × (IsRanFrom options (joined source) output exit recording ⊎ IsNotRan options source output exit recording))
-    ⊎ (IsRefusalOf [] too_long output exit × (recording ≡ None))
+    ⊎ (TellsTooLong held output exit × (recording ≡ None))
 
 -- Why a program isn't run: memory or a thread is refused, or the threads' logs differ.
 abbrev pub IsUnrun : Fault → Type 0
@@ -196,9 +235,9 @@ IsUnrun fault.CannotWrite = ⊥
 IsUnrun (fault.CannotRecord name error remains) = ⊥
 IsUnrun fault.NotText = ⊥
 
--- Why files of these names aren't run.
-abbrev pub IsUnrunOn : List (List ℕ) → Fault → Type 0
-IsUnrunOn names f = IsUnansweredOn names f ⊎ IsUnrun f
+-- Why files of these names, which hold this, aren't run.
+abbrev pub IsUnrunOn : List (List ℕ) → List (Option (List ℕ)) → Fault → Type 0
+IsUnrunOn names held f = IsUnansweredOn names held f ⊎ IsUnrun f
 
 -- ---- replay
 
@@ -242,12 +281,39 @@ IsReplayOf root held source output exit =
     ((program : Image) × IsLoaded (joined source) root program × IsReplayTo program held output exit)
     ⊎ ((why : Rejection) × IsNotRunFor (joined source) root why × IsRefusalOf source why output exit)
 
--- What is answered on files of these names, where this is held by the file of the record, as far as that is known.
-abbrev pub IsReplayOn : Root → Option (List ℕ) → List (List ℕ) → List ℕ → Exit → Type 0
-IsReplayOn root held names output exit =
-    ((source : List File) × (names_of source ≡ names) × IsReplayOf root held source output exit)
-    ⊎ IsRefusalOf [] too_long output exit
+-- What is answered on files of these names, which hold this, where the file of the record holds that, as far as it is known.
+abbrev pub IsReplayOn : Root → Option (List ℕ) → List (List ℕ) → List (Option (List ℕ)) → List ℕ → Exit → Type 0
+IsReplayOn root recorded names held output exit =
+    ((source : List File) × IsSourceOf names held source × IsReplayOf root recorded source output exit) ⊎ TellsTooLong held output exit
+
+-- Why the file of this name holds nothing that is played: its reader failed, with the error that is told; or memory ran out,
+-- perhaps as it was to be told that it holds no record.
+abbrev pub IsRecordUnread : List ℕ → ReadFault → Fault → Type 0
+IsRecordUnread name why (fault.CannotRead named (of_file.Unreadable error)) = (named.now ≡ name) × (why ≡ reading.Unreadable error)
+IsRecordUnread name why fault.OutOfMemory = (why ≡ reading.OutOfMemory) ⊎ IsBadRecord why
+IsRecordUnread name why (fault.CannotRead named (of_file.NotUtf8 offset)) = ⊥
+IsRecordUnread name why (fault.CannotRead named of_file.TooLong) = ⊥
+IsRecordUnread name why (fault.CannotRead named of_file.OutOfMemory) = ⊥
+IsRecordUnread name why (fault.Usage usage) = ⊥
+IsRecordUnread name why (fault.NoCode word) = ⊥
+IsRecordUnread name why fault.CannotWrite = ⊥
+IsRecordUnread name why (fault.CannotRecord named error remains) = ⊥
+IsRecordUnread name why fault.NoThread = ⊥
+IsRecordUnread name why fault.LogsDiffer = ⊥
+IsRecordUnread name why fault.NotText = ⊥
+
+-- Why the record of the file of this name isn't played: it can't be read, or memory ran out.
+abbrev pub IsUnplayedRecord : List ℕ → Fault → Type 0
+IsUnplayedRecord name (fault.CannotRead named reading) = (named.now ≡ name) × IsReaderFailure reading
+IsUnplayedRecord name fault.OutOfMemory = Unit {0}
+IsUnplayedRecord name (fault.Usage usage) = ⊥
+IsUnplayedRecord name (fault.NoCode word) = ⊥
+IsUnplayedRecord name fault.CannotWrite = ⊥
+IsUnplayedRecord name (fault.CannotRecord named error remains) = ⊥
+IsUnplayedRecord name fault.NoThread = ⊥
+IsUnplayedRecord name fault.LogsDiffer = ⊥
+IsUnplayedRecord name fault.NotText = ⊥
 
 -- Why no record of this name is played: it can't be read, or nothing is answered on the files.
-abbrev pub IsUnplayed : List ℕ → List (List ℕ) → Fault → Type 0
-IsUnplayed record_name names f = IsUnansweredOn names f ⊎ IsUnansweredOn (record_name ∷ []) f
+abbrev pub IsUnplayed : List ℕ → List (List ℕ) → List (Option (List ℕ)) → Fault → Type 0
+IsUnplayed record_name names held f = IsUnansweredOn names held f ⊎ IsUnplayedRecord record_name f

@@ -22,11 +22,11 @@ use Rattle.sc_search.specs.Verdicts.{IsShown}
 use Rattle.sc_arguments.specs.declared.arguments.searching.SearchOptions.{SearchOptions}
 use Rattle.sc_arguments.specs.declared.arguments.searching.Sought.{Sought}
 use Rattle.sc_arguments.specs.declared.arguments.searching.Sought.TheVariants as sought
-use Rattle.sc_serve.specs.Answer.{IsRefusalOf, asked_of, kept_of, too_long}
+use Rattle.sc_serve.specs.Answer.{IsRefusalOf, IsSourceOf, TellsTooLong, asked_of, kept_of}
 use Rattle.sc_serve.specs.declared.serve.Exit.{Exit}
 use Rattle.sc_serve.specs.declared.serve.Exit.TheVariants.{Done, Failed, Undecided, Unfinished}
 use Rattle.sc_serve.specs.declared.serve.Recording.{Recording}
-use Rattle.sc_source.specs.Source.{File, joined, names_of}
+use Rattle.sc_source.specs.Source.{File, joined}
 
 abbrev pub aim_of : Sought → Aim
 aim_of sought.Stuck = aim.Stuck
@@ -129,9 +129,9 @@ pub record IsNotSearched (root : Root) (source : List File) (output : List ℕ) 
   pub refused : IsRefusalOf source why output exit
   pub unkept : recording ≡ None
 
--- What is answered to a search of files of these names.
-abbrev pub IsSearchOn : SearchOptions → List (List ℕ) → List ℕ → Exit → Option Recording → Type 0
-IsSearchOn options names output exit recording =
-    ((source : List File) × (names_of source ≡ names)
+-- What is answered to a search of files of these names, which hold this.
+abbrev pub IsSearchOn : SearchOptions → List (List ℕ) → List (Option (List ℕ)) → List ℕ → Exit → Option Recording → Type 0
+IsSearchOn options names held output exit recording =
+    ((source : List File) × IsSourceOf names held source
     × (IsSearchFrom options (joined source) output exit recording ⊎ IsNotSearched (root_of options.root) source output exit recording))
-    ⊎ (IsRefusalOf [] too_long output exit × (recording ≡ None))
+    ⊎ (TellsTooLong held output exit × (recording ≡ None))

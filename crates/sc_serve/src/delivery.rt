@@ -1,7 +1,12 @@
 //! How an answer leaves the program: what it prints, and the record that it writes to a file.
 
+ghost use Rattle.std.specs.Prelude.{◌≡◌, OnErr, OnOk};
+ghost use Rattle.std.specs.Io.KnownBytes.{Appends};
+ghost use Rattle.sc_audit.specs.Writing.{WritesBeginning};
+ghost use Rattle.sc_serve.specs.Served.{IsDelivered, number_of, written_of};
+
 use crate::serve::{Answer, Exit, Fault, Recording, end_with};
-use sc_audit::{RecordLine, Unwritable, write_record};
+use sc_audit::{RecordLine, Unwritable, write_record, write_whole};
 use sc_source::files::Files;
 use sc_source::writing::Remains;
 use std::io::{self, ErrorKind, Write};
@@ -12,32 +17,45 @@ pub fn deliver<F: Files, O: Write, E: Write>(
     files: &F,
     out: &mut O,
     err: &mut E,
-) -> u8 {
+) -> u8
+    ensures { IsDelivered answer.now (O.contents out.old) (O.contents out.new) result }
+{
     let told = match &answer.record {
         None => print(answer, out, err),
         Some(recording) => print_and_record(answer, recording, files, out, err),
     };
     match told {
-        Ok(()) => answer.exit as u8,
+        Ok(()) => status_of(answer.exit),
         Err(fault) => {
             let status = end_with(&fault, err);
             // An audit that failed comes first.
             match answer.exit {
-                Exit::Broken => Exit::Broken as u8,
+                Exit::Broken => status_of(Exit::Broken),
                 _ => status,
             }
         }
     }
 }
 
+/// The status that the program ends with.
+pub fn status_of(exit: Exit) -> u8
+    ensures { result ≡ number_of exit }
+{
+    exit as u8
+}
+
 /// Prints an answer, and writes its record to the file. The file is opened first, since only that takes memory.
+#[tactic(auto, using(crate::proofs::ServedLemmas::all_begins, crate::proofs::ServedLemmas::none_begins))]
 fn print_and_record<'a, F: Files, O: Write, E: Write>(
     answer: &Answer<'_>,
     recording: &Recording<'a>,
     files: &F,
     out: &mut O,
     err: &mut E,
-) -> Result<(), Fault<'a>> {
+) -> Result<(), Fault<'a>>
+    ensures ok { OnOk result (Appends (O.contents out.old) (O.contents out.new) (written_of answer.now)) }
+    ensures err { OnErr result (WritesBeginning (O.contents out.old) (O.contents out.new) (written_of answer.now)) }
+{
     let opened = files.writer(recording.name);
     match opened {
         Err(error) if error.kind() == ErrorKind::OutOfMemory => Err(Fault::OutOfMemory),
@@ -77,11 +95,15 @@ fn write_lines<F: Files>(
 }
 
 /// Prints an answer on standard output, and what it adds on standard error.
+#[tactic(auto, using(crate::proofs::ServedLemmas::all_begins, crate::proofs::ServedLemmas::none_begins))]
 fn print<'a, O: Write, E: Write>(
     answer: &Answer<'_>,
     out: &mut O,
     err: &mut E,
-) -> Result<(), Fault<'a>> {
+) -> Result<(), Fault<'a>>
+    ensures ok { OnOk result (Appends (O.contents out.old) (O.contents out.new) (written_of answer.now)) }
+    ensures err { OnErr result (WritesBeginning (O.contents out.old) (O.contents out.new) (written_of answer.now)) }
+{
     match write_out(written_of(answer), out) {
         Ok(()) => {}
         Err(error) if error.kind() == ErrorKind::OutOfMemory => return Err(Fault::OutOfMemory),
@@ -95,14 +117,22 @@ fn print<'a, O: Write, E: Write>(
 }
 
 /// What is written on standard output: the text, or the object that stands for it.
-fn written_of<'r>(answer: &'r Answer<'_>) -> &'r [u8] {
+fn written_of<'r>(answer: &'r Answer<'_>) -> &'r [u8]
+    ensures { result.now ≡ written_of answer.now }
+{
     match &answer.object {
         Some(object) => object.as_slice(),
         None => answer.text.as_slice(),
     }
 }
 
-fn write_out<O: Write>(text: &[u8], out: &mut O) -> io::Result<()> {
-    out.write_all(text)?;
-    out.flush()
+/// Writes a text, and sees to it that nothing of it is held back.
+fn write_out<O: Write>(text: &[u8], out: &mut O) -> io::Result<()>
+    ensures ok { OnOk result (Appends (O.contents out.old) (O.contents out.new) text.now) }
+    ensures err { OnErr result (WritesBeginning (O.contents out.old) (O.contents out.new) text.now) }
+{
+    match write_whole(out, text) {
+        Ok(()) => out.flush(),
+        Err(Unwritable(error)) => Err(error),
+    }
 }

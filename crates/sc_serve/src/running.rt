@@ -1,6 +1,6 @@
 //! What is answered to `run`.
 
-ghost use Rattle.std.specs.Prelude.{◌≡◌, IfErr, IfOk, map};
+ghost use Rattle.std.specs.Prelude.{◌≡◌, IfErr, IfOk, None, map};
 ghost use Rattle.sc_lower.specs.Lowerings.{image_of};
 ghost use Rattle.std.specs.Option.{option_map};
 ghost use Rattle.sc_serve.specs.Answer.{IsJudged, IsRanOf, IsRunOn, IsUnrun, IsUnrunOn, asked_of, kept_of};
@@ -23,7 +23,6 @@ use std::sync::Wait;
 use std::thread::Threads;
 
 /// Runs the system of the named files.
-#[tactic(auto, using(crate::proofs::AnswerLemmas::unanswered, crate::proofs::AnswerLemmas::unread))]
 pub fn answer_run<'a, R: Threads + Wait + Sync, F: Files>(
     rt: &R,
     alloc: Global,
@@ -32,8 +31,11 @@ pub fn answer_run<'a, R: Threads + Wait + Sync, F: Files>(
     names: &[&'a str],
 ) -> Result<Answer<'a>, Fault<'a>>
     ensures answer { let named = map (λ name. name.now) names.now in
-        IfOk result (λ answer. IsRunOn options.now named answer.text.items answer.exit answer.record) }
-    ensures unrun { IfErr result (IsUnrunOn (map (λ name. name.now) names.now)) }
+        let held = map (λ name. F.bytes_of files.now name.now) names.now in
+        IfOk result (λ answer. IsRunOn options.now named held answer.text.items answer.exit answer.record) }
+    ensures object { IfOk result (λ answer. answer.object ≡ None) }
+    ensures unrun { let held = map (λ name. F.bytes_of files.now name.now) names.now in
+        IfErr result (IsUnrunOn (map (λ name. name.now) names.now) held) }
 {
     let source = match read_source(alloc, files, names) {
         Ok(source) => source,
@@ -64,6 +66,7 @@ fn run_loaded<'a, R: Threads + Wait + Sync>(
 ) -> Result<Answer<'a>, Fault<'a>>
     ensures answer { IfOk result (λ answer.
         IsRanOf (image_of program.now) options.now answer.text.items answer.exit answer.record) }
+    ensures object { IfOk result (λ answer. answer.object ≡ None) }
     ensures unrun { IfErr result IsUnrun }
 {
     let Ended { left, outcome } = match run_program(

@@ -1,6 +1,6 @@
 //! What is answered to `search`.
 
-ghost use Rattle.std.specs.Prelude.{◌≡◌, IfErr, IfOk, map};
+ghost use Rattle.std.specs.Prelude.{◌≡◌, IfErr, IfOk, None, map};
 ghost use Rattle.std.specs.Option.{option_map};
 ghost use Rattle.sc_lower.specs.Lowerings.{image_of};
 ghost use Rattle.sc_serve.specs.Answer.{IsUnansweredOn, kept_of, out_of_memory};
@@ -24,7 +24,6 @@ use sc_world::World;
 use std::alloc::{AllocError, Global};
 
 /// Plays the system of the named files in every order of turns.
-#[tactic(auto, using(crate::proofs::AnswerLemmas::unanswered, crate::proofs::AnswerLemmas::unread))]
 pub fn answer_search<'a, F: Files, W: Watch>(
     alloc: Global,
     options: &SearchOptions<'a>,
@@ -33,8 +32,11 @@ pub fn answer_search<'a, F: Files, W: Watch>(
     watch: &mut W,
 ) -> Result<Answer<'a>, Fault<'a>>
     ensures answer { let named = map (λ name. name.now) names.now in
-        IfOk result (λ answer. IsSearchOn options.now named answer.text.items answer.exit answer.record) }
-    ensures unanswered { IfErr result (IsUnansweredOn (map (λ name. name.now) names.now)) }
+        let held = map (λ name. F.bytes_of files.now name.now) names.now in
+        IfOk result (λ answer. IsSearchOn options.now named held answer.text.items answer.exit answer.record) }
+    ensures object { options.now.format ≡ Format.Text → IfOk result (λ answer. answer.object ≡ None) }
+    ensures unanswered { let held = map (λ name. F.bytes_of files.now name.now) names.now in
+        IfErr result (IsUnansweredOn (map (λ name. name.now) names.now) held) }
 {
     let source = match read_source(alloc, files, names) {
         Ok(source) => source,
@@ -65,6 +67,7 @@ fn search_loaded<'a, W: Watch>(
 ) -> Result<Answer<'a>, Fault<'a>>
     ensures answer { IfOk result (λ answer.
         IsSearchOf (image_of program.now) options.now answer.text.items answer.exit answer.record) }
+    ensures object { options.now.format ≡ Format.Text → IfOk result (λ answer. answer.object ≡ None) }
     ensures unanswered { IfErr result (λ fault. fault ≡ out_of_memory) }
 {
     let aim = aim_of(options.sought);
@@ -125,7 +128,9 @@ fn object_of(
     alloc: Global,
     options: &SearchOptions<'_>,
     verdict: &Verdict,
-) -> Result<Option<Vec<u8>>, AllocError> {
+) -> Result<Option<Vec<u8>>, AllocError>
+    ensures { options.now.format ≡ Format.Text → IfOk result (λ object. object ≡ None) }
+{
     match options.format {
         Format::Json => Ok(Some(search_object(alloc, options, verdict)?)),
         Format::Text => Ok(None),

@@ -1,12 +1,14 @@
 //! One call of the program, from its arguments to its status.
 
-ghost use Rattle.std.specs.Prelude.{◌≡◌, [], ◌∷◌, IfErr, IfOk, None, OnOk, map};
+ghost use Rattle.std.specs.Prelude.{◌≡◌, ◌⊎◌, [], IfErr, IfOk, None, OnOk, map};
 ghost use Rattle.sc_serve.specs.Answer as spec;
 ghost use Rattle.std.specs.List.{list_any};
+ghost use Rattle.std.specs.Option.{option_map};
 ghost use Rattle.sc_class.specs.View.{root_of};
 ghost use Rattle.sc_lower.specs.Lowerings.{image_of};
 ghost use Rattle.sc_serve.specs.Answer.{IsAnswerOn, IsAnswerTo, IsRefusalOf, IsRejectedFor, too_long};
-ghost use Rattle.sc_serve.specs.Answer.{IsBadRecord, IsReplayOn, IsReplayTo, IsUnansweredOn, IsUnplayed, IsUnread, TellsBadRecord};
+ghost use Rattle.sc_serve.specs.Answer.{IsBadRecord, IsRecordUnread, IsReplayOn, IsReplayTo, IsUnansweredOn, IsUnplayed, IsUnplayedRecord, IsUnread, TellsBadRecord};
+ghost use Rattle.sc_serve.specs.Served.{Answers, IsExplained, IsFormatted, IsGivenUp, IsResponse, IsServed, format_of};
 
 use crate::delivery::deliver;
 use crate::json::answer_object;
@@ -14,7 +16,9 @@ use crate::progress::Progress;
 use crate::refusal::Refusal;
 use crate::running::answer_run;
 use crate::searching::answer_search;
-use sc_arguments::{Command, Format, Invocation, ReplayOptions, UsageFault, read_arguments};
+use sc_arguments::{
+    Command, Format, Invocation, ReplayOptions, UsageFault, ask_for_help, read_arguments,
+};
 use sc_audit::{ReadFault, Record, RecordLine, read_record};
 use sc_class::Root;
 use sc_code::Program;
@@ -81,6 +85,7 @@ impl<'a> Answer<'a> {
         ensures text { result.text ≡ text }
         ensures exit { result.exit ≡ exit }
         ensures record { result.record ≡ None }
+        ensures object { result.object ≡ None }
     {
         Answer {
             text,
@@ -125,6 +130,9 @@ impl<'a> From<AllocError> for Fault<'a> {
 /// the program ends with. What was asked for is written to `out`, and why it can't be had to `err`. The record of a run
 /// goes to the file that is named for it, behind that. Where `err` is a terminal, a search says there how far it is, and
 /// answers are explained there unless an argument says otherwise.
+///
+/// With any status but 2 and 5 all of the answer is written. Where one is given up, as with these, a beginning of it is, and
+/// nothing where there is none.
 pub fn serve<R: Threads + Wait + Sync + AllocGlobal, S: AsStr, F: Files, O: Write, E: Write>(
     rt: &R,
     arguments: &[S],
@@ -132,7 +140,10 @@ pub fn serve<R: Threads + Wait + Sync + AllocGlobal, S: AsStr, F: Files, O: Writ
     out: &mut O,
     err: &mut E,
     is_terminal: bool,
-) -> u8 {
+) -> u8
+    ensures { let words = map S.text arguments.now in
+        IsServed words (F.bytes_of files.now) (O.contents out.old) (O.contents out.new) result }
+{
     let mut progress = Progress::new(err, is_terminal);
     let response = respond(rt, arguments, files, &mut progress, is_terminal);
     progress.clear();
@@ -143,7 +154,9 @@ pub fn serve<R: Threads + Wait + Sync + AllocGlobal, S: AsStr, F: Files, O: Writ
 }
 
 /// Says on `err` why the program ends without an answer, and answers its status.
-pub fn end_with<E: Write>(fault: &Fault<'_>, err: &mut E) -> u8 {
+pub fn end_with<E: Write>(fault: &Fault<'_>, err: &mut E) -> u8
+    ensures { IsGivenUp result }
+{
     // The program ends in any case: nobody is left to be told that `err` failed. Its status still says so
     // where it failed since memory ran out.
     match (fault, say(fault, err)) {
@@ -223,53 +236,78 @@ fn say_remains<E: Write>(remains: &Option<Remains>, err: &mut E) -> io::Result<(
     }
 }
 
+/// What is answered to the arguments: what they ask for, or help where they ask for that.
+#[tactic(auto, using(crate::proofs::ServedLemmas::response, crate::proofs::ServedLemmas::help))]
 fn respond<'a, R: Threads + Wait + Sync + AllocGlobal, S: AsStr, F: Files, W: Watch>(
     rt: &R,
     arguments: &'a [S],
     files: &F,
     watch: &mut W,
     explains: bool,
-) -> Result<Answer<'a>, Fault<'a>> {
+) -> Result<Answer<'a>, Fault<'a>>
+    ensures { IfOk result (IsResponse (map S.text arguments.now) (F.bytes_of files.now)) }
+{
     let alloc = rt.alloc();
-    let invocation = match read_arguments(alloc, arguments, explains) {
-        Ok(invocation) => invocation,
-        Err(UsageFault::Arguments(error)) if !error.use_stderr() => {
+    match read_arguments(alloc, arguments, explains) {
+        Ok(invocation) => answer_to(rt, alloc, &invocation, files, watch),
+        Err(UsageFault::Arguments(error)) if !error.use_stderr() && ask_for_help(arguments) => {
             let text = error.to_string(alloc)?.into_bytes();
-            return Ok(Answer::new(alloc, text, Exit::Done));
+            Ok(Answer::new(alloc, text, Exit::Done))
         }
-        Err(fault) => return Err(Fault::Usage(fault)),
-    };
-    match invocation {
-        Invocation::OnFiles(command, names) => {
-            let answer = answer_on_files(alloc, &command, files, names.as_slice())?;
-            formatted(alloc, format_of(&command), answer)
-        }
-        Invocation::Run(options, names) => {
-            let answer = answer_run(rt, alloc, &options, files, names.as_slice())?;
-            formatted(alloc, options.format, answer)
-        }
-        Invocation::Replay(options, names) => {
-            let answer = answer_replay(alloc, &options, files, names.as_slice())?;
-            formatted(alloc, options.format, answer)
-        }
-        Invocation::Search(options, names) => {
-            let answer = answer_search(alloc, &options, files, names.as_slice(), watch)?;
-            formatted(alloc, options.format, answer)
-        }
-        Invocation::Explain(None) => {
-            Ok(Answer::new(alloc, list(alloc)?.into_bytes(), Exit::Done))
-        }
-        Invocation::Explain(Some(word)) => match find(word) {
-            Some(page) => {
-                let text = Vec::from_slice(alloc, page.as_bytes())?;
-                Ok(Answer::new(alloc, text, Exit::Done))
-            }
-            None => Err(Fault::NoCode(word)),
-        },
+        Err(fault) => Err(Fault::Usage(fault)),
     }
 }
 
-fn format_of(command: &Command) -> Format {
+/// Does what is asked for.
+fn answer_to<'a, R: Threads + Wait + Sync, F: Files, W: Watch>(
+    rt: &R,
+    alloc: Global,
+    invocation: &Invocation<'a>,
+    files: &F,
+    watch: &mut W,
+) -> Result<Answer<'a>, Fault<'a>>
+    ensures { IfOk result (Answers (F.bytes_of files.now) invocation.now) }
+{
+    match invocation {
+        Invocation::OnFiles(command, names) => {
+            let answer = answer_on_files(alloc, command, files, names.as_slice())?;
+            formatted(alloc, format_of(command), answer)
+        }
+        Invocation::Run(options, names) => {
+            let answer = answer_run(rt, alloc, options, files, names.as_slice())?;
+            formatted(alloc, options.format, answer)
+        }
+        Invocation::Replay(options, names) => {
+            let answer = answer_replay(alloc, options, files, names.as_slice())?;
+            formatted(alloc, options.format, answer)
+        }
+        Invocation::Search(options, names) => {
+            let answer = answer_search(alloc, options, files, names.as_slice(), watch)?;
+            formatted(alloc, options.format, answer)
+        }
+        Invocation::Explain(word) => explain(alloc, *word),
+    }
+}
+
+/// The page of a code or a name, or the list of all codes.
+fn explain<'a>(alloc: Global, word: Option<&'a str>) -> Result<Answer<'a>, Fault<'a>>
+    ensures { IfOk result (IsExplained (option_map (λ w. w.now) word.entry)) }
+{
+    let Some(word) = word else {
+        return Ok(Answer::new(alloc, list(alloc)?.into_bytes(), Exit::Done));
+    };
+    match find(word) {
+        Some(page) => {
+            let text = Vec::from_slice(alloc, page.as_bytes())?;
+            Ok(Answer::new(alloc, text, Exit::Done))
+        }
+        None => Err(Fault::NoCode(word)),
+    }
+}
+
+fn format_of(command: &Command) -> Format
+    ensures { result ≡ format_of command.now }
+{
     match command {
         Command::Check(options) => options.format,
         Command::Print => Format::Text,
@@ -281,7 +319,9 @@ fn formatted<'a>(
     alloc: Global,
     format: Format,
     mut answer: Answer<'a>,
-) -> Result<Answer<'a>, Fault<'a>> {
+) -> Result<Answer<'a>, Fault<'a>>
+    ensures { IfOk result (IsFormatted format answer.entry) }
+{
     if answer.object.is_none() && matches!(format, Format::Json) {
         answer.object = Some(answer_object(alloc, answer.text.as_slice())?);
     }
@@ -289,7 +329,6 @@ fn formatted<'a>(
 }
 
 /// Does with the system of the named files what is asked for.
-#[tactic(auto, using(crate::proofs::AnswerLemmas::unanswered, crate::proofs::AnswerLemmas::unread))]
 fn answer_on_files<'a, F: Files>(
     alloc: Global,
     command: &Command,
@@ -297,8 +336,11 @@ fn answer_on_files<'a, F: Files>(
     names: &[&'a str],
 ) -> Result<Answer<'a>, Fault<'a>>
     ensures answer { let named = map (λ name. name.now) names.now in
-        IfOk result (λ answer. IsAnswerOn command.now named answer.text.items answer.exit) }
-    ensures unanswered { IfErr result (IsUnansweredOn (map (λ name. name.now) names.now)) }
+        let held = map (λ name. F.bytes_of files.now name.now) names.now in
+        IfOk result (λ answer. IsAnswerOn command.now named held answer.text.items answer.exit) }
+    ensures plain { IfOk result (λ answer. (answer.record ≡ None) × (answer.object ≡ None)) }
+    ensures unanswered { let held = map (λ name. F.bytes_of files.now name.now) names.now in
+        IfErr result (IsUnansweredOn (map (λ name. name.now) names.now) held) }
 {
     let source = match read_source(alloc, files, names) {
         Ok(source) => source,
@@ -327,6 +369,7 @@ pub fn answer_explained<'a>(
 ) -> Result<Answer<'a>, Fault<'a>>
     ensures refused { IfOk result (λ answer. IsRefusalOf source.now rejection.now answer.text.items answer.exit) }
     ensures unrecorded { IfOk result (λ answer. answer.record ≡ None) }
+    ensures object { IfOk result (λ answer. answer.object ≡ None) }
     ensures untold { IfErr result (λ fault. fault ≡ spec.out_of_memory) }
 {
     let mut answer = answer_rejected(alloc, source, rejection)?;
@@ -391,7 +434,9 @@ pub fn answer_unread<'a>(
     unread: JoinFault,
 ) -> Result<Answer<'a>, Fault<'a>>
     ensures refused { IfOk result (λ answer. IsRefusalOf [] too_long answer.text.items answer.exit) }
+    ensures long { OnOk result (unread.fault ≡ FileFault.TooLong) }
     ensures unrecorded { IfOk result (λ answer. answer.record ≡ None) }
+    ensures object { IfOk result (λ answer. answer.object ≡ None) }
     ensures unread { IfErr result (IsUnread (map (λ name. name.now) names.now) unread) }
 {
     let JoinFault { file, fault } = unread;
@@ -416,6 +461,7 @@ fn answer_rejected<'a>(
 ) -> Result<Answer<'a>, Fault<'a>>
     ensures refused { IfOk result (λ answer. IsRefusalOf source.now rejection.now answer.text.items answer.exit) }
     ensures unrecorded { IfOk result (λ answer. answer.record ≡ None) }
+    ensures object { IfOk result (λ answer. answer.object ≡ None) }
     ensures untold { IfErr result (λ fault. fault ≡ spec.out_of_memory) }
 {
     match Refusal::of(rejection) {
@@ -433,6 +479,7 @@ fn answer_rejected<'a>(
 /// Does with the system of a source text what is asked for.
 fn examine<'a>(alloc: Global, command: &Command, text: &str) -> Result<Answer<'a>, Rejection>
     ensures answer { IfOk result (λ answer. IsAnswerTo command.now text.now answer.text.items answer.exit) }
+    ensures plain { IfOk result (λ answer. (answer.record ≡ None) × (answer.object ≡ None)) }
     ensures rejected { IfErr result (IsRejectedFor command.now text.now) }
 {
     match command {
@@ -450,7 +497,6 @@ fn examine<'a>(alloc: Global, command: &Command, text: &str) -> Result<Answer<'a
 }
 
 /// Plays a record with the system of the named files.
-#[tactic(auto, using(crate::proofs::AnswerLemmas::unanswered, crate::proofs::AnswerLemmas::unread))]
 fn answer_replay<'a, F: Files>(
     alloc: Global,
     options: &ReplayOptions<'a>,
@@ -458,9 +504,12 @@ fn answer_replay<'a, F: Files>(
     names: &[&'a str],
 ) -> Result<Answer<'a>, Fault<'a>>
     ensures answer { let named = map (λ name. name.now) names.now in
-        let held = F.bytes_of files.now options.now.record.now in
-        IfOk result (λ answer. IsReplayOn (root_of options.now.root) held named answer.text.items answer.exit) }
-    ensures unplayed { IfErr result (IsUnplayed options.now.record.now (map (λ name. name.now) names.now)) }
+        let held = map (λ name. F.bytes_of files.now name.now) names.now in
+        let recorded = F.bytes_of files.now options.now.record.now in
+        IfOk result (λ answer. IsReplayOn (root_of options.now.root) recorded named held answer.text.items answer.exit) }
+    ensures plain { IfOk result (λ answer. (answer.record ≡ None) × (answer.object ≡ None)) }
+    ensures unplayed { let held = map (λ name. F.bytes_of files.now name.now) names.now in
+        IfErr result (IsUnplayed options.now.record.now (map (λ name. name.now) names.now) held) }
 {
     let source = match read_source(alloc, files, names) {
         Ok(source) => source,
@@ -482,7 +531,7 @@ fn replayed_root<'r>(options: &'r ReplayOptions<'_>) -> Option<&'r Root> {
 }
 
 /// Plays with the program of a source text the record that the named file holds.
-#[tactic(auto, using(crate::proofs::AnswerLemmas::unanswered, crate::proofs::AnswerLemmas::no_record))]
+#[tactic(auto, using(crate::proofs::AnswerLemmas::unplayed))]
 fn play_record<'a, F: Files>(
     alloc: Global,
     program: &Program,
@@ -492,7 +541,8 @@ fn play_record<'a, F: Files>(
 ) -> Result<Answer<'a>, Fault<'a>>
     ensures answer { let held = F.bytes_of files.now options.now.record.now in
         IfOk result (λ answer. IsReplayTo (image_of program.now) held answer.text.items answer.exit) }
-    ensures unread { IfErr result (IsUnansweredOn (options.now.record.now ∷ [])) }
+    ensures plain { IfOk result (λ answer. (answer.record ≡ None) × (answer.object ≡ None)) }
+    ensures unread { IfErr result (IsUnplayedRecord options.now.record.now) }
 {
     let name = options.record;
     let record = match read_record(alloc, &mut NamedFile::new(files, name)) {
@@ -542,7 +592,8 @@ fn answer_no_record<'a>(
 ) -> Result<Answer<'a>, Fault<'a>>
     ensures refused { IfOk result (λ answer. TellsBadRecord answer.text.items answer.exit) }
     ensures bad { OnOk result (IsBadRecord fault) }
-    ensures unread { IfErr result (IsUnansweredOn (name.now ∷ [])) }
+    ensures plain { IfOk result (λ answer. (answer.record ≡ None) × (answer.object ≡ None)) }
+    ensures unread { IfErr result (IsRecordUnread name.now fault) }
 {
     match fault {
         ReadFault::BadRecord { line } => {
@@ -570,6 +621,7 @@ fn answer_refused<'a>(alloc: Global, line: &[u8]) -> Result<Answer<'a>, Fault<'a
     ensures text { IfOk result (λ answer. answer.text.items ≡ line.now) }
     ensures exit { IfOk result (λ answer. answer.exit ≡ Exit.Refused) }
     ensures unrecorded { IfOk result (λ answer. answer.record ≡ None) }
+    ensures object { IfOk result (λ answer. answer.object ≡ None) }
     ensures err { IfErr result (λ fault. fault ≡ spec.out_of_memory) }
 {
     let text = Vec::from_slice(alloc, line)?;
