@@ -14,7 +14,7 @@ fn tells_the_file_whose_reader_fails(rt: HostRuntime) -> Result<(), Fail> {
     // A fault in the text isn't looked for while a file is still to be read.
     let files = [
         FakeFile::new("a.e", "#"),
-        FakeFile::broken("broken.e", b"class A end"),
+        FakeFile::failing("broken.e", b"class A end", ErrorKind::Other),
     ];
     let fake = FakeFiles::of(rt.alloc(), &files);
     let call = Call::of("scoop run a.e broken.e a.e", fake);
@@ -29,7 +29,7 @@ fn reads_a_file_no_further_than_a_source_may_be_long(rt: HostRuntime) -> Result<
         for _ in 0..MAX_SOURCE_BYTES / 3 + 4 {
             text.push('\u{20ac}')?;
         }
-        let files = [FakeFile::broken("a.e", text.as_bytes())];
+        let files = [FakeFile::failing("a.e", text.as_bytes(), ErrorKind::Other)];
         let call = Call::of("scoop check a.e", FakeFiles::of(rt.alloc(), &files));
         expect(&rt, call, (1, "refused L5 SourceTooLong\n", ""))?;
     }
@@ -38,15 +38,15 @@ fn reads_a_file_no_further_than_a_source_may_be_long(rt: HostRuntime) -> Result<
 
 const SOURCE: &str = "class APPLICATION create make feature make do end end";
 
-/// Replays a record whose reader fails behind it.
+/// Replays a record whose reader fails by this kind.
 fn expect_replay<R: Abort + Threads + Wait + Sync + AllocGlobal>(
     rt: &R,
-    record: &str,
+    (record, kind): (&str, ErrorKind),
     wanted: (u8, &str, &str),
 ) -> Result<(), Fail> {
     let files = [
         FakeFile::new("app.e", SOURCE),
-        FakeFile::broken("turns", record.as_bytes()),
+        FakeFile::failing("turns", record.as_bytes(), kind),
     ];
     let fake = FakeFiles::of(rt.alloc(), &files);
     expect(rt, Call::of("scoop replay turns app.e", fake), wanted)
@@ -56,9 +56,27 @@ fn expect_replay<R: Abort + Threads + Wait + Sync + AllocGlobal>(
 #[test]
 fn reads_a_record_no_further_than_the_fault(rt: HostRuntime) -> Result<(), Fail> {
     let told = "cannot read turns\nother error\n";
-    expect_replay(&rt, "scoop record 1\n0 5\n", (2, "", told))?;
+    let record = ("scoop record 1\n0 5\n", ErrorKind::Other);
+    expect_replay(&rt, record, (2, "", told))?;
     let refused = "refused A1 BadRecord\n";
-    expect_replay(&rt, "scoop record 1\n0 x", (1, refused, ""))
+    let record = ("scoop record 1\n0 x", ErrorKind::Other);
+    expect_replay(&rt, record, (1, refused, ""))
+}
+
+/// A read that is interrupted is made again, and a reader's want of memory is told as that.
+#[test]
+fn reads_on_where_a_read_is_interrupted(rt: HostRuntime) -> Result<(), Fail> {
+    let record = "scoop record 1\nend 0\n";
+    let report = "handler 0 busy refused 0 output 0\n\nstopped limit\n";
+    expect_replay(&rt, (record, ErrorKind::Interrupted), (4, report, ""))?;
+    let told = "out of memory\n";
+    expect_replay(&rt, (record, ErrorKind::OutOfMemory), (5, "", told))?;
+    let files = [FakeFile::failing("app.e", SOURCE.as_bytes(), ErrorKind::Interrupted)];
+    let fake = FakeFiles::of(rt.alloc(), &files);
+    expect(&rt, Call::of("scoop check app.e", fake), (0, "ok\n", ""))?;
+    let files = [FakeFile::failing("app.e", SOURCE.as_bytes(), ErrorKind::OutOfMemory)];
+    let fake = FakeFiles::of(rt.alloc(), &files);
+    expect(&rt, Call::of("scoop check app.e", fake), (5, "", told))
 }
 
 /// A file can't be opened, for this reason.

@@ -1,16 +1,19 @@
 //! Files and writers for tests, which stand in the test itself.
 
+ghost use Rattle.std.specs.Prelude.{◌≡◌, Some, map};
+ghost use Rattle.sc_test_program.specs.Held.{held_in};
+
 use sc_source::files::Files;
 use sc_source::writing::Remains;
 use std::alloc::Global;
 use std::io::{self, ErrorKind, Read, Write};
 
-/// A file of a test. One that is broken fails once its bytes are read.
+/// A file of a test. Its reader may fail by some kind: behind its bytes, each time; by an interruption before them, once.
 #[derive(Clone, Copy)]
 pub struct FakeFile<'a> {
     pub name: &'a str,
     pub bytes: &'a [u8],
-    pub is_broken: bool,
+    pub fails_by: Option<ErrorKind>,
 }
 
 /// How long something is written to that takes one byte a call: so many calls. Each one behind them fails, by this kind.
@@ -42,7 +45,7 @@ pub struct FakeFiles<'a> {
 #[derive(Drop)]
 pub struct FakeReader<'a> {
     bytes: &'a [u8],
-    is_broken: bool,
+    fails_by: Option<ErrorKind>,
 }
 
 /// What was written, and how long more is.
@@ -58,16 +61,16 @@ impl<'a> FakeFile<'a> {
         FakeFile {
             name,
             bytes: text.as_bytes(),
-            is_broken: false,
+            fails_by: None,
         }
     }
 
-    /// A file of that name whose reader fails behind these bytes.
-    pub fn broken(name: &'a str, bytes: &'a [u8]) -> Self {
+    /// A file of that name and these bytes whose reader fails.
+    pub fn failing(name: &'a str, bytes: &'a [u8], kind: ErrorKind) -> Self {
         FakeFile {
             name,
             bytes,
-            is_broken: true,
+            fails_by: Some(kind),
         }
     }
 }
@@ -90,6 +93,8 @@ impl<'a> Files for FakeFiles<'a> {
 
     type Writer = FakeWriter;
 
+    ghost bytes_of = { λ files name. held_in (map (λ file. (file.name.now, file.bytes.now)) files.files.now) name };
+
     fn reader(&self, name: &str) -> io::Result<FakeReader<'a>> {
         if let Some(kind) = self.unopened {
             return Err(io::Error::from(kind));
@@ -98,7 +103,7 @@ impl<'a> Files for FakeFiles<'a> {
             if file.name == name {
                 return Ok(FakeReader {
                     bytes: file.bytes,
-                    is_broken: file.is_broken,
+                    fails_by: file.fails_by,
                 });
             }
         }
@@ -124,11 +129,17 @@ impl<'a> Files for FakeFiles<'a> {
 }
 
 impl<'a> Read for FakeReader<'a> {
+    ghost remaining = { λ reader. Some reader.bytes.now };
+
     fn read(&mut self, buf: &mut [u8]) -> io::Result<usize> {
-        if self.bytes.is_empty() && self.is_broken {
-            return Err(io::Error::from(ErrorKind::Other));
+        match self.fails_by {
+            Some(ErrorKind::Interrupted) => {
+                self.fails_by = None;
+                Err(io::Error::from(ErrorKind::Interrupted))
+            }
+            Some(kind) if self.bytes.is_empty() => Err(io::Error::from(kind)),
+            _ => self.bytes.read(buf),
         }
-        self.bytes.read(buf)
     }
 }
 
@@ -141,7 +152,9 @@ impl FakeWriter {
         }
     }
 
-    fn count(&mut self) -> io::Result<()> {
+    fn count(&mut self) -> io::Result<()>
+        ensures { self.new.bytes ≡ self.old.bytes }
+    {
         if self.patience.calls_left == 0 {
             return Err(io::Error::from(self.patience.kind));
         }
@@ -151,6 +164,8 @@ impl FakeWriter {
 }
 
 impl Write for FakeWriter {
+    ghost contents = { λ writer. Some writer.bytes.items };
+
     fn write(&mut self, buf: &[u8]) -> io::Result<usize> {
         self.count()?;
         match buf.first() {
