@@ -1,5 +1,5 @@
 -- What is answered to searches.
-use Rattle.std.proofs.Common.{◌≡◌, ◌⊎◌, inl, inr, ℕ, List, Option, None, Result, Ok, Err, IfOk}
+use Rattle.std.proofs.Common.{◌≡◌, inl, inr, ℕ, List, Option, None, Result, Ok, Err, IfOk}
 use Rattle.sc_arguments.specs.declared.arguments.searching.SearchOptions.{SearchOptions}
 use Rattle.sc_class.specs.View.{root_of}
 use Rattle.sc_code.specs.declared.program.Image.{Image}
