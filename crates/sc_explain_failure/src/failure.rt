@@ -1,6 +1,6 @@
 //! What is said of handlers that have failed, wait or are busy, beside the report.
 
-use crate::breakdown::Origin;
+use crate::breakdown::push_failing;
 use crate::failing::failing_in;
 use crate::limit::{Limit, push_limit};
 use crate::moments::{Kind, Moment, moments_of};
@@ -11,7 +11,7 @@ use sc_code::Program;
 use sc_explain::find;
 use sc_explain_classes::{let_tables_go, tables_of};
 use sc_explain_text::{Lines, let_go, system_of};
-use sc_explain_waiting::push_waits;
+use sc_explain_waiting::{Origin, push_waits};
 use sc_lockpass::Version;
 use sc_lower::{Lowering, lower};
 use sc_model::{Cause, Status};
@@ -32,15 +32,6 @@ pub struct Played<'r> {
     pub may_refuse: bool,
 }
 
-/// A run that was played once more, with what it is of.
-#[derive(Clone, Copy)]
-struct Rerun<'r> {
-    origin: Origin<'r>,
-    world: &'r World<'r>,
-    played: Played<'r>,
-    moments: &'r [Moment],
-}
-
 /// What the failure of each handler that has failed in a run is, in words, and where and for whom it ran, which requests were
 /// lost, and why those wait or are busy that do, as far as that is found where the turns of its record are played once more;
 /// nothing where each is free and none refused a request.
@@ -53,9 +44,9 @@ pub fn run_note(
         return Ok(Vec::new(alloc));
     }
     match system_of(alloc, played.source.text()) {
-        Ok(None) => note(alloc, statuses, None),
+        Ok(None) => note(alloc, statuses),
         Ok(Some(system)) => {
-            let note = note_of_system(alloc, played, statuses, &system);
+            let note = note_of_system(alloc, &played, statuses, &system);
             let_go(system);
             note
         }
@@ -66,12 +57,12 @@ pub fn run_note(
 /// The same, of the system of the text.
 fn note_of_system(
     alloc: Global,
-    played: Played<'_>,
+    played: &Played<'_>,
     statuses: &[Status],
     system: &System,
 ) -> Result<Vec<u8>, AllocError> {
     match tables_of(alloc, system, played.root) {
-        Ok(None) => note(alloc, statuses, None),
+        Ok(None) => note(alloc, statuses),
         Ok(Some(tables)) => {
             let note = note_of_tables(alloc, played, statuses, system, &tables);
             let_tables_go(tables);
@@ -84,13 +75,13 @@ fn note_of_system(
 /// The same, with the tables of the system.
 fn note_of_tables(
     alloc: Global,
-    played: Played<'_>,
+    played: &Played<'_>,
     statuses: &[Status],
     system: &System,
     tables: &Tables<'_>,
 ) -> Result<Vec<u8>, AllocError> {
     match program_of(alloc, system, played.root) {
-        Ok(None) => note(alloc, statuses, None),
+        Ok(None) => note(alloc, statuses),
         Ok(Some(program)) => note_of_program(alloc, played, statuses, tables, &program),
         Err(error) => Err(error),
     }
@@ -99,7 +90,7 @@ fn note_of_tables(
 /// The same, with the program of the system.
 fn note_of_program(
     alloc: Global,
-    played: Played<'_>,
+    played: &Played<'_>,
     statuses: &[Status],
     tables: &Tables<'_>,
     program: &Program,
@@ -111,30 +102,42 @@ fn note_of_program(
         names: program.pool().names.as_slice(),
     };
     match World::open(alloc, program, played.version) {
-        Ok(mut world) => note_of_rerun(origin, statuses, &mut world, program, played),
+        Ok(mut world) => note_of_rerun(&origin, statuses, &mut world, program, played),
         Err(error) => Err(error),
     }
 }
 
 /// The same, where its turns are played from this opening.
 fn note_of_rerun(
-    origin: Origin<'_>,
+    origin: &Origin<'_>,
     statuses: &[Status],
     world: &mut World<'_>,
     program: &Program,
-    played: Played<'_>,
+    played: &Played<'_>,
 ) -> Result<Vec<u8>, AllocError> {
     for line in played.lines {
         turn_by_turn(world, *line)?;
     }
-    let moments = moments_of(origin, world, program, played)?;
-    let rerun = Rerun {
-        origin,
-        world,
-        played,
-        moments: &moments,
-    };
-    note(origin.alloc, statuses, Some(rerun))
+    match moments_of(origin, world, program, played) {
+        Ok(moments) => note_of_moments(origin, statuses, world, played, &moments),
+        Err(error) => Err(error),
+    }
+}
+
+/// The same, where that is what there was in front of each failure.
+fn note_of_moments(
+    origin: &Origin<'_>,
+    statuses: &[Status],
+    world: &World<'_>,
+    played: &Played<'_>,
+    moments: &[Moment],
+) -> Result<Vec<u8>, AllocError> {
+    let mut lines = Lines::new(origin.alloc);
+    push_failures(origin, &mut lines, statuses, world, moments);
+    push_refusals(&mut lines, moments);
+    push_limit(&mut lines, played, statuses);
+    push_waits(origin, &mut lines, world)?;
+    lines.finish()
 }
 
 /// The turns of a line, each settled by itself, so that the log tells of each.
@@ -178,24 +181,36 @@ fn lowered(alloc: Global, checked: Checked<'_>) -> Result<Option<Program>, Alloc
     }
 }
 
-/// What is said of each handler that has failed, and then of those that wait or are busy.
-fn note(
-    alloc: Global,
-    statuses: &[Status],
-    rerun: Option<Rerun<'_>>,
-) -> Result<Vec<u8>, AllocError> {
+/// What is said of each handler that has failed, where no more is known of the run.
+fn note(alloc: Global, statuses: &[Status]) -> Result<Vec<u8>, AllocError> {
     let mut lines = Lines::new(alloc);
     for (handler, status) in statuses.iter().enumerate() {
         if let Status::Failed(cause) = status {
-            push_failure(&mut lines, handler, *cause, rerun);
+            push_cause(&mut lines, handler, *cause);
+            push_page(&mut lines, *cause)
         }
     }
-    if let Some(rerun) = rerun {
-        push_refusals(&mut lines, rerun.moments);
-        push_limit(&mut lines, rerun.played, statuses);
-        push_waits(rerun.origin.shared(), &mut lines, rerun.world)?;
-    }
     lines.finish()
+}
+
+/// Adds what the failure of each handler is, where it was, and where more is said of it.
+fn push_failures(
+    origin: &Origin<'_>,
+    lines: &mut Lines,
+    statuses: &[Status],
+    world: &World<'_>,
+    moments: &[Moment],
+) {
+    for (handler, status) in statuses.iter().enumerate() {
+        if let Status::Failed(cause) = status {
+            push_cause(lines, handler, *cause);
+            let number = handler.min(u16::MAX as usize) as u16;
+            if let Some(failing) = failing_in(world, number, *cause) {
+                push_failing(origin, lines, &failing, failure_of(moments, number));
+            }
+            push_page(lines, *cause)
+        }
+    }
 }
 
 /// Adds which requests were refused for which nobody waited.
@@ -217,20 +232,16 @@ fn failure_of(moments: &[Moment], handler: u16) -> Option<&Moment> {
     None
 }
 
-/// Adds what the failure of a handler is, where it was, and where more is said of it.
-fn push_failure(lines: &mut Lines, handler: usize, cause: Cause, rerun: Option<Rerun<'_>>) {
-    let code = code_of(cause);
-    if let Some(page) = find(code) {
+/// Adds by what a handler has failed, as the page of that says it.
+fn push_cause(lines: &mut Lines, handler: usize, cause: Cause) {
+    if let Some(page) = find(code_of(cause)) {
         push_heading(lines, handler, page);
     }
-    if let Some(rerun) = rerun {
-        let number = handler.min(u16::MAX as usize) as u16;
-        if let Some(failing) = failing_in(rerun.world, number, cause) {
-            let moment = failure_of(rerun.moments, number);
-            rerun.origin.push_failing(lines, failing, moment);
-        }
-    }
-    lines.push_all(&["`scoop explain ", code, "` says more\n"])
+}
+
+/// Adds where more is said of a failure.
+fn push_page(lines: &mut Lines, cause: Cause) {
+    lines.push_all(&["`scoop explain ", code_of(cause), "` says more\n"])
 }
 
 /// Adds by what a handler has failed: the heading of a page, and what it says first.

@@ -18,7 +18,7 @@ pub enum Limit {
 }
 
 /// Adds how many turns were made, where a handler still has something to do, and what helps.
-pub fn push_limit(lines: &mut Lines, played: Played<'_>, statuses: &[Status]) {
+pub fn push_limit(lines: &mut Lines, played: &Played<'_>, statuses: &[Status]) {
     if statuses.iter().any(|status| matches!(status, Status::Busy)) {
         push_ended(lines, played.limit, turns_in(played.lines))
     }

@@ -1,20 +1,20 @@
 //! What there was in front of a settlement of a run: what is lost behind it.
 
-use crate::breakdown::Origin;
 use crate::failure::Played;
 use crate::history::taken_before;
 use sc_audit::RecordLine;
 use sc_code::Program;
 use sc_explain_text::Lines;
 use sc_explain_waiting::{
-    push_attributes, push_false_clause, push_name, push_operation_values, push_request, push_stand,
+    Origin, push_attributes, push_false_clause, push_name, push_operation_values, push_request,
+    push_stand,
 };
 use sc_model::{Cause, Status};
 use sc_region::{BrokenInvariant, Job, Reference, Request, Value, Want};
 use sc_request::{Log, Settlement};
 use sc_whereabouts::invariant_clause;
 use sc_world::{Turned, World};
-use std::alloc::AllocError;
+use std::alloc::{AllocError, Global};
 
 /// Of how many settlements this is told at most.
 const MOST_MOMENTS: usize = 32;
@@ -49,32 +49,57 @@ pub struct Moment {
 
 /// What there was in front of each failure of a run that was played, and of each refusal for which nobody waited.
 pub fn moments_of(
-    origin: Origin<'_>,
+    origin: &Origin<'_>,
     world: &World<'_>,
     program: &Program,
-    played: Played<'_>,
+    played: &Played<'_>,
 ) -> Result<Vec<Moment>, AllocError> {
-    let mut moments = Vec::new(origin.alloc);
-    for handler in 0..world.handler_count().min(u16::MAX as usize) {
-        add_failure(origin, &mut moments, world, handler as u16)?;
-        add_refusals(origin, &mut moments, world, handler as u16)?;
-    }
+    let mut moments = found(origin.alloc, world)?;
     if !moments.is_empty() {
-        let before = World::open(origin.alloc, program, played.version)?;
-        let mut rerun = Rewound {
-            origin,
-            world: before,
-            lines: played.lines,
-            line: 0,
-            made: 0,
-        };
-        rerun.tell_all(world, &mut moments)?;
+        tell_of(origin, world, program, played, &mut moments)?;
     }
     Ok(moments)
 }
 
+/// Those of which is to be told.
+fn found(alloc: Global, world: &World<'_>) -> Result<Vec<Moment>, AllocError> {
+    let mut moments = Vec::new(alloc);
+    for handler in 0..world.handler_count().min(u16::MAX as usize) {
+        add_all(alloc, &mut moments, world, handler as u16)?;
+    }
+    Ok(moments)
+}
+
+/// Tells of each, where the run is played once more.
+fn tell_of(
+    origin: &Origin<'_>,
+    ended: &World<'_>,
+    program: &Program,
+    played: &Played<'_>,
+    moments: &mut Vec<Moment>,
+) -> Result<(), AllocError> {
+    let mut rerun = Rewound {
+        origin,
+        world: World::open(origin.alloc, program, played.version)?,
+        lines: played.lines,
+        line: 0,
+        made: 0,
+    };
+    rerun.tell_all(ended, moments)
+}
+
+fn add_all(
+    alloc: Global,
+    moments: &mut Vec<Moment>,
+    world: &World<'_>,
+    handler: u16,
+) -> Result<(), AllocError> {
+    add_failure(alloc, moments, world, handler)?;
+    add_refusals(alloc, moments, world, handler)
+}
+
 fn add(
-    origin: Origin<'_>,
+    alloc: Global,
     moments: &mut Vec<Moment>,
     handler: u16,
     kind: Kind,
@@ -88,15 +113,15 @@ fn add(
         kind,
         place,
         is_told: false,
-        values: Lines::new(origin.alloc),
-        callers: Lines::new(origin.alloc),
-        requests: Lines::new(origin.alloc),
+        values: Lines::new(alloc),
+        callers: Lines::new(alloc),
+        requests: Lines::new(alloc),
     })?;
     Ok(())
 }
 
 fn add_failure(
-    origin: Origin<'_>,
+    alloc: Global,
     moments: &mut Vec<Moment>,
     world: &World<'_>,
     handler: u16,
@@ -105,7 +130,7 @@ fn add_failure(
         return Ok(());
     }
     match last_of(world.log(), handler) {
-        Some(place) => add(origin, moments, handler, Kind::Failure, place),
+        Some(place) => add(alloc, moments, handler, Kind::Failure, place),
         None => Ok(()),
     }
 }
@@ -121,7 +146,7 @@ fn last_of(log: &Log, handler: u16) -> Option<usize> {
 }
 
 fn add_refusals(
-    origin: Origin<'_>,
+    alloc: Global,
     moments: &mut Vec<Moment>,
     world: &World<'_>,
     handler: u16,
@@ -132,7 +157,7 @@ fn add_refusals(
     let log = world.log();
     for place in 0..log.len() {
         if log.handler_at(place) == Some(handler) && is_refusal(log, place) {
-            add(origin, moments, handler, Kind::Refusal, place)?;
+            add(alloc, moments, handler, Kind::Refusal, place)?;
         }
     }
     Ok(())
@@ -174,8 +199,8 @@ fn served_before(log: &Log, handler: u16, place: usize) -> Option<Settlement> {
 
 /// A run that is played once more, settlement by settlement.
 #[derive(Drop)]
-struct Rewound<'r, 'p> {
-    origin: Origin<'r>,
+struct Rewound<'o, 'r, 'p> {
+    origin: &'o Origin<'r>,
     world: World<'p>,
     lines: &'r [RecordLine],
     /// The line that is played, and how many turns of it are made.
@@ -183,7 +208,7 @@ struct Rewound<'r, 'p> {
     made: u32,
 }
 
-impl<'r, 'p> Rewound<'r, 'p> {
+impl<'o, 'r, 'p> Rewound<'o, 'r, 'p> {
     /// Tells of each moment, the earliest first.
     fn tell_all(&mut self, ended: &World<'_>, moments: &mut Vec<Moment>) -> Result<(), AllocError> {
         for _moment in 0..moments.len() {
@@ -242,7 +267,7 @@ impl<'r, 'p> Rewound<'r, 'p> {
     }
 
     fn tell_refused(&self, request: &Request, moment: &mut Moment) {
-        let origin = self.origin.shared();
+        let origin = self.origin;
         let handler = moment.handler;
         let lines = &mut moment.requests;
         lines.push("handler ");
@@ -261,7 +286,7 @@ impl<'r, 'p> Rewound<'r, 'p> {
             match (breakdown.invariant, breakdown.point) {
                 (Some(broken), _) => self.tell_attributes(ended, broken, moment),
                 (None, Some(point)) if has_values(settlement) => push_operation_values(
-                    self.origin.shared(),
+                    self.origin,
                     &mut moment.values,
                     &self.world,
                     moment.handler,
@@ -275,7 +300,7 @@ impl<'r, 'p> Rewound<'r, 'p> {
 
     /// Who waited for the handler, and who for that one, and so on: where each asked for what, and for whom.
     fn tell_callers(&self, log: &Log, moment: &mut Moment) {
-        let origin = self.origin.shared();
+        let origin = self.origin;
         let mut handler = moment.handler;
         let end = moment.place.saturating_add(1);
         let lines = &mut moment.callers;
@@ -299,8 +324,7 @@ impl<'r, 'p> Rewound<'r, 'p> {
             && let Some(object) = current_of(&self.world, moment.handler)
             && object.class == broken.class
         {
-            let origin = self.origin.shared();
-            push_attributes(origin, &mut moment.values, ended, object, clause.span)
+            push_attributes(self.origin, &mut moment.values, ended, object, clause.span)
         }
     }
 
@@ -332,7 +356,7 @@ impl<'r, 'p> Rewound<'r, 'p> {
         });
         if let Some(request) = first {
             lines.push(if count == 1 { ": " } else { ": first " });
-            push_request(self.origin.shared(), lines, &self.world, request);
+            push_request(self.origin, lines, &self.world, request);
         }
         lines.push("\n")
     }

@@ -6,113 +6,68 @@ use sc_text::Span;
 use sc_tree::UnaryOperator;
 use sc_whereabouts::{Assertion, Kind, Whereabouts, binary_spelling};
 
-/// A part of a text, and what is said around it.
-#[derive(Clone, Copy)]
-pub struct Phrase<'t> {
-    before: &'static str,
-    part: &'t str,
-    behind: &'static str,
-}
-
-impl<'t> Phrase<'t> {
-    /// Words alone, or none.
-    pub fn plain(words: &'static str) -> Phrase<'t> {
-        Phrase {
-            before: words,
-            part: "",
-            behind: "",
-        }
-    }
-
-    /// A part of a text between words.
-    pub fn around(before: &'static str, part: &'t str, behind: &'static str) -> Phrase<'t> {
-        Phrase {
-            before,
-            part,
-            behind,
-        }
-    }
-}
-
-/// Adds the phrases, one behind the other.
-pub fn push_phrases(lines: &mut Lines, phrases: &[Phrase<'_>]) {
-    for phrase in phrases {
-        lines.push(phrase.before);
-        lines.push(phrase.part);
-        lines.push(phrase.behind);
-    }
-}
-
 /// The part of a text, with the letters that stand there.
 pub fn written(text: &str, span: Span) -> &str {
     text.get(span.start..span.end).unwrap_or("..")
 }
 
-/// The name of a routine and that of the class in which it stands.
-pub fn routine_words(text: &str, there: Whereabouts) -> [Phrase<'_>; 2] {
-    [
-        Phrase::around("in `", written(text, there.routine), "` of "),
-        Phrase::around("", written(text, there.class), ", "),
-    ]
+/// Adds the name of a routine and that of the class in which it stands.
+pub fn push_routine(lines: &mut Lines, text: &str, there: &Whereabouts) {
+    lines.push_all(&["in `", written(text, there.routine), "` of "]);
+    lines.push_all(&[written(text, there.class), ", "])
 }
 
-/// What stands at a place where a handler failed by this cause.
-pub fn site_words(text: &str, there: Whereabouts, cause: Cause) -> [Phrase<'_>; 3] {
-    let nothing = Phrase::plain("");
+/// Adds what stands at a place where a handler failed by this cause.
+pub fn push_site(lines: &mut Lines, text: &str, there: &Whereabouts, cause: Cause) {
     match there.site.kind {
         Kind::Clause(assertion, tag) => {
             let is_own = matches!(assertion, Assertion::Check)
                 || there.contract_class == there.class;
-            let of = Phrase::plain(of_assertion(assertion));
-            let origin = origin_words(text, there.contract_class, is_own);
-            [clause_words(text, tag), of, origin]
+            push_clause(lines, text, tag);
+            lines.push(of_assertion(assertion));
+            push_false(lines, text, there.contract_class, is_own)
         }
-        kind => [operation_words(text, kind, cause), nothing, nothing],
+        kind => push_operation(lines, text, kind, cause),
     }
 }
 
-/// The operation of this kind, with what it is made of.
-fn operation_words(text: &str, kind: Kind, cause: Cause) -> Phrase<'_> {
+/// Adds the operation of this kind, with what it is made of.
+fn push_operation(lines: &mut Lines, text: &str, kind: Kind, cause: Cause) {
     match kind {
-        Kind::Name(name) | Kind::Call(name) => name_words(written(text, name), cause),
-        Kind::Unary(operator) => Phrase::around("the operator `", unary_spelling(operator), "`"),
-        Kind::Binary(operator) => Phrase::around("the operator `", binary_spelling(operator), "`"),
-        Kind::End => Phrase::plain(of_end(cause)),
-        kind => Phrase::plain(of_kind(kind)),
+        Kind::Name(name) | Kind::Call(name) => push_use(lines, written(text, name), cause),
+        Kind::Unary(operator) => push_operator(lines, unary_spelling(operator)),
+        Kind::Binary(operator) => push_operator(lines, binary_spelling(operator)),
+        Kind::End => lines.push(of_end(cause)),
+        kind => lines.push(of_kind(kind)),
     }
 }
 
-/// Which clause it is, by its tag if it has one.
-pub fn clause_words(text: &str, tag: Option<Span>) -> Phrase<'_> {
+fn push_operator(lines: &mut Lines, spelling: &str) {
+    lines.push_all(&["the operator `", spelling, "`"])
+}
+
+/// Adds which clause it is, by its tag if it has one.
+pub fn push_clause(lines: &mut Lines, text: &str, tag: Option<Span>) {
     match tag {
-        None => Phrase::plain("a clause"),
-        Some(tag) => Phrase::around("the clause `", written(text, tag), "`"),
+        None => lines.push("a clause"),
+        Some(tag) => lines.push_all(&["the clause `", written(text, tag), "`"]),
     }
 }
 
-/// Of which class's invariant a clause is false, and from which class it is.
-pub fn invariant_words(text: &str, class: Span, from: Span) -> [Phrase<'_>; 2] {
-    [
-        Phrase::around(" of the invariant of ", written(text, class), ""),
-        origin_words(text, from, class == from),
-    ]
-}
-
-/// From which class a clause is that is false, unless it is the one that is told anyway.
-fn origin_words(text: &str, class: Span, is_told: bool) -> Phrase<'_> {
-    if is_told {
-        Phrase::plain(" is false")
-    } else {
-        Phrase::around(" from ", written(text, class), " is false")
+/// Adds that a clause is false, and from which class it is, unless that is told anyway.
+pub fn push_false(lines: &mut Lines, text: &str, class: Span, is_told: bool) {
+    if !is_told {
+        lines.push_all(&[" from ", written(text, class)]);
     }
+    lines.push(" is false")
 }
 
-/// What is done with a name: it is read, or called.
-fn name_words(name: &str, cause: Cause) -> Phrase<'_> {
+/// Adds what is done with a name: it is read, or called.
+fn push_use(lines: &mut Lines, name: &str, cause: Cause) {
     match cause {
-        Cause::UnsetEntity => Phrase::around("`", name, "` is read"),
-        Cause::VoidTarget => Phrase::around("the call of `", name, "`, whose target is Void"),
-        _ => Phrase::around("the call of `", name, "`"),
+        Cause::UnsetEntity => lines.push_all(&["`", name, "` is read"]),
+        Cause::VoidTarget => lines.push_all(&["the call of `", name, "`, whose target is Void"]),
+        _ => lines.push_all(&["the call of `", name, "`"]),
     }
 }
 

@@ -16,7 +16,7 @@ const MOST_VALUES: usize = 8;
 
 /// Adds which clause of the precondition of the routine that a handler is in is false, with the values of what it names, on a
 /// line, as far as that is found on the objects as they are; else nothing.
-pub fn push_false_clause(origin: Origin<'_>, lines: &mut Lines, world: &World<'_>, handler: u16) {
+pub fn push_false_clause(origin: &Origin<'_>, lines: &mut Lines, world: &World<'_>, handler: u16) {
     let start = Start::Place(0);
     match reach(origin.alloc, world, handler, start, Until::FalseClause) {
         Ok(Some(reached)) => origin.push_false(lines, &reached),
@@ -28,7 +28,7 @@ pub fn push_false_clause(origin: Origin<'_>, lines: &mut Lines, world: &World<'_
 /// Adds the values of what the topmost routine of a handler reads and calls for the operation at a place of it, where it goes on
 /// to there without asking anything of others, and gets this answer first if one has come: a line, or nothing.
 pub fn push_operation_values(
-    origin: Origin<'_>,
+    origin: &Origin<'_>,
     lines: &mut Lines,
     world: &World<'_>,
     handler: u16,
@@ -61,7 +61,7 @@ pub fn push_operation_values(
 
 /// Adds the values that the attributes of an object have which a part of the text names: a line, or nothing.
 pub fn push_attributes(
-    origin: Origin<'_>,
+    origin: &Origin<'_>,
     lines: &mut Lines,
     world: &World<'_>,
     object: Reference,
@@ -89,7 +89,7 @@ fn is_in_name(byte: u8) -> bool {
 impl<'r> Origin<'r> {
     /// Adds the attribute of this name of an object, unless it is told.
     fn push_attribute(
-        self,
+        &self,
         lines: &mut Lines,
         world: &World<'_>,
         object: Reference,
@@ -108,7 +108,7 @@ impl<'r> Origin<'r> {
     }
 
     /// The attribute of this name of an object, where it holds no object.
-    fn attribute_of(self, world: &World<'_>, object: Reference, name: &str) -> Option<Value> {
+    fn attribute_of(&self, world: &World<'_>, object: Reference, name: &str) -> Option<Value> {
         let store = world.region(object.handler)?.store();
         let number = self.number_of(name)?;
         let class = store.program().classes().get(object.class as usize)?;
@@ -122,7 +122,7 @@ impl<'r> Origin<'r> {
     }
 
     /// The number of a name of the program.
-    fn number_of(self, name: &str) -> Option<usize> {
+    fn number_of(&self, name: &str) -> Option<usize> {
         for (number, other) in self.names.iter().enumerate() {
             if other.as_str().eq_ignore_ascii_case(name) {
                 return Some(number);
@@ -131,7 +131,7 @@ impl<'r> Origin<'r> {
         None
     }
 
-    fn push_false(self, lines: &mut Lines, reached: &Reached) {
+    fn push_false(&self, lines: &mut Lines, reached: &Reached) {
         if let Some(span) = self.span_at(reached.routine, reached.place)
             && let Some(place) = self.source.place_of(span.start)
         {
@@ -145,7 +145,7 @@ impl<'r> Origin<'r> {
     }
 
     /// The place of the first operation of a routine, of those before one, that was made of the same part of the text.
-    fn first_place(self, routine: usize, place: usize, whole: Span) -> usize {
+    fn first_place(&self, routine: usize, place: usize, whole: Span) -> usize {
         let mut first = place;
         for before in (0..place).rev() {
             match self.span_at(routine, before) {
@@ -157,12 +157,12 @@ impl<'r> Origin<'r> {
     }
 
     /// The part of the text of which the operation at a place of a routine was made.
-    fn span_at(self, routine: usize, place: usize) -> Option<Span> {
+    fn span_at(&self, routine: usize, place: usize) -> Option<Span> {
         Some(locate(self.tables, routine, place)?.site.span)
     }
 
     /// Adds what was read and called in a part of the text, each once, as far as it is no object: whether there is such a thing.
-    fn push_values(self, lines: &mut Lines, before: &str, whole: Span, reached: &Reached) -> bool {
+    fn push_values(&self, lines: &mut Lines, before: &str, whole: Span, reached: &Reached) -> bool {
         let first = self.first_place(reached.routine, reached.place, whole);
         let mut told = Vec::new(self.alloc);
         for seen in &reached.seen {
@@ -183,7 +183,7 @@ impl<'r> Origin<'r> {
     }
 
     /// What the text has there, where that lies in the whole and its value is no object.
-    fn part_at(self, routine: usize, whole: Span, seen: Seen) -> Option<&'r str> {
+    fn part_at(&self, routine: usize, whole: Span, seen: Seen) -> Option<&'r str> {
         let span = self.span_at(routine, seen.place)?;
         let is_within = whole.start <= span.start && span.end <= whole.end;
         match seen.value {

@@ -130,7 +130,7 @@ impl<'r> Evaluation<'r> {
             self.operation_at(place),
             Some(Operation::CallFeature(_) | Operation::CallRoutine(_))
         );
-        if let Some(value) = self.values.last(self.frame)
+        if let Some(value) = self.values.last(&self.frame)
             && is_behind_call
         {
             self.note(place, value)
@@ -161,7 +161,7 @@ impl<'r> Evaluation<'r> {
                 matches!(
                     self.operation_at(self.frame.place),
                     Some(Operation::Demand(_))
-                ) && matches!(self.values.last(self.frame), Some(Value::Boolean(false)))
+                ) && matches!(self.values.last(&self.frame), Some(Value::Boolean(false)))
             }
         }
     }
@@ -260,7 +260,7 @@ impl<'r> Evaluation<'r> {
     fn store_attribute(&mut self, name: usize) -> bool {
         let object = self.frame.current;
         let version = self.version(object, name);
-        match (self.values.pop(self.frame), version) {
+        match (self.values.pop(&self.frame), version) {
             (Some(value), Some(Version::Attribute(attribute))) => {
                 self.note_write(Write {
                     object,
@@ -284,7 +284,7 @@ impl<'r> Evaluation<'r> {
         let Some(site) = self.program.pool().calls.get(number).copied() else {
             return false;
         };
-        let Some(slots) = self.values.first_of(self.frame, site.count) else {
+        let Some(slots) = self.values.first_of(&self.frame, site.count) else {
             return false;
         };
         if !has_target {
@@ -293,7 +293,7 @@ impl<'r> Evaluation<'r> {
         }
         let Some(floor) = self
             .values
-            .first_of(self.frame, site.count.saturating_add(1))
+            .first_of(&self.frame, site.count.saturating_add(1))
         else {
             return false;
         };

@@ -101,12 +101,12 @@ impl Values {
     }
 
     /// The kept value of a number of a routine.
-    pub fn old(&self, frame: Frame, number: usize) -> Option<Value> {
+    pub fn old(&self, frame: &Frame, number: usize) -> Option<Value> {
         self.olds.get(frame.olds.saturating_add(number)).copied()
     }
 
     /// Where a slot of a routine is, if it has it.
-    fn slot_place(&self, frame: Frame, slot: usize) -> Option<usize> {
+    fn slot_place(&self, frame: &Frame, slot: usize) -> Option<usize> {
         let place = frame.slots.saturating_add(slot);
         if place < frame.operands {
             Some(place)
@@ -116,12 +116,12 @@ impl Values {
     }
 
     /// The value of a slot of a routine.
-    pub fn slot(&self, frame: Frame, slot: usize) -> Option<Value> {
+    pub fn slot(&self, frame: &Frame, slot: usize) -> Option<Value> {
         self.at(self.slot_place(frame, slot)?)
     }
 
     /// A value goes into a slot of a routine: whether it has that.
-    pub fn put(&mut self, frame: Frame, slot: usize, value: Value) -> bool {
+    pub fn put(&mut self, frame: &Frame, slot: usize, value: Value) -> bool {
         if let Some(place) = self.slot_place(frame, slot)
             && let Some(place) = self.values.get_mut(place)
         {
@@ -133,12 +133,12 @@ impl Values {
     }
 
     /// The last operand of the routine that runs.
-    pub fn last(&self, frame: Frame) -> Option<Value> {
+    pub fn last(&self, frame: &Frame) -> Option<Value> {
         self.at(self.first_of(frame, 1)?)
     }
 
     /// Takes the last operand of the routine that runs.
-    pub fn pop(&mut self, frame: Frame) -> Option<Value> {
+    pub fn pop(&mut self, frame: &Frame) -> Option<Value> {
         let place = self.first_of(frame, 1)?;
         let value = self.at(place);
         self.values.truncate(place);
@@ -146,7 +146,7 @@ impl Values {
     }
 
     /// Where the last operands of the routine that runs begin, so many, if it has so many.
-    pub fn first_of(&self, frame: Frame, count: usize) -> Option<usize> {
+    pub fn first_of(&self, frame: &Frame, count: usize) -> Option<usize> {
         let place = self.values.len().checked_sub(count)?;
         if place < frame.operands {
             None

@@ -16,12 +16,12 @@ pub struct Origin<'r> {
 
 impl<'r> Origin<'r> {
     /// A part of the text, with the letters that stand there.
-    pub(crate) fn written(self, span: Span) -> &'r str {
+    pub(crate) fn written(&self, span: Span) -> &'r str {
         self.source.text().get(span.start..span.end).unwrap_or("..")
     }
 
     /// The name of the class at a number.
-    pub(crate) fn class_name(self, class: usize) -> Option<&'r str> {
+    pub(crate) fn class_name(&self, class: usize) -> Option<&'r str> {
         Some(self.written(self.tables.class(class)?.name.span))
     }
 }

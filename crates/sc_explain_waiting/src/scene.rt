@@ -14,21 +14,21 @@ const MOST_LISTED: usize = 8;
 
 /// What is spoken of: a world that has stopped, and who waits for whom there.
 #[derive(Clone, Copy)]
-pub struct Scene<'r> {
-    pub origin: Origin<'r>,
+pub struct Scene<'o, 'r> {
+    pub origin: &'o Origin<'r>,
     pub world: &'r World<'r>,
     pub waits: &'r [Wait],
     pub chains: &'r Chains,
 }
 
-impl<'r> Scene<'r> {
+impl<'o, 'r> Scene<'o, 'r> {
     /// How many handlers there are.
-    pub fn count(self) -> u16 {
+    pub fn count(&self) -> u16 {
         number_of(self.waits)
     }
 
     /// What a handler waits for.
-    pub fn wait(self, handler: u16) -> Wait {
+    pub fn wait(&self, handler: u16) -> Wait {
         self.waits
             .get(handler as usize)
             .copied()
@@ -36,12 +36,12 @@ impl<'r> Scene<'r> {
     }
 
     /// Whether a handler waits.
-    pub fn is_waiting(self, handler: u16) -> bool {
+    pub fn is_waiting(&self, handler: u16) -> bool {
         self.wait(handler).is_waiting()
     }
 
     /// Adds a cycle of handlers, and how they wait for each other.
-    pub fn push_cycle(self, lines: &mut Lines, cycle: &[u16]) {
+    pub fn push_cycle(&self, lines: &mut Lines, cycle: &[u16]) {
         lines.push("deadlock: ");
         for member in cycle {
             lines.push_number(u64::from(*member));
@@ -52,7 +52,7 @@ impl<'r> Scene<'r> {
     }
 
     /// How the members of a cycle wait for each other.
-    fn kind_of(self, cycle: &[u16]) -> &'static str {
+    fn kind_of(&self, cycle: &[u16]) -> &'static str {
         let mut answers = 0_usize;
         for member in cycle {
             if matches!(self.wait(*member), Wait::Answer(_)) {
@@ -69,7 +69,7 @@ impl<'r> Scene<'r> {
     }
 
     /// Adds what stands over those that wait for a condition.
-    pub fn push_conditions(self, lines: &mut Lines) {
+    pub fn push_conditions(&self, lines: &mut Lines) {
         let is_any_busy = self.waits.iter().any(|wait| matches!(wait, Wait::Busy));
         lines.push(if is_any_busy {
             "a wait condition that isn't true so far:\n"
@@ -79,7 +79,7 @@ impl<'r> Scene<'r> {
     }
 
     /// Adds a chain of handlers, where it has several: each waits for the next.
-    pub fn push_chain(self, lines: &mut Lines, chain: &[u16]) {
+    pub fn push_chain(&self, lines: &mut Lines, chain: &[u16]) {
         if chain.len() < 2 {
             return;
         }
@@ -91,7 +91,7 @@ impl<'r> Scene<'r> {
     }
 
     /// Adds a handler: what it holds, what it waits for, and where it stands.
-    pub fn push_handler(self, lines: &mut Lines, handler: u16) {
+    pub fn push_handler(&self, lines: &mut Lines, handler: u16) {
         lines.push("handler ");
         self.push_name(lines, handler);
         self.push_held(lines, handler);
@@ -104,7 +104,7 @@ impl<'r> Scene<'r> {
     }
 
     /// Adds what a handler waits for.
-    fn push_wait(self, lines: &mut Lines, handler: u16) {
+    fn push_wait(&self, lines: &mut Lines, handler: u16) {
         match self.wait(handler) {
             Wait::Nothing => {}
             Wait::Busy => self.push_busy(lines, handler),
@@ -120,12 +120,12 @@ impl<'r> Scene<'r> {
         }
     }
 
-    fn push_name(self, lines: &mut Lines, handler: u16) {
+    fn push_name(&self, lines: &mut Lines, handler: u16) {
         push_name(self.origin, lines, self.world, handler)
     }
 
     /// Adds the handlers that this one holds.
-    fn push_held(self, lines: &mut Lines, holder: u16) {
+    fn push_held(&self, lines: &mut Lines, holder: u16) {
         let mut count = 0_usize;
         for handler in 0..self.count() {
             if self.world.core().holder(handler) == Some(holder) {
@@ -143,7 +143,7 @@ impl<'r> Scene<'r> {
     }
 
     /// Adds what a handler waits to reserve, and who keeps it from each.
-    fn push_wanted(self, lines: &mut Lines, handler: u16) {
+    fn push_wanted(&self, lines: &mut Lines, handler: u16) {
         let needed = self.world.core().needed_by(handler);
         for (place, one) in needed.as_slice().iter().enumerate() {
             lines.push(if place == 0 {
@@ -157,7 +157,7 @@ impl<'r> Scene<'r> {
     }
 
     /// Adds who keeps others from reserving a handler.
-    fn push_keeper(self, lines: &mut Lines, handler: u16) {
+    fn push_keeper(&self, lines: &mut Lines, handler: u16) {
         match keeper_of(self.world.core(), handler) {
             None => {}
             Some(keeper) if keeper == handler => lines.push(self.unready(keeper)),
@@ -169,7 +169,7 @@ impl<'r> Scene<'r> {
     }
 
     /// Why a handler can't be reserved that nobody holds.
-    fn unready(self, handler: u16) -> &'static str {
+    fn unready(&self, handler: u16) -> &'static str {
         match self.world.status(handler) {
             Some(Status::Busy) => ", which is busy",
             _ => ", which waits itself",
@@ -177,7 +177,7 @@ impl<'r> Scene<'r> {
     }
 
     /// Adds what a handler has to do.
-    fn push_busy(self, lines: &mut Lines, handler: u16) {
+    fn push_busy(&self, lines: &mut Lines, handler: u16) {
         lines.push(" is busy");
         if let Some(request) = self.world.core().first_asked(handler)
             && stand_of(self.origin, self.world, handler).is_none()
@@ -188,7 +188,7 @@ impl<'r> Scene<'r> {
     }
 
     /// Adds which requests stand at a handler that waits, if any do: whether some do.
-    pub fn push_requests(self, lines: &mut Lines, handler: u16) -> bool {
+    pub fn push_requests(&self, lines: &mut Lines, handler: u16) -> bool {
         let count = self.world.core().queue_len(handler);
         let Some(request) = self.world.core().first_asked(handler) else {
             return false;
@@ -208,7 +208,7 @@ impl<'r> Scene<'r> {
     }
 
     /// Adds of how many handlers nothing is said.
-    pub fn push_left_out(self, lines: &mut Lines, count: usize) {
+    pub fn push_left_out(&self, lines: &mut Lines, count: usize) {
         if count > 0 {
             lines.push("and ");
             lines.push_number(count as u64);

@@ -22,14 +22,14 @@ impl<'r> Evaluation<'r> {
                 self.read(value)
             }
             Operation::PushOld(number) => {
-                let value = self.values.old(self.frame, number);
+                let value = self.values.old(&self.frame, number);
                 self.read(value)
             }
             Operation::PushSlot {
                 is_attached: _,
                 slot,
             } => {
-                let value = self.values.slot(self.frame, slot);
+                let value = self.values.slot(&self.frame, slot);
                 self.read(value)
             }
             operation => self.apply(operation),
@@ -91,7 +91,7 @@ impl<'r> Evaluation<'r> {
 
     /// Takes the last operand.
     fn pop(&mut self) -> Option<Value> {
-        self.values.pop(self.frame)
+        self.values.pop(&self.frame)
     }
 
     /// Takes the last operand, where it is a truth value.
@@ -147,13 +147,13 @@ impl<'r> Evaluation<'r> {
             None => false,
             Some(Value::Void) => self.give(Value::Boolean(false)),
             Some(value) => {
-                self.values.put(self.frame, slot, value) && self.give(Value::Boolean(true))
+                self.values.put(&self.frame, slot, value) && self.give(Value::Boolean(true))
             }
         }
     }
 
     /// A value goes into a slot.
     fn put(&mut self, slot: usize, value: Value) -> bool {
-        self.values.put(self.frame, slot, value) && self.pass(0)
+        self.values.put(&self.frame, slot, value) && self.pass(0)
     }
 }

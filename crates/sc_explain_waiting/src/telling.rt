@@ -15,14 +15,14 @@ const MOST_TOLD: usize = 64;
 /// first the cycles of handlers that wait for each other, then those that wait for a condition, then the others that wait, each
 /// with the chain that it waits in, then those that are busy, and last the requests that stand where nobody takes them.
 pub fn push_waits(
-    origin: Origin<'_>,
+    origin: &Origin<'_>,
     lines: &mut Lines,
     world: &World<'_>,
 ) -> Result<(), AllocError> {
     let alloc = origin.alloc;
     let waits = waits_in(alloc, world)?;
     let chains = Chains::of(alloc, world.core(), &waits)?;
-    let scene = Scene {
+    let scene = &Scene {
         origin,
         world,
         waits: &waits,
@@ -52,7 +52,7 @@ struct Note {
 }
 
 impl Note {
-    fn tell_cycles(&mut self, lines: &mut Lines, scene: Scene<'_>) -> Result<(), AllocError> {
+    fn tell_cycles(&mut self, lines: &mut Lines, scene: &Scene<'_, '_>) -> Result<(), AllocError> {
         for handler in 0..scene.count() {
             if !self.is_told(handler)
                 && let Some(cycle) = scene.chains.cycle(scene.origin.alloc, handler)?
@@ -63,7 +63,7 @@ impl Note {
         Ok(())
     }
 
-    fn tell_cycle(&mut self, lines: &mut Lines, scene: Scene<'_>, cycle: &[u16]) {
+    fn tell_cycle(&mut self, lines: &mut Lines, scene: &Scene<'_, '_>, cycle: &[u16]) {
         scene.push_cycle(lines, cycle);
         for member in cycle {
             self.mark(*member);
@@ -71,7 +71,7 @@ impl Note {
         }
     }
 
-    fn tell_conditions(&mut self, lines: &mut Lines, scene: Scene<'_>) {
+    fn tell_conditions(&mut self, lines: &mut Lines, scene: &Scene<'_, '_>) {
         let mut is_first = true;
         for handler in 0..scene.count() {
             if matches!(scene.wait(handler), Wait::Condition) {
@@ -85,7 +85,7 @@ impl Note {
     }
 
     /// Each chain of handlers that wait for one that was told of, or for one that is busy, from one that no other waits for.
-    fn tell_chains(&mut self, lines: &mut Lines, scene: Scene<'_>) -> Result<(), AllocError> {
+    fn tell_chains(&mut self, lines: &mut Lines, scene: &Scene<'_, '_>) -> Result<(), AllocError> {
         for handler in 0..scene.count() {
             let is_first = scene.is_waiting(handler) && !scene.chains.is_waited_for(handler);
             if is_first && !self.is_told(handler) {
@@ -98,7 +98,7 @@ impl Note {
 
     /// The handlers from this one on, each of which waits for the next: up to one that was told of, or that waits for nobody who
     /// waits.
-    fn chain_from(&self, scene: Scene<'_>, handler: u16) -> Result<Vec<u16>, AllocError> {
+    fn chain_from(&self, scene: &Scene<'_, '_>, handler: u16) -> Result<Vec<u16>, AllocError> {
         let mut chain = vec![in scene.origin.alloc; handler]?;
         let mut at = handler;
         for _step in 0..scene.waits.len() {
@@ -114,7 +114,7 @@ impl Note {
         Ok(chain)
     }
 
-    fn tell_chain(&mut self, lines: &mut Lines, scene: Scene<'_>, chain: &[u16]) {
+    fn tell_chain(&mut self, lines: &mut Lines, scene: &Scene<'_, '_>, chain: &[u16]) {
         if self.room > 0 {
             scene.push_chain(lines, chain);
         }
@@ -124,7 +124,7 @@ impl Note {
     }
 
     /// Those that wait or are busy and were not told of.
-    fn tell_others(&mut self, lines: &mut Lines, scene: Scene<'_>) {
+    fn tell_others(&mut self, lines: &mut Lines, scene: &Scene<'_, '_>) {
         for handler in 0..scene.count() {
             if !matches!(scene.wait(handler), Wait::Nothing) {
                 self.tell(lines, scene, handler);
@@ -134,7 +134,7 @@ impl Note {
     }
 
     /// A handler, where it wasn't told of and there is room.
-    fn tell(&mut self, lines: &mut Lines, scene: Scene<'_>, handler: u16) {
+    fn tell(&mut self, lines: &mut Lines, scene: &Scene<'_, '_>, handler: u16) {
         if self.is_told(handler) {
             return;
         }
@@ -159,7 +159,7 @@ impl Note {
 }
 
 /// What stands in the queues of those that wait.
-fn tell_requests(lines: &mut Lines, scene: Scene<'_>) {
+fn tell_requests(lines: &mut Lines, scene: &Scene<'_, '_>) {
     let mut room = MOST_TOLD;
     for handler in 0..scene.count() {
         if room > 0 && scene.is_waiting(handler) && scene.push_requests(lines, handler) {
