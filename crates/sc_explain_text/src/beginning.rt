@@ -1,7 +1,7 @@
 //! What a text begins with, as far as that says how it may go on.
 
 use crate::layout::Layout;
-use crate::reading::tokens_of;
+use crate::reading::{first_bytes, text_behind, tokens_of};
 use sc_parse::{ParseFault, parse};
 use sc_text::Token;
 use std::alloc::{AllocError, Global};
@@ -33,7 +33,7 @@ impl Beginning {
         };
         let is_whole = is_system(alloc, settled, end)?;
         let (first, rest) = if is_whole {
-            (instead, whole.get(settled.len()..).unwrap_or(""))
+            (instead, text_behind(whole, settled.len()))
         } else {
             ("", whole)
         };
@@ -61,7 +61,7 @@ impl Beginning {
 fn up_to_end<'t>(text: &'t str, tokens: &[Token]) -> &'t str {
     match tokens.last() {
         None => "",
-        Some(token) => text.get(..token.span.end).unwrap_or(text),
+        Some(token) => first_bytes(text, token.span.end),
     }
 }
 

@@ -2,6 +2,7 @@
 
 use crate::foreign::push_instead_at;
 use crate::lines::Lines;
+use crate::reading::first_bytes;
 use sc_text::Span;
 
 /// Adds what is said of the character that begins here and begins no token, and what is written in its place, or why it
@@ -22,7 +23,8 @@ pub fn explain_character(lines: &mut Lines, text: &str, span: Span) {
 /// The first character of a text; nothing where it has none.
 fn first_character(text: &str) -> &str {
     for length in 1..5_usize {
-        if let Some(character) = text.get(..length) {
+        let character = first_bytes(text, length);
+        if !character.is_empty() {
             return character;
         }
     }

@@ -2,6 +2,7 @@
 
 use crate::instead::{NAMES, SIGNS, WORDS};
 use crate::lines::Lines;
+use crate::reading::first_bytes;
 
 /// Adds a line that says what is written in place of what this name shows, of which nothing is known, and whether there
 /// is one.
@@ -64,7 +65,7 @@ fn is_among(words: &str, word: &str) -> bool {
 /// Whether the text begins with one of these signs, which have tabs between, of so many bytes at least, in any letter case.
 fn begins_with(signs: &str, text: &str, least: usize) -> bool {
     for sign in signs.split('\t') {
-        let beginning = text.get(..sign.len()).unwrap_or("");
+        let beginning = first_bytes(text, sign.len());
         if sign.len() >= least && beginning.eq_ignore_ascii_case(sign) {
             return true;
         }

@@ -6,7 +6,7 @@ use crate::foreign::{push_instead_at, push_instead_of, push_instead_of_word};
 use crate::layout::open_construct;
 use crate::lines::Lines;
 use crate::nearest::{near_word, push_meant};
-use crate::reading::{tokens_of, word_at};
+use crate::reading::{first_bytes, text_behind, tokens_of, word_at};
 use crate::related::Related;
 use sc_text::{Span, Terminal, Token, TokenKind};
 use std::alloc::{AllocError, Global};
@@ -150,7 +150,7 @@ impl<'t> Stop<'t> {
         let number = self.number.saturating_sub(back);
         match self.tokens.get(number) {
             None => "",
-            Some(token) => self.text.get(token.span.start..).unwrap_or(""),
+            Some(token) => text_behind(self.text, token.span.start),
         }
     }
 
@@ -245,7 +245,7 @@ impl<'t> Stop<'t> {
         let fault = self.text_from(0);
         let between = from.len().saturating_sub(fault.len());
         let length = between.saturating_add(self.length(0));
-        from.get(..length).unwrap_or(from)
+        first_bytes(from, length)
     }
 
     /// How many bytes the token has that stands so many before that at fault.

@@ -1,5 +1,6 @@
 //! Which construct is still open at a place, and how far a text is surely settled.
 
+use crate::reading::word_at;
 use crate::related::Related;
 use sc_text::{Span, Terminal, Token, TokenKind};
 use std::alloc::{AllocError, Global};
@@ -138,9 +139,7 @@ impl Layout {
 
 /// Whether what began there is a routine's body.
 fn is_routine(text: &str, span: Span) -> bool {
-    text.get(span.start..span.end)
-        .unwrap_or("")
-        .eq_ignore_ascii_case("do")
+    word_at(text, span).eq_ignore_ascii_case("do")
 }
 
 /// What stands in the line of a part of the text before it.

@@ -39,3 +39,25 @@ pub fn let_go(_system: System) {}
 pub fn word_at(text: &str, span: Span) -> &str {
     text.get(span.start..span.end).unwrap_or("")
 }
+
+/// The first bytes of a text, so many; nothing where that is inside of a character or behind its end.
+pub fn first_bytes(text: &str, count: usize) -> &str {
+    word_at(
+        text,
+        Span {
+            start: 0,
+            end: count,
+        },
+    )
+}
+
+/// The text from a place on; nothing where that is inside of a character or behind its end.
+pub fn text_behind(text: &str, start: usize) -> &str {
+    word_at(
+        text,
+        Span {
+            start,
+            end: text.len(),
+        },
+    )
+}
