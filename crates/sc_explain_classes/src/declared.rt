@@ -174,3 +174,26 @@ pub fn parent_of<'s>(system: &'s System, class: &Class) -> Option<&'s Class> {
     }
     None
 }
+
+/// The feature of this name that a class declares.
+pub fn declared_in<'s>(class: &'s Class, name: &str) -> Option<&'s Feature> {
+    for feature in class.features.iter() {
+        if feature.name.text.as_str() == name {
+            return Some(feature);
+        }
+    }
+    None
+}
+
+/// The feature of this name that a class declares or inherits.
+pub fn feature_named<'s>(system: &'s System, class: &'s Class, name: &str) -> Option<&'s Feature> {
+    let mut class = class;
+    for _ in system.classes.iter() {
+        let declared = declared_in(class, name);
+        if declared.is_some() {
+            return declared;
+        }
+        class = parent_of(system, class)?;
+    }
+    None
+}

@@ -1,6 +1,8 @@
 //! What a redefinition lacks.
 
-use crate::declared::{class_around, feature_around, inherits, parent_of};
+use crate::declared::{
+    class_around, declared_in, feature_around, feature_named, inherits, parent_of,
+};
 use sc_explain_text::{Lines, word_at};
 use sc_text::Span;
 use sc_tree::{Class, Feature, FeatureKind, Name, System};
@@ -18,7 +20,7 @@ pub fn push_redefine(lines: &mut Lines, text: &str, system: &System, span: Span)
         return false;
     }
     for other in system.classes.iter() {
-        if let Some(known) = declared_in(other, &feature.name) {
+        if let Some(known) = declared_in(other, &feature.name.text) {
             if inherits(system, class, other) && other.span != class.span {
                 return push_for_heir(lines, text, class, known, feature);
             }
@@ -87,7 +89,7 @@ fn lacking_in_list(system: &System, class: &Class, span: Span) -> &'static str {
         Some(name) => {
             if inherited(system, class, name).is_none() {
                 "the parent has no such feature: leave it out under `redefine`"
-            } else if declared_in(class, name).is_none() {
+            } else if declared_in(class, &name.text).is_none() {
                 "the class declares no feature of this name: declare one, or leave it out under `redefine`"
             } else {
                 "a name stands once under `redefine`"
@@ -127,26 +129,7 @@ fn listed_at(class: &Class, span: Span) -> Option<&Name> {
 
 /// The feature of this name that a class inherits.
 fn inherited<'s>(system: &'s System, class: &Class, name: &Name) -> Option<&'s Feature> {
-    let mut parent = parent_of(system, class);
-    for _ in system.classes.iter() {
-        let ancestor = parent?;
-        let found = declared_in(ancestor, name);
-        if found.is_some() {
-            return found;
-        }
-        parent = parent_of(system, ancestor);
-    }
-    None
-}
-
-/// The feature of this name that a class declares.
-pub fn declared_in<'s>(class: &'s Class, name: &Name) -> Option<&'s Feature> {
-    for feature in class.features.iter() {
-        if feature.name.text == name.text {
-            return Some(feature);
-        }
-    }
-    None
+    feature_named(system, parent_of(system, class)?, &name.text)
 }
 
 fn is_routine(feature: &Feature) -> bool {

@@ -1,6 +1,6 @@
 //! Why a system can't be run from a root, and from which it can.
 
-use crate::declared::parent_of;
+use crate::declared::feature_named;
 use sc_class::Root;
 use sc_explain_text::{Lines, word_at};
 use sc_tree::{Class, Feature, FeatureKind, System};
@@ -139,20 +139,6 @@ fn class_named<'s>(system: &'s System, name: &str) -> Option<&'s Class> {
         if class.name.text.eq_ignore_ascii_case(name) {
             return Some(class);
         }
-    }
-    None
-}
-
-/// The feature of this name that a class declares or inherits.
-fn feature_named<'s>(system: &'s System, class: &'s Class, name: &str) -> Option<&'s Feature> {
-    let mut class = class;
-    for _ in system.classes.iter() {
-        for feature in class.features.iter() {
-            if feature.name.text.as_str() == name {
-                return Some(feature);
-            }
-        }
-        class = parent_of(system, class)?;
     }
     None
 }
