@@ -36,7 +36,7 @@ pub fn diagnose(
     let related = match (sentence_of(code), span) {
         (None, _) => None,
         (Some(sentence), None) => {
-            tell_of_all(alloc, &mut lines, sentence, text, root);
+            tell_of_all(alloc, &mut lines, &sentence, text, root);
             None
         }
         (Some(sentence), Some(span)) => {
@@ -46,7 +46,7 @@ pub fn diagnose(
                 code,
                 span,
             };
-            tell(alloc, &mut lines, sentence, refused)?
+            tell(alloc, &mut lines, &sentence, &refused)?
         }
     };
     Ok(Diagnosis {
@@ -56,7 +56,7 @@ pub fn diagnose(
 }
 
 /// Adds what is said of a fault of the whole text: why it isn't run from the root, or its sentence.
-fn tell_of_all(alloc: Global, lines: &mut Lines, sentence: Sentence, text: &str, root: &Root) {
+fn tell_of_all(alloc: Global, lines: &mut Lines, sentence: &Sentence, text: &str, root: &Root) {
     if sentence.code != "C6" {
         return push_told(lines, sentence, "");
     }
@@ -75,8 +75,8 @@ fn tell_of_all(alloc: Global, lines: &mut Lines, sentence: Sentence, text: &str,
 fn tell(
     alloc: Global,
     lines: &mut Lines,
-    sentence: Sentence,
-    refused: Refused<'_>,
+    sentence: &Sentence,
+    refused: &Refused<'_>,
 ) -> Result<Option<Related>, AllocError> {
     if is_told(alloc, lines, refused)? {
         return Ok(None);
@@ -98,7 +98,7 @@ fn tell(
 }
 
 /// Adds what the classes tell of the refusal by a rule, and whether there is something.
-fn is_told(alloc: Global, lines: &mut Lines, refused: Refused<'_>) -> Result<bool, AllocError> {
+fn is_told(alloc: Global, lines: &mut Lines, refused: &Refused<'_>) -> Result<bool, AllocError> {
     let Some(aim) = refused.aim() else {
         return Ok(false);
     };
@@ -117,8 +117,8 @@ fn is_told(alloc: Global, lines: &mut Lines, refused: Refused<'_>) -> Result<boo
 fn push_declared(
     alloc: Global,
     lines: &mut Lines,
-    sentence: Sentence,
-    refused: Refused<'_>,
+    sentence: &Sentence,
+    refused: &Refused<'_>,
 ) -> Option<Related> {
     push_sentence(lines, sentence.text, part_of(refused.text, refused.span));
     match system_of(alloc, refused.text) {
@@ -136,13 +136,8 @@ fn push_declared(
 }
 
 /// Adds what helps in the classes of a text that spells this system. The other declaration of the name at fault.
-fn push_class_helps(lines: &mut Lines, refused: Refused<'_>, system: &System) -> Option<Related> {
-    let Refused {
-        text,
-        code,
-        span,
-        ..
-    } = refused;
+fn push_class_helps(lines: &mut Lines, refused: &Refused<'_>, system: &System) -> Option<Related> {
+    let (text, code, span) = (refused.text, refused.code, refused.span);
     let name = word_at(text, span);
     if code == "V1" {
         push_near_class(lines, text, system, name);
@@ -156,7 +151,7 @@ fn push_class_helps(lines: &mut Lines, refused: Refused<'_>, system: &System) ->
 }
 
 /// Adds the sentence on a part of the text, and what helps where something does.
-fn push_told(lines: &mut Lines, sentence: Sentence, part: &str) {
+fn push_told(lines: &mut Lines, sentence: &Sentence, part: &str) {
     push_sentence(lines, said_of(sentence, part), part);
     if !sentence.help.is_empty() {
         push_help(lines, sentence.help, part)
@@ -164,7 +159,7 @@ fn push_told(lines: &mut Lines, sentence: Sentence, part: &str) {
 }
 
 /// What is said of a part of the text.
-fn said_of(sentence: Sentence, part: &str) -> &'static str {
+fn said_of(sentence: &Sentence, part: &str) -> &'static str {
     if sentence.code == "V7" && part.eq_ignore_ascii_case("result") {
         return "# stands in a function alone";
     }

@@ -2,7 +2,7 @@
 
 use crate::fresh::fresh_name;
 use crate::remark::{Making, Misfit, Remark, Wanted};
-use crate::scope::{Scope, part_of, push_type};
+use crate::scope::{Scope, part_of};
 use crate::site::Place;
 use crate::types::{Compared, Passed};
 use sc_class::{ClassId, FeatureEntry};
@@ -146,7 +146,7 @@ impl<'s> Scope<'s> {
             tag: Tag::Any,
             ..taken
         };
-        push_type(lines, self.words_of(wider), "\n")
+        self.push_type(lines, wider, "\n")
     }
 
     /// What alone is between a type and another to which it doesn't conform.
@@ -279,7 +279,7 @@ impl<'s> Scope<'s> {
             name,
             "` of type ",
         ]);
-        push_type(lines, self.words_of(attached), "\n")
+        self.push_type(lines, attached, "\n")
     }
 
     /// Adds how an object is made.

@@ -1,10 +1,11 @@
 //! What is said of a fault, in words.
 
 use crate::remark::{Making, Misfit, Remark, Wanted};
-use crate::scope::{Scope, TypeWords, part_of, push_quoted, push_type};
+use crate::scope::{Scope, part_of, push_quoted};
 use crate::types::Compared;
 use sc_class::ClassId;
 use sc_explain_text::Lines;
+use sc_proctype::EntityType;
 use sc_rules::{Context, Role};
 use sc_text::Span;
 use sc_tree::{BinaryOperator, UnaryOperator};
@@ -23,15 +24,13 @@ impl<'s> Scope<'s> {
                 self.push_compared(lines, part, passed.compared, taker, passed.formal)
             }
             Remark::Given(given, wanted) => {
-                push_given(lines, part, self.words_of(given), said_of_wanted(wanted))
+                self.push_given(lines, part, given, said_of_wanted(wanted))
             }
-            Remark::Operand(operator, given) => {
-                push_operand(lines, operator, self.words_of(given))
-            }
+            Remark::Operand(operator, given) => { self.push_operand(lines, operator, given) }
             Remark::Operands(operator, left, right) => {
                 push_operator(lines, operator);
-                push_type(lines, self.words_of(left), " and of type ");
-                push_type(lines, self.words_of(right), "")
+                self.push_type(lines, left, " and of type ");
+                self.push_type(lines, right, "")
             }
             Remark::Name(Misfit::Lacking(class)) => {
                 push_lacking(lines, self.class_name(class), part)
@@ -71,22 +70,22 @@ impl<'s> Scope<'s> {
         and: &'static str,
         taker: Span,
     ) {
-        push_given(lines, part, self.words_of(types.given), and);
+        self.push_given(lines, part, types.given, and);
         push_quoted(lines, "", part_of(self.text, taker), " takes ");
-        push_type(lines, self.words_of(types.taken), "")
+        self.push_type(lines, types.taken, "")
     }
-}
 
-/// Adds that the part of the text is of this type, and what stands behind that.
-fn push_given(lines: &mut Lines, part: &str, given: TypeWords<'_>, behind: &'static str) {
-    push_quoted(lines, "", part, " is of type ");
-    push_type(lines, given, behind)
-}
+    /// Adds that the part of the text is of this type, and what stands behind that.
+    fn push_given(&self, lines: &mut Lines, part: &str, given: EntityType, behind: &'static str) {
+        push_quoted(lines, "", part, " is of type ");
+        self.push_type(lines, given, behind)
+    }
 
-fn push_operand(lines: &mut Lines, operator: UnaryOperator, given: TypeWords<'_>) {
-    lines.push(taken_by_unary(operator));
-    lines.push(", and its operand is of type ");
-    push_type(lines, given, "")
+    fn push_operand(&self, lines: &mut Lines, operator: UnaryOperator, given: EntityType) {
+        lines.push(taken_by_unary(operator));
+        lines.push(", and its operand is of type ");
+        self.push_type(lines, given, "")
+    }
 }
 
 /// Adds what is said of a name at fault, whose class isn't told.

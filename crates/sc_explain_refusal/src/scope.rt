@@ -24,13 +24,13 @@ pub struct Scope<'s> {
 }
 
 impl<'s> Scope<'s> {
-    /// A type, with the name of the formal or the block whose handler it is of.
-    pub fn words_of(&self, given: EntityType) -> TypeWords<'_> {
-        TypeWords {
-            given,
-            handler: self.handler_of(given.tag),
-            class: self.class_name(given.class),
-        }
+    /// Adds a type in quotes, as it is declared, with the name of the formal or the block whose handler it is of, and what
+    /// stands behind it.
+    pub fn push_type(&self, lines: &mut Lines, given: EntityType, behind: &'static str) {
+        lines.push_all(&["`", mark_of(given)]);
+        push_handler(lines, given.tag, self.handler_of(given.tag));
+        lines.push(self.class_name(given.class));
+        lines.push_all(&["`", unknown_handler(given), behind])
     }
 
     /// The name of a class, as its text has it.
@@ -57,22 +57,6 @@ impl<'s> Scope<'s> {
             _ => "",
         }
     }
-}
-
-/// A type in words: the names of its handler and of its class, as the text has them.
-#[derive(Clone, Copy)]
-pub struct TypeWords<'n> {
-    given: EntityType,
-    handler: &'n str,
-    class: &'n str,
-}
-
-/// Adds a type in quotes, as it is declared, and what stands behind it.
-pub fn push_type(lines: &mut Lines, words: TypeWords<'_>, behind: &'static str) {
-    lines.push_all(&["`", mark_of(words.given)]);
-    push_handler(lines, words.given.tag, words.handler);
-    lines.push(words.class);
-    lines.push_all(&["`", unknown_handler(words.given), behind])
 }
 
 /// Adds what stands in a type before the name of the class: whose handler it is of, which may have a name.
