@@ -164,30 +164,32 @@ fn joins_the_texts_of_files(rt: HostRuntime) -> Result<(), Fail> {
     Ok(())
 }
 
-/// A file that is one byte too long, and one behind which a line feed fits.
+/// A file that is one byte too long, and one behind which a line feed fits: with its line feed the second file is just too long.
 #[test]
 fn finds_that_a_text_is_too_long(rt: HostRuntime) -> Result<(), Fail> {
-    let alloc = rt.alloc();
-    let long = " ".repeat(alloc, MAX_SOURCE_BYTES)?;
-    let rest = " ".repeat(alloc, MAX_SOURCE_BYTES - 2)?;
-    let mut files = vec![in alloc; long.into_bytes()]?;
-    expect_too_long(&rt, &files, 0)?;
-    // With its line feed the second file is just too long.
-    files.clear();
-    files.push(rest.into_bytes())?;
-    files.push(Vec::new(alloc))?;
-    files.push(Vec::new(alloc))?;
-    expect_too_long(&rt, &files, 2)
+    expect_too_long(&rt, &[MAX_SOURCE_BYTES], 0)?;
+    expect_too_long(&rt, &[MAX_SOURCE_BYTES - 2, 0, 0], 2)
 }
 
+/// Files of so many blanks each.
+fn blank_files(alloc: Global, lengths: &[usize]) -> Result<Vec<Vec<u8>>, AllocError> {
+    let mut files = Vec::new(alloc);
+    for length in lengths {
+        files.push(" ".repeat(alloc, *length)?.into_bytes())?;
+    }
+    Ok(files)
+}
+
+/// The text of files of so many blanks each is too long, which is told before that the file of this number is broken.
 fn expect_too_long<R: Abort + AllocGlobal>(
     rt: &R,
-    files: &[Vec<u8>],
+    lengths: &[usize],
     broken: usize,
 ) -> Result<(), Fail> {
+    let files = blank_files(rt.alloc(), lengths)?;
     let mut reading = WHOLE;
     reading.broken = Some(broken);
-    let found = joined(rt.alloc(), files, reading)?;
+    let found = joined(rt.alloc(), &files, reading)?;
     assert_eq!(rt; found.as_str(), "SourceTooLong");
     Ok(())
 }

@@ -4,12 +4,12 @@
 //! numbers of turns make other records; in the first line the other version does; elsewhere no byte may be another.
 
 use crate::audits::{FIVE_TURNS, told};
-use crate::runs::{Open, load};
+use crate::runs::{left_by_one, load};
 use crate::together::RELAY;
 use sc_audit::{ReadFault, Record, read_record};
 use sc_auditing::{AuditFault, audit};
 use sc_code::Program;
-use sc_plant::{Left, run};
+use sc_plant::Left;
 use std::alloc::{AllocError, Global};
 use std::process::Abort;
 use std::test::Fail;
@@ -170,15 +170,11 @@ const FIVE_TURNS_ANSWERS: &str = "yes: 5, differs 0: 13, bad 1: 3824, bad 2: 100
 fn altered_records_of_the_smallest_run(rt: HostRuntime) -> Result<(), Fail> {
     let alloc = rt.alloc();
     let program = load(&rt, alloc, FIVE_TURNS)?;
-    match run(&rt, alloc, &program, 1, 1_000_000, &Open) {
-        Ok(mut left) => {
-            let first = ("scoop record 1\n0 5\nend 1\n", FIVE_TURNS_ANSWERS);
-            expect_altered(&rt, alloc, &program, &mut left, first)?;
-            let second = ("scoop record 2\n0 5\nend 1\n", FIVE_TURNS_ANSWERS);
-            expect_altered(&rt, alloc, &program, &mut left, second)
-        }
-        Err(_) => Err(Fail::from(AllocError)),
-    }
+    let mut left = left_by_one(&rt, alloc, &program)?;
+    let first = ("scoop record 1\n0 5\nend 1\n", FIVE_TURNS_ANSWERS);
+    expect_altered(&rt, alloc, &program, &mut left, first)?;
+    let second = ("scoop record 2\n0 5\nend 1\n", FIVE_TURNS_ANSWERS);
+    expect_altered(&rt, alloc, &program, &mut left, second)
 }
 
 /// Texts, and what the audit of the same run answers to each behind a bar. Between two stands a line with a sign.
@@ -228,10 +224,8 @@ fn expect_texts<R: Abort>(
 fn texts_that_are_nearly_its_record(rt: HostRuntime) -> Result<(), Fail> {
     let alloc = rt.alloc();
     let program = load(&rt, alloc, FIVE_TURNS)?;
-    match run(&rt, alloc, &program, 1, 1_000_000, &Open) {
-        Ok(mut left) => expect_texts(&rt, alloc, &program, &mut left),
-        Err(_) => Err(Fail::from(AllocError)),
-    }
+    let mut left = left_by_one(&rt, alloc, &program)?;
+    expect_texts(&rt, alloc, &program, &mut left)
 }
 
 /// The record of the run of RELAY on one worker: handlers take turns in the order of their numbers, and each goes on until it
@@ -271,13 +265,9 @@ const RELAY_ANSWERS: &str = "yes: 122, differs 0: 195, differs 1: 41, bad 1: 382
 fn altered_records_of_a_failure_in_a_chain(rt: HostRuntime) -> Result<(), Fail> {
     let alloc = rt.alloc();
     let program = load(&rt, alloc, RELAY)?;
-    match run(&rt, alloc, &program, 1, 1_000_000, &Open) {
-        Ok(mut left) => {
-            let own = (RELAY_RECORD, "yes");
-            expect_answer(&rt, alloc, &program, &mut left, own)?;
-            let altered = (RELAY_RECORD, RELAY_ANSWERS);
-            expect_altered(&rt, alloc, &program, &mut left, altered)
-        }
-        Err(_) => Err(Fail::from(AllocError)),
-    }
+    let mut left = left_by_one(&rt, alloc, &program)?;
+    let own = (RELAY_RECORD, "yes");
+    expect_answer(&rt, alloc, &program, &mut left, own)?;
+    let altered = (RELAY_RECORD, RELAY_ANSWERS);
+    expect_altered(&rt, alloc, &program, &mut left, altered)
 }

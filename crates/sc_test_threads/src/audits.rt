@@ -1,11 +1,11 @@
 //! Audits of a run with records that aren't its own.
 
-use crate::runs::{Open, load};
+use crate::runs::{left_by_one, load};
 use sc_audit::RecordLine;
 use sc_auditing::{AuditFault, audit};
 use sc_code::Program;
 use sc_lockpass::Version;
-use sc_plant::{Left, run};
+use sc_plant::Left;
 use std::alloc::{AllocError, Global};
 use std::process::Abort;
 use std::test::Fail;
@@ -107,8 +107,6 @@ fn expect_rows<R: Abort>(
 fn other_records(rt: HostRuntime) -> Result<(), Fail> {
     let alloc = rt.alloc();
     let program = load(&rt, alloc, FIVE_TURNS)?;
-    match run(&rt, alloc, &program, 1, 1_000_000, &Open) {
-        Ok(mut left) => expect_rows(&rt, alloc, &program, &mut left),
-        Err(_) => Err(Fail::from(AllocError)),
-    }
+    let mut left = left_by_one(&rt, alloc, &program)?;
+    expect_rows(&rt, alloc, &program, &mut left)
 }

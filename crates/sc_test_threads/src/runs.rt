@@ -14,7 +14,7 @@ use std::test::Fail;
 use std::thread::Threads;
 
 /// A gate that lets all pass.
-pub struct Open;
+struct Open;
 
 impl Gate for Open {
     fn began(&self, _handler: u16) {}
@@ -34,6 +34,18 @@ pub fn load<R: Abort>(rt: &R, alloc: Global, text: &str) -> Result<Program, Fail
             assert_eq!(rt; format!(in alloc; "{why:?}")?.as_str(), "a program");
             Err(Fail::from(AllocError))
         }
+    }
+}
+
+/// What a run of a program by one worker leaves.
+pub fn left_by_one<'p, R: Threads + Wait + Sync>(
+    rt: &R,
+    alloc: Global,
+    program: &'p Program,
+) -> Result<Left<'p>, Fail> {
+    match run(rt, alloc, program, 1, 1_000_000, &Open) {
+        Ok(left) => Ok(left),
+        Err(_) => Err(Fail::from(AllocError)),
     }
 }
 

@@ -16,6 +16,20 @@ fn turn_again(world: &mut World<'_>, handler: u16) -> Result<Turned, AllocError>
     }
 }
 
+/// The turns of these handlers come to this, one after the other.
+fn expect_turns<R: Abort>(
+    rt: &R,
+    world: &mut World<'_>,
+    handlers: &[u16],
+    wanted: Turned,
+) -> Result<(), Fail> {
+    for handler in handlers {
+        let turned = turn_again(world, *handler)?;
+        assert!(rt; turned == wanted);
+    }
+    Ok(())
+}
+
 /// A call back to the caller's handler.
 const CALLBACK: &str = "class APPLICATION create make
 feature
@@ -37,6 +51,9 @@ const CALLBACK_TURNS: [u16; 22] = [
     0, 0, 0, 1, 0, 0, 1, 1, 1, 0, 0, 0, 1, 1, 0, 1, 1, 1, 0, 0, 0, 0,
 ];
 
+/// Handlers that aren't there: none of them has a turn.
+const STRANGERS: [u16; 7] = [2, 63, 64, 255, 511, 512, 65535];
+
 const CALLBACK_REPORT: &str = "handler 0 free refused 0 output 2
 11
 handler 1 free refused 0 output 1
@@ -49,18 +66,10 @@ fn says_whether_a_turn_moves(rt: HostRuntime) -> Result<(), Fail> {
     let program = load(&rt, rt.alloc(), CALLBACK)?;
     let mut world = World::open(rt.alloc(), &program, Version::One)?;
     for handler in &CALLBACK_TURNS {
-        let turned = turn_again(&mut world, *handler)?;
-        assert!(rt; matches!(turned, Turned::Moved));
-        // A handler that isn't there has no turn.
-        for other in [2, 63, 64, 255, 511, 512, 65535] {
-            let turned = turn_again(&mut world, other)?;
-            assert!(rt; matches!(turned, Turned::Nothing));
-        }
+        expect_turns(&rt, &mut world, &[*handler], Turned::Moved)?;
+        expect_turns(&rt, &mut world, &STRANGERS, Turned::Nothing)?;
     }
-    for handler in [0, 1] {
-        let turned = turn_again(&mut world, handler)?;
-        assert!(rt; matches!(turned, Turned::Nothing));
-    }
+    expect_turns(&rt, &mut world, &[0, 1], Turned::Nothing)?;
     let report = text_of(world.report()?)?;
     assert_eq!(rt; report.as_str(), CALLBACK_REPORT);
     Ok(())
