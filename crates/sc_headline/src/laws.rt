@@ -18,10 +18,10 @@ use sc_world::World;
 use sc_world::laws::{attempts_stay_of_their_program, openings_are_of_their_program};
 
 /// For every source text that is accepted, and whatever handlers make turns, in every order, of the state that the machine on
-/// trees reaches: requests are posted under a right, and taken once and in order; the handlers of formals and of open separate
-/// blocks are held; each frame runs on an object of its own handler; each reference leads to an object, each value fits its type,
-/// and whatever is typed non-separate belongs to its own handler; bodies start where their preconditions hold, and no otherwise;
-/// and each settled object meets its class invariant.
+/// trees reaches: requests are posted under a right, taken once and in order, and none is dropped but by a failure; the handlers of
+/// formals and of open separate blocks are held; each frame runs on an object of its own handler, with the formals and locals that
+/// its text declares; each reference leads to an object, each value fits its type, and whatever is typed non-separate belongs to its
+/// own handler; bodies start where their preconditions hold, and no otherwise; and each settled object meets its class invariant.
 pub fn machine_headline()
     ensures { MachineHeadline }
 {

@@ -1,60 +1,74 @@
 -- States of which the headline doesn't hold, each for one of its parts: whatever the system is, that part refuses it.
-use Rattle.std.proofs.Common.{ℕ, suc, ◌≡◌, ◌<◌, ◌==◌, ◌⊎◌, inl, inr, Bool, true, false, List, [], ◌∷◌, Some, None, length, refl, ap, sym, ◌∙◌, arith}
+use Rattle.std.proofs.Common.{ℕ, zero, suc, ◌≡◌, ◌<◌, ◌==◌, ◌⊎◌, ◌++◌, inl, inr, Bool, true, false, List, [], ◌∷◌, Option, Some, None, length, refl, ap, sym, subst, ◌∙◌, arith}
+use Rattle.std.proofs.lemmas.List.Elements.{All-nil}
 use Rattle.std.specs.Prelude.{pos, map, Contains, if◌then◌else◌}
+use Rattle.sc_text.specs.declared.token.Span.{Span}
+use Rattle.sc_tree.specs.Plain as tree
+use Rattle.sc_tree.specs.Plain.{Class, Clause, Declaration, Name, System, no_instrs}
 use Rattle.sc_class.specs.declared.identity.ClassId.TheVariants as class
-use Rattle.sc_tree.specs.Plain.{System, no_instrs}
 use Rattle.sc_proctype.specs.declared.entity_type.EntityType.{EntityType}
 use Rattle.sc_proctype.specs.declared.tag.Tag.{Tag}
 use Rattle.sc_proctype.specs.declared.tag.Tag.TheVariants as tag
+use Rattle.sc_formula.specs.Formula as formula
+use Rattle.sc_rules.specs.Names.{Entity, RoutineName, entity, locals_known}
+use Rattle.sc_rules.specs.Types.{declared_type}
 use Rattle.sc_rules.specs.declared.position.Role.{Role}
 use Rattle.sc_rules.specs.declared.position.Role.TheVariants as role
 use Rattle.sc_lockpass.specs.Rights.{Rights, unreserved}
 use Rattle.sc_model.specs.declared.cause.Cause.{Cause}
 use Rattle.sc_model.specs.declared.cause.Cause.TheVariants as cause
 use Rattle.sc_model.specs.Chains.{WaitsFor, waits}
+use Rattle.sc_model.specs.Clauses.{Comes, Holds, after, begun}
 use Rattle.sc_model.specs.Environments.{Binding, bind, known_of}
 use Rattle.sc_model.specs.Fits.{Fits, IsUnset}
-use Rattle.sc_model.specs.Handlers.{Awaits, Called, Calls, Failed, Frame, Handler, InCall, Origin, Reply, Request, Requested, Runs, Stage, World, new_handler}
+use Rattle.sc_model.specs.Handlers.{Awaits, Called, Calls, Failed, Frame, Handler, InCall, Origin, Reply, Request, Requested, Runs, Stage, World, frame_at, new_handler, point_of}
+use Rattle.sc_model.specs.Invariants.{MeetsInvariant}
 use Rattle.sc_model.specs.Objects.{Object, fresh_object}
 use Rattle.sc_model.specs.Routines.{Routine, Text}
-use Rattle.sc_model.specs.Steps.{Unqualified}
-use Rattle.sc_model.specs.Values.{Attached, Integer, Reference, Void}
+use Rattle.sc_model.specs.Steps.{Point, Unqualified}
+use Rattle.sc_model.specs.Tasks.{Print, Require}
+use Rattle.sc_model.specs.Turns.{turn}
+use Rattle.sc_model.specs.Values.{Attached, Boolean, Integer, Reference, Void}
 use Rattle.sc_machine_rights.specs.Headline.{topmost}
 use Rattle.sc_machine_values.specs.Fitting.{IsThere, is_due, is_made}
 use Rattle.sc_machine_values.specs.Places.{StandsAs, attribute, no_names}
+use Rattle.sc_machine_values.specs.Points as point
+use Rattle.sc_machine_values.specs.Points.{Agrees}
 use Rattle.sc_machine_values.specs.Steps.{is_excluded}
-use Rattle.sc_refines_world.specs.Moving.{Begins, FramesMove, HasRequestAt, call, end, fall, go_on, return, stay, take_callback, take_next}
+use Rattle.sc_machine_values.specs.Typed.{IsTyped, Known}
+use Rattle.sc_refines_world.specs.Moving.{HasRequestAt}
 use Rattle.sc_refines_world.specs.Refining.{HasHeadline}
+use Rattle.sc_refines_world.specs.Texts.{IsBehindFormals, IsTypedByRules, KnowsItsText}
 
 -- ---- states
 
 -- two handlers, and who holds whom
-abbrev two : Handler → Handler → Rights → World
+abbrev pub two : Handler → Handler → Rights → World
 two x y r = record { count = 2; handlers = λ k. if k == 0 then x else (if k == 1 then y else new_handler); rights = r }
 
 -- the first of these, beside a new one that nobody holds
-abbrev alone : Handler → World
+abbrev pub alone : Handler → World
 alone x = two x new_handler unreserved
 
-abbrev object_of : ℕ → List Binding → Object
+abbrev pub object_of : ℕ → List Binding → Object
 object_of k bs = record { class = k; attributes = bs }
 
 -- the first object of the handler, of the first class
-abbrev first_of : ℕ → Reference
+abbrev pub first_of : ℕ → Reference
 first_of h = record { handler = h; number = 1; class = 0 }
 
-abbrev type_of : Tag → EntityType
+abbrev pub type_of : Tag → EntityType
 type_of t = record { attached = true; tag = t; class = class.Any }
 
-abbrev text : Text
+abbrev pub text : Text
 text = record { class = 0; formals = []; result = None }
 
 -- a routine that does nothing
-abbrev routine : Routine
+abbrev pub routine : Routine
 routine = record { name = []; text = text; locals = []; body = no_instrs; contract = text; require = []; ensure = [] }
 
 -- it runs on the first object of its handler
-abbrev frame : Origin → Stage → Frame
+abbrev pub frame : Origin → Stage → Frame
 frame o how = record {
   current = first_of 0;
   routine = routine;
@@ -72,21 +86,21 @@ frame o how = record {
 }
 
 -- a call of the first object of the handler by another one
-abbrev request : ℕ → ℕ → Bool → Request
+abbrev pub request : ℕ → ℕ → Bool → Request
 request p h is_waited =
     record { poster = Some p; target = first_of h; errand = Calls []; actuals = []; is_waited = is_waited; passed = None }
 
 -- one of a list of one
-first : {A : Type 0} (x : A) → Contains (x ∷ []) x
+pub first : {A : Type 0} (x : A) → Contains (x ∷ []) x
 first x = (0, omega arith, refl)
 
-none-of-none : {A : Type 0} (x : A) → Contains [] x → ⊥
+pub none-of-none : {A : Type 0} (x : A) → Contains [] x → ⊥
 none-of-none x is = omega (arith, is.1)
 
-apart : true ≡ false → ⊥
+pub apart : true ≡ false → ⊥
 apart e = cc
 
-none-is-some : {A : Type 0} {x : A} → None ≡ Some x → ⊥
+pub none-is-some : {A : Type 0} {x : A} → None ≡ Some x → ⊥
 none-is-some e = cc
 
 -- ---- failures that are excluded
@@ -277,45 +291,125 @@ pub has_two : (most : ℕ) (s : System) →
 has_two most s h =
     apart (h.replies_meet_none 0 1 (frame (Requested (request 1 0 true)) Runs) [] (request 1 0 true) refl refl refl refl refl refl refl refl)
 
--- ---- turns
+-- A handler that isn't there yet has a request.
+pub begins_early : (most : ℕ) (s : System) →
+    HasHeadline most s (record { count = 1; handlers = λ k. record new_handler { queue = request 0 1 false ∷ [] }; rights = unreserved }) → ⊥
+begins_early most s h =
+    let none : request 0 1 false ∷ [] ≡ [] = (h.beyond_is_unused 1 (omega arith)).queue_is in cc
 
--- the origin of the topmost frame
-abbrev origin_in : Origin → List Frame → Origin
-origin_in o [] = o
-origin_in o (f ∷ fs) = f.origin
+-- ---- types of the text
 
--- A handler without frames takes the first of its queue, which stays in it.
-pub stays_queued : (s : System) (w : World) (h : ℕ) (r : Request) →
-    FramesMove s w h (record new_handler { queue = r ∷ [] })
-    (record new_handler { queue = r ∷ []; stack = frame (Requested r) Runs ∷ [] }) → ⊥
-stays_queued s w h r (stay same) = cc
-stays_queued s w h r (go_on before after comes) = cc
-stays_queued s w h r (call before after comes begins) = cc
-stays_queued s w h r (return c v before origin after) = cc
-stays_queued s w h r (end q before origin after) = cc
-stays_queued s w h r (take_next q none queue taken) =
-    let long : 1 ≡ 2 = ap length queue in
-    omega (arith, long)
-stays_queued s w h r (take_callback q callback gone taken) = cc
-stays_queued s w h r (fall none fails) = cc
+-- the one frame of a handler, which knows this
+abbrev knows : List Binding → Handler
+knows bs = record new_handler { stack = record (frame (Called Unqualified) Runs) { environment = bs } ∷ [] }
 
--- The request that is taken begins a frame of another one.
-pub begins_anothers : (s : System) (w : World) (h : ℕ) →
-    FramesMove s w h (record new_handler { queue = request 1 0 true ∷ [] })
-    (record new_handler { stack = frame (Requested (request 1 0 false)) Runs ∷ [] }) → ⊥
-begins_anothers s w h (stay same) = cc
-begins_anothers s w h (go_on before after comes) = cc
-begins_anothers s w h (call before after comes begins) = cc
-begins_anothers s w h (return c v before origin after) = cc
-begins_anothers s w h (end q before origin after) = cc
-begins_anothers s w h (take_next q none queue (inl done)) = cc
-begins_anothers s w h (take_next q none queue (inr begun)) =
-    let is : Requested (request 1 0 false) ≡ Requested q =
-    ap (λ fs. origin_in (Called Unqualified) fs) begun.1 ∙ begun.2.origin_is in
-    cc
-begins_anothers s w h (take_callback q callback gone taken) = cc
-begins_anothers s w h (fall none fails) = cc
+-- A frame has a formal that its routine hasn't.
+abbrev formal : Binding
+formal = bind [] (type_of tag.Own) role.Formal Void
 
--- A frame that has its body alone before it doesn't begin: the precondition comes first.
-pub skips_all : (o : Origin) → Begins o (record (frame o Runs) { tasks = [] }) → ⊥
-skips_all o begins = cc
+pub has_a_formal_more : (most : ℕ) (s : System) → HasHeadline most s (alone (knows (formal ∷ []))) → ⊥
+has_a_formal_more most s h =
+    let f : Frame = record (frame (Called Unqualified) Runs) { environment = formal ∷ [] } in
+    let k : KnowsItsText s f = h.frames_know_their_texts 0 f (omega arith) (first f) in
+    let is : IsBehindFormals s routine (known_of formal) = k.others_are (known_of formal) (subst (λ n. Contains n (known_of formal)) k.names_are (first (known_of formal))) in
+    apart is.is_no_formal
+
+-- It has a local that its routine doesn't declare.
+abbrev local : Binding
+local = bind [] (type_of tag.Own) role.Local Void
+
+pub has_a_local_more : (most : ℕ) (s : System) → HasHeadline most s (alone (knows (local ∷ []))) → ⊥
+has_a_local_more most s h =
+    let f : Frame = record (frame (Called Unqualified) Runs) { environment = local ∷ [] } in
+    let k : KnowsItsText s f = h.frames_know_their_texts 0 f (omega arith) (first f) in
+    let is : IsBehindFormals s routine (known_of local) = k.others_are (known_of local) (subst (λ n. Contains n (known_of local)) k.names_are (first (known_of local))) in
+    none-of-none (known_of local) (is.local_is_declared refl)
+
+-- It carries for a local another type than the text gives it.
+abbrev declares : Declaration → Routine
+declares d = record routine { locals = d ∷ [] }
+
+abbrev with_local : Declaration → EntityType → Frame
+with_local d u = record (frame (Called Unqualified) Runs) { routine = declares d; environment = bind d.name.text u role.Local Void ∷ [] }
+
+one-type : {x y : Option EntityType} (t u : EntityType) → x ≡ Some t → y ≡ Some u → x ≡ y → t ≡ u
+one-type t u e i same = cc
+
+pub local_is_of_another_type : (most : ℕ) (s : System) (d : Declaration) (t u : EntityType) → declared_type s [] d.declared_type ≡ Some t → (t ≡ u → ⊥) →
+    HasHeadline most s (alone (record new_handler { stack = with_local d u ∷ [] })) → ⊥
+local_is_of_another_type most s d t u is differ h =
+    let f : Frame = with_local d u in
+    let k : KnowsItsText s f = h.frames_know_their_texts 0 f (omega arith) (first f) in
+    let e : Entity = entity d.name.text (Some u) role.Local in
+    let known : IsBehindFormals s (declares d) e = k.others_are e (subst (λ n. Contains n e) k.names_are (first e)) in
+    only (known.local_is_declared refl)
+  where
+    only : Contains (locals_known s [] (d ∷ [])) (entity d.name.text (Some u) role.Local) → ⊥
+    only (zero, l, same) = differ (one-type t u is refl (ap (λ (e : Entity). e.type) same))
+    only (suc i, l, same) = omega (arith, l)
+
+-- What is left of a frame prints a value that isn't there.
+abbrev prints : Frame
+prints = record (frame (Called Unqualified) Runs) { tasks = Print ∷ [] }
+
+untyped : (s : System) (pure : RoutineName → Bool) {k : Known} → Agrees (point_of prints []) [] k → IsTyped s pure routine (Print ∷ []) k → ⊥
+untyped s pure point.here d = elim d [ ]
+untyped s pure (point.held none values scope) d = cc
+untyped s pure (point.denied none values scope) d = cc
+
+pub prints_nothing : (most : ℕ) (s : System) → HasHeadline most s (alone (record new_handler { stack = prints ∷ [] })) → ⊥
+prints_nothing most s h =
+    let z : IsTypedByRules s (alone (record new_handler { stack = prints ∷ [] })) 0 prints = h.frames_are_typed 0 prints (omega arith) (first prints) in
+    untyped s z.pure z.agrees z.is_typed
+
+-- ---- settled objects
+
+-- A class whose invariant is False, and a system of it alone.
+abbrev pub falsity : Span → Clause
+falsity q = record { tag = None; condition = tree.Boolean q false }
+
+abbrev pub broken : Span → Class
+broken q = record {
+  span = q;
+  mark = None;
+  name = record { text = 98 ∷ []; span = q };
+  parents = [];
+  creators = [];
+  features = [];
+  invariant = falsity q ∷ [];
+}
+
+abbrev of_broken : Span → System
+of_broken q = record { classes = broken q ∷ [] }
+
+unmet : (q : Span) → MeetsInvariant (of_broken q) (object_of 0 []) → ⊥
+unmet q meets = let is : Some false ≡ Some true = meets 0 (formula.Constant false) (omega arith) in cc
+
+-- A settled object is of that class.
+pub is_settled_unmet : (most : ℕ) (q : Span) → HasHeadline most (of_broken q) (alone (record new_handler { objects = object_of 0 [] ∷ [] })) → ⊥
+is_settled_unmet most q h =
+    unmet q (h.settled_objects_meet 0 1 (object_of 0 []) (omega arith) (record { stands = refl; at_rest = All-nil (λ (f : Frame). f.current.number ≡ 1 → ⊥) }) refl)
+
+-- ---- bodies that start
+
+-- A frame stands behind its precondition, and is about to start, but a clause of it is False.
+abbrev starting : Span → Frame
+starting q = record (frame (Called Unqualified) Runs) { routine = record routine { require = falsity q ∷ [] }; tasks = Require [] ∷ [] }
+
+no-further : (s : System) (w : World) (n : ℕ) → after n s w (Comes (Boolean false)) ≡ Comes (Boolean true) → ⊥
+no-further s w zero e = cc
+no-further s w (suc n) e = no-further s w n e
+
+never-true : (s : System) (w : World) (q : Span) (n : ℕ) → after n s w (begun w (starting q) (falsity q)) ≡ Comes (Boolean true) → ⊥
+never-true s w q zero e = cc
+never-true s w q (suc zero) e = cc
+never-true s w q (suc (suc n)) e = no-further s w n e
+
+pub starts_where_false : (most : ℕ) (s : System) (q : Span) → HasHeadline most s (alone (record new_handler { stack = starting q ∷ [] })) → ⊥
+starts_where_false most s q h =
+    let w : World = alone (record new_handler { stack = starting q ∷ [] }) in
+    let p : Point = record (point_of (starting q) []) { tasks = [] } in
+    let holds : Holds s (turn most s 0 w) (frame_at (starting q) p) (falsity q) =
+    h.bodies_start_where_clauses_hold 0 (starting q) [] p (record { is_there = omega arith; lives = refl; stack_is = refl; runs = refl; starts = refl })
+    (falsity q) (first (falsity q)) in
+    never-true s (turn most s 0 w) q holds.steps holds.is_true

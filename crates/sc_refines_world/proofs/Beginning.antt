@@ -17,6 +17,9 @@ use Rattle.sc_model.specs.Runs.{IsReached}
 use Rattle.sc_model.specs.Steps.{Act, Creates, CreatesHandler, Does, Enters, Exits, Fails, Leaves, Opens, Point, Prints, Refuses, Requests, Starts, Tests}
 use Rattle.sc_model.specs.Tasks.{Task}
 use Rattle.sc_model.specs.Turns.{turn_with}
+use Rattle.sc_machine_rights.proofs.links.Reached.{reached_linked}
+use Rattle.sc_machine_rights.proofs.links.SoundTurns.{stack_fits}
+use Rattle.sc_machine_rights.proofs.links.Turning as rights
 use Rattle.sc_machine_values.specs.Fitting.{FrameFits, WorldFits, coming_to}
 use Rattle.sc_machine_values.specs.Points.{Each, PointFits}
 use Rattle.sc_machine_values.specs.Steps.{IsThereIfOwn, StandsSo, ValuesDo}
@@ -28,8 +31,8 @@ use Rattle.sc_refines_core.proofs.Clausal.{clauses_call_pure}
 use Rattle.sc_refines_core.proofs.Unstarted.{each_stands}
 use Rattle.sc_machine_requests.proofs.Turned as kept
 use Rattle.sc_machine_preconditions.specs.Starting.{IsVerdict}
-use Rattle.sc_refines_world.specs.Moving.{FramesMove, TurnsMoveRequests}
-use Rattle.sc_refines_world.proofs.Moving.{is_plain, turn_moves}
+use Rattle.sc_refines_world.specs.Moving.{FramesMove, TurnsMoveRequests, is_plain}
+use Rattle.sc_refines_world.proofs.Moving.{AsksAnother, turn_moves}
 use Rattle.sc_refines_world.proofs.Reaching.{reached_fits}
 
 -- where a clause of a precondition is left a routine has not started
@@ -74,14 +77,14 @@ module _ (s : System) (root : Root) (pure : RoutineName → Bool) (faultless : I
       (values_there s pure w h f frame (fits h here).objects_fit))
       (record { types = y.types; text_is = y.text_is; names_are = y.names_are; left = y.left; values = y.values })
 
-  starting : (a : Act) (p : Point) → moves s f.current (point_of f (w.handlers h).objects) ≡ Does a p → is_plain most s h w f below at a ≡ true → HasStarted p.tasks →
+  starting : (a : Act) (p : Point) → moves s f.current (point_of f (w.handlers h).objects) ≡ Does a p → is_plain a ≡ true → HasStarted p.tasks →
       HasStarted f.tasks ⊎ ((p : Point) × IsVerdict s w h f below p)
   starting a p move plain z = by was
     where
       verdict : moves s f.current (point_of f (w.handlers h).objects) ≡ Does Starts p → HasStarted f.tasks ⊎ ((p : Point) × IsVerdict s w h f below p)
       verdict e = inr (p, record { is_there = here; lives = lives; stack_is = at; runs = runs; starts = e })
 
-      of_act : (a : Act) → moves s f.current (point_of f (w.handlers h).objects) ≡ Does a p → is_plain most s h w f below at a ≡ true →
+      of_act : (a : Act) → moves s f.current (point_of f (w.handlers h).objects) ≡ Does a p → is_plain a ≡ true →
           ClauseAct s pure f.routine.contract (formals_known s f.routine.text.formals) a p → HasStarted f.tasks ⊎ ((p : Point) × IsVerdict s w h f below p)
       of_act Starts e plain i = verdict e
       of_act (Enters c o x us t) e plain i = absurd (unstarted i.1.2.left z)
@@ -100,11 +103,21 @@ module _ (s : System) (root : Root) (pure : RoutineName → Bool) (faultless : I
       by (inl i) = inl i
       by (inr y) = of_act a move plain (subst (ClauseStep s pure f.routine.contract (formals_known s f.routine.text.formals)) move (in_clauses y))
 
+-- whoever is asked is another handler
+asks_another : (s : System) (root : Root) (most : ℕ) (w : World) → IsReached most s root w → (h : ℕ) → h < w.count → (f : Frame) (below : List Frame) →
+    (w.handlers h).stack ≡ f ∷ below → f.stage ≡ Runs → AsksAnother s w h f
+asks_another s root most w reached h here f below at runs r x us t b p move =
+    let top : rights.FrameFits s h w f f.stage = subst (rights.StackFits s h w) at (stack_fits s h w (reached_linked most s root w reached).sound here) in
+    let run : rights.StepFits h f (moves s f.current (point_of f (w.handlers h).objects)) = subst (rights.FrameFits s h w f) runs top in
+    let act : rights.StepFits h f (Does (Requests r x us t b) p) = subst (rights.StepFits h f) move run in
+    λ same. act.0 (sym same)
+
 pub reached_turns_move : (s : System) (root : Root) → IsFaultless s root → WellFormed s → (most : ℕ) (w : World) → IsReached most s root w → TurnsMoveRequests most s w
 reached_turns_move s root faultless well most w reached h here =
     let p = purity_stands s in (
       subst (λ (b : Bool). FramesMove s w h (w.handlers h) ((if b then turn_with most s h (w.handlers h).failure (w.handlers h).stack w else w).handlers h)) (sym (lt-ltb h w.count here))
-          (turn_moves most s h w (λ f below lives at runs. starting s root p.0 faultless well p.1 most w reached h here f below lives at runs)
+          (turn_moves most s h w here
+          (λ f below lives at runs. (starting s root p.0 faultless well p.1 most w reached h here f below lives at runs, asks_another s root most w reached h here f below at runs))
           (w.handlers h).failure refl (w.handlers h).stack refl),
       kept.own_queue_shrinks most s root w reached h,
       λ k there other. kept.others_stay most s w h k there other,

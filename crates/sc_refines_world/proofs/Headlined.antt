@@ -4,11 +4,15 @@ use Rattle.sc_machine_rights.proofs.Posting.{posted_under_right}
 use Rattle.sc_machine_rights.proofs.links.Held.{reached_formals_are_held, reached_names_are_held}
 use Rattle.sc_machine_rights.proofs.links.Reached.{reached_stands}
 use Rattle.sc_machine_values.proofs.Awaiting.{each_non_separate_is_own, each_value_fits}
+use Rattle.sc_machine_requests.proofs.Tops.{beyond_is_unused}
+use Rattle.sc_machine_requests.proofs.Turned.{answers_come}
 use Rattle.sc_machine_preconditions.proofs.Starts.{bodies_start_where_they_hold}
 use Rattle.sc_machine_invariants.specs.Reached.{SettledMeetWhereReached}
 use Rattle.sc_refines_world.specs.Refining.{MachineHasHeadline}
 use Rattle.sc_refines_world.proofs.Beginning.{reached_turns_move}
 use Rattle.sc_refines_world.proofs.Belonging.{reached_frames_run_on_own, reached_no_turn_is_excluded, reached_objects_are_of_classes, reached_references_lead, reached_requests_stand_at_targets}
+use Rattle.sc_refines_world.proofs.Creating.{created_begin}
+use Rattle.sc_refines_world.proofs.Knowing.{reached_frames_are_typed, reached_frames_know}
 use Rattle.sc_refines_world.proofs.Waiting.{reached_waiters_have_requests}
 
 pub machine_has_headline : SettledMeetWhereReached → MachineHasHeadline
@@ -17,6 +21,9 @@ machine_has_headline settled s root faultless well most w is =
     record {
       posts_under_right = λ h k r. posted_under_right most s h w k r;
       turns_move_requests = reached_turns_move s root faultless well most w is;
+      turns_answer = λ g k there other. answers_come most s w g k there other;
+      created_begin_with_one = created_begin most s w;
+      beyond_is_unused = λ k beyond. beyond_is_unused most s root w is k beyond;
       waiters_have_requests = reached_waiters_have_requests most s root w is;
       reserved_are_held = machine_reserved_are_held t.0 w t.1 t.2;
       formals_are_held = reached_formals_are_held most s root w is;
@@ -31,6 +38,8 @@ machine_has_headline settled s root faultless well most w is =
       references_lead = reached_references_lead s root faultless well most w is;
       frames_run_on_own = reached_frames_run_on_own s root faultless well most w is;
       requests_stand_at_targets = reached_requests_stand_at_targets s root faultless well most w is;
+      frames_know_their_texts = reached_frames_know s root faultless well most w is;
+      frames_are_typed = reached_frames_are_typed s root faultless well most w is;
       values_fit = each_value_fits s root faultless well most w is;
       non_separate_is_own = each_non_separate_is_own s root faultless well most w is;
       settled_objects_meet = settled s root faultless well most w is;

@@ -23,6 +23,9 @@ mod Belonging
 mod Exact
 mod Molds
 mod Moving
+mod Creating
+mod Scopes
+mod Knowing
 mod Acted
 mod Frames
 mod Growing
@@ -30,4 +33,6 @@ mod Turned
 mod Waiting
 mod Worlds
 mod OneRun
-mod BadStates
+pub mod BadStates
+mod BadTurns
+mod Worked

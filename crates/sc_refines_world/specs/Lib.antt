@@ -1,5 +1,6 @@
 pub mod Standing
 pub mod Belonging
+pub mod Texts
 pub mod Moving
 pub mod Refining
 pub mod Functional

@@ -1,24 +1,70 @@
 -- How frames and requests come and go in a turn, and what those have that wait.
-use Rattle.std.specs.Prelude.{◌≡◌, ◌≢◌, ◌⊎◌, ◌<◌, ℕ, true, List, [], ◌∷◌, Option, None, Some, Contains, is_some}
-use Rattle.sc_tree.specs.Plain.{System}
+use Rattle.std.specs.Option.{option_map}
+use Rattle.std.specs.Prelude.{◌≡◌, ◌≢◌, ◌⊎◌, ◌<◌, ◌≤◌, ℕ, Bool, true, false, List, [], ◌∷◌, Option, None, Some, Contains, is_some}
+use Rattle.sc_tree.specs.Plain.{Attribute, Clause, DeclaredType, System}
+use Rattle.sc_class.specs.Tables.Features.{DeclaredFeature}
+use Rattle.sc_proctype.specs.declared.entity_type.EntityType.{EntityType}
+use Rattle.sc_waitcond.specs.declared.condition.Verdict.TheVariants as verdict
+use Rattle.sc_model.specs.Environments.{formals_bound}
 use Rattle.sc_model.specs.Exits.{handed}
 use Rattle.sc_model.specs.Failures.{requests_at}
-use Rattle.sc_model.specs.Handlers.{Called, Failed, Frame, Handler, Origin, Request, Requested, World}
-use Rattle.sc_model.specs.Steps.{Calling, Point}
+use Rattle.sc_model.specs.Handlers.{Called, Calls, Failed, Frame, Handler, Makes, Origin, Request, Requested, World, frame_at, point_of}
+use Rattle.sc_model.specs.Moves.{moves}
+use Rattle.sc_model.specs.Preconditions.{verdict_on}
+use Rattle.sc_model.specs.Routines.{routine_named, version_of}
+use Rattle.sc_model.specs.Steps.{Act, Calling, CreatesHandler, Does, Enters, Exits, Fails, Point, Refuses}
 use Rattle.sc_model.specs.Tasks.{tasks_of}
 use Rattle.sc_model.specs.Turns.{turn}
-use Rattle.sc_model.specs.Values.{Value}
+use Rattle.sc_model.specs.Values.{Operand, Reference, Value, values_of}
 use Rattle.sc_machine_rights.specs.Headline.{AwaitsAnswer}
+use Rattle.sc_machine_values.specs.Places.{called_name}
 use Rattle.sc_refines_core.specs.Entries.{HasStarted}
 use Rattle.sc_machine_requests.specs.Laws.{OwnQueueMoves, Stays}
 use Rattle.sc_machine_preconditions.specs.Starting.{IsVerdict}
 
 -- ---- frames
 
+-- In its handler's turn the frame does this, and is at this point then.
+abbrev pub Acts : System → World → ℕ → Frame → Act → Point → Type 0
+Acts s w h f a p = moves s f.current (point_of f (w.handlers h).objects) ≡ Does a p
+
+-- what ends neither the routine nor its precondition
+abbrev pub is_plain : Act → Bool
+is_plain (Refuses k) = false
+is_plain (Fails why) = false
+is_plain Exits = false
+is_plain other = true
+
 -- The frame begins so: all of its routine is left to do, the precondition first.
 pub record Begins (o : Origin) (f : Frame) : Type 0 where
   pub origin_is : f.origin ≡ o
   pub tasks_are : f.tasks ≡ tasks_of f.routine
+
+-- It runs the routine of this name on this object, with these actuals.
+pub record IsEntered (s : System) (r : Reference) (x : List ℕ) (vs : List Value) (f : Frame) : Type 0 where
+  pub current_is : f.current ≡ r
+  pub is_version : routine_named s r.class x ≡ Some f.routine
+  pub has_actuals : formals_bound s f.routine.text.formals 0 f.routine.text.formals vs ≡ Some f.environment
+
+-- The frame calls the other one, which begins.
+pub record IsCall (s : System) (w : World) (h : ℕ) (f : Frame) (c : Calling) (called : Frame) : Type 0 where
+  pub object : Reference
+  pub name : List ℕ
+  pub actuals : List Operand
+  pub gives : Option EntityType
+  pub point : Point
+  pub does : Acts s w h f (Enters c object name actuals gives) point
+  pub begins : Begins (Called c) called
+  pub is_entered : IsEntered s object name (values_of actuals) called
+
+-- What is left to do in a frame that goes on, and its names: what its move comes to; what it was, where it reserved or was
+-- answered; or, where a wait condition was false, all of its routine again.
+pub data GoesOn (s : System) (w : World) (h : ℕ) (f g : Frame) : Type 0 where
+  stood : g.text ≡ f.text → g.environment ≡ f.environment → g.tasks ≡ f.tasks → GoesOn s w h f g
+  moved : {a : Act} {p : Point} → Acts s w h f a p → is_plain a ≡ true → g.text ≡ p.text → g.environment ≡ p.environment →
+      g.tasks ≡ p.tasks → GoesOn s w h f g
+  again : {k : Clause} {p : Point} → Acts s w h f (Refuses k) p → verdict_on (frame_at f p) k ≡ verdict.Wait → g.text ≡ p.text →
+      g.environment ≡ p.environment → g.tasks ≡ tasks_of f.routine → GoesOn s w h f g
 
 -- In a turn of the handler its topmost frame, which stands on these, comes to this one: the same call of the same routine on
 -- the same object. Where it has a precondition its body starts by the verdict on that, and in no other way.
@@ -26,37 +72,106 @@ pub record ComesTo (s : System) (w : World) (h : ℕ) (f : Frame) (below : List 
   pub current_stays : g.current ≡ f.current
   pub routine_stays : g.routine ≡ f.routine
   pub origin_stays : g.origin ≡ f.origin
+  pub goes_on : GoesOn s w h f g
   pub starts_by_verdict : (f.routine.require ≡ [] → ⊥) → HasStarted g.tasks →
       HasStarted f.tasks ⊎ ((p : Point) × IsVerdict s w h f below p)
 
--- The request that is taken is done at once, or begins a frame on these, of which it is the origin.
-abbrev pub IsTaken : Request → List Frame → List Frame → Type 0
-IsTaken r below stack = (stack ≡ below) ⊎ ((f : Frame) × (stack ≡ f ∷ below) × Begins (Requested r) f)
+-- ---- requests that are taken
 
--- How the frames of a handler change in its turn: they stay; the topmost goes on, or calls; it ends, and what a call gave comes
--- to the frame below; the handler takes the first request of its queue where it has no frames, or its callback, which then no
--- longer stands there; or the handler fails.
+-- The request asks for no routine: it makes an object without a procedure, or calls an attribute.
+pub data AsksForNone (s : System) (r : Request) : Type 0 where
+  object : r.errand ≡ Makes None → AsksForNone s r
+  attribute : {x : List ℕ} {f : DeclaredFeature} {d : DeclaredType} → r.errand ≡ Calls x →
+      version_of s r.target.class x ≡ Some f → f.feature.kind ≡ Attribute d → AsksForNone s r
+
+-- The request that is taken is done at once, where it asks for no routine; or it begins a frame on these, of which it is the
+-- origin, of what it calls on its target with its actuals.
+pub data IsTaken (s : System) (r : Request) (below stack : List Frame) : Type 0 where
+  done : AsksForNone s r → stack ≡ below → IsTaken s r below stack
+  begun : {f : Frame} {x : List ℕ} → stack ≡ f ∷ below → Begins (Requested r) f → called_name r.errand ≡ Some x →
+      IsEntered s r.target x r.actuals f → IsTaken s r below stack
+
+-- ---- a turn
+
+-- what waits to be taken stays, and so does whether the handler has failed
+pub record RequestsStay (x y : Handler) : Type 0 where
+  pub queue_stays : y.queue ≡ x.queue
+  pub callback_stays : y.callback ≡ x.callback
+  pub failure_stays : y.failure ≡ x.failure
+
+-- The handler fails: nothing is left of what it ran and of what stood at it.
+pub record Falls (x y : Handler) : Type 0 where
+  pub stood : x.failure ≡ None
+  pub has_failed : is_some y.failure ≡ true
+  pub stack_is : y.stack ≡ []
+  pub queue_is : y.queue ≡ []
+  pub callback_is : y.callback ≡ None
+
+-- what a routine at the point gives
+abbrev pub given_at : Point → Option Value
+given_at p = option_map (λ (u : Operand). u.value) p.result
+
+-- How the frames and the requests of a handler change in its turn. The frames stay; the topmost goes on, or calls; it ends, and
+-- what a call gave comes to the frame below, or the precondition of what was requested is refused. Or the handler takes the first
+-- request of its queue where it has no frames, or its callback, which then no longer stands there. Or it fails. Nothing else
+-- drops a request.
 pub data FramesMove (s : System) (w : World) (h : ℕ) (x y : Handler) : Type 0 where
-  stay : y.stack ≡ x.stack → FramesMove s w h x y
+  stay : y.stack ≡ x.stack → RequestsStay x y → FramesMove s w h x y
   go_on : {f g : Frame} {below : List Frame} → x.stack ≡ f ∷ below → y.stack ≡ g ∷ below → ComesTo s w h f below g →
-      FramesMove s w h x y
+      RequestsStay x y → FramesMove s w h x y
   call : {f g called : Frame} {below : List Frame} {c : Calling} → x.stack ≡ f ∷ below → y.stack ≡ called ∷ g ∷ below →
-      ComesTo s w h f below g → Begins (Called c) called → FramesMove s w h x y
-  return : {f : Frame} {below : List Frame} (c : Calling) (v : Option Value) → x.stack ≡ f ∷ below → f.origin ≡ Called c →
-      y.stack ≡ handed v below → FramesMove s w h x y
-  end : {f : Frame} {below : List Frame} (r : Request) → x.stack ≡ f ∷ below → f.origin ≡ Requested r → y.stack ≡ below →
-      FramesMove s w h x y
-  take_next : (r : Request) → x.stack ≡ [] → x.queue ≡ r ∷ y.queue → IsTaken r [] y.stack → FramesMove s w h x y
-  take_callback : (r : Request) → x.callback ≡ Some r → y.callback ≡ None → IsTaken r x.stack y.stack → FramesMove s w h x y
-  fall : y.stack ≡ [] → is_some y.failure ≡ true → FramesMove s w h x y
+      ComesTo s w h f below g → IsCall s w h f c called → RequestsStay x y → FramesMove s w h x y
+  return : {f : Frame} {below : List Frame} {c : Calling} {p : Point} → x.stack ≡ f ∷ below → f.origin ≡ Called c →
+      Acts s w h f Exits p → y.stack ≡ handed (given_at p) below → RequestsStay x y → FramesMove s w h x y
+  end : {f : Frame} {below : List Frame} {r : Request} {p : Point} → x.stack ≡ f ∷ below → f.origin ≡ Requested r →
+      Acts s w h f Exits p → y.stack ≡ below → RequestsStay x y → FramesMove s w h x y
+  refuse : {f : Frame} {below : List Frame} {r : Request} {k : Clause} {p : Point} → x.stack ≡ f ∷ below →
+      f.origin ≡ Requested r → Acts s w h f (Refuses k) p → verdict_on (frame_at f p) k ≡ verdict.Refuse → y.stack ≡ below →
+      RequestsStay x y → FramesMove s w h x y
+  take_next : {r : Request} → x.stack ≡ [] → x.queue ≡ r ∷ y.queue → y.callback ≡ x.callback → y.failure ≡ x.failure →
+      IsTaken s r [] y.stack → FramesMove s w h x y
+  take_callback : {r : Request} → x.callback ≡ Some r → y.callback ≡ None → y.queue ≡ x.queue → y.failure ≡ x.failure →
+      IsTaken s r x.stack y.stack → FramesMove s w h x y
+  fall : Falls x y → FramesMove s w h x y
 
 -- In each turn the frames and the queue of its handler change so. Each other handler keeps what it has, but that the handler of
--- the turn may post to it, behind the last of its queue or as its callback, under a right that it has.
+-- the turn may have posted to it.
 abbrev pub TurnsMoveRequests : ℕ → System → World → Type 0
 TurnsMoveRequests most s w = (h : ℕ) → h < w.count →
     FramesMove s w h (w.handlers h) ((turn most s h w).handlers h)
     × OwnQueueMoves (w.handlers h) ((turn most s h w).handlers h)
     × ((k : ℕ) → k < w.count → k ≢ h → Stays w h k ((turn most s h w).handlers k))
+
+-- ---- handlers that are created
+
+-- Where h creates the handler k in its turn, k has nothing but the request for its first object, of what its creator asks for.
+pub record BeginsWithOne (s : System) (w : World) (h k : ℕ) (y : Handler) : Type 0 where
+  pub creator : Frame
+  pub below : List Frame
+  pub stack_was : (w.handlers h).stack ≡ creator ∷ below
+  pub class : ℕ
+  pub procedure : Option (List ℕ)
+  pub actuals : List Operand
+  pub type : EntityType
+  pub passes : Bool
+  pub point : Point
+  pub does : Acts s w h creator (CreatesHandler class procedure actuals type passes) point
+  pub request : Request
+  pub poster_is : request.poster ≡ Some h
+  pub target_is : request.target ≡ record { handler = k; number = 1; class = class }
+  pub errand_is : request.errand ≡ Makes procedure
+  pub actuals_are : request.actuals ≡ values_of actuals
+  pub is_waited_if_lent : request.is_waited ≡ passes
+  pub queue_is : y.queue ≡ request ∷ []
+  pub callback_is : y.callback ≡ None
+  pub stack_is : y.stack ≡ []
+  pub objects_are : y.objects ≡ []
+  pub failure_is : y.failure ≡ None
+
+-- A turn creates one handler at most, which begins so.
+abbrev pub CreatedBeginWithOne : ℕ → System → World → Type 0
+CreatedBeginWithOne most s w = (h k : ℕ) → w.count ≤ k → k < (turn most s h w).count →
+    (k ≡ w.count) × BeginsWithOne s w h k ((turn most s h w).handlers k)
 
 -- ---- who waits
 

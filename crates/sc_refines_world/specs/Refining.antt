@@ -1,6 +1,6 @@
 -- What is said of each world that turns lead to, from the opening of the program of an accepted system on.
 use Rattle.std.specs.List.{range_with_len}
-use Rattle.std.specs.Prelude.{◌≡◌, ◌⊎◌, ◌≤◌, ◌+◌, ◌++◌, ℕ, suc, Bool, true, false, List, [], ◌∷◌, Option, Some, None, Contains, drop, length, map, slice_get, take}
+use Rattle.std.specs.Prelude.{◌≡◌, ◌≢◌, ◌⊎◌, ◌<◌, ◌≤◌, ◌+◌, ◌++◌, ℕ, suc, Bool, true, false, List, [], ◌∷◌, Option, Some, None, Contains, drop, length, map, slice_get, take}
 use Rattle.sc_tree.specs.Plain.{System}
 use Rattle.sc_proctype.specs.declared.entity_type.EntityType.{EntityType}
 use Rattle.sc_proctype.specs.declared.tag.Reserved.{Reserved}
@@ -27,6 +27,7 @@ use Rattle.sc_request.specs.Logs.{Center, next, pick_for, picked, settles}
 use Rattle.sc_request.specs.Settling.{goes_on}
 use Rattle.sc_machine_rights.specs.Formals.{FormalsAreHeld, NamesAreHeld}
 use Rattle.sc_machine_rights.specs.Headline.{CallbacksComeFirst, ChainsHold, OnlyWaitersAreTold, RepliesMeetNone, ReservedAreHeld, TargetsAreKept, WaitersAreTold}
+use Rattle.sc_machine_requests.specs.Laws.{AnswerComes, IsUnused}
 use Rattle.sc_machine_values.specs.Places.{StandsAs}
 use Rattle.sc_machine_values.specs.Values.{WhereAccepted}
 use Rattle.sc_machine_preconditions.specs.Starting.{StartsWhereTheyHold}
@@ -36,24 +37,36 @@ use Rattle.sc_play.specs.Regions.{PlainRegion}
 use Rattle.sc_world.specs.Turning.{Attempt, Attempts, IsRefusedTurn, IsTurn, Runs, StopsBehind, made_by}
 use Rattle.sc_world.specs.Worlds.{PlainWorld, opened}
 use Rattle.sc_refines_world.specs.Belonging.{FramesRunOnOwn, NoTurnIsExcluded, ObjectsAreOfClasses, ReferencesLead, RequestsStandAtTargets}
-use Rattle.sc_refines_world.specs.Moving.{TurnsMoveRequests, WaitersHaveRequests}
+use Rattle.sc_refines_world.specs.Moving.{CreatedBeginWithOne, TurnsMoveRequests, WaitersHaveRequests}
 use Rattle.sc_refines_world.specs.Standing.{IsRegionFor, StandsFor, StandsNear}
+use Rattle.sc_refines_world.specs.Texts.{FramesAreTyped, FramesKnowTheirTexts}
 
 -- ---- the state that a world stands for
 
--- A request that comes to stand at a handler in a turn was posted by the handler of the turn, which held it then, or created
--- it in this turn.
-abbrev pub PostsUnderRight : ℕ → System → World → Type 0
-PostsUnderRight most s w = (h k : ℕ) (r : Request) → Contains (requests_at ((turn most s h w).handlers k)) r →
+-- From the first state to the second one in a turn of h: a request that comes to stand at a handler was posted by h, which held
+-- that one then, or created it in this turn.
+abbrev pub ComeUnderRight : ℕ → World → World → Type 0
+ComeUnderRight h w v = (k : ℕ) (r : Request) → Contains (requests_at (v.handlers k)) r →
     Contains (requests_at (w.handlers k)) r ⊎ ((r.poster ≡ Some h) × ((held w.rights h k ≡ true) ⊎ (k ≡ w.count)))
 
--- What the headline claims of a state, where there may be so many handlers: what is posted under which right, how frames and
--- requests come and go, who holds and waits for whom, whose is what stands there, which values stand where, that settled objects
--- meet their class invariants, that in the next turn a body starts only where the clauses of its precondition hold, and that
--- none of the failures that are excluded comes.
+-- So they do in each turn.
+abbrev pub PostsUnderRight : ℕ → System → World → Type 0
+PostsUnderRight most s w = (h : ℕ) → ComeUnderRight h w (turn most s h w)
+
+-- In a turn of g each other handler is answered by the end of what it waits for there, or told of a failure.
+abbrev pub TurnsAnswer : ℕ → System → World → Type 0
+TurnsAnswer most s w = (g k : ℕ) → k < w.count → k ≢ g → AnswerComes s w g k (turn most s g w)
+
+-- What the headline claims of a state, where there may be so many handlers: what is posted under which right, how frames,
+-- requests and answers come and go, how handlers begin, who holds and waits for whom, whose is what stands there, that names and
+-- operands are of the types of the text, which values stand where, that settled objects meet their class invariants, that in the
+-- next turn a body starts only where the clauses of its precondition hold, and that none of the failures that are excluded comes.
 pub record HasHeadline (most : ℕ) (s : System) (w : World) : Type 0 where
   pub posts_under_right : PostsUnderRight most s w
   pub turns_move_requests : TurnsMoveRequests most s w
+  pub turns_answer : TurnsAnswer most s w
+  pub created_begin_with_one : CreatedBeginWithOne most s w
+  pub beyond_is_unused : (k : ℕ) → w.count ≤ k → IsUnused w k
   pub waiters_have_requests : WaitersHaveRequests w
   pub reserved_are_held : ReservedAreHeld w
   pub formals_are_held : FormalsAreHeld w
@@ -68,6 +81,8 @@ pub record HasHeadline (most : ℕ) (s : System) (w : World) : Type 0 where
   pub references_lead : ReferencesLead s w
   pub frames_run_on_own : FramesRunOnOwn s w
   pub requests_stand_at_targets : RequestsStandAtTargets s w
+  pub frames_know_their_texts : FramesKnowTheirTexts s w
+  pub frames_are_typed : FramesAreTyped s w
   pub values_fit : (h : ℕ) (of : Reserved → Option ℕ) (v : Value) (t : EntityType) (may_be_unset : Bool) →
       StandsAs s w h of v t may_be_unset → Fits s h of v t ⊎ ((may_be_unset ≡ true) × IsUnset v t)
   pub non_separate_is_own :

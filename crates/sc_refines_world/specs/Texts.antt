@@ -1,0 +1,41 @@
+-- That what a frame knows and has is of the types that the text gives it.
+use Rattle.std.specs.Prelude.{◌≡◌, ◌++◌, ◌<◌, ℕ, Bool, true, false, Contains}
+use Rattle.sc_tree.specs.Plain.{System}
+use Rattle.sc_rules.specs.Names.{Entities, Entity, RoutineName, formals_known, is_local, locals_known}
+use Rattle.sc_rules.specs.Purity.{IsPurity}
+use Rattle.sc_model.specs.Environments.{is_formal, scope_of}
+use Rattle.sc_model.specs.Handlers.{Frame, World, point_of}
+use Rattle.sc_model.specs.Routines.{Routine}
+use Rattle.sc_machine_values.specs.Fitting.{coming_to}
+use Rattle.sc_machine_values.specs.Points.{Agrees}
+use Rattle.sc_machine_values.specs.Typed.{IsTyped, Known}
+
+-- ---- names
+
+-- The name is no formal; if it is a local, it is one that the routine declares, of the type that the text gives it.
+pub record IsBehindFormals (s : System) (r : Routine) (e : Entity) : Type 0 where
+  pub is_no_formal : is_formal e.role ≡ false
+  pub local_is_declared : is_local e.role ≡ true → Contains (locals_known s r.text.formals r.locals) e
+
+-- The frame knows the formals of its routine, in order, of the types that the text gives them, and others behind them.
+pub record KnowsItsText (s : System) (f : Frame) : Type 0 where
+  pub others : Entities
+  pub names_are : scope_of f.environment ≡ formals_known s f.routine.text.formals ++ others
+  pub others_are : (e : Entity) → Contains others e → IsBehindFormals s f.routine e
+
+abbrev pub FramesKnowTheirTexts : System → World → Type 0
+FramesKnowTheirTexts s w = (h : ℕ) (f : Frame) → h < w.count → Contains (w.handlers h).stack f → KnowsItsText s f
+
+-- ---- operands
+
+-- What is left to do in the frame is typed by the rules, where the names, the operands, the values that were kept for `old` and
+-- the value that it waits for are of these types.
+pub record IsTypedByRules (s : System) (w : World) (h : ℕ) (f : Frame) : Type 0 where
+  pub pure : RoutineName → Bool
+  pub is_purity : IsPurity s pure
+  pub known : Known
+  pub agrees : Agrees (point_of f (w.handlers h).objects) (coming_to f.stage) known
+  pub is_typed : IsTyped s pure f.routine f.tasks known
+
+abbrev pub FramesAreTyped : System → World → Type 0
+FramesAreTyped s w = (h : ℕ) (f : Frame) → h < w.count → Contains (w.handlers h).stack f → IsTypedByRules s w h f
