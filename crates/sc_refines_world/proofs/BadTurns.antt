@@ -1,14 +1,13 @@
 -- Turns of which the headline doesn't hold, each for one of its parts: whatever the system is, that part refuses the second state
 -- behind the first one.
-use Rattle.std.proofs.Common.{ℕ, ◌≡◌, ◌≢◌, ◌⊎◌, inl, inr, Bool, true, false, List, [], ◌∷◌, Option, Some, None, length, refl, ap, sym, ◌∙◌, arith}
-use Rattle.std.specs.Prelude.{Contains, is_some}
+use Rattle.std.proofs.Common.{ℕ, ◌≡◌, ◌⊎◌, inl, inr, true, false, List, [], ◌∷◌, Option, Some, None, length, ap, sym, ◌∙◌, arith}
+use Rattle.std.specs.Prelude.{Contains}
 use Rattle.sc_text.specs.declared.token.Span.{Span}
-use Rattle.sc_tree.specs.Plain.{Clause, System}
+use Rattle.sc_tree.specs.Plain.{System}
 use Rattle.sc_lockpass.specs.Rights.{Rights, held, unreserved}
 use Rattle.sc_model.specs.declared.cause.Cause.TheVariants as cause
-use Rattle.sc_model.specs.Environments.{Binding}
 use Rattle.sc_model.specs.Failures.{requests_at}
-use Rattle.sc_model.specs.Handlers.{Called, Calls, Errand, Frame, Handler, Makes, Origin, Reply, Request, Requested, Reserves, Runs, World, new_handler}
+use Rattle.sc_model.specs.Handlers.{Called, Calls, Errand, Frame, Makes, Origin, Reply, Request, Requested, Reserves, Runs, World, new_handler}
 use Rattle.sc_model.specs.Routines.{Routine}
 use Rattle.sc_model.specs.Steps.{Point, Unqualified}
 use Rattle.sc_model.specs.Tasks.{Require}

@@ -1,5 +1,5 @@
 -- A turn creates one handler at most, which begins with the request for its first object alone.
-use Rattle.std.proofs.Common.{ℕ, ◌≡◌, ◌≢◌, ◌<◌, ◌≤◌, ◌+◌, ◌==◌, ◌&&◌, ◌||◌, not, Bool, true, false, List, [], ◌∷◌, ◌++◌, Option, Some, None, refl, sym, ap, subst, ◌∙◌, arith}
+use Rattle.std.proofs.Common.{ℕ, ◌≡◌, ◌<◌, ◌≤◌, ◌+◌, ◌==◌, ◌&&◌, ◌||◌, not, Bool, true, false, List, [], ◌∷◌, ◌++◌, Option, Some, None, refl, sym, ap, subst, ◌∙◌, arith}
 use Rattle.std.proofs.lemmas.Bool.{eq-eqb, ltb-true}
 use Rattle.std.specs.Prelude.{if◌then◌else◌, is_some, length, nat_lt}
 use Rattle.std.specs.Option.{option_map}
@@ -17,7 +17,7 @@ use Rattle.sc_waitcond.specs.declared.session.Release.TheVariants as release_at
 use Rattle.sc_model.specs.declared.cause.Cause.{Cause}
 use Rattle.sc_model.specs.declared.cause.Cause.TheVariants as cause
 use Rattle.sc_model.specs.Answers.{answer_to, finish, return_rights}
-use Rattle.sc_model.specs.Asking.{asks, awaits_if, created, is_callback, passes, passes_or_releases, placed, posts_creation, request, request_by, send, with_handler}
+use Rattle.sc_model.specs.Asking.{awaits_if, created, is_callback, passes, passes_or_releases, placed, request, request_by, send, with_handler}
 use Rattle.sc_model.specs.Entries.{block_needs, enters, enters_bound, entry_needs, may_reserve, reserves_if}
 use Rattle.sc_model.specs.Environments.{Binding, binding_named, formals_bound}
 use Rattle.sc_model.specs.Exits.{exits, is_unset, is_unset_value, is_untested, leaves_block, leaves_to}
@@ -27,12 +27,12 @@ use Rattle.sc_model.specs.Invariants.{meets_invariant}
 use Rattle.sc_model.specs.Limits.{max_frames, max_queue}
 use Rattle.sc_model.specs.Moves.{moves}
 use Rattle.sc_model.specs.Objects.{Object, fresh_object, object_numbered}
-use Rattle.sc_model.specs.Preconditions.{correctness_fails, counted_refusal, false_clause, is_creation, object_meets, refuses, verdict_on}
+use Rattle.sc_model.specs.Preconditions.{correctness_fails, counted_refusal, false_clause, is_creation, object_meets, verdict_on}
 use Rattle.sc_model.specs.Routines.{Routine, routine_named, routine_of, version_of}
 use Rattle.sc_model.specs.Sessions.{release, session_ended, standing_in}
 use Rattle.sc_model.specs.Steps.{Act, Creates, CreatesHandler, Does, Enters, Exits, Fails, Goes, Leaves, Opens, Point, Prints, Refuses, Requests, Starts, Step, Tests}
-use Rattle.sc_model.specs.Takes.{released_if, replies, takes, takes_answer, takes_creation, takes_errand, takes_kind, takes_next, takes_version}
-use Rattle.sc_model.specs.Turns.{effect, goes_on, settles, turn, turn_with, waits}
+use Rattle.sc_model.specs.Takes.{replies, takes_answer, takes_creation, takes_errand, takes_kind, takes_next, takes_version}
+use Rattle.sc_model.specs.Turns.{effect, goes_on, settles, turn_with, waits}
 use Rattle.sc_model.specs.Values.{Attached, Operand, Reference, Value, operand, values_of}
 use Rattle.sc_machine_rights.proofs.links.Standing.{m_put-off, m_put-own}
 use Rattle.sc_refines_world.specs.Moving.{Acts, BeginsWithOne, CreatedBeginWithOne}

@@ -1,9 +1,9 @@
 -- In each state that an accepted system reaches, each frame knows the formals and locals of its routine, of the types that the text
 -- gives them, and what is left to do in it is typed by the rules.
-use Rattle.std.proofs.Common.{ℕ, ◌≡◌, ◌≢◌, ◌⊎◌, ◌<◌, ◌≤◌, ◌++◌, Bool, true, false, List, [], ◌∷◌, Option, Some, None, refl, sym, ap, subst, ◌∙◌, inl, inr, arith}
+use Rattle.std.proofs.Common.{ℕ, ◌≡◌, ◌≢◌, ◌⊎◌, ◌<◌, ◌≤◌, Bool, true, false, List, [], ◌∷◌, Option, Some, None, sym, subst, inl, inr}
 use Rattle.std.proofs.lemmas.Bool.{cases_eq, cases_lt}
 use Rattle.std.specs.Option.{option_map_or}
-use Rattle.std.specs.Prelude.{Contains, if◌then◌else◌, nat_lt}
+use Rattle.std.specs.Prelude.{if◌then◌else◌, nat_lt}
 use Rattle.sc_tree.specs.Plain.{System}
 use Rattle.sc_class.specs.ClassNames.{Root, number_of}
 use Rattle.sc_class.specs.Faults.ClassRules.{IsFaultless}
@@ -13,7 +13,6 @@ use Rattle.sc_rules.proofs.PurityStands.{purity_stands}
 use Rattle.sc_model.specs.Environments.{Binding}
 use Rattle.sc_model.specs.Exits.{handed, handed_as, handed_at}
 use Rattle.sc_model.specs.Handlers.{Awaits, Frame, Handler, InCall, Reserves, Request, ReservesBlock, Runs, Stage, World, new_handler, point_of}
-use Rattle.sc_model.specs.Moves.{moves}
 use Rattle.sc_model.specs.Routines.{Routine, Text}
 use Rattle.sc_model.specs.Runs.{IsReached, opening, root_request}
 use Rattle.sc_model.specs.Steps.{Act, Creates, CreatesHandler, Does, Enters, Exits, Fails, Leaves, Opens, Point, Prints, Refuses, Requests, Starts, Step, Tests}

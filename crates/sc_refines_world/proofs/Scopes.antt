@@ -28,7 +28,7 @@ use Rattle.sc_rules.specs.Names.{Entities, Entity, entity, block_type, blocks, f
 use Rattle.sc_model.specs.declared.cause.Cause.{Cause}
 use Rattle.sc_model.specs.declared.cause.Cause.TheVariants as cause
 use Rattle.sc_model.specs.Values.{Reference, Value, Integer, Boolean, Void, Attached, Operand, default_of}
-use Rattle.sc_model.specs.Environments.{Binding, assigned_to, bind, binding_named, block_bound, formals_bound, handler_named, is_formal, known_of, local_bound, locals_bound, name_bound, scope_of, with_binding}
+use Rattle.sc_model.specs.Environments.{Binding, assigned_to, bind, binding_named, block_bound, formals_bound, handler_named, is_formal, known_of, locals_bound, name_bound, scope_of, with_binding}
 use Rattle.sc_model.specs.Objects.{Object, object_numbered, attributes_of, fresh_object}
 use Rattle.sc_model.specs.Invariants.{meets_invariant}
 use Rattle.sc_model.specs.Operators.{arithmetic_of, comparison_of, connective_of, identity_of, is_short}
@@ -36,7 +36,7 @@ use Rattle.sc_model.specs.Routines.{Routine, Text, place_in, version_of}
 use Rattle.sc_model.specs.Olds.{olds_in, olds_of_clauses}
 use Rattle.sc_model.specs.Limits.{max_objects}
 use Rattle.sc_model.specs.Tasks.{Task, Do, In, Declare, Forget, Eval, ApplyUnary, EvalRight, ApplyBinary, Conclude, Bind, CallUnqualified, CallQualified, AssignTo, Print, Choose, Repeat, EndLoop, Checked, Require, Required, KeepOld, Ensured, CreateBy, Open, Leave, evals, head_evals, checks, requires, keeps_olds, ensures, tasks_of}
-use Rattle.sc_model.specs.Steps.{Act, Does, Fails, Goes, Point, Step, fails, gives, reads_as, reads_attribute, popped, forgets}
+use Rattle.sc_model.specs.Steps.{Does, Fails, Goes, Point, Step, fails, gives, reads_as, reads_attribute, popped, forgets}
 use Rattle.sc_model.specs.Calls.{given_by, passes_rights, enters_unqualified, calls_own, calls_unqualified, calls_kind, calls_version, requests, calls_object, calls_on, calls_qualified}
 use Rattle.sc_model.specs.Creations.{creates_object, creates_here, creates_at, creates_as, creates, assigned_at}
 use Rattle.sc_model.specs.ObjectTests.{is_tested, binds_if, binds}

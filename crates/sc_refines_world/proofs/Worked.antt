@@ -1,9 +1,9 @@
 -- States and turns, worked out, that have parts of the headline.
-use Rattle.std.proofs.Common.{ℕ, ◌≡◌, zero, suc, Bool, true, false, List, [], ◌∷◌, Option, Some, None, refl, ap, sym, ◌∙◌, arith}
+use Rattle.std.proofs.Common.{ℕ, ◌≡◌, zero, suc, true, false, [], ◌∷◌, Option, Some, None, refl, ap, sym, ◌∙◌, arith}
 use Rattle.std.specs.Option.{option_map}
 use Rattle.std.specs.Prelude.{Contains}
 use Rattle.sc_text.specs.declared.token.Span.{Span}
-use Rattle.sc_tree.specs.Plain.{Class, Declaration, System}
+use Rattle.sc_tree.specs.Plain.{Declaration, System}
 use Rattle.sc_proctype.specs.declared.entity_type.EntityType.{EntityType}
 use Rattle.sc_rules.specs.Names.{Entity, entity, reserved}
 use Rattle.sc_rules.specs.Types.{declared_type}
@@ -11,14 +11,13 @@ use Rattle.sc_rules.specs.declared.position.Role.TheVariants as role
 use Rattle.sc_model.specs.Environments.{bind, is_formal}
 use Rattle.sc_model.specs.Handlers.{Called, Frame, Makes, Request, Runs, World, new_handler}
 use Rattle.sc_model.specs.Objects.{fresh_object}
-use Rattle.sc_model.specs.Routines.{Text}
 use Rattle.sc_model.specs.Steps.{Unqualified}
 use Rattle.sc_model.specs.Turns.{turn}
 use Rattle.sc_model.specs.Values.{Value}
 use Rattle.sc_refines_world.specs.Moving as moving
 use Rattle.sc_refines_world.specs.Moving.{FramesMove, take_next}
 use Rattle.sc_refines_world.specs.Texts.{IsBehindFormals, KnowsItsText}
-use Rattle.sc_refines_world.proofs.BadStates.{alone, broken, frame, none-of-none, request, routine, text}
+use Rattle.sc_refines_world.proofs.BadStates.{alone, broken, frame, request, routine, text}
 
 -- ---- a request is done at once
 
