@@ -1,5 +1,5 @@
 -- What a search finds, or doesn't, beside the machine.
-use Rattle.std.proofs.Common.{◌≡◌, ℕ, List, [], ◌∷◌, Some, slice_get, sym, subst}
+use Rattle.std.proofs.Common.{◌≡◌, ◌⊎◌, ◌*◌, inl, inr, ℕ, List, [], ◌∷◌, Some, slice_get, sym, subst}
 use Rattle.sc_lockpass.specs.declared.version.Version.{Version}
 use Rattle.sc_code.specs.declared.program.Image.{Image}
 use Rattle.sc_world.specs.Kept.{PlainKept, kept}
@@ -11,8 +11,10 @@ use Rattle.sc_search.specs.declared.aims.Aim.{Aim}
 use Rattle.sc_search.specs.Aims.{IsMet}
 use Rattle.sc_search.specs.Closed.{IsClosed}
 use Rattle.sc_search.specs.Found.{turns_of}
+use Rattle.sc_search.specs.Limits.{AllMet, AllPlayed, AreMet, ArePlayed, GivesUp, Two, turns_a_state}
+use Rattle.sc_headline.specs.Exactly.{OneWorld}
 use Rattle.sc_headline.specs.Headline.{machine_after}
-use Rattle.sc_headline.specs.Searched.{FoundOrdersAreTheMachines, WholeSearchesFindAll}
+use Rattle.sc_headline.specs.Searched.{FoundOrdersAreTheMachines, SearchesGiveUpAtLimits, WholeSearchesFindAll}
 
 pub found : WorldRunsAsMachine → StandingWorldIsNear → WorldReportsAsMachine → FoundOrdersAreTheMachines
 found runs_as near tells text root program version lines aim loaded leads =
@@ -55,3 +57,14 @@ whole runs_as near tells text root program version aim states loaded closed =
           let told = tells s program w there.0 (near s program w there.0 stands) in
           there.2 (subst (IsMet aim) (sym told.1) met);
     }
+
+-- ---- where a search gives up
+
+-- turns lead to one world
+pub gives_up : OneWorld → SearchesGiveUpAtLimits
+gives_up one text root p v a limit loaded up = by up
+  where
+    by : GivesUp p v a limit → AreMet p v a limit ⊎ ArePlayed p v (turns_a_state * limit)
+    by (AllMet met) = inl met
+    by (AllPlayed played) = inr played
+    by (Two two) = absurd (two.differ (one text root p v two.order two.one two.other loaded two.leads_to_one two.leads_to_other))

@@ -1,5 +1,5 @@
 -- What is claimed of what a search of all orders of turns answers, from the bytes of a source text on.
-use Rattle.std.specs.Prelude.{ℕ, List, map}
+use Rattle.std.specs.Prelude.{◌⊎◌, ◌*◌, ℕ, List, map}
 use Rattle.std.specs.List.{range_with_len}
 use Rattle.sc_tree.specs.Plain.{System}
 use Rattle.sc_class.specs.ClassNames.{Root}
@@ -15,6 +15,7 @@ use Rattle.sc_search.specs.declared.aims.Aim.{Aim}
 use Rattle.sc_search.specs.Aims.{AreStuck, IsMet}
 use Rattle.sc_search.specs.Closed.{IsClosed}
 use Rattle.sc_search.specs.Found.{LeadsTo, turns_of}
+use Rattle.sc_search.specs.Limits.{AreMet, ArePlayed, GivesUp, turns_a_state}
 use Rattle.sc_headline.specs.Headline.{HasNoTurn, machine_after}
 
 -- how the handlers of the machine stand, in order of number
@@ -57,3 +58,13 @@ abbrev pub WholeSearchesFindAll : Type 0
 WholeSearchesFindAll =
     (text : List ℕ) (root : Root) (program : Image) (version : Version) (aim : Aim) (states : List PlainKept) →
     IsLoaded text root program → IsClosed program version aim states → NoOrderMeets text root version aim
+
+-- ---- where a search gives up
+
+-- A search of a text's program gives up only where it has met as many states as it may keep, or has played as many turns as go
+-- with them.
+abbrev pub SearchesGiveUpAtLimits : Type 0
+SearchesGiveUpAtLimits =
+    (text : List ℕ) (root : Root) (program : Image) (version : Version) (aim : Aim) (limit : ℕ) →
+    IsLoaded text root program → GivesUp program version aim limit →
+    AreMet program version aim limit ⊎ ArePlayed program version (turns_a_state * limit)

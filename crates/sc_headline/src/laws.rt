@@ -3,7 +3,7 @@ ghost use Rattle.sc_headline.specs.Audited.{AuditedWorldsHaveHeadline};
 ghost use Rattle.sc_headline.specs.Everywhere.{HasHeadlineAnyhow};
 ghost use Rattle.sc_headline.specs.Exactly.{AuditsAreExact, OneWorld, RunsAreAnsweredYes};
 ghost use Rattle.sc_headline.specs.Headline.{Headline, MachineHeadline, ReplaysAreTheMachines, RunsAreTheMachines};
-ghost use Rattle.sc_headline.specs.Searched.{FoundOrdersAreTheMachines, StuckHaveNoTurn, WholeSearchesFindAll};
+ghost use Rattle.sc_headline.specs.Searched.{FoundOrdersAreTheMachines, SearchesGiveUpAtLimits, StuckHaveNoTurn, WholeSearchesFindAll};
 ghost use Rattle.sc_headline.specs.ThreadsHeadline.{ThreadsHaveHeadline, ThreadsReportAsMachine};
 ghost use Rattle.sc_world.specs.Views.{world_of};
 
@@ -141,6 +141,14 @@ pub fn whole_searches_find_all()
     anew_runs_as_machine();
     standing_world_is_near();
     world_reports_as_machine();
+}
+
+/// For every source text that is accepted: where a search of its program gives up, it has met as many states as it may keep, or has
+/// played as many turns as go with them. No order has led it to two worlds.
+pub fn searches_give_up_at_limits()
+    ensures { SearchesGiveUpAtLimits }
+{
+    worlds_are_one();
 }
 
 /// Where the handlers of the machine are stuck, none has a turn.
