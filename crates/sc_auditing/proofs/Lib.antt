@@ -1,5 +1,5 @@
 mod Misfits
 mod Turns
-mod Agreeing
-mod Reporting
+mod SameWorlds
+mod SameReports
 mod Rows

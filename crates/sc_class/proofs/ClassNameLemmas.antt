@@ -12,7 +12,7 @@ use Rattle.sc_class.specs.Names.{is_listed, number_among}
 use Rattle.sc_class.specs.ClassNames.{is_built_in, class_names, RepeatedAt, built_in, repeated, further}
 use Rattle.sc_class.specs.Internal.Found.{FindsFirstPlace, first_place}
 use Rattle.sc_class.proofs.Anys.{at, seen, take_end}
-use Rattle.sc_class.proofs.Finding.{first_either}
+use Rattle.sc_class.proofs.SearchLemmas.{first_either}
 
 -- whether a name is one of those before it decides at which number it is found
 found_before : (x : List ℕ) (ns ms : List Name) (n : Name) → n.text ≡ x → (b : Bool) → is_listed x ns ≡ b → option_eq eqb (number_among x (ns ++ n ∷ ms)) (Some (length ns)) ≡ not b

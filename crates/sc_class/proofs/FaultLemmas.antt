@@ -15,7 +15,7 @@ use Rattle.sc_class.specs.Tables.Features.{redefined_by, redefined_names, not_re
 use Rattle.sc_class.specs.Faults.Scopes.{ClassClashes, in_features, in_routine, in_invariant, inherited_names, RoutineClashes, ClausesClash, feature_names}
 use Rattle.sc_class.specs.declared.faults.scopes.features.Part.TheVariants.{Inherited}
 use Rattle.sc_class.specs.Internal.ScopeSearch.{names_of_part, names_clash}
-use Rattle.sc_class.proofs.Finding.{first_same, first_either}
+use Rattle.sc_class.proofs.SearchLemmas.{first_same, first_either}
 use Rattle.sc_class.proofs.Items.{some_is, item_in}
 use Rattle.sc_class.proofs.ScopesFound.{names_found}
 

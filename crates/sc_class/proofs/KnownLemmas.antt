@@ -14,7 +14,7 @@ use Rattle.sc_class.specs.Faults.Scopes.{feature_names}
 use Rattle.sc_class.specs.View.{entry_of}
 use Rattle.sc_class.specs.Internal.KnownFeatures.{entries_of, class_of_first, declarer_known, declarer, place_of_name, place_known, place_in}
 use Rattle.sc_class.proofs.Items.{read_append, read_last}
-use Rattle.sc_class.proofs.Standing.{found_stands}
+use Rattle.sc_class.proofs.Declarers.{found_stands}
 
 -- ---- by number
 

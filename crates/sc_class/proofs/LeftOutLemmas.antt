@@ -11,7 +11,7 @@ use Rattle.sc_class.specs.declared.faults.left_out.Exclusion.{Exclusion}
 use Rattle.std.specs.Prelude.{Any, slice_get}
 use Rattle.sc_class.specs.Internal.Found.{FindsFirstExclusion, first_placed}
 use Rattle.sc_class.specs.Faults.LeftOut.{excluded, left_out_mark, is_plain_export, MarkLeftOut, mark, ParentLeftOut, second_parent, ExportLeftOut, export_list, ClassLeftOut, by_mark, by_parent, by_export}
-use Rattle.sc_class.proofs.Finding.{first_either}
+use Rattle.sc_class.proofs.SearchLemmas.{first_either}
 use Rattle.sc_class.proofs.Items.{some_is}
 
 pub marked_at : (c : Class) (m : ClassMark) (w : LeftOut) → c.mark ≡ Some m → w ≡ left_out_mark m → FindsFirstExclusion (MarkLeftOut c) (Some (excluded w c.name.span))

@@ -2,7 +2,7 @@ pub mod Places
 pub mod NameLemmas
 pub mod Anys
 pub mod Decisions
-pub mod Finding
+pub mod SearchLemmas
 pub mod ClassNameLemmas
 pub mod LeftOutLemmas
 pub mod Items
@@ -20,7 +20,7 @@ pub mod SizeLemmas
 pub mod Ancestry
 mod Reached
 pub mod Acyclic
-pub mod Standing
+pub mod Declarers
 pub mod Heirs
 pub mod Origins
 mod InheritedFeatures

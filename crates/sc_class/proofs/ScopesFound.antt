@@ -19,7 +19,7 @@ use Rattle.sc_tree.specs.Properties.{is_and_then}
 use Rattle.sc_class.specs.Internal.NameIndex.{place_among}
 use Rattle.sc_class.specs.Internal.ScopeSearch.{like_place, name_clash, names_clash, expr_clash, target_clash, exprs_clash, condition_clash, clauses_clash, values_clash, creation_clash, instr_clash, instrs_clash, branches_clash, kind_clash}
 use Rattle.sc_class.proofs.Anys.{any_none, any_first, any_later, any_split, any_left, any_right, any_parts}
-use Rattle.sc_class.proofs.Finding.{only_one, first_same, first_either}
+use Rattle.sc_class.proofs.SearchLemmas.{only_one, first_same, first_either}
 use Rattle.sc_class.proofs.Items.{some_is}
 
 -- of one thing or the other, what is found of both

@@ -42,7 +42,7 @@ use Rattle.sc_code.specs.Typed.{AreClauses, AreOlds, AreEnsured}
 use Rattle.sc_code.specs.Lowered.{IsTypedRoutine, RoutinesAreTyped, RoutinesStand, RoutinesFollow, run_of}
 use Rattle.sc_code.proofs.Codes.{type_is}
 use Rattle.sc_code.proofs.Beginning.{lowered_stands}
-use Rattle.sc_code.proofs.Following.{moves_follow}
+use Rattle.sc_code.proofs.Steps.{moves_follow}
 use Rattle.sc_code.proofs.TypingExpressions.{Each, each_both, OldTyped, SomeType, OldsKept, ResultKept, olds_typed, kept_left, kept_right, expression_typed, without_olds}
 use Rattle.sc_code.proofs.TypingInstructions.{is_somewhere, somewhere, lies_if_local, lies_somewhere, locals_lie, first_of, later_of, instructions_typed}
 use Rattle.sc_code.proofs.TypingOrigins.{origin_is}

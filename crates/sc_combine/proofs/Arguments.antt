@@ -14,7 +14,7 @@ use Rattle.sc_proctype.specs.Tags.{tag_conforms}
 use Rattle.sc_proctype.specs.Conformance.{mark_conforms}
 use Rattle.sc_proctype.specs.Handlers.{LiesOn}
 use Rattle.sc_proctype.specs.Laws.{IsWithin}
-use Rattle.sc_proctype.proofs.Conforming.{tag_within, within_tag}
+use Rattle.sc_proctype.proofs.ConformanceLemmas.{tag_within, within_tag}
 use Rattle.sc_combine.specs.declared.known.Known.{Known}
 use Rattle.sc_combine.specs.declared.known.Known.TheVariants as known
 use Rattle.sc_combine.specs.Combiners.{known_of, known_tag, argument_tag}

@@ -6,7 +6,7 @@ use Rattle.sc_proctype.specs.declared.tag.Tag.{Tag}
 use Rattle.sc_proctype.specs.declared.tag.Tag.TheVariants as tag
 use Rattle.sc_proctype.specs.declared.entity_type.EntityType.{EntityType}
 use Rattle.sc_proctype.specs.Laws.{IsWithin}
-use Rattle.sc_proctype.proofs.Conforming.{tag_within, within_tag}
+use Rattle.sc_proctype.proofs.ConformanceLemmas.{tag_within, within_tag}
 use Rattle.sc_combine.specs.Combiners.{result_tag}
 use Rattle.sc_combine.specs.Calls.{IsResultTag}
 use Rattle.sc_combine.specs.Laws.{OwnResult, ExactResult}

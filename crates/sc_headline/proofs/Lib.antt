@@ -1,6 +1,6 @@
 mod Headed
 mod Threaded
 mod Exactness
-mod Searching
+mod SearchLaws
 mod Stuck
 mod Everywhere

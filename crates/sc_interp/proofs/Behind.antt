@@ -7,7 +7,7 @@ use Rattle.sc_region.specs.Frames.{PlainActivation}
 use Rattle.sc_interp.specs.Standing.{state_of, without}
 use Rattle.sc_region.specs.Calls.{next_place, past}
 use Rattle.sc_interp.specs.Values.{values_of}
-use Rattle.sc_interp.proofs.Popping.{values_drop}
+use Rattle.sc_interp.proofs.Operands.{values_drop}
 
 next_is : (place : ℕ) → place < 18446744073709551615 → place + 1 ≡ next_place place
 next_is place l = let e : place + 1 ≤ 18446744073709551615 = omega (arith, l) in sym (min-eq_left e)

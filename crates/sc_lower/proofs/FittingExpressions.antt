@@ -18,7 +18,7 @@ use Rattle.sc_class.specs.Faults.ClassRules.{IsFaultless, limit}
 use Rattle.sc_class.specs.Faults.Limits.{is_large, large_routine, many_classes, max_formals, max_locals, block_names_of, has_wide_block_in}
 use Rattle.sc_class.specs.Tables.Features.{DeclaredFeature, feature_named}
 use Rattle.sc_class.proofs.Items.{contains_at}
-use Rattle.sc_class.proofs.Standing.{found_stands}
+use Rattle.sc_class.proofs.Declarers.{found_stands}
 use Rattle.sc_proctype.specs.declared.entity_type.EntityType.{EntityType}
 use Rattle.sc_rules.specs.declared.position.Context.{Context}
 use Rattle.sc_rules.specs.declared.position.Position.{Position}

@@ -11,7 +11,7 @@ use Rattle.sc_code.specs.Operations as plain
 use Rattle.sc_lower.specs.Growing.{Extends}
 use Rattle.sc_code.specs.View.{Pool, named, call_of, creation_with, creation_of, operation_of, test_of}
 use Rattle.sc_lower.specs.Pools.{Grows}
-use Rattle.sc_lower.proofs.Growing.{extends_itself, extends_further}
+use Rattle.sc_lower.proofs.Growth.{extends_itself, extends_further}
 
 pub grows_not : (p : Pool) → Grows p p
 grows_not p = record {

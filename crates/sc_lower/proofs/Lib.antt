@@ -1,13 +1,13 @@
 pub mod Few
 pub mod Formulas
 pub mod FreshAttributes
-pub mod Growing
+pub mod Growth
 pub mod Kept
 pub mod NamedAttributes
 pub mod Ranges
 pub mod Views
 pub mod Origins
-pub mod Coding
+pub mod Codes
 pub mod InOrder
 pub mod Rooted
 pub mod SeparateSlots

@@ -16,7 +16,7 @@ use sc_routines::{UnlinkedCall, UnlinkedCreation, UnlinkedOperation};
 use std::alloc::AllocError;
 
 /// The number of a name.
-#[tactic(auto, using(crate::proofs::Growing::growing))]
+#[tactic(auto, using(crate::proofs::Growth::growing))]
 fn name<'s>(linker: &mut Linker<'s>, text: &'s str) -> Result<usize, AllocError>
     ensures found { IfOk result (λ number. slice_get (pool_in linker.new).names number ≡ Some text.now) }
     ensures grows { OnOk result (Grows (pool_in linker.old) (pool_in linker.new)) }
@@ -25,7 +25,7 @@ fn name<'s>(linker: &mut Linker<'s>, text: &'s str) -> Result<usize, AllocError>
 }
 
 /// The number of a new text.
-#[tactic(auto, using(crate::proofs::Growing::growing))]
+#[tactic(auto, using(crate::proofs::Growth::growing))]
 fn text(linker: &mut Linker<'_>, text: &str) -> Result<usize, AllocError>
     ensures found { IfOk result (λ number. slice_get (pool_in linker.new).texts number ≡ Some text.now) }
     ensures grows { OnOk result (Grows (pool_in linker.old) (pool_in linker.new)) }
@@ -35,7 +35,7 @@ fn text(linker: &mut Linker<'_>, text: &str) -> Result<usize, AllocError>
 }
 
 /// The number of a new call.
-#[tactic(auto, using(crate::proofs::Growing::growing))]
+#[tactic(auto, using(crate::proofs::Growth::growing))]
 fn call<'s>(linker: &mut Linker<'s>, call: &UnlinkedCall<'s>) -> Result<usize, AllocError>
     requires { call.now.count < 17 }
     ensures found { IfOk result (λ number. option_and_then (call_of (pool_in linker.new)) (slice_get (pool_in linker.new).calls number) ≡ Some (unlinked_call call.now)) }
@@ -53,7 +53,7 @@ fn call<'s>(linker: &mut Linker<'s>, call: &UnlinkedCall<'s>) -> Result<usize, A
 }
 
 /// The number of the name of a creation's procedure, if it has one.
-#[tactic(auto, using(crate::proofs::Growing::growing))]
+#[tactic(auto, using(crate::proofs::Growth::growing))]
 fn procedure<'s>(
     linker: &mut Linker<'s>,
     procedure: Option<&'s str>,
@@ -68,7 +68,7 @@ fn procedure<'s>(
 }
 
 /// The number of a new creation.
-#[tactic(auto, using(crate::proofs::Growing::growing))]
+#[tactic(auto, using(crate::proofs::Growth::growing))]
 fn creation<'s>(
     linker: &mut Linker<'s>,
     creation: &UnlinkedCreation<'s>,
@@ -89,7 +89,7 @@ fn creation<'s>(
 }
 
 /// The number of a new object test.
-#[tactic(auto, using(crate::proofs::Growing::growing))]
+#[tactic(auto, using(crate::proofs::Growth::growing))]
 fn object_test(
     linker: &mut Linker<'_>,
     tested: Option<TestedType>,
@@ -102,7 +102,7 @@ fn object_test(
 }
 
 /// The number of a new list of formals.
-#[tactic(auto, using(crate::proofs::Growing::growing))]
+#[tactic(auto, using(crate::proofs::Growth::growing))]
 fn demand(linker: &mut Linker<'_>, formals: &[usize]) -> Result<usize, AllocError>
     ensures found { IfOk result (λ number. slice_get (pool_in linker.new).demands number ≡ Some formals.now) }
     ensures grows { OnOk result (Grows (pool_in linker.old) (pool_in linker.new)) }
@@ -112,7 +112,7 @@ fn demand(linker: &mut Linker<'_>, formals: &[usize]) -> Result<usize, AllocErro
 }
 
 /// The number of a new separate block.
-#[tactic(auto, using(crate::proofs::Growing::growing))]
+#[tactic(auto, using(crate::proofs::Growth::growing))]
 fn block(linker: &mut Linker<'_>, first: usize, count: usize) -> Result<usize, AllocError>
     requires { count < 17 }
     ensures found { IfOk result (λ number. slice_get (pool_in linker.new).blocks number ≡ Some (record { first = first; count = count })) }
@@ -122,7 +122,7 @@ fn block(linker: &mut Linker<'_>, first: usize, count: usize) -> Result<usize, A
 }
 
 /// Links an operation.
-#[tactic(auto, using(crate::proofs::Growing::growing))]
+#[tactic(auto, using(crate::proofs::Growth::growing))]
 fn link<'s>(
     linker: &mut Linker<'s>,
     operation: &UnlinkedOperation<'s>,

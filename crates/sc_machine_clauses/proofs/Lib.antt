@@ -1,7 +1,7 @@
 pub mod Bodies
 pub mod Contracts
-pub mod Extending
-pub mod Holding
+pub mod Extensions
+pub mod TrueClauses
 pub mod Locally
 pub mod WithoutOld
 pub mod Stems

@@ -12,9 +12,9 @@ use Rattle.sc_model.specs.Steps.{Unqualified, Qualified, Creation}
 use Rattle.sc_model.specs.Values.{Value}
 use Rattle.sc_machine_values.specs.Points.{Each}
 use Rattle.sc_machine_values.proofs.Lists.{each_append}
-use Rattle.sc_machine_invariants.proofs.Meeting.{tested_meets}
+use Rattle.sc_machine_invariants.proofs.InvariantTests.{tested_meets}
 use Rattle.sc_machine_invariants.proofs.Modes.{IsWildAs, StandsAs, name_of}
-use Rattle.sc_machine_invariants.proofs.Moving.{Meets, same_or_not}
+use Rattle.sc_machine_invariants.proofs.Moves.{Meets, same_or_not}
 use Rattle.sc_machine_invariants.proofs.Numbered.{none_there, numbered_last, numbered_push}
 
 -- however the frame goes its object is tested: a routine that no request called is not refused, and a creation that is refused is tested

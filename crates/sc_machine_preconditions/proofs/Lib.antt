@@ -25,7 +25,7 @@ pub mod PointsKinds
 pub mod PointsPure
 pub mod PointsReached
 pub mod PointsSteps
-pub mod Reaching
+pub mod ReachedFrames
 pub mod Starts
-pub mod Unstarting
+pub mod StartedRoutines
 pub mod Verdicts

@@ -29,11 +29,11 @@ use Rattle.sc_machine_values.specs.Fitting as fitting
 use Rattle.sc_machine_values.specs.Points.{Each}
 use Rattle.sc_refines_core.specs.Calm.{name_of}
 use Rattle.sc_refines_core.specs.Clauses.{RunsPureIfRoutine}
-use Rattle.sc_refines_core.proofs.Linking.{one_further}
+use Rattle.sc_refines_core.proofs.FrameLinks.{one_further}
 use Rattle.sc_machine_clauses.specs.Evaluating.{Answers}
 use Rattle.sc_machine_clauses.specs.Laws.{AnswersLocally, EndsTrueLocally, ReachesLocally}
 use Rattle.sc_machine_requests.specs.Laws.{AnswerComes, AnswersCome, BeyondIsUnused, CallbackComes, CallbacksMeetWaiters, CalledBackWaits, EndsTheOne, IsUnlent, MayAnswer, OthersStay, OwnQueueMoves, OwnQueueShrinks, QueueComes, RightsStay, Stays, StandsOnce, TopAwaits}
-use Rattle.sc_machine_requests.proofs.Standing.{begun_on}
+use Rattle.sc_machine_requests.proofs.StandingRequests.{begun_on}
 use Rattle.sc_machine_preconditions.specs.Following.{FollowsPure, FrameFollows, IsCalledPure, IsPending, IsQuiet, Own, PureAt, RequestStands, StackFollows, WorldFollows, bound_in, clause_request, objects_of}
 use Rattle.sc_machine_preconditions.specs.Following as following
 use Rattle.sc_machine_preconditions.specs.Points.{EntryFollows, PureAnswers, PureMoves}

@@ -19,7 +19,7 @@ use Rattle.sc_machine_values.specs.Fitting.{FrameFits, WorldFits}
 use Rattle.sc_machine_values.specs.Points.{Each}
 use Rattle.sc_machine_rights.specs.Headline.{is_awaiting}
 use Rattle.sc_refines_core.specs.Entries.{HasStarted}
-use Rattle.sc_refines_core.proofs.Linking.{reached_fits}
+use Rattle.sc_refines_core.proofs.FrameLinks.{reached_fits}
 use Rattle.sc_machine_clauses.proofs.Locally.{answers_locally, ends_true_locally, reaches_locally}
 use Rattle.sc_machine_requests.proofs.Rights.{rights_stay}
 use Rattle.sc_machine_requests.proofs.Tops.{beyond_is_unused, callbacks_meet_waiters, called_back_waits}

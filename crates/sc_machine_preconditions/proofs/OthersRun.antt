@@ -25,9 +25,9 @@ use Rattle.sc_model.specs.Steps.{Calling, Act, Prints, Tests, Creates, CreatesHa
 use Rattle.sc_model.specs.Turns.{effect, settles}
 use Rattle.sc_model.specs.Values.{Reference, Value, Operand, values_of}
 use Rattle.sc_refines_core.specs.Calm.{name_of}
-use Rattle.sc_refines_core.proofs.Guarding.{pure_waits_not}
+use Rattle.sc_refines_core.proofs.Guards.{pure_waits_not}
 use Rattle.sc_machine_clauses.specs.Evaluating.{Answers}
-use Rattle.sc_machine_requests.proofs.Standing.{begun_on}
+use Rattle.sc_machine_requests.proofs.StandingRequests.{begun_on}
 use Rattle.sc_machine_preconditions.specs.Following.{Own, bound_in, clause_request, objects_of}
 use Rattle.sc_machine_preconditions.specs.Points.{HasRun, KeepsActuals, PureActs, PureAnswers, PureSteps}
 use Rattle.sc_machine_preconditions.proofs.OthersStack.{Ended, IsOf, OnStack, Parts, above, called_leaves, handed_stands, named_is_pure, parts, requested_ends, top_replaced}

@@ -33,9 +33,9 @@ use Rattle.sc_machine_rights.specs.Headline.{is_awaiting}
 use Rattle.sc_machine_rights.proofs.Machine.{contains_cases, contains_first, contains_later}
 use Rattle.sc_machine_rights.proofs.links.Reached.{reached_linked}
 use Rattle.sc_machine_rights.proofs.links.SoundTurns.{stack_fits}
-use Rattle.sc_machine_rights.proofs.links.Standing.{m_put-own}
-use Rattle.sc_machine_rights.proofs.links.Turning.{StackFits, StepFits}
-use Rattle.sc_machine_rights.proofs.links.Turning as turning
+use Rattle.sc_machine_rights.proofs.links.Looks.{m_put-own}
+use Rattle.sc_machine_rights.proofs.links.Turns.{StackFits, StepFits}
+use Rattle.sc_machine_rights.proofs.links.Turns as turning
 use Rattle.sc_machine_values.specs.Fitting.{AnswerFits, ReplyFits}
 use Rattle.sc_machine_values.proofs.Lists.{none_in}
 use Rattle.sc_refines_core.specs.Calm.{name_of}

@@ -6,7 +6,7 @@ use Rattle.sc_tree.specs.Plain.{System, Clause, FeatureKind}
 use Rattle.sc_class.specs.ClassNames.{Root}
 use Rattle.sc_class.specs.Faults.ClassRules.{IsFaultless}
 use Rattle.sc_class.specs.Tables.Features.{DeclaredFeature, named_among, declared_features}
-use Rattle.sc_class.proofs.Standing.{found_stands}
+use Rattle.sc_class.proofs.Declarers.{found_stands}
 use Rattle.sc_rules.specs.Names.{RoutineName}
 use Rattle.sc_rules.specs.Names as rules
 use Rattle.sc_rules.specs.Purity.{IsPurity}

@@ -16,10 +16,10 @@ use Rattle.sc_model.specs.Runs.{IsReached}
 use Rattle.sc_model.specs.Turns.{goes_on, turn_with, turn}
 use Rattle.sc_machine_values.specs.Fitting.{FrameFits, HandlerFits, Linked}
 use Rattle.sc_machine_values.specs.Points.{Each}
-use Rattle.sc_machine_values.proofs.Turning.{callbacks_stand_alone}
+use Rattle.sc_machine_values.proofs.Turns.{callbacks_stand_alone}
 use Rattle.sc_refines_core.specs.Calm.{name_of}
 use Rattle.sc_refines_core.specs.Entries.{HasStarted}
-use Rattle.sc_refines_core.proofs.Linking.{one_further, reached_fits}
+use Rattle.sc_refines_core.proofs.FrameLinks.{one_further, reached_fits}
 use Rattle.sc_machine_clauses.proofs.Locally.{answers_more, ends_true_more, reaches_more}
 use Rattle.sc_machine_clauses.proofs.WithoutTests.{texts_are_without_tests}
 use Rattle.sc_machine_requests.proofs.Turned.{count_grows}

@@ -14,7 +14,7 @@ use Rattle.sc_model.specs.Steps.{Act, Point}
 use Rattle.sc_model.specs.Tasks.{Task, Required}
 use Rattle.sc_model.specs.Values.{Reference, Operand}
 use Rattle.sc_machine_clauses.specs.Laws.{ReachesMore, EndsTrueMore}
-use Rattle.sc_machine_requests.proofs.Standing.{begun_on}
+use Rattle.sc_machine_requests.proofs.StandingRequests.{begun_on}
 use Rattle.sc_machine_preconditions.specs.Following.{behind_clause, clause_of, Hold, HasDone, ClauseDone, clause_request, RequestStands}
 use Rattle.sc_machine_preconditions.specs.Following as following
 use Rattle.sc_machine_preconditions.proofs.OthersWorlds.{as_callback, began_on, in_queue, on_stack_of}

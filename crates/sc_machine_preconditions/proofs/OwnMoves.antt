@@ -23,10 +23,10 @@ use Rattle.sc_model.specs.Failures.{fails_with}
 use Rattle.sc_model.specs.Entries.{entry, enters_bound, enters}
 use Rattle.sc_model.specs.Runs.{IsReached}
 use Rattle.sc_machine_rights.specs.Headline.{is_awaiting}
-use Rattle.sc_machine_rights.proofs.links.Standing.{m_put-own}
+use Rattle.sc_machine_rights.proofs.links.Looks.{m_put-own}
 use Rattle.sc_refines_core.specs.Clauses.{RunsPure}
 use Rattle.sc_refines_core.specs.Entries.{HasStarted, RefusesNone}
-use Rattle.sc_refines_core.proofs.Calming.{moves_calm}
+use Rattle.sc_refines_core.proofs.CalmSteps.{moves_calm}
 use Rattle.sc_machine_preconditions.specs.Following.{objects_of, MayAsk, bound_in, ClauseDone, IsFor, IsQuiet, IsCalledPure, IsLost, AboveIsPure, StandsByStage, InPrecondition, FrameFollows, StackFollows}
 use Rattle.sc_machine_preconditions.specs.Points.{ClauseSteps, ClauseMoves, GoesOn}
 use Rattle.sc_machine_preconditions.proofs.PointsEntries.{takes_bound}

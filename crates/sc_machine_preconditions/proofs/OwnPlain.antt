@@ -36,8 +36,8 @@ use Rattle.sc_model.specs.Turns.{effect, settles, waits, goes_on}
 use Rattle.sc_machine_rights.specs.Headline.{is_awaiting}
 use Rattle.sc_refines_core.specs.Calm.{name_of}
 use Rattle.sc_refines_core.specs.Entries.{HasStarted, RefusesNone}
-use Rattle.sc_machine_rights.proofs.links.Standing.{m_put-own}
-use Rattle.sc_refines_core.proofs.Calming.{moves_calm}
+use Rattle.sc_machine_rights.proofs.links.Looks.{m_put-own}
+use Rattle.sc_refines_core.proofs.CalmSteps.{moves_calm}
 use Rattle.sc_machine_preconditions.specs.Following.{AreBound}
 use Rattle.sc_machine_preconditions.proofs.OwnWorlds.{IsNoReply, IsLike, like_put, like_release, like_finish, like_passes, like_send, like_new, fallen_stack}
 use Rattle.sc_machine_preconditions.proofs.OwnKept.{IsPlain, AllPlain, plain_kept}

@@ -28,13 +28,13 @@ use Rattle.sc_model.specs.Exits.{is_unset_value, is_unset, is_untested, handed_a
 use Rattle.sc_model.specs.Turns.{effect, settles}
 use Rattle.sc_model.specs.Runs.{IsReached}
 use Rattle.sc_machine_rights.specs.Headline.{is_awaiting}
-use Rattle.sc_machine_rights.proofs.links.Standing.{m_put-own}
+use Rattle.sc_machine_rights.proofs.links.Looks.{m_put-own}
 use Rattle.sc_machine_values.specs.Fitting.{FrameFits, Linked}
 use Rattle.sc_machine_values.specs.Fitting as fitting
 use Rattle.sc_machine_values.specs.Points.{Each}
 use Rattle.sc_refines_core.specs.Calm.{name_of}
 use Rattle.sc_refines_core.specs.Entries.{HasStarted}
-use Rattle.sc_refines_core.proofs.Guarding.{pure_waits_not}
+use Rattle.sc_refines_core.proofs.Guards.{pure_waits_not}
 use Rattle.sc_machine_clauses.specs.Evaluating.{Answers}
 use Rattle.sc_machine_clauses.specs.Laws.{AnswersMore, TextsAreWithoutTests}
 use Rattle.sc_machine_preconditions.specs.Following.{objects_of, MayAsk, Own, AreBound, bound_in, PureAt, PureCalls, ClausesAt, IsFor, AboveIsFor, FollowsPure, is_called, IsCalledPure, IsLost, AboveIsPure, StandsByStage, InPrecondition, FrameFollows, StackFollows}

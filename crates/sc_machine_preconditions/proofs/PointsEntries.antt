@@ -21,7 +21,7 @@ use Rattle.sc_machine_invariants.proofs.Modes.{IsVersionOf, routine_found}
 use Rattle.sc_machine_invariants.proofs.Purely.{is_routine}
 use Rattle.sc_machine_clauses.specs.Evaluating.{Answers, routine, enters, requests}
 use Rattle.sc_machine_clauses.specs.Laws.{TextsAreWithoutTests}
-use Rattle.sc_machine_clauses.proofs.Holding.{given}
+use Rattle.sc_machine_clauses.proofs.TrueClauses.{given}
 use Rattle.sc_machine_preconditions.specs.Following.{AreBound, ClausesAt, ClauseDone, HasDone, IsAt, Own, PureAt, PureCalls, behind_clause, between_point, body_tasks, bound_in, start_of}
 use Rattle.sc_machine_preconditions.specs.Following as at
 use Rattle.sc_machine_preconditions.specs.Points.{ClauseGoesOn, ClauseGoesOnAnswered, EntryFollows, EntryIsBetween, PureAnswers, PureCallsMore, PureGoesOn}

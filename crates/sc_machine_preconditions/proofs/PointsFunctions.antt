@@ -8,7 +8,7 @@ use Rattle.sc_tree.specs.Plain as tree
 use Rattle.sc_tree.specs.Plain.{System, Declaration, DeclaredType, FeatureKind}
 use Rattle.sc_class.specs.Tables.Features.{DeclaredFeature, declared_features, named_among}
 use Rattle.sc_class.specs.Tables.Heirs.{StandsInText}
-use Rattle.sc_class.proofs.Standing.{found_stands}
+use Rattle.sc_class.proofs.Declarers.{found_stands}
 use Rattle.sc_proctype.specs.declared.entity_type.EntityType.{EntityType}
 use Rattle.sc_proctype.specs.declared.tag.Reserved.{Reserved}
 use Rattle.sc_rules.specs.Names.{RoutineName}

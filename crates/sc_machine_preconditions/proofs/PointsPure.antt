@@ -21,11 +21,11 @@ use Rattle.sc_model.specs.Values.{Reference, Operand}
 use Rattle.sc_machine_values.specs.Points.{Each, IsAmong}
 use Rattle.sc_machine_values.specs.Steps.{IsThereIfOwn, StandsSo, StepFits, ValuesDo}
 use Rattle.sc_machine_values.proofs.References.{Stays, StepStays, step_stays}
-use Rattle.sc_machine_values.proofs.Running.{is_run}
+use Rattle.sc_machine_values.proofs.Routines.{is_run}
 use Rattle.sc_machine_values.proofs.Steps.{step_fits}
 use Rattle.sc_machine_invariants.proofs.Modes.{RunsPure as IsLeftPure}
 use Rattle.sc_machine_invariants.proofs.Purely.{AssignsNone, CallsPure}
-use Rattle.sc_machine_invariants.proofs.Walking.{MayAssign, SteppedSo, moves_so}
+use Rattle.sc_machine_invariants.proofs.Steps.{MayAssign, SteppedSo, moves_so}
 use Rattle.sc_refines_core.specs.Calm.{CalmStep, name_of}
 use Rattle.sc_refines_core.proofs.Clausal.{own_values, still_there}
 use Rattle.sc_machine_clauses.specs.Evaluating.{Reaches, begins}

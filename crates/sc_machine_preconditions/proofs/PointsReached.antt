@@ -22,15 +22,15 @@ use Rattle.sc_machine_values.proofs.Frames.{store_fits, values_there}
 use Rattle.sc_refines_core.specs.Calm.{name_of}
 use Rattle.sc_refines_core.specs.Clauses.{HasStartedOrStands, StandsInClauses}
 use Rattle.sc_refines_core.specs.Entries.{HasStarted}
-use Rattle.sc_refines_core.proofs.Linking.{reached_fits}
+use Rattle.sc_refines_core.proofs.FrameLinks.{reached_fits}
 use Rattle.sc_refines_core.proofs.Purely.{each_pure_is_calm}
 use Rattle.sc_refines_core.proofs.Unstarted.{each_stands}
 use Rattle.sc_machine_invariants.proofs.Modes.{RunsPure, StandsAs}
 use Rattle.sc_machine_invariants.proofs.Stacks.{Stands}
-use Rattle.sc_machine_invariants.proofs.Reaching.{reached_good}
+use Rattle.sc_machine_invariants.proofs.ReachedStates.{reached_good}
 use Rattle.sc_machine_clauses.proofs.Bodies.{texts_are_without_old}
 use Rattle.sc_machine_clauses.proofs.Contracts.{step_of_contract}
-use Rattle.sc_machine_clauses.proofs.Extending.{step_extends}
+use Rattle.sc_machine_clauses.proofs.Extensions.{step_extends}
 use Rattle.sc_machine_clauses.proofs.WithoutOld.{step_keeps_no_old}
 use Rattle.sc_machine_clauses.proofs.WithoutTests.{texts_are_without_tests}
 use Rattle.sc_machine_preconditions.specs.Following.{ClausesAt, behind_clause, between_point, bound_in, objects_of}

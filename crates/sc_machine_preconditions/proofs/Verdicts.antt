@@ -20,18 +20,18 @@ use Rattle.sc_machine_values.specs.Fitting.{FrameFits}
 use Rattle.sc_machine_values.specs.Points.{Each}
 use Rattle.sc_machine_rights.specs.Headline.{is_awaiting}
 use Rattle.sc_machine_clauses.specs.Evaluating.{EndsTrue, clause_point}
-use Rattle.sc_machine_clauses.proofs.Holding.{ends_true_holds}
+use Rattle.sc_machine_clauses.proofs.TrueClauses.{ends_true_holds}
 use Rattle.sc_machine_clauses.proofs.Locally.{ends_true_locally}
 use Rattle.sc_refines_core.specs.Entries.{HasStarted}
-use Rattle.sc_refines_core.proofs.Linking.{reached_fits}
+use Rattle.sc_refines_core.proofs.FrameLinks.{reached_fits}
 use Rattle.sc_machine_requests.specs.Laws.{NewIsIdle}
 use Rattle.sc_machine_values.proofs.Lists.{each_in}
 use Rattle.sc_machine_preconditions.specs.Following.{AboveIsPure, FrameFollows, IsLost, Hold, InPrecondition, MayAsk, StackFollows, StandsByStage, bound_in, clause_of, objects_of}
 use Rattle.sc_machine_preconditions.specs.Points.{ClauseMoves, ClauseSteps, started_point}
 use Rattle.sc_machine_preconditions.specs.Starting.{BodiesStartWhereTheyHold, IsVerdict}
 use Rattle.sc_machine_preconditions.specs.Turns.{OwnFollows, OthersFollow}
-use Rattle.sc_machine_preconditions.proofs.Reaching.{reached_follows}
-use Rattle.sc_machine_preconditions.proofs.Unstarting.{starts_once}
+use Rattle.sc_machine_preconditions.proofs.ReachedFrames.{reached_follows}
+use Rattle.sc_machine_preconditions.proofs.StartedRoutines.{starts_once}
 use Rattle.sc_machine_preconditions.proofs.OwnMoves.{moved_in}
 
 not_awaiting : (stage : Stage) → stage ≡ Runs → is_awaiting stage ≡ true → ⊥

@@ -19,12 +19,12 @@ use Rattle.sc_machine_rights.specs.Stands.{NeedsOf, NamesOf, handlers_of, IsRout
 use Rattle.sc_machine_rights.specs.Headline.{has_reply, is_awaiting}
 use Rattle.sc_machine_rights.proofs.Rights.{put-same, not_some}
 use Rattle.sc_machine_rights.proofs.Waits.{true_false}
-use Rattle.sc_machine_rights.proofs.Ending.{lifo}
-use Rattle.sc_machine_rights.proofs.Returning.{grant_of, returns_granted}
+use Rattle.sc_machine_rights.proofs.AwaitedEnds.{lifo}
+use Rattle.sc_machine_rights.proofs.ReturningSteps.{grant_of, returns_granted}
 use Rattle.sc_machine_rights.proofs.LawProofs.{steps_are_lawful, reserved_while_it_runs}
 use Rattle.sc_machine_rights.proofs.Machine.{contains_none, contains_first, contains_later, contains_cases, machine_reserved_are_held}
 use Rattle.sc_machine_values.specs.Fitting.{MayEnd}
-use Rattle.sc_machine_requests.proofs.Standing.{pair_one, pair_is, standing, standing_one}
+use Rattle.sc_machine_requests.proofs.StandingRequests.{pair_one, pair_is, standing, standing_one}
 use Rattle.sc_machine_requests.proofs.Tops.{lives_there, queue_is, top_is, replies_same}
 use Rattle.sc_machine_requests.proofs.Unlent.{Ending, ending, paired_at, still_lives}
 

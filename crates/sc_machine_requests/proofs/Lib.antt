@@ -1,7 +1,7 @@
 pub mod Held
 pub mod Others
 pub mod Rights
-pub mod Standing
+pub mod StandingRequests
 pub mod Tops
 pub mod Turned
 pub mod Unlent

@@ -32,7 +32,7 @@ use Rattle.sc_model.specs.Entries.{entry, enters_bound, enters, reserves_if}
 use Rattle.sc_model.specs.Preconditions.{waits_again, is_creation, object_meets, counted_refusal, refuses, correctness_fails, false_clause}
 use Rattle.sc_model.specs.Exits.{is_unset_value, is_unset, is_untested, handed, handed_as, leaves_to, exits, leaves_block}
 use Rattle.sc_model.specs.Takes.{replies, takes_kind, takes_version, takes_creation, with_new_object, takes_errand, released_if, takes_answer}
-use Rattle.sc_machine_rights.proofs.links.Standing.{m_put-own, m_put-off}
+use Rattle.sc_machine_rights.proofs.links.Looks.{m_put-own, m_put-off}
 
 -- ---- handlers
 

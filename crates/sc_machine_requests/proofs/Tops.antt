@@ -14,7 +14,7 @@ use Rattle.sc_machine_rights.specs.Consistent as consistent
 use Rattle.sc_machine_rights.specs.Lawful.{IsLawful}
 use Rattle.sc_machine_rights.specs.Stands.{NeedsOf, NamesOf, IsRequest, AreRequests, IsCallback, answer_of, IsRoutine, AreBlocks, Place, place_of, Awaited, IsStaged, IsStack, Stands}
 use Rattle.sc_machine_rights.specs.Headline.{has_reply}
-use Rattle.sc_machine_rights.proofs.Asking.{holder_first}
+use Rattle.sc_machine_rights.proofs.Asks.{holder_first}
 use Rattle.sc_machine_rights.proofs.Rights.{not_some}
 use Rattle.sc_machine_rights.proofs.Waits.{true_false, some_wait}
 use Rattle.sc_machine_rights.proofs.links.Reached.{reached_stands}

@@ -15,18 +15,18 @@ use Rattle.sc_machine_rights.proofs.Rights.{put-same, put-other, not_some}
 use Rattle.sc_machine_rights.proofs.Waits.{true_false, no_wait, lower_passes, same_wait}
 use Rattle.sc_machine_rights.proofs.Shrinks.{at_each}
 use Rattle.sc_machine_rights.proofs.Turns.{taking_same, popping_less, popping_keeps, resumed_requests, requests_end, one_end}
-use Rattle.sc_machine_rights.proofs.Ending.{Ended, is_ended, ended_asks, passed_top_is_here}
+use Rattle.sc_machine_rights.proofs.AwaitedEnds.{Ended, is_ended, ended_asks, passed_top_is_here}
 use Rattle.sc_machine_rights.proofs.Replies.{Client, the_client}
-use Rattle.sc_machine_rights.proofs.Landing as landing
-use Rattle.sc_machine_rights.proofs.Beginning.{began, began_requests}
-use Rattle.sc_machine_rights.proofs.Asking.{plain_calls, passing_queue, passing_top, passing_calls}
-use Rattle.sc_machine_rights.proofs.Reserving.{relisted_asked}
-use Rattle.sc_machine_rights.proofs.Failing.{requests_same}
+use Rattle.sc_machine_rights.proofs.Arrivals as landing
+use Rattle.sc_machine_rights.proofs.Posters.{began, began_requests}
+use Rattle.sc_machine_rights.proofs.Asks.{plain_calls, passing_queue, passing_top, passing_calls}
+use Rattle.sc_machine_rights.proofs.Reservations.{relisted_asked}
+use Rattle.sc_machine_rights.proofs.FailureSteps.{requests_same}
 use Rattle.sc_machine_rights.proofs.ServingEnds.{heard_requests}
 use Rattle.sc_machine_rights.proofs.Failures.{fail-here, fail_kept, fail_told, fail_new, fail_why}
 use Rattle.sc_machine_rights.proofs.Chains.{chains_hold, none_reserves}
 use Rattle.sc_machine_rights.proofs.Opening.{opening_fine, empty, each}
-use Rattle.sc_machine_rights.proofs.Keeping.{fails_alike, finish_cases, consistent_kept, provided_kept, served_kept}
+use Rattle.sc_machine_rights.proofs.EveryStep.{fails_alike, finish_cases, consistent_kept, provided_kept, served_kept}
 use Rattle.sc_machine_rights.proofs.ReturningTurns.{posting_returns, taking_returns, calling_back_returns, entering_returns, popping_returns, answering_returns, reserving_returns, settling_returns, releasing_returns, exit_plain_returns, exit_passing_returns, exit_unheard_returns}
 use Rattle.sc_machine_rights.proofs.ReturningAsks.{arrived, asking_returns, asking_passing_returns, failing_returns}
 

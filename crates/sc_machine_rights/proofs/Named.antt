@@ -11,7 +11,7 @@ use Rattle.sc_machine_rights.specs.Served.{IsServed}
 use Rattle.sc_machine_rights.specs.Returns.{IsReturnable}
 use Rattle.sc_machine_rights.specs.Lawful.{IsLawful}
 use Rattle.sc_machine_rights.proofs.Simple.{trail_move}
-use Rattle.sc_machine_rights.proofs.Providing.{frames_same}
+use Rattle.sc_machine_rights.proofs.ProvidedFrames.{frames_same}
 
 abbrev pub named : Option Asked → World → World
 named a w = record w { asks = a }

@@ -10,7 +10,7 @@ use Rattle.sc_machine_rights.proofs.Forms.{fail_by_waits}
 use Rattle.sc_machine_rights.proofs.Rights.{not_some}
 use Rattle.sc_machine_rights.proofs.Waits.{some_wait}
 use Rattle.sc_machine_rights.proofs.Failures.{fail-here, fail_kept, stuck_from_on, LendsWell, IsKnown, fall_had, queue_known, top_known, nobody_well, lends_well}
-use Rattle.sc_machine_rights.proofs.Providing.{Maps, each_map, under_least, frames_same}
+use Rattle.sc_machine_rights.proofs.ProvidedFrames.{Maps, each_map, under_least, frames_same}
 use Rattle.sc_machine_rights.proofs.ProvidedTurns.{last_had}
 
 -- where the top frame waits for v, no bound that occurs is above v's number

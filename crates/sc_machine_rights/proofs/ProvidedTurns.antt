@@ -7,8 +7,8 @@ use Rattle.sc_machine_rights.specs.Provided.{lowest, Each, HadAlone, IsAssured, 
 use Rattle.sc_machine_rights.proofs.Waits.{true_false, waits_has, wait_of, top_newest}
 use Rattle.sc_machine_rights.proofs.Simple.{changed}
 use Rattle.sc_machine_rights.proofs.Turns.{posting_simple, taking_simple, calling_back_simple, entering_simple, popping_simple, answering_simple, not_stuck}
-use Rattle.sc_machine_rights.proofs.Landing.{Lands, CallsBack, landing_queue_simple, landing_callback_simple}
-use Rattle.sc_machine_rights.proofs.Providing.{Maps, frames_rise, falling_later, simple_frames, simple_provided}
+use Rattle.sc_machine_rights.proofs.Arrivals.{Lands, CallsBack, landing_queue_simple, landing_callback_simple}
+use Rattle.sc_machine_rights.proofs.ProvidedFrames.{Maps, frames_rise, falling_later, simple_frames, simple_provided}
 
 pub posting_provided : (h k : ℕ) (w : World) → (w.handlers k).failed ≡ false → IsConsistent w → IsProvided w
     → IsProvided (post h k w)

@@ -9,9 +9,9 @@ use Rattle.sc_machine_rights.proofs.Rights.{not_some, put-same, put-other}
 use Rattle.sc_machine_rights.proofs.Waits.{true_false, some_wait, waits_has, waits_stack, stack_has, lower_older, lower_passes, same_wait}
 use Rattle.sc_machine_rights.proofs.Shrinks.{CallbackAt, Shrinks, at_each, shrinking_keeps}
 use Rattle.sc_machine_rights.proofs.Simple.{trail_move, asks_later}
-use Rattle.sc_machine_rights.proofs.Failing.{lives_there}
+use Rattle.sc_machine_rights.proofs.FailureSteps.{lives_there}
 use Rattle.sc_machine_rights.proofs.Turns.{no_request, popping_keeps}
-use Rattle.sc_machine_rights.proofs.Ending.{Ended, is_ended, ended_asks, ended_away, number_of, passed_is_here, passed_top_is_here, first_newest, back_sub, back_has, back_had, first_came, back_gone, back_trail, back_based, after_back}
+use Rattle.sc_machine_rights.proofs.AwaitedEnds.{Ended, is_ended, ended_asks, ended_away, number_of, passed_is_here, passed_top_is_here, first_newest, back_sub, back_has, back_had, first_came, back_gone, back_trail, back_based, after_back}
 
 -- the poster waits for it
 pub record Client (h : ℕ) (r : Request) (u : World) : Type 0 where

@@ -13,13 +13,13 @@ use Rattle.sc_machine_rights.proofs.Waits.{true_false}
 use Rattle.sc_machine_rights.proofs.Shrinks.{at_each, grown_stuck_from}
 use Rattle.sc_machine_rights.proofs.Simple.{Simple, simple_shrinks}
 use Rattle.sc_machine_rights.proofs.Turns.{one_end, requests_end, not_numbered}
-use Rattle.sc_machine_rights.proofs.Ending.{number_of}
-use Rattle.sc_machine_rights.proofs.Landing.{Lands, CallsBack, landing_queue_simple, landing_callback_simple}
-use Rattle.sc_machine_rights.proofs.Beginning.{began, began_failed, began_requests, more_has, more_stuck}
-use Rattle.sc_machine_rights.proofs.Asking.{lands, plain_calls, plain_began, passing_queue, passing_top, by_top, passing_calls, passing_began}
+use Rattle.sc_machine_rights.proofs.AwaitedEnds.{number_of}
+use Rattle.sc_machine_rights.proofs.Arrivals.{Lands, CallsBack, landing_queue_simple, landing_callback_simple}
+use Rattle.sc_machine_rights.proofs.Posters.{began, began_failed, began_requests, more_has, more_stuck}
+use Rattle.sc_machine_rights.proofs.Asks.{lands, plain_calls, plain_began, passing_queue, passing_top, by_top, passing_calls, passing_began}
 use Rattle.sc_machine_rights.proofs.Failures.{LendsWell, IsKnown, sunk_below, fail-here, fail_kept, stuck_from_on, queue_known, top_known, nobody_well, lends_well}
-use Rattle.sc_machine_rights.proofs.Failing.{fallen_sub, requests_same}
-use Rattle.sc_machine_rights.proofs.Returning.{granted, grant_of, returns_granted, listed_more, listed_passed, relisting_returns}
+use Rattle.sc_machine_rights.proofs.FailureSteps.{fallen_sub, requests_same}
+use Rattle.sc_machine_rights.proofs.ReturningSteps.{granted, grant_of, returns_granted, listed_more, listed_passed, relisting_returns}
 
 -- ---- asking
 

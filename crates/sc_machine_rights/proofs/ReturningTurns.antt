@@ -9,12 +9,12 @@ use Rattle.sc_machine_rights.proofs.Forms.{exit_plain, exit_passing, exit_unhear
 use Rattle.sc_machine_rights.proofs.Rights.{put-same, put-other}
 use Rattle.sc_machine_rights.proofs.Shrinks.{at_each}
 use Rattle.sc_machine_rights.proofs.Turns.{posting_simple, taking_simple, taking_same, calling_back_simple, entering_simple, popping_simple, popping_less, popping_keeps, answering_simple, resumed_requests, requests_end, one_end, not_numbered}
-use Rattle.sc_machine_rights.proofs.Ending.{Ended, is_ended, number_of}
+use Rattle.sc_machine_rights.proofs.AwaitedEnds.{Ended, is_ended, number_of}
 use Rattle.sc_machine_rights.proofs.Replies.{heard_by, hearing_shrinks, unheard_shrinks, heard_plain, plain_wait, plain_rest, heard_passing, passing_wait, passing_rest}
-use Rattle.sc_machine_rights.proofs.Reserving.{relisting_simple, relisted_asked, stuck_same}
-use Rattle.sc_machine_rights.proofs.Providing.{reserved_is_own}
+use Rattle.sc_machine_rights.proofs.Reservations.{relisting_simple, relisted_asked, stuck_same}
+use Rattle.sc_machine_rights.proofs.ProvidedFrames.{reserved_is_own}
 use Rattle.sc_machine_rights.proofs.ServingEnds.{heard_requests}
-use Rattle.sc_machine_rights.proofs.Returning.{grant_of, returns_granted, listed_back, relisting_returns, shrinking_returns, quiet_returns, other_number}
+use Rattle.sc_machine_rights.proofs.ReturningSteps.{grant_of, returns_granted, listed_back, relisting_returns, shrinking_returns, quiet_returns, other_number}
 
 pub posting_returns : (h k : ℕ) (w : World) → (w.handlers k).failed ≡ false → IsConsistent w → IsReturnable w
     → IsReturnable (post h k w)

@@ -24,8 +24,8 @@ use Rattle.sc_machine_values.specs.Fitting.{ActualsFit, no_more, one_more}
 use Rattle.sc_machine_values.specs.Places.{of_actuals}
 use Rattle.sc_machine_values.specs.Points.{Each, types_of}
 use Rattle.sc_machine_values.proofs.Lists.{both}
-use Rattle.sc_machine_values.proofs.Passing as passing
-use Rattle.sc_machine_values.proofs.Passing.{FitsAs, IsPlain, IsTold, actual_fits, conforms_fits, known_lies}
+use Rattle.sc_machine_values.proofs.PassedValues as passing
+use Rattle.sc_machine_values.proofs.PassedValues.{FitsAs, IsPlain, IsTold, actual_fits, conforms_fits, known_lies}
 
 -- ---- declared types
 

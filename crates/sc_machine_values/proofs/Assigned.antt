@@ -19,7 +19,7 @@ use Rattle.sc_machine_values.proofs.Actuals.{declares}
 use Rattle.sc_machine_values.proofs.Attributes.{found_each}
 use Rattle.sc_machine_values.proofs.Environments.{EntityFits, binding_more}
 use Rattle.sc_machine_values.proofs.Lists.{each_more, same_some}
-use Rattle.sc_machine_values.proofs.Passing.{Names, fits_more}
+use Rattle.sc_machine_values.proofs.PassedValues.{Names, fits_more}
 
 -- the tag is that of a name of a separate block
 abbrev names_block : Tag → Bool

@@ -38,8 +38,8 @@ use Rattle.sc_machine_values.proofs.Attributes.{Attribute, attribute_found}
 use Rattle.sc_machine_values.proofs.Calls.{numbered_fits}
 use Rattle.sc_machine_values.proofs.Lists.{each_set, same_some, set_there}
 use Rattle.sc_machine_values.proofs.Names.{named_alike}
-use Rattle.sc_machine_values.proofs.Passing.{IsPlain, conforms_fits, fits_without, object_class}
-use Rattle.sc_machine_values.proofs.Standing.{BaseOf, IsRun, TasksTyped, goes, in_text}
+use Rattle.sc_machine_values.proofs.PassedValues.{IsPlain, conforms_fits, fits_without, object_class}
+use Rattle.sc_machine_values.proofs.RoutinePoints.{BaseOf, IsRun, TasksTyped, goes, in_text}
 
 -- a value that fits what Current's attribute gives fits its declared type, seen from no_names
 own_fits : (s : System) (me k : ℕ) (of : Reserved → Option ℕ) (c g : EntityType) (v : Value) → c.tag ≡ tag.Own → IsPlain g.tag → Fits s me of v (combined_result c g) → Fits s me no_names v g

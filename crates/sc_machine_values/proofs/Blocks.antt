@@ -25,9 +25,9 @@ use Rattle.sc_machine_values.specs.Typed as typed
 use Rattle.sc_machine_values.specs.Typed.{Extends, IsTyped, Opens, ScopeStands, at, context_in, stacked}
 use Rattle.sc_machine_values.proofs.Environments.{blocks_append, environment_more, extends_by, extends_further, extends_itself, olds_more, operands_more}
 use Rattle.sc_machine_values.proofs.Lists.{both, last_is}
-use Rattle.sc_machine_values.proofs.Scoping.{scope_opens}
+use Rattle.sc_machine_values.proofs.Scopes.{scope_opens}
 use Rattle.sc_machine_values.proofs.Stacks.{Popped, no_operands, popped_by}
-use Rattle.sc_machine_values.proofs.Standing.{AllFit, BaseOf, TasksTyped, goes}
+use Rattle.sc_machine_values.proofs.RoutinePoints.{AllFit, BaseOf, TasksTyped, goes}
 use Rattle.sc_machine_values.proofs.Tests.{scope_append}
 
 -- as many names of blocks are known as have values

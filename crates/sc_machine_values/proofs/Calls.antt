@@ -27,12 +27,12 @@ use Rattle.sc_machine_values.specs.Places.{is_routine, no_names}
 use Rattle.sc_machine_values.specs.Points.{AttributesFit, Each, IsAmong, listed, types_of}
 use Rattle.sc_machine_values.specs.Steps.{CallFits, GivesFit, IsThereIfOwn, KindFits, OperandsDo, StepFits, an_attribute}
 use Rattle.sc_machine_values.specs.Typed.{Leaves, Takes, a_value, names_formal, nothing, stacked}
-use Rattle.sc_machine_values.proofs.Applying.{first_of_types}
+use Rattle.sc_machine_values.proofs.Applications.{first_of_types}
 use Rattle.sc_machine_values.proofs.Attributes.{Attribute, attribute_found}
 use Rattle.sc_machine_values.proofs.Lists.{both, each_at, no_both}
 use Rattle.sc_machine_values.proofs.Named.{handler_is_named}
 use Rattle.sc_machine_values.proofs.Stacks.{Popped, popped_by}
-use Rattle.sc_machine_values.proofs.Standing.{AllFit, BaseOf, IsRun, TasksTyped, goes, in_text, reads_fit}
+use Rattle.sc_machine_values.proofs.RoutinePoints.{AllFit, BaseOf, IsRun, TasksTyped, goes, in_text, reads_fit}
 use Rattle.sc_machine_values.proofs.Versions.{kind_fits, routine_version}
 
 pub numbered_fits : (P : Object → Type 0) (objects : List Object) (i : ℕ) (o : Object) → Each P objects → object_numbered i objects ≡ Some o → P o

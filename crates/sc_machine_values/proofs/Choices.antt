@@ -37,8 +37,8 @@ use Rattle.sc_machine_values.proofs.Free.{freely, freely_given, gives_extend}
 use Rattle.sc_machine_values.proofs.Lists.{no_both}
 use Rattle.sc_machine_values.proofs.Olds.{kept_outside}
 use Rattle.sc_machine_values.proofs.Operators.{boolean_value}
-use Rattle.sc_machine_values.proofs.Passing.{object_class}
-use Rattle.sc_machine_values.proofs.Standing.{BaseOf, IsRun, TasksTyped, goes}
+use Rattle.sc_machine_values.proofs.PassedValues.{object_class}
+use Rattle.sc_machine_values.proofs.RoutinePoints.{BaseOf, IsRun, TasksTyped, goes}
 
 -- what is a part of what stands there stands there
 pub part_stands : {s : System} {pure : RoutineName → Bool} {h : RoutineContext} {a b : Site} → Stands s pure h a → Part h a b → Stands s pure h b

@@ -26,8 +26,8 @@ use Rattle.sc_machine_values.specs.Typed as typed
 use Rattle.sc_machine_values.specs.Typed.{Extends, IsOf, IsTyped, ScopeStands, at}
 use Rattle.sc_machine_values.proofs.Environments.{Split, environment_before, extends_further, olds_before, parted_at}
 use Rattle.sc_machine_values.proofs.Operators.{IsTruth, boolean_value}
-use Rattle.sc_machine_values.proofs.Scoping.{scope_before}
-use Rattle.sc_machine_values.proofs.Standing.{AllFit, Base, BaseOf, TasksAfter, goes, goes_denied, goes_held}
+use Rattle.sc_machine_values.proofs.Scopes.{scope_before}
+use Rattle.sc_machine_values.proofs.RoutinePoints.{AllFit, Base, BaseOf, TasksAfter, goes, goes_denied, goes_held}
 
 -- The value tells which names are known: where it is true the second, and else at least the first.
 pub data Tells (bs : List Binding) (low high : Entities) (v : Value) : Type 0 where

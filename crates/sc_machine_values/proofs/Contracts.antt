@@ -15,7 +15,7 @@ use Rattle.sc_machine_values.specs.Steps.{StepFits}
 use Rattle.sc_machine_values.specs.Typed.{IsTyped, at}
 use Rattle.sc_machine_values.proofs.Environments.{formals_alone, olds_now}
 use Rattle.sc_machine_values.proofs.Lists.{each_append}
-use Rattle.sc_machine_values.proofs.Standing.{BaseOf, goes}
+use Rattle.sc_machine_values.proofs.RoutinePoints.{BaseOf, goes}
 
 types_append : (us : List Operand) (u : Operand) → types_of (us ++ u ∷ []) ≡ types_of us ++ u.type ∷ []
 types_append [] u = refl

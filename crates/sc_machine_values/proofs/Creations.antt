@@ -10,7 +10,7 @@ use Rattle.sc_proctype.specs.Tags.{tag_conforms}
 use Rattle.sc_proctype.specs.declared.entity_type.EntityType.{EntityType}
 use Rattle.sc_proctype.specs.declared.tag.Reserved.{Reserved}
 use Rattle.sc_proctype.specs.declared.tag.Tag.TheVariants as tag
-use Rattle.sc_proctype.proofs.Conforming.{reflexive}
+use Rattle.sc_proctype.proofs.ConformanceLemmas.{reflexive}
 use Rattle.sc_rules.specs.Names.{RoutineName, Signature, assignee, assignee_type, attached, signature_of_kind}
 use Rattle.sc_rules.specs.Typing.{takes}
 use Rattle.sc_rules.specs.Versions.{Version}
@@ -38,7 +38,7 @@ use Rattle.sc_machine_values.proofs.Fresh.{fresh_fits, last_there, store_more}
 use Rattle.sc_machine_values.proofs.Lists.{both}
 use Rattle.sc_machine_values.proofs.Names.{FeatureMeant, feature_meant}
 use Rattle.sc_machine_values.proofs.Stacks.{Popped, no_operands, popped_by}
-use Rattle.sc_machine_values.proofs.Standing.{AllFit, BaseOf, IsRun, TasksTyped, goes}
+use Rattle.sc_machine_values.proofs.RoutinePoints.{AllFit, BaseOf, IsRun, TasksTyped, goes}
 use Rattle.sc_machine_values.proofs.Versions.{kind_fits, routine_version}
 
 -- a class conforms to itself

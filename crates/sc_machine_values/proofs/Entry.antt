@@ -9,7 +9,7 @@ use Rattle.sc_class.specs.Faults.ClassRules.{IsFaultless}
 use Rattle.sc_class.specs.Tables.Features.{DeclaredFeature}
 use Rattle.sc_class.specs.Tables.Heirs.{HasOrigin, StandsInText}
 use Rattle.sc_class.specs.declared.identity.ClassId.TheVariants as class
-use Rattle.sc_class.proofs.Standing.{found_stands}
+use Rattle.sc_class.proofs.Declarers.{found_stands}
 use Rattle.sc_proctype.specs.declared.entity_type.EntityType.{EntityType}
 use Rattle.sc_rules.specs.Laws.{AllDeclared, are_declared, is_declared, is_result_declared}
 use Rattle.sc_rules.specs.Names.{Entities, RoutineName, context_of, formals_known}
@@ -40,15 +40,15 @@ use Rattle.sc_machine_values.specs.Points as point
 use Rattle.sc_machine_values.specs.Points.{ResultFits}
 use Rattle.sc_machine_values.specs.Typed.{IsOf, IsTyped, ScopeStands, at}
 use Rattle.sc_machine_values.specs.Values.{EntriesFit, EntryBegins}
-use Rattle.sc_machine_values.proofs.Entering.{entry_typed}
+use Rattle.sc_machine_values.proofs.TypedBodies.{entry_typed}
 use Rattle.sc_machine_values.proofs.Environments.{Entered, entry_fits}
 use Rattle.sc_machine_values.proofs.Free.{freely}
 use Rattle.sc_machine_values.proofs.Fresh.{default_fits}
 use Rattle.sc_machine_values.proofs.Lists.{both, same_some}
 use Rattle.sc_machine_values.proofs.Origins.{origin_is}
-use Rattle.sc_machine_values.proofs.Running.{gives_type, is_run}
-use Rattle.sc_machine_values.proofs.Scoping.{scope_entry}
-use Rattle.sc_machine_values.proofs.Standing.{IsRun}
+use Rattle.sc_machine_values.proofs.Routines.{gives_type, is_run}
+use Rattle.sc_machine_values.proofs.Scopes.{scope_entry}
+use Rattle.sc_machine_values.proofs.RoutinePoints.{IsRun}
 
 -- the routine of the first declaration with the contract of the second
 abbrev made : System → List ℕ → ℕ → RoutineDeclaration → ℕ → RoutineDeclaration → Routine

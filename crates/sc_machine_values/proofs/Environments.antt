@@ -23,7 +23,7 @@ use Rattle.sc_machine_values.specs.Places.{of_actuals}
 use Rattle.sc_machine_values.specs.Points.{AreBehind, Each, EnvironmentFits, LocalIsDeclared, NamesFit, OldsFit}
 use Rattle.sc_machine_values.specs.Typed.{Extends}
 use Rattle.sc_machine_values.proofs.Lists.{both, each_append, each_at, each_before, each_more, found_append, no_both}
-use Rattle.sc_machine_values.proofs.Passing.{Names, fits_more}
+use Rattle.sc_machine_values.proofs.PassedValues.{Names, fits_more}
 
 abbrev pub EntityFits : System → ℕ → (Reserved → Option ℕ) → Binding → Type 0
 EntityFits s me of b = Fits s me of b.value b.type ⊎ ((is_local b.role ≡ true) × IsUnset b.value b.type)

@@ -45,16 +45,16 @@ use Rattle.sc_machine_values.specs.Points.{AttributesFit, ResultFits, types_of}
 use Rattle.sc_machine_values.specs.Steps.{KindFits, StandsSo, StepFits, an_attribute}
 use Rattle.sc_machine_values.specs.Typed as typed
 use Rattle.sc_machine_values.specs.Typed.{AreKept, Leaves, OldsKept, Takes, a_value}
-use Rattle.sc_machine_values.proofs.Applying.{plain_operand}
+use Rattle.sc_machine_values.proofs.Applications.{plain_operand}
 use Rattle.sc_machine_values.proofs.Attributes.{found_each}
 use Rattle.sc_machine_values.proofs.Calls.{attribute_read, numbered_fits}
 use Rattle.sc_machine_values.proofs.Environments.{EntityFits, all_fit, olds_now}
 use Rattle.sc_machine_values.proofs.Lists.{each_at, same_some}
 use Rattle.sc_machine_values.proofs.Names.{ActualsTyped, FeatureMeant, actuals_typed, all_typed, binary_there, feature_meant, named_alike, same_meaning, take_of, type_there, typed_so, unary_there}
 use Rattle.sc_machine_values.proofs.Olds.{kept_back, kept_front}
-use Rattle.sc_machine_values.proofs.Passing.{conforms_fits, fits_more, no_names_known}
-use Rattle.sc_machine_values.proofs.Scoping.{expression_names}
-use Rattle.sc_machine_values.proofs.Standing.{AllFit, BaseOf, IsRun, TasksTyped, found, goes, in_text, reads_fit, text_results}
+use Rattle.sc_machine_values.proofs.PassedValues.{conforms_fits, fits_more, no_names_known}
+use Rattle.sc_machine_values.proofs.Scopes.{expression_names}
+use Rattle.sc_machine_values.proofs.RoutinePoints.{AllFit, BaseOf, IsRun, TasksTyped, found, goes, in_text, reads_fit, text_results}
 use Rattle.sc_machine_values.proofs.Versions.{kind_fits}
 
 not_joined : (q : Position) (op : BinaryOperator) → is_condition q ≡ false → shares_names q op ≡ true → ⊥

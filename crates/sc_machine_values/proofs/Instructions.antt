@@ -69,8 +69,8 @@ use Rattle.sc_machine_values.proofs.Free.{assignee_same, freely, freely_all, fre
 use Rattle.sc_machine_values.proofs.Lists.{same_some}
 use Rattle.sc_machine_values.proofs.Names.{ActualsTyped, FeatureMeant, actuals_typed, all_typed, feature_meant, named_alike, same_meaning, take_of}
 use Rattle.sc_machine_values.proofs.Olds.{kept_outside, none_kept, none_old, none_old_each}
-use Rattle.sc_machine_values.proofs.Standing.{BaseOf, IsRun, TasksTyped, goes}
-use Rattle.sc_machine_values.proofs.Taking.{SourcesTyped, sources_typed, taken_together}
+use Rattle.sc_machine_values.proofs.RoutinePoints.{BaseOf, IsRun, TasksTyped, goes}
+use Rattle.sc_machine_values.proofs.ActualLists.{SourcesTyped, sources_typed, taken_together}
 
 module _ (s : System) (pure : RoutineName → Bool) (r : Routine) (me : Reference) (run : IsRun s pure r me) (p : Point) (b : BaseOf s r me p) where
   -- the text as the rules see it

@@ -22,9 +22,9 @@ use Rattle.sc_machine_values.specs.Steps.{StandsSo, StepFits}
 use Rattle.sc_machine_values.specs.Typed.{IsTyped, ScopeStands, at}
 use Rattle.sc_machine_values.proofs.Environments.{EntityFits, environment_more, olds_more}
 use Rattle.sc_machine_values.proofs.Fresh.{default_fits}
-use Rattle.sc_machine_values.proofs.Passing.{fits_more, no_names_known}
-use Rattle.sc_machine_values.proofs.Scoping.{scope_locals}
-use Rattle.sc_machine_values.proofs.Standing.{BaseOf, goes}
+use Rattle.sc_machine_values.proofs.PassedValues.{fits_more, no_names_known}
+use Rattle.sc_machine_values.proofs.Scopes.{scope_locals}
+use Rattle.sc_machine_values.proofs.RoutinePoints.{BaseOf, goes}
 use Rattle.sc_machine_values.proofs.Tests.{scope_append}
 
 pub record Locals (s : System) (me : ℕ) (formals ds : List Declaration) (bs : List Binding) (olds : List Operand) : Type 0 where

@@ -13,8 +13,8 @@ use Rattle.sc_machine_values.specs.Steps.{IsThereIfOwn, OperandsDo, StandsSo, St
 use Rattle.sc_machine_values.specs.Values.{MovesFit, StepsFit}
 use Rattle.sc_machine_values.proofs.Lists.{each_more}
 use Rattle.sc_machine_values.proofs.References.{HoldsOfOwn, Stays, StepStays, step_stays}
-use Rattle.sc_machine_values.proofs.Running.{is_run}
-use Rattle.sc_machine_values.proofs.Standing.{IsRun}
+use Rattle.sc_machine_values.proofs.Routines.{is_run}
+use Rattle.sc_machine_values.proofs.RoutinePoints.{IsRun}
 use Rattle.sc_machine_values.proofs.Steps.{step_fits}
 
 -- what is there if it is of the handler

@@ -26,7 +26,7 @@ use Rattle.sc_machine_values.specs.Typed as typed
 use Rattle.sc_machine_values.specs.Typed.{AreKept, IsOf, IsTyped, Takes, at, stacked}
 use Rattle.sc_machine_values.proofs.Actuals.{somes}
 use Rattle.sc_machine_values.proofs.Olds.{kept_back, kept_front}
-use Rattle.sc_machine_values.proofs.Standing.{IsRun, in_text}
+use Rattle.sc_machine_values.proofs.RoutinePoints.{IsRun, in_text}
 
 -- the machine knows a name exactly where the rules do
 pub named_alike : (x : List ℕ) (bs : List Binding) → entity_named x (scope_of bs) ≡ option_map known_of (binding_named x bs)

@@ -30,7 +30,7 @@ use Rattle.sc_model.specs.Values.{Attached, Boolean, Integer, Reference, Value, 
 use Rattle.sc_machine_values.specs.Points.{types_of}
 use Rattle.sc_machine_values.specs.Steps.{StandsSo, StepFits}
 use Rattle.sc_machine_values.proofs.Lists.{both}
-use Rattle.sc_machine_values.proofs.Standing.{AllFit, BaseOf, TasksTyped, found}
+use Rattle.sc_machine_values.proofs.RoutinePoints.{AllFit, BaseOf, TasksTyped, found}
 
 -- a value of type INTEGER is an integer, one of BOOLEAN a truth value, and any other is neither
 pub record IsInteger (v : Value) : Type 0 where

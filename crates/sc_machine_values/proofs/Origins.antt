@@ -15,7 +15,7 @@ use Rattle.sc_class.specs.Faults.ClassRules.{IsFaultless}
 use Rattle.sc_class.proofs.Acyclic.{ancestors_climb}
 use Rattle.sc_class.proofs.Heirs.{OneDown, inherits, declares_again, Next, redefinition, inherited, one_down, heirs_redeclare}
 use Rattle.sc_class.proofs.Origins.{topmost_declared, topmost_found, declared_found}
-use Rattle.sc_class.proofs.Standing.{DeclaredAlong}
+use Rattle.sc_class.proofs.Declarers.{DeclaredAlong}
 use Rattle.sc_model.specs.Routines.{origin_along, origin_of}
 
 some_or : (o : Option DeclaredFeature) → option_or o None ≡ o

@@ -6,7 +6,7 @@ use Rattle.sc_model.specs.Environments.{handler_named}
 use Rattle.sc_machine_values.specs.Passing.{FitWhereConforming, FitWhereGiven, FitWherePassed}
 use Rattle.sc_machine_values.specs.Points.{types_of}
 use Rattle.sc_machine_values.proofs.Actuals.{actuals_fit, plain_result}
-use Rattle.sc_machine_values.proofs.Passing.{conforms_fits, result_fits}
+use Rattle.sc_machine_values.proofs.PassedValues.{conforms_fits, result_fits}
 use Rattle.sc_machine_values.proofs.Stacks.{types_length}
 use Rattle.sc_machine_values.proofs.Versions.{declared_each, mapped_length}
 

@@ -15,8 +15,8 @@ use Rattle.sc_model.specs.Values.{Operand, Reference, Value}
 use Rattle.sc_model.specs.declared.cause.Cause.{Cause}
 use Rattle.sc_machine_values.specs.Fitting.{AnswerFits, FrameFits, Gives, HandlerFits, IsThere, Linked, ObjectFits, ReplyFits, RequestFits, ValueIsThere, WorldFits, alone, called, coming_to}
 use Rattle.sc_machine_values.specs.Points.{Each, IsAmong, PointFits, listed}
-use Rattle.sc_machine_values.proofs.Carrying.{ObjectsStay, failed_fits, objects_same, there_carried}
-use Rattle.sc_machine_values.proofs.Changing.{HasNoReply, frames_led, objects_led, put_at, put_fits, requests_led}
+use Rattle.sc_machine_values.proofs.Remains.{ObjectsStay, failed_fits, objects_same, there_carried}
+use Rattle.sc_machine_values.proofs.Changes.{HasNoReply, frames_led, objects_led, put_at, put_fits, requests_led}
 
 -- ---- a handler with the same objects
 

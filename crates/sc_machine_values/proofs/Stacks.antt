@@ -6,7 +6,7 @@ use Rattle.sc_model.specs.Steps.{popped}
 use Rattle.sc_model.specs.Values.{Operand}
 use Rattle.sc_machine_values.specs.Points.{Each, types_of}
 use Rattle.sc_machine_values.specs.Typed.{stacked}
-use Rattle.sc_machine_values.proofs.Applying.{first_of_types}
+use Rattle.sc_machine_values.proofs.Applications.{first_of_types}
 
 put_on : List Operand → List Operand → List Operand
 put_on [] vs = vs

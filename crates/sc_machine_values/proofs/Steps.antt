@@ -15,9 +15,9 @@ use Rattle.sc_machine_values.specs.Points.{Agrees, types_of}
 use Rattle.sc_machine_values.specs.Steps.{IsThereIfOwn, OperandsDo, StandsSo, StepFits}
 use Rattle.sc_machine_values.specs.Typed as typed
 use Rattle.sc_machine_values.specs.Typed.{IsTyped, Known}
-use Rattle.sc_machine_values.proofs.Applying.{apply_binary_step, apply_unary_step, conclude_step, eval_right_step}
+use Rattle.sc_machine_values.proofs.Applications.{apply_binary_step, apply_unary_step, conclude_step, eval_right_step}
 use Rattle.sc_machine_values.proofs.Assignments.{assign_step}
-use Rattle.sc_machine_values.proofs.Beginning.{condition_step}
+use Rattle.sc_machine_values.proofs.ConditionSteps.{condition_step}
 use Rattle.sc_machine_values.proofs.Blocks.{open_step}
 use Rattle.sc_machine_values.proofs.Calls.{all_good, qualified_step, unqualified_step}
 use Rattle.sc_machine_values.proofs.Choices.{choice_step, end_loop_step, print_step, repeat_step, require_step, required_step, tests_step}
@@ -27,7 +27,7 @@ use Rattle.sc_machine_values.proofs.Creations.{create_step}
 use Rattle.sc_machine_values.proofs.Evaluations.{eval_step}
 use Rattle.sc_machine_values.proofs.Instructions.{body_step}
 use Rattle.sc_machine_values.proofs.Locals.{declare_step, in_text_step}
-use Rattle.sc_machine_values.proofs.Standing.{AllFit, BaseOf, IsRun, TasksAfter, TasksTyped, goes}
+use Rattle.sc_machine_values.proofs.RoutinePoints.{AllFit, BaseOf, IsRun, TasksAfter, TasksTyped, goes}
 use Rattle.sc_machine_values.proofs.Tests.{bind_step}
 
 module _ (s : System) (pure : RoutineName → Bool) (r : Routine) (me : Reference) (run : IsRun s pure r me) (p : Point) (b : BaseOf s r me p) where

@@ -31,13 +31,13 @@ use Rattle.sc_machine_values.specs.Fitting.{ActualsFit, FrameFits, HandlerFits, 
 use Rattle.sc_machine_values.specs.Places.{called_name, formals_if_any, formals_of_kind, of_actuals, result_if_any, result_of_kind, result_of_request}
 use Rattle.sc_machine_values.specs.Points as point
 use Rattle.sc_machine_values.specs.Points.{Each, IsAmong, ResultFits, listed}
-use Rattle.sc_machine_values.proofs.Answering.{reply_ends}
+use Rattle.sc_machine_values.proofs.RequestEnds.{reply_ends}
 use Rattle.sc_machine_values.proofs.Attributes.{Attribute, attribute_found, found_each}
 use Rattle.sc_machine_values.proofs.Calls.{numbered_fits}
-use Rattle.sc_machine_values.proofs.Carrying.{failed_fits}
-use Rattle.sc_machine_values.proofs.Changing.{HasNoReply}
-use Rattle.sc_machine_values.proofs.Entered.{feature_entered}
-use Rattle.sc_machine_values.proofs.Handing.{given_value}
+use Rattle.sc_machine_values.proofs.Remains.{failed_fits}
+use Rattle.sc_machine_values.proofs.Changes.{HasNoReply}
+use Rattle.sc_machine_values.proofs.EnteredStacks.{feature_entered}
+use Rattle.sc_machine_values.proofs.Arrivals.{given_value}
 use Rattle.sc_machine_values.proofs.Lists.{each_append}
 
 -- The request is taken on top of this stack, and its target is there.

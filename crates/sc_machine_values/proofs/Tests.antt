@@ -26,9 +26,9 @@ use Rattle.sc_machine_values.specs.Steps.{StepFits}
 use Rattle.sc_machine_values.specs.Typed.{Extends, ScopeStands, names_formal}
 use Rattle.sc_machine_values.proofs.Environments.{environment_more, names_append, olds_more, operands_more}
 use Rattle.sc_machine_values.proofs.Lists.{both}
-use Rattle.sc_machine_values.proofs.Passing.{fits_more}
-use Rattle.sc_machine_values.proofs.Scoping.{scope_one}
-use Rattle.sc_machine_values.proofs.Standing.{AllFit, BaseOf, TasksAfter, goes_denied, goes_held}
+use Rattle.sc_machine_values.proofs.PassedValues.{fits_more}
+use Rattle.sc_machine_values.proofs.Scopes.{scope_one}
+use Rattle.sc_machine_values.proofs.RoutinePoints.{AllFit, BaseOf, TasksAfter, goes_denied, goes_held}
 
 number_is : (o : Option ℕ) (k : ℕ) → is_number o k ≡ true → o ≡ Some k
 number_is None k e = cc

@@ -28,7 +28,7 @@ use Rattle.sc_machine_values.specs.Steps.{GivesFit, KindFits, a_routine, an_attr
 use Rattle.sc_machine_values.specs.Typed.{Takes}
 use Rattle.sc_machine_values.proofs.Actuals.{actuals_fit, plain_result}
 use Rattle.sc_machine_values.proofs.Lists.{both}
-use Rattle.sc_machine_values.proofs.Passing.{FitsAs, combined_class, conforms_fits, each, reference_over, result_fits}
+use Rattle.sc_machine_values.proofs.PassedValues.{FitsAs, combined_class, conforms_fits, each, reference_over, result_fits}
 use Rattle.sc_machine_values.proofs.Stacks.{types_length}
 
 -- formals that are declared alike are fitted alike

@@ -1,5 +1,5 @@
 pub mod Texts
-pub mod Playing
+pub mod PlayedTurns
 pub mod Rows
 pub mod Joins
 pub mod Idle

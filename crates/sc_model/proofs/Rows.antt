@@ -11,7 +11,7 @@ use Rattle.sc_model.proofs.Texts.{detachable, the_result, void, old, block, bloc
 use Rattle.sc_model.specs.Values.{Boolean}
 use Rattle.sc_model.specs.Handlers.{World}
 use Rattle.sc_model.specs.Clauses.{Comes}
-use Rattle.sc_model.proofs.Playing.{clauses_of, played, rounds, outcome}
+use Rattle.sc_model.proofs.PlayedTurns.{clauses_of, played, rounds, outcome}
 
 -- the entity compares so with the number
 abbrev is_equal : Expr → ℤ → Expr

@@ -2,7 +2,7 @@
 use Rattle.std.proofs.Common.{◌≡◌, ℕ, Result, Ok, Err, ◌∙◌}
 use Rattle.sc_tree.specs.Internal.Reading.Looks.{Fault, Wrong, Deep, ◌>>=◌}
 use Rattle.sc_parse.specs.Reading.Looks.{Ahead, Read}
-use Rattle.sc_tree.proofs.Combining.{bind_err}
+use Rattle.sc_tree.proofs.ReadingSteps.{bind_err}
 use Rattle.sc_parse.specs.declared.fault.ParseFault.{ParseFault}
 use Rattle.sc_parse.specs.declared.fault.ParseFault.TheVariants as fault
 use Rattle.sc_parse.specs.Reading.Reads.{Fails, Reads}

@@ -9,7 +9,7 @@ use Rattle.sc_text.specs.declared.token.Span.{Span}
 use Rattle.sc_text.specs.declared.token.Terminal.{Terminal}
 use Rattle.sc_text.specs.declared.token.Terminal.TheVariants as terminal
 use Rattle.sc_tree.specs.Bare.{nowhere}
-use Rattle.sc_tree.proofs.Combining.{choose_true, choose_false}
+use Rattle.sc_tree.proofs.ReadingSteps.{choose_true, choose_false}
 use Rattle.sc_parse.specs.Places.{Point, begin, begin_of, IsToken, IsWord, AreWords, no_word, word}
 
 -- ---- parentheses

@@ -10,7 +10,7 @@ use Rattle.sc_text.specs.declared.token.Terminal.TheVariants as terminal
 use Rattle.sc_tree.specs.Grammar.Classes.{heads_class, ends_class}
 use Rattle.sc_tree.specs.Plain.{Name, Clause, Parent, ClassMark, Deferred, Expanded, Frozen, Class, System}
 use Rattle.sc_tree.specs.Bare.{bare_name, bare_clause, bare_parent, bare_mark, bare_class, bare_system}
-use Rattle.sc_tree.proofs.Combining.{choose_true, choose_false}
+use Rattle.sc_tree.proofs.ReadingSteps.{choose_true, choose_false}
 use Rattle.sc_tree.proofs.Whole.{one_system}
 use Rattle.sc_parse.specs.Laws.{OnePlacedTree}
 use Rattle.sc_parse.specs.Places as places

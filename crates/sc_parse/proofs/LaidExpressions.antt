@@ -14,7 +14,7 @@ use Rattle.sc_tree.specs.Grammar.Types.{handler_name}
 use Rattle.sc_tree.specs.Plain as plain
 use Rattle.sc_tree.specs.Plain.{Name, HandlerTag, Own, Separate, HandlerOf, DeclaredType, Expr, Integer, Boolean, Void, Current, Call, Unary, Binary, ObjectTest, Target, no_target, target, Exprs, no_exprs, expr_then}
 use Rattle.sc_tree.specs.Bare.{bare_name, bare_handler_tag, bare_type, bare_type_if_any, bare_expr, bare_exprs}
-use Rattle.sc_tree.proofs.Combining.{choose_true, choose_false}
+use Rattle.sc_tree.proofs.ReadingSteps.{choose_true, choose_false}
 use Rattle.sc_parse.specs.Places as places
 use Rattle.sc_parse.specs.Places.{Point, begin, between, IsToken, IsWord, AreWords, no_word, word, IsPlacedName, IsTypeMark, IsPlacedTag, IsPlacedType, IsPlacedTest, IsPlacedExpr, ArePlacedActuals, ArePlacedExprs}
 use Rattle.sc_tree.specs.Properties.{span_of}

@@ -10,7 +10,7 @@ use Rattle.sc_tree.specs.Grammar.Classes.{declared_as, attribute_of, routine_of,
 use Rattle.sc_tree.specs.Plain.{Name, DeclaredType, Declaration, RoutineDeclaration, FeatureKind, Attribute, Routine, Feature}
 use Rattle.sc_tree.specs.Bare.{bare_name, bare_type, bare_type_if_any, bare_declaration, bare_clause, bare_instrs, bare_feature}
 use Rattle.sc_tree.specs.Internal.Reading.Looks.{is_name}
-use Rattle.sc_tree.proofs.Combining.{choose_true, choose_false}
+use Rattle.sc_tree.proofs.ReadingSteps.{choose_true, choose_false}
 use Rattle.sc_parse.specs.Places as places
 use Rattle.sc_parse.specs.Places.{Point, begin, between, IsToken, IsWord, IsOptional, absent, present, IsRow, no_part, part, AreParts, none, another, IsPlacedName, ArePlacedNames, one_name, more_names, IsPlacedType, IsPlacedDeclaration, ArePlacedDeclarations, ArePlacedFormals, ArePlacedLocals, IsPlacedResult, IsPlacedFeature, ArePlacedExports, IsPlacedSection}
 use Rattle.sc_parse.proofs.KeptTokens.{leaves_out, Kept, ahead, kept_token, kept_word, word_left_out, first, rest, rest_token, rest_word, begins_with_word}

@@ -12,7 +12,7 @@ use Rattle.sc_parse.specs.Reading.Types.{more_names}
 use Rattle.sc_parse.specs.Reading.Assertions.{clause, clauses_from, clauses}
 use Rattle.sc_parse.specs.Reading.Classes.{is_done, declaration, more_declarations, locals_from, locals, exports, feature, features_from, sections_from, sections, parent, parents_from, class, classes_from}
 use Rattle.sc_parse.proofs.Faults.{Fails-bind, Fails-along}
-use Rattle.sc_tree.proofs.Combining.{bind_ok, choose_true, choose_false}
+use Rattle.sc_tree.proofs.ReadingSteps.{bind_ok, choose_true, choose_false}
 use Rattle.sc_parse.specs.Reading.Reads.{Fails}
 use Rattle.sc_parse.specs.declared.fault.ParseFault.{ParseFault}
 use Rattle.sc_parse.proofs.Turns.{turns_of}

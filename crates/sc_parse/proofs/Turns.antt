@@ -11,7 +11,7 @@ use Rattle.sc_tree.specs.Plain.{Name, DeclaredType, Clause, Expr, Current, Call,
 use Rattle.sc_parse.specs.declared.fault.ParseFault.{ParseFault}
 use Rattle.sc_parse.specs.Reading.Reads.{Fails}
 use Rattle.sc_parse.proofs.Faults.{Fails-bind, Fails-along}
-use Rattle.sc_tree.proofs.Combining.{bind_ok, choose_true, choose_false, le_true, le_false}
+use Rattle.sc_tree.proofs.ReadingSteps.{bind_ok, choose_true, choose_false, le_true, le_false}
 use Rattle.sc_tree.specs.Internal.Reading.Looks.{Deep, ◌>>=◌}
 use Rattle.sc_tree.specs.Properties.{span_of}
 use Rattle.sc_parse.specs.Reading.Looks.{Ahead, begin, left, Read, past, sees, skip_semicolons, past_semicolons, begins_instr, operator_ahead, past_operator}

@@ -17,9 +17,9 @@ use Rattle.sc_parse.specs.Places.{IsPlaced}
 use Rattle.sc_parse.specs.Parses.{ParsesWithin, IsParsedTo}
 use Rattle.sc_parse.specs.Reading.Classes.{system}
 use Rattle.sc_parse.specs.Reading.Reads.{ParsesAs, system_in}
-use Rattle.sc_parse.proofs.Forgetting.{forget}
-use Rattle.sc_parse.proofs.ForgettingClasses.{forget_system}
-use Rattle.sc_parse.proofs.PlacingClasses.{placed}
+use Rattle.sc_parse.proofs.BareReadings.{forget}
+use Rattle.sc_parse.proofs.BareClasses.{forget_system}
+use Rattle.sc_parse.proofs.PlacedClasses.{placed}
 
 -- the answer, with its places forgotten
 forgotten : (room : ℕ) (ts : List Token) (a : Result plain.System Fault) → system room ts ≡ a → unplaced.system room (kinds_of ts) ≡ forget bare_system a

@@ -22,7 +22,7 @@ use Rattle.sc_request.specs.Rooms.{settlement}
 use Rattle.sc_request.specs.Settling.{settled}
 use Rattle.sc_request.specs.Tables.{out_total}
 use Rattle.sc_world.specs.Worlds.{max_handlers, opened}
-use Rattle.sc_world.proofs.Freeing.{next_picks}
+use Rattle.sc_world.proofs.FreeHandlers.{next_picks}
 use Rattle.sc_world.proofs.Outs.{next-of, none-job, none-of, one-job, picked-out, some-of}
 use Rattle.sc_plant.specs.Due.{AreBelow, GrantsNone, IsSettled, PlaysTo, Settled, Stays}
 use Rattle.sc_plant.specs.Recorded.{line_of, lines_of}

@@ -1,14 +1,14 @@
 mod Bare
 mod OnWay
-mod Comparing
-mod Crossing
+mod Comparisons
+mod Crossings
 mod Dues
 mod OneThread
 mod Openings
 mod PuttingBack
-mod Recording
-mod Reporting
-mod Locking
+mod RunRecords
+mod Reports
+mod Locks
 mod Slots
-pub mod Stopping
+pub mod EndedRuns
 mod Threaded

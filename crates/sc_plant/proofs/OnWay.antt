@@ -15,7 +15,7 @@ use Rattle.sc_request.specs.Logs.{Center, settles}
 use Rattle.sc_request.specs.Rooms.{settlement}
 use Rattle.sc_play.specs.Regions.{IsRefused, PlainRegion, Plays, new_region, outcome}
 use Rattle.sc_worklog.specs.Replaying.{AreMade, Replays, entry_of, played, refused}
-use Rattle.sc_worklog.proofs.Replaying.{turns_replay}
+use Rattle.sc_worklog.proofs.ReplayedTurns.{turns_replay}
 use Rattle.sc_world.specs.Worlds.{max_handlers}
 use Rattle.sc_world.proofs.AtOnce.{settled_out}
 use Rattle.sc_plant.specs.declared.left.Left.{Left}
@@ -23,7 +23,7 @@ use Rattle.sc_plant.specs.Alone.{AreNew, AreOwn, IsOnWay, IsOwn, IsPlayed}
 use Rattle.sc_plant.specs.Due.{Settled, Stays}
 use Rattle.sc_plant.specs.Left.{AreReplayed, IsLeft, IsOver, IsRun, IsStopped}
 use Rattle.sc_plant.specs.Recorded.{settlements_for}
-use Rattle.sc_plant.proofs.Comparing.{kept, ours, some_is}
+use Rattle.sc_plant.proofs.Comparisons.{kept, ours, some_is}
 use Rattle.sc_plant.proofs.Dues.{Goes, goes_out, same_below, same_center, same_lines, settled_below, settled_job, settled_lines, settled_plays, stays_plays}
 use Rattle.sc_plant.proofs.Slots.{new_made, played_made}
 

@@ -8,7 +8,7 @@ use Rattle.sc_region.specs.declared.value.Value.{Value}
 use Rattle.sc_region.specs.Frames.{PlainActivation}
 use Rattle.sc_interp.specs.Creating.{has_room}
 use Rattle.sc_region.specs.Calls.{last_values}
-use Rattle.sc_region.proofs.Reaching.{taken_length}
+use Rattle.sc_region.proofs.DeeperOperands.{taken_length}
 use Rattle.sc_play.specs.declared.acts.creating_handlers.RemoteCreation.{RemoteCreation}
 use Rattle.sc_play.specs.CreatingHandlers.{creation_by, creation_in, may_create}
 use Rattle.sc_play.specs.Blocks.{heads_in, may_open}

@@ -109,7 +109,7 @@ fn play_on(
 
 /// The first turn under the job, and further ones, as long as nothing is asked and fewer than `limit` are made: how many
 /// turns are made. Where memory is refused to a further one, they end before it. Err where it is refused to the first.
-#[tactic(auto, using(crate::proofs::Going::stops_first))]
+#[tactic(auto, using(crate::proofs::FurtherTurns::stops_first))]
 fn play_under(
     store: &mut Store<'_>,
     handler: u16,

@@ -1,1 +1,1 @@
-pub mod Conforming
+pub mod ConformanceLemmas

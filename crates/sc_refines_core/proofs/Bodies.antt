@@ -69,7 +69,7 @@ use Rattle.sc_machine_values.specs.Places.{is_routine}
 use Rattle.sc_machine_values.specs.Points.{Each, types_of}
 use Rattle.sc_machine_values.specs.Steps.{StandsSo}
 use Rattle.sc_machine_values.specs.Typed.{Extends, context_in, stacked}
-use Rattle.sc_machine_values.proofs.Applying.{gives_is}
+use Rattle.sc_machine_values.proofs.Applications.{gives_is}
 use Rattle.sc_machine_values.proofs.Assigned.{scope_assigned}
 use Rattle.sc_machine_values.proofs.Blocks.{scope_length}
 use Rattle.sc_machine_values.proofs.Choices.{given_there, part_stands}
@@ -79,7 +79,7 @@ use Rattle.sc_machine_values.proofs.Free.{gives_extend, gives_one}
 use Rattle.sc_machine_values.proofs.Lists.{same_some}
 use Rattle.sc_machine_values.proofs.Locals.{locals_fit}
 use Rattle.sc_machine_values.proofs.Names.{FeatureMeant, all_typed, feature_meant, same_meaning, named_alike, some_there, unary_there, binary_there}
-use Rattle.sc_machine_values.proofs.Standing.{BaseOf, IsRun, in_text}
+use Rattle.sc_machine_values.proofs.RoutinePoints.{BaseOf, IsRun, in_text}
 use Rattle.sc_machine_values.proofs.Tests.{scope_append}
 use Rattle.sc_machine_rights.proofs.Machine.{contains_first, contains_later}
 use Rattle.sc_refines_core.specs.Calm.{InBody, IsCalm, in_body, in_contract, Ahead, at, after, InPure, StandsAt, Came, StandsAfter, StandsPure, PureAct, PureStep}

@@ -17,7 +17,7 @@ use Rattle.sc_class.specs.declared.identity.ClassId.TheVariants as class
 use Rattle.sc_class.specs.Tables.Conformance.{is_same_mark, is_same_tag, is_same_type}
 use Rattle.sc_class.specs.Tables.Features.{DeclaredFeature, declared_features, named_among}
 use Rattle.sc_class.specs.Tables.Heirs.{HasOrigin, StandsInText}
-use Rattle.sc_class.proofs.Standing.{found_stands}
+use Rattle.sc_class.proofs.Declarers.{found_stands}
 use Rattle.sc_proctype.specs.declared.entity_type.EntityType.{EntityType}
 use Rattle.sc_proctype.specs.declared.tag.Reserved.TheVariants.{BlockName, Formal}
 use Rattle.sc_proctype.specs.declared.tag.Tag.{Tag}
@@ -69,15 +69,15 @@ use Rattle.sc_machine_values.specs.Points as point
 use Rattle.sc_machine_values.specs.Steps.{IsThereIfOwn, StandsSo, StepFits, ValuesDo}
 use Rattle.sc_machine_values.specs.Typed.{Extends, IsTyped, Known, context_in}
 use Rattle.sc_machine_values.specs.Typed as typed
-use Rattle.sc_machine_values.proofs.Applying.{gives_is, plain_operand}
+use Rattle.sc_machine_values.proofs.Applications.{gives_is, plain_operand}
 use Rattle.sc_machine_values.proofs.Conditions.{and_then_is}
 use Rattle.sc_machine_values.proofs.Free.{freely}
 use Rattle.sc_machine_values.proofs.Lists.{both, each_append, each_more, same_some}
 use Rattle.sc_machine_values.proofs.Operators.{boolean_value}
 use Rattle.sc_machine_values.proofs.Origins.{origin_is}
 use Rattle.sc_machine_values.proofs.References.{Stays, StepStays, step_stays}
-use Rattle.sc_machine_values.proofs.Running.{is_run}
-use Rattle.sc_machine_values.proofs.Standing.{IsRun}
+use Rattle.sc_machine_values.proofs.Routines.{is_run}
+use Rattle.sc_machine_values.proofs.RoutinePoints.{IsRun}
 use Rattle.sc_machine_values.proofs.Steps.{step_fits}
 use Rattle.sc_machine_rights.proofs.Machine.{contains_first, contains_later}
 use Rattle.sc_refines_core.specs.Calm.{InBody, IsCalm, in_body, in_contract, InPure, PureBeginPure, PureCallPure, PureStep, StandsPure, name_of}

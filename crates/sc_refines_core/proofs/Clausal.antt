@@ -11,7 +11,7 @@ use Rattle.sc_class.specs.declared.identity.ClassId.TheVariants as class
 use Rattle.sc_class.specs.Tables.Conformance.{class_conforms}
 use Rattle.sc_class.specs.Tables.Features.{DeclaredFeature, feature_named}
 use Rattle.sc_class.specs.Tables.Heirs.{HasOrigin, StandsInText}
-use Rattle.sc_class.proofs.Standing.{found_stands}
+use Rattle.sc_class.proofs.Declarers.{found_stands}
 use Rattle.sc_proctype.specs.declared.entity_type.EntityType.{EntityType}
 use Rattle.sc_rules.specs.declared.position.Context.{Context}
 use Rattle.sc_rules.specs.declared.position.Context.TheVariants as context
@@ -56,8 +56,8 @@ use Rattle.sc_machine_values.proofs.Lists.{each_more, same_some}
 use Rattle.sc_machine_values.proofs.Names.{all_typed, some_there}
 use Rattle.sc_machine_values.proofs.Origins.{origin_is}
 use Rattle.sc_machine_values.proofs.References.{HoldsOfOwn, Stays, StepStays, step_stays}
-use Rattle.sc_machine_values.proofs.Running.{is_run}
-use Rattle.sc_machine_values.proofs.Standing.{IsRun}
+use Rattle.sc_machine_values.proofs.Routines.{is_run}
+use Rattle.sc_machine_values.proofs.RoutinePoints.{IsRun}
 use Rattle.sc_machine_values.proofs.Steps.{step_fits}
 use Rattle.sc_refines_core.specs.Entries.{HasStarted}
 use Rattle.sc_refines_core.specs.Clauses.{InClauses, StandsInClauses, ClauseStep, ClausesCallPure, ClausesComeFirst}

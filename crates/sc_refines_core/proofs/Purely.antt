@@ -54,8 +54,8 @@ use Rattle.sc_machine_values.proofs.Frames.{running_frames_move, store_fits, val
 use Rattle.sc_refines_core.specs.Calm.{CalmStep, EachPureIsCalm, InPure, PureAct, PureStep, StandsPure, name_of}
 use Rattle.sc_refines_core.specs.Calm as calm
 use Rattle.sc_refines_core.proofs.Callers.{pure_begins, pure_moves}
-use Rattle.sc_refines_core.proofs.Linking.{one_further, reached_fits}
-use Rattle.sc_refines_core.proofs.Recalling.{IsLeft, Others, AreAlike, put_alike, release_alike, finish_alike, passes_alike, send_alike, dropped_if, fallen_stack, others_alike, others_put, others_new, others_stay, then_left, counted_stack}
+use Rattle.sc_refines_core.proofs.FrameLinks.{one_further, reached_fits}
+use Rattle.sc_refines_core.proofs.RecalledEntries.{IsLeft, Others, AreAlike, put_alike, release_alike, finish_alike, passes_alike, send_alike, dropped_if, fallen_stack, others_alike, others_put, others_new, others_stay, then_left, counted_stack}
 
 no : {A : Type 0} → false ≡ true → A
 no e = cc

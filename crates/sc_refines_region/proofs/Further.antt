@@ -13,7 +13,7 @@ use Rattle.sc_request.specs.Sessions.{release, session_ended}
 use Rattle.sc_request.specs.Picking.{job_answered, job_at, job_awaiting, job_idle, job_of, job_reserving, job_with, needs}
 use Rattle.sc_request.specs.Settling.{asked_in, begun, fits_first, goes_on, made_at, settled, takes, takes_answer, takes_callback, takes_next}
 use Rattle.sc_refines_region.specs.Further.{FirstTurnsGoOn, FurtherTurnsSettle}
-use Rattle.sc_refines_region.proofs.Halving.{none_some}
+use Rattle.sc_refines_region.proofs.Halves.{none_some}
 
 some_same : {A : Type 0} (x y : A) → Some x ≡ Some y → x ≡ y
 some_same x y e = cc

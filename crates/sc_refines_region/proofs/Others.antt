@@ -40,7 +40,7 @@ use Rattle.sc_model.specs.Runs.{root_request}
 use Rattle.sc_region_turns.specs.RegionTurns.{new_half}
 use Rattle.sc_region_turns.specs.RegionHalves.{IsRegionHalf}
 use Rattle.sc_refines_region.specs.Joined.{CreatedAreNew, OpensAsNew}
-use Rattle.sc_refines_region.proofs.Halving.{half_alike}
+use Rattle.sc_refines_region.proofs.Halves.{half_alike}
 use Rattle.sc_refines_region.proofs.Alike.{IsAlike, alike, alike_then, other, release_alike, passes_alike, send_alike, finish_alike, others_stay}
 
 -- a turn of the handler of the number leads from one world to the other

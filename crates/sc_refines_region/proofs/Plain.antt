@@ -21,9 +21,9 @@ use Rattle.sc_model.specs.Steps.{Act, Prints, Tests, Creates, CreatesHandler, En
 use Rattle.sc_model.specs.Handlers.{Errand, Calls, Makes, Request, Origin, Called, Requested, Frame}
 use Rattle.sc_region.specs.declared.job.Want.TheVariants as want
 use Rattle.sc_request.specs.Asked.{Numbering, asks_acting, asks_after, asks_beginning, asks_bound, asks_calling, asks_done, asks_entering, asks_errand, asks_exiting, asks_leaving, asks_refusing, asks_releasing, asks_replying, asks_requesting, asks_returning, asks_taking, asks_version}
-use Rattle.sc_refines_region.proofs.Halving.{by_test}
-use Rattle.sc_refines_region.proofs.Acting.{IsPlainAct}
-use Rattle.sc_refines_region.proofs.Calming.{IsPlain}
+use Rattle.sc_refines_region.proofs.Halves.{by_test}
+use Rattle.sc_refines_region.proofs.VisibleSteps.{IsPlainAct}
+use Rattle.sc_refines_region.proofs.CalmStages.{IsPlain}
 
 beginning : (vs : List Value) → IsPlain (asks_beginning vs)
 beginning [] = tt

@@ -16,8 +16,8 @@ use Rattle.sc_region_turns.specs.RegionSteps.{numbering_by, taken_if, AreNamed}
 use Rattle.sc_refines_region.specs.Order.{EachInOrder}
 use Rattle.sc_refines_region.specs.Joined.{AreRegionHalves, OpensAsHalves, TurnsKeepHalves, halves_after}
 use Rattle.sc_refines_region.proofs.Others.{created_are_new, idle_turn, openings_are_new, turn_counts}
-use Rattle.sc_refines_region.proofs.Staying.{others_keep_halves}
-use Rattle.sc_refines_region.proofs.Turning.{regions_follow}
+use Rattle.sc_refines_region.proofs.OtherHandlers.{others_keep_halves}
+use Rattle.sc_refines_region.proofs.Turns.{regions_follow}
 
 -- At the opening all halves are new.
 pub openings_are_halves : OpensAsHalves

@@ -21,10 +21,10 @@ use Rattle.sc_code.specs.Attributes.{attribute_number}
 use Rattle.sc_code.specs.Programs.{attribute_in}
 use Rattle.sc_region.specs.Classes.{class_at}
 use Rattle.sc_region_turns.specs.RegionSteps.{IsProgramFor}
-use Rattle.sc_interp.proofs.Playing.{none_some, some_same}
+use Rattle.sc_interp.proofs.TopRoutines.{none_some, some_same}
 use Rattle.sc_play.specs.Taking.{attribute_at}
-use Rattle.sc_refines_turn.proofs.Meeting.{attributes_told, items_of}
-use Rattle.sc_refines_turn.proofs.Standing.{mapped_get}
+use Rattle.sc_refines_turn.proofs.MetInvariants.{attributes_told, items_of}
+use Rattle.sc_refines_turn.proofs.ProgramRoutines.{mapped_get}
 
 -- Among those of a class's features the attribute stands at this number, with this type.
 pub record StandsAt (x : List ℕ) (bs : List Binding) (t : EntityType) : Type 0 where

@@ -23,10 +23,10 @@ use Rattle.sc_refines_turn.specs.Placed.{SoundJobsAreTaken, SoundTurnsAreMade, S
 use Rattle.sc_refines_turn.specs.Sound.{IsSound}
 use Rattle.sc_code.specs.RequestRoom.{FitsRequests}
 use Rattle.sc_refines_turn.specs.Turns.{RefusesUnder, begun_half}
-use Rattle.sc_refines_turn.proofs.Making.{creators_are_told}
-use Rattle.sc_refines_turn.proofs.Placing.{may_take, may_turn}
-use Rattle.sc_refines_turn.proofs.Playing.{turn_more, want_more}
-use Rattle.sc_refines_turn.proofs.Sounding.{begun_sound, turns_keep_sound, under_sound}
+use Rattle.sc_refines_turn.proofs.Creators.{creators_are_told}
+use Rattle.sc_refines_turn.proofs.PlacedTurns.{may_take, may_turn}
+use Rattle.sc_refines_turn.proofs.JobTurns.{turn_more, want_more}
+use Rattle.sc_refines_turn.proofs.SoundStores.{begun_sound, turns_keep_sound, under_sound}
 use Rattle.sc_refines_turn.proofs.Turns.{jobs_are_taken, turns_are_made}
 
 pub sound_turns_are_made : ProgramsServe → SoundTurnsAreMade

@@ -32,7 +32,7 @@ use Rattle.sc_region_turns.specs.RegionTurns as half
 use Rattle.sc_region_turns.specs.RegionTurns.{Half, goes_on, taken_turn, told_frames, turn, turn_on, with_stack}
 use Rattle.sc_interp.specs.Standing.{formals_at}
 use Rattle.sc_interp.specs.Turning.{unless_failed}
-use Rattle.sc_interp.proofs.Playing.{none_some}
+use Rattle.sc_interp.proofs.TopRoutines.{none_some}
 use Rattle.sc_region_turns.proofs.RegionSame.{still_fails}
 use Rattle.sc_play.specs.Acting.{acted, asks_acted}
 use Rattle.sc_play.specs.Answering as answering
@@ -56,22 +56,22 @@ use Rattle.sc_refines_turn.specs.Reserving.{MayOpen}
 use Rattle.sc_refines_turn.specs.Turns.{FirstTurnsAreMade, JobsAreTaken, MayAct, MayDo, MayGoOn, MayTurn, MayTurnIn, MayTurnMade, TurnsAreMade}
 use Rattle.sc_refines_turn.specs.Waiting.{IsWaitedFor, RefusesInContract}
 use Rattle.sc_refines_turn.specs.Wanting.{MayCreate, MayRequest}
-use Rattle.sc_refines_turn.proofs.Asking.{failures_are_told, same_unless, simple_steps_ask_nothing, told_by}
-use Rattle.sc_refines_turn.proofs.BlocksAsking.{blocks_ask, has_heads}
-use Rattle.sc_refines_turn.proofs.Calling.{calls_are_made}
-use Rattle.sc_refines_turn.proofs.CallsAsking.{calls_ask, object_creations_ask}
-use Rattle.sc_refines_turn.proofs.Coming.{meets}
-use Rattle.sc_refines_turn.proofs.Creating.{objects_are_created}
-use Rattle.sc_refines_turn.proofs.CreatingBy.{objects_are_created_by_name}
-use Rattle.sc_refines_turn.proofs.Exiting.{routines_end}
+use Rattle.sc_refines_turn.proofs.TurnAsks.{failures_are_told, same_unless, simple_steps_ask_nothing, told_by}
+use Rattle.sc_refines_turn.proofs.BlockAsks.{blocks_ask, has_heads}
+use Rattle.sc_refines_turn.proofs.Calls.{calls_are_made}
+use Rattle.sc_refines_turn.proofs.CallAsks.{calls_ask, object_creations_ask}
+use Rattle.sc_refines_turn.proofs.SilentOperations.{meets}
+use Rattle.sc_refines_turn.proofs.Creations.{objects_are_created}
+use Rattle.sc_refines_turn.proofs.ProcedureCreations.{objects_are_created_by_name}
+use Rattle.sc_refines_turn.proofs.Exits.{routines_end}
 use Rattle.sc_refines_turn.proofs.Jobs.{answers_are_taken, bad_answers_are_taken, grants_are_taken}
-use Rattle.sc_refines_turn.proofs.Making.{creators_are_told, made_are_answers}
-use Rattle.sc_refines_turn.proofs.Passing.{bodies_start, booleans_are_printed, integers_are_printed, rounds_end, routines_fail, texts_are_printed}
-use Rattle.sc_refines_turn.proofs.Refusing.{calls_are_refused}
-use Rattle.sc_refines_turn.proofs.Staging.{blocks_begin, blocks_end, handlers_are_created, no_block_ends, requests_are_made}
-use Rattle.sc_refines_turn.proofs.Taking.{requests_are_taken, taken_requests_ask}
-use Rattle.sc_refines_turn.proofs.Waiting.{routines_wait}
-use Rattle.sc_refines_turn.proofs.Wanting.{block_ends_ask, creations_ask, last_is, refusals_ask, requests_ask, routine_ends_ask}
+use Rattle.sc_refines_turn.proofs.Creators.{creators_are_told, made_are_answers}
+use Rattle.sc_refines_turn.proofs.PassedOperations.{bodies_start, booleans_are_printed, integers_are_printed, rounds_end, routines_fail, texts_are_printed}
+use Rattle.sc_refines_turn.proofs.Refusals.{calls_are_refused}
+use Rattle.sc_refines_turn.proofs.StageChanges.{blocks_begin, blocks_end, handlers_are_created, no_block_ends, requests_are_made}
+use Rattle.sc_refines_turn.proofs.TakenRequests.{requests_are_taken, taken_requests_ask}
+use Rattle.sc_refines_turn.proofs.WaitedClauses.{routines_wait}
+use Rattle.sc_refines_turn.proofs.TurnWants.{block_ends_ask, creations_ask, last_is, refusals_ask, requests_ask, routine_ends_ask}
 
 -- ---- what operations make of a store
 

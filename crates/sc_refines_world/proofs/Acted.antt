@@ -50,7 +50,7 @@ use Rattle.sc_interp.specs.Told as told
 use Rattle.sc_interp.specs.Told.{HasName, HasProcedure, IsReady, NamesCall, NamesCreation}
 use Rattle.sc_interp.specs.Turning.{back}
 use Rattle.sc_interp.specs.Values.{reference_of, value_of, values_of}
-use Rattle.sc_interp.proofs.Popping.{values_drop}
+use Rattle.sc_interp.proofs.Operands.{values_drop}
 use Rattle.sc_play.specs.Acting.{acted}
 use Rattle.sc_play.specs.Blocks as blocks
 use Rattle.sc_play.specs.Blocks.{closing, innermost, left_with, may_open, opened_with}

@@ -34,16 +34,16 @@ use Rattle.sc_region_turns.specs.RegionSteps.{numbering_by}
 use Rattle.sc_play.specs.Answering.{told_on, top_stage}
 use Rattle.sc_play.specs.Regions.{IsRefused, PlainRegion, Plays}
 use Rattle.sc_play.specs.Turns.{begun}
-use Rattle.sc_play.proofs.Resuming.{refused_jobs_go_on, refused_twice_is_refused}
+use Rattle.sc_play.proofs.RefusedJobs.{refused_jobs_go_on, refused_twice_is_refused}
 use Rattle.sc_world.specs.Turning.{Attempt, Attempts, HeldUpUnder, IsHeldUp, IsRefusedTurn, IsTurn, Made, Makes, Refused, Runs as RunsBy, StopsBehind, TurnsUnder, made_by}
 use Rattle.sc_world.specs.Worlds.{PlainWorld, opened}
 use Rattle.sc_world.proofs.AtOnce.{picks_job, runs_join, set_other, set_same, settled_out, settled_state}
 use Rattle.sc_refines_world.specs.Refining.{AttemptsHaveHeadline, AttemptsRunAsMachine, MachineHasHeadline, RestRunsAsMachine, TurnsStandExactly, WorldRunsAsMachine}
 use Rattle.sc_refines_world.specs.Standing.{IsNear, IsRegionFor, StandsFor, StandsNear, names_in}
 use Rattle.sc_refines_world.proofs.PuttingBack.{AreNearAt, IsNearTo, back_out, back_state, near_at, near_before, near_still, near_world}
-use Rattle.sc_refines_world.proofs.Picking.{has_job}
-use Rattle.sc_refines_world.proofs.Staying as staying
-use Rattle.sc_refines_world.proofs.Staying.{going_stays, others_stay, telling_stays}
+use Rattle.sc_refines_world.proofs.Picks.{has_job}
+use Rattle.sc_refines_world.proofs.OtherStages as staying
+use Rattle.sc_refines_world.proofs.OtherStages.{going_stays, others_stay, telling_stays}
 
 -- ---- a routine that waits for a handler that is made doesn't go on
 

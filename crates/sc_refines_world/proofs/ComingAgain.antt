@@ -8,12 +8,12 @@ use Rattle.sc_request.specs.Candidates.{comes_again, frees_under}
 use Rattle.sc_request.specs.Handlers.{State}
 use Rattle.sc_request.specs.Logs.{Center, next, pick_for, picked, settles}
 use Rattle.sc_request.specs.Settling.{goes_on, settled}
-use Rattle.sc_request.proofs.Granting.{below_there}
-use Rattle.sc_request.proofs.Waking.{had_job}
-use Rattle.sc_world.proofs.Freeing.{next_picks}
+use Rattle.sc_request.proofs.Grants.{below_there}
+use Rattle.sc_request.proofs.SettledCandidates.{had_job}
+use Rattle.sc_world.proofs.FreeHandlers.{next_picks}
 use Rattle.sc_refines_world.specs.Refining.{HandlersComeAgain}
 use Rattle.sc_world.proofs.AtOnce.{begun_goes, is_job, picks_again, settled_continue}
-use Rattle.sc_refines_world.proofs.Idling.{none_has}
+use Rattle.sc_refines_world.proofs.IdleWorlds.{none_has}
 
 none_is : {A : Type 0} (o : Option A) → is_some o ≡ false → o ≡ None
 none_is None e = refl

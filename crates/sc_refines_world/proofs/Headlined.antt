@@ -1,19 +1,15 @@
 -- The headline holds of each state that the machine on an accepted system reaches.
 use Rattle.sc_machine_rights.proofs.Machine.{machine_callbacks_come_first, machine_chains_hold, machine_only_waiters_are_told, machine_replies_meet_none, machine_reserved_are_held, machine_targets_are_kept, machine_waiters_are_told}
-use Rattle.sc_machine_rights.proofs.Posting.{posted_under_right}
+use Rattle.sc_machine_rights.proofs.Posts.{posted_under_right}
 use Rattle.sc_machine_rights.proofs.links.Held.{reached_formals_are_held, reached_names_are_held}
 use Rattle.sc_machine_rights.proofs.links.Reached.{reached_stands}
-use Rattle.sc_machine_values.proofs.Awaiting.{each_non_separate_is_own, each_value_fits}
-use Rattle.sc_machine_requests.proofs.Tops.{beyond_is_unused}
-use Rattle.sc_machine_requests.proofs.Turned.{answers_come}
+use Rattle.sc_machine_values.proofs.AwaitedEnds.{each_non_separate_is_own, each_value_fits}
 use Rattle.sc_machine_preconditions.proofs.Starts.{bodies_start_where_they_hold}
 use Rattle.sc_machine_invariants.specs.Reached.{SettledMeetWhereReached}
 use Rattle.sc_refines_world.specs.Refining.{MachineHasHeadline}
-use Rattle.sc_refines_world.proofs.Beginning.{reached_turns_move}
-use Rattle.sc_refines_world.proofs.Belonging.{reached_frames_run_on_own, reached_no_turn_is_excluded, reached_objects_are_of_classes, reached_references_lead, reached_requests_stand_at_targets}
-use Rattle.sc_refines_world.proofs.Creating.{created_begin}
-use Rattle.sc_refines_world.proofs.Knowing.{reached_frames_are_typed, reached_frames_know}
-use Rattle.sc_refines_world.proofs.Waiting.{reached_waiters_have_requests}
+use Rattle.sc_refines_world.proofs.ReachedMoves.{reached_turns_move}
+use Rattle.sc_refines_world.proofs.Ownership.{reached_frames_run_on_own, reached_no_turn_is_excluded, reached_objects_are_of_classes, reached_references_lead, reached_requests_stand_at_targets}
+use Rattle.sc_refines_world.proofs.AwaitedRequests.{reached_waiters_have_requests}
 
 pub machine_has_headline : SettledMeetWhereReached → MachineHasHeadline
 machine_has_headline settled s root faultless well most w is =

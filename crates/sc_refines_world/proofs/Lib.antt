@@ -1,36 +1,33 @@
 mod Asked
-mod Assembling
+mod RefinedRuns
 mod Attempts
 pub mod Rounds
 mod ComingAgain
 mod Contracts
 mod Headlined
-mod Idling
-mod Meeting
-mod Naming
+mod IdleWorlds
+mod TurnNeeds
+mod RequestNames
 pub mod Opening
-pub mod Picking
+pub mod Picks
 pub mod PuttingBack
-mod Reaching
+mod ReachedStates
 mod Refined
-mod Staying
-mod Reporting
-mod Running
+mod OtherStages
+mod Reports
+mod WorldTurns
 mod Wants
 mod Back
-mod Beginning
-mod Belonging
+mod ReachedMoves
+mod Ownership
 mod Exact
 mod Molds
-mod Moving
-mod Creating
-mod Scopes
-mod Knowing
+mod FrameMoves
 mod Acted
 mod Frames
-mod Growing
+mod Growth
 mod Turned
-mod Waiting
+mod AwaitedRequests
 mod Worlds
 mod OneRun
 pub mod BadStates

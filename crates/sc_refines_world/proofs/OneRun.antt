@@ -13,9 +13,9 @@ use Rattle.sc_refines_core.specs.Reached.{EntriesAreRemembered, HalvesWhereReach
 use Rattle.sc_machine_invariants.specs.Reached.{SettledMeetWhereReached}
 use Rattle.sc_world.specs.Worlds.{opened}
 use Rattle.sc_refines_world.specs.Functional.{FirstTurnsAreFunctional, FirstTurnsKeepExact, RunsAreFunctional}
-use Rattle.sc_refines_world.proofs.Assembling.{core, remembered, start}
+use Rattle.sc_refines_world.proofs.RefinedRuns.{core, remembered, start}
 use Rattle.sc_refines_world.proofs.Refined as refined
-use Rattle.sc_refines_world.proofs.Running.{CreatedAreNew}
+use Rattle.sc_refines_world.proofs.WorldTurns.{CreatedAreNew}
 use Rattle.sc_refines_world.proofs.Worlds.{Needs, Placed, runs_same, stores_turn}
 
 module _ (functional : FirstTurnsAreFunctional) (keeps : FirstTurnsKeepExact) (picks : PicksWhereTurns) (halves : HalvesWhereReached) (entries : EntriesAreRemembered) (settled : SettledMeetWhereReached)

@@ -25,7 +25,7 @@ use Rattle.sc_region_turns.specs.RegionTurns.{new_half}
 use Rattle.sc_play.specs.Regions.{PlainRegion, new_region}
 use Rattle.sc_refines_turn.specs.Taking.{IsNamed, IsNameOf}
 use Rattle.sc_code.specs.RequestRoom.{FitsRequests}
-use Rattle.sc_refines_turn.proofs.Wanting.{distinct_names_have_numbers}
+use Rattle.sc_refines_turn.proofs.TurnWants.{distinct_names_have_numbers}
 use Rattle.sc_machine_values.proofs.Opening.{opening_fits}
 use Rattle.sc_refines_core.specs.Reached as halves
 use Rattle.sc_world.specs.Worlds.{max_handlers, new_regions}

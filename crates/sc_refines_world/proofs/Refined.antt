@@ -34,13 +34,13 @@ use Rattle.sc_world.specs.Worlds.{opened}
 use Rattle.sc_refines_world.specs.Refining.{IsRunWithin, MachineHasHeadline, RoundsRunAsMachine, StoppedRoundsStayNear, StoppedWorldStaysNear, WorldHasHeadline, WorldRunsAsMachine}
 use Rattle.sc_refines_world.specs.Standing.{names_in}
 use Rattle.sc_refines_world.specs.Anew.{AnewRunsAsMachine}
-use Rattle.sc_refines_world.proofs.Assembling.{stands_along, stands_anew}
+use Rattle.sc_refines_world.proofs.RefinedRuns.{stands_along, stands_anew}
 use Rattle.sc_refines_world.proofs.Rounds.{refused_next_stops, rounds_are_turns, stops_join}
-use Rattle.sc_refines_world.proofs.Idling.{idle_world_is_idle}
-use Rattle.sc_refines_world.proofs.Meeting.{job_fits}
+use Rattle.sc_refines_world.proofs.IdleWorlds.{idle_world_is_idle}
+use Rattle.sc_refines_world.proofs.TurnNeeds.{job_fits}
 use Rattle.sc_refines_world.proofs.PuttingBack.{refused_turn_stays_near, same_or_further_near}
-use Rattle.sc_refines_world.proofs.Reaching.{in_each, reached_fits}
-use Rattle.sc_refines_world.proofs.Running.{HalvesMeet, OthersKeep, RegionsAskSo, RegionsFollow, SettledMeet, StoresTurn, TurnsEndThere}
+use Rattle.sc_refines_world.proofs.ReachedStates.{in_each, reached_fits}
+use Rattle.sc_refines_world.proofs.WorldTurns.{HalvesMeet, OthersKeep, RegionsAskSo, RegionsFollow, SettledMeet, StoresTurn, TurnsEndThere}
 
 -- a region that plays one turn stands where that left it
 one_turn : (n : ℕ) (x y : PlainStore) (w : Want) → n ≡ 1 → EndsIn n 1 x w y → y ≡ x

@@ -12,7 +12,7 @@ use Rattle.sc_world.specs.Rounds.{IsRefusedNext, StopsNext, more as one_more, no
 use Rattle.sc_world.specs.Turning.{Makes, Runs as RunsBy}
 use Rattle.sc_world.specs.Worlds.{PlainWorld}
 use Rattle.sc_world.proofs.AtOnce.{all_run, center_there, goes_there, picks_job, runs_join, same_region, set_same, stopped, there, turns_there}
-use Rattle.sc_world.proofs.Freeing.{next_picks}
+use Rattle.sc_world.proofs.FreeHandlers.{next_picks}
 use Rattle.sc_refines_world.specs.Refining.{RoundsAreTurns}
 use Rattle.sc_refines_world.specs.Standing.{IsNear}
 use Rattle.sc_refines_world.proofs.PuttingBack.{IsFurther, held_further}

@@ -26,7 +26,7 @@ use Rattle.sc_interp.specs.Standing.{hopped}
 use Rattle.sc_interp.specs.Told as told
 use Rattle.sc_interp.specs.Told.{IsTold}
 use Rattle.sc_interp.specs.Values.{reference_of}
-use Rattle.sc_interp.proofs.Playing.{none_some, some_same}
+use Rattle.sc_interp.proofs.TopRoutines.{none_some, some_same}
 use Rattle.sc_region_turns.specs.Laws.{ProgramsServe}
 use Rattle.sc_region_turns.specs.RegionHalves.{AreFrames, IsFrame, IsRegionOf}
 use Rattle.sc_region_turns.specs.RegionSteps.{IsProgramFor}
@@ -36,14 +36,14 @@ use Rattle.sc_play.specs.Turns.{Becomes, FirstTurn, GoesOn, TurnIn, TurnMade, do
 use Rattle.sc_refines_turn.specs.Making.{CreatorsAreTold, told_half}
 use Rattle.sc_refines_turn.specs.Placed.{SoundJobsAreTaken, told_when}
 use Rattle.sc_refines_turn.specs.Wanting.{DistinctNamesHaveNumbers}
-use Rattle.sc_refines_turn.proofs.Coming.{runs_in}
+use Rattle.sc_refines_turn.proofs.SilentOperations.{runs_in}
 use Rattle.sc_refines_turn.proofs.Unique.{hop_shown, one_visible}
 use Rattle.sc_refines_world.specs.Functional.{AreExact, FirstTurnsAreFunctional, FirstTurnsKeepExact, IsGiven}
 use Rattle.sc_refines_world.proofs.Acted.{Left, done_tells}
 use Rattle.sc_refines_world.proofs.Back.{objects_same}
 use Rattle.sc_refines_world.proofs.Exact.{Grown, exact_grown, exact_shapes}
 use Rattle.sc_refines_world.proofs.Frames.{frames_same, molds_many}
-use Rattle.sc_refines_world.proofs.Growing.{grows_failing, grows_granting, grows_replying, grows_taking}
+use Rattle.sc_refines_world.proofs.Growth.{grows_failing, grows_granting, grows_replying, grows_taking}
 use Rattle.sc_refines_world.proofs.Molds.{Told, molds_of, told_same}
 
 -- ---- stores

@@ -32,9 +32,9 @@ use Rattle.sc_world.specs.Turning.{IsTurn, Makes, Runs, TurnsUnder}
 use Rattle.sc_world.specs.Worlds.{PlainWorld}
 use Rattle.sc_refines_world.specs.Standing.{IsRegionFor, names_in}
 use Rattle.sc_world.proofs.AtOnce.{picks_job}
-use Rattle.sc_refines_world.proofs.Picking.{has_job}
-use Rattle.sc_refines_world.proofs.Reaching.{one_further}
-use Rattle.sc_refines_world.proofs.Running.{Beside, CreatedAreNew, HalvesMeet, OthersKeep, RegionsAskSo, RegionsFollow, SettledMeet, StoresTurn, TurnsEndThere, turn_steps}
+use Rattle.sc_refines_world.proofs.Picks.{has_job}
+use Rattle.sc_refines_world.proofs.ReachedStates.{one_further}
+use Rattle.sc_refines_world.proofs.WorldTurns.{Beside, CreatedAreNew, HalvesMeet, OthersKeep, RegionsAskSo, RegionsFollow, SettledMeet, StoresTurn, TurnsEndThere, turn_steps}
 use Rattle.sc_refines_world.specs.Functional.{AreExact, FirstTurnsAreFunctional, FirstTurnsKeepExact, IsGiven}
 
 -- ---- one turn

@@ -1,9 +1,9 @@
 pub mod Stacks
 pub mod Numbered
 pub mod Placed
-pub mod Meeting
-pub mod Settling
-pub mod Filling
-pub mod Reaching
-pub mod Calling
+pub mod InvariantTests
+pub mod SettledObjects
+pub mod FilledSlots
+pub mod DeeperOperands
+pub mod OwnCalls
 pub mod Sameness

@@ -118,7 +118,7 @@ fn fill(items: &mut Vec<Value>, count: usize) -> Result<(), AllocError>
 }
 
 /// So many more values, for which there is room. They are Void.
-#[tactic(auto, using(crate::proofs::Filling::slot_more))]
+#[tactic(auto, using(crate::proofs::FilledSlots::slot_more))]
 pub(crate) fn add_voids(items: &mut Vec<Value>, count: usize)
     requires { vec_len items.old + count ≤ vec_capacity items.old }
     ensures { items.new.items ≡ items.old.items ++ replicate count Void }

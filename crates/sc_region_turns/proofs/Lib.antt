@@ -1,4 +1,4 @@
-pub mod Serving
+pub mod ProgramTables
 pub mod RegionOpening
 pub mod RegionSame
 pub mod RegionPlays

@@ -7,7 +7,7 @@ use Rattle.sc_tree.specs.Plain.{System, Class, Feature, Expr, Instr}
 use Rattle.sc_model.specs.declared.cause.Cause.TheVariants.{Invariant, Check, Precondition, UnsetEntity, SupplierFailed}
 use Rattle.sc_model.specs.declared.status.Status.TheVariants.{Failed, Busy, Waiting, Free}
 use Rattle.sc_model.proofs.Texts.{detachable, the_result, void, old, block, ensuring, heir_of, own, separate, integer, declared, number, truth, the_current, entity, on, both, assign, assign_result, call, print, call_on, create, create_by, check, attribute, routine, procedure, class, application, system}
-use Rattle.sc_model.proofs.Playing.{rounds}
+use Rattle.sc_model.proofs.PlayedTurns.{rounds}
 use Rattle.sc_region_turns.proofs.RegionPlays.{played, outcome}
 
 -- the entity compares so with the number

@@ -17,7 +17,7 @@ use Rattle.sc_request.specs.Sessions.{given_to, is_callback, passed_if, passes, 
 use Rattle.sc_request.specs.Settling.{awaits_if, creates, creates_with, creation, made_at, sends, takes_answer}
 use Rattle.sc_request.specs.Tables.{handler_in, handler_at, handler_with, state_of}
 use Rattle.sc_request.proofs.Outs.{get_same, get_other}
-use Rattle.sc_request.proofs.Placing.{handler_is}
+use Rattle.sc_request.proofs.ChangedTables.{handler_is}
 
 -- ---- a new handler
 

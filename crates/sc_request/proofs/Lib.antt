@@ -3,37 +3,37 @@ mod Rows
 mod Turns
 mod SameValues
 pub mod Opening
-mod Filling
+mod OpeningTables
 mod Kept
 mod Sent
 mod Taken
-mod Answering
-mod Acting
-mod Exiting
-mod Requesting
-mod Stepping
-pub mod Halving
+mod TakenAnswers
+mod VisibleSteps
+mod Exits
+mod Requests
+mod SettlementSteps
+pub mod StageHalves
 mod Outs
 mod Rounds
 mod Bits
-pub mod Granting
-mod Placing
+pub mod Grants
+mod ChangedTables
 mod Counted
 pub mod Sounds
-mod Releasing
+mod Releases
 mod Settles
 mod Shapes
 mod Created
 mod Ended
 mod Fallen
 mod Untouched
-mod Reserving
+mod Reservers
 mod Elsewhere
 mod Posters
 mod Quiet
-pub mod Waking
+pub mod SettledCandidates
 mod Entries
 mod SameLists
 mod Sames
 mod SameStates
-pub mod Keeping
+pub mod KeptCores

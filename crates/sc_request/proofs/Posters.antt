@@ -7,7 +7,7 @@ use Rattle.sc_request.specs.Handlers.{Service, Handler}
 use Rattle.sc_request.specs.Sessions.{to_list}
 use Rattle.sc_request.specs.Tables.{first_posted, handler_at, posting_of, service_of}
 use Rattle.sc_request.specs.Candidates.{may_hear_from, posted_first}
-use Rattle.sc_request.proofs.Placing.{handler_is}
+use Rattle.sc_request.proofs.ChangedTables.{handler_is}
 
 served_first : (k : ℕ) (ps : List Posting) → posted_first k (map posting_of ps) ≡ posted_first k (map (λ (v : Service). v.posted) (map service_of ps))
 served_first k [] = refl

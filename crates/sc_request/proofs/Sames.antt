@@ -8,7 +8,7 @@ use Rattle.sc_request.specs.declared.handler.Handler as coded
 use Rattle.sc_request.specs.Handlers.{Handler, new_handler}
 use Rattle.sc_request.specs.Same.{AreAskedAlike, StandAlike}
 use Rattle.sc_request.specs.Tables.{handler_of, handler_in, handler_at}
-use Rattle.sc_request.proofs.Placing.{handler_is}
+use Rattle.sc_request.proofs.ChangedTables.{handler_is}
 
 -- handlers that stand the same, are asked for the same, and have as many sessions, are the same
 pub same_alike : (x y : Handler) → StandAlike x y → AreAskedAlike x y → x.sessions ≡ y.sessions → x ≡ y

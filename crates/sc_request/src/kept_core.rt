@@ -41,7 +41,7 @@ impl Core {
     ///
     /// # Errors
     /// Where there is no memory. The core is gone then, too.
-    #[tactic(auto, using(crate::proofs::Keeping::same_states))]
+    #[tactic(auto, using(crate::proofs::KeptCores::same_states))]
     pub fn keep(self, alloc: Global) -> Result<KeptCore, AllocError>
         ensures { IfOk result (λ core. kept_of core ≡ state_of self) }
     {
@@ -60,7 +60,7 @@ impl KeptCore {
     ghost use Rattle.sc_request.specs.Kept.{kept_of};
 
     /// Whether the state of a core is the one that is kept.
-    #[tactic(auto, using(crate::proofs::Keeping::same_states))]
+    #[tactic(auto, using(crate::proofs::KeptCores::same_states))]
     pub fn is_same(&self, core: &Core) -> bool
         ensures { IsTrue result ↔ kept_of self.now ≡ state_of core.now }
     {
@@ -169,7 +169,7 @@ fn same_handlers(
 }
 
 /// Whether the handlers at a place, and the counts of their sessions, are the same. One that there isn't is new.
-#[tactic(auto, using(crate::proofs::Keeping::same_there, crate::proofs::Keeping::same_handler_there, crate::proofs::Keeping::same_count_there))]
+#[tactic(auto, using(crate::proofs::KeptCores::same_there, crate::proofs::KeptCores::same_handler_there, crate::proofs::KeptCores::same_count_there))]
 fn same_at(
     handlers: &[Handler],
     sessions: &[u64],

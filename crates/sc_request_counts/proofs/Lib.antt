@@ -1,6 +1,6 @@
-pub mod Staying
-pub mod Acting
-pub mod Turning
-pub mod Settling
-pub mod Linking
+pub mod StoreChanges
+pub mod VisibleOperations
+pub mod TurnCounts
+pub mod SettledCounts
+pub mod Links
 pub mod Props

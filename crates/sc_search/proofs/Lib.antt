@@ -1,7 +1,7 @@
-mod Turning
-mod Keeping
-mod Ending
-mod Trying
+mod LineTurns
+mod KeptStates
+mod OrderEnds
+mod TriedTurns
 mod Reasons
 mod Verdicts
 mod Rows

@@ -21,7 +21,7 @@ use Rattle.sc_search.specs.Aims.{AreStuck, HasFailed, IsMet, tells_failure}
 use Rattle.sc_search.specs.Limits.{AllMet, AllPlayed, ArePlayed, GivesUp, IsOrder, NothingSays, SaysWhy, Two, turns_a_state}
 use Rattle.sc_search.specs.Steps.{IsLedTo}
 use Rattle.sc_search.specs.Stops.{AreReached, ChoiceStopsFor, HasStopped, IsOrdered, IsReached, MeetsAfter, MissesAfter, StopsFor, goes_on, is_undecided}
-use Rattle.sc_search.proofs.Keeping.{get_before, get_either, get_last}
+use Rattle.sc_search.proofs.KeptStates.{get_before, get_either, get_last}
 
 -- ---- lists
 

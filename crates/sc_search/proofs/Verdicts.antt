@@ -10,7 +10,7 @@ use Rattle.sc_world.specs.Worlds.{PlainWorld, opened}
 use Rattle.sc_search.specs.declared.aims.Aim.{Aim}
 use Rattle.sc_search.specs.Aims.{IsMet}
 use Rattle.sc_search.specs.Found.{EndsFirst, LeadsTo, RunsUnmet, turns_of}
-use Rattle.sc_search.proofs.Ending.{unmet_runs}
+use Rattle.sc_search.proofs.OrderEnds.{unmet_runs}
 
 pub leads : (p : Image) (v : Version) (a : Aim) (lines : List RecordLine) (turns : List ℕ) (w : PlainWorld) (Stand : List Status → Type 0) (ss : List Status) →
     turns_of lines ≡ turns → RunsUnmet a turns (opened p v) w → ss ≡ statuses w → Stand ss → LeadsTo p v lines Stand

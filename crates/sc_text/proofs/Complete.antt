@@ -12,7 +12,7 @@ use Rattle.sc_text.specs.Words.{long_symbol, short_symbol, goes_on}
 use Rattle.sc_text.specs.Spelling.{span_at, IsWord, word as a_word, IsInteger, last_digit, digit, IsManifest, IsQuoted, pair, IsGap, white_space, comment, IsToken, name, reserved_word, integer as an_integer, manifest_string as a_manifest_string, long, short, IsFault, bad_character, unclosed_string, bad_escape, integer_too_large}
 use Rattle.sc_text.specs.Reading.Lengths.{integer_end, closing}
 use Rattle.sc_text.specs.Reading.Front.{Gap, Lexed, Flaw, kind_of_word, word_of, word, number, integer_of, integer, with_mark, marks_read, manifest_of, manifest_by, manifest_string, symbol_of, symbol, front}
-use Rattle.sc_text.proofs.Scanning.{prefix_len-split}
+use Rattle.sc_text.proofs.PartLengths.{prefix_len-split}
 use Rattle.sc_text.proofs.Integers.{integer_end-split}
 use Rattle.sc_text.proofs.Strings.{quoted_manifest, IsQuoted-append, closing_complete, closing_none, marks_complete}
 use Rattle.sc_text.proofs.Classes.{choose_true, choose_false, or_false, true_le, false_le, begins_other, other_is, letter_not_white_space, letter_name_part, digit_not_white_space, digit_not_letter, short_symbol_other, long_symbol_other, long_symbol_none, and_false, none_is}

@@ -1,7 +1,7 @@
 pub mod Classes
 pub mod Complete
 pub mod Integers
-pub mod Scanning
+pub mod PartLengths
 pub mod Sound
 pub mod Strings
 pub mod Whole

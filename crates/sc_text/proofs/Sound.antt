@@ -12,7 +12,7 @@ use Rattle.sc_text.specs.Words.{reserved, long_symbol, short_symbol, goes_on}
 use Rattle.sc_text.specs.Spelling.{span_at, IsWord, word as a_word, IsInteger, IsGap, white_space, comment, IsToken, name, reserved_word, integer as an_integer, manifest_string as a_manifest_string, long, short, IsFault, bad_character, unclosed_string, bad_escape, integer_too_large}
 use Rattle.sc_text.specs.Reading.Lengths.{integer_end, closing}
 use Rattle.sc_text.specs.Reading.Front.{Front, Gap, Lexed, Flaw, kind_of_word, word_of, word, number, integer_of, integer, marks_read, manifest_of, manifest_by, manifest_string, symbol_of, symbol, front}
-use Rattle.sc_text.proofs.Scanning.{IsPrefix, prefix_len-IsPrefix}
+use Rattle.sc_text.proofs.PartLengths.{IsPrefix, prefix_len-IsPrefix}
 use Rattle.sc_text.proofs.Integers.{number_sound}
 use Rattle.sc_text.proofs.Strings.{IsClosed, IsClosed-closing, closing_complete, Marked, whole, broken, marks_sound}
 use Rattle.sc_text.proofs.Classes.{chosen, and_true, and_false, eq_true, le_true, le_false, begins_other, is_other_from, letter_name_part, long_symbol_none}

@@ -8,7 +8,7 @@ use Rattle.sc_tree.specs.Bare.{named}
 use Rattle.sc_tree.specs.Grammar as grammar
 use Rattle.sc_tree.specs.Grammar.{top, prefix_of, spelling, goes_on, IsPrimary, IsChain, IsActuals, IsExpr, IsClause, IsClauses, IsAssertion}
 use Rattle.sc_tree.specs.Internal.Reading.{Read, ◌>>=◌, same_terminal, sees, skip_semicolons, begins_expr, begins_expr_by, tag_ahead, past_tag, expr, clause, clauses_from, clauses, assertion, nested_clauses}
-use Rattle.sc_tree.proofs.Combining.{Comes, fits, deep, lastly, along, needs, grown, where_true, where_false, choose_true, choose_false}
+use Rattle.sc_tree.proofs.ReadingSteps.{Comes, fits, deep, lastly, along, needs, grown, where_true, where_false, choose_true, choose_false}
 use Rattle.sc_tree.proofs.Looks.{sees_self, no_second}
 use Rattle.sc_tree.proofs.Lists.{some_tokens, skip_one, skip_none, skip_shorter}
 use Rattle.sc_tree.proofs.Follows.{connects, operator_unseen, Apart, apart_sees, apart_goes_on, begins_apart, expr_begins}

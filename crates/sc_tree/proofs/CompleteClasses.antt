@@ -8,7 +8,7 @@ use Rattle.sc_tree.specs.Bare.{named}
 use Rattle.sc_tree.specs.Grammar as grammar
 use Rattle.sc_tree.specs.Grammar.{IsInstrs, declared_as, attribute_of, routine_of, class_of, heads_class, ends_class, exported_to, none_name, IsNames, IsOptional, IsType, IsDeclaration, IsDeclarations, IsFormals, IsLocalList, IsLocals, IsResultType, IsFeature, IsSemicolons, IsFeatures, IsExports, IsSections, IsFree, IsNote, IsMark, IsParent, IsParentList, IsParents, IsCreators, IsAssertion, IsClass, IsClasses}
 use Rattle.sc_tree.specs.Internal.Reading.{Read, ◌>>=◌, is_terminal, same_terminal, sees, expect, skip, name_ahead, names, assertion, past_free, past_note, mark, parent, parents_from, parents, creators, is_done, sections, class_marked, class, classes_from}
-use Rattle.sc_tree.proofs.Combining.{between, Comes, fits, both, surely, lastly, along, needs, grown, bind_ok, choose_true, choose_false}
+use Rattle.sc_tree.proofs.ReadingSteps.{between, Comes, fits, both, surely, lastly, along, needs, grown, bind_ok, choose_true, choose_false}
 use Rattle.sc_tree.proofs.Looks.{expect_self, sees_self}
 use Rattle.sc_tree.proofs.Lists.{some_tokens}
 use Rattle.sc_tree.proofs.CompleteTypes.{complete_names}

@@ -8,7 +8,7 @@ use Rattle.sc_tree.specs.Plain.{Name, DeclaredType, Declaration}
 use Rattle.sc_tree.specs.Grammar as grammar
 use Rattle.sc_tree.specs.Grammar.{IsInstrs, declared_as, attribute_of, routine_of, class_of, heads_class, ends_class, exported_to, none_name, IsNames, IsOptional, IsType, IsDeclaration, IsDeclarations, IsFormals, IsLocalList, IsLocals, IsResultType, IsFeature, IsSemicolons, IsFeatures, IsExports, IsSections, IsFree, IsNote, IsMark, IsParent, IsParentList, IsParents, IsCreators, IsAssertion, IsClass, IsClasses}
 use Rattle.sc_tree.specs.Internal.Reading.{Taken, ◌>>=◌, same_terminal, sees, expect, skip, name_ahead, names, declared_type, declaration, more_declarations, formals, locals_from, locals, result_type}
-use Rattle.sc_tree.proofs.Combining.{between, bind_ok, choose_true, choose_false}
+use Rattle.sc_tree.proofs.ReadingSteps.{between, bind_ok, choose_true, choose_false}
 use Rattle.sc_tree.proofs.Looks.{expect_self, sees_self}
 use Rattle.sc_tree.proofs.Lists.{some_tokens}
 use Rattle.sc_tree.proofs.CompleteTypes.{complete_names, complete_type}

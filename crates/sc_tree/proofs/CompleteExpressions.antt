@@ -11,7 +11,7 @@ use Rattle.sc_tree.specs.Bare.{nowhere, named}
 use Rattle.sc_tree.specs.Grammar as grammar
 use Rattle.sc_tree.specs.Grammar.{class_below, groups, top, prefix_of, spelling, IsPrimary, IsChain, IsActuals, IsExprs, IsExpr}
 use Rattle.sc_tree.specs.Internal.Reading.{Deep, Read, ◌>>=◌, same_terminal, sees, expect, name, begins_expr, operator_ahead, tested_type, exprs_push, parenthesized, more_exprs, exprs, actuals, calling, chain_head, calls, chain, object_test, primary, prefixed, operand_by, operand, with_operator, operators, level, expr, nested}
-use Rattle.sc_tree.proofs.Combining.{behind_word, Comes, fits, deep, both, surely, lastly, along, needs, grown, bind_ok, bind_err, choose_true, choose_false, le_true, le_false}
+use Rattle.sc_tree.proofs.ReadingSteps.{behind_word, Comes, fits, deep, both, surely, lastly, along, needs, grown, bind_ok, bind_err, choose_true, choose_false, le_true, le_false}
 use Rattle.sc_tree.proofs.Looks.{expect_self, sees_self, operator_seen, above_own, past_spelling, no_second}
 use Rattle.sc_tree.proofs.Lists.{exprs_joined, exprs_joined-push, exprs_joined-none}
 use Rattle.sc_tree.proofs.Follows.{Unlinked, Stops, fewer, operator_stops, Apart, apart_stops, ChainFirst, name_first, current_first, result_first, chain_first, primary_unprefixed, prefix_seen, expr_begins, operator_longer}

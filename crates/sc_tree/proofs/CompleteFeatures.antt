@@ -8,7 +8,7 @@ use Rattle.sc_tree.specs.Bare.{named}
 use Rattle.sc_tree.specs.Grammar as grammar
 use Rattle.sc_tree.specs.Grammar.{IsInstrs, declared_as, attribute_of, routine_of, class_of, heads_class, ends_class, exported_to, none_name, IsNames, IsOptional, IsType, IsDeclaration, IsDeclarations, IsFormals, IsLocalList, IsLocals, IsResultType, IsFeature, IsSemicolons, IsFeatures, IsExports, IsSections, IsFree, IsNote, IsMark, IsParent, IsParentList, IsParents, IsCreators, IsAssertion, IsClass, IsClasses}
 use Rattle.sc_tree.specs.Internal.Reading.{◌>>=◌, past, same_terminal, sees, expect, skip, skip_semicolons, name_ahead, names, declared_type, instrs, assertion, formals, locals, result_type, begins_routine, export_list, exports, routine, attribute_or_routine, attributes, feature, features_from, sections_from, sections}
-use Rattle.sc_tree.proofs.Combining.{between, Comes, fits, both, surely, lastly, along, needs, same_reads, nested_max, grown, where_true, where_false, bind_ok, choose_true, choose_false}
+use Rattle.sc_tree.proofs.ReadingSteps.{between, Comes, fits, both, surely, lastly, along, needs, same_reads, nested_max, grown, where_true, where_false, bind_ok, choose_true, choose_false}
 use Rattle.sc_tree.proofs.Looks.{expect_self, sees_self}
 use Rattle.sc_tree.proofs.Lists.{some_tokens, skip_none, skip_all}
 use Rattle.sc_tree.proofs.CompleteTypes.{NamesRead, names_read, names_are_read, complete_names, complete_type}

@@ -10,7 +10,7 @@ use Rattle.sc_tree.specs.Bare.{nowhere, named}
 use Rattle.sc_tree.specs.Grammar as grammar
 use Rattle.sc_tree.specs.Grammar.{top, print_name, around, IsExpr, IsChain, IsActuals, IsExprs, IsClauses, IsVariable, IsHead, IsHeads, IsInstr, IsInstrs, IsBranches, IsElse}
 use Rattle.sc_tree.specs.Internal.Reading.{Deep, Read, ◌>>=◌, past, same_terminal, sees, expect, skip_semicolons, name, name_ahead, sees_word, text_ahead, begins_instr, begins_instr_by, begins_expr, actuals, chain, expr, nested, nested_clauses, instrs_push, branches_push, variable, assigns, prints, nested_chain, assignment, printing, routine_call, creation, branch, branches, other, conditional, iteration, checked, checking, head, more_heads, heads, block, instr, instrs_from, body, instrs, nested_instrs}
-use Rattle.sc_tree.proofs.Combining.{behind_word, Comes, fits, deep, both, surely, lastly, along, needs, grown, where_true, where_false, choose_true, choose_false, not_both}
+use Rattle.sc_tree.proofs.ReadingSteps.{behind_word, Comes, fits, deep, both, surely, lastly, along, needs, grown, where_true, where_false, choose_true, choose_false, not_both}
 use Rattle.sc_tree.proofs.Looks.{expect_self, sees_self, sees_is}
 use Rattle.sc_tree.proofs.Lists.{some_tokens, instrs_joined, instrs_joined-push, instrs_joined-none, branches_joined, branches_joined-push, branches_joined-none, skip_one, skip_none, skip_shorter}
 use Rattle.sc_tree.proofs.Follows.{connects, Apart, apart_sees, apart_unlinked, ChainFirst, name_first, current_first, result_first, chain_first, exprs_begin}

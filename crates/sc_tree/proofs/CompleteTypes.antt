@@ -7,7 +7,7 @@ use Rattle.sc_tree.specs.Bare.{named}
 use Rattle.sc_tree.specs.Grammar as grammar
 use Rattle.sc_tree.specs.Grammar.{type_of, IsNames, IsAttachment, IsHandlerTag, IsType, IsTestedType}
 use Rattle.sc_tree.specs.Internal.Reading.{Taken, ◌>>=◌, same_terminal, sees, expect, expect_word, name, more_names, names, attachment, handler_of, handler_tag, declared_type, tested_type}
-use Rattle.sc_tree.proofs.Combining.{bind_ok, choose_false}
+use Rattle.sc_tree.proofs.ReadingSteps.{bind_ok, choose_false}
 use Rattle.sc_tree.proofs.Follows.{ChainFirst, name_first, current_first, result_first}
 
 -- names as they are read: a first one, and what follows it

@@ -11,7 +11,7 @@ use Rattle.sc_tree.specs.Plain.{Exprs, Expr}
 use Rattle.sc_tree.specs.Grammar as grammar
 use Rattle.sc_tree.specs.Grammar.{IsExprs, class_below, prefix_of, spelling, goes_on, goes_on_by, IsPrimary, IsChain, IsExpr}
 use Rattle.sc_tree.specs.Internal.Reading.{past, option_completed, operator_by, sees, begins_expr, begins_expr_by, prefix_ahead, operator_at, operator_ahead, above, past_operator}
-use Rattle.sc_tree.proofs.Combining.{not_both}
+use Rattle.sc_tree.proofs.ReadingSteps.{not_both}
 use Rattle.sc_tree.proofs.Looks.{sees_is, operator_is, class_seen, above_none}
 
 -- whatever is no operator doesn't stand first where one does

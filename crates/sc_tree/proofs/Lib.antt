@@ -1,5 +1,5 @@
 pub mod ViewLemmas
-pub mod Combining
+pub mod ReadingSteps
 pub mod Looks
 pub mod Lists
 pub mod SoundTypes
@@ -18,7 +18,7 @@ pub mod CompleteFeatures
 pub mod CompleteClasses
 pub mod Whole
 pub mod Depths
-pub mod Printing
+pub mod PrintingLines
 pub mod PrintingInstructions
 pub mod PrintingParts
 pub mod PrintingClasses

@@ -7,7 +7,7 @@ use Rattle.sc_text.specs.declared.token.Terminal.TheVariants as terminal
 use Rattle.sc_tree.specs.Plain.{Expr, Exprs, no_exprs, expr_then, Instr, Instrs, no_instrs, instr_then, Branches, no_branches, branch_then}
 use Rattle.sc_tree.specs.Grammar.{IsOptional, absent, present, IsSemicolons, no_semicolon, one_more}
 use Rattle.sc_tree.specs.Internal.Reading.{past, is_terminal, sees, skip, skip_semicolons, exprs_push, instrs_push, branches_push}
-use Rattle.sc_tree.proofs.Combining.{not_both, Spelled, Added}
+use Rattle.sc_tree.proofs.ReadingSteps.{not_both, Spelled, Added}
 use Rattle.sc_tree.proofs.Looks.{sees_is, sees_self}
 
 abbrev pub exprs_joined : Exprs → Exprs → Exprs

@@ -15,7 +15,7 @@ use Rattle.sc_tree.specs.Plain.{Name}
 use Rattle.sc_tree.specs.Bare.{named}
 use Rattle.sc_tree.specs.Grammar.{class_below, prefix_of, spelling}
 use Rattle.sc_tree.specs.Internal.Reading.{Wrong, past, same_terminal, sees, begins_expr, begins_expr_by, expect, name, text, sees_word, expect_word, integer_ahead, prefix_by, prefix_ahead, operator_by, completed, option_completed, operator_at, above, operator_ahead, past_operator}
-use Rattle.sc_tree.proofs.Combining.{Holds, holds, nothing, choose_true, choose_false, not_both}
+use Rattle.sc_tree.proofs.ReadingSteps.{Holds, holds, nothing, choose_true, choose_false, not_both}
 
 pub same_is : (a b : Terminal) → same_terminal a b ≡ true → a ≡ b
 unfolding same_terminal

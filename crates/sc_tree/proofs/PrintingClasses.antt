@@ -14,7 +14,7 @@ use Rattle.sc_tree.specs.Canonical.Layout.{Part, Line, line, word, separated, ro
 use Rattle.sc_tree.specs.Canonical.Expressions.{names_parts, class_names_parts}
 use Rattle.sc_tree.specs.Canonical.Classes.{same_names, declaration_parts, formals_parts, exports_parts, redefined_parts, section_line, feature_lines, further_feature_lines, further_features_lines, sections_lines, class_lines, classes_lines, further_classes_lines}
 use Rattle.sc_tree.specs.Internal.Printer.{Output, gap, put, puts, begin, end, put_line, put_lines}
-use Rattle.sc_tree.proofs.Printing.{puts-append, put_lines-append, drop_at, first_and_rest}
+use Rattle.sc_tree.proofs.PrintingLines.{puts-append, put_lines-append, drop_at, first_and_rest}
 
 pub same_names-length : (xs ys : List Name) → (length xs ≡ length ys → ⊥) → same_names (map name_of xs) (map name_of ys) ≡ false
 same_names-length [] [] h = absurd (h refl)

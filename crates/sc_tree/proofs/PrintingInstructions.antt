@@ -15,7 +15,7 @@ use Rattle.sc_tree.specs.Canonical.Expressions.{expr_parts}
 use Rattle.sc_tree.specs.Canonical.Instructions.{instr_lines, instrs_lines, branches_lines, else_lines, guard_line, reservation_line}
 use Rattle.sc_tree.specs.Internal.Printer.{Output, put_line, put_lines}
 use Rattle.sc_tree.proofs.ViewLemmas.{instr_of-if, instr_of-loop, instr_of-block}
-use Rattle.sc_tree.proofs.Printing.{put_lines-append, drop_at}
+use Rattle.sc_tree.proofs.PrintingLines.{put_lines-append, drop_at}
 
 pub else_lines-some : (n : ℕ) (xs : List Instr) → (length xs == 0) ≡ false → else_lines n (instrs_of xs) ≡ line n (word terminal.Else ∷ []) ∷ []
 else_lines-some n [] h = cc

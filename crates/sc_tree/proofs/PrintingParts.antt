@@ -16,7 +16,7 @@ use Rattle.sc_tree.specs.Canonical.Expressions.{name_part, type_parts, expr_part
 use Rattle.sc_tree.specs.Canonical.Instructions.{tag_parts, head_parts, clauses_lines, assertion_lines}
 use Rattle.sc_tree.specs.Canonical.Classes.{declaration_parts}
 use Rattle.sc_tree.specs.Internal.Printer.{Output, gap, put, puts, begin, put_lines}
-use Rattle.sc_tree.proofs.Printing.{puts-append}
+use Rattle.sc_tree.proofs.PrintingLines.{puts-append}
 
 -- ---- bytes
 

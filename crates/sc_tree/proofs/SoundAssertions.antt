@@ -9,7 +9,7 @@ use Rattle.sc_tree.specs.Grammar as grammar
 use Rattle.sc_text.specs.declared.token.Terminal.{Terminal}
 use Rattle.sc_tree.specs.Grammar.{top, goes_on, IsClause, IsClauses, IsAssertion}
 use Rattle.sc_tree.specs.Internal.Reading.{◌>>=◌, past, sees, skip_semicolons, begins_expr, tag_ahead, past_tag, expr, clause, clauses_from, clauses, assertion, nested_clauses}
-use Rattle.sc_tree.proofs.Combining.{Holds, holds, nothing, holds_then, holds_if, holds_also, Added, through}
+use Rattle.sc_tree.proofs.ReadingSteps.{Holds, holds, nothing, holds_then, holds_if, holds_also, Added, through}
 use Rattle.sc_tree.proofs.Looks.{sees_is}
 use Rattle.sc_tree.proofs.Lists.{all_added, unskipped}
 use Rattle.sc_tree.proofs.SoundExpressions.{Sound, sound_expr}

@@ -9,7 +9,7 @@ use Rattle.sc_tree.specs.Bare.{named}
 use Rattle.sc_tree.specs.Grammar as grammar
 use Rattle.sc_tree.specs.Grammar.{declared_as, attribute_of, routine_of, class_of, heads_class, ends_class, exported_to, none_name, IsNames, IsOptional, IsType, IsDeclaration, IsDeclarations, IsFormals, IsLocalList, IsLocals, IsResultType, IsFeature, IsFeatures, IsExports, IsSections, IsFree, IsNote, IsMark, IsParent, IsParentList, IsParents, IsCreators, IsAssertion, IsClass, IsClasses}
 use Rattle.sc_tree.specs.Internal.Reading.{◌>>=◌, past, sees, skip, skip_semicolons, name_ahead, declaration, more_declarations, formals, locals_from, locals, result_type, begins_routine, export_list, exports, past_free, past_note, mark, parent, parents_from, parents, creators, is_done, routine, attribute_or_routine, attributes, feature, features_from, sections_from, sections, class_marked, class, classes_from}
-use Rattle.sc_tree.proofs.Combining.{Holds, holds, holds_then, holds_if, holds_also, Spelled, Begins, Added, through}
+use Rattle.sc_tree.proofs.ReadingSteps.{Holds, holds, holds_then, holds_if, holds_also, Spelled, Begins, Added, through}
 use Rattle.sc_tree.proofs.Looks.{sees_is, expect_holds, NameFirst, name_first, name_holds, first_name}
 use Rattle.sc_tree.proofs.Lists.{told, all_added, Unskipped, one_token, no_tokens, skipped, skipped_one}
 use Rattle.sc_tree.proofs.SoundTypes.{sound_more_names, sound_names, sound_type, either}

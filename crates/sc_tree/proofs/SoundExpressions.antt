@@ -10,7 +10,7 @@ use Rattle.sc_tree.specs.Bare.{nowhere, named}
 use Rattle.sc_tree.specs.Grammar as grammar
 use Rattle.sc_tree.specs.Grammar.{class_below, groups, top, prefix_of, spelling, IsPrimary, IsChain, IsActuals, IsExprs, IsExpr, IsTestedType}
 use Rattle.sc_tree.specs.Internal.Reading.{Read, past, sees, integer_ahead, prefix_ahead, operator_ahead, past_operator, exprs_push, parenthesized, more_exprs, exprs, actuals, calling, chain_head, calls, chain, object_test, integer_or_chain, primary, prefixed, operand_by, operand, with_operator, operators, level, beyond, expr, nested}
-use Rattle.sc_tree.proofs.Combining.{Holds, holds, nothing, holds_then, holds_if, holds_also, Spelled, through}
+use Rattle.sc_tree.proofs.ReadingSteps.{Holds, holds, nothing, holds_then, holds_if, holds_also, Spelled, through}
 use Rattle.sc_tree.proofs.Looks.{sees_is, expect_holds, name_holds, first_name, integer_is, prefix_is, Ahead, ahead, ahead_is}
 use Rattle.sc_tree.proofs.Lists.{exprs_joined, exprs_joined-push, exprs_joined-none, told}
 use Rattle.sc_tree.proofs.SoundTypes.{sound_tested_type}

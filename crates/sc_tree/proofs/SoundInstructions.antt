@@ -9,7 +9,7 @@ use Rattle.sc_tree.specs.Bare.{nowhere}
 use Rattle.sc_tree.specs.Grammar as grammar
 use Rattle.sc_tree.specs.Grammar.{top, print_name, around, IsExpr, IsChain, IsClauses, IsVariable, IsHead, IsHeads, IsInstr, IsInstrs, IsBranches, IsElse}
 use Rattle.sc_tree.specs.Internal.Reading.{begins_instr, Deep, Read, past, same_terminal, sees, skip_semicolons, begins_expr, text_ahead, sees_word, nested, instrs_push, branches_push, variable, assigns, prints, nested_chain, assignment, printing, called, routine_call, creation, branch, branches, other, conditional, iteration, checked, checking, head, more_heads, heads, block, instr, instrs_from, body, instrs}
-use Rattle.sc_tree.proofs.Combining.{not_both, Holds, holds, nothing, holds_then, holds_if, holds_also, Spelled, Begins, Added, through}
+use Rattle.sc_tree.proofs.ReadingSteps.{not_both, Holds, holds, nothing, holds_then, holds_if, holds_also, Spelled, Begins, Added, through}
 use Rattle.sc_tree.proofs.Looks.{sees_is, sees_word_is, expect_holds, name_holds, first_name, TextFirst, text_first, text_holds}
 use Rattle.sc_tree.proofs.Lists.{instrs_joined, instrs_joined-push, instrs_joined-none, branches_joined, branches_joined-push, branches_joined-none, told, all_added, unskipped}
 use Rattle.sc_tree.proofs.SoundExpressions.{Sound, sound_actuals, sound_chain, sound_expr, sound_nested}

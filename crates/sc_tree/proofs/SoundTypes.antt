@@ -8,7 +8,7 @@ use Rattle.sc_tree.specs.Bare.{named}
 use Rattle.sc_tree.specs.Grammar as grammar
 use Rattle.sc_tree.specs.Grammar.{handler_name, type_of, IsNames, IsAttachment, IsHandlerTag, IsType, IsTestedType}
 use Rattle.sc_tree.specs.Internal.Reading.{past, sees, more_names, names, attachment, handler_of, handler_tag, declared_type, tested_type}
-use Rattle.sc_tree.proofs.Combining.{Holds, holds, holds_then, holds_if, holds_also, Begins, through}
+use Rattle.sc_tree.proofs.ReadingSteps.{Holds, holds, holds_then, holds_if, holds_also, Begins, through}
 use Rattle.sc_tree.proofs.Looks.{sees_is, expect_holds, expect_word_holds, NameFirst, name_first, name_holds, first_name}
 use Rattle.sc_tree.proofs.Lists.{Unskipped, one_token, no_tokens}
 

@@ -4,7 +4,7 @@ use Rattle.sc_text.specs.Kind.{Kind}
 use Rattle.sc_tree.specs.Plain.{Class, System}
 use Rattle.sc_tree.specs.Grammar.{IsClasses, IsSystem}
 use Rattle.sc_tree.specs.Internal.Reading.{Fault, Wrong, Deep, Read, ◌>>=◌, classes_from, whole, system}
-use Rattle.sc_tree.proofs.Combining.{holds, Spelled, Comes, fits, deep, bind_ok, bind_err}
+use Rattle.sc_tree.proofs.ReadingSteps.{holds, Spelled, Comes, fits, deep, bind_ok, bind_err}
 use Rattle.sc_tree.proofs.SoundExpressions.{Sound}
 use Rattle.sc_tree.proofs.SoundClasses.{sound_classes}
 use Rattle.sc_tree.proofs.CompleteClasses.{complete_classes}

@@ -1,4 +1,4 @@
-pub mod Passing
+pub mod ActualNumbers
 pub mod Steps
 pub mod FeatureLemmas
 pub mod FeatureNumbers

@@ -1,2 +1,2 @@
-pub mod Keeping
-pub mod Replaying
+pub mod KeptLogs
+pub mod ReplayedTurns

@@ -26,7 +26,7 @@ use Rattle.sc_play.proofs.Programs.{turns_keep}
 use Rattle.sc_world.specs.Rounds.{AreCutShort, MakesAll, MakesSome}
 use Rattle.sc_world.specs.Turning.{HeldUpUnder, IsHeldUp, IsRefusedTurn, IsTurn, Makes, Runs as RunsBy, StopsBehind, StopsShort, TurnsUnder, TurnsUnderJob}
 use Rattle.sc_world.specs.Worlds.{PlainWorld}
-use Rattle.sc_world.proofs.Running.{runs-idle, stops-again}
+use Rattle.sc_world.proofs.Runs.{runs-idle, stops-again}
 
 -- ---- a handler that is picked and settled
 

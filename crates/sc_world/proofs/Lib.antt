@@ -1,9 +1,9 @@
 pub mod AtOnce
-pub mod Freeing
+pub mod FreeHandlers
 pub mod Opening
 pub mod Outs
-pub mod Rounding
-pub mod Running
-pub mod Telling
-pub mod Keeping
-pub mod Trying
+pub mod RoundTurns
+pub mod Runs
+pub mod ReportParts
+pub mod KeptWorlds
+pub mod TriedTurns

@@ -19,7 +19,7 @@ fn handler_at(slots: &[Value], slot: usize) -> Option<u16>
 }
 
 /// The handler that was found, if one was, where there are fewer than 16.
-#[tactic(auto, using(crate::proofs::Beginning::take_full, crate::proofs::Beginning::take_none, crate::proofs::Beginning::take_one))]
+#[tactic(auto, using(crate::proofs::FirstItems::take_full, crate::proofs::FirstItems::take_none, crate::proofs::FirstItems::take_one))]
 fn add(handlers: &mut ArrayVec<u16, 16>, found: Option<u16>)
     ensures { handlers.new.items ≡ take 16 (handlers.old.items ++ cons_option found []) }
 {

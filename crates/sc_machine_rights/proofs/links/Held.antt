@@ -12,7 +12,7 @@ use Rattle.sc_machine_rights.specs.Stands.{IsCovered, AreCovered, names_in, Need
 use Rattle.sc_machine_rights.specs.Formals.{goes_on, before_reserve, FormalsAreHeld, NamesAreHeld}
 use Rattle.sc_machine_rights.proofs.LawProofs.{held_while_it_runs}
 use Rattle.sc_machine_rights.proofs.Machine.{contains_none, contains_first, contains_later, contains_cases}
-use Rattle.sc_machine_rights.proofs.links.Naming.{IsTidy}
+use Rattle.sc_machine_rights.proofs.links.BlockNames.{IsTidy}
 use Rattle.sc_machine_rights.proofs.links.Points.{Every, IsOpened, leaves}
 use Rattle.sc_machine_rights.proofs.links.Sound.{IsStageSound, IsFrameSound}
 use Rattle.sc_machine_rights.proofs.links.Reached.{Linked, reached_linked}

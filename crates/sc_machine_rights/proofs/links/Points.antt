@@ -17,7 +17,7 @@ use Rattle.sc_rules.specs.Types.{is_foreign, declared_type}
 use Rattle.sc_model.specs.Values.{Value, Integer, Boolean, Void, Attached, Operand, default_of, values_of}
 use Rattle.sc_model.specs.Environments.{Binding, bind, assigned_to, known_of, is_formal, is_separate_formal, separate_formals, with_binding, formals_bound, local_bound, locals_bound, name_bound, block_bound, block_values, scope_of}
 use Rattle.sc_machine_rights.specs.Stands.{names_in}
-use Rattle.sc_machine_rights.proofs.links.Naming.{IsTidy, AreAlike, alike_same, alike_names, alike_tidy, alike_end, alike_forget, take_end}
+use Rattle.sc_machine_rights.proofs.links.BlockNames.{IsTidy, AreAlike, alike_same, alike_names, alike_tidy, alike_end, alike_forget, take_end}
 use Rattle.sc_model.specs.Objects.{Object, fresh_attribute, fresh_object, object_numbered, attributes_in, attributes_of, with_object, with_attributes}
 use Rattle.sc_model.specs.Olds.{olds_in}
 use Rattle.sc_rules.specs.declared.position.Role.{Role}

@@ -13,9 +13,9 @@ use Rattle.sc_machine_rights.proofs.LawProofs.{rows_are_lawful, opening_is_lawfu
 use Rattle.sc_machine_rights.proofs.Returned.{listed_returns}
 use Rattle.sc_machine_rights.proofs.Opening.{empty}
 use Rattle.sc_machine_rights.proofs.Named.{named, named_lawful, AllAsk, steps_all}
-use Rattle.sc_machine_rights.proofs.links.Going.{Keeps}
-use Rattle.sc_machine_rights.proofs.links.Failing.{Leads}
-use Rattle.sc_machine_rights.proofs.links.Turning.{asked_of, turn_leads}
+use Rattle.sc_machine_rights.proofs.links.FrameSteps.{Keeps}
+use Rattle.sc_machine_rights.proofs.links.Failures.{Leads}
+use Rattle.sc_machine_rights.proofs.links.Turns.{asked_of, turn_leads}
 use Rattle.sc_machine_rights.proofs.links.Sound.{IsHandlerSound, IsSound, new_sound}
 use Rattle.sc_machine_rights.proofs.links.SoundTurns.{turn_sound, stack_fits}
 use Rattle.sc_model.specs.Handlers as machine

@@ -30,15 +30,15 @@ use Rattle.sc_model.specs.Exits.{leaves_block}
 use Rattle.sc_model.specs.Asking.{passes, awaits_if, request_by, is_callback, asks, request, with_handler, posts_creation, created}
 use Rattle.sc_model.specs.Takes.{takes_next}
 use Rattle.sc_model.specs.Turns.{effect, settles, waits, goes_on, turn_with, turn}
-use Rattle.sc_machine_rights.proofs.links.Standing.{m_put-own, m_put-off}
+use Rattle.sc_machine_rights.proofs.links.Looks.{m_put-own, m_put-off}
 use Rattle.sc_machine_rights.specs.Stands.{names_in}
-use Rattle.sc_machine_rights.proofs.links.Naming.{none_names, none_tidy}
+use Rattle.sc_machine_rights.proofs.links.BlockNames.{none_names, none_tidy}
 use Rattle.sc_machine_rights.proofs.links.Points.{left_none, Formals, Known, Every, OperandKnown, BindingKnown, ObjectKnown, IfSome, IsWell, DoesWell, StepsWell, every_map, values_known}
-use Rattle.sc_machine_rights.proofs.links.Walking.{moves_well}
+use Rattle.sc_machine_rights.proofs.links.RoutineSteps.{moves_well}
 use Rattle.sc_machine_rights.proofs.links.Sound.{formals_of, own_kept, tasks_deep, IsStageSound, IsFrameSound, IsRequestSound, IsAnswerSound, IsHandlerSound, IsSound, new_sound, put_sound, IsSoundBut, sound_but, stack_sound, whole_sound, release_sound, fail_sound}
-use Rattle.sc_machine_rights.proofs.links.Sounding.{if_sound, tasks_fresh, enters_sound, finish_sound, exits_sound, sent_sound, takes_sound, answer_sound}
-use Rattle.sc_machine_rights.proofs.links.Leaving.{FormalsStay}
-use Rattle.sc_machine_rights.proofs.links.Turning.{NamesStay, ActFits, StepFits, AreThere, FrameFits, StackFits}
+use Rattle.sc_machine_rights.proofs.links.Effects.{if_sound, tasks_fresh, enters_sound, finish_sound, exits_sound, sent_sound, takes_sound, answer_sound}
+use Rattle.sc_machine_rights.proofs.links.Exits.{FormalsStay}
+use Rattle.sc_machine_rights.proofs.links.Turns.{NamesStay, ActFits, StepFits, AreThere, FrameFits, StackFits}
 
 -- ---- more handlers
 

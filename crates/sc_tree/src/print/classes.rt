@@ -40,7 +40,7 @@ fn has_exports(exports: &[Name], feature: &Feature) -> bool
 
 impl Printer {
     /// Names with commas between them.
-    #[tactic(auto, using(crate::proofs::Printing::putting))]
+    #[tactic(auto, using(crate::proofs::PrintingLines::putting))]
     fn names(&mut self, names: &[Name]) -> Result<(), AllocError>
         ensures { OnOk result (PutsParts self.old self.new (names_parts (map name_of names.now))) }
     {
@@ -56,7 +56,7 @@ impl Printer {
     }
 
     /// Names of classes with commas between them.
-    #[tactic(auto, using(crate::proofs::Printing::putting))]
+    #[tactic(auto, using(crate::proofs::PrintingLines::putting))]
     fn class_names(&mut self, names: &[Name]) -> Result<(), AllocError>
         ensures { OnOk result (PutsParts self.old self.new (class_names_parts (map name_of names.now))) }
     {
@@ -72,7 +72,7 @@ impl Printer {
     }
 
     /// A name and the type that it is declared with.
-    #[tactic(auto, using(crate::proofs::Printing::putting), unfolding(crate::specs::Canonical::Classes::declaration_parts))]
+    #[tactic(auto, using(crate::proofs::PrintingLines::putting), unfolding(crate::specs::Canonical::Classes::declaration_parts))]
     fn declaration(&mut self, declaration: &Declaration) -> Result<(), AllocError>
         ensures { OnOk result (PutsParts self.old self.new (declaration_parts (declaration_of declaration.now))) }
     {
@@ -82,7 +82,7 @@ impl Printer {
     }
 
     /// Formal arguments in parentheses, where there are some.
-    #[tactic(auto, using(crate::proofs::Printing::putting))]
+    #[tactic(auto, using(crate::proofs::PrintingLines::putting))]
     fn formals(&mut self, formals: &[Declaration]) -> Result<(), AllocError>
         ensures { OnOk result (PutsParts self.old self.new (formals_parts (map declaration_of formals.now))) }
     {
@@ -110,7 +110,7 @@ impl Printer {
     }
 
     /// `local` and a line for each local, where there are some.
-    #[tactic(auto, using(crate::proofs::Printing::putting))]
+    #[tactic(auto, using(crate::proofs::PrintingLines::putting))]
     fn locals(&mut self, locals: &[Declaration]) -> Result<(), AllocError>
         ensures { OnOk result (PutsLines self.old self.new (locals_lines (map declaration_of locals.now))) }
     {
@@ -127,7 +127,7 @@ impl Printer {
     }
 
     /// The line that a routine begins with.
-    #[tactic(auto, using(crate::proofs::Printing::putting))]
+    #[tactic(auto, using(crate::proofs::PrintingLines::putting))]
     fn signature(&mut self, name: &Name, routine: &Routine) -> Result<(), AllocError>
         ensures { OnOk result (PutsLine self.old self.new
             (signature_line (name_of name.now) (routine_of routine.now))) }
@@ -140,7 +140,7 @@ impl Printer {
     }
 
     /// A routine, from its name to its `end`.
-    #[tactic(auto, using(crate::proofs::Printing::putting))]
+    #[tactic(auto, using(crate::proofs::PrintingLines::putting))]
     fn routine(&mut self, name: &Name, routine: &Routine) -> Result<(), AllocError>
         ensures { OnOk result (PutsLines self.old self.new
             (routine_lines (name_of name.now) (routine_of routine.now))) }
@@ -155,7 +155,7 @@ impl Printer {
     }
 
     /// An attribute, with its type.
-    #[tactic(auto, using(crate::proofs::Printing::putting))]
+    #[tactic(auto, using(crate::proofs::PrintingLines::putting))]
     fn attribute(&mut self, name: &Name, declared: &DeclaredType) -> Result<(), AllocError>
         ensures { OnOk result (PutsLine self.old self.new (attribute_line (name_of name.now) (type_of declared.now))) }
     {
@@ -167,7 +167,7 @@ impl Printer {
     }
 
     /// A feature with no export list.
-    #[tactic(auto, using(crate::proofs::Printing::putting), unfolding(crate::specs::View::feature_of, crate::specs::View::kind_of, crate::specs::Canonical::Classes::feature_lines))]
+    #[tactic(auto, using(crate::proofs::PrintingLines::putting), unfolding(crate::specs::View::feature_of, crate::specs::View::kind_of, crate::specs::Canonical::Classes::feature_lines))]
     fn feature(&mut self, feature: &Feature) -> Result<(), AllocError>
         ensures { OnOk result (PutsLines self.old self.new (feature_lines (feature_of feature.now))) }
     {
@@ -178,7 +178,7 @@ impl Printer {
     }
 
     /// The classes that a feature is exported to, in braces, where some are named.
-    #[tactic(auto, using(crate::proofs::Printing::putting))]
+    #[tactic(auto, using(crate::proofs::PrintingLines::putting))]
     fn exports(&mut self, exports: &[Name]) -> Result<(), AllocError>
         ensures { OnOk result (PutsParts self.old self.new (exports_parts (map name_of exports.now))) }
     {
@@ -191,7 +191,7 @@ impl Printer {
     }
 
     /// `feature`, with the classes that the features below are exported to.
-    #[tactic(auto, using(crate::proofs::Printing::putting), unfolding(crate::specs::Canonical::Classes::section_line))]
+    #[tactic(auto, using(crate::proofs::PrintingLines::putting), unfolding(crate::specs::Canonical::Classes::section_line))]
     fn section(&mut self, exports: &[Name]) -> Result<(), AllocError>
         ensures { OnOk result (PutsLine self.old self.new (section_line (map name_of exports.now))) }
     {
@@ -202,7 +202,7 @@ impl Printer {
     }
 
     /// A feature behind one that is exported to these classes.
-    #[tactic(auto, using(crate::proofs::Printing::putting), unfolding(crate::specs::View::feature_of))]
+    #[tactic(auto, using(crate::proofs::PrintingLines::putting), unfolding(crate::specs::View::feature_of))]
     fn further_feature(&mut self, exports: &[Name], feature: &Feature) -> Result<(), AllocError>
         requires { IsTrue (shares_list exports.now feature.now) }
         ensures { OnOk result (PutsLines self.old self.new
@@ -215,7 +215,7 @@ impl Printer {
     }
 
     /// Features that follow each other with the same export list stand under one `feature`.
-    #[tactic(auto, using(crate::proofs::Printing::putting), unfolding(crate::specs::View::feature_of))]
+    #[tactic(auto, using(crate::proofs::PrintingLines::putting), unfolding(crate::specs::View::feature_of))]
     fn features(&mut self, features: &[Feature]) -> Result<(), AllocError>
         requires { IsTrue (share_lists features.now) }
         ensures { OnOk result (PutsLines self.old self.new (sections_lines (map feature_of features.now))) }
@@ -246,7 +246,7 @@ impl Printer {
     }
 
     /// `redefine` and the names behind it, where there are some.
-    #[tactic(auto, using(crate::proofs::Printing::putting))]
+    #[tactic(auto, using(crate::proofs::PrintingLines::putting))]
     fn redefined(&mut self, names: &[Name]) -> Result<(), AllocError>
         ensures { OnOk result (PutsParts self.old self.new (redefined_parts (map name_of names.now))) }
     {
@@ -259,7 +259,7 @@ impl Printer {
     }
 
     /// A parent on a line of its own.
-    #[tactic(auto, using(crate::proofs::Printing::putting), unfolding(crate::specs::Canonical::Classes::parent_line))]
+    #[tactic(auto, using(crate::proofs::PrintingLines::putting), unfolding(crate::specs::Canonical::Classes::parent_line))]
     fn parent(&mut self, parent: &Parent) -> Result<(), AllocError>
         ensures { OnOk result (PutsLine self.old self.new (parent_line (parent_of parent.now))) }
     {
@@ -270,7 +270,7 @@ impl Printer {
     }
 
     /// `inherit` and a line for each parent, where there are some.
-    #[tactic(auto, using(crate::proofs::Printing::putting))]
+    #[tactic(auto, using(crate::proofs::PrintingLines::putting))]
     fn parents(&mut self, parents: &[Parent]) -> Result<(), AllocError>
         ensures { OnOk result (PutsLines self.old self.new (parents_lines (map parent_of parents.now))) }
     {
@@ -285,7 +285,7 @@ impl Printer {
     }
 
     /// `create` and the names of the procedures that create objects, where there are some.
-    #[tactic(auto, using(crate::proofs::Printing::putting))]
+    #[tactic(auto, using(crate::proofs::PrintingLines::putting))]
     fn creators(&mut self, creators: &[Name]) -> Result<(), AllocError>
         ensures { OnOk result (PutsLines self.old self.new (creators_lines (map name_of creators.now))) }
     {
@@ -299,7 +299,7 @@ impl Printer {
     }
 
     /// The line that a class begins with.
-    #[tactic(auto, using(crate::proofs::Printing::putting))]
+    #[tactic(auto, using(crate::proofs::PrintingLines::putting))]
     fn heading(&mut self, mark: &Option<ClassMark>, name: &Name) -> Result<(), AllocError>
         ensures { OnOk result (PutsLine self.old self.new (heading_line (mark_if_any mark.now) (name_of name.now))) }
     {
@@ -311,7 +311,7 @@ impl Printer {
     }
 
     /// A class, from its heading to its `end`.
-    #[tactic(auto, using(crate::proofs::Printing::putting), unfolding(crate::specs::View::class_of, crate::specs::Canonical::Classes::class_lines))]
+    #[tactic(auto, using(crate::proofs::PrintingLines::putting), unfolding(crate::specs::View::class_of, crate::specs::Canonical::Classes::class_lines))]
     fn class(&mut self, class: &Class) -> Result<(), AllocError>
         ensures { OnOk result (PutsLines self.old self.new (class_lines (class_of class.now))) }
     {
@@ -324,7 +324,7 @@ impl Printer {
     }
 
     /// Classes, with an empty line between two.
-    #[tactic(auto, using(crate::proofs::Printing::putting))]
+    #[tactic(auto, using(crate::proofs::PrintingLines::putting))]
     pub fn classes(&mut self, classes: &[Class]) -> Result<(), AllocError>
         ensures { OnOk result (PutsLines self.old self.new (classes_lines (map class_of classes.now))) }
     {

@@ -42,7 +42,7 @@ impl Printer {
     }
 
     /// A type, with its marks.
-    #[tactic(auto, using(crate::proofs::Printing::putting), unfolding(crate::specs::Canonical::Expressions::type_parts))]
+    #[tactic(auto, using(crate::proofs::PrintingLines::putting), unfolding(crate::specs::Canonical::Expressions::type_parts))]
     pub fn declared_type(&mut self, declared: &DeclaredType) -> Result<(), AllocError>
         ensures { OnOk result (PutsParts self.old self.new (type_parts (type_of declared.now))) }
     {
@@ -52,7 +52,7 @@ impl Printer {
     }
 
     /// The type of an object test in braces, where there is one.
-    #[tactic(auto, using(crate::proofs::Printing::putting))]
+    #[tactic(auto, using(crate::proofs::PrintingLines::putting))]
     fn tested_type(&mut self, tested: &Option<DeclaredType>) -> Result<(), AllocError>
         ensures { OnOk result (PutsParts self.old self.new (tested_type_parts (type_if_any tested.now))) }
     {
@@ -76,7 +76,7 @@ impl Printer {
 
     /// An expression, with the parentheses that its operands need.
     #[cycle(printing)]
-    #[tactic(auto, using(crate::proofs::Printing::putting), unfolding(crate::specs::Canonical::Expressions::expr_parts, crate::specs::View::expr_of))]
+    #[tactic(auto, using(crate::proofs::PrintingLines::putting), unfolding(crate::specs::Canonical::Expressions::expr_parts, crate::specs::View::expr_of))]
     pub fn expr(&mut self, expr: &Expr) -> Result<(), AllocError>
         ensures { OnOk result (PutsParts self.old self.new (expr_parts (expr_of expr.now))) }
     {
@@ -114,7 +114,7 @@ impl Printer {
 
     /// An operand, in parentheses where its class is above the one that is allowed.
     #[cycle(printing)]
-    #[tactic(auto, using(crate::proofs::Printing::putting))]
+    #[tactic(auto, using(crate::proofs::PrintingLines::putting))]
     fn operand(&mut self, operand: &Expr, allowed: u8) -> Result<(), AllocError>
         ensures { OnOk result (PutsParts self.old self.new
             (in_class (class_of_expr (expr_of operand.now)) allowed (expr_parts (expr_of operand.now)))) }
@@ -129,7 +129,7 @@ impl Printer {
 
     /// A call, behind its target where it has one.
     #[cycle(printing)]
-    #[tactic(auto, using(crate::proofs::Printing::putting), unfolding(crate::specs::Canonical::Expressions::expr_parts))]
+    #[tactic(auto, using(crate::proofs::PrintingLines::putting), unfolding(crate::specs::Canonical::Expressions::expr_parts))]
     pub fn call(&mut self, call: &Call) -> Result<(), AllocError>
         ensures { OnOk result (PutsParts self.old self.new
             (call_parts (target_of call.now.target) (name_of call.now.name) (exprs_of call.now.actuals.items))) }
@@ -144,7 +144,7 @@ impl Printer {
 
     /// Actual arguments in parentheses, where there are some.
     #[cycle(printing)]
-    #[tactic(auto, using(crate::proofs::Printing::putting), unfolding(crate::specs::Canonical::Expressions::expr_parts))]
+    #[tactic(auto, using(crate::proofs::PrintingLines::putting), unfolding(crate::specs::Canonical::Expressions::expr_parts))]
     pub fn actuals(&mut self, actuals: &[Expr]) -> Result<(), AllocError>
         ensures { OnOk result (PutsParts self.old self.new (actuals_parts (exprs_of actuals.now))) }
     {

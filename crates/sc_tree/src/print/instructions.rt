@@ -35,7 +35,7 @@ impl Printer {
     }
 
     /// A clause on a line of its own, with a semicolon behind all but the last of a list.
-    #[tactic(auto, using(crate::proofs::Printing::putting), unfolding(crate::specs::Canonical::Instructions::clause_line, crate::specs::View::clause_of))]
+    #[tactic(auto, using(crate::proofs::PrintingLines::putting), unfolding(crate::specs::Canonical::Instructions::clause_line, crate::specs::View::clause_of))]
     fn clause(&mut self, indent: usize, clause: &Clause, is_last: bool) -> Result<(), AllocError>
         ensures { OnOk result (PutsLine self.old self.new (clause_line indent (clause_of clause.now) is_last)) }
     {
@@ -98,7 +98,7 @@ impl Printer {
     }
 
     /// A head of a separate block.
-    #[tactic(auto, using(crate::proofs::Printing::putting), unfolding(crate::specs::Canonical::Instructions::head_parts, crate::specs::View::head_of))]
+    #[tactic(auto, using(crate::proofs::PrintingLines::putting), unfolding(crate::specs::Canonical::Instructions::head_parts, crate::specs::View::head_of))]
     fn head(&mut self, head: &Head) -> Result<(), AllocError>
         ensures { OnOk result (PutsParts self.old self.new (head_parts (head_of head.now))) }
     {
@@ -108,7 +108,7 @@ impl Printer {
     }
 
     /// Heads with commas between them.
-    #[tactic(auto, using(crate::proofs::Printing::putting))]
+    #[tactic(auto, using(crate::proofs::PrintingLines::putting))]
     fn heads(&mut self, heads: &[Head]) -> Result<(), AllocError>
         ensures { OnOk result (PutsParts self.old self.new (heads_parts (map head_of heads.now))) }
     {
@@ -124,7 +124,7 @@ impl Printer {
     }
 
     /// An assignment on a line of its own.
-    #[tactic(auto, using(crate::proofs::Printing::putting), unfolding(crate::specs::Canonical::Instructions::instr_lines))]
+    #[tactic(auto, using(crate::proofs::PrintingLines::putting), unfolding(crate::specs::Canonical::Instructions::instr_lines))]
     fn assignment(
         &mut self,
         indent: usize,
@@ -142,7 +142,7 @@ impl Printer {
     }
 
     /// `print` of a manifest string on a line of its own.
-    #[tactic(auto, using(crate::proofs::Printing::putting), unfolding(crate::specs::Canonical::Instructions::instr_lines))]
+    #[tactic(auto, using(crate::proofs::PrintingLines::putting), unfolding(crate::specs::Canonical::Instructions::instr_lines))]
     fn print_text(&mut self, indent: usize, text: &String) -> Result<(), AllocError>
         ensures { OnOk result (PutsLines self.old self.new
             (instr_lines indent (PrintText nowhere (string_bytes text.now)))) }
@@ -156,7 +156,7 @@ impl Printer {
     }
 
     /// A call of a procedure on a line of its own.
-    #[tactic(auto, using(crate::proofs::Printing::putting), unfolding(crate::specs::Canonical::Instructions::instr_lines))]
+    #[tactic(auto, using(crate::proofs::PrintingLines::putting), unfolding(crate::specs::Canonical::Instructions::instr_lines))]
     fn routine_call(&mut self, indent: usize, call: &Call) -> Result<(), AllocError>
         ensures { OnOk result (PutsLines self.old self.new
             (instr_lines indent (CallRoutine nowhere
@@ -168,7 +168,7 @@ impl Printer {
     }
 
     /// A creation on a line of its own.
-    #[tactic(auto, using(crate::proofs::Printing::putting), unfolding(crate::specs::Canonical::Instructions::instr_lines))]
+    #[tactic(auto, using(crate::proofs::PrintingLines::putting), unfolding(crate::specs::Canonical::Instructions::instr_lines))]
     fn creation(
         &mut self,
         indent: usize,
@@ -187,7 +187,7 @@ impl Printer {
     }
 
     /// The condition of an `if` or an `elseif`.
-    #[tactic(auto, using(crate::proofs::Printing::putting))]
+    #[tactic(auto, using(crate::proofs::PrintingLines::putting))]
     fn guard(
         &mut self,
         indent: usize,
@@ -223,7 +223,7 @@ impl Printer {
     }
 
     /// The line that a separate block begins with.
-    #[tactic(auto, using(crate::proofs::Printing::putting))]
+    #[tactic(auto, using(crate::proofs::PrintingLines::putting))]
     fn reservation(&mut self, indent: usize, heads: &[Head]) -> Result<(), AllocError>
         ensures { OnOk result (PutsLine self.old self.new (reservation_line indent (map head_of heads.now))) }
     {
@@ -236,7 +236,7 @@ impl Printer {
 
     /// An instruction, from its first line to its last.
     #[cycle(instructions)]
-    #[tactic(auto, using(crate::proofs::Printing::putting), unfolding(crate::specs::Canonical::Instructions::instr_lines, crate::specs::View::instr_of))]
+    #[tactic(auto, using(crate::proofs::PrintingLines::putting), unfolding(crate::specs::Canonical::Instructions::instr_lines, crate::specs::View::instr_of))]
     fn instr(&mut self, indent: usize, instr: &Instr) -> Result<(), AllocError>
         ensures { OnOk result (PutsLines self.old self.new (instr_lines indent (instr_of instr.now))) }
     {
@@ -278,7 +278,7 @@ impl Printer {
 
     /// Instructions one after the other.
     #[cycle(instructions)]
-    #[tactic(auto, using(crate::proofs::Printing::putting), unfolding(crate::specs::Canonical::Instructions::instr_lines))]
+    #[tactic(auto, using(crate::proofs::PrintingLines::putting), unfolding(crate::specs::Canonical::Instructions::instr_lines))]
     pub fn instrs(&mut self, indent: usize, instrs: &[Instr]) -> Result<(), AllocError>
         ensures { OnOk result (PutsLines self.old self.new (instrs_lines indent (instrs_of instrs.now))) }
     {
@@ -290,7 +290,7 @@ impl Printer {
 
     /// Each `elseif`, with what stands under it.
     #[cycle(instructions)]
-    #[tactic(auto, using(crate::proofs::Printing::putting), unfolding(crate::specs::Canonical::Instructions::instr_lines))]
+    #[tactic(auto, using(crate::proofs::PrintingLines::putting), unfolding(crate::specs::Canonical::Instructions::instr_lines))]
     fn branches(&mut self, indent: usize, branches: &[Branch]) -> Result<(), AllocError>
         ensures { OnOk result (PutsLines self.old self.new (branches_lines indent (branches_of branches.now))) }
     {

@@ -3,7 +3,7 @@ use Rattle.std.proofs.lemmas.Grind.{common_steps}
 use Rattle.std.specs.Prelude.{IsTrue}
 use Rattle.sc_plant.specs.Left.{world_of}
 use Rattle.sc_world.specs.Views as one
-use Rattle.sc_auditing.proofs.Agreeing.{same-more}
+use Rattle.sc_auditing.proofs.SameWorlds.{same-more}
 use Rattle.sc_auditing.proofs.comparing.first_difference.Goals as goal
 
 pub loop-handler-preserved : goal.loop-handler-preserved

@@ -2,7 +2,7 @@ use Rattle.std.proofs.Common.{refl}
 use Rattle.sc_request.specs.Cores.{center_of}
 use Rattle.sc_plant.specs.Left.{world_of}
 use Rattle.sc_world.specs.Views as one
-use Rattle.sc_auditing.proofs.Agreeing.{told-same}
+use Rattle.sc_auditing.proofs.SameWorlds.{told-same}
 use Rattle.sc_auditing.proofs.comparing.is_same_at.Goals as goal
 
 pub returns-then-are_same_regions : goal.returns-then-are_same_regions

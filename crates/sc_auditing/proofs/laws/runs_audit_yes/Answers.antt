@@ -1,4 +1,4 @@
-use Rattle.sc_auditing.proofs.Agreeing.{runs-audit-yes}
+use Rattle.sc_auditing.proofs.SameWorlds.{runs-audit-yes}
 use Rattle.sc_auditing.proofs.laws.runs_audit_yes.Goals as goal
 
 pub returns : goal.returns

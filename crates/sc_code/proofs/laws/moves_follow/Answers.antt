@@ -1,4 +1,4 @@
-use Rattle.sc_code.proofs.Following.{moves_follow}
+use Rattle.sc_code.proofs.Steps.{moves_follow}
 use Rattle.sc_code.proofs.laws.moves_follow.Goals as goal
 
 pub returns : goal.returns

@@ -1,5 +1,5 @@
 use Rattle.sc_lower.specs.Lowerings.{image_of}
-use Rattle.sc_plant.proofs.Stopping.{run_stopped}
+use Rattle.sc_plant.proofs.EndedRuns.{run_stopped}
 use Rattle.sc_driver.proofs.Threads.{told_run}
 use Rattle.sc_driver.proofs.running.run_program.Goals as goal
 

@@ -1,4 +1,4 @@
-use Rattle.sc_headline.proofs.Searching.{found}
+use Rattle.sc_headline.proofs.SearchLaws.{found}
 use Rattle.sc_headline.proofs.laws.found_orders_are_the_machines.Goals as goal
 
 pub returns : goal.returns

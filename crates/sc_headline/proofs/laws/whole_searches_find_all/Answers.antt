@@ -1,4 +1,4 @@
-use Rattle.sc_headline.proofs.Searching.{whole}
+use Rattle.sc_headline.proofs.SearchLaws.{whole}
 use Rattle.sc_headline.proofs.laws.whole_searches_find_all.Goals as goal
 
 pub returns : goal.returns

@@ -8,7 +8,7 @@ use Rattle.sc_region.specs.Lending.{with_top}
 use Rattle.sc_region.specs.Stores.{PlainStore}
 use Rattle.sc_interp.specs.Playing.{Plays, Remains, written_if}
 use Rattle.sc_interp.specs.Standing.{stepped}
-use Rattle.sc_interp.proofs.Assigning.{assigns, remains_written}
+use Rattle.sc_interp.proofs.Assignments.{assigns, remains_written}
 use Rattle.sc_interp.proofs.attributes.assign.Goals as goal
 
 pub returns-in-Some-clause-plays : goal.returns-in-Some-clause-plays

@@ -2,7 +2,7 @@ use Rattle.std.proofs.Common.{MutBor, refl, sym, ap, ◌∙◌}
 use Rattle.std.specs.Option.{option_map}
 use Rattle.sc_region.specs.declared.frame.Activation.{Activation}
 use Rattle.sc_region.specs.Frames.{activation_of}
-use Rattle.sc_interp.proofs.Playing.{remains_top}
+use Rattle.sc_interp.proofs.TopRoutines.{remains_top}
 use Rattle.sc_interp.proofs.attributes.push_attribute.Goals as goal
 
 pub returns-in-Some-clause-remains : goal.returns-in-Some-clause-remains

@@ -4,7 +4,7 @@ use Rattle.std.specs.Prelude.{Option, slice_get}
 use Rattle.sc_code.specs.declared.program.ClassCode.{ClassCode}
 use Rattle.sc_code.specs.declared.program.Version.{Version}
 use Rattle.sc_interp.specs.Serving.{version_in}
-use Rattle.sc_interp.proofs.Lending.{lent_at}
+use Rattle.sc_interp.proofs.Slices.{lent_at}
 use Rattle.sc_interp.proofs.attributes.version_in.Goals as goal
 
 -- what the table of a class says of a name

@@ -3,7 +3,7 @@ use Rattle.std.proofs.lemmas.List.{length-map}
 use Rattle.sc_region.specs.Frames.{activation_of}
 use Rattle.sc_interp.specs.Values.{value_of}
 use Rattle.sc_interp.specs.Standing.{state_of}
-use Rattle.sc_interp.proofs.Opening.{opens_short, opens_outside, opens_well}
+use Rattle.sc_interp.proofs.BlockOpenings.{opens_short, opens_outside, opens_well}
 use Rattle.sc_interp.proofs.Told.{open_ready}
 use Rattle.sc_interp.proofs.blocks.open_block.Goals as goal
 

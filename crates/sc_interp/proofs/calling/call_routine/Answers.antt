@@ -9,7 +9,7 @@ use Rattle.sc_region.specs.Frames.{activation_of}
 use Rattle.sc_interp.specs.declared.act.Calling.TheVariants as calling
 use Rattle.sc_interp.specs.Values.{value_of, values_of, reference_of}
 use Rattle.sc_interp.specs.Standing.{call_in, state_of}
-use Rattle.sc_interp.proofs.Popping.{calls_follow, routine_short, routine_by, room_test, misfits}
+use Rattle.sc_interp.proofs.Operands.{calls_follow, routine_short, routine_by, room_test, misfits}
 use Rattle.sc_model.specs.declared.cause.Cause.TheVariants as cause
 use Rattle.sc_interp.proofs.Told.{comes_failed, enter_ready, tells_failed}
 use Rattle.sc_interp.proofs.calling.call_routine.Goals as goal

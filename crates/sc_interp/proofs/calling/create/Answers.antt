@@ -8,7 +8,7 @@ use Rattle.sc_code.specs.Machine.{hop_of}
 use Rattle.sc_region.specs.Frames.{activation_of}
 use Rattle.sc_interp.specs.Values.{value_of, values_of, reference_of}
 use Rattle.sc_interp.specs.Standing.{creation_in, state_of}
-use Rattle.sc_interp.proofs.Popping.{create_short, create_comes}
+use Rattle.sc_interp.proofs.Operands.{create_short, create_comes}
 use Rattle.sc_interp.proofs.Told.{create_ready}
 use Rattle.sc_interp.proofs.calling.create.Goals as goal
 

@@ -8,7 +8,7 @@ use Rattle.sc_code.specs.Machine.{hop_of}
 use Rattle.sc_region.specs.Frames.{activation_of}
 use Rattle.sc_interp.specs.Values.{value_of, values_of, reference_of}
 use Rattle.sc_interp.specs.Standing.{creation_in, state_of}
-use Rattle.sc_interp.proofs.Popping.{handler_short, handler_by, room_test, misfits}
+use Rattle.sc_interp.proofs.Operands.{handler_short, handler_by, room_test, misfits}
 use Rattle.sc_model.specs.declared.cause.Cause.TheVariants as cause
 use Rattle.sc_interp.proofs.Told.{comes_failed, handler_ready, tells_failed}
 use Rattle.sc_interp.proofs.calling.create_handler.Goals as goal

@@ -1,7 +1,7 @@
 use Rattle.std.proofs.Common.{◌≡◌, length, map, arith}
 use Rattle.std.proofs.lemmas.List.{length-map}
 use Rattle.std.specs.Prelude.{string_bytes}
-use Rattle.sc_interp.proofs.Listing.{listed_by}
+use Rattle.sc_interp.proofs.Pools.{listed_by}
 use Rattle.sc_interp.proofs.calling.has_name.Goals as goal
 
 pub returns : goal.returns

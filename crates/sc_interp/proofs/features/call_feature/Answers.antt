@@ -1,6 +1,6 @@
 use Rattle.std.proofs.Common.{sym, ◌∙◌, subst}
 use Rattle.sc_interp.specs.Features.{IsSite}
-use Rattle.sc_interp.proofs.Targeting.{calls_untargeted}
+use Rattle.sc_interp.proofs.Targets.{calls_untargeted}
 use Rattle.sc_interp.proofs.features.call_feature.Goals as goal
 
 pub returns-in-None-value_under-clause-plays : goal.returns-in-None-value_under-clause-plays

@@ -5,7 +5,7 @@ use Rattle.sc_region.specs.Frames.{activation_of}
 use Rattle.sc_interp.specs.Features.{calls_found}
 use Rattle.sc_interp.specs.Standing.{actuals, call_in, state_of, without}
 use Rattle.sc_interp.specs.Values.{reference_of}
-use Rattle.sc_interp.proofs.Targeting.{refused}
+use Rattle.sc_interp.proofs.Targets.{refused}
 use Rattle.sc_interp.proofs.Told.{comes_done, comes_failed, tells_done, tells_failed}
 use Rattle.sc_interp.proofs.features.call_found.Goals as goal
 

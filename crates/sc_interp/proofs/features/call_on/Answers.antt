@@ -8,7 +8,7 @@ use Rattle.sc_region.specs.Frames.{activation_of}
 use Rattle.sc_interp.specs.Features.{calls_found, calls_seen}
 use Rattle.sc_interp.specs.Standing.{actuals, call_in, state_of, without}
 use Rattle.sc_interp.specs.Values.{reference_of, value_of}
-use Rattle.sc_interp.proofs.Targeting.{refused}
+use Rattle.sc_interp.proofs.Targets.{refused}
 use Rattle.sc_interp.proofs.Told.{comes_failed, tells_failed}
 use Rattle.sc_interp.proofs.features.call_on.Goals as goal
 

@@ -3,8 +3,8 @@ use Rattle.std.specs.Prelude.{slice_get}
 use Rattle.std.specs.Option.{option_map, option_and_then}
 use Rattle.sc_region.specs.declared.frame.Activation.{Activation}
 use Rattle.sc_region.specs.Frames.{PlainActivation, activation_of, top_activation}
-use Rattle.sc_interp.proofs.Playing.{remains_top}
-use Rattle.sc_interp.proofs.Targeting.{calls_play}
+use Rattle.sc_interp.proofs.TopRoutines.{remains_top}
+use Rattle.sc_interp.proofs.Targets.{calls_play}
 use Rattle.sc_interp.proofs.Told.{comes_top, told_top}
 use Rattle.sc_interp.proofs.features.call_target.Goals as goal
 

@@ -4,8 +4,8 @@ use Rattle.sc_code.specs.Machine.{read, replaces}
 use Rattle.sc_region.specs.OperandList.{OperandList}
 use Rattle.sc_region.specs.Frames.{activation_of}
 use Rattle.sc_interp.specs.Values.{evaluated, value_of}
-use Rattle.sc_interp.proofs.Stepping.{done_stepped, passes_stepped}
-use Rattle.sc_interp.proofs.Targeting.{drop_more, drop_some, in_place}
+use Rattle.sc_interp.proofs.SilentSteps.{done_stepped, passes_stepped}
+use Rattle.sc_interp.proofs.Targets.{drop_more, drop_some, in_place}
 use Rattle.sc_interp.proofs.features.read_in_place.Goals as goal
 
 pub returns-in-Some-clause-calls : goal.returns-in-Some-clause-calls

@@ -3,7 +3,7 @@ use Rattle.std.specs.Option.{option_map}
 use Rattle.sc_model.specs.declared.cause.Cause.TheVariants as cause
 use Rattle.sc_region.specs.Frames.{activation_of}
 use Rattle.sc_interp.specs.Values.{value_of}
-use Rattle.sc_interp.proofs.Targeting.{reads_none, reads_some, refused}
+use Rattle.sc_interp.proofs.Targets.{reads_none, reads_some, refused}
 use Rattle.sc_interp.proofs.Told.{done_failed}
 use Rattle.sc_interp.proofs.features.read_on.Goals as goal
 

@@ -5,8 +5,8 @@ use Rattle.sc_code.specs.Machine.{Requests, awaits, does, fails}
 use Rattle.sc_region.specs.Frames.{activation_of}
 use Rattle.sc_interp.specs.Standing.{actuals, name_at, state_of, without}
 use Rattle.sc_interp.specs.Values.{reference_of}
-use Rattle.sc_interp.proofs.Popping.{awaits_by, room_test}
-use Rattle.sc_interp.proofs.Targeting.{refused}
+use Rattle.sc_interp.proofs.Operands.{awaits_by, room_test}
+use Rattle.sc_interp.proofs.Targets.{refused}
 use Rattle.sc_interp.proofs.Told.{comes_failed, request_ready, tells_failed}
 use Rattle.sc_interp.proofs.features.request_on.Goals as goal
 

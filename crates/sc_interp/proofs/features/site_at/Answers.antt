@@ -6,7 +6,7 @@ use Rattle.sc_code.specs.Programs.{pool_of}
 use Rattle.sc_code.specs.View.{call_of}
 use Rattle.sc_interp.specs.Standing.{call_in}
 use Rattle.sc_interp.specs.Told.{IsCallIn}
-use Rattle.sc_interp.proofs.Listing.{site_by}
+use Rattle.sc_interp.proofs.Pools.{site_by}
 use Rattle.sc_interp.proofs.features.site_at.Goals as goal
 
 pub returns : goal.returns

@@ -3,8 +3,8 @@ use Rattle.std.proofs.lemmas.Result.{IfOk-weaker}
 use Rattle.sc_interp.specs.declared.act.Hop as outcome
 use Rattle.sc_interp.specs.Hopping.{IsNext, NextIs}
 use Rattle.sc_interp.specs.Playing.{Plays}
-use Rattle.sc_interp.proofs.Moving.{next_stuck}
-use Rattle.sc_interp.proofs.Stepping.{next_other, next_step, told_stepped}
+use Rattle.sc_interp.proofs.Moves.{next_stuck}
+use Rattle.sc_interp.proofs.SilentSteps.{next_other, next_step, told_stepped}
 use Rattle.sc_interp.proofs.hopping.hop_in.Goals as goal
 
 pub returns-in-None-clause-next : goal.returns-in-None-clause-next

@@ -6,8 +6,8 @@ use Rattle.sc_region.specs.Frames.{activation_of, top_activation}
 use Rattle.sc_region.specs.Lending.{with_top}
 use Rattle.sc_interp.specs.Playing.{Plays}
 use Rattle.sc_interp.specs.Standing.{Follows}
-use Rattle.sc_interp.proofs.Playing.{remains_top}
-use Rattle.sc_interp.proofs.Moving.{in_place_plays, in_place_same}
+use Rattle.sc_interp.proofs.TopRoutines.{remains_top}
+use Rattle.sc_interp.proofs.Moves.{in_place_plays, in_place_same}
 use Rattle.sc_interp.specs.Told.{IsTold, OnComes, Tells}
 use Rattle.sc_interp.proofs.Told.{comes_top, told_top}
 use Rattle.sc_interp.proofs.hopping.hop_in_place.Goals as goal

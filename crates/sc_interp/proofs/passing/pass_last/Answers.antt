@@ -3,7 +3,7 @@ use Rattle.sc_code.specs.Machine.{goes_on}
 use Rattle.sc_region.specs.OperandList.{OperandList}
 use Rattle.sc_region.specs.Frames.{activation_of}
 use Rattle.sc_interp.specs.Standing.{stepped}
-use Rattle.sc_interp.proofs.Popping.{dropped_first}
+use Rattle.sc_interp.proofs.Operands.{dropped_first}
 use Rattle.sc_interp.proofs.passing.pass_last.Goals as goal
 
 pub returns-clause-passes : goal.returns-clause-passes

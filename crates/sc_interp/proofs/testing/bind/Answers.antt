@@ -4,7 +4,7 @@ use Rattle.sc_region.specs.OperandList.{OperandList}
 use Rattle.sc_region.specs.Frames.{activation_of}
 use Rattle.sc_region.specs.declared.value.Value.TheVariants.{Boolean}
 use Rattle.sc_interp.specs.Values.{value_of}
-use Rattle.sc_interp.proofs.Stepping.{done_stepped, passes_stepped}
+use Rattle.sc_interp.proofs.SilentSteps.{done_stepped, passes_stepped}
 use Rattle.sc_interp.proofs.Tests.{put_first}
 use Rattle.sc_interp.proofs.testing.bind.Goals as goal
 

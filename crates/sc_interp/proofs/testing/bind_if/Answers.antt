@@ -2,7 +2,7 @@ use Rattle.std.proofs.Common.{true, false}
 use Rattle.sc_code.specs.Machine.{binds_if}
 use Rattle.sc_region.specs.Frames.{activation_of}
 use Rattle.sc_interp.specs.Values.{value_of}
-use Rattle.sc_interp.proofs.Stepping.{done_stepped, passes_stepped}
+use Rattle.sc_interp.proofs.SilentSteps.{done_stepped, passes_stepped}
 use Rattle.sc_interp.proofs.Tests.{bind_by}
 use Rattle.sc_interp.proofs.testing.bind_if.Goals as goal
 

@@ -11,7 +11,7 @@ use Rattle.sc_code.specs.Programs.{lists_of}
 use Rattle.sc_region.specs.Frames.{activation_of}
 use Rattle.sc_interp.specs.Values.{reference_of}
 use Rattle.sc_interp.specs.Standing.{state_of}
-use Rattle.sc_interp.proofs.Listing.{listed_is, unlisted}
+use Rattle.sc_interp.proofs.Pools.{listed_is, unlisted}
 use Rattle.sc_interp.proofs.visible.demand.Goals as goal
 
 pub returns-then-number-len-clause-follows : goal.returns-then-number-len-clause-follows

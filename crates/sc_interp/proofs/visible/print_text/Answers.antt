@@ -8,7 +8,7 @@ use Rattle.sc_code.specs.Operations.{PrintText}
 use Rattle.sc_code.specs.Programs.{pool_of}
 use Rattle.sc_interp.specs.Values.{reference_of}
 use Rattle.sc_interp.specs.Standing.{state_of}
-use Rattle.sc_interp.proofs.Listing.{listed_is, unlisted}
+use Rattle.sc_interp.proofs.Pools.{listed_is, unlisted}
 use Rattle.sc_interp.proofs.visible.print_text.Goals as goal
 
 pub returns-then-text-len-clause-follows : goal.returns-then-text-len-clause-follows

@@ -14,8 +14,8 @@ use Rattle.sc_code.specs.View.{Pool}
 use Rattle.sc_code.specs.Programs.{class_code_of, pool_of}
 use Rattle.sc_code.specs.RequestRoom.{AreDistinct, BlocksFit, CallsFit, CreationsFit}
 use Rattle.sc_lower.specs.Pools.{Grows, pool_in}
-use Rattle.sc_lower.proofs.Coding.{codes_kept}
-use Rattle.sc_lower.proofs.Growing.{extends_itself}
+use Rattle.sc_lower.proofs.Codes.{codes_kept}
+use Rattle.sc_lower.proofs.Growth.{extends_itself}
 use Rattle.sc_lower.proofs.image.image.Goals as goal
 
 pub lower_routines-requires-clause-in_order : goal.lower_routines-requires-clause-in_order

@@ -1,4 +1,4 @@
-use Rattle.sc_machine_clauses.proofs.Extending.{step_extends}
+use Rattle.sc_machine_clauses.proofs.Extensions.{step_extends}
 use Rattle.sc_machine_clauses.proofs.laws.steps_extend.Goals as goal
 
 pub returns : goal.returns

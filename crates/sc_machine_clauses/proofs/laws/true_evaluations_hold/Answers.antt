@@ -1,4 +1,4 @@
-use Rattle.sc_machine_clauses.proofs.Holding.{true_evaluations_hold}
+use Rattle.sc_machine_clauses.proofs.TrueClauses.{true_evaluations_hold}
 use Rattle.sc_machine_clauses.proofs.laws.true_evaluations_hold.Goals as goal
 
 pub returns : goal.returns

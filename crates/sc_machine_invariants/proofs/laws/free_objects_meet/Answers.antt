@@ -1,4 +1,4 @@
-use Rattle.sc_machine_invariants.proofs.Reaching.{free_objects_meet}
+use Rattle.sc_machine_invariants.proofs.ReachedStates.{free_objects_meet}
 use Rattle.sc_machine_invariants.proofs.laws.free_objects_meet.Goals as goal
 
 pub returns : goal.returns

@@ -1,4 +1,4 @@
-use Rattle.sc_machine_rights.proofs.Posting.{posted_under_right}
+use Rattle.sc_machine_rights.proofs.Posts.{posted_under_right}
 use Rattle.sc_machine_rights.proofs.headline.posted_under_right.Goals as goal
 
 pub returns : goal.returns

@@ -1,4 +1,4 @@
-use Rattle.sc_machine_values.proofs.Creating.{creations_keep_it}
+use Rattle.sc_machine_values.proofs.CreationTurns.{creations_keep_it}
 use Rattle.sc_machine_values.proofs.headline.creations_keep_it.Goals as goal
 
 pub returns : goal.returns

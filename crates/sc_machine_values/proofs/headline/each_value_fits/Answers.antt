@@ -1,4 +1,4 @@
-use Rattle.sc_machine_values.proofs.Awaiting.{each_value_fits}
+use Rattle.sc_machine_values.proofs.AwaitedEnds.{each_value_fits}
 use Rattle.sc_machine_values.proofs.headline.each_value_fits.Goals as goal
 
 pub returns : goal.returns

@@ -1,4 +1,4 @@
-use Rattle.sc_machine_values.proofs.Carrying.{failures_keep_it}
+use Rattle.sc_machine_values.proofs.Remains.{failures_keep_it}
 use Rattle.sc_machine_values.proofs.headline.failures_keep_it.Goals as goal
 
 pub returns : goal.returns

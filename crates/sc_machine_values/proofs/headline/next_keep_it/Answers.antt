@@ -1,4 +1,4 @@
-use Rattle.sc_machine_values.proofs.Requested.{next_keep_it}
+use Rattle.sc_machine_values.proofs.TakeTurns.{next_keep_it}
 use Rattle.sc_machine_values.proofs.headline.next_keep_it.Goals as goal
 
 pub returns : goal.returns

@@ -1,4 +1,4 @@
-use Rattle.sc_machine_values.proofs.Excluding.{none_is_excluded}
+use Rattle.sc_machine_values.proofs.ExcludedFailures.{none_is_excluded}
 use Rattle.sc_machine_values.proofs.headline.none_is_excluded.Goals as goal
 
 pub returns : goal.returns

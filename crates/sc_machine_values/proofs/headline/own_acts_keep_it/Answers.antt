@@ -1,4 +1,4 @@
-use Rattle.sc_machine_values.proofs.Acting.{own_acts_keep_it}
+use Rattle.sc_machine_values.proofs.OwnTurns.{own_acts_keep_it}
 use Rattle.sc_machine_values.proofs.headline.own_acts_keep_it.Goals as goal
 
 pub returns : goal.returns

@@ -1,4 +1,4 @@
-use Rattle.sc_machine_values.proofs.Refusing.{refusals_keep_it}
+use Rattle.sc_machine_values.proofs.Refusals.{refusals_keep_it}
 use Rattle.sc_machine_values.proofs.headline.refusals_keep_it.Goals as goal
 
 pub returns : goal.returns

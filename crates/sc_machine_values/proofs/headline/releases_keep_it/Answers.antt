@@ -1,4 +1,4 @@
-use Rattle.sc_machine_values.proofs.Carrying.{releases_keep_it}
+use Rattle.sc_machine_values.proofs.Remains.{releases_keep_it}
 use Rattle.sc_machine_values.proofs.headline.releases_keep_it.Goals as goal
 
 pub returns : goal.returns

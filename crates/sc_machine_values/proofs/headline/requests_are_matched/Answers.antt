@@ -1,4 +1,4 @@
-use Rattle.sc_machine_values.proofs.Matching.{requests_are_matched}
+use Rattle.sc_machine_values.proofs.Matches.{requests_are_matched}
 use Rattle.sc_machine_values.proofs.headline.requests_are_matched.Goals as goal
 
 pub returns : goal.returns

@@ -1,4 +1,4 @@
-use Rattle.sc_machine_values.proofs.Requesting.{requests_keep_it}
+use Rattle.sc_machine_values.proofs.RequestTurns.{requests_keep_it}
 use Rattle.sc_machine_values.proofs.headline.requests_keep_it.Goals as goal
 
 pub returns : goal.returns

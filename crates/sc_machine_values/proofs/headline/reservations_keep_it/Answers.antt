@@ -1,4 +1,4 @@
-use Rattle.sc_machine_values.proofs.Reserving.{reservations_keep_it}
+use Rattle.sc_machine_values.proofs.Reservations.{reservations_keep_it}
 use Rattle.sc_machine_values.proofs.headline.reservations_keep_it.Goals as goal
 
 pub returns : goal.returns

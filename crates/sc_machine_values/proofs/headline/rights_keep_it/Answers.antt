@@ -1,4 +1,4 @@
-use Rattle.sc_machine_values.proofs.Carrying.{rights_keep_it}
+use Rattle.sc_machine_values.proofs.Remains.{rights_keep_it}
 use Rattle.sc_machine_values.proofs.headline.rights_keep_it.Goals as goal
 
 pub returns : goal.returns

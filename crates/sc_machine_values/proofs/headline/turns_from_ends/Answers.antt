@@ -1,4 +1,4 @@
-use Rattle.sc_machine_values.proofs.Turning.{turns_from_ends}
+use Rattle.sc_machine_values.proofs.Turns.{turns_from_ends}
 use Rattle.sc_machine_values.proofs.headline.turns_from_ends.Goals as goal
 
 pub returns : goal.returns

@@ -1,4 +1,4 @@
-use Rattle.sc_machine_values.proofs.Awaiting.{turns_keep_it}
+use Rattle.sc_machine_values.proofs.AwaitedEnds.{turns_keep_it}
 use Rattle.sc_machine_values.proofs.headline.turns_keep_it.Goals as goal
 
 pub returns : goal.returns

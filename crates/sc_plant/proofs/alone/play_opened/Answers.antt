@@ -1,5 +1,5 @@
 use Rattle.std.proofs.Common.{refl, sym, ◌∙◌}
-use Rattle.sc_world.proofs.Running.{ok-holds}
+use Rattle.sc_world.proofs.Runs.{ok-holds}
 use Rattle.sc_plant.proofs.OnWay.{err_holds, over_holds, way_run}
 use Rattle.sc_plant.proofs.alone.play_opened.Goals as goal
 

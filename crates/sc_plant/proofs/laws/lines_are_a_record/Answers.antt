@@ -1,4 +1,4 @@
-use Rattle.sc_plant.proofs.Recording.{lines_are_a_record}
+use Rattle.sc_plant.proofs.RunRecords.{lines_are_a_record}
 use Rattle.sc_plant.proofs.laws.lines_are_a_record.Goals as goal
 
 pub returns : goal.returns

@@ -1,4 +1,4 @@
-use Rattle.sc_plant.proofs.Locking.{way_of}
+use Rattle.sc_plant.proofs.Locks.{way_of}
 use Rattle.sc_plant.proofs.OnWay.{way_run}
 use Rattle.sc_plant.proofs.running.play_in_turns.Goals as goal
 

@@ -2,8 +2,8 @@ use Rattle.std.proofs.Common.{ap, not, sym, subst, ◌∙◌, arith}
 use Rattle.sc_plant.specs.Left.{IsStopped}
 use Rattle.sc_plant.proofs.Bare.{bare_stopped, bare_way}
 use Rattle.sc_plant.proofs.OnWay.{way_stopped}
-use Rattle.sc_plant.proofs.Locking.{way_of}
-use Rattle.sc_plant.proofs.Stopping.{none_is}
+use Rattle.sc_plant.proofs.Locks.{way_of}
+use Rattle.sc_plant.proofs.EndedRuns.{none_is}
 use Rattle.sc_plant.proofs.running.play_shared.Goals as goal
 
 pub difference-requires : goal.difference-requires

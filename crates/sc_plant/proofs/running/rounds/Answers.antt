@@ -1,4 +1,4 @@
-use Rattle.sc_plant.proofs.Stopping.{on_true}
+use Rattle.sc_plant.proofs.EndedRuns.{on_true}
 use Rattle.sc_plant.proofs.running.rounds.Goals as goal
 
 pub returns-then-is_stopped-clause-home : goal.returns-then-is_stopped-clause-home

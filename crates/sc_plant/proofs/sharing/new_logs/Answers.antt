@@ -1,5 +1,5 @@
 use Rattle.std.proofs.Common.{arith}
-use Rattle.sc_plant.proofs.Locking.{more_logs, none_logs}
+use Rattle.sc_plant.proofs.Locks.{more_logs, none_logs}
 use Rattle.sc_plant.proofs.sharing.new_logs.Goals as goal
 
 pub loop-init : goal.loop-init

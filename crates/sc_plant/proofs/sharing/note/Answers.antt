@@ -1,7 +1,7 @@
 use Rattle.std.proofs.Common.{◌∙◌, ◌++◌, ◌∷◌, [], List, ap, arith}
 use Rattle.std.proofs.lemmas.Option.{slice_get_past, slice_get_read}
 use Rattle.sc_request.specs.declared.settlement.Settlement.{Settlement}
-use Rattle.sc_plant.proofs.Locking.{noted, unnoted}
+use Rattle.sc_plant.proofs.Locks.{noted, unnoted}
 use Rattle.sc_plant.proofs.sharing.note.Goals as goal
 
 pub returns-then-at-len-clause-logs : goal.returns-then-at-len-clause-logs

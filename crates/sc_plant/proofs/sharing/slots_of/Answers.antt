@@ -1,5 +1,5 @@
 use Rattle.std.proofs.Common.{◌-◌, arith}
-use Rattle.sc_plant.proofs.Locking.{last_fits, rest_fit}
+use Rattle.sc_plant.proofs.Locks.{last_fits, rest_fit}
 use Rattle.sc_plant.proofs.sharing.slots_of.Goals as goal
 
 pub new-requires : goal.new-requires

@@ -1,4 +1,4 @@
-use Rattle.sc_play.proofs.Resuming.{refused_jobs_go_on}
+use Rattle.sc_play.proofs.RefusedJobs.{refused_jobs_go_on}
 use Rattle.sc_play.proofs.laws.refused_jobs_go_on.Goals as goal
 
 pub returns : goal.returns

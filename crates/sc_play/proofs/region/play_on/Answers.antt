@@ -4,7 +4,7 @@ use Rattle.sc_region.specs.declared.job.Want.{Want}
 use Rattle.sc_region.specs.declared.job.Want.TheVariants as want
 use Rattle.sc_region.specs.Stores.{PlainStore}
 use Rattle.sc_play.specs.Turns.{IsAhead, Turns}
-use Rattle.sc_play.proofs.Making.{are_turns, some_made}
+use Rattle.sc_play.proofs.MadeTurns.{are_turns, some_made}
 use Rattle.sc_play.proofs.OneObject.{ahead_here, ahead_none, arrives_as, made_by_now, made_exactly, made_failing, made_next}
 use Rattle.sc_play.proofs.region.play_on.Goals as goal
 

@@ -1,6 +1,6 @@
 use Rattle.std.proofs.Common.{refl}
-use Rattle.sc_play.proofs.Going.{stops_going}
-use Rattle.sc_play.proofs.Playing.{begins_nothing, never_first, plays_behind, plays_from}
+use Rattle.sc_play.proofs.FurtherTurns.{stops_going}
+use Rattle.sc_play.proofs.JobTurns.{begins_nothing, never_first, plays_behind, plays_from}
 use Rattle.sc_play.proofs.region.play_under.Goals as goal
 
 pub returns-then-made-clause-ok : goal.returns-then-made-clause-ok

@@ -1,4 +1,4 @@
-use Rattle.sc_play.proofs.Going.{comes_so}
+use Rattle.sc_play.proofs.FurtherTurns.{comes_so}
 use Rattle.sc_play.proofs.turn.do_operation.Goals as goal
 
 pub returns-in-Comes-clause-comes : goal.returns-in-Comes-clause-comes

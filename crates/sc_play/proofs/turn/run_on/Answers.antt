@@ -1,4 +1,4 @@
-use Rattle.sc_play.proofs.Going.{goes_on, stops_leads, stops_remains}
+use Rattle.sc_play.proofs.FurtherTurns.{goes_on, stops_leads, stops_remains}
 use Rattle.sc_play.proofs.turn.run_on.Goals as goal
 
 pub returns-clause-ok : goal.returns-clause-ok

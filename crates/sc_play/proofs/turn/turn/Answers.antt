@@ -1,6 +1,6 @@
 use Rattle.std.proofs.Common.{Some, sym, ap, ◌∙◌}
 use Rattle.sc_region.specs.declared.frame.Stage.{Stage}
-use Rattle.sc_play.proofs.Going.{stops_ahead}
+use Rattle.sc_play.proofs.FurtherTurns.{stops_ahead}
 use Rattle.sc_play.proofs.turn.turn.Goals as goal
 
 pub returns-in-Some-Runs-clause-err : goal.returns-in-Some-Runs-clause-err

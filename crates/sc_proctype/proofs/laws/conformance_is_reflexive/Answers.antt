@@ -1,4 +1,4 @@
-use Rattle.sc_proctype.proofs.Conforming.{reflexive}
+use Rattle.sc_proctype.proofs.ConformanceLemmas.{reflexive}
 use Rattle.sc_proctype.proofs.laws.conformance_is_reflexive.Goals as goal
 
 pub returns : goal.returns

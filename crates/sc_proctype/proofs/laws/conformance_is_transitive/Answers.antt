@@ -1,4 +1,4 @@
-use Rattle.sc_proctype.proofs.Conforming.{transitive}
+use Rattle.sc_proctype.proofs.ConformanceLemmas.{transitive}
 use Rattle.sc_proctype.proofs.laws.conformance_is_transitive.Goals as goal
 
 pub returns : goal.returns

@@ -1,4 +1,4 @@
-use Rattle.sc_proctype.proofs.Conforming.{expanded_alone}
+use Rattle.sc_proctype.proofs.ConformanceLemmas.{expanded_alone}
 use Rattle.sc_proctype.proofs.laws.expanded_conform_alone.Goals as goal
 
 pub returns : goal.returns

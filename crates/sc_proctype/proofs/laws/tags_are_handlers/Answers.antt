@@ -1,4 +1,4 @@
-use Rattle.sc_proctype.proofs.Conforming.{tags_are_handlers}
+use Rattle.sc_proctype.proofs.ConformanceLemmas.{tags_are_handlers}
 use Rattle.sc_proctype.proofs.laws.tags_are_handlers.Goals as goal
 
 pub returns : goal.returns

@@ -1,4 +1,4 @@
-use Rattle.sc_refines_core.proofs.Reaching.{reached_halves}
+use Rattle.sc_refines_core.proofs.ReachedStates.{reached_halves}
 use Rattle.sc_refines_core.proofs.laws.core_settles_as_half_where_reached.Goals as goal
 
 pub returns : goal.returns

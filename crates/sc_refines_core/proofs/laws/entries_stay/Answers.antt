@@ -1,4 +1,4 @@
-use Rattle.sc_refines_core.proofs.Keeping.{entries_stay}
+use Rattle.sc_refines_core.proofs.KeptEntries.{entries_stay}
 use Rattle.sc_refines_core.proofs.laws.entries_stay.Goals as goal
 
 pub returns : goal.returns

@@ -1,4 +1,4 @@
-use Rattle.sc_refines_core.proofs.Guarding.{reservers_on_started}
+use Rattle.sc_refines_core.proofs.Guards.{reservers_on_started}
 use Rattle.sc_refines_core.proofs.laws.reservers_stand_on_started.Goals as goal
 
 pub returns : goal.returns

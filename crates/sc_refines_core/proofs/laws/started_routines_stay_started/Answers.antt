@@ -1,4 +1,4 @@
-use Rattle.sc_refines_core.proofs.Calming.{moves_calm}
+use Rattle.sc_refines_core.proofs.CalmSteps.{moves_calm}
 use Rattle.sc_refines_core.proofs.laws.started_routines_stay_started.Goals as goal
 
 pub returns : goal.returns

@@ -1,4 +1,4 @@
-use Rattle.sc_refines_region.proofs.Ordering.{openings_are_in_order}
+use Rattle.sc_refines_region.proofs.FrameOrder.{openings_are_in_order}
 use Rattle.sc_refines_region.proofs.laws.openings_are_in_order.Goals as goal
 
 pub returns : goal.returns

@@ -1,4 +1,4 @@
-use Rattle.sc_refines_region.proofs.Staying.{others_keep_halves}
+use Rattle.sc_refines_region.proofs.OtherHandlers.{others_keep_halves}
 use Rattle.sc_refines_region.proofs.laws.others_keep_halves.Goals as goal
 
 pub returns : goal.returns

@@ -1,4 +1,4 @@
-use Rattle.sc_refines_region.proofs.Wanting.{regions_ask}
+use Rattle.sc_refines_region.proofs.Wants.{regions_ask}
 use Rattle.sc_refines_region.proofs.laws.regions_ask.Goals as goal
 
 pub returns : goal.returns

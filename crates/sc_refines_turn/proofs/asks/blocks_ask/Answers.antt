@@ -1,4 +1,4 @@
-use Rattle.sc_refines_turn.proofs.BlocksAsking.{blocks_ask}
+use Rattle.sc_refines_turn.proofs.BlockAsks.{blocks_ask}
 use Rattle.sc_refines_turn.proofs.asks.blocks_ask.Goals as goal
 
 pub returns : goal.returns

@@ -1,4 +1,4 @@
-use Rattle.sc_refines_turn.proofs.CallsAsking.{calls_ask}
+use Rattle.sc_refines_turn.proofs.CallAsks.{calls_ask}
 use Rattle.sc_refines_turn.proofs.asks.calls_ask.Goals as goal
 
 pub returns : goal.returns

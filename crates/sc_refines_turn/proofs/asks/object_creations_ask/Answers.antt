@@ -1,4 +1,4 @@
-use Rattle.sc_refines_turn.proofs.CallsAsking.{object_creations_ask}
+use Rattle.sc_refines_turn.proofs.CallAsks.{object_creations_ask}
 use Rattle.sc_refines_turn.proofs.asks.object_creations_ask.Goals as goal
 
 pub returns : goal.returns

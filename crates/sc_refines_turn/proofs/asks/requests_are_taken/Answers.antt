@@ -1,4 +1,4 @@
-use Rattle.sc_refines_turn.proofs.Taking.{requests_are_taken}
+use Rattle.sc_refines_turn.proofs.TakenRequests.{requests_are_taken}
 use Rattle.sc_refines_turn.proofs.asks.requests_are_taken.Goals as goal
 
 pub returns : goal.returns

@@ -1,4 +1,4 @@
-use Rattle.sc_refines_turn.proofs.Wanting.{block_ends_ask}
+use Rattle.sc_refines_turn.proofs.TurnWants.{block_ends_ask}
 use Rattle.sc_refines_turn.proofs.laws.block_ends_ask.Goals as goal
 
 pub returns : goal.returns

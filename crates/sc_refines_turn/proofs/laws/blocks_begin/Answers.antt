@@ -1,4 +1,4 @@
-use Rattle.sc_refines_turn.proofs.Staging.{blocks_begin}
+use Rattle.sc_refines_turn.proofs.StageChanges.{blocks_begin}
 use Rattle.sc_refines_turn.proofs.laws.blocks_begin.Goals as goal
 
 pub returns : goal.returns

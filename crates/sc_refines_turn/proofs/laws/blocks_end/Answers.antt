@@ -1,4 +1,4 @@
-use Rattle.sc_refines_turn.proofs.Staging.{blocks_end}
+use Rattle.sc_refines_turn.proofs.StageChanges.{blocks_end}
 use Rattle.sc_refines_turn.proofs.laws.blocks_end.Goals as goal
 
 pub returns : goal.returns

@@ -1,4 +1,4 @@
-use Rattle.sc_refines_turn.proofs.Passing.{bodies_start}
+use Rattle.sc_refines_turn.proofs.PassedOperations.{bodies_start}
 use Rattle.sc_refines_turn.proofs.laws.bodies_start.Goals as goal
 
 pub returns : goal.returns

@@ -1,4 +1,4 @@
-use Rattle.sc_refines_turn.proofs.Passing.{booleans_are_printed}
+use Rattle.sc_refines_turn.proofs.PassedOperations.{booleans_are_printed}
 use Rattle.sc_refines_turn.proofs.laws.booleans_are_printed.Goals as goal
 
 pub returns : goal.returns

@@ -1,4 +1,4 @@
-use Rattle.sc_refines_turn.proofs.Calling.{calls_are_made}
+use Rattle.sc_refines_turn.proofs.Calls.{calls_are_made}
 use Rattle.sc_refines_turn.proofs.laws.calls_are_made.Goals as goal
 
 pub returns : goal.returns

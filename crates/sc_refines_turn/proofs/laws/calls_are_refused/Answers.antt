@@ -1,4 +1,4 @@
-use Rattle.sc_refines_turn.proofs.Refusing.{calls_are_refused}
+use Rattle.sc_refines_turn.proofs.Refusals.{calls_are_refused}
 use Rattle.sc_refines_turn.proofs.laws.calls_are_refused.Goals as goal
 
 pub returns : goal.returns

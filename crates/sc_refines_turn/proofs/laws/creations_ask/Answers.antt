@@ -1,4 +1,4 @@
-use Rattle.sc_refines_turn.proofs.Wanting.{creations_ask}
+use Rattle.sc_refines_turn.proofs.TurnWants.{creations_ask}
 use Rattle.sc_refines_turn.proofs.laws.creations_ask.Goals as goal
 
 pub returns : goal.returns

@@ -1,4 +1,4 @@
-use Rattle.sc_refines_turn.proofs.Wanting.{distinct_names_have_numbers}
+use Rattle.sc_refines_turn.proofs.TurnWants.{distinct_names_have_numbers}
 use Rattle.sc_refines_turn.proofs.laws.distinct_names_have_numbers.Goals as goal
 
 pub returns : goal.returns

@@ -1,4 +1,4 @@
-use Rattle.sc_refines_turn.proofs.Asking.{failures_are_told}
+use Rattle.sc_refines_turn.proofs.TurnAsks.{failures_are_told}
 use Rattle.sc_refines_turn.proofs.laws.failures_are_told.Goals as goal
 
 pub returns : goal.returns

@@ -1,4 +1,4 @@
-use Rattle.sc_refines_turn.proofs.Staging.{handlers_are_created}
+use Rattle.sc_refines_turn.proofs.StageChanges.{handlers_are_created}
 use Rattle.sc_refines_turn.proofs.laws.handlers_are_created.Goals as goal
 
 pub returns : goal.returns

@@ -1,4 +1,4 @@
-use Rattle.sc_refines_turn.proofs.Passing.{integers_are_printed}
+use Rattle.sc_refines_turn.proofs.PassedOperations.{integers_are_printed}
 use Rattle.sc_refines_turn.proofs.laws.integers_are_printed.Goals as goal
 
 pub returns : goal.returns

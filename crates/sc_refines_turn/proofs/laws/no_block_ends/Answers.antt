@@ -1,4 +1,4 @@
-use Rattle.sc_refines_turn.proofs.Staging.{no_block_ends}
+use Rattle.sc_refines_turn.proofs.StageChanges.{no_block_ends}
 use Rattle.sc_refines_turn.proofs.laws.no_block_ends.Goals as goal
 
 pub returns : goal.returns

@@ -1,4 +1,4 @@
-use Rattle.sc_refines_turn.proofs.Creating.{objects_are_created}
+use Rattle.sc_refines_turn.proofs.Creations.{objects_are_created}
 use Rattle.sc_refines_turn.proofs.laws.objects_are_created.Goals as goal
 
 pub returns : goal.returns

@@ -1,4 +1,4 @@
-use Rattle.sc_refines_turn.proofs.CreatingBy.{objects_are_created_by}
+use Rattle.sc_refines_turn.proofs.ProcedureCreations.{objects_are_created_by}
 use Rattle.sc_refines_turn.proofs.laws.objects_are_created_by.Goals as goal
 
 pub returns : goal.returns

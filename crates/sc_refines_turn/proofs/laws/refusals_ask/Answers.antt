@@ -1,4 +1,4 @@
-use Rattle.sc_refines_turn.proofs.Wanting.{refusals_ask}
+use Rattle.sc_refines_turn.proofs.TurnWants.{refusals_ask}
 use Rattle.sc_refines_turn.proofs.laws.refusals_ask.Goals as goal
 
 pub returns : goal.returns

@@ -1,4 +1,4 @@
-use Rattle.sc_refines_turn.proofs.Staging.{requests_are_made}
+use Rattle.sc_refines_turn.proofs.StageChanges.{requests_are_made}
 use Rattle.sc_refines_turn.proofs.laws.requests_are_made.Goals as goal
 
 pub returns : goal.returns

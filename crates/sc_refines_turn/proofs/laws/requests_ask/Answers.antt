@@ -1,4 +1,4 @@
-use Rattle.sc_refines_turn.proofs.Wanting.{requests_ask}
+use Rattle.sc_refines_turn.proofs.TurnWants.{requests_ask}
 use Rattle.sc_refines_turn.proofs.laws.requests_ask.Goals as goal
 
 pub returns : goal.returns

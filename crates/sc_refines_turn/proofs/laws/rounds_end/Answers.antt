@@ -1,4 +1,4 @@
-use Rattle.sc_refines_turn.proofs.Passing.{rounds_end}
+use Rattle.sc_refines_turn.proofs.PassedOperations.{rounds_end}
 use Rattle.sc_refines_turn.proofs.laws.rounds_end.Goals as goal
 
 pub returns : goal.returns

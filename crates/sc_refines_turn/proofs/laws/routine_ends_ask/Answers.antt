@@ -1,4 +1,4 @@
-use Rattle.sc_refines_turn.proofs.Wanting.{routine_ends_ask}
+use Rattle.sc_refines_turn.proofs.TurnWants.{routine_ends_ask}
 use Rattle.sc_refines_turn.proofs.laws.routine_ends_ask.Goals as goal
 
 pub returns : goal.returns

@@ -1,4 +1,4 @@
-use Rattle.sc_refines_turn.proofs.Exiting.{routines_end}
+use Rattle.sc_refines_turn.proofs.Exits.{routines_end}
 use Rattle.sc_refines_turn.proofs.laws.routines_end.Goals as goal
 
 pub returns : goal.returns

@@ -1,4 +1,4 @@
-use Rattle.sc_refines_turn.proofs.Passing.{routines_fail}
+use Rattle.sc_refines_turn.proofs.PassedOperations.{routines_fail}
 use Rattle.sc_refines_turn.proofs.laws.routines_fail.Goals as goal
 
 pub returns : goal.returns

@@ -1,4 +1,4 @@
-use Rattle.sc_refines_turn.proofs.Waiting.{routines_wait}
+use Rattle.sc_refines_turn.proofs.WaitedClauses.{routines_wait}
 use Rattle.sc_refines_turn.proofs.laws.routines_wait.Goals as goal
 
 pub returns : goal.returns

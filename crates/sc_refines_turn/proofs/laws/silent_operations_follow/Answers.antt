@@ -1,4 +1,4 @@
-use Rattle.sc_refines_turn.proofs.Coming.{silent_operations_follow}
+use Rattle.sc_refines_turn.proofs.SilentOperations.{silent_operations_follow}
 use Rattle.sc_refines_turn.proofs.laws.silent_operations_follow.Goals as goal
 
 pub returns : goal.returns

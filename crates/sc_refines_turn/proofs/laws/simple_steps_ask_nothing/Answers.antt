@@ -1,4 +1,4 @@
-use Rattle.sc_refines_turn.proofs.Asking.{simple_steps_ask_nothing}
+use Rattle.sc_refines_turn.proofs.TurnAsks.{simple_steps_ask_nothing}
 use Rattle.sc_refines_turn.proofs.laws.simple_steps_ask_nothing.Goals as goal
 
 pub returns : goal.returns

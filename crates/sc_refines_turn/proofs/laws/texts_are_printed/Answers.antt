@@ -1,4 +1,4 @@
-use Rattle.sc_refines_turn.proofs.Passing.{texts_are_printed}
+use Rattle.sc_refines_turn.proofs.PassedOperations.{texts_are_printed}
 use Rattle.sc_refines_turn.proofs.laws.texts_are_printed.Goals as goal
 
 pub returns : goal.returns

@@ -1,4 +1,4 @@
-use Rattle.sc_refines_turn.proofs.Rooming.{answers_have_room}
+use Rattle.sc_refines_turn.proofs.ValueRoom.{answers_have_room}
 use Rattle.sc_refines_turn.proofs.rooms.answers_have_room.Goals as goal
 
 pub returns : goal.returns

@@ -1,4 +1,4 @@
-use Rattle.sc_refines_turn.proofs.Rooming.{room_is_kept}
+use Rattle.sc_refines_turn.proofs.ValueRoom.{room_is_kept}
 use Rattle.sc_refines_turn.proofs.rooms.room_is_kept.Goals as goal
 
 pub returns : goal.returns

@@ -1,4 +1,4 @@
-use Rattle.sc_refines_turn.proofs.Rooming.{routines_end_with_room}
+use Rattle.sc_refines_turn.proofs.ValueRoom.{routines_end_with_room}
 use Rattle.sc_refines_turn.proofs.rooms.routines_end_with_room.Goals as goal
 
 pub returns : goal.returns

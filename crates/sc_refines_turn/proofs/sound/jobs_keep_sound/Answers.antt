@@ -1,4 +1,4 @@
-use Rattle.sc_refines_turn.proofs.Sounding.{jobs_keep_sound}
+use Rattle.sc_refines_turn.proofs.SoundStores.{jobs_keep_sound}
 use Rattle.sc_refines_turn.proofs.sound.jobs_keep_sound.Goals as goal
 
 pub returns : goal.returns

@@ -1,4 +1,4 @@
-use Rattle.sc_refines_turn.proofs.Sounding.{plays_keep_sound}
+use Rattle.sc_refines_turn.proofs.SoundStores.{plays_keep_sound}
 use Rattle.sc_refines_turn.proofs.sound.plays_keep_sound.Goals as goal
 
 pub returns : goal.returns

@@ -1,4 +1,4 @@
-use Rattle.sc_refines_turn.proofs.Telling.{told_blocks_begin}
+use Rattle.sc_refines_turn.proofs.ToldOperations.{told_blocks_begin}
 use Rattle.sc_refines_turn.proofs.told.told_blocks_begin.Goals as goal
 
 pub returns : goal.returns

@@ -1,4 +1,4 @@
-use Rattle.sc_refines_turn.proofs.Telling.{told_calls_are_made}
+use Rattle.sc_refines_turn.proofs.ToldOperations.{told_calls_are_made}
 use Rattle.sc_refines_turn.proofs.told.told_calls_are_made.Goals as goal
 
 pub returns : goal.returns

@@ -1,4 +1,4 @@
-use Rattle.sc_refines_turn.proofs.Telling.{told_objects_are_created}
+use Rattle.sc_refines_turn.proofs.ToldOperations.{told_objects_are_created}
 use Rattle.sc_refines_turn.proofs.told.told_objects_are_created.Goals as goal
 
 pub returns : goal.returns

@@ -1,4 +1,4 @@
-use Rattle.sc_refines_world.proofs.Idling.{idle_world_is_idle}
+use Rattle.sc_refines_world.proofs.IdleWorlds.{idle_world_is_idle}
 use Rattle.sc_refines_world.proofs.laws.idle_world_is_idle.Goals as goal
 
 pub returns : goal.returns

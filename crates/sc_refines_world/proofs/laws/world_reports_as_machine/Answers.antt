@@ -1,4 +1,4 @@
-use Rattle.sc_refines_world.proofs.Reporting.{world_reports_as_machine}
+use Rattle.sc_refines_world.proofs.Reports.{world_reports_as_machine}
 use Rattle.sc_refines_world.proofs.laws.world_reports_as_machine.Goals as goal
 
 pub returns : goal.returns

@@ -4,7 +4,7 @@ use Rattle.sc_code.specs.declared.program.RoutineCode.{RoutineCode}
 use Rattle.sc_region.specs.Calls.{called_on}
 use Rattle.sc_region.specs.Stores.{max_frames}
 use Rattle.sc_region.specs.States.{state_of}
-use Rattle.sc_region.proofs.Calling.{calls_misfit, calls_full, calls_made, frames_are}
+use Rattle.sc_region.proofs.OwnCalls.{calls_misfit, calls_full, calls_made, frames_are}
 use Rattle.sc_region.proofs.state.call.Goals as goal
 
 pub returns-then-call-code-clause-ok : goal.returns-then-call-code-clause-ok

@@ -2,7 +2,7 @@ use Rattle.std.proofs.Common.{◌+◌, ◌<◌, length, take, ap, ◌∙◌, ari
 use Rattle.std.proofs.Math.ListN.{length-set}
 use Rattle.std.specs.Prelude.{slice_set}
 use Rattle.sc_formula.specs.declared.atom.Atom.{Atom}
-use Rattle.sc_region.proofs.Filling.{filled}
+use Rattle.sc_region.proofs.FilledSlots.{filled}
 use Rattle.sc_region.proofs.state.fill.Goals as goal
 
 pub loop-place-preserved : goal.loop-place-preserved

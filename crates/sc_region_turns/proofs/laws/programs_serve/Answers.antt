@@ -1,4 +1,4 @@
-use Rattle.sc_region_turns.proofs.Serving.{programs_serve}
+use Rattle.sc_region_turns.proofs.ProgramTables.{programs_serve}
 use Rattle.sc_region_turns.proofs.laws.programs_serve.Goals as goal
 
 pub returns : goal.returns

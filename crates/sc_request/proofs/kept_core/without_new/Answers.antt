@@ -1,5 +1,5 @@
 use Rattle.std.proofs.Common.{◌∙◌}
-use Rattle.sc_request.proofs.Keeping.{same_without_new}
+use Rattle.sc_request.proofs.KeptCores.{same_without_new}
 use Rattle.sc_request.proofs.kept_core.without_new.Goals as goal
 
 pub returns : goal.returns

@@ -1,6 +1,6 @@
 use Rattle.std.proofs.Common.{sym, ◌∙◌}
 use Rattle.sc_lockpass.specs.Tables.{passed_of, rights_of}
-use Rattle.sc_request.proofs.Releasing.{cleared_queue, cleared_top, given_queue, given_top, none_of}
+use Rattle.sc_request.proofs.Releases.{cleared_queue, cleared_top, given_queue, given_top, none_of}
 use Rattle.sc_request.proofs.sessions.give_new.Goals as goal
 
 pub returns-then-is_some-clause-queue : goal.returns-then-is_some-clause-queue

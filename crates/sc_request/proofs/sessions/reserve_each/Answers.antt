@@ -1,6 +1,6 @@
 use Rattle.std.proofs.Common.{◌∙◌}
 use Rattle.sc_lockpass.specs.Tables.{rights_of}
-use Rattle.sc_request.proofs.Releasing.{free_then, reserved_over}
+use Rattle.sc_request.proofs.Releases.{free_then, reserved_over}
 use Rattle.sc_request.proofs.sessions.reserve_each.Goals as goal
 
 pub reserve-requires-clause-unreserved : goal.reserve-requires-clause-unreserved

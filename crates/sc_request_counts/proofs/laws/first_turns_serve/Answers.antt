@@ -1,4 +1,4 @@
-use Rattle.sc_request_counts.proofs.Turning.{first_turns_serve}
+use Rattle.sc_request_counts.proofs.TurnCounts.{first_turns_serve}
 use Rattle.sc_request_counts.proofs.laws.first_turns_serve.Goals as goal
 
 pub returns : goal.returns

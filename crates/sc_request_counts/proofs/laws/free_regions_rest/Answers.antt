@@ -1,4 +1,4 @@
-use Rattle.sc_request_counts.proofs.Linking.{free_regions_rest}
+use Rattle.sc_request_counts.proofs.Links.{free_regions_rest}
 use Rattle.sc_request_counts.proofs.laws.free_regions_rest.Goals as goal
 
 pub returns : goal.returns

@@ -1,4 +1,4 @@
-use Rattle.sc_request_counts.proofs.Turning.{further_turns_serve}
+use Rattle.sc_request_counts.proofs.TurnCounts.{further_turns_serve}
 use Rattle.sc_request_counts.proofs.laws.further_turns_serve.Goals as goal
 
 pub returns : goal.returns

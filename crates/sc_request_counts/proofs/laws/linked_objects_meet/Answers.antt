@@ -1,4 +1,4 @@
-use Rattle.sc_request_counts.proofs.Linking.{linked_objects_meet}
+use Rattle.sc_request_counts.proofs.Links.{linked_objects_meet}
 use Rattle.sc_request_counts.proofs.laws.linked_objects_meet.Goals as goal
 
 pub returns : goal.returns

@@ -1,4 +1,4 @@
-use Rattle.sc_request_counts.proofs.Turning.{regions_serve}
+use Rattle.sc_request_counts.proofs.TurnCounts.{regions_serve}
 use Rattle.sc_request_counts.proofs.laws.regions_serve.Goals as goal
 
 pub returns : goal.returns

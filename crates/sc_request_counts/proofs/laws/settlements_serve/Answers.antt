@@ -1,4 +1,4 @@
-use Rattle.sc_request_counts.proofs.Settling.{settlements_serve}
+use Rattle.sc_request_counts.proofs.SettledCounts.{settlements_serve}
 use Rattle.sc_request_counts.proofs.laws.settlements_serve.Goals as goal
 
 pub returns : goal.returns

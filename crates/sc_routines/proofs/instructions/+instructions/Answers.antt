@@ -11,7 +11,7 @@ use Rattle.sc_code.specs.Places.{names_given, with_heads}
 use Rattle.sc_code.specs.Emitted.{expr_code, expr_depth, names_of, instr_code, instr_depth, instr_slots, instrs_code, instrs_depth, instrs_slots, branches_depth, branches_slots}
 use Rattle.sc_code.specs.Room.{instr_blocks}
 use Rattle.sc_routines.specs.Settings.{setting_in}
-use Rattle.sc_routines.proofs.Landing.{skip_set, loop_set, if_landed, if_jumps}
+use Rattle.sc_routines.proofs.JumpTargets.{skip_set, loop_set, if_landed, if_jumps}
 use Rattle.sc_routines.proofs.Shapes.{if_is, loop_is, block_is}
 use Rattle.sc_routines.proofs.HeadNames.{block_left, part_left}
 use Rattle.sc_routines.proofs.instructions.+instructions.Goals as goal

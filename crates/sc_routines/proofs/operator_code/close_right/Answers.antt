@@ -2,7 +2,7 @@ use Rattle.std.proofs.Common.{◌≡◌, ◌-◌, ◌++◌, ◌∷◌, [], List,
 use Rattle.sc_code.specs.Operations.{Operation, Conclude}
 use Rattle.sc_code.specs.Emitted.{right_code}
 use Rattle.sc_routines.specs.Parts.{opened}
-use Rattle.sc_routines.proofs.Deciding.{decided}
+use Rattle.sc_routines.proofs.Decisions.{decided}
 use Rattle.sc_routines.proofs.operator_code.close_right.Goals as goal
 
 pub returns-then-is_short : goal.returns-then-is_short

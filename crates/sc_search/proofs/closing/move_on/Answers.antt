@@ -3,10 +3,10 @@ use Rattle.std.proofs.lemmas.Grind.{common_steps}
 use Rattle.sc_world.specs.Views.{world_of}
 use Rattle.sc_world.specs.Worlds.{opened}
 use Rattle.sc_search.specs.Views.{states_of}
-use Rattle.sc_search.proofs.Keeping.{goes_through, unmet_not}
+use Rattle.sc_search.proofs.KeptStates.{goes_through, unmet_not}
 use Rattle.sc_search.proofs.Reasons.{lost}
-use Rattle.sc_search.proofs.Trying.{tries}
-use Rattle.sc_search.proofs.Turning.{leads_more}
+use Rattle.sc_search.proofs.TriedTurns.{tries}
+use Rattle.sc_search.proofs.LineTurns.{leads_more}
 use Rattle.sc_search.proofs.closing.move_on.Goals as goal
 
 pub returns-clause-tries : goal.returns-clause-tries

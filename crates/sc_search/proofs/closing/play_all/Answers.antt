@@ -1,8 +1,8 @@
 use Rattle.std.proofs.Common.{◌<◌, ◌≤◌, length, arith}
 use Rattle.sc_search.specs.Views.{states_of}
-use Rattle.sc_search.proofs.Keeping.{at_none}
+use Rattle.sc_search.proofs.KeptStates.{at_none}
 use Rattle.sc_search.proofs.Reasons.{still_there}
-use Rattle.sc_search.proofs.Trying.{closes, closes_first, closes_next}
+use Rattle.sc_search.proofs.TriedTurns.{closes, closes_first, closes_next}
 use Rattle.sc_search.proofs.closing.play_all.Goals as goal
 
 pub loop-init : goal.loop-init

@@ -1,7 +1,7 @@
 use Rattle.std.proofs.Common.{◌≡◌, ◌≤◌, length}
 use Rattle.sc_search.specs.Stops.{HasReached}
 use Rattle.sc_search.specs.Views.{states_of}
-use Rattle.sc_search.proofs.Trying.{ClosesBelow}
+use Rattle.sc_search.proofs.TriedTurns.{ClosesBelow}
 use Rattle.sc_search.proofs.closing.play_all.Given as goal
 
 -- the states before are done

@@ -3,9 +3,9 @@ use Rattle.std.proofs.lemmas.Grind.{common_steps}
 use Rattle.sc_request.specs.Logs.{Center}
 use Rattle.sc_world.specs.Views.{world_of}
 use Rattle.sc_search.specs.Views.{orders_of, states_of}
-use Rattle.sc_search.proofs.Keeping.{at_none, unmet_not}
+use Rattle.sc_search.proofs.KeptStates.{at_none, unmet_not}
 use Rattle.sc_search.proofs.Reasons.{led, lost}
-use Rattle.sc_search.proofs.Trying.{stands_along, stands_still, tries_all, tries_first, tries_next}
+use Rattle.sc_search.proofs.TriedTurns.{stands_along, stands_still, tries_all, tries_first, tries_next}
 use Rattle.sc_search.proofs.closing.try_all.Goals as goal
 
 pub loop-place-init : goal.loop-place-init

@@ -1,6 +1,6 @@
 use Rattle.sc_search.specs.Stops.{HasReached}
 use Rattle.sc_search.specs.Views.{states_of}
-use Rattle.sc_search.proofs.Trying.{TriesBelow}
+use Rattle.sc_search.proofs.TriedTurns.{TriesBelow}
 use Rattle.sc_search.proofs.closing.try_all.Given as goal
 
 -- the turns of those before are tried

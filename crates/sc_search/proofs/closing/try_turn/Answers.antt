@@ -2,8 +2,8 @@ use Rattle.std.proofs.Common.{◌≡◌, ◌∙◌, None, not, sym, ap}
 use Rattle.sc_request.specs.Logs.{Center, pick_for}
 use Rattle.sc_world.specs.Views.{world_of}
 use Rattle.sc_search.specs.Views.{states_of}
-use Rattle.sc_search.proofs.Keeping.{none_is}
-use Rattle.sc_search.proofs.Trying.{tries_none}
+use Rattle.sc_search.proofs.KeptStates.{none_is}
+use Rattle.sc_search.proofs.TriedTurns.{tries_none}
 use Rattle.sc_search.proofs.closing.try_turn.Goals as goal
 
 pub returns-then-is_none-clause-tries : goal.returns-then-is_none-clause-tries

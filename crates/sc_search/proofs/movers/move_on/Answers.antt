@@ -1,5 +1,5 @@
 use Rattle.sc_world.specs.Views.{world_of}
-use Rattle.sc_search.proofs.Turning.{moves_more}
+use Rattle.sc_search.proofs.LineTurns.{moves_more}
 use Rattle.sc_search.proofs.movers.move_on.Goals as goal
 
 pub loop-preserved : goal.loop-preserved

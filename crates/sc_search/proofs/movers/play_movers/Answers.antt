@@ -2,7 +2,7 @@ use Rattle.std.proofs.Common.{ℕ, List, subst}
 use Rattle.sc_world.specs.Turning.{Runs}
 use Rattle.sc_world.specs.Views.{world_of}
 use Rattle.sc_world.specs.Worlds.{opened}
-use Rattle.sc_search.proofs.Turning.{moves_on}
+use Rattle.sc_search.proofs.LineTurns.{moves_on}
 use Rattle.sc_search.proofs.movers.play_movers.Goals as goal
 
 pub returns-in-All : goal.returns-in-All

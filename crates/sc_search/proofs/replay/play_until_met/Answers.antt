@@ -3,9 +3,9 @@ use Rattle.std.proofs.lemmas.List.{take_all, take_more}
 use Rattle.sc_world.specs.Turning.{Runs}
 use Rattle.sc_world.specs.Views.{world_of}
 use Rattle.sc_world.specs.Worlds.{opened}
-use Rattle.sc_search.proofs.Ending.{unmet_by, unmet_kept, unmet_pushed}
+use Rattle.sc_search.proofs.OrderEnds.{unmet_by, unmet_kept, unmet_pushed}
 use Rattle.sc_search.proofs.Reasons.{met_by}
-use Rattle.sc_search.proofs.Turning.{leads_more}
+use Rattle.sc_search.proofs.LineTurns.{leads_more}
 use Rattle.sc_search.proofs.replay.play_until_met.Goals.{in-Moved+in_ok-push-in-Moved, in-Nothing}
 use Rattle.sc_search.proofs.replay.play_until_met.Goals as goal
 

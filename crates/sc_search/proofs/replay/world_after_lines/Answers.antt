@@ -1,4 +1,4 @@
-use Rattle.sc_search.proofs.Turning.{lines_more}
+use Rattle.sc_search.proofs.LineTurns.{lines_more}
 use Rattle.sc_search.proofs.replay.world_after_lines.Goals as goal
 
 pub loop-line-preserved : goal.loop-line-preserved

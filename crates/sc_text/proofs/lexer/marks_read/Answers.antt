@@ -1,6 +1,6 @@
 use Rattle.std.proofs.Common.{string_bytes, sym, arith, rules, ◌∙◌}
 use Rattle.std.proofs.lemmas.Str.{IsCharBoundary-after_ascii}
-use Rattle.sc_text.proofs.Scanning.{marks_end, mark_kept, mark_refused, run_kept}
+use Rattle.sc_text.proofs.PartLengths.{marks_end, mark_kept, mark_refused, run_kept}
 use Rattle.sc_text.proofs.lexer.marks_read.Goals as goal
 
 pub loop-rest-preserved-then-length-gt0 : goal.loop-rest-preserved-then-length-gt0

@@ -1,5 +1,5 @@
 use Rattle.sc_text.specs.Characters.{is_name_part}
-use Rattle.sc_text.proofs.Scanning.{list_all-prefix}
+use Rattle.sc_text.proofs.PartLengths.{list_all-prefix}
 use Rattle.sc_text.proofs.lexer.word.Goals as goal
 
 pub lower_case-requires : goal.lower_case-requires

@@ -1,5 +1,5 @@
 use Rattle.std.proofs.Common.{arith, rules}
-use Rattle.sc_text.proofs.Scanning.{number_too_large}
+use Rattle.sc_text.proofs.PartLengths.{number_too_large}
 use Rattle.sc_text.proofs.scan.number.Goals as goal
 
 pub returns-then-value-digit : goal.returns-then-value-digit

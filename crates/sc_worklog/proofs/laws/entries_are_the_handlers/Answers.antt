@@ -1,4 +1,4 @@
-use Rattle.sc_worklog.proofs.Replaying.{entries_are_the_handlers}
+use Rattle.sc_worklog.proofs.ReplayedTurns.{entries_are_the_handlers}
 use Rattle.sc_worklog.proofs.laws.entries_are_the_handlers.Goals as goal
 
 pub returns : goal.returns

@@ -1,4 +1,4 @@
-use Rattle.sc_worklog.proofs.Replaying.{unrefused_replays_are_turns}
+use Rattle.sc_worklog.proofs.ReplayedTurns.{unrefused_replays_are_turns}
 use Rattle.sc_worklog.proofs.laws.unrefused_replays_are_turns.Goals as goal
 
 pub returns : goal.returns

@@ -1,6 +1,6 @@
 use Rattle.std.proofs.Common.{ℕ, refl, ap, arith}
 use Rattle.sc_play.specs.Contents.{Contents}
-use Rattle.sc_world.proofs.Keeping.{differs, same_everywhere}
+use Rattle.sc_world.proofs.KeptWorlds.{differs, same_everywhere}
 use Rattle.sc_world.proofs.kept_world.same_regions.Goals as goal
 
 pub returns-then-not-same_at : goal.returns-then-not-same_at

@@ -1,5 +1,5 @@
 use Rattle.std.proofs.Common.{arith}
-use Rattle.sc_world.proofs.Keeping.{new_past}
+use Rattle.sc_world.proofs.KeptWorlds.{new_past}
 use Rattle.sc_world.proofs.kept_world.used.Goals as goal
 
 pub loop-count-init : goal.loop-count-init

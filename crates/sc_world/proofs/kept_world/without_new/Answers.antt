@@ -1,5 +1,5 @@
 use Rattle.std.proofs.Common.{◌∙◌}
-use Rattle.sc_world.proofs.Keeping.{same_without_new}
+use Rattle.sc_world.proofs.KeptWorlds.{same_without_new}
 use Rattle.sc_world.proofs.kept_world.without_new.Goals as goal
 
 pub returns-clause-same : goal.returns-clause-same

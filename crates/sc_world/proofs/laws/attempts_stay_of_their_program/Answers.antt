@@ -1,4 +1,4 @@
-use Rattle.sc_world.proofs.Keeping.{attempts_stay_of}
+use Rattle.sc_world.proofs.KeptWorlds.{attempts_stay_of}
 use Rattle.sc_world.proofs.laws.attempts_stay_of_their_program.Goals as goal
 
 pub returns : goal.returns

@@ -1,4 +1,4 @@
-use Rattle.sc_world.proofs.Keeping.{kept_alike_are_alike}
+use Rattle.sc_world.proofs.KeptWorlds.{kept_alike_are_alike}
 use Rattle.sc_world.proofs.laws.kept_alike_are_alike.Goals as goal
 
 pub returns : goal.returns

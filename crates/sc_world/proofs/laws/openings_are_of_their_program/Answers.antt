@@ -1,4 +1,4 @@
-use Rattle.sc_world.proofs.Keeping.{openings_are_of}
+use Rattle.sc_world.proofs.KeptWorlds.{openings_are_of}
 use Rattle.sc_world.proofs.laws.openings_are_of_their_program.Goals as goal
 
 pub returns : goal.returns

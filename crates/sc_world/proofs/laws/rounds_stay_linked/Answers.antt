@@ -1,4 +1,4 @@
-use Rattle.sc_world.proofs.Freeing.{rounds_stay_linked}
+use Rattle.sc_world.proofs.FreeHandlers.{rounds_stay_linked}
 use Rattle.sc_world.proofs.laws.rounds_stay_linked.Goals as goal
 
 pub returns : goal.returns

@@ -1,4 +1,4 @@
-use Rattle.sc_world.proofs.Keeping.{runs_stay_of}
+use Rattle.sc_world.proofs.KeptWorlds.{runs_stay_of}
 use Rattle.sc_world.proofs.laws.runs_stay_of_their_program.Goals as goal
 
 pub returns : goal.returns

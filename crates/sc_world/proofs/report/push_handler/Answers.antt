@@ -2,7 +2,7 @@ use Rattle.std.proofs.Common.{◌≡◌, List, ℕ, ◌++◌, length, ap, ◌∙
 use Rattle.std.specs.Fmt.{decimal}
 use Rattle.std.specs.Prelude.{codes}
 use Rattle.sc_model.specs.Reports.{line_feed, status_text}
-use Rattle.sc_world.proofs.Telling.{pieces}
+use Rattle.sc_world.proofs.ReportParts.{pieces}
 use Rattle.sc_world.proofs.report.push_handler.Goals as goal
 
 pub returns : goal.returns

@@ -3,7 +3,7 @@ use Rattle.sc_region.specs.declared.job.Job.{Job}
 use Rattle.sc_play.specs.Regions.{IsRefused, Plays, outcome}
 use Rattle.sc_request.specs.Cores.{center_of}
 use Rattle.sc_world.proofs.Outs.{job-is, one-job}
-use Rattle.sc_world.proofs.Running.{ok-holds}
+use Rattle.sc_world.proofs.Runs.{ok-holds}
 use Rattle.sc_world.proofs.world.play.Goals as goal
 
 pub returns-clause-ok : goal.returns-clause-ok

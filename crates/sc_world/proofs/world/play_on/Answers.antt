@@ -4,7 +4,7 @@ use Rattle.sc_request.specs.Candidates.{comes_again}
 use Rattle.sc_request.specs.Cores.{center_of}
 use Rattle.sc_request.specs.Logs.{Center}
 use Rattle.sc_world.proofs.Outs.{some-of}
-use Rattle.sc_world.proofs.Rounding.{back-on, played-on, some-at-once}
+use Rattle.sc_world.proofs.RoundTurns.{back-on, played-on, some-at-once}
 use Rattle.sc_lockpass.specs.Versions.{most_handlers}
 use Rattle.sc_world.proofs.world.play_on.Goals as goal
 

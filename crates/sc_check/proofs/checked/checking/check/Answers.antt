@@ -1,6 +1,6 @@
 use Rattle.std.proofs.lemmas.Result.{err_from_is_err_and}
 use Rattle.sc_class.specs.SystemIn.{system_in}
-use Rattle.sc_check.proofs.Checking.{memory_alone}
+use Rattle.sc_check.proofs.Judgements.{memory_alone}
 use Rattle.sc_check.proofs.checked.checking.check.Goals as goal
 
 pub returns-in_err-judge_system-clause-refused : goal.returns-in_err-judge_system-clause-refused

@@ -1,7 +1,7 @@
 use Rattle.std.proofs.lemmas.Result.{err_from_is_err_and}
 use Rattle.sc_typing.specs.Marks.{is_marked}
 use Rattle.sc_class.specs.SystemIn.{system_in}
-use Rattle.sc_check.proofs.Checking.{passed, passed_checked, refused, first, memory_is_true, memory_is_first}
+use Rattle.sc_check.proofs.Judgements.{passed, passed_checked, refused, first, memory_is_true, memory_is_first}
 use Rattle.sc_check.proofs.checked.checking.judge_system.Goals as goal
 
 -- the search for pure functions fails where memory runs out alone

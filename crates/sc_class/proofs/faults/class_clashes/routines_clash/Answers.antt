@@ -5,7 +5,7 @@ use Rattle.sc_tree.specs.View.{feature_of, kind_of, system_of}
 use Rattle.sc_class.specs.Internal.Found.{FindsFirstPlace}
 use Rattle.sc_class.specs.Tables.Features.{features}
 use Rattle.sc_class.specs.Faults.Scopes.{RoutineClashes, feature_names}
-use Rattle.sc_class.proofs.Finding.{first_of_more, first_of_all}
+use Rattle.sc_class.proofs.SearchLemmas.{first_of_more, first_of_all}
 use Rattle.sc_class.proofs.faults.class_clashes.routines_clash.Goals as goal
 
 pub loop-feature-preserved : goal.loop-feature-preserved

@@ -2,7 +2,7 @@ use Rattle.sc_tree.specs.View.{feature_of, system_of}
 use Rattle.sc_class.specs.Internal.Found.{FindsFirstPlace}
 use Rattle.sc_class.specs.Tables.Features.{features}
 use Rattle.sc_class.specs.Faults.Scopes.{RoutineClashes, feature_names}
-use Rattle.sc_class.proofs.Finding.{Among}
+use Rattle.sc_class.proofs.SearchLemmas.{Among}
 use Rattle.sc_class.proofs.faults.class_clashes.routines_clash.Given as goal
 
 abbrev pub invariant-loop-feature : goal.invariant-loop-feature

@@ -4,7 +4,7 @@ use Rattle.sc_class.specs.Internal.Found.{FindsFirstExclusion}
 use Rattle.sc_tree.specs.View.{name_of, feature_of}
 use Rattle.sc_class.specs.declared.faults.left_out.Exclusion.{Exclusion}
 use Rattle.sc_class.specs.Faults.LeftOut.{ExportLeftOut}
-use Rattle.sc_class.proofs.Finding.{first_of_more, first_of_all}
+use Rattle.sc_class.proofs.SearchLemmas.{first_of_more, first_of_all}
 use Rattle.sc_class.proofs.faults.left_out.export_list.Goals as goal
 
 pub loop-feature-preserved : goal.loop-feature-preserved

@@ -3,7 +3,7 @@ use Rattle.sc_tree.specs.View.{feature_of}
 use Rattle.sc_class.specs.declared.faults.left_out.Exclusion.{Exclusion}
 use Rattle.sc_class.specs.Faults.LeftOut.{ExportLeftOut}
 use Rattle.sc_class.specs.Internal.Found.{FindsFirstExclusion}
-use Rattle.sc_class.proofs.Finding.{Among}
+use Rattle.sc_class.proofs.SearchLemmas.{Among}
 use Rattle.sc_class.proofs.faults.left_out.export_list.Given as goal
 
 abbrev pub invariant-loop-feature : goal.invariant-loop-feature

@@ -4,7 +4,7 @@ use Rattle.sc_tree.specs.Plain.{Class}
 use Rattle.sc_tree.specs.View.{class_of}
 use Rattle.sc_class.specs.Internal.Found.{FindsFirstExclusion}
 use Rattle.sc_class.specs.Faults.LeftOut.{ClassLeftOut}
-use Rattle.sc_class.proofs.Finding.{first_of_more, first_of_all}
+use Rattle.sc_class.proofs.SearchLemmas.{first_of_more, first_of_all}
 use Rattle.sc_class.proofs.faults.left_out.left_out.Goals as goal
 
 pub loop-class-preserved : goal.loop-class-preserved

@@ -1,6 +1,6 @@
 use Rattle.sc_tree.specs.View.{parent_of, system_of}
 use Rattle.sc_class.specs.Tables.Ancestors.{UnknownParentAt}
-use Rattle.sc_class.proofs.Finding.{first_of_more, first_of_all}
+use Rattle.sc_class.proofs.SearchLemmas.{first_of_more, first_of_all}
 use Rattle.sc_class.proofs.faults.parents.unknown_among.Goals as goal
 
 pub loop-parent-preserved : goal.loop-parent-preserved

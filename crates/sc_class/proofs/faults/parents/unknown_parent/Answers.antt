@@ -5,7 +5,7 @@ use Rattle.sc_tree.specs.Plain.{Class}
 use Rattle.sc_tree.specs.View.{class_of, parent_of, system_of}
 use Rattle.sc_class.specs.Tables.Ancestors.{UnknownParentAt}
 use Rattle.sc_class.specs.Internal.Found.{FindsFirstPlace}
-use Rattle.sc_class.proofs.Finding.{first_of_more, first_of_all}
+use Rattle.sc_class.proofs.SearchLemmas.{first_of_more, first_of_all}
 use Rattle.sc_class.proofs.faults.parents.unknown_parent.Goals as goal
 
 pub loop-class-preserved : goal.loop-class-preserved

@@ -4,7 +4,7 @@ use Rattle.sc_tree.specs.Plain.{Name}
 use Rattle.sc_tree.specs.View.{name_of, system_of}
 use Rattle.sc_class.specs.Internal.Found.{FindsFirstPlace}
 use Rattle.sc_class.specs.Faults.Redefinition.{NameBadlyRedefined}
-use Rattle.sc_class.proofs.Finding.{first_of_more, first_of_all}
+use Rattle.sc_class.proofs.SearchLemmas.{first_of_more, first_of_all}
 use Rattle.sc_class.proofs.faults.redefinition.bad_redefinition.Goals as goal
 
 pub loop-name-preserved : goal.loop-name-preserved

@@ -2,7 +2,7 @@ use Rattle.std.proofs.Common.{[], ◌++◌, ap, ◌∙◌}
 use Rattle.std.specs.Prelude.{slice_get, take}
 use Rattle.std.specs.List.{cons_option}
 use Rattle.sc_interp.specs.Entering.{handler_of}
-use Rattle.sc_interp.proofs.Beginning.{given_more}
+use Rattle.sc_interp.proofs.FirstItems.{given_more}
 use Rattle.sc_interp.proofs.turning.beginning.handlers_in.Goals as goal
 
 pub loop-slot-preserved : goal.loop-slot-preserved

@@ -3,7 +3,7 @@ use Rattle.std.proofs.lemmas.List.{length-take-le}
 use Rattle.std.specs.Prelude.{take}
 use Rattle.sc_region.proofs.Stacks.{operands_length}
 use Rattle.sc_region.specs.OperandList.{OperandList}
-use Rattle.sc_interp.proofs.Resuming.{pushed_on}
+use Rattle.sc_interp.proofs.LastOperands.{pushed_on}
 use Rattle.sc_interp.proofs.turning.caller.push_all.Goals as goal
 
 pub push-requires : goal.push-requires

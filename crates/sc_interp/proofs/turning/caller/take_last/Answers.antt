@@ -1,6 +1,6 @@
 use Rattle.std.proofs.Common.{◌+◌, ◌∷◌, [], sym, ap, ◌∙◌}
 use Rattle.sc_region.specs.Frames.{activation_of}
-use Rattle.sc_interp.proofs.Resuming.{taken_more}
+use Rattle.sc_interp.proofs.LastOperands.{taken_more}
 use Rattle.sc_interp.proofs.turning.caller.take_last.Goals as goal
 
 pub loop-passed-preserved : goal.loop-passed-preserved

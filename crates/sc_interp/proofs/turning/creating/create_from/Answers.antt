@@ -1,6 +1,6 @@
 use Rattle.std.proofs.Common.{false, ◌∙◌}
-use Rattle.sc_interp.proofs.Creating.{call_room, dropped}
-use Rattle.sc_interp.proofs.Resuming.{resumed_store, room_again}
+use Rattle.sc_interp.proofs.Creations.{call_room, dropped}
+use Rattle.sc_interp.proofs.LastOperands.{resumed_store, room_again}
 use Rattle.sc_interp.proofs.turning.creating.create_from.Goals as goal
 
 pub add-requires : goal.add-requires

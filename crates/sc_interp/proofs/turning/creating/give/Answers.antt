@@ -1,5 +1,5 @@
 use Rattle.std.proofs.Common.{◌∙◌, sym}
-use Rattle.sc_interp.proofs.Creating.{past_room}
+use Rattle.sc_interp.proofs.Creations.{past_room}
 use Rattle.sc_interp.proofs.turning.creating.give.Goals as goal
 
 pub add-requires : goal.add-requires

@@ -3,7 +3,7 @@ use Rattle.sc_code.specs.declared.program.Image.{Image}
 use Rattle.sc_region.specs.Stores.{PlainStore}
 use Rattle.sc_interp.specs.Entering.{routine_in}
 use Rattle.sc_interp.specs.Serving.{version_in}
-use Rattle.sc_interp.proofs.Resuming.{call_has, called_is}
+use Rattle.sc_interp.proofs.LastOperands.{call_has, called_is}
 use Rattle.sc_interp.proofs.turning.entering.call.Goals as goal
 
 pub call-requires : goal.call-requires

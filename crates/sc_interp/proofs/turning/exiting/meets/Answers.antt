@@ -1,5 +1,5 @@
 use Rattle.sc_region.specs.Objects.{object_numbered}
-use Rattle.sc_interp.proofs.Ending.{meets_is}
+use Rattle.sc_interp.proofs.InvariantTests.{meets_is}
 use Rattle.sc_interp.proofs.turning.exiting.meets.Goals as goal
 
 pub returns : goal.returns

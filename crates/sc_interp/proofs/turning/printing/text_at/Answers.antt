@@ -3,7 +3,7 @@ use Rattle.std.proofs.lemmas.Option.{slice_get-map}
 use Rattle.std.specs.Option.{option_map}
 use Rattle.std.specs.Prelude.{[], string_bytes, unwrap_or}
 use Rattle.sc_code.specs.declared.program.ConstantPool.{ConstantPool}
-use Rattle.sc_interp.proofs.Lending.{lent_at}
+use Rattle.sc_interp.proofs.Slices.{lent_at}
 use Rattle.sc_interp.proofs.turning.printing.text_at.Goals as goal
 
 pub returns-in-Some : goal.returns-in-Some

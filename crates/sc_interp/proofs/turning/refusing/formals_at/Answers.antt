@@ -5,7 +5,7 @@ use Rattle.std.specs.Prelude.{[], ℕ, unwrap_or}
 use Rattle.std.specs.declared.alloc.Global.{Global}
 use Rattle.std.specs.declared.vec.Vec.{Vec}
 use Rattle.sc_code.specs.declared.program.ConstantPool.{ConstantPool}
-use Rattle.sc_interp.proofs.Lending.{lent_at}
+use Rattle.sc_interp.proofs.Slices.{lent_at}
 use Rattle.sc_interp.proofs.turning.refusing.formals_at.Goals as goal
 
 pub returns-in-Some : goal.returns-in-Some

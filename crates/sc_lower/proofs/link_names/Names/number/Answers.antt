@@ -7,7 +7,7 @@ use Rattle.std.proofs.lemmas.Option.{slice_get-map}
 use Rattle.std.proofs.lemmas.Slice.Eq.{bytes_eq-Decides}
 use Rattle.sc_lower.specs.Growing.{Extends}
 use Rattle.sc_lower.proofs.FittingTables.{names_distinct}
-use Rattle.sc_lower.proofs.Growing.{extends_added}
+use Rattle.sc_lower.proofs.Growth.{extends_added}
 use Rattle.sc_lower.proofs.link_names.Names.number.Goals as goal
 
 pub returns-clause-found : goal.returns-clause-found

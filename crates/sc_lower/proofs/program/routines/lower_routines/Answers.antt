@@ -10,7 +10,7 @@ use Rattle.sc_model.specs.Routines.{routine_of}
 use Rattle.sc_code.specs.declared.program.RoutineCode.{RoutineCode}
 use Rattle.sc_lower.specs.Pools.{pool_in}
 use Rattle.sc_code.specs.Programs.{PlainRoutine, codes_of, length_of_codes, routine_in}
-use Rattle.sc_lower.proofs.Coding.{instructions_of, as_many, code_added, next_counted}
+use Rattle.sc_lower.proofs.Codes.{instructions_of, as_many, code_added, next_counted}
 use Rattle.sc_lower.proofs.program.routines.lower_routines.Goals as goal
 
 pub loop-entry-init : goal.loop-entry-init

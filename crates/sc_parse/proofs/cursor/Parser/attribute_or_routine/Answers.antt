@@ -9,7 +9,7 @@ use Rattle.sc_tree.specs.declared.system.FeatureKind.TheVariants as kind
 use Rattle.sc_tree.specs.Plain as plain
 use Rattle.sc_parse.specs.Reading.Classes as spec
 use Rattle.sc_tree.specs.View.{declaration_of, kind_of}
-use Rattle.sc_tree.proofs.Combining.{choose_false, not_both}
+use Rattle.sc_tree.proofs.ReadingSteps.{choose_false, not_both}
 use Rattle.sc_parse.specs.Reading.Reads.{ahead, type_if_any_in, feature_with}
 use Rattle.sc_parse.proofs.cursor.Parser.attribute_or_routine.Goals as goal
 use Rattle.sc_parse.proofs.cursor.Parser.attribute_or_routine.Goals.{then-is_empty, else-is_empty}

@@ -3,7 +3,7 @@ use Rattle.sc_tree.specs.Grammar.Classes.{heads_class}
 use Rattle.sc_text.specs.declared.token.Span.{Span}
 use Rattle.sc_tree.specs.Plain as plain
 use Rattle.sc_parse.specs.Reading.Classes as spec
-use Rattle.sc_tree.proofs.Combining.{bind_ok}
+use Rattle.sc_tree.proofs.ReadingSteps.{bind_ok}
 use Rattle.sc_parse.proofs.Views.{class_of-is}
 use Rattle.sc_parse.specs.Reading.Looks.{Ahead, begin, up_to}
 use Rattle.sc_parse.specs.Reading.Reads.{ahead, header_ahead, members_ahead}

@@ -5,7 +5,7 @@ use Rattle.sc_tree.specs.declared.system.Routine.{Routine}
 use Rattle.sc_tree.specs.Plain as plain
 use Rattle.sc_parse.specs.Reading.Classes as spec
 use Rattle.sc_tree.specs.View.{kind_of}
-use Rattle.sc_tree.proofs.Combining.{bind_ok}
+use Rattle.sc_tree.proofs.ReadingSteps.{bind_ok}
 use Rattle.sc_parse.specs.Reading.Reads.{ahead, clauses_in, declarations_in, instrs_in, type_if_any_in, feature_with, opening_ahead, closing_ahead}
 use Rattle.sc_parse.proofs.Parts.{routine_is, routine_with, after_opening}
 use Rattle.sc_parse.proofs.cursor.Parser.routine.Goals as goal

@@ -2,8 +2,8 @@ use Rattle.std.proofs.Common.{◌≡◌, ◌<◌, ◌≤◌, ◌-◌, ◌∙◌,
 use Rattle.sc_request.specs.Logs.{status_in}
 use Rattle.sc_world.specs.Reports.{is_busy, some_is_busy}
 use Rattle.sc_plant.specs.Left.{world_of}
-use Rattle.sc_world.proofs.Telling.{busy-else, busy-then, refused-is, status-is, status-there, told-all, told-end, told-more, told-none}
-use Rattle.sc_plant.proofs.Reporting.{printed}
+use Rattle.sc_world.proofs.ReportParts.{busy-else, busy-then, refused-is, status-is, status-there, told-all, told-end, told-more, told-none}
+use Rattle.sc_plant.proofs.Reports.{printed}
 use Rattle.sc_plant.proofs.left.Left.report.Goals as goal
 use Rattle.sc_plant.proofs.left.Left.report.Goals.{then-ends_busy, else-ends_busy, else-loop-handler-test, then-loop-handler-test+in_default}
 

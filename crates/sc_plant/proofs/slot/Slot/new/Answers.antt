@@ -2,7 +2,7 @@ use Rattle.std.proofs.Math.Logic.{∥∥₁_map}
 use Rattle.sc_play.specs.Regions.{new_region}
 use Rattle.sc_request.specs.Logged.{settlements_of}
 use Rattle.sc_worklog.specs.Replaying.{AreMade}
-use Rattle.sc_worklog.proofs.Replaying.{turns_replay}
+use Rattle.sc_worklog.proofs.ReplayedTurns.{turns_replay}
 use Rattle.sc_plant.proofs.slot.Slot.new.Goals as goal
 
 pub with_log-requires-clause-replays : goal.with_log-requires-clause-replays

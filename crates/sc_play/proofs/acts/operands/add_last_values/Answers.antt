@@ -1,6 +1,6 @@
 use Rattle.std.proofs.Common.{◌≡◌, ◌-◌, sym, ◌∙◌, arith}
 use Rattle.sc_region.specs.Frames.{activation_of}
-use Rattle.sc_play.proofs.Adding.{added_all, added_more}
+use Rattle.sc_play.proofs.AddedOperands.{added_all, added_more}
 use Rattle.sc_play.proofs.acts.operands.add_last_values.Goals as goal
 
 pub loop-passed-preserved : goal.loop-passed-preserved

@@ -1,6 +1,6 @@
 use Rattle.std.proofs.Common.{false, subst}
 use Rattle.sc_play.specs.Regions.{PlainRegion, Plays, outcome}
-use Rattle.sc_play.proofs.Playing.{plays_by}
+use Rattle.sc_play.proofs.JobTurns.{plays_by}
 use Rattle.sc_play.proofs.region.Region.play_asking.Goals as goal
 
 pub returns-in-Ok-clause-ok : goal.returns-in-Ok-clause-ok

@@ -1,7 +1,7 @@
 use Rattle.std.proofs.Common.{◌≡◌, ◌-◌, [], List, take, drop, ap, ◌∙◌, arith}
 use Rattle.sc_region.specs.declared.value.Value.{Value}
 use Rattle.sc_region.specs.OperandList.{OperandList, operands_onto}
-use Rattle.sc_region.proofs.Reaching.{dropped_filled}
+use Rattle.sc_region.proofs.DeeperOperands.{dropped_filled}
 use Rattle.sc_region.proofs.operands.Operands.drop_last.Goals as goal
 
 pub returns : goal.returns

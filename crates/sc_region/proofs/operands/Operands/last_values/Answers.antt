@@ -3,7 +3,7 @@ use Rattle.sc_region.specs.Calls.{last_values}
 use Rattle.sc_region.specs.OperandList.{OperandList}
 use Rattle.sc_region.specs.declared.value.Value.{Value}
 use Rattle.sc_region.proofs.Stacks.{filled_length}
-use Rattle.sc_region.proofs.Reaching.{last_filled}
+use Rattle.sc_region.proofs.DeeperOperands.{last_filled}
 use Rattle.sc_region.proofs.operands.Operands.last_values.Goals as goal
 
 pub returns : goal.returns

@@ -2,7 +2,7 @@ use Rattle.std.proofs.Common.{◌-◌, ◌<◌, ◌≤◌, ◌∷◌, List, leng
 use Rattle.sc_region.specs.declared.value.Value.{Value}
 use Rattle.sc_region.specs.OperandList.{OperandList}
 use Rattle.sc_region.proofs.Stacks.{filled_length, filled_push}
-use Rattle.sc_region.proofs.Reaching.{dropped_filled}
+use Rattle.sc_region.proofs.DeeperOperands.{dropped_filled}
 use Rattle.sc_region.proofs.operands.Operands.replace.Goals as goal
 
 pub returns : goal.returns

@@ -3,7 +3,7 @@ use Rattle.std.specs.Prelude.{slice_get}
 use Rattle.std.proofs.lemmas.Option.{slice_get_past}
 use Rattle.sc_region.specs.OperandList.{OperandList, operands_onto}
 use Rattle.sc_region.proofs.Stacks.{filled_length}
-use Rattle.sc_region.proofs.Reaching.{under_filled}
+use Rattle.sc_region.proofs.DeeperOperands.{under_filled}
 use Rattle.sc_region.proofs.operands.Operands.under.Goals as goal
 
 pub returns-then-count-self : goal.returns-then-count-self

@@ -6,7 +6,7 @@ use Rattle.sc_region.specs.declared.frame.Activation.{Activation}
 use Rattle.sc_region.specs.declared.value.Reference.{Reference}
 use Rattle.sc_region.specs.Frames.{PlainFrame, activation_of, frame_with, frames_onto, top_activation}
 use Rattle.sc_region.specs.Lending.{with_top_activation}
-use Rattle.sc_region.proofs.Calling.{called_is, frames_call, frames_front, frames_kept, operands_are}
+use Rattle.sc_region.proofs.OwnCalls.{called_is, frames_call, frames_front, frames_kept, operands_are}
 use Rattle.sc_region.proofs.Stacks.{frames_length}
 use Rattle.sc_region.proofs.stack.Stack.call.Goals as goal
 

@@ -1,6 +1,6 @@
 use Rattle.sc_region.specs.Stores.{born}
 use Rattle.sc_region.specs.States.{state_of}
-use Rattle.sc_region.proofs.Settling.{either_keeps, born_keeps}
+use Rattle.sc_region.proofs.SettledObjects.{either_keeps, born_keeps}
 use Rattle.sc_region.proofs.store.Store.birth.Goals as goal
 
 pub invariant_of-self : goal.invariant_of-self

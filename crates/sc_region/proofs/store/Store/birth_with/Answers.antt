@@ -1,7 +1,7 @@
 use Rattle.sc_region.specs.Stores.{born_for}
 use Rattle.sc_region.specs.States.{state_of}
 use Rattle.sc_region.specs.declared.frame.Origin.TheVariants as origin
-use Rattle.sc_region.proofs.Settling.{either_keeps, born_for_keeps}
+use Rattle.sc_region.proofs.SettledObjects.{either_keeps, born_for_keeps}
 use Rattle.sc_region.proofs.store.Store.birth_with.Goals as goal
 
 pub invariant_of-self : goal.invariant_of-self

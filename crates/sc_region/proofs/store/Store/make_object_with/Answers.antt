@@ -1,6 +1,6 @@
 use Rattle.sc_region.specs.Stores.{made_for}
 use Rattle.sc_region.specs.States.{state_of}
-use Rattle.sc_region.proofs.Settling.{either_keeps, made_for_keeps}
+use Rattle.sc_region.proofs.SettledObjects.{either_keeps, made_for_keeps}
 use Rattle.sc_region.proofs.store.Store.make_object_with.Goals as goal
 
 pub invariant_of-self : goal.invariant_of-self

@@ -2,7 +2,7 @@ use Rattle.std.proofs.Common.{ap, ◌∙◌}
 use Rattle.sc_region.specs.Objects.{object_numbered}
 use Rattle.sc_region.specs.Classes.{object_meets}
 use Rattle.sc_region.specs.Stores.{PlainStore}
-use Rattle.sc_region.proofs.Meeting.{test_tells}
+use Rattle.sc_region.proofs.InvariantTests.{test_tells}
 use Rattle.sc_region.proofs.store.Store.test_invariant.Goals as goal
 
 pub returns : goal.returns

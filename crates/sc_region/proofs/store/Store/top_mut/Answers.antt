@@ -1,4 +1,4 @@
-use Rattle.sc_region.proofs.Settling.{top_keeps}
+use Rattle.sc_region.proofs.SettledObjects.{top_keeps}
 use Rattle.sc_region.proofs.store.Store.top_mut.Goals as goal
 
 pub invariant_of-self-lent : goal.invariant_of-self-lent

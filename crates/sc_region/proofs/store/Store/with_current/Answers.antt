@@ -7,7 +7,7 @@ use Rattle.sc_region.specs.States.{state_of}
 use Rattle.sc_region.specs.Stores.{PlainStore}
 use Rattle.sc_region.specs.declared.object.Object.{Object}
 use Rattle.std.proofs.Common.{MutBor}
-use Rattle.sc_region.proofs.Settling.{lent_keeps}
+use Rattle.sc_region.proofs.SettledObjects.{lent_keeps}
 use Rattle.sc_region.proofs.Placed.{refilled}
 use Rattle.sc_region.proofs.store.Store.with_current.Goals as goal
 

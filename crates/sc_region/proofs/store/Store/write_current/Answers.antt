@@ -1,7 +1,7 @@
 use Rattle.std.proofs.Common.{sym, subst}
 use Rattle.sc_region.specs.Stores.{SettledObjectsMeet}
 use Rattle.sc_region.specs.States.{state_of}
-use Rattle.sc_region.proofs.Settling.{written_keeps}
+use Rattle.sc_region.proofs.SettledObjects.{written_keeps}
 use Rattle.sc_region.proofs.store.Store.write_current.Goals as goal
 
 pub invariant_of-self : goal.invariant_of-self

@@ -6,7 +6,7 @@ use Rattle.sc_request.specs.Candidates.{AreReserving, HasGrantsBelow, HasOutsBel
 use Rattle.sc_request.specs.Logs.{opened}
 use Rattle.sc_request.specs.Tables.{handler_at, out_total}
 use Rattle.sc_request.specs.declared.handler.Handler as coded
-use Rattle.sc_request.proofs.Filling.{none_out_yet, opens_center, opening_grants, opening_outs, opening_reserving, opening_sound, opening_tried}
+use Rattle.sc_request.proofs.OpeningTables.{none_out_yet, opens_center, opening_grants, opening_outs, opening_reserving, opening_sound, opening_tried}
 use Rattle.sc_request.proofs.center.Core.opening.Goals as goal
 
 pub returns-clause-center : goal.returns-clause-center

@@ -1,6 +1,6 @@
 use Rattle.std.proofs.Common.{◌≤◌, length, refl, arith}
 use Rattle.sc_lockpass.specs.Tables.{rights_of}
-use Rattle.sc_request.proofs.Keeping.{differs, nobody_past, same_holders, same_rights}
+use Rattle.sc_request.proofs.KeptCores.{differs, nobody_past, same_holders, same_rights}
 use Rattle.sc_request.proofs.kept_core.KeptCore.has_same_rights.Goals as goal
 
 pub returns-then-not-has_same_holders : goal.returns-then-not-has_same_holders

@@ -1,4 +1,4 @@
-use Rattle.sc_request.proofs.Releasing.{sessions_ended}
+use Rattle.sc_request.proofs.Releases.{sessions_ended}
 use Rattle.sc_request.proofs.state.State.end_sessions.Goals as goal
 
 pub returns-clause-plain : goal.returns-clause-plain

@@ -3,7 +3,7 @@ use Rattle.std.proofs.lemmas.Option.{slice_get_read}
 use Rattle.sc_request.specs.Handlers.{Handler}
 use Rattle.sc_request.specs.Sessions.{answered}
 use Rattle.sc_request.specs.Tables.{answer_of}
-use Rattle.sc_request.proofs.Placing.{changed, outs_kept}
+use Rattle.sc_request.proofs.ChangedTables.{changed, outs_kept}
 use Rattle.sc_request.proofs.state.State.hear_at.Goals as goal
 
 pub returns-clause-plain : goal.returns-clause-plain

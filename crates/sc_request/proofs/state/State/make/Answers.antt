@@ -2,7 +2,7 @@ use Rattle.std.proofs.Common.{length, refl, arith}
 use Rattle.std.proofs.lemmas.Option.{slice_get_read}
 use Rattle.sc_lockpass.proofs.Listings.{most_handlers-le}
 use Rattle.sc_request.proofs.Created.{made_is}
-use Rattle.sc_request.proofs.Placing.{outs_kept}
+use Rattle.sc_request.proofs.ChangedTables.{outs_kept}
 use Rattle.sc_request.proofs.state.State.make.Goals as goal
 
 pub returns-clause-plain : goal.returns-clause-plain

@@ -8,7 +8,7 @@ use Rattle.sc_request.specs.Places.{first_of, without_first}
 use Rattle.sc_request.specs.Sound.{AreServed}
 use Rattle.sc_request.specs.Tables.{handler_in, service_of}
 use Rattle.sc_request.proofs.Ended.{first_taken, stands_over}
-use Rattle.sc_request.proofs.Placing.{changed, outs_kept}
+use Rattle.sc_request.proofs.ChangedTables.{changed, outs_kept}
 use Rattle.sc_request.proofs.state.State.pop_service.Goals as goal
 
 pub pop_service-requires-clause-over : goal.pop_service-requires-clause-over

@@ -4,7 +4,7 @@ use Rattle.sc_waitcond.specs.Reservations.{mark_of}
 use Rattle.std.proofs.Common.{◌∙◌, ap}
 use Rattle.sc_lockpass.specs.Tables.{rights_of}
 use Rattle.sc_request.specs.Places.{plain}
-use Rattle.sc_request.proofs.Releasing.{released, waits}
+use Rattle.sc_request.proofs.Releases.{released, waits}
 use Rattle.sc_request.proofs.state.State.wait_again.Goals as goal
 
 pub returns-clause-plain : goal.returns-clause-plain

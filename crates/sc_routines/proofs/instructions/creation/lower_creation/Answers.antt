@@ -6,7 +6,7 @@ use Rattle.sc_typing.specs.Views.{assignee_in, entity_of}
 use Rattle.sc_model.specs.Instructions.{actuals_of, procedure_of}
 use Rattle.sc_code.specs.Emitted.{assign_code}
 use Rattle.sc_routines.specs.Settings.{setting_in}
-use Rattle.sc_routines.proofs.Creating.{created}
+use Rattle.sc_routines.proofs.Creations.{created}
 use Rattle.sc_routines.proofs.instructions.creation.lower_creation.Goals as goal
 
 pub returns-clause-code : goal.returns-clause-code

@@ -10,7 +10,7 @@ use Rattle.sc_typing.specs.Views.{entity_of}
 use Rattle.sc_code.specs.Places.{Setting, expr_type, old_types, with_old}
 use Rattle.sc_code.specs.Emitted.{expr_depth, olds_code, olds_depth}
 use Rattle.sc_routines.specs.Settings.{operands_of, setting_in}
-use Rattle.sc_routines.proofs.Keeping.{kept, next_old_code, next_old_types}
+use Rattle.sc_routines.proofs.KeptOlds.{kept, next_old_code, next_old_types}
 use Rattle.sc_routines.proofs.routine.olds.lower_olds.Goals as goal
 
 pub loop-operand-preserved : goal.loop-operand-preserved

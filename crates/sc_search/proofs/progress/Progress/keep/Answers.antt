@@ -7,8 +7,8 @@ use Rattle.sc_search.specs.declared.states.States.{States}
 use Rattle.sc_search.specs.Aims.{IsMet}
 use Rattle.sc_search.specs.Stops.{AreReached}
 use Rattle.sc_search.specs.Views.{orders_in, orders_of, states_in, states_of}
-use Rattle.sc_search.proofs.Ending.{unmet_by}
-use Rattle.sc_search.proofs.Keeping.{keeps_new}
+use Rattle.sc_search.proofs.OrderEnds.{unmet_by}
+use Rattle.sc_search.proofs.KeptStates.{keeps_new}
 use Rattle.sc_search.proofs.Reasons.{full, played_out, reached_again, reached_new}
 use Rattle.sc_search.proofs.progress.Progress.keep.Goals.{else-not-some_is, then-not-some_is+in_ok-push_outcome, then-number-limit-via-else-number-limit+then-self-limit, then-number-limit-via-then-number-limit}
 use Rattle.sc_search.proofs.progress.Progress.keep.Goals as goal

@@ -5,7 +5,7 @@ use Rattle.std.specs.Prelude.{Ok, Err}
 use Rattle.sc_tree.specs.Canonical.Layout.{word}
 use Rattle.sc_tree.specs.Internal.Printer.{output_of, put, puts}
 use Rattle.sc_tree.specs.View.{expr_of, exprs_of}
-use Rattle.sc_tree.proofs.Printing.{expr_parts-call, more_actuals_more, actuals_done}
+use Rattle.sc_tree.proofs.PrintingLines.{expr_parts-call, more_actuals_more, actuals_done}
 use Rattle.sc_tree.proofs.print.Printer.+printing.Goals as goal
 
 pub expr-returns-in-Call : goal.expr-returns-in-Call

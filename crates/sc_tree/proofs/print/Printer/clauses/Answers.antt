@@ -1,5 +1,5 @@
 use Rattle.std.proofs.Common.{arith}
-use Rattle.sc_tree.proofs.Printing.{clauses_more}
+use Rattle.sc_tree.proofs.PrintingLines.{clauses_more}
 use Rattle.sc_tree.proofs.print.Printer.clauses.Goals as goal
 
 pub loop-i-preserved : goal.loop-i-preserved

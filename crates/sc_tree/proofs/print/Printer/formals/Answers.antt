@@ -4,7 +4,7 @@ use Rattle.sc_text.specs.declared.token.Terminal.TheVariants as terminal
 use Rattle.sc_tree.specs.Canonical.Layout.{word}
 use Rattle.sc_tree.specs.Canonical.Classes.{declaration_parts}
 use Rattle.sc_tree.specs.View.{declaration_of}
-use Rattle.sc_tree.proofs.Printing.{behind_each_more, separated_done}
+use Rattle.sc_tree.proofs.PrintingLines.{behind_each_more, separated_done}
 use Rattle.sc_tree.proofs.PrintingClasses.{formals_done}
 use Rattle.sc_tree.proofs.print.Printer.formals.Goals as goal
 

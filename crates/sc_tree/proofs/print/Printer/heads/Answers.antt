@@ -3,7 +3,7 @@ use Rattle.sc_text.specs.declared.token.Terminal.TheVariants as terminal
 use Rattle.sc_tree.specs.Canonical.Layout.{word}
 use Rattle.sc_tree.specs.Canonical.Instructions.{head_parts}
 use Rattle.sc_tree.specs.View.{head_of}
-use Rattle.sc_tree.proofs.Printing.{behind_each_more, separated_done}
+use Rattle.sc_tree.proofs.PrintingLines.{behind_each_more, separated_done}
 use Rattle.sc_tree.proofs.print.Printer.heads.Goals as goal
 
 pub loop-head-preserved : goal.loop-head-preserved

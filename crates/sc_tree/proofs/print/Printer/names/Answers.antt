@@ -3,7 +3,7 @@ use Rattle.sc_text.specs.declared.token.Terminal.TheVariants as terminal
 use Rattle.sc_tree.specs.Canonical.Layout.{word}
 use Rattle.sc_tree.specs.Canonical.Expressions.{name_part}
 use Rattle.sc_tree.specs.View.{name_of}
-use Rattle.sc_tree.proofs.Printing.{behind_each_more, separated_done}
+use Rattle.sc_tree.proofs.PrintingLines.{behind_each_more, separated_done}
 use Rattle.sc_tree.proofs.print.Printer.names.Goals as goal
 
 pub loop-name-preserved : goal.loop-name-preserved

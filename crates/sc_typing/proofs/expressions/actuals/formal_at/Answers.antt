@@ -2,7 +2,7 @@ use Rattle.std.proofs.Common.{refl, ap, sym, ◌∙◌, Some}
 use Rattle.sc_class.proofs.Anys.{got}
 use Rattle.sc_class.proofs.FeatureLemmas.{got_item}
 use Rattle.sc_class.specs.SystemIn.{system_in}
-use Rattle.sc_typing.proofs.Passing.{formal_is}
+use Rattle.sc_typing.proofs.ActualNumbers.{formal_is}
 use Rattle.sc_typing.proofs.expressions.actuals.formal_at.Goals as goal
 
 pub returns-in-Some : goal.returns-in-Some

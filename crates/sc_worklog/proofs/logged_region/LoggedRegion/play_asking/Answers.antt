@@ -2,7 +2,7 @@ use Rattle.std.proofs.Common.{◌++◌, ◌∷◌, [], ap, sym, ◌∙◌}
 use Rattle.sc_play.specs.Regions.{PlainRegion, outcome}
 use Rattle.sc_request.specs.Logged.{settlements_of}
 use Rattle.sc_worklog.specs.Replaying.{entry_of}
-use Rattle.sc_worklog.proofs.Keeping.{played_kept, refused_kept}
+use Rattle.sc_worklog.proofs.KeptLogs.{played_kept, refused_kept}
 use Rattle.sc_worklog.proofs.logged_region.LoggedRegion.play_asking.Goals as goal
 
 pub invariant_of-self-in-Break-branch-2 : goal.invariant_of-self-in-Break-branch-2

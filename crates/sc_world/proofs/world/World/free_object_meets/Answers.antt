@@ -1,5 +1,5 @@
 use Rattle.sc_world.specs.Views.{world_of}
-use Rattle.sc_world.proofs.Freeing.{free_meets, got_region}
+use Rattle.sc_world.proofs.FreeHandlers.{free_meets, got_region}
 use Rattle.sc_world.proofs.world.World.free_object_meets.Goals as goal
 
 pub returns-in-Some : goal.returns-in-Some

@@ -6,10 +6,10 @@ use Rattle.sc_lockpass.specs.Versions.{most_handlers}
 use Rattle.sc_request.specs.Cores.{center_of}
 use Rattle.sc_request.specs.Logs.{next, picked, picks}
 use Rattle.sc_world.specs.Rounds.{turns_at_once}
-use Rattle.sc_world.proofs.Freeing.{linked_still, next_picks, played_linked}
+use Rattle.sc_world.proofs.FreeHandlers.{linked_still, next_picks, played_linked}
 use Rattle.sc_world.proofs.Outs.{err-at, held-up, next-of, none-of, ok-at, on-err, picked-out, world-is}
-use Rattle.sc_world.proofs.Rounding.{makes-all, makes-some, next-none, next-some, refused-behind, refused-next}
-use Rattle.sc_world.proofs.Trying.{played_tried, same_tried}
+use Rattle.sc_world.proofs.RoundTurns.{makes-all, makes-some, next-none, next-some, refused-behind, refused-next}
+use Rattle.sc_world.proofs.TriedTurns.{played_tried, same_tried}
 use Rattle.sc_world.proofs.world.World.next_turns.Goals as goal
 
 pub play_on-requires-clause-out : goal.play_on-requires-clause-out

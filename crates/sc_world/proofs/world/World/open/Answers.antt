@@ -1,7 +1,7 @@
 use Rattle.std.proofs.Common.{ap}
 use Rattle.sc_lockpass.specs.Versions.{most_handlers}
-use Rattle.sc_world.proofs.Freeing.{opened_linked}
-use Rattle.sc_world.proofs.Trying.{opened_tried}
+use Rattle.sc_world.proofs.FreeHandlers.{opened_linked}
+use Rattle.sc_world.proofs.TriedTurns.{opened_tried}
 use Rattle.sc_world.proofs.world.World.open.Goals as goal
 
 pub invariant_of-result-clause-linked : goal.invariant_of-result-clause-linked

@@ -3,7 +3,7 @@ use Rattle.std.proofs.lemmas.Option.{slice_get_read}
 use Rattle.sc_request.specs.Logs.{status_in}
 use Rattle.sc_world.specs.Reports.{is_busy, some_is_busy}
 use Rattle.sc_world.specs.Views.{world_of}
-use Rattle.sc_world.proofs.Telling.{busy-else, busy-then, refused-is, report-is, status-is, status-there, told-all, told-end, told-more, told-none}
+use Rattle.sc_world.proofs.ReportParts.{busy-else, busy-then, refused-is, report-is, status-is, status-there, told-all, told-end, told-more, told-none}
 use Rattle.sc_world.proofs.world.World.report.Goals as goal
 use Rattle.sc_world.proofs.world.World.report.Goals.{then-is_busy, else-is_busy, else-loop-handler-test, then-loop-handler-test+in_default}
 

@@ -3,7 +3,7 @@ use Rattle.sc_request.specs.Logs.{next}
 use Rattle.sc_world.specs.Rounds.{Rounds}
 use Rattle.sc_world.specs.Views.{world_of}
 use Rattle.sc_world.proofs.Outs.{on-err}
-use Rattle.sc_world.proofs.Rounding.{ends-idle, rounds-more}
+use Rattle.sc_world.proofs.RoundTurns.{ends-idle, rounds-more}
 use Rattle.sc_world.proofs.world.World.rounds.Goals as goal
 
 pub loop-init : goal.loop-init

@@ -1,7 +1,7 @@
 use Rattle.std.proofs.Common.{◌≤◌, ◌+◌}
 use Rattle.sc_world.specs.Rounds.{Rounds}
 use Rattle.sc_world.specs.Views.{world_of}
-use Rattle.sc_world.proofs.Rounding.{next-none}
+use Rattle.sc_world.proofs.RoundTurns.{next-none}
 use Rattle.sc_world.proofs.world.World.rounds.Given as goal
 
 -- of the turns so many are left, and each iteration made one or more

@@ -1,7 +1,7 @@
 use Rattle.std.proofs.Common.{◌<◌, ◌∙◌, sym, arith}
 use Rattle.sc_request.specs.Logs.{status_in}
 use Rattle.sc_world.specs.Views.{world_of}
-use Rattle.sc_world.proofs.Telling.{status-is, status-there, statuses-more}
+use Rattle.sc_world.proofs.ReportParts.{status-is, status-there, statuses-more}
 use Rattle.sc_world.proofs.world.World.statuses.Goals as goal
 use Rattle.sc_world.proofs.world.World.statuses.Goals.{in-Some+in_ok-push, in_default}
 

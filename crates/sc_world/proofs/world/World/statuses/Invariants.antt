@@ -2,7 +2,7 @@ use Rattle.std.proofs.Common.{◌≡◌, map}
 use Rattle.std.specs.List.{range_with_len}
 use Rattle.sc_request.specs.Logs.{status_in}
 use Rattle.sc_world.specs.Views.{world_of}
-use Rattle.sc_world.proofs.Telling.{status-is}
+use Rattle.sc_world.proofs.ReportParts.{status-is}
 use Rattle.sc_world.proofs.world.World.statuses.Given as goal
 
 -- how those before stand

@@ -5,9 +5,9 @@ use Rattle.sc_lockpass.specs.Versions.{most_handlers}
 use Rattle.sc_request.specs.Cores.{center_of}
 use Rattle.sc_request.specs.Logs.{pick_for, picked}
 use Rattle.std.proofs.lemmas.Option.{slice_get_read}
-use Rattle.sc_world.proofs.Freeing.{linked_still, played_linked}
+use Rattle.sc_world.proofs.FreeHandlers.{linked_still, played_linked}
 use Rattle.sc_world.proofs.Outs.{err-at, none-job, ok-at, some-of, picked-out, turn-none, turn-some, refused-some, none-picked, some-picked, world-is, moved-by, nothing-by, makes, held-up, on-err}
-use Rattle.sc_world.proofs.Trying.{played_tried, same_tried}
+use Rattle.sc_world.proofs.TriedTurns.{played_tried, same_tried}
 use Rattle.sc_world.proofs.world.World.turn.Goals as goal
 
 pub play-requires-clause-out : goal.play-requires-clause-out

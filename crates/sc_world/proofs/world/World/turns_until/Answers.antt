@@ -1,5 +1,5 @@
 use Rattle.std.proofs.Common.{sym, ◌∙◌, arith}
-use Rattle.sc_world.proofs.Running.{err-holds, ok-holds, runs-all, runs-next, stops-behind}
+use Rattle.sc_world.proofs.Runs.{err-holds, ok-holds, runs-all, runs-next, stops-behind}
 use Rattle.sc_world.proofs.world.World.turns_until.Goals as goal
 
 pub returns-then-is_err-clause-err : goal.returns-then-is_err-clause-err

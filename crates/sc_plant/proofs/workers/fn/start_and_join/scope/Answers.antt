@@ -3,7 +3,7 @@ use Rattle.std.proofs.Common.{rules}
 use Rattle.std.proofs.Crossing.{crosses}
 use Rattle.std.proofs.sync.Condvar.TheSendSync as condvar
 use Rattle.sc_plant.proofs.scheduler.Scheduler.TheSendSync as scheduler
-use Rattle.sc_plant.proofs.Crossing.{slot_send}
+use Rattle.sc_plant.proofs.Crossings.{slot_send}
 use Rattle.sc_plant.proofs.workers.fn.start_and_join.scope.Goals as goal
 
 pub spawn-requires-send-F : goal.spawn-requires-send-F

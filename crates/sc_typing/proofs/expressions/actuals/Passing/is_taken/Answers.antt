@@ -3,7 +3,7 @@ use Rattle.std.specs.Option.{option_map_or}
 use Rattle.sc_rules.specs.Typing.{takes_if_any}
 use Rattle.sc_typing.specs.Views.{formals_in, formal_if_any, types_in}
 use Rattle.sc_class.specs.SystemIn.{system_in}
-use Rattle.sc_typing.proofs.Passing.{taken_at}
+use Rattle.sc_typing.proofs.ActualNumbers.{taken_at}
 use Rattle.sc_typing.proofs.expressions.actuals.Passing.is_taken.Goals as goal
 
 pub returns-in-None : goal.returns-in-None

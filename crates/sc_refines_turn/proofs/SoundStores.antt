@@ -1,0 +1,413 @@
+-- What holds of each store that turns leave.
+use Rattle.std.proofs.Common.{◌≡◌, ◌<◌, ℕ, ◌+◌, Bool, true, false, List, [], ◌∷◌, Option, Some, None, drop, length, refl, sym, subst}
+use Rattle.std.specs.Prelude.{◌||◌, ◌&&◌, ◌==◌, nat_lt, if◌then◌else◌}
+use Rattle.sc_code.specs.declared.program.AttributeCode.{AttributeCode}
+use Rattle.sc_code.specs.declared.program.RoutineCode.{RoutineCode}
+use Rattle.sc_code.specs.declared.program.Version.{Version}
+use Rattle.sc_code.specs.declared.program.Version.TheVariants as version
+use Rattle.sc_model.specs.declared.cause.Cause.TheVariants as cause
+use Rattle.sc_region.specs.declared.frame.Origin.{Origin}
+use Rattle.sc_region.specs.declared.frame.Origin.TheVariants as origin
+use Rattle.sc_region.specs.declared.frame.Stage.{Stage}
+use Rattle.sc_region.specs.declared.frame.Stage.TheVariants as stage
+use Rattle.sc_region.specs.declared.job.Errand.{Errand}
+use Rattle.sc_region.specs.declared.job.Errand.TheVariants as errand
+use Rattle.sc_region.specs.declared.job.Job.{Job}
+use Rattle.sc_region.specs.declared.job.Job.TheVariants as job
+use Rattle.sc_region.specs.declared.job.Request.{Request}
+use Rattle.sc_region.specs.declared.job.Want.{Want}
+use Rattle.sc_region.specs.declared.job.Want.TheVariants as want
+use Rattle.sc_region.specs.declared.value.Reference.{Reference}
+use Rattle.sc_region.specs.declared.value.Value.{Value}
+use Rattle.sc_region.specs.Classes.{object_meets, routine_at}
+use Rattle.sc_region.specs.Frames.{PlainActivation, PlainFrame, top_activation, top_current}
+use Rattle.sc_region.specs.Objects.{PlainObject, attribute_of, object_numbered}
+use Rattle.sc_region.specs.Stores.{PlainStore, beginning, born, born_for, entered, entered_at, failed, left, left_to, made, made_for, max_frames, max_objects, next_reference, stage_of, with_new}
+use Rattle.sc_interp.specs.declared.act.Act.{Act}
+use Rattle.sc_interp.specs.declared.act.Act.TheVariants as act
+use Rattle.sc_interp.specs.declared.act.Calling.{Calling}
+use Rattle.sc_interp.specs.declared.act.Hop.{Hop}
+use Rattle.sc_interp.specs.declared.act.Hop.TheVariants as hop
+use Rattle.sc_interp.specs.Creating.{created_at, given, has_room, has_room_in, made_if, with_reference, without_last}
+use Rattle.sc_region.specs.Calls.{in_call, last_values, on_top, past, top_frame}
+use Rattle.sc_interp.specs.Entering.{called_at, entered_if, has_operands, operands_of, origin_of, routine_in}
+use Rattle.sc_interp.specs.Exiting.{exited_at, handed, handed_as, handed_at, handed_value, is_unset, is_untested, is_void, returned}
+use Rattle.sc_interp.specs.Refusing.{is_waited_for, refused_as, refused_at, waiting}
+use Rattle.sc_interp.specs.Serving.{version_in}
+use Rattle.sc_interp.specs.Standing.{formals_at}
+use Rattle.sc_interp.specs.Told.{IsTold}
+use Rattle.sc_interp.specs.Turning.{round_ended}
+use Rattle.sc_interp.proofs.TopRoutines.{none_some}
+use Rattle.sc_play.specs.Acting.{acted}
+use Rattle.sc_play.specs.Answering.{block_granted, entry_granted, granted_in, replied_in, told_on, told_values, top_stage}
+use Rattle.sc_play.specs.Answering as answering
+use Rattle.sc_play.specs.Blocks as blocks
+use Rattle.sc_play.specs.Blocks.{closing, heads_in, innermost_in, left_with, opened_with}
+use Rattle.sc_play.specs.CreatingHandlers as handlers
+use Rattle.sc_play.specs.CreatingHandlers.{created_as, creation_in, creation_with}
+use Rattle.sc_play.specs.CreatingObjects as objects
+use Rattle.sc_play.specs.Operands.{class_number}
+use Rattle.sc_play.specs.Requesting as requesting
+use Rattle.sc_play.specs.Requesting.{awaiting_if, call_of, request_in, sent}
+use Rattle.sc_play.specs.Taking as taking
+use Rattle.sc_play.specs.Taking.{answered, attribute_at, born_by, taken_on, taken_version}
+use Rattle.sc_play.specs.Turns.{Becomes, GoesOn, TurnIn, TurnMade, TurnUnder, begun, done, first, more}
+use Rattle.sc_refines_turn.specs.Acting.{TopRuns}
+use Rattle.sc_refines_turn.specs.Rooms.{HaveRoom}
+use Rattle.sc_refines_turn.specs.Sound.{CreateForNothing, CreatesForNothing, IsSound, JobsKeepSound, NewStoresAreSound, PlaysKeepSound, TurnsKeepSound}
+use Rattle.sc_refines_turn.proofs.ValueRoom.{entered_room, handed_runs, room_is_kept, room_remains, settled_keeps, top_kept}
+
+-- ---- frames
+
+top_free : (f : PlainActivation → PlainActivation) → ((a : PlainActivation) → CreatesForNothing a.stage → CreatesForNothing (f a).stage) → (fs : List PlainFrame) → CreateForNothing fs →
+    CreateForNothing (top_frame f fs)
+top_free f on [] free = tt
+top_free f on (t ∷ below) free = (on t.activation free.0, free.1)
+
+-- ---- stores
+
+left_free : (x : PlainStore) → CreateForNothing x.frames → CreateForNothing (left x).frames
+left_free x free = by x.frames free
+  where
+    by : (fs : List PlainFrame) → CreateForNothing fs → CreateForNothing (left_to fs x).frames
+    by [] all = free
+    by (f ∷ below) all = settled_keeps CreateForNothing f.current.number (record x { frames = below }) tt all.1
+
+begins_free : (slots : List ℕ) → CreatesForNothing (stage_of slots)
+begins_free [] = tt
+begins_free (k ∷ ks) = tt
+
+entered_free : (me : Reference) (routine : ℕ) (o : Origin) (us : List Value) (x : PlainStore) → CreateForNothing x.frames → CreateForNothing (entered me routine o us x).frames
+entered_free me routine o us x free = by (routine_at x.program routine)
+  where
+    by_count : (r : RoutineCode) (b : Bool) →
+        CreateForNothing (if b then record x { frames = record { current = me; activation = beginning routine r o us } ∷ x.frames } else failed cause.StackFull x).frames
+    by_count r true = (begins_free r.separate_formals.items, free)
+    by_count r false = tt
+
+    by_many : (r : RoutineCode) (b : Bool) →
+        CreateForNothing (if b then (if nat_lt (length x.frames) max_frames then record x { frames = record { current = me; activation = beginning routine r o us } ∷ x.frames } else failed cause.StackFull x) else failed cause.BadCode x).frames
+    by_many r true = by_count r (nat_lt (length x.frames) max_frames)
+    by_many r false = tt
+
+    by : (q : Option RoutineCode) → CreateForNothing (entered_at (length x.frames) me routine q o us x).frames
+    by None = tt
+    by (Some r) = by_many r (length us == r.formals)
+
+entered_if_free : (q : Option ℕ) (me : Reference) (o : Origin) (us : List Value) (x : PlainStore) → CreateForNothing x.frames → CreateForNothing (entered_if q me o us x).frames
+entered_if_free None me o us x free = tt
+entered_if_free (Some routine) me o us x free = entered_free me routine o us x free
+
+-- one store or the other
+either_free : (b : Bool) (x y : PlainStore) → CreateForNothing x.frames → CreateForNothing y.frames → CreateForNothing (if b then x else y).frames
+either_free true x y p q = p
+either_free false x y p q = q
+
+-- ---- operations
+
+called_free : (c : Calling) (r : Reference) (k n : ℕ) (gives : Bool) (z : PlainStore) (o : Option PlainActivation) → CreateForNothing z.frames →
+    CreateForNothing (called_at c r k n gives o z).frames
+called_free c r k n gives z None free = tt
+called_free c r k n gives z (Some a) free =
+    either_free (nat_lt n 17 && has_operands (operands_of c n) a) _ (failed cause.BadCode z)
+    (entered_if_free (routine_in (version_in z.program r.class k)) r (origin_of c) (last_values n a.operands.values) (on_top (in_call (operands_of c n) gives) z)
+    (top_free (in_call (operands_of c n) gives) (λ a h. tt) z.frames free)) tt
+
+awaiting_free : (b : Bool) (k : ℕ) (gives is_creation : Bool) (a : PlainActivation) → CreatesForNothing a.stage → CreatesForNothing (stage.Awaits k gives is_creation) →
+    CreatesForNothing (awaiting_if b k gives is_creation a).stage
+awaiting_free true k gives is_creation a h w = w
+awaiting_free false k gives is_creation a h w = h
+
+sent_free : (q : Option Request) (r : Reference) (k n : ℕ) (gives passes : Bool) (z : PlainStore) → CreateForNothing z.frames → CreateForNothing (sent q (call_of r k n gives passes) z).frames
+sent_free None r k n gives passes z free = tt
+sent_free (Some q) r k n gives passes z free =
+    top_free (requesting.sending (call_of r k n gives passes)) (λ a h. awaiting_free (passes || gives) r.handler gives false (without_last (past n a)) h tt) z.frames free
+
+-- ---- creations
+
+made_free : (class : ℕ) (z : PlainStore) → CreateForNothing z.frames → CreateForNothing (made class z).frames
+made_free class z free =
+    either_free (nat_lt (length z.objects) max_objects) (born class z) (failed cause.TooManyObjects z)
+    (settled_keeps CreateForNothing (length z.objects + 1) (with_new class z) tt free) tt
+
+given_free : (n : ℕ) (r : Reference) (x : PlainStore) → CreateForNothing x.frames → CreateForNothing (given n r x).frames
+given_free n r x free =
+    either_free (has_room_in n (top_activation x.frames)) (on_top (with_reference r) (on_top (past n) x)) (failed cause.BadCode x)
+    (top_free (with_reference r) (λ a h. h) (top_frame (past n) x.frames) (top_free (past n) (λ a h. h) x.frames free)) tt
+
+made_for_free : (handler class routine : ℕ) (us : List Value) (x : PlainStore) → CreateForNothing x.frames → CreateForNothing (made_for handler class routine us x).frames
+made_for_free handler class routine us x free =
+    either_free (nat_lt (length x.objects) max_objects) (born_for (next_reference handler class x) routine origin.Creation us x) (failed cause.TooManyObjects x)
+    (settled_keeps CreateForNothing (length x.objects + 1) (entered (next_reference handler class x) routine origin.Creation us (with_new class x)) tt
+    (entered_free (next_reference handler class x) routine origin.Creation us (with_new class x) free)) tt
+
+made_if_free : (q : Option ℕ) (r : Reference) (us : List Value) (x : PlainStore) → CreateForNothing x.frames → CreateForNothing (made_if q r us x).frames
+made_if_free None r us x free = tt
+made_if_free (Some routine) r us x free = made_for_free r.handler r.class routine us x free
+
+created_by_free : (r : Reference) (k n : ℕ) (z : PlainStore) (o : Option PlainActivation) → CreateForNothing z.frames → CreateForNothing (created_at r k n o z).frames
+created_by_free r k n z None free = tt
+created_by_free r k n z (Some a) free =
+    either_free (has_room n a && has_operands n a) _ (failed cause.BadCode z)
+    (made_if_free (routine_in (version_in z.program r.class k)) r (last_values n a.operands.values) (on_top (with_reference r) (on_top (in_call n false) z))
+    (top_free (with_reference r) (λ a h. h) (top_frame (in_call n false) z.frames) (top_free (in_call n false) (λ a h. tt) z.frames free))) tt
+
+created_free : (h : ℕ) (class : Option ℕ) (k : Option ℕ) (n : ℕ) (z : PlainStore) → CreateForNothing z.frames → CreateForNothing (objects.created_of class h k n z).frames
+created_free h None k n z free = tt
+created_free h (Some class) None n z free = given_free n (next_reference h class z) (made class z) (made_free class z free)
+created_free h (Some class) (Some k) n z free =
+    either_free (nat_lt (length z.objects) max_objects) (created_at (next_reference h class z) k n (top_activation z.frames) z) (failed cause.TooManyObjects z)
+    (created_by_free (next_reference h class z) k n z (top_activation z.frames) free) tt
+
+created_as_free : (w : Option Want) (r : Reference) (class : ℕ) (k : Option ℕ) (n : ℕ) (passes : Bool) (z : PlainStore) → CreateForNothing z.frames →
+    CreateForNothing (created_as w r (creation_with class k n passes) z).frames
+created_as_free None r class k n passes z free = tt
+created_as_free (Some w) r class k n passes z free =
+    top_free (handlers.creating r (creation_with class k n passes)) (λ a h. awaiting_free passes r.handler false true (with_reference r (past n a)) h refl) z.frames free
+
+handler_free : (h class : ℕ) (k : Option ℕ) (n : ℕ) (passes : Bool) (q : Option ℕ) (z : PlainStore) → CreateForNothing z.frames →
+    CreateForNothing (handlers.created_of h (creation_with class k n passes) q z).frames
+handler_free h class k n passes None z free = tt
+handler_free h class k n passes (Some j) z free =
+    created_as_free (creation_in (creation_with class k n passes) j (top_activation z.frames)) (handlers.first_object h j) class k n passes z free
+
+-- ---- ends
+
+refused_as_free : (o : Origin) (me : Reference) (z : PlainStore) → CreateForNothing z.frames → CreateForNothing (refused_as o me z).frames
+refused_as_free origin.Unqualified me z free = tt
+refused_as_free origin.Qualified me z free = tt
+refused_as_free origin.Creation me z free = tt
+refused_as_free origin.Requested me z free = left_free z free
+refused_as_free origin.RequestedCreation me z free =
+    either_free (object_meets z.program (object_numbered me.number z.objects)) (left z) (failed cause.Invariant z) (left_free z free) tt
+
+refused_free : (slots : List ℕ) (me : Option Reference) (o : Option PlainActivation) (z : PlainStore) → CreateForNothing z.frames → CreateForNothing (refused_at slots me o z).frames
+refused_free slots None o z free = free
+refused_free slots (Some me) None z free = free
+refused_free slots (Some me) (Some a) z free =
+    either_free (is_waited_for a slots) (on_top waiting z) (refused_as a.origin me z) (top_free waiting (λ a h. tt) z.frames free) (refused_as_free a.origin me z free)
+
+opened_free : (k : ℕ) (q : Option (List Value)) (z : PlainStore) → CreateForNothing z.frames → CreateForNothing (opened_with k q z).frames
+opened_free k None z free = tt
+opened_free k (Some us) z free = top_free (blocks.opening k us) (λ a h. tt) z.frames free
+
+left_with_free : (q : Option (List ℕ)) (z : PlainStore) → CreateForNothing z.frames → CreateForNothing (left_with q z).frames
+left_with_free None z free = tt
+left_with_free (Some ks) z free = top_free closing (λ a h. h) z.frames free
+
+handed_value_free : (v : Value) (a : PlainActivation) → CreatesForNothing a.stage → CreatesForNothing (handed_value v a).stage
+handed_value_free v a free = by (nat_lt (length a.operands.values) a.operands.depth)
+  where
+    by : (b : Bool) → CreatesForNothing (if b then record a { operands = record a.operands { values = v ∷ a.operands.values } } else a).stage
+    by true = free
+    by false = free
+
+handed_as_free : (gives : Bool) (v : Option Value) (a : PlainActivation) → CreatesForNothing a.stage → CreatesForNothing (handed_as gives v a).stage
+handed_as_free true (Some v) a free = handed_value_free v a free
+handed_as_free true None a free = free
+handed_as_free false v a free = free
+
+handed_free : (s : Stage) (v : Option Value) (a : PlainActivation) → CreatesForNothing a.stage → CreatesForNothing (handed_at s v a).stage
+handed_free (stage.InCall gives) v a free = handed_as_free gives v (record a { stage = stage.Runs }) tt
+handed_free stage.Runs v a free = free
+handed_free stage.Reserves v a free = free
+handed_free stage.ReservesBlock v a free = free
+handed_free (stage.Awaits k gives is_creation) v a free = free
+
+returned_free : (o : Origin) (v : Option Value) (z : PlainStore) → CreateForNothing z.frames → CreateForNothing (returned o v z).frames
+returned_free origin.Unqualified v z free = top_free (handed v) (λ a h. handed_free a.stage v a h) (left z).frames (left_free z free)
+returned_free origin.Qualified v z free = top_free (handed v) (λ a h. handed_free a.stage v a h) (left z).frames (left_free z free)
+returned_free origin.Creation v z free = top_free (handed v) (λ a h. handed_free a.stage v a h) (left z).frames (left_free z free)
+returned_free origin.Requested v z free = left_free z free
+returned_free origin.RequestedCreation v z free = left_free z free
+
+exited_free : (me : Option Reference) (o : Option PlainActivation) (z : PlainStore) → CreateForNothing z.frames → CreateForNothing (exited_at me o z).frames
+exited_free None o z free = free
+exited_free (Some me) None z free = free
+exited_free (Some me) (Some a) z free =
+    either_free (is_unset z.program a) (failed cause.UnsetEntity z)
+    (if is_untested a.origin || object_meets z.program (object_numbered me.number z.objects) then returned a.origin a.result z else failed cause.Invariant z) tt
+    (either_free (is_untested a.origin || object_meets z.program (object_numbered me.number z.objects)) (returned a.origin a.result z) (failed cause.Invariant z)
+    (returned_free a.origin a.result z free) tt)
+
+round_free : (back : Option ℕ) (fs : List PlainFrame) → CreateForNothing fs → CreateForNothing (top_frame (round_ended back) fs)
+round_free None fs free = top_free (round_ended None) (λ a h. h) fs free
+round_free (Some n) fs free = top_free (round_ended (Some n)) (λ a h. h) fs free
+
+acted_free : (h : ℕ) (a : Act) (z : PlainStore) → CreateForNothing z.frames → CreateForNothing (acted h a z).frames
+acted_free h (act.PrintInteger v) z free = top_free (past 1) (λ a h. h) z.frames free
+acted_free h (act.PrintBoolean b) z free = top_free (past 1) (λ a h. h) z.frames free
+acted_free h (act.PrintText k) z free = top_free (past 0) (λ a h. h) z.frames free
+acted_free h (act.Test n) z free = round_free n z.frames free
+acted_free h (act.Enter c r k n gives) z free = called_free c r k n gives z (top_activation z.frames) free
+acted_free h (act.Request r k n gives passes) z free =
+    sent_free (request_in h (call_of r k n gives passes) (top_activation z.frames)) r k n gives passes z free
+acted_free h (act.Create class k n) z free = created_free h (class_number class) k n z free
+acted_free h (act.CreateHandler class k n passes) z free = handler_free h class k n passes (class_number class) z free
+acted_free h act.Start z free = top_free (past 0) (λ a h. h) z.frames free
+acted_free h (act.Refuse k) z free = refused_free (formals_at z.program k) (top_current z.frames) (top_activation z.frames) z free
+acted_free h (act.Open k n) z free = opened_free k (heads_in k n (top_activation z.frames)) z free
+acted_free h act.Leave z free = left_with_free (innermost_in (top_activation z.frames)) z free
+acted_free h act.Exit z free = exited_free (top_current z.frames) (top_activation z.frames) z free
+
+-- silent operations leave stages
+remains_free : (fs gs : List PlainFrame) → drop 1 gs ≡ drop 1 fs →
+    ((a b : PlainActivation) → top_activation fs ≡ Some a → top_activation gs ≡ Some b → b.stage ≡ a.stage) → top_current gs ≡ top_current fs → CreateForNothing fs → CreateForNothing gs
+remains_free fs [] below same current free = tt
+remains_free [] (g ∷ gs) below same current free = none_some g.current (sym current)
+remains_free (f ∷ fs) (g ∷ gs) below same current free =
+    (subst CreatesForNothing (sym (same f.activation g.activation refl refl)) free.0, subst CreateForNothing (sym below) free.1)
+
+-- ---- turns
+
+-- The frames are those of a sound store.
+abbrev AreSound : List PlainFrame → Type 0
+AreSound fs = HaveRoom fs × CreateForNothing fs
+
+sound_with : (z : PlainStore) → AreSound z.frames → IsSound z
+sound_with z kept = record { room = kept.0; creations = kept.1 }
+
+sound_frames : (z : PlainStore) → IsSound z → AreSound z.frames
+sound_frames z sound = (sound.room, sound.creations)
+
+-- what a turn leaves that becomes this
+becomes_sound : (v : PlainStore) (u : Want) (z : PlainStore) (w : Want) → Becomes v u z w → AreSound v.frames → IsSound z
+becomes_sound v u z w b kept = subst IsSound (sym b.store) (sound_with v kept)
+
+going_sound : (h : ℕ) (y z : PlainStore) (w : Want) → TopRuns y → GoesOn h y z w → IsSound y → IsSound z
+going_sound h y z w runs g sound = subst IsSound (sym g.does) (by g.operation g.told)
+  where
+    free : CreateForNothing g.before.frames
+    free = remains_free y.frames g.before.frames g.remains.below (λ a b ta tb. (g.remains.stays a b ta tb).stage) g.remains.current sound.creations
+
+    by : (o : Hop) → IsTold o g.before → IsSound (done h o g.before)
+    by hop.Passed told_so = record { room = room_remains y g.before runs g.remains sound.room; creations = free }
+    by (hop.Failed why) told_so = record { room = tt; creations = tt }
+    by (hop.Comes a) told_so = record { room = room_is_kept h a y g.before runs g.remains told_so sound.room; creations = acted_free h a g.before free }
+
+turn_in_sound : (o : Option Stage) (h : ℕ) (y z : PlainStore) (w : Want) → top_stage y ≡ o → TurnIn o h y z w → IsSound y → IsSound z
+turn_in_sound None h y z w e t sound = becomes_sound y want.Continue z w t (sound_frames y sound)
+turn_in_sound (Some stage.Runs) h y z w e t sound = going_sound h y z w e t sound
+turn_in_sound (Some stage.Reserves) h y z w e t sound = becomes_sound y want.Continue z w t (sound_frames y sound)
+turn_in_sound (Some stage.ReservesBlock) h y z w e t sound = becomes_sound y want.Continue z w t (sound_frames y sound)
+turn_in_sound (Some (stage.InCall gives)) h y z w e t sound = becomes_sound (failed cause.BadCode y) want.Continue z w t (tt, tt)
+turn_in_sound (Some (stage.Awaits k gives is_creation)) h y z w e t sound = becomes_sound y want.Continue z w t (sound_frames y sound)
+
+pub turns_keep_sound : TurnsKeepSound
+turns_keep_sound h y z w t sound = turn_in_sound (top_stage y) h y z w refl t sound
+
+-- ---- requests that are taken
+
+either_sound : (b : Bool) (x y : PlainStore) → AreSound x.frames → AreSound y.frames → AreSound (if b then x else y).frames
+either_sound true x y p q = p
+either_sound false x y p q = q
+
+entered_sound : (me : Reference) (routine : ℕ) (o : Origin) (us : List Value) (x : PlainStore) → AreSound x.frames → AreSound (entered me routine o us x).frames
+entered_sound me routine o us x kept = (entered_room me routine o us x kept.0, entered_free me routine o us x kept.1)
+
+answered_sound : (a : Option AttributeCode) (v : Option Value) (x : PlainStore) → AreSound x.frames → AreSound (answered a v x).frames
+answered_sound (Some a) (Some v) x kept = either_sound (a.is_attached && is_void (Some v)) (failed cause.UnsetEntity x) x (tt, tt) kept
+answered_sound (Some a) None x kept = (tt, tt)
+answered_sound None v x kept = (tt, tt)
+
+version_sound : (r : Request) (v : Option Version) (x : PlainStore) → AreSound x.frames → AreSound (taken_version r v x).frames
+version_sound r (Some (version.Routine n)) x kept = entered_sound r.target n origin.Requested r.actuals.items x kept
+version_sound r (Some (version.Attribute n)) x kept = answered_sound (attribute_at x.program r.target.class n) (attribute_of r.target.number n x.objects) x kept
+version_sound r None x kept = (tt, tt)
+
+object_sound : (r : Request) (o : Option PlainObject) (v : Option Version) (x : PlainStore) → AreSound x.frames → AreSound (taken_on r o v x).frames
+object_sound r (Some o) v x kept = version_sound r v x kept
+object_sound r None v x kept = (tt, tt)
+
+born_sound : (class : ℕ) (x : PlainStore) → AreSound x.frames → AreSound (born class x).frames
+born_sound class x kept = settled_keeps AreSound (length x.objects + 1) (with_new class x) (tt, tt) kept
+
+by_sound : (n : Option ℕ) (r : Request) (x : PlainStore) → AreSound x.frames → AreSound (born_by n r x).frames
+by_sound None r x kept = (tt, tt)
+by_sound (Some n) r x kept =
+    let y = entered r.target n origin.RequestedCreation r.actuals.items (with_new r.target.class x) in
+    settled_keeps AreSound (length x.objects + 1) y (tt, tt) (entered_sound r.target n origin.RequestedCreation r.actuals.items (with_new r.target.class x) kept)
+
+errand_sound : (h : ℕ) (e : Errand) (r : Request) (x : PlainStore) → AreSound x.frames → AreSound (taking.taken_errand h e r x).frames
+errand_sound h (errand.Calls k) r x kept =
+    either_sound (r.target.handler == h) (taken_on r (object_numbered r.target.number x.objects) (version_in x.program r.target.class k) x) (failed cause.ForeignObject x)
+    (object_sound r (object_numbered r.target.number x.objects) (version_in x.program r.target.class k) x kept) (tt, tt)
+errand_sound h (errand.Makes None) r x kept = born_sound r.target.class x kept
+errand_sound h (errand.Makes (Some k)) r x kept = by_sound (routine_in (version_in x.program r.target.class k)) r x kept
+
+-- ---- answers and reserve steps
+
+-- the topmost routine goes on
+on_top_sound : (f : PlainActivation → PlainActivation) → ((a : PlainActivation) → (f a).stage ≡ stage.Runs) → (x : PlainStore) → AreSound x.frames → AreSound (on_top f x).frames
+on_top_sound f e x kept = (
+  top_kept f stage.Runs e refl x.frames kept.0,
+  top_free f (λ a h. subst CreatesForNothing (sym (e a)) tt) x.frames kept.1,
+)
+
+replied_sound : (s : Option Stage) (v : Option Value) (x : PlainStore) → AreSound x.frames → AreSound (replied_in s v x).frames
+replied_sound (Some (stage.Awaits k gives is_creation)) v x kept =
+    on_top_sound (λ a. handed_as gives v (answering.runs a)) (λ a. handed_runs gives v (answering.runs a) refl) x kept
+replied_sound (Some stage.Runs) v x kept = kept
+replied_sound (Some stage.Reserves) v x kept = (tt, tt)
+replied_sound (Some stage.ReservesBlock) v x kept = (tt, tt)
+replied_sound (Some (stage.InCall gives)) v x kept = (tt, tt)
+replied_sound None v x kept = (tt, tt)
+
+granted_sound : (s : Option Stage) (ks : List ℕ) (x : PlainStore) → AreSound x.frames → AreSound (granted_in s ks x).frames
+granted_sound (Some stage.Reserves) ks x kept = on_top_sound (entry_granted ks) (λ a. refl) x kept
+granted_sound (Some stage.ReservesBlock) ks x kept = on_top_sound (block_granted ks) (λ a. refl) x kept
+granted_sound (Some stage.Runs) ks x kept = (tt, tt)
+granted_sound (Some (stage.InCall gives)) ks x kept = (tt, tt)
+granted_sound (Some (stage.Awaits k gives is_creation)) ks x kept = (tt, tt)
+granted_sound None ks x kept = (tt, tt)
+
+-- ---- handlers that were made
+
+told_many : (k : ℕ) (vs : List Value) → length (told_values k vs) ≡ length vs
+told_many k [] = refl
+told_many k (v ∷ vs) = refl
+
+told_room : (k : ℕ) (fs : List PlainFrame) → HaveRoom fs → HaveRoom (top_frame (told_on k) fs)
+told_room k [] room = tt
+told_room k (t ∷ below) room = (λ e. subst (λ n. n < t.activation.operands.depth) (sym (told_many k t.activation.operands.values)) (room.0 e), room.1)
+
+pub begun_sound : (is_told : Bool) (j : Job) (x : PlainStore) → IsSound x → IsSound (begun is_told j x)
+begun_sound true (job.Made k) x sound = sound
+begun_sound false (job.Made k) x sound = record { room = told_room k x.frames sound.room; creations = top_free (told_on k) (λ a h. h) x.frames sound.creations }
+begun_sound is_told (job.Take r) x sound = sound
+begun_sound is_told (job.Reply v) x sound = sound
+begun_sound is_told job.Failed x sound = sound
+begun_sound is_told job.Refused x sound = sound
+begun_sound is_told (job.Granted ks) x sound = sound
+begun_sound is_told job.Go x sound = sound
+
+made_sound : (o : Option Stage) (h : ℕ) (y z : PlainStore) (w : Want) → top_stage y ≡ o → TurnMade o h y z w → IsSound y → IsSound z
+made_sound None h y z w e t sound = becomes_sound (failed cause.BadCode y) want.Continue z w t (tt, tt)
+made_sound (Some (stage.Awaits k gives true)) h y z w e t sound =
+    becomes_sound (on_top answering.runs y) want.Continue z w t (on_top_sound answering.runs (λ a. refl) y (sound_frames y sound))
+made_sound (Some (stage.Awaits k gives false)) h y z w e t sound = becomes_sound y want.Continue z w t (sound_frames y sound)
+made_sound (Some stage.Runs) h y z w e t sound = going_sound h y z w e t sound
+made_sound (Some stage.Reserves) h y z w e t sound = becomes_sound y want.Continue z w t (sound_frames y sound)
+made_sound (Some stage.ReservesBlock) h y z w e t sound = becomes_sound y want.Continue z w t (sound_frames y sound)
+made_sound (Some (stage.InCall gives)) h y z w e t sound = becomes_sound (failed cause.BadCode y) want.Continue z w t (tt, tt)
+
+-- ---- jobs
+
+pub under_sound : (h : ℕ) (j : Job) (y z : PlainStore) (w : Want) → TurnUnder h j y z w → IsSound y → IsSound z
+under_sound h (job.Take r) y z w t sound = becomes_sound (taking.taken h r y) _ z w t (errand_sound h r.errand r y (sound_frames y sound))
+under_sound h (job.Reply v) y z w t sound = becomes_sound (answering.replied v y) _ z w t (replied_sound (top_stage y) v y (sound_frames y sound))
+under_sound h job.Failed y z w t sound = becomes_sound (failed cause.SupplierFailed y) _ z w t (tt, tt)
+under_sound h job.Refused y z w t sound = becomes_sound (failed cause.Precondition y) _ z w t (tt, tt)
+under_sound h (job.Granted ks) y z w t sound = becomes_sound (answering.granted ks.items y) _ z w t (granted_sound (top_stage y) ks.items y (sound_frames y sound))
+under_sound h (job.Made k) y z w t sound = made_sound (top_stage y) h y z w refl t sound
+under_sound h job.Go y z w t sound = turns_keep_sound h y z w t sound
+
+pub jobs_keep_sound : JobsKeepSound
+jobs_keep_sound h is_told j y sound = (begun_sound is_told j y sound, λ z w t. under_sound h j (begun is_told j y) z w t (begun_sound is_told j y sound))
+
+pub plays_keep_sound : PlaysKeepSound
+plays_keep_sound h is_told j x _ _ _ (first {y} {w} t) sound = under_sound h j (begun is_told j x) y w t (begun_sound is_told j x sound)
+plays_keep_sound h is_told j x _ _ _ (more {n} {y} {z} {w} before t) sound = turns_keep_sound h y z w t (plays_keep_sound h is_told j x n y want.Continue before sound)
+
+pub new_stores_are_sound : NewStoresAreSound
+new_stores_are_sound p = record { room = tt; creations = tt }
