@@ -272,9 +272,9 @@ module _ (g : Run) (me : Reference) (pc : ℕ) (tail : List Value) where
       (stand.repeats q own has refl a b ra rb sb (subst (λ k. StandsFor g k (Known p.text n (types_of p.olds) (types_of p.values)) p.tasks) e1 st)) in
       let here = subst (λ k. StandsFor g k (Known p.text n (types_of p.olds) (types_of p.values)) next.tasks) (sym start) again in
       elim v as (λ v. Follows g me pc tail (under (operand v t) p) (ends_loop v e body p)) [
-        | Boolean true ↦ shows g me pc x machine.Tests tail (under (operand (Boolean true) t) p) (state_at (pc + 1) tail p) model.Tests p is refl refl
+        | Boolean true ↦ shows g me pc x machine.Until tail (under (operand (Boolean true) t) p) (state_at (pc + 1) tail p) model.Until p is refl refl
             (pc + 1, tail, refl, stands g me (pc + 1) tail p st l r)
-        | Boolean false ↦ shows g me pc x machine.Tests tail (under (operand (Boolean false) t) p) (state_at (pc - m) tail p) model.Tests next is refl refl
+        | Boolean false ↦ shows g me pc x machine.Until tail (under (operand (Boolean false) t) p) (state_at (pc - m) tail p) model.Until next is refl refl
             (pc - m, tail, refl, stands g me (pc - m) tail next here l r)
         | Integer z ↦ failed g me pc x cause.BadCode tail (under (operand (Integer z) t) p) p (state_at pc tail p) is refl refl
         | Void ↦ failed g me pc x cause.BadCode tail (under (operand Void t) p) p (state_at pc tail p) is refl refl

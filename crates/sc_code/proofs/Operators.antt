@@ -30,7 +30,7 @@ reading_is d (Integer z) t p = refl
 reading_is d (Boolean b) t p = refl
 reading_is d (Attached r) t p = refl
 
-outcome_is : (o : arithmetic.Outcome) (p : Point) → gives_outcome o p ≡ given_as (outcome o) integer p
+outcome_is : (o : arithmetic.ArithmeticResult) (p : Point) → gives_outcome o p ≡ given_as (outcome o) integer p
 outcome_is (Ok z) p = refl
 outcome_is (Err fault.Overflow) p = refl
 outcome_is (Err fault.DivideByZero) p = refl

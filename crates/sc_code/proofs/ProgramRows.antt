@@ -14,7 +14,7 @@ use Rattle.sc_model.specs.Values as value
 use Rattle.sc_rules.specs.FeatureNumbers.{all_features}
 use Rattle.sc_code.specs.Operations.{Operation, PushInteger, CallRoutine, StoreAttribute, StoreResult, Exit}
 use Rattle.sc_code.specs.declared.program.Image.{Image}
-use Rattle.sc_code.specs.declared.program.Version.TheVariants as version
+use Rattle.sc_code.specs.declared.program.FeatureCode.TheVariants as version
 use Rattle.sc_code.specs.Programs.{PlainRoutine, PlainClass, IsProgramOf, class_code_of, class_in, codes_of, pool_of, routine_in}
 
 -- a class with an invariant, and its heir, which redefines a function of it
@@ -59,7 +59,7 @@ codes_of_redefining = refl
 abbrev table : ℕ → List Bool → PlainClass
 table step conforms = record {
   attributes = (value.Integer (pos 0), true) ∷ [];
-  versions = Some (version.Attribute 0) ∷ Some (version.Routine step) ∷ None ∷ Some (version.Routine 1) ∷ [];
+  features = Some (version.Attribute 0) ∷ Some (version.Routine step) ∷ None ∷ Some (version.Routine 1) ∷ [];
   conforms = conforms;
   invariant = formula.Compared (term.Attribute 0) comparison.GreaterOrEqual (term.Integer (pos 0)) ∷ [];
 }

@@ -27,8 +27,8 @@ use Rattle.sc_code.specs.declared.program.ClassCode.{ClassCode}
 use Rattle.sc_code.specs.declared.program.RoutineCode.{RoutineCode}
 use Rattle.sc_code.specs.declared.program.AttributeCode.{AttributeCode}
 use Rattle.sc_code.specs.declared.program.Image.{Image}
-use Rattle.sc_code.specs.declared.program.Version.{Version}
-use Rattle.sc_code.specs.declared.program.Version.TheVariants as version
+use Rattle.sc_code.specs.declared.program.FeatureCode.{FeatureCode}
+use Rattle.sc_code.specs.declared.program.FeatureCode.TheVariants as version
 use Rattle.sc_code.specs.declared.operation.DefaultValue.{DefaultValue}
 use Rattle.sc_code.specs.Operations.{Operation}
 use Rattle.sc_code.specs.Places.{known_type}
@@ -130,7 +130,7 @@ code_length s = length_of_codes s (all_features s)
 -- its joined invariant.
 pub record PlainClass : Type 0 where
   pub attributes : List (Value × Bool)
-  pub versions : List (Option Version)
+  pub features : List (Option FeatureCode)
   pub conforms : List Bool
   pub invariant : List PlainFormula
 
@@ -139,26 +139,26 @@ attribute_in a = (default_value a.default, a.is_attached)
 
 -- the class that tables in memory are
 abbrev pub class_in : ClassCode → PlainClass
-class_in c = record { attributes = map attribute_in c.attributes.items; versions = c.versions.items; conforms = c.conforms.items; invariant = map plain_formula c.invariant.items }
+class_in c = record { attributes = map attribute_in c.attributes.items; features = c.features.items; conforms = c.conforms.items; invariant = map plain_formula c.invariant.items }
 
 -- an attribute by its number in the class, a routine by its number among all features
-abbrev pub entry_of_kind : System → ℕ → DeclaredFeature → FeatureKind → Option Version
+abbrev pub entry_of_kind : System → ℕ → DeclaredFeature → FeatureKind → Option FeatureCode
 entry_of_kind s k f (tree.Attribute d) = option_map version.Attribute (attribute_number f.feature.name.text (fresh_attributes s (features s k)))
 entry_of_kind s k f (tree.Routine d) = option_map version.Routine (feature_number s (names.routine_of f))
 
-abbrev pub entry_of_feature : System → ℕ → Option DeclaredFeature → Option Version
+abbrev pub entry_of_feature : System → ℕ → Option DeclaredFeature → Option FeatureCode
 entry_of_feature s k None = None
 entry_of_feature s k (Some f) = entry_of_kind s k f f.feature.kind
 
 -- what the name is in the class at the number
-abbrev pub version_entry : System → ℕ → List ℕ → Option Version
+abbrev pub version_entry : System → ℕ → List ℕ → Option FeatureCode
 version_entry s k x = entry_of_feature s k (version_of s k x)
 
 -- the class at the number, where names have these numbers; each table is read at one place, so dynamic binding takes constant time
 abbrev pub class_code_of : System → List (List ℕ) → ℕ → PlainClass
 class_code_of s names k = record {
   attributes = map (λ (b : Binding). (b.value, b.type.attached)) (fresh_attributes s (features s k));
-  versions = map (version_entry s k) names;
+  features = map (version_entry s k) names;
   conforms = map (λ j. class_conforms s (class.Declared k) (class.Declared j)) (range_with_len 0 (length s.classes));
   invariant = known_formulas (formulas_of s k);
 }

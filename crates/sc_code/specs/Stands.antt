@@ -28,7 +28,7 @@ use Rattle.sc_code.specs.Places.{Setting, here, slot_named, unary_type, binary_t
 use Rattle.sc_code.specs.Emitted.{expr_code, expr_depth, expr_slots, right_code, site_of, tested, creation_passes, instrs_code, instrs_depth, instrs_slots, other_code, branches_depth, branches_slots, branch_code, loop_code, clauses_code, checks_depth, formals_in, declare_code}
 use Rattle.sc_code.specs.Typed.{IsTyped, IsCondition, AreClauses, AreInstrs, AreBranches}
 use Rattle.sc_model.specs.Moves.{moves}
-use Rattle.sc_code.specs.Machine.{Code, State, Act, Prints, Tests, Creates, CreatesHandler, Enters, Requests, Starts, Refuses, Opens, Leaves, Exits, Fails, Goes, Does, hop, hops}
+use Rattle.sc_code.specs.Machine.{Code, State, Act, Prints, Until, Creates, CreatesHandler, Enters, Requests, Starts, Refuses, Opens, Leaves, Exits, Fails, Goes, Does, hop, hops}
 
 -- What is the same all through a run of a routine: the system, its own text, the type of its Result, its code, and how many slots it has.
 pub record Run : Type 0 where
@@ -264,7 +264,7 @@ pub record Stands (g : Run) (place : ℕ) (tail : List Value) (p : Point) : Type
 -- What is seen of a step of the model is seen of the operation, where these entities are known before the step, and those after it.
 abbrev pub Seen : List Binding → List Binding → model.Act → Act → Type 0
 Seen bs cs (model.Prints text) a = a ≡ Prints text
-Seen bs cs model.Tests a = a ≡ Tests
+Seen bs cs model.Until a = a ≡ Until
 Seen bs cs model.Creates a = a ≡ Creates
 Seen bs cs (model.CreatesHandler k x us t passing) a = a ≡ CreatesHandler k x (values_of us) passing
 Seen bs cs (model.Enters c r x us t) a = a ≡ Enters c r x (values_of us) (is_some t)

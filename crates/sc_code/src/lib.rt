@@ -15,6 +15,6 @@ mod site;
 
 pub use operation::{DefaultValue, Operation};
 pub use program::lookup::Program;
-pub use program::{AttributeCode, ClassCode, ConstantPool, Image, RoutineCode, Version};
+pub use program::{AttributeCode, ClassCode, ConstantPool, FeatureCode, Image, RoutineCode};
 pub use sc_model::Cause;
 pub use site::{CallSite, CreationSite, Heads, ObjectTest, Residence, TestedType};

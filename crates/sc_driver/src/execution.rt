@@ -27,7 +27,7 @@ use std::alloc::{AllocError, Global};
 
 /// What a run or a replay tells: its report, and how each handler stands, in order of number.
 #[derive(Drop)]
-pub struct Outcome {
+pub struct RunReport {
     pub report: Vec<u8>,
     pub statuses: Vec<Status>,
 }
@@ -55,7 +55,7 @@ pub fn load_text(alloc: Global, text: &str, root: &Root) -> Result<Program, Reje
 }
 
 /// Plays the lines of a record in a world of its version.
-pub fn replay(alloc: Global, program: &Program, recorded: &Record) -> Result<Outcome, AllocError>
+pub fn replay(alloc: Global, program: &Program, recorded: &Record) -> Result<RunReport, AllocError>
     ensures { let turns = recorded.now.lines.items in IfOk result (λ outcome.
         IsReplay (image_of program.now) recorded.now.version turns outcome.report.items outcome.statuses.items) }
 {
@@ -100,10 +100,10 @@ fn judge<'s>(alloc: Global, system: &'s System, root: &Root) -> Result<Checked<'
 }
 
 /// What the world leaves.
-fn outcome_of(world: &World<'_>) -> Result<Outcome, AllocError>
+fn outcome_of(world: &World<'_>) -> Result<RunReport, AllocError>
     ensures { IfOk result (λ outcome. Leaves (world_of world.now) outcome.report.items outcome.statuses.items) }
 {
-    Ok(Outcome {
+    Ok(RunReport {
         report: world.report()?,
         statuses: world.statuses()?,
     })

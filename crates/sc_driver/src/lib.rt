@@ -2,7 +2,7 @@
 //!
 //! [`check_text`], [`load_text`] and [`print_text`] read the system of a text and check it, make its program or print its
 //! canonical text; a [`Rejection`] says why a text isn't taken. [`run_program`] runs a program by several workers, and
-//! [`replay`] plays a record with it. What they tell is an [`Outcome`].
+//! [`replay`] plays a record with it. What they tell is a [`RunReport`].
 #![tactic(auto)]
 
 mod execution;
@@ -10,7 +10,7 @@ mod rejection;
 mod running;
 
 pub use execution::{
-    Outcome, check_text, empty_replay_leaves_opening, lines_may_be_split, load_text, print_text,
+    RunReport, check_text, empty_replay_leaves_opening, lines_may_be_split, load_text, print_text,
     replay,
 };
 pub use rejection::Rejection;

@@ -6,7 +6,7 @@ ghost use Rattle.sc_world.specs.Reports as told;
 ghost use Rattle.sc_plant.specs.Left.{IsRun, SaysWhy, world_of};
 ghost use Rattle.sc_driver.specs.Execution.{IsThreadRun};
 
-use crate::execution::Outcome;
+use crate::execution::RunReport;
 use sc_code::Program;
 use sc_model::Status;
 use sc_plant::laws::runs_are_one_threads;
@@ -19,7 +19,7 @@ use std::thread::Threads;
 #[derive(Drop)]
 pub struct Ended<'p> {
     pub left: Left<'p>,
-    pub outcome: Outcome,
+    pub outcome: RunReport,
 }
 
 /// Nobody is told of turns.
@@ -56,11 +56,11 @@ pub fn run_program<'p, R: Threads + Wait + Sync>(
 }
 
 /// What is told of what a run left.
-fn outcome_of_left(alloc: Global, left: &Left<'_>) -> Result<Outcome, AllocError>
+fn outcome_of_left(alloc: Global, left: &Left<'_>) -> Result<RunReport, AllocError>
     ensures report { IfOk result (λ outcome. outcome.report.items ≡ told.report (world_of left.now)) }
     ensures statuses { IfOk result (λ outcome. outcome.statuses.items ≡ told.statuses (world_of left.now)) }
 {
-    Ok(Outcome {
+    Ok(RunReport {
         report: left.report(alloc)?,
         statuses: statuses_of_left(alloc, left)?,
     })

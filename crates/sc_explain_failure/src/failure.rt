@@ -1,6 +1,6 @@
 //! What is said of handlers that have failed, wait or are busy, beside the report.
 
-use crate::breakdown::push_failing;
+use crate::breakdown::RunSource;
 use crate::failing::failing_in;
 use crate::limit::{Limit, push_limit};
 use crate::moments::{Kind, Moment, moments_of};
@@ -30,6 +30,15 @@ pub struct Played<'r> {
     pub limit: Limit,
     /// Whether a request may have been refused for which nobody waited.
     pub may_refuse: bool,
+}
+
+/// A run that was played once more, with what it is of.
+#[derive(Clone, Copy)]
+struct Rerun<'r> {
+    origin: RunSource<'r>,
+    world: &'r World<'r>,
+    played: Played<'r>,
+    moments: &'r [Moment],
 }
 
 /// What the failure of each handler that has failed in a run is, in words, and where and for whom it ran, which requests were
@@ -95,7 +104,7 @@ fn note_of_program(
     tables: &Tables<'_>,
     program: &Program,
 ) -> Result<Vec<u8>, AllocError> {
-    let origin = Origin {
+    let origin = RunSource {
         alloc,
         source: played.source,
         tables,
@@ -109,7 +118,7 @@ fn note_of_program(
 
 /// The same, where its turns are played from this opening.
 fn note_of_rerun(
-    origin: &Origin<'_>,
+    origin: RunSource<'_>,
     statuses: &[Status],
     world: &mut World<'_>,
     program: &Program,

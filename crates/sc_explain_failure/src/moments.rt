@@ -1,5 +1,6 @@
 //! What there was in front of a settlement of a run: what is lost behind it.
 
+use crate::breakdown::RunSource;
 use crate::failure::Played;
 use crate::history::taken_before;
 use sc_audit::RecordLine;
@@ -49,7 +50,7 @@ pub struct Moment {
 
 /// What there was in front of each failure of a run that was played, and of each refusal for which nobody waited.
 pub fn moments_of(
-    origin: &Origin<'_>,
+    origin: RunSource<'_>,
     world: &World<'_>,
     program: &Program,
     played: &Played<'_>,
@@ -99,7 +100,7 @@ fn add_all(
 }
 
 fn add(
-    alloc: Global,
+    origin: RunSource<'_>,
     moments: &mut Vec<Moment>,
     handler: u16,
     kind: Kind,
@@ -121,7 +122,7 @@ fn add(
 }
 
 fn add_failure(
-    alloc: Global,
+    origin: RunSource<'_>,
     moments: &mut Vec<Moment>,
     world: &World<'_>,
     handler: u16,
@@ -146,7 +147,7 @@ fn last_of(log: &Log, handler: u16) -> Option<usize> {
 }
 
 fn add_refusals(
-    alloc: Global,
+    origin: RunSource<'_>,
     moments: &mut Vec<Moment>,
     world: &World<'_>,
     handler: u16,
@@ -199,8 +200,8 @@ fn served_before(log: &Log, handler: u16, place: usize) -> Option<Settlement> {
 
 /// A run that is played once more, settlement by settlement.
 #[derive(Drop)]
-struct Rewound<'o, 'r, 'p> {
-    origin: &'o Origin<'r>,
+struct Rewound<'r, 'p> {
+    origin: RunSource<'r>,
     world: World<'p>,
     lines: &'r [RecordLine],
     /// The line that is played, and how many turns of it are made.

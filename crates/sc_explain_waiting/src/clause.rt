@@ -2,9 +2,9 @@
 
 use crate::evaluation::{Reached, Seen, Start, Until, reach};
 use crate::naming::push_place;
-use crate::origin::Origin;
+use crate::origin::RunSource;
 use crate::waits::standing_of;
-use sc_code::Version;
+use sc_code::FeatureCode;
 use sc_explain_text::Lines;
 use sc_region::{Reference, Value};
 use sc_text::Span;
@@ -16,7 +16,12 @@ const MOST_VALUES: usize = 8;
 
 /// Adds which clause of the precondition of the routine that a handler is in is false, with the values of what it names, on a
 /// line, as far as that is found on the objects as they are; else nothing.
-pub fn push_false_clause(origin: &Origin<'_>, lines: &mut Lines, world: &World<'_>, handler: u16) {
+pub fn push_false_clause(
+    origin: RunSource<'_>,
+    lines: &mut Lines,
+    world: &World<'_>,
+    handler: u16,
+) {
     let start = Start::Place(0);
     match reach(origin.alloc, world, handler, start, Until::FalseClause) {
         Ok(Some(reached)) => origin.push_false(lines, &reached),
@@ -28,7 +33,7 @@ pub fn push_false_clause(origin: &Origin<'_>, lines: &mut Lines, world: &World<'
 /// Adds the values of what the topmost routine of a handler reads and calls for the operation at a place of it, where it goes on
 /// to there without asking anything of others, and gets this answer first if one has come: a line, or nothing.
 pub fn push_operation_values(
-    origin: &Origin<'_>,
+    origin: RunSource<'_>,
     lines: &mut Lines,
     world: &World<'_>,
     handler: u16,
@@ -61,7 +66,7 @@ pub fn push_operation_values(
 
 /// Adds the values that the attributes of an object have which a part of the text names: a line, or nothing.
 pub fn push_attributes(
-    origin: &Origin<'_>,
+    origin: RunSource<'_>,
     lines: &mut Lines,
     world: &World<'_>,
     object: Reference,
@@ -86,7 +91,7 @@ fn is_in_name(byte: u8) -> bool {
     byte.is_ascii_alphanumeric() || byte == b'_'
 }
 
-impl<'r> Origin<'r> {
+impl<'r> RunSource<'r> {
     /// Adds the attribute of this name of an object, unless it is told.
     fn push_attribute(
         &self,
@@ -112,8 +117,8 @@ impl<'r> Origin<'r> {
         let store = world.region(object.handler)?.store();
         let number = self.number_of(name)?;
         let class = store.program().classes().get(object.class as usize)?;
-        match *class.versions.get(number)? {
-            Some(Version::Attribute(attribute)) => match store.read(object.number, attribute)? {
+        match *class.features.get(number)? {
+            Some(FeatureCode::Attribute(attribute)) => match store.read(object.number, attribute)? {
                 Value::Attached(_) => None,
                 value => Some(value),
             },

@@ -1,7 +1,7 @@
 //! The code of a routine, gone through once more from where it stands: without any effect, on the objects as they are.
 
 use crate::frame::{Frame, Values};
-use sc_code::{CallSite, Operation, Program, Version};
+use sc_code::{CallSite, FeatureCode, Operation, Program};
 use sc_region::{Reference, Value};
 use sc_world::World;
 use std::alloc::{AllocError, Global};
@@ -260,8 +260,8 @@ impl<'r> Evaluation<'r> {
     fn store_attribute(&mut self, name: usize) -> bool {
         let object = self.frame.current;
         let version = self.version(object, name);
-        match (self.values.pop(&self.frame), version) {
-            (Some(value), Some(Version::Attribute(attribute))) => {
+        match (self.values.pop(self.frame), version) {
+            (Some(value), Some(FeatureCode::Attribute(attribute))) => {
                 self.note_write(Write {
                     object,
                     attribute,
@@ -306,12 +306,12 @@ impl<'r> Evaluation<'r> {
     /// A feature of an object is called with the values from a place on. Behind the call those are left in front of the floor.
     fn call_of(&mut self, object: Reference, site: CallSite, slots: usize, floor: usize) -> bool {
         match self.version(object, site.name) {
-            Some(Version::Attribute(number)) => {
+            Some(FeatureCode::Attribute(number)) => {
                 self.values.cut(floor);
                 let value = self.attribute(object, number);
                 self.read(value)
             }
-            Some(Version::Routine(routine)) => self.enter(object, routine, slots, floor),
+            Some(FeatureCode::Routine(routine)) => self.enter(object, routine, slots, floor),
             None => false,
         }
     }
@@ -339,15 +339,15 @@ impl<'r> Evaluation<'r> {
     }
 
     /// What a feature of this name is in the class of an object.
-    fn version(&self, object: Reference, name: usize) -> Option<Version> {
+    fn version(&self, object: Reference, name: usize) -> Option<FeatureCode> {
         let class = self.program.classes().get(object.class as usize)?;
-        *class.versions.get(name)?
+        *class.features.get(name)?
     }
 
     fn own_attribute(&self, name: usize) -> Option<Value> {
         match self.version(self.frame.current, name)? {
-            Version::Attribute(number) => self.attribute(self.frame.current, number),
-            Version::Routine(_) => None,
+            FeatureCode::Attribute(number) => self.attribute(self.frame.current, number),
+            FeatureCode::Routine(_) => None,
         }
     }
 

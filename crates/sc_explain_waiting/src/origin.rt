@@ -7,14 +7,14 @@ use std::alloc::Global;
 
 /// What a run is of: a text, its classes, and the names that its code has by numbers.
 #[derive(Clone, Copy)]
-pub struct Origin<'r> {
+pub struct RunSource<'r> {
     pub alloc: Global,
     pub source: &'r Source,
     pub tables: &'r Tables<'r>,
     pub names: &'r [String],
 }
 
-impl<'r> Origin<'r> {
+impl<'r> RunSource<'r> {
     /// A part of the text, with the letters that stand there.
     pub(crate) fn written(&self, span: Span) -> &'r str {
         self.source.text().get(span.start..span.end).unwrap_or("..")

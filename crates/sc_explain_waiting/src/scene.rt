@@ -3,7 +3,7 @@
 use crate::chains::{Chains, number_of};
 use crate::clause::push_false_clause;
 use crate::naming::{push_name, push_request, push_stand, stand_of};
-use crate::origin::Origin;
+use crate::origin::RunSource;
 use crate::waits::{Wait, keeper_of};
 use sc_explain_text::Lines;
 use sc_model::Status;
@@ -14,8 +14,8 @@ const MOST_LISTED: usize = 8;
 
 /// What is spoken of: a world that has stopped, and who waits for whom there.
 #[derive(Clone, Copy)]
-pub struct Scene<'o, 'r> {
-    pub origin: &'o Origin<'r>,
+pub struct Scene<'r> {
+    pub origin: RunSource<'r>,
     pub world: &'r World<'r>,
     pub waits: &'r [Wait],
     pub chains: &'r Chains,

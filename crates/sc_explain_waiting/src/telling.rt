@@ -1,7 +1,7 @@
 //! Of whom is spoken, and in which order.
 
 use crate::chains::Chains;
-use crate::origin::Origin;
+use crate::origin::RunSource;
 use crate::scene::Scene;
 use crate::waits::{Wait, waits_in};
 use sc_explain_text::Lines;
@@ -15,7 +15,7 @@ const MOST_TOLD: usize = 64;
 /// first the cycles of handlers that wait for each other, then those that wait for a condition, then the others that wait, each
 /// with the chain that it waits in, then those that are busy, and last the requests that stand where nobody takes them.
 pub fn push_waits(
-    origin: &Origin<'_>,
+    origin: RunSource<'_>,
     lines: &mut Lines,
     world: &World<'_>,
 ) -> Result<(), AllocError> {

@@ -12,8 +12,8 @@ message_of Overflow = codes "a result lies outside 64 bits"
 message_of DivideByZero = codes "the divisor is zero"
 
 -- what an operation on integers comes to: an INTEGER, or a fault
-abbrev pub Outcome : Type 0
-Outcome = Result ℤ ArithmeticFault
+abbrev pub ArithmeticResult : Type 0
+ArithmeticResult = Result ℤ ArithmeticFault
 
 -- the least INTEGER
 abbrev pub least_integer : ℤ
@@ -28,31 +28,31 @@ abbrev pub is_integer : ℤ → Bool
 is_integer z = int_le least_integer z && int_le z greatest_integer
 
 -- this whole number, where it is an INTEGER
-abbrev pub in_range : ℤ → Outcome
+abbrev pub in_range : ℤ → ArithmeticResult
 in_range z = if is_integer z then Ok z else Err Overflow
 
-abbrev pub sum_of : ℤ → ℤ → Outcome
+abbrev pub sum_of : ℤ → ℤ → ArithmeticResult
 sum_of a b = in_range (a +ℤ b)
 
-abbrev pub difference_of : ℤ → ℤ → Outcome
+abbrev pub difference_of : ℤ → ℤ → ArithmeticResult
 difference_of a b = in_range (a -ℤ b)
 
-abbrev pub product_of : ℤ → ℤ → Outcome
+abbrev pub product_of : ℤ → ℤ → ArithmeticResult
 product_of a b = in_range (a *ℤ b)
 
 -- the quotient, rounded toward zero
-abbrev pub quotient_of : ℤ → ℤ → Outcome
+abbrev pub quotient_of : ℤ → ℤ → ArithmeticResult
 quotient_of a b = if int_eq b (pos 0) then Err DivideByZero else in_range (int_div a b)
 
 -- what division leaves, with the dividend's sign
-abbrev pub remainder_of : ℤ → ℤ → Outcome
+abbrev pub remainder_of : ℤ → ℤ → ArithmeticResult
 remainder_of a b = if int_eq b (pos 0) then Err DivideByZero else in_range (int_rem a b)
 
-abbrev pub opposite_of : ℤ → Outcome
+abbrev pub opposite_of : ℤ → ArithmeticResult
 opposite_of a = in_range (neg_ℤ a)
 
 -- what the operator makes of these integers
-abbrev pub result_of : ArithmeticOperator → ℤ → ℤ → Outcome
+abbrev pub result_of : ArithmeticOperator → ℤ → ℤ → ArithmeticResult
 result_of Plus a b = sum_of a b
 result_of Minus a b = difference_of a b
 result_of Times a b = product_of a b

@@ -4,8 +4,8 @@ use Rattle.std.specs.List.{filter_map}
 use Rattle.sc_model.specs.declared.cause.Cause.TheVariants as cause
 use Rattle.sc_code.specs.declared.program.Image.{Image}
 use Rattle.sc_code.specs.declared.program.RoutineCode.{RoutineCode}
-use Rattle.sc_code.specs.declared.program.Version.{Version}
-use Rattle.sc_code.specs.declared.program.Version.TheVariants as version
+use Rattle.sc_code.specs.declared.program.FeatureCode.{FeatureCode}
+use Rattle.sc_code.specs.declared.program.FeatureCode.TheVariants as version
 use Rattle.sc_region.specs.declared.frame.Origin.{Origin}
 use Rattle.sc_region.specs.declared.frame.Origin.TheVariants as origin
 use Rattle.sc_region.specs.declared.frame.Stage.{Stage}
@@ -79,7 +79,7 @@ CallsNot c n (Some a) = nat_lt n 17 && has_operands (operands_of c n) a ≡ fals
 
 -- ---- the routine
 
-abbrev pub routine_in : Option Version → Option ℕ
+abbrev pub routine_in : Option FeatureCode → Option ℕ
 routine_in (Some (version.Routine n)) = Some n
 routine_in (Some (version.Attribute n)) = None
 routine_in None = None

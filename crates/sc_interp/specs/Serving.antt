@@ -11,8 +11,8 @@ use Rattle.sc_model.specs.Routines.{version_of}
 use Rattle.sc_code.specs.Attributes.{attribute_number}
 use Rattle.sc_code.specs.declared.program.Image.{Image}
 use Rattle.sc_code.specs.declared.program.ClassCode.{ClassCode}
-use Rattle.sc_code.specs.declared.program.Version.{Version}
-use Rattle.sc_code.specs.declared.program.Version.TheVariants as version
+use Rattle.sc_code.specs.declared.program.FeatureCode.{FeatureCode}
+use Rattle.sc_code.specs.declared.program.FeatureCode.TheVariants as version
 use Rattle.sc_code.specs.Programs.{pool_of}
 
 -- the first class is the second one, or its table names that
@@ -20,17 +20,17 @@ abbrev pub conforms_in : Image → ℕ → ℕ → Bool
 conforms_in p k j = k == j || option_map_or (λ (c : ClassCode). option_map_or (λ b. b) (slice_get c.conforms.items j) false) (slice_get p.classes.items k) false
 
 -- what the name of the number is in the class at the number, by its table
-abbrev pub version_in : Image → ℕ → ℕ → Option Version
-version_in p k x = option_and_then (λ (c : ClassCode). option_and_then (λ (v : Option Version). v) (slice_get c.versions.items x)) (slice_get p.classes.items k)
+abbrev pub version_in : Image → ℕ → ℕ → Option FeatureCode
+version_in p k x = option_and_then (λ (c : ClassCode). option_and_then (λ (v : Option FeatureCode). v) (slice_get c.features.items x)) (slice_get p.classes.items k)
 
 -- the number of the attribute that it is
-abbrev pub attribute_in : Option Version → Option ℕ
+abbrev pub attribute_in : Option FeatureCode → Option ℕ
 attribute_in (Some (version.Attribute n)) = Some n
 attribute_in (Some (version.Routine n)) = None
 attribute_in None = None
 
 -- whether it is a routine, where it is a feature
-abbrev pub is_routine_in : Option Version → Option Bool
+abbrev pub is_routine_in : Option FeatureCode → Option Bool
 is_routine_in (Some (version.Attribute n)) = Some false
 is_routine_in (Some (version.Routine n)) = Some true
 is_routine_in None = None

@@ -12,16 +12,16 @@ ghost use Rattle.sc_interp.specs.Standing.{listed, stepped};
 use crate::calling::has_name;
 use crate::evaluation::read;
 use crate::passing::{pass_last, push_found};
-use sc_code::{Program, Version};
+use sc_code::{FeatureCode, Program};
 use sc_model::Cause;
 use sc_region::{Reference, Store, Value};
 
 /// What the name of a number is in the class of a number.
-pub fn version_in(program: &Program, class: u8, name: usize) -> Option<Version>
+pub fn version_in(program: &Program, class: u8, name: usize) -> Option<FeatureCode>
     ensures { result ≡ version_in program.now.image class name }
 {
     let code = program.classes().get(usize::from(class))?;
-    *code.versions.get(name)?
+    *code.features.get(name)?
 }
 
 /// The number of the attribute of this name of the object.
@@ -30,8 +30,8 @@ fn attribute_number(store: &Store<'_>, object: u32, name: usize) -> Option<usize
 {
     let class = store.class_of(object)?;
     match version_in(store.program(), class, name)? {
-        Version::Attribute(number) => Some(number),
-        Version::Routine(_) => None,
+        FeatureCode::Attribute(number) => Some(number),
+        FeatureCode::Routine(_) => None,
     }
 }
 

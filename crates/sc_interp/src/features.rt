@@ -18,28 +18,28 @@ use crate::attributes::{attribute_value, value_under, version_in};
 use crate::calling::{call_at, has_room};
 use crate::evaluation::read;
 use crate::passing::replace;
-use sc_code::{CallSite, Version};
+use sc_code::{CallSite, FeatureCode};
 use sc_model::Cause;
 use sc_region::{Activation, Reference, Store, Value};
 
 /// What a feature of an object is.
 #[derive(Clone, Copy)]
-pub enum Feature {
+pub enum FoundFeature {
     /// An attribute, with its value, where the object has one.
     Attribute(Option<Value>),
     Routine,
 }
 
 /// What the feature of this name of an object of this handler is, if there are both.
-pub fn feature_of(store: &Store<'_>, object: Reference, name: usize) -> Option<Feature>
+pub fn feature_of(store: &Store<'_>, object: Reference, name: usize) -> Option<FoundFeature>
     ensures { IsFeature store.now object name result }
 {
     match store.class_of(object.number) {
         None => None,
         Some(_) => match version_in(store.program(), object.class, name) {
             None => None,
-            Some(Version::Routine(_)) => Some(Feature::Routine),
-            Some(Version::Attribute(_)) => Some(Feature::Attribute(attribute_value(
+            Some(FeatureCode::Routine(_)) => Some(FoundFeature::Routine),
+            Some(FeatureCode::Attribute(_)) => Some(FoundFeature::Attribute(attribute_value(
                 store,
                 object.number,
                 name,
@@ -167,7 +167,7 @@ fn call_found(
     count: usize,
     object: Reference,
     site: CallSite,
-    found: Option<Feature>,
+    found: Option<FoundFeature>,
 ) -> Hop
     requires { site.count < length (activation_of activation.old).operands.values }
     ensures calls { Calls count site (λ c k us f. calls_found c (reference_of object) k us found f) result (activation_of activation.old) (activation_of activation.new) }
@@ -177,8 +177,8 @@ fn call_found(
 {
     match found {
         None => refuse(activation, site, Cause::BadCode),
-        Some(Feature::Attribute(value)) => read_on(activation, count, site, value),
-        Some(Feature::Routine) => enter_on(activation, object, site),
+        Some(FoundFeature::Attribute(value)) => read_on(activation, count, site, value),
+        Some(FoundFeature::Routine) => enter_on(activation, object, site),
     }
 }
 
@@ -189,7 +189,7 @@ fn call_on(
     count: usize,
     target: Value,
     site: CallSite,
-    found: Option<Feature>,
+    found: Option<FoundFeature>,
 ) -> Hop
     requires { site.count < length (activation_of activation.old).operands.values }
     ensures calls { Calls count site (λ c k us f. calls_seen c (reference_of me) k (value_of target) us found f) result (activation_of activation.old) (activation_of activation.new) }
@@ -212,7 +212,7 @@ fn call_on(
 }
 
 /// What the feature of this name of the target is, where that is an object.
-fn feature_at(store: &Store<'_>, target: Value, name: usize) -> Option<Feature>
+fn feature_at(store: &Store<'_>, target: Value, name: usize) -> Option<FoundFeature>
     ensures { IsFeatureAt store.now target name result }
 {
     match target {

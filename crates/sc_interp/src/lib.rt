@@ -22,6 +22,6 @@ pub mod turning;
 mod visible;
 
 pub use act::{Act, Calling, Hop};
-pub use features::{Feature, call_feature};
+pub use features::{FoundFeature, call_feature};
 pub use hopping::{hop, moves};
 pub use running::run_current;

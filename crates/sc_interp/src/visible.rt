@@ -58,7 +58,7 @@ pub fn end_loop(activation: &mut Activation, back: usize) -> Hop
     match activation.operands.pop() {
         Some(Value::Boolean(ends)) => {
             activation.operands.push(Value::Boolean(ends));
-            Hop::Comes(Act::Test(if ends { None } else { Some(back) }))
+            Hop::Comes(Act::Until(if ends { None } else { Some(back) }))
         }
         _ => Hop::Failed(Cause::BadCode),
     }
@@ -98,8 +98,8 @@ pub fn demand(program: &Program, activation: &mut Activation, count: usize, numb
 /// What the `until` comes to whose value is the last operand, where that is a truth value: the loop ends, or so many
 /// operations come again.
 pub fn until(activation: &Activation, back: usize) -> Option<Option<usize>>
-    ensures hops { IfSome result (λ next. (count : ℕ) → Hops count (flat.EndLoop back) (outcome.Comes (act.Test next)) (activation_of activation.now) (activation_of activation.now)) }
-    ensures told { IfSome result (λ next. (p : Image) → Tells p (outcome.Comes (act.Test next)) (activation_of activation.now)) }
+    ensures hops { IfSome result (λ next. (count : ℕ) → Hops count (flat.EndLoop back) (outcome.Comes (act.Until next)) (activation_of activation.now) (activation_of activation.now)) }
+    ensures told { IfSome result (λ next. (p : Image) → Tells p (outcome.Comes (act.Until next)) (activation_of activation.now)) }
 {
     match activation.operands.last() {
         Some(Value::Boolean(ends)) => Some(if ends { None } else { Some(back) }),

@@ -4,7 +4,7 @@ ghost use Rattle.std.specs.Prelude.{◌≡◌, ◌≤◌, ◌<◌, ℕ, Some, If
 ghost use Rattle.sc_class.specs.declared.identity.ClassId.TheVariants as class_id;
 ghost use Rattle.sc_class.specs.ClassNames.{number_of};
 ghost use Rattle.sc_class.specs.SystemIn.{root_in, system_in};
-ghost use Rattle.sc_lower.specs.declared.refusal.Refusal.TheVariants.{CodeTooLong};
+ghost use Rattle.sc_lower.specs.declared.refusal.LoweringFault.TheVariants.{CodeTooLong};
 ghost use Rattle.sc_rules.specs.SystemRules.{WellFormed};
 ghost use Rattle.sc_code.specs.Programs.{IsProgramOf, code_length};
 ghost use Rattle.sc_code.specs.RequestRoom.{FitsRequests};
@@ -12,7 +12,7 @@ ghost use Rattle.sc_code.specs.RequestRoom.{FitsRequests};
 use crate::link_tables::Linker;
 use crate::program::class_code::class_codes;
 use crate::program::routines::{features_in_order, lower_routines};
-use crate::refusal::Refusal;
+use crate::refusal::LoweringFault;
 use crate::sums::within_32_bits;
 use sc_class::{ClassId, Tables};
 use sc_code::Image;
@@ -40,7 +40,7 @@ fn root_class(tables: &Tables) -> usize
 }
 
 /// The system in flat code, of at most so many instructions.
-pub fn image<'s>(alloc: Global, tables: &'s Tables<'s>, most: u32) -> Result<Image, Refusal>
+pub fn image<'s>(alloc: Global, tables: &'s Tables<'s>, most: u32) -> Result<Image, LoweringFault>
     requires { WellFormed (system_in tables.now) }
     ensures image { IfOk result (IsProgramOf (system_in tables.now) (root_in tables.now)) }
     ensures fits_requests { IfOk result FitsRequests }

@@ -5,7 +5,7 @@ use Rattle.sc_formula.specs.declared.arithmetic.ArithmeticFault.TheVariants as f
 use Rattle.sc_formula.specs.declared.arithmetic.ArithmeticOperator.{ArithmeticOperator}
 use Rattle.sc_formula.specs.declared.comparison.Comparison.{Comparison}
 use Rattle.sc_formula.specs.declared.connective.Connective.{Connective}
-use Rattle.sc_formula.specs.Arithmetic.{Outcome, opposite_of, result_of}
+use Rattle.sc_formula.specs.Arithmetic.{ArithmeticResult, opposite_of, result_of}
 use Rattle.sc_tree.specs.declared.expression.UnaryOperator.{UnaryOperator}
 use Rattle.sc_tree.specs.declared.expression.UnaryOperator.TheVariants as unary
 use Rattle.sc_tree.specs.declared.expression.BinaryOperator.{BinaryOperator}
@@ -27,7 +27,7 @@ use Rattle.sc_model.specs.Operators.{arithmetic_of, comparison_of, connective_of
 use Rattle.sc_model.specs.Routines.{place_in, version_of}
 use Rattle.sc_model.specs.Olds.{olds_in}
 use Rattle.sc_model.specs.Tasks.{Task, Do, In, Declare, Forget, Eval, ApplyUnary, EvalRight, ApplyBinary, Conclude, Bind, CallUnqualified, CallQualified, AssignTo, Print, Choose, Repeat, EndLoop, Checked, Require, Required, KeepOld, Ensured, CreateBy, Open, Leave, evals}
-use Rattle.sc_model.specs.Steps.{Point, Act, Prints, Tests, Creates, CreatesHandler, Enters, Requests, Starts, Refuses, Opens, Leaves, Exits, Fails, Step, Goes, Does, fails, gives, reads_as, reads_attribute, popped}
+use Rattle.sc_model.specs.Steps.{Point, Act, Prints, Until, Creates, CreatesHandler, Enters, Requests, Starts, Refuses, Opens, Leaves, Exits, Fails, Step, Goes, Does, fails, gives, reads_as, reads_attribute, popped}
 use Rattle.sc_model.specs.Calls.{given_by, passes_rights, enters_unqualified, calls_own, calls_unqualified, calls_kind, calls_version, requests, calls_object, calls_on, calls_qualified}
 use Rattle.sc_model.specs.Expressions.{gives_outcome, gives_truth, apply_unary, apply_to_integers, apply_to_booleans, is_same_object, apply_binary, applies, decided_by, evals_right, concludes, gives_found, reads_result, reads_own, begins_kind, begins_feature, begins_name, evaluate}
 use Rattle.sc_model.specs.Instructions.{tests, required}
@@ -87,7 +87,7 @@ module _ (s : System) (me : Reference) (rest : List Task) (bs : List Binding) (r
   attribute_c None t p l = tt
   attribute_c (Some b) t p l = reads_as_c t b.value t p l
 
-  outcome_c : (o : Outcome) (p : Point) → Left p → Steps (gives_outcome o p)
+  outcome_c : (o : ArithmeticResult) (p : Point) → Left p → Steps (gives_outcome o p)
   outcome_c (Ok z) p l = l
   outcome_c (Err fault.Overflow) p l = tt
   outcome_c (Err fault.DivideByZero) p l = tt
@@ -346,7 +346,7 @@ module _ (s : System) (me : Reference) (rest : List Task) (p : Point) where
   steps_act (Refuses k) q l = stays q l
   steps_act (Fails why) q l = tt
   steps_act (Prints text) q l = absurd l
-  steps_act Tests q l = absurd l
+  steps_act Until q l = absurd l
   steps_act Creates q l = absurd l
   steps_act (CreatesHandler k x us t passes) q l = absurd l
   steps_act Opens q l = absurd l

@@ -5,7 +5,7 @@ use Rattle.sc_formula.specs.declared.arithmetic.ArithmeticFault.TheVariants as f
 use Rattle.sc_formula.specs.declared.arithmetic.ArithmeticOperator.{ArithmeticOperator}
 use Rattle.sc_formula.specs.declared.comparison.Comparison.{Comparison}
 use Rattle.sc_formula.specs.declared.connective.Connective.{Connective}
-use Rattle.sc_formula.specs.Arithmetic.{Outcome, opposite_of, result_of}
+use Rattle.sc_formula.specs.Arithmetic.{ArithmeticResult, opposite_of, result_of}
 use Rattle.sc_tree.specs.declared.expression.UnaryOperator.{UnaryOperator}
 use Rattle.sc_tree.specs.declared.expression.UnaryOperator.TheVariants as unary
 use Rattle.sc_tree.specs.declared.expression.BinaryOperator.{BinaryOperator}
@@ -71,7 +71,7 @@ module _ (s : System) (me : Reference) (os : List Operand) (ts : List Task) wher
   attribute_x None t p = refl
   attribute_x (Some b) t p = reads_as_x t b.value t p
 
-  outcome_x : (o : Outcome) (p : Point) → gives_outcome o (X p) ≡ XS (gives_outcome o p)
+  outcome_x : (o : ArithmeticResult) (p : Point) → gives_outcome o (X p) ≡ XS (gives_outcome o p)
   outcome_x (Ok z) p = refl
   outcome_x (Err fault.Overflow) p = refl
   outcome_x (Err fault.DivideByZero) p = refl

@@ -5,7 +5,7 @@ use Rattle.sc_tree.specs.Plain as tree
 use Rattle.sc_tree.specs.Plain.{Clause, FeatureKind, RoutineDeclaration, System}
 use Rattle.sc_class.specs.Tables.Features.{DeclaredFeature}
 use Rattle.sc_proctype.specs.declared.entity_type.EntityType.{EntityType}
-use Rattle.sc_model.specs.Clauses.{Evaluation, Outcome, Further, Comes, Sticks, after, after_step, body_point, call_of, calls, calls_kind, evaluates_bound, evaluates_routine, gives_attribute, last_value, next, returns, Holds}
+use Rattle.sc_model.specs.Clauses.{Evaluation, EvaluationState, Further, Comes, Sticks, after, after_step, body_point, call_of, calls, calls_kind, evaluates_bound, evaluates_routine, gives_attribute, last_value, next, returns, Holds}
 use Rattle.sc_model.specs.Environments.{Binding, binding_named, formals_bound}
 use Rattle.sc_model.specs.Exits.{is_unset_value}
 use Rattle.sc_model.specs.Handlers.{Frame, World, point_of}
@@ -31,26 +31,26 @@ module _ (s : System) (w : World) where
   O j = (w.handlers j).objects
 
   -- the evaluation comes from the first to the second
-  record Leads (a b : Outcome) : Type 0 where
+  record Leads (a b : EvaluationState) : Type 0 where
     steps : ℕ
     leads : after steps s w a ≡ b
 
-  leads_by : {a b : Outcome} → a ≡ b → Leads a b
+  leads_by : {a b : EvaluationState} → a ≡ b → Leads a b
   leads_by e = record { steps = zero; leads = e }
 
-  leads_next : {a b : Outcome} → Leads (next s w a) b → Leads a b
+  leads_next : {a b : EvaluationState} → Leads (next s w a) b → Leads a b
   leads_next l = record { steps = suc l.steps; leads = l.leads }
 
-  leads_after : (n : ℕ) (a b c : Outcome) → after n s w a ≡ b → Leads b c → Leads a c
+  leads_after : (n : ℕ) (a b c : EvaluationState) → after n s w a ≡ b → Leads b c → Leads a c
   leads_after zero a b c e l = subst (λ o. Leads o c) (sym e) l
   leads_after (suc n) a b c e l = leads_next (leads_after n (next s w a) b c e l)
 
-  leads_then : {a b c : Outcome} → Leads a b → Leads b c → Leads a c
+  leads_then : {a b c : EvaluationState} → Leads a b → Leads b c → Leads a c
   leads_then {a} {b} {c} l m = leads_after l.steps a b c l.leads m
 
   -- a step of the text on top
   leads_step : (me : Reference) (p : Point) (g : Option EntityType) (callers : List Evaluation) (st : Step)
-      (b : Outcome) → step s me p ≡ st →
+      (b : EvaluationState) → step s me p ≡ st →
       Leads (after_step s w me st callers) b → Leads (Further (stands me p g) callers) b
   leads_step me p g callers st b e l = leads_next (subst (λ st. Leads (after_step s w me st callers) b) (sym e) l)
 
@@ -59,7 +59,7 @@ module _ (s : System) (w : World) where
 
   -- ---- what a call comes to
 
-  set_is : (b : Bool) (o : Outcome) → b ≡ false → (if b then Sticks else o) ≡ o
+  set_is : (b : Bool) (o : EvaluationState) → b ≡ false → (if b then Sticks else o) ≡ o
   set_is true o e = cc
   set_is false o e = refl
 

@@ -11,7 +11,7 @@ use Rattle.sc_model.specs.Environments.{Binding, binding_named, formals_bound}
 use Rattle.sc_model.specs.Objects.{Object, object_numbered}
 use Rattle.sc_model.specs.Routines.{Routine, Text, version_of, routine_of}
 use Rattle.sc_model.specs.Tasks.{Task, Eval}
-use Rattle.sc_model.specs.Steps.{Calling, Point, Tests, Enters, Requests, Fails, Step, Goes, Does}
+use Rattle.sc_model.specs.Steps.{Calling, Point, Until, Enters, Requests, Fails, Step, Goes, Does}
 use Rattle.sc_model.specs.Moves.{step}
 use Rattle.sc_model.specs.Exits.{is_unset_value}
 use Rattle.sc_model.specs.Clauses.{body_point}
@@ -39,7 +39,7 @@ mutual
   pub data Reaches (s : System) (M : ℕ → Type 0) (O : ℕ → List Object) : Reference → Point → Point → Type 0 where
     begins : {me : Reference} {p : Point} → Reaches s M O me p p
     goes : {me : Reference} {p q r : Point} → Reaches s M O me p q → step s me q ≡ Goes r → Reaches s M O me p r
-    tests : {me : Reference} {p q r : Point} → Reaches s M O me p q → step s me q ≡ Does Tests r → Reaches s M O me p r
+    tests : {me : Reference} {p q r : Point} → Reaches s M O me p q → step s me q ≡ Does Until r → Reaches s M O me p r
     enters : {me o : Reference} {p q r : Point} {c : Calling} {x : List ℕ} {us : List Operand} {t : EntityType}
         {v : Value} → Reaches s M O me p q → step s me q ≡ Does (Enters c o x us (Some t)) r →
         Answers s M O o x us v → Reaches s M O me p (record r { values = operand v t ∷ r.values })

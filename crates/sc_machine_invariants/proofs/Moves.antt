@@ -10,7 +10,7 @@ use Rattle.sc_model.specs.Handlers.{Frame, point_of}
 use Rattle.sc_model.specs.Invariants.{MeetsInvariant, meets_invariant}
 use Rattle.sc_model.specs.Moves.{moves}
 use Rattle.sc_model.specs.Objects.{Object, attributes_of, fresh_object, object_numbered}
-use Rattle.sc_model.specs.Steps.{Calling, Unqualified, Qualified, Creation, Act, Prints, Tests, Creates, CreatesHandler, Enters, Requests, Starts, Refuses, Opens, Leaves, Exits, Fails, Step, Goes, Does, Point}
+use Rattle.sc_model.specs.Steps.{Calling, Unqualified, Qualified, Creation, Act, Prints, Until, Creates, CreatesHandler, Enters, Requests, Starts, Refuses, Opens, Leaves, Exits, Fails, Step, Goes, Does, Point}
 use Rattle.sc_model.specs.Tasks.{Task}
 use Rattle.sc_model.specs.Values.{Reference, Operand}
 use Rattle.sc_machine_invariants.proofs.Modes.{AfterStart, Started, RunsPure, Unstarted, IsWildAs, StandsAs, name_of, not_both}
@@ -61,7 +61,7 @@ module _ (s : System) (pure : RoutineName → Bool) (f : Frame) (objects : List 
   ActMoves Creates p = (k : ℕ) × (n : ℕ) × MovedToNew s pure f objects k n p × (meets_invariant s (fresh_object s k) ≡ true)
   ActMoves (CreatesHandler k procedure us t passes) p = Moved s pure f objects p.objects p
   ActMoves (Prints text) p = Moved s pure f objects p.objects p
-  ActMoves Tests p = Moved s pure f objects p.objects p
+  ActMoves Until p = Moved s pure f objects p.objects p
   ActMoves (Requests o x us g passes) p = Moved s pure f objects p.objects p
   ActMoves Starts p = Moved s pure f objects p.objects p
   ActMoves (Refuses k) p = (p.objects ≡ objects) × (IsWildAs pure f.routine f.text.class f.tasks → ⊥)
@@ -98,7 +98,7 @@ module _ (s : System) (pure : RoutineName → Bool) (f : Frame) (objects : List 
     steps_move (Does Creates p) h = (h.1.0.0, h.1.0.1, made h.1.0.0 h.1.0.1 p h.1.0.2 h.1.1, h.1.0.3)
     steps_move (Does (CreatesHandler k procedure us t passes) p) h = moved p.objects p h.1.0 h.1.1
     steps_move (Does (Prints text) p) h = moved p.objects p h.0 h.1
-    steps_move (Does Tests p) h = moved p.objects p h.0 h.1
+    steps_move (Does Until p) h = moved p.objects p h.0 h.1
     steps_move (Does (Requests o x us g passes) p) h = moved p.objects p h.0 h.1
     steps_move (Does Starts p) h = starts p h.0 h.1.0 h.1.1
     steps_move (Does (Refuses k) p) h = refuses p h.0 h.1

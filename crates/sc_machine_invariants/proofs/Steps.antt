@@ -5,7 +5,7 @@ use Rattle.sc_formula.specs.declared.arithmetic.ArithmeticFault.TheVariants as f
 use Rattle.sc_formula.specs.declared.arithmetic.ArithmeticOperator.{ArithmeticOperator}
 use Rattle.sc_formula.specs.declared.comparison.Comparison.{Comparison}
 use Rattle.sc_formula.specs.declared.connective.Connective.{Connective}
-use Rattle.sc_formula.specs.Arithmetic.{Outcome, opposite_of, result_of}
+use Rattle.sc_formula.specs.Arithmetic.{ArithmeticResult, opposite_of, result_of}
 use Rattle.sc_tree.specs.declared.expression.UnaryOperator.{UnaryOperator}
 use Rattle.sc_tree.specs.declared.expression.UnaryOperator.TheVariants as unary
 use Rattle.sc_tree.specs.declared.expression.BinaryOperator.{BinaryOperator}
@@ -31,7 +31,7 @@ use Rattle.sc_model.specs.Routines.{place_in, version_of}
 use Rattle.sc_model.specs.Olds.{olds_in}
 use Rattle.sc_model.specs.Limits.{max_objects}
 use Rattle.sc_model.specs.Tasks.{Task, Do, In, Declare, Forget, Eval, ApplyUnary, EvalRight, ApplyBinary, Conclude, Bind, CallUnqualified, CallQualified, AssignTo, Print, Choose, Repeat, EndLoop, Checked, Require, Required, KeepOld, Ensured, CreateBy, Open, Leave, evals, head_evals, checks}
-use Rattle.sc_model.specs.Steps.{Point, Unqualified, Qualified, Creation, Act, Prints, Tests, Creates, CreatesHandler, Enters, Requests, Starts, Refuses, Opens, Leaves, Exits, Fails, Step, Goes, Does, fails, gives, reads_as, reads_attribute, popped, forgets}
+use Rattle.sc_model.specs.Steps.{Point, Unqualified, Qualified, Creation, Act, Prints, Until, Creates, CreatesHandler, Enters, Requests, Starts, Refuses, Opens, Leaves, Exits, Fails, Step, Goes, Does, fails, gives, reads_as, reads_attribute, popped, forgets}
 use Rattle.sc_model.specs.Calls.{given_by, passes_rights, enters_unqualified, calls_own, calls_unqualified, calls_kind, calls_version, requests, calls_object, calls_on, calls_qualified}
 use Rattle.sc_model.specs.Creations.{creates_object, creates_here, creates_at, creates_as, creates, assigned_at}
 use Rattle.sc_model.specs.ObjectTests.{is_tested, binds_if, binds}
@@ -72,7 +72,7 @@ module _ (s : System) (me : Reference) (C A : ℕ → List ℕ → Type 0) (E K 
   DoneSo Creates p = E × (((k : ℕ) × (n : ℕ) × HasMade O s k n p.objects × (meets_invariant s (fresh_object s k) ≡ true)) × Left p)
   DoneSo (CreatesHandler class procedure us t passes) p = E × (O p.objects × Left p)
   DoneSo (Prints text) p = O p.objects × Left p
-  DoneSo Tests p = O p.objects × Left p
+  DoneSo Until p = O p.objects × Left p
   DoneSo (Requests o x us g passes) p = O p.objects × Left p
   DoneSo Starts p = K × (O p.objects × (Left p ⊎ F p.tasks))
   DoneSo (Refuses k) p = K × O p.objects
@@ -119,7 +119,7 @@ module _ (s : System) (me : Reference) (C A : ℕ → List ℕ → Type 0) (E K 
   attribute_so None t p h l = tt
   attribute_so (Some b) t p h l = reads_as_so t b.value t p h l
 
-  outcome_so : (o : Outcome) (p : Point) → O p.objects → Left p → SteppedSo (gives_outcome o p)
+  outcome_so : (o : ArithmeticResult) (p : Point) → O p.objects → Left p → SteppedSo (gives_outcome o p)
   outcome_so (Ok z) p h l = (h, l)
   outcome_so (Err fault.Overflow) p h l = tt
   outcome_so (Err fault.DivideByZero) p h l = tt

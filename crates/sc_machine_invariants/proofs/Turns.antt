@@ -10,8 +10,8 @@ use Rattle.sc_rules.specs.Names.{RoutineName}
 use Rattle.sc_lockpass.specs.Rights.{is_among, is_handler, held}
 use Rattle.sc_lockpass.specs.Passing.{Passed}
 use Rattle.sc_waitcond.specs.Reservations.{ends_session, mark_of}
-use Rattle.sc_waitcond.specs.declared.condition.Verdict.{Verdict}
-use Rattle.sc_waitcond.specs.declared.condition.Verdict.TheVariants as verdict
+use Rattle.sc_waitcond.specs.declared.condition.EntryVerdict.{EntryVerdict}
+use Rattle.sc_waitcond.specs.declared.condition.EntryVerdict.TheVariants as verdict
 use Rattle.sc_waitcond.specs.declared.session.Release.{Release}
 use Rattle.sc_waitcond.specs.declared.session.Release.TheVariants as release_at
 use Rattle.sc_model.specs.declared.cause.Cause.{Cause}
@@ -23,7 +23,7 @@ use Rattle.sc_model.specs.Objects.{Object, object_numbered, fresh_object}
 use Rattle.sc_model.specs.Invariants.{meets_invariant}
 use Rattle.sc_model.specs.Routines.{Routine, routine_named}
 use Rattle.sc_model.specs.Tasks.{tasks_of}
-use Rattle.sc_model.specs.Steps.{Calling, Unqualified, Qualified, Creation, Act, Prints, Tests, Creates, CreatesHandler, Enters, Requests, Starts, Refuses, Opens, Leaves, Exits, Fails, Point}
+use Rattle.sc_model.specs.Steps.{Calling, Unqualified, Qualified, Creation, Act, Prints, Until, Creates, CreatesHandler, Enters, Requests, Starts, Refuses, Opens, Leaves, Exits, Fails, Point}
 use Rattle.sc_model.specs.Handlers.{Calls, Makes, Request, Answer, Reply, Refused, Origin, Called, Requested, Stage, Reserves, ReservesBlock, InCall, Awaits, Frame, Handler, World, new_handler, frame_at, put, with_stack}
 use Rattle.sc_model.specs.Sessions.{session_ended, release}
 use Rattle.sc_model.specs.Answers.{answered, answer_to, return_rights, finish}
@@ -452,7 +452,7 @@ module _ (s : System) (pure : RoutineName → Bool) (h : ℕ) (w : World) (here 
       abbrev again : Frame
       again = record (frame_at f p) { stage = Reserves; tasks = tasks_of f.routine; values = []; reserved = []; mark = mark_of (λ k. (next.handlers k).sessions) f.reserved }
 
-      clause_now : StandsAs s pure f.routine p.text.class (tasks_of f.routine) → (d : Verdict) → T (false_clause d s h (frame_at f p) below next)
+      clause_now : StandsAs s pure f.routine p.text.class (tasks_of f.routine) → (d : EntryVerdict) → T (false_clause d s h (frame_at f p) below next)
       clause_now z verdict.Wait =
           release_all s pure h release_at.FalseWaitCondition f.reserved (with_stack h (again ∷ below) next) (stack_now (again ∷ below) (waits_good z again refl refl refl z))
       clause_now z verdict.Refuse = by f.origin refl
@@ -479,7 +479,7 @@ module _ (s : System) (pure : RoutineName → Bool) (h : ℕ) (w : World) (here 
           ((k : Clause) → a ≡ Refuses k → StandsAs s pure f.routine p.text.class (tasks_of f.routine)) → T (effect most s h a (frame_at f p) below next)
       acts_now (Prints text) m c z = put_all s pure h (record (next.handlers h) { output = (next.handlers h).output ++ text }) next beside
           (subst (Good s pure) (sym own_is) (λ n. moved_good p.objects m))
-      acts_now Tests m c z = with_own_all (moved_good p.objects m)
+      acts_now Until m c z = with_own_all (moved_good p.objects m)
       acts_now Creates m c z = with_own_all (new_good_at m.0 m.1 m.2 m.3)
       acts_now Starts m c z = with_own_all (moved_good p.objects m)
       acts_now (CreatesHandler k procedure us t passing) m c z =

@@ -5,8 +5,8 @@ use Rattle.std.specs.Prelude.{Contains, if◌then◌else◌, length, nat_lt}
 use Rattle.std.specs.Option.{option_map}
 use Rattle.sc_tree.specs.Plain.{System}
 use Rattle.sc_rules.specs.Names.{RoutineName}
-use Rattle.sc_waitcond.specs.declared.condition.Verdict.{Verdict}
-use Rattle.sc_waitcond.specs.declared.condition.Verdict.TheVariants as verdict
+use Rattle.sc_waitcond.specs.declared.condition.EntryVerdict.{EntryVerdict}
+use Rattle.sc_waitcond.specs.declared.condition.EntryVerdict.TheVariants as verdict
 use Rattle.sc_waitcond.specs.declared.session.Release.TheVariants as release_at
 use Rattle.sc_model.specs.declared.cause.Cause.{Cause}
 use Rattle.sc_model.specs.declared.cause.Cause.TheVariants as cause
@@ -21,7 +21,7 @@ use Rattle.sc_model.specs.Objects.{Object, object_numbered}
 use Rattle.sc_model.specs.Preconditions.{correctness_fails, counted_refusal, false_clause, object_meets, refuses, verdict_on}
 use Rattle.sc_model.specs.Routines.{Routine, routine_named}
 use Rattle.sc_model.specs.Sessions.{release}
-use Rattle.sc_model.specs.Steps.{Calling, Act, Prints, Tests, Creates, CreatesHandler, Enters, Requests, Starts, Refuses, Opens, Leaves, Exits, Fails, Step, Goes, Does, Point}
+use Rattle.sc_model.specs.Steps.{Calling, Act, Prints, Until, Creates, CreatesHandler, Enters, Requests, Starts, Refuses, Opens, Leaves, Exits, Fails, Step, Goes, Does, Point}
 use Rattle.sc_model.specs.Turns.{effect, settles}
 use Rattle.sc_model.specs.Values.{Reference, Value, Operand, values_of}
 use Rattle.sc_refines_core.specs.Calm.{name_of}
@@ -245,7 +245,7 @@ module _ (s : System) (pure : RoutineName → Bool) (g h : ℕ) (apart : h ≢ g
       (lost (inr (finish_hears Refused _
       (alike_left _ _ (release_alike g h apart release_at.Refusal f.reserved (put g y v)) left))))
 
-  clause_comes : (d : Verdict) (f : Frame) (rest : List Frame) (v : World) → (d ≡ verdict.Wait → ⊥) → On v →
+  clause_comes : (d : EntryVerdict) (f : Frame) (rest : List Frame) (v : World) → (d ≡ verdict.Wait → ⊥) → On v →
       Runs' (f ∷ rest) → Comes (false_clause d s g f rest v)
   clause_comes verdict.Wait f rest v n z is = absurd (n refl)
   clause_comes verdict.Refuse f rest v n z is = refuses_comes f.origin f rest v z is refl
@@ -301,7 +301,7 @@ module _ (s : System) (pure : RoutineName → Bool) (g h : ℕ) (apart : h ≢ g
     act_comes : (most : ℕ) (a : Act) (p : Point) → PureActs s pure (objects_of w) t.current t.routine (bound_in t) a p →
         Comes (effect most s g a (frame_at t p) rest (moved p))
     act_comes most (Prints text) p z = absurd z
-    act_comes most Tests p z = on (moved_on p z.1)
+    act_comes most Until p z = on (moved_on p z.1)
     act_comes most Creates p z = absurd z
     act_comes most Starts p z = on (moved_on p z.1)
     act_comes most (CreatesHandler class procedure vs u passing) p z = absurd z

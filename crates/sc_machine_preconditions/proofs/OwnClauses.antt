@@ -11,15 +11,15 @@ use Rattle.sc_rules.specs.Purity.{IsPurity}
 use Rattle.sc_rules.specs.SystemRules.{WellFormed}
 use Rattle.sc_lockpass.specs.Rights.{is_among}
 use Rattle.sc_waitcond.specs.Reservations.{ends_session, mark_of, reserve_fails}
-use Rattle.sc_waitcond.specs.declared.condition.Verdict.{Verdict}
-use Rattle.sc_waitcond.specs.declared.condition.Verdict.TheVariants as verdict
+use Rattle.sc_waitcond.specs.declared.condition.EntryVerdict.{EntryVerdict}
+use Rattle.sc_waitcond.specs.declared.condition.EntryVerdict.TheVariants as verdict
 use Rattle.sc_waitcond.specs.declared.session.Release.TheVariants as release_at
 use Rattle.sc_model.specs.declared.cause.Cause.TheVariants as cause
 use Rattle.sc_model.specs.Values.{Reference, Value, Operand, operand}
 use Rattle.sc_model.specs.Environments.{Binding}
 use Rattle.sc_model.specs.Objects.{Object}
 use Rattle.sc_model.specs.Routines.{Routine}
-use Rattle.sc_model.specs.Steps.{Calling, Act, Prints, Tests, Creates, CreatesHandler, Enters, Requests, Starts, Refuses, Opens, Leaves, Exits, Fails, Step, Goes, Does, Point}
+use Rattle.sc_model.specs.Steps.{Calling, Act, Prints, Until, Creates, CreatesHandler, Enters, Requests, Starts, Refuses, Opens, Leaves, Exits, Fails, Step, Goes, Does, Point}
 use Rattle.sc_model.specs.Tasks.{tasks_of}
 use Rattle.sc_model.specs.Handlers.{Request, Answer, Reply, Origin, Called, Requested, Stage, Runs, Reserves, ReservesBlock, InCall, Awaits, Frame, Handler, World, point_of, frame_at, put, with_stack}
 use Rattle.sc_model.specs.Sessions.{standing_in, reserve, release}
@@ -226,7 +226,7 @@ module _ (without_tests : TextsAreWithoutTests) (clauses_moved : ClauseMoves) (a
         correctness (Requested r) =
             inr (refuses_good s pure h r (frame_at f p) below (moved_in w h f below p) (moved_plain p))
 
-        by : (d : Verdict) → Follow s pure h (false_clause d s h (frame_at f p) below (moved_in w h f below p))
+        by : (d : EntryVerdict) → Follow s pure h (false_clause d s h (frame_at f p) below (moved_in w h f below p))
         by verdict.Wait = begins_again p c
         by verdict.Refuse = correctness f.origin
         by verdict.Start = fails_follow s pure h cause.BadCode [] (moved_in w h f below p)
@@ -266,7 +266,7 @@ module _ (without_tests : TextsAreWithoutTests) (clauses_moved : ClauseMoves) (a
         ClauseActs s pure (MayAsk h i.asked) O f.current f.routine (bound_in f) a p →
         Follow s pure h (effect most s h a (frame_at f p) below (moved_in w h f below p))
     acts_on (Prints text) p e m = absurd m
-    acts_on Tests p e m = absurd m
+    acts_on Until p e m = absurd m
     acts_on Creates p e m = absurd m
     acts_on Starts p e m = inr (stays s pure h (moved_in w h f below p) (frame_at f p ∷ below)
         (ap (λ (y : Handler). y.stack)

@@ -21,7 +21,7 @@ use Rattle.sc_model.specs.Environments.{Binding, binding_named, formals_bound}
 use Rattle.sc_model.specs.Objects.{Object, object_numbered, fresh_object}
 use Rattle.sc_model.specs.Invariants.{meets_invariant}
 use Rattle.sc_model.specs.Routines.{Routine, version_of, routine_named, routine_of}
-use Rattle.sc_model.specs.Steps.{Act, Prints, Tests, Creates, CreatesHandler, Enters, Requests, Starts, Refuses, Opens, Leaves, Exits, Fails, Step, Goes, Does}
+use Rattle.sc_model.specs.Steps.{Act, Prints, Until, Creates, CreatesHandler, Enters, Requests, Starts, Refuses, Opens, Leaves, Exits, Fails, Step, Goes, Does}
 use Rattle.sc_model.specs.Moves.{moves}
 use Rattle.sc_model.specs.Handlers.{Errand, Calls, Makes, Request, Answer, Reply, Failed, Refused, Origin, Called, Requested, Stage, Runs, Reserves, ReservesBlock, InCall, Awaits, Frame, Handler, World, point_of, frame_at, put, with_stack}
 use Rattle.sc_model.specs.Sessions.{standing_in, reserve, release}
@@ -266,7 +266,7 @@ module _ (s : System) (pure : RoutineName → Bool) (h : ℕ) where
   acts_good most (Prints text) f below v here at never i p is =
       own_good (record (v.handlers h) { output = (v.handlers h).output ++ text }) v
       (subst (IsCalm s pure (v.handlers h).answer) (sym at) (plain ((inl i, p), is)))
-  acts_good most Tests f below v here at never i p is = stays v (f ∷ below) at ((inl i, p), is)
+  acts_good most Until f below v here at never i p is = stays v (f ∷ below) at ((inl i, p), is)
   acts_good most Creates f below v here at never i p is = stays v (f ∷ below) at ((inl i, p), is)
   acts_good most Starts f below v here at never i p is = stays v (f ∷ below) at ((inl i, p), is)
   acts_good most (CreatesHandler class procedure us t passing) f below v here at never i p is =
@@ -353,7 +353,7 @@ module _ (s : System) (pure : RoutineName → Bool) (h : ℕ) where
 
         started : (a : Act) → RefusesNone (Does a p) → HasStarted (frame_at f p).tasks
         started (Prints text) i = i
-        started Tests i = i
+        started Until i = i
         started Creates i = i
         started Starts i = i
         started (CreatesHandler class procedure us t passing) i = i

@@ -9,15 +9,15 @@ use Rattle.sc_proctype.specs.declared.entity_type.EntityType.{EntityType}
 use Rattle.sc_rules.specs.Names.{RoutineName}
 use Rattle.sc_rules.specs.Purity.{IsPurity}
 use Rattle.sc_rules.specs.SystemRules.{WellFormed}
-use Rattle.sc_waitcond.specs.declared.condition.Verdict.{Verdict}
-use Rattle.sc_waitcond.specs.declared.condition.Verdict.TheVariants as verdict
+use Rattle.sc_waitcond.specs.declared.condition.EntryVerdict.{EntryVerdict}
+use Rattle.sc_waitcond.specs.declared.condition.EntryVerdict.TheVariants as verdict
 use Rattle.sc_waitcond.specs.declared.session.Release.TheVariants as release_at
 use Rattle.sc_model.specs.declared.cause.Cause.TheVariants as cause
 use Rattle.sc_model.specs.Values.{Reference, Value, Operand, operand, values_of}
 use Rattle.sc_model.specs.Environments.{Binding, formals_bound}
 use Rattle.sc_model.specs.Objects.{Object, object_numbered}
 use Rattle.sc_model.specs.Routines.{Routine, routine_named}
-use Rattle.sc_model.specs.Steps.{Calling, Act, Prints, Tests, Creates, CreatesHandler, Enters, Requests, Starts, Refuses, Opens, Leaves, Exits, Fails, Step, Goes, Does, Point}
+use Rattle.sc_model.specs.Steps.{Calling, Act, Prints, Until, Creates, CreatesHandler, Enters, Requests, Starts, Refuses, Opens, Leaves, Exits, Fails, Step, Goes, Does, Point}
 use Rattle.sc_model.specs.Moves.{moves}
 use Rattle.sc_model.specs.Handlers.{Request, Reply, Origin, Called, Requested, Stage, Runs, InCall, Frame, Handler, World, point_of, frame_at, with_stack}
 use Rattle.sc_model.specs.Sessions.{release}
@@ -384,7 +384,7 @@ module _ (without_tests : TextsAreWithoutTests) (clauses_moved : ClauseMoves) (p
       correctness (Requested r) e =
           inr (refuses_good s pure h r (frame_at f p) below (moved_in w h f below p) (below_plain r e p))
 
-      by : (d : Verdict) → verdict_on (frame_at f p) k ≡ d →
+      by : (d : EntryVerdict) → verdict_on (frame_at f p) k ≡ d →
           Follow s pure h (false_clause d s h (frame_at f p) below (moved_in w h f below p))
       by verdict.Wait e = absurd (pure_waits_not (frame_at f p) k (z.reserves_nothing is) e)
       by verdict.Refuse e = correctness f.origin refl
@@ -392,10 +392,10 @@ module _ (without_tests : TextsAreWithoutTests) (clauses_moved : ClauseMoves) (p
 
   -- ---- its move
 
-  started : (a : Act) (p : Point) → (a ≡ Tests) ⊎ (a ≡ Starts) → Before s pure w h f (Does a p) → HasStarted p.tasks
+  started : (a : Act) (p : Point) → (a ≡ Until) ⊎ (a ≡ Starts) → Before s pure w h f (Does a p) → HasStarted p.tasks
   started a p e b = by e
     where
-      tested : Before s pure w h f (Does Tests p) → HasStarted p.tasks
+      tested : Before s pure w h f (Does Until p) → HasStarted p.tasks
       tested (inl i) = i
       tested (inr (asked, quiet, env, m)) = absurd m
 
@@ -403,7 +403,7 @@ module _ (without_tests : TextsAreWithoutTests) (clauses_moved : ClauseMoves) (p
       begun (inl i) = i
       begun (inr (asked, quiet, env, m)) = m.1
 
-      by : (a ≡ Tests) ⊎ (a ≡ Starts) → HasStarted p.tasks
+      by : (a ≡ Until) ⊎ (a ≡ Starts) → HasStarted p.tasks
       by (inl i) = tested (subst (λ (a : Act). Before s pure w h f (Does a p)) i b)
       by (inr i) = begun (subst (λ (a : Act). Before s pure w h f (Does a p)) i b)
 
@@ -411,7 +411,7 @@ module _ (without_tests : TextsAreWithoutTests) (clauses_moved : ClauseMoves) (p
       Before s pure w h f (Does a p) →
       Follow s pure h (effect most s h a (frame_at f p) below (moved_in w h f below p))
   acts_on (Prints text) p m b = absurd m
-  acts_on Tests p m b = runs_on p m.1 m.0 (started Tests p (inl refl) b)
+  acts_on Until p m b = runs_on p m.1 m.0 (started Until p (inl refl) b)
   acts_on Creates p m b = absurd m
   acts_on Starts p m b = runs_on p m.1 m.0 (started Starts p (inr refl) b)
   acts_on (CreatesHandler class procedure us t passing) p m b = absurd m

@@ -32,7 +32,7 @@ use Rattle.sc_model.specs.ObjectTests.{binds, binds_if, is_tested}
 use Rattle.sc_model.specs.Olds.{olds_in}
 use Rattle.sc_model.specs.Operators.{is_short}
 use Rattle.sc_model.specs.Routines.{Routine, place_in}
-use Rattle.sc_model.specs.Steps.{Prints, Tests, Creates, CreatesHandler, Enters, Requests, Starts, Refuses, Opens, Leaves, Exits, Fails, Point, Step, Goes, Does, fails, forgets, gives, popped, reads_as, reads_attribute}
+use Rattle.sc_model.specs.Steps.{Prints, Until, Creates, CreatesHandler, Enters, Requests, Starts, Refuses, Opens, Leaves, Exits, Fails, Point, Step, Goes, Does, fails, forgets, gives, popped, reads_as, reads_attribute}
 use Rattle.sc_model.specs.Tasks.{Task, Do, In, Declare, Forget, Eval, ApplyUnary, EvalRight, ApplyBinary, Conclude, Bind, CallUnqualified, CallQualified, AssignTo, Print, Choose, Repeat, EndLoop, Checked, Require, Required, KeepOld, Ensured, CreateBy, Open, Leave, checks, evals, head_evals}
 use Rattle.sc_model.specs.Values.{Reference, Value, Integer, Boolean, Void, Attached, Operand}
 use Rattle.sc_machine_values.specs.Points.{Each}
@@ -129,7 +129,7 @@ module _ (contract : StepOfContract) (s : System) (me : Reference) (bs : List Bi
   Firm (Goes q) = Has q.environment × Left q.tasks
   Firm (Does (Enters c o x us g) q) = Has q.environment × Left q.tasks
   Firm (Does (Requests o x us g passes) q) = Has q.environment × Left q.tasks
-  Firm (Does Tests q) = Has q.environment × Left q.tasks
+  Firm (Does Until q) = Has q.environment × Left q.tasks
   Firm (Does a q) = Unit {0}
 
   longer : (cs ds : List Binding) → Has cs → Has (cs ++ ds)
@@ -417,7 +417,7 @@ module _ (contract : StepOfContract) (s : System) (me : Reference) (bs : List Bi
       by (Does (Refuses k) q) y = tt
       by (Does (Fails why) q) y = tt
       by (Does (Prints text) q) y = tt
-      by (Does Tests q) y = absurd y
+      by (Does Until q) y = absurd y
       by (Does Creates q) y = tt
       by (Does (CreatesHandler k x us t passes) q) y = tt
       by (Does Opens q) y = tt
@@ -490,7 +490,7 @@ module _ (contract : StepOfContract) (s : System) (me : Reference) (bs : List Bi
         Has q.environment × Left q.tasks
     reaches_firm p _ z at_first = z
     reaches_firm p r z (goes {q} before e) = after_firm q (reaches_firm p q z before) (Goes r) e
-    reaches_firm p r z (tested {q} before e) = after_firm q (reaches_firm p q z before) (Does Tests r) e
+    reaches_firm p r z (tested {q} before e) = after_firm q (reaches_firm p q z before) (Does Until r) e
     reaches_firm p _ z (enters {o = a} {q} {r} {c} {x} {us} {t} {v} before e answers) =
         after_firm q (reaches_firm p q z before) (Does (Enters c a x us (Some t)) r) e
     reaches_firm p _ z (requests {o = a} {q} {r} {x} {us} {t} {passing} {v} before e answers) =

@@ -17,7 +17,7 @@ use Rattle.sc_model.specs.Moves.{first_visible, moves, performs, step, step_at, 
 use Rattle.sc_model.specs.Objects.{Object}
 use Rattle.sc_model.specs.Routines.{Routine, Text, routine_named}
 use Rattle.sc_model.specs.Sizes.{size}
-use Rattle.sc_model.specs.Steps.{Act, Prints, Tests, Creates, CreatesHandler, Enters, Requests, Starts, Refuses, Opens, Leaves, Exits, Fails, Point, Step, Goes, Does}
+use Rattle.sc_model.specs.Steps.{Act, Prints, Until, Creates, CreatesHandler, Enters, Requests, Starts, Refuses, Opens, Leaves, Exits, Fails, Point, Step, Goes, Does}
 use Rattle.sc_model.specs.Tasks.{Task, Required}
 use Rattle.sc_model.specs.Values.{Reference, Value, Integer, Boolean, Void, Attached, Operand, operand}
 use Rattle.sc_machine_rights.proofs.Machine.{contains_first}
@@ -240,7 +240,7 @@ module _ (extends : StepExtends) (leaves : StepKeepsNoOld) (contract : StepOfCon
   within_so done ks k e holds p none (Does (Refuses c) q) y z f = absurd y
   within_so done ks k e holds p none (Does (Fails why) q) y z f = tt
   within_so done ks k e holds p none (Does (Prints text) q) y z f = absurd z
-  within_so done ks k e holds p none (Does Tests q) y z f = absurd z
+  within_so done ks k e holds p none (Does Until q) y z f = absurd z
   within_so done ks k e holds p none (Does Creates q) y z f = absurd z
   within_so done ks k e holds p none (Does (CreatesHandler c x us t passes) q) y z f = absurd z
   within_so done ks k e holds p none (Does Opens q) y z f = absurd z

@@ -15,7 +15,7 @@ use Rattle.sc_model.specs.Moves.{first_visible, moves, step, step_at, then_go}
 use Rattle.sc_model.specs.Objects.{Object}
 use Rattle.sc_model.specs.Routines.{Routine, routine_named}
 use Rattle.sc_model.specs.Sizes.{size}
-use Rattle.sc_model.specs.Steps.{Act, Unqualified, Qualified, Creation, Prints, Tests, Creates, CreatesHandler, Enters, Requests, Starts, Refuses, Opens, Leaves, Exits, Fails, Point, Step, Goes, Does}
+use Rattle.sc_model.specs.Steps.{Act, Unqualified, Qualified, Creation, Prints, Until, Creates, CreatesHandler, Enters, Requests, Starts, Refuses, Opens, Leaves, Exits, Fails, Point, Step, Goes, Does}
 use Rattle.sc_model.specs.Tasks.{Task, Declare, Do}
 use Rattle.sc_model.specs.Values.{Reference, Operand}
 use Rattle.sc_machine_values.specs.Points.{Each, IsAmong}
@@ -62,7 +62,7 @@ module _ (s : System) (pure : RoutineName → Bool) (me : Reference) (os : List 
   keeps_so (Does Creates q) h = tt
   keeps_so (Does (CreatesHandler k x us t passes) q) h = absurd h.0
   keeps_so (Does (Prints text) q) h = h.0
-  keeps_so (Does Tests q) h = h.0
+  keeps_so (Does Until q) h = h.0
   keeps_so (Does (Requests o x us g passes) q) h = h.0
   keeps_so (Does Starts q) h = h.1.0
   keeps_so (Does (Refuses k) q) h = h.1
@@ -116,7 +116,7 @@ module _ (extends : StepExtends) (leaves : StepKeepsNoOld) (contract : StepOfCon
   So (Goes q) = Here q
   So (Does (Enters c o x us g) q) =
       ((t : EntityType) → g ≡ Some t → PureCalls s O me r bs t (IsThisCall o x us) q) × IsBound q
-  So (Does Tests q) = Here q
+  So (Does Until q) = Here q
   So (Does Starts q) = Here q
   So (Does Exits q) = HasRun s O me r bs q × IsBound q
   So (Does (Refuses k) q) = IsBound q
@@ -172,7 +172,7 @@ module _ (extends : StepExtends) (leaves : StepKeepsNoOld) (contract : StepOfCon
       by (Does (Refuses k) q) y = same_bound q (y.environment_is ∙ i)
       by (Does (Fails why) q) y = tt
       by (Does (Prints text) q) y = tt
-      by (Does Tests q) y = absurd y
+      by (Does Until q) y = absurd y
       by (Does Creates q) y = tt
       by (Does (CreatesHandler k x us t passes) q) y = tt
       by (Does Opens q) y = tt
@@ -211,7 +211,7 @@ module _ (extends : StepExtends) (leaves : StepKeepsNoOld) (contract : StepOfCon
       Stepped extends leaves s (Own me.handler) O me (start_of s O me r bs) (behind_body r) os x →
       StepFits s pure r me x → So x
   within_so p os (Goes q) y f = during y.0
-  within_so p os (Does Tests q) y f = during y.0
+  within_so p os (Does Until q) y f = during y.0
   within_so p os (Does (Enters c o x us g) q) y f = by f.0 y.0
     where
       by : o.handler ≡ me.handler →
@@ -270,7 +270,7 @@ module _ (extends : StepExtends) (leaves : StepKeepsNoOld) (contract : StepOfCon
       by (Does (Refuses k) q) y = stays_bound q y
       by (Does (Fails why) q) y = tt
       by (Does (Prints text) q) y = tt
-      by (Does Tests q) y = absurd y
+      by (Does Until q) y = absurd y
       by (Does Creates q) y = tt
       by (Does (CreatesHandler k x us t passes) q) y = tt
       by (Does Opens q) y = tt
@@ -340,7 +340,7 @@ module _ (extends : StepExtends) (leaves : StepKeepsNoOld) (contract : StepOfCon
     where
       by : (t : EntityType) × (g ≡ Some t) → PureSteps s pure O me r bs (Does (Enters c o x us g) q)
       by (t, i) = (t, i, f.0, calm, y.0 t i, record { objects_are = k; bound_are = y.1 })
-  steps_so (Does Tests q) y f calm k = (there q y, record { objects_are = k; bound_are = here_bound q y })
+  steps_so (Does Until q) y f calm k = (there q y, record { objects_are = k; bound_are = here_bound q y })
   steps_so (Does Starts q) y f calm k = (there q y, record { objects_are = k; bound_are = here_bound q y })
   steps_so (Does Exits q) y f calm k = (
     y.0,

@@ -4,7 +4,7 @@ use Rattle.std.proofs.lemmas.List.{append-nil}
 use Rattle.sc_tree.specs.Plain.{System}
 use Rattle.sc_model.specs.Moves.{step, step_at}
 use Rattle.sc_model.specs.Objects.{Object}
-use Rattle.sc_model.specs.Steps.{Act, Prints, Tests, Creates, CreatesHandler, Enters, Requests, Starts, Refuses, Opens, Leaves, Exits, Fails, Point, Step, Goes, Does}
+use Rattle.sc_model.specs.Steps.{Act, Prints, Until, Creates, CreatesHandler, Enters, Requests, Starts, Refuses, Opens, Leaves, Exits, Fails, Point, Step, Goes, Does}
 use Rattle.sc_model.specs.Tasks.{Task}
 use Rattle.sc_model.specs.Values.{Reference, Operand}
 use Rattle.sc_machine_values.specs.Points.{Each}
@@ -21,7 +21,7 @@ module _ (extends : StepExtends) (leaves : StepKeepsNoOld) (s : System) (M : ℕ
   -- The step goes on in the text, or has done what is seen; the `old`s are these.
   abbrev pub Stepped : List Operand → Step → Type 0
   Stepped os (Goes q) = IsAt s M O me start ts q × (q.olds ≡ os)
-  Stepped os (Does Tests q) = IsAt s M O me start ts q × (q.olds ≡ os)
+  Stepped os (Does Until q) = IsAt s M O me start ts q × (q.olds ≡ os)
   Stepped os (Does Starts q) = ⊥
   Stepped os (Does (Refuses k) q) = ⊥
   Stepped os (Does Exits q) = ⊥
@@ -36,7 +36,7 @@ module _ (extends : StepExtends) (leaves : StepKeepsNoOld) (s : System) (M : ℕ
       step s me before ≡ x → IsWithin x → Each TaskHasNoOld (point_after x).tasks →
       Stepped os (extended_step os ts x)
   extended_so os before r (Goes q) e w o = (record { at = q; reaches = goes r e; stands = refl; without_old = o }, refl)
-  extended_so os before r (Does Tests q) e w o =
+  extended_so os before r (Does Until q) e w o =
       (record { at = q; reaches = tests r e; stands = refl; without_old = o }, refl)
   extended_so os before r (Does (Fails why) q) e w o = tt
   extended_so os before r (Does Starts q) e w o = w
@@ -95,7 +95,7 @@ module _ (contract : StepOfContract) (s : System) (M : ℕ → Type 0) (O : ℕ 
   unchanged p r o (goes {q} before e) =
       let u = unchanged p q o before in further p q r u (steps_on q u.of_contract (Goes r) e (λ n. cc))
   unchanged p r o (tests {q} before e) =
-      let u = unchanged p q o before in absurd (steps_on q u.of_contract (Does Tests r) e (λ n. cc))
+      let u = unchanged p q o before in absurd (steps_on q u.of_contract (Does Until r) e (λ n. cc))
   unchanged p _ o (enters {o = a} {q} {r} {c} {x} {us} {t} {v} before e answers) =
       let u = unchanged p q o before in
       let y = further p q r u (steps_on q u.of_contract (Does (Enters c a x us (Some t)) r) e (λ n. cc)) in

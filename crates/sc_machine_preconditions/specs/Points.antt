@@ -16,7 +16,7 @@ use Rattle.sc_model.specs.Objects.{Object, object_numbered}
 use Rattle.sc_model.specs.Olds.{olds_of_clauses}
 use Rattle.sc_model.specs.Routines.{Routine, routine_named}
 use Rattle.sc_model.specs.Runs.{IsReached}
-use Rattle.sc_model.specs.Steps.{Calling, Point, Act, Tests, Enters, Requests, Starts, Refuses, Exits, Fails, Step, Goes, Does}
+use Rattle.sc_model.specs.Steps.{Calling, Point, Act, Until, Enters, Requests, Starts, Refuses, Exits, Fails, Step, Goes, Does}
 use Rattle.sc_model.specs.Tasks.{keeps_olds}
 use Rattle.sc_model.specs.Values.{Reference, Value, Operand, operand, values_of}
 use Rattle.sc_refines_core.specs.Calm.{name_of}
@@ -124,7 +124,7 @@ module _ (s : System) (pure : RoutineName → Bool) (O : ℕ → List Object) (m
   abbrev pub PureActs : Act → Point → Type 0
   PureActs (Enters c o x us g) q = (t : EntityType) × (g ≡ Some t) × (o.handler ≡ me.handler) × RunsPure s pure o x
       × PureCalls s O me r bs t (IsThisCall o x us) q × KeepsActuals O me r bs q
-  PureActs Tests q = PureAt s O me r bs q × KeepsActuals O me r bs q
+  PureActs Until q = PureAt s O me r bs q × KeepsActuals O me r bs q
   PureActs Starts q = PureAt s O me r bs q × KeepsActuals O me r bs q
   PureActs Exits q = HasRun s O me r bs q × ((u : Operand) × (q.result ≡ Some u)) × KeepsActuals O me r bs q
   PureActs (Refuses k) q = KeepsActuals O me r bs q

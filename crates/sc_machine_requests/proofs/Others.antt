@@ -12,8 +12,8 @@ use Rattle.sc_rules.specs.Types.{declared_type}
 use Rattle.sc_lockpass.specs.Rights.{Rights, is_handler, is_among}
 use Rattle.sc_lockpass.specs.Passing.{Passed}
 use Rattle.sc_waitcond.specs.Reservations.{ends_session, reserve_fails}
-use Rattle.sc_waitcond.specs.declared.condition.Verdict.{Verdict}
-use Rattle.sc_waitcond.specs.declared.condition.Verdict.TheVariants as verdict
+use Rattle.sc_waitcond.specs.declared.condition.EntryVerdict.{EntryVerdict}
+use Rattle.sc_waitcond.specs.declared.condition.EntryVerdict.TheVariants as verdict
 use Rattle.sc_waitcond.specs.declared.session.Release.{Release}
 use Rattle.sc_waitcond.specs.declared.session.Release.TheVariants as release_at
 use Rattle.sc_model.specs.declared.cause.Cause.{Cause}
@@ -327,7 +327,7 @@ module _ (g k : ℕ) (ne : k ≢ g) (Why : Request → Answer → Type 0) where
   correctness_comes s (Called c) f below w why = fail_comes cause.Precondition w
   correctness_comes s (Requested r) f below w why = refuses_comes s r f below w (why r refl)
 
-  pub clause_comes : (v : Verdict) (s : System) (f : Frame) (below : List Frame) (w : World) →
+  pub clause_comes : (v : EntryVerdict) (s : System) (f : Frame) (below : List Frame) (w : World) →
       ((r : Request) → f.origin ≡ Requested r → Why r Refused)
       → Comes w (false_clause v s g f below w)
   clause_comes verdict.Wait s f below w why = waits_again_comes f below w

@@ -16,8 +16,8 @@ use Rattle.sc_lockpass.specs.Passing.{Passed, moved, pass, returned, give_back}
 use Rattle.sc_waitcond.specs.Reservations as reservations
 use Rattle.sc_waitcond.specs.Reservations.{Standing, may_be_reserved, mark_allows, reserve_fails}
 use Rattle.sc_waitcond.specs.declared.mark.Marked.{Marked}
-use Rattle.sc_waitcond.specs.declared.condition.Verdict.{Verdict}
-use Rattle.sc_waitcond.specs.declared.condition.Verdict.TheVariants as verdict
+use Rattle.sc_waitcond.specs.declared.condition.EntryVerdict.{EntryVerdict}
+use Rattle.sc_waitcond.specs.declared.condition.EntryVerdict.TheVariants as verdict
 use Rattle.sc_model.specs.declared.cause.Cause.{Cause}
 use Rattle.sc_model.specs.Values.{Reference, Value, Operand, values_of}
 use Rattle.sc_model.specs.Environments.{Binding, binding_named, formals_bound}
@@ -25,7 +25,7 @@ use Rattle.sc_model.specs.Objects.{Object, object_numbered, fresh_object}
 use Rattle.sc_model.specs.Invariants.{meets_invariant}
 use Rattle.sc_model.specs.Routines.{Routine, routine_named, routine_of, version_of}
 use Rattle.sc_model.specs.Limits.{max_frames, max_queue}
-use Rattle.sc_model.specs.Steps.{Act, Prints, Tests, Creates, CreatesHandler, Enters, Requests, Starts, Refuses, Opens, Leaves, Exits, Fails, Step, Goes, Does}
+use Rattle.sc_model.specs.Steps.{Act, Prints, Until, Creates, CreatesHandler, Enters, Requests, Starts, Refuses, Opens, Leaves, Exits, Fails, Step, Goes, Does}
 use Rattle.sc_model.specs.Moves.{moves}
 use Rattle.sc_model.specs.Handlers.{Errand, Calls, Makes, Request, Answer, Reply, Failed, Refused, Origin, Called, Requested, Stage, Runs, Reserves, ReservesBlock, InCall, Awaits, Frame, World, point_of, frame_at, put}
 use Rattle.sc_model.specs.Sessions.{standing_in}
@@ -299,7 +299,7 @@ module _ (g : ℕ) where
   correctness_kept s (Called c) f below w e own = kept_lost g w.rights
   correctness_kept s (Requested q) f below w e own = refuses_kept s q f below w e own
 
-  clause_kept : (v : Verdict) (s : System) (f : Frame) (below : List Frame) (w : World) → Own w.rights f →
+  clause_kept : (v : EntryVerdict) (s : System) (f : Frame) (below : List Frame) (w : World) → Own w.rights f →
       Kept g w.rights (false_clause v s g f below w).rights
   clause_kept verdict.Wait s f below w own = kept_released g f.reserved w.rights (first_mine w.rights f own)
   clause_kept verdict.Refuse s f below w own = correctness_kept s f.origin f below w refl own
@@ -395,7 +395,7 @@ module _ (g : ℕ) where
       w.rights.queue w.count ≡ None
       → w.rights.top w.count ≡ None → Kept g w.rights (effect most s g a f below w).rights
   effect_kept most s (Prints text) f below w own queue top = kept_same g w.rights
-  effect_kept most s Tests f below w own queue top = kept_same g w.rights
+  effect_kept most s Until f below w own queue top = kept_same g w.rights
   effect_kept most s Creates f below w own queue top = kept_same g w.rights
   effect_kept most s Starts f below w own queue top = kept_same g w.rights
   effect_kept most s (CreatesHandler class procedure us t passing) f below w own queue top =

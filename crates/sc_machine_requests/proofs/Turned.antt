@@ -13,7 +13,7 @@ use Rattle.sc_model.specs.Values.{Reference, Value, Operand, values_of}
 use Rattle.sc_model.specs.Objects.{object_numbered}
 use Rattle.sc_model.specs.Routines.{routine_named}
 use Rattle.sc_model.specs.Limits.{max_queue}
-use Rattle.sc_model.specs.Steps.{Point, Act, Prints, Tests, Creates, CreatesHandler, Enters, Requests, Starts, Refuses, Opens, Leaves, Exits, Fails, Step, Goes, Does}
+use Rattle.sc_model.specs.Steps.{Point, Act, Prints, Until, Creates, CreatesHandler, Enters, Requests, Starts, Refuses, Opens, Leaves, Exits, Fails, Step, Goes, Does}
 use Rattle.sc_model.specs.Moves.{moves}
 use Rattle.sc_model.specs.Handlers.{Calls, Makes, Request, Answer, Reply, Refused, Called, Requested, Stage, Runs, Reserves, ReservesBlock, InCall, Awaits, Frame, Handler, World, new_handler, point_of, frame_at, put, with_stack}
 use Rattle.sc_model.specs.Entries.{entry_needs, block_needs, may_reserve}
@@ -299,7 +299,7 @@ module _ (most : ℕ) (s : System) (w : World) (g k : ℕ) (within : k ≢ w.cou
   effect_turned Q (Prints text) f below u count fits exit refuse = comes_turned g k ne (Because s w g) Q
       (same_comes g k ne (Because s w g)
       (put_same g k ne (record (u.handlers g) { output = (u.handlers g).output ++ text }) u refl))
-  effect_turned Q Tests f below u count fits exit refuse = comes_turned g k ne (Because s w g) Q
+  effect_turned Q Until f below u count fits exit refuse = comes_turned g k ne (Because s w g) Q
       (same_comes g k ne (Because s w g) (still g k ne u))
   effect_turned Q Creates f below u count fits exit refuse = comes_turned g k ne (Because s w g) Q
       (same_comes g k ne (Because s w g) (still g k ne u))
@@ -330,7 +330,7 @@ module _ (most : ℕ) (s : System) (w : World) (g k : ℕ) (within : k ≢ w.cou
   act_fits f p Exits fits = fits.0
   act_fits f p Leaves fits = fits.0
   act_fits f p (Prints text) fits = fits.0
-  act_fits f p Tests fits = fits.0
+  act_fits f p Until fits = fits.0
   act_fits f p Creates fits = fits.0
   act_fits f p (CreatesHandler class procedure us t passing) fits = fits.0
   act_fits f p (Enters c me x us t) fits = fits.0

@@ -10,7 +10,7 @@ use Rattle.sc_model.specs.declared.cause.Cause.{Cause}
 use Rattle.sc_model.specs.declared.cause.Cause.TheVariants as cause
 use Rattle.sc_model.specs.Values.{Reference, Attached, Operand, operand, values_of}
 use Rattle.sc_model.specs.Routines.{routine_named}
-use Rattle.sc_model.specs.Steps.{Act, Prints, Tests, Creates, CreatesHandler, Enters, Requests, Starts, Refuses, Opens, Leaves, Exits, Fails, Step, Goes, Does}
+use Rattle.sc_model.specs.Steps.{Act, Prints, Until, Creates, CreatesHandler, Enters, Requests, Starts, Refuses, Opens, Leaves, Exits, Fails, Step, Goes, Does}
 use Rattle.sc_model.specs.Moves.{moves}
 use Rattle.sc_model.specs.Handlers.{Makes, Request, Answer, Called, Stage, Runs, Reserves, ReservesBlock, InCall, Awaits, Frame, Handler, World, new_handler, point_of, frame_at, put, with_stack}
 use Rattle.sc_model.specs.Failures.{fail}
@@ -92,7 +92,7 @@ module _ (g k : ℕ) (ne : k ≢ g) where
         ((effect most s g a f below w).handlers k).stack ≡ []
     effect_idle (Prints text) f below w e =
         put_idle (record (w.handlers g) { output = (w.handlers g).output ++ text }) w e
-    effect_idle Tests f below w e = e
+    effect_idle Until f below w e = e
     effect_idle Creates f below w e = e
     effect_idle Starts f below w e = e
     effect_idle (CreatesHandler class procedure us t passing) f below w e =

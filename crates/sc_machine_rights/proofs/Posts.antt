@@ -13,8 +13,8 @@ use Rattle.sc_lockpass.specs.Rights.{held}
 use Rattle.sc_lockpass.specs.Passing.{Passed}
 use Rattle.sc_waitcond.specs.declared.session.Release.{Release}
 use Rattle.sc_waitcond.specs.Reservations.{reserve_fails}
-use Rattle.sc_waitcond.specs.declared.condition.Verdict.{Verdict}
-use Rattle.sc_waitcond.specs.declared.condition.Verdict.TheVariants as verdict
+use Rattle.sc_waitcond.specs.declared.condition.EntryVerdict.{EntryVerdict}
+use Rattle.sc_waitcond.specs.declared.condition.EntryVerdict.TheVariants as verdict
 use Rattle.sc_waitcond.specs.declared.session.Release.TheVariants as release_at
 use Rattle.sc_model.specs.declared.cause.Cause.{Cause}
 use Rattle.sc_model.specs.declared.cause.Cause.TheVariants as cause
@@ -24,7 +24,7 @@ use Rattle.sc_model.specs.Objects.{Object, object_numbered, fresh_object}
 use Rattle.sc_model.specs.Invariants.{meets_invariant}
 use Rattle.sc_model.specs.Routines.{Routine, version_of, routine_named, routine_of}
 use Rattle.sc_model.specs.Limits.{max_frames, max_queue}
-use Rattle.sc_model.specs.Steps.{Act, Prints, Tests, Creates, CreatesHandler, Enters, Requests, Starts, Refuses, Opens, Leaves, Exits, Fails, Step, Goes, Does}
+use Rattle.sc_model.specs.Steps.{Act, Prints, Until, Creates, CreatesHandler, Enters, Requests, Starts, Refuses, Opens, Leaves, Exits, Fails, Step, Goes, Does}
 use Rattle.sc_model.specs.Moves.{moves}
 use Rattle.sc_model.specs.Handlers.{Errand, Calls, Makes, Request, Answer, Reply, Failed, Refused, Origin, Called, Requested, Stage, Runs, Reserves, ReservesBlock, InCall, Awaits, Frame, Handler, World, new_handler, put, with_stack, point_of, frame_at}
 use Rattle.sc_model.specs.Sessions.{standing_in}
@@ -342,7 +342,7 @@ below_stacks : (N : ℕ → Request → Type 0) (h : ℕ) (w : World) (f : Frame
     (f ∷ below) → Stacks N h w below
 below_stacks N h w f below ok r i = ok r (has_right r (request_of f.origin) (begun_in below) i)
 
-clause_brings : (N : ℕ → Request → Type 0) (v : Verdict) (s : System) (h : ℕ) (f : Frame) (below : List Frame)
+clause_brings : (N : ℕ → Request → Type 0) (v : EntryVerdict) (s : System) (h : ℕ) (f : Frame) (below : List Frame)
     (w : World) → Stacks N h w (f ∷ below) → Brings N w (false_clause v s h f below w)
 clause_brings N verdict.Wait s h f below w ok = waits_again_brings N h f below w ok
 clause_brings N verdict.Refuse s h f below w ok = by f.origin
@@ -514,7 +514,7 @@ effect_brings : (N : ℕ → Request → Type 0) (most : ℕ) (s : System) (h : 
     → ((k : ℕ) (q : Request) → New h w k q → N k q) → Brings N w (effect most s h a f below w)
 effect_brings N most s h (Prints text) f below w l ok new = put_brings N h
     (record (w.handlers h) { output = (w.handlers h).output ++ text }) w (λ q i. inl i)
-effect_brings N most s h Tests f below w l ok new = stays N w
+effect_brings N most s h Until f below w l ok new = stays N w
 effect_brings N most s h Creates f below w l ok new = stays N w
 effect_brings N most s h Starts f below w l ok new = stays N w
 effect_brings N most s h (CreatesHandler class procedure us t passing) f below w l ok new =

@@ -12,8 +12,8 @@ use Rattle.sc_lockpass.specs.Rights.{held}
 use Rattle.sc_lockpass.specs.Passing.{Passed}
 use Rattle.sc_waitcond.specs.declared.session.Release.{Release}
 use Rattle.sc_waitcond.specs.Reservations.{reserve_fails}
-use Rattle.sc_waitcond.specs.declared.condition.Verdict.{Verdict}
-use Rattle.sc_waitcond.specs.declared.condition.Verdict.TheVariants as verdict
+use Rattle.sc_waitcond.specs.declared.condition.EntryVerdict.{EntryVerdict}
+use Rattle.sc_waitcond.specs.declared.condition.EntryVerdict.TheVariants as verdict
 use Rattle.sc_waitcond.specs.declared.session.Release.TheVariants as release_at
 use Rattle.sc_model.specs.declared.cause.Cause.{Cause}
 use Rattle.sc_model.specs.declared.cause.Cause.TheVariants as cause
@@ -23,7 +23,7 @@ use Rattle.sc_model.specs.Objects.{Object, object_numbered, fresh_object}
 use Rattle.sc_model.specs.Invariants.{meets_invariant}
 use Rattle.sc_model.specs.Routines.{Routine, version_of, routine_named, routine_of}
 use Rattle.sc_model.specs.Limits.{max_frames, max_queue}
-use Rattle.sc_model.specs.Steps.{Act, Prints, Tests, Creates, CreatesHandler, Enters, Requests, Starts, Refuses, Opens, Leaves, Exits, Fails, Step, Goes, Does}
+use Rattle.sc_model.specs.Steps.{Act, Prints, Until, Creates, CreatesHandler, Enters, Requests, Starts, Refuses, Opens, Leaves, Exits, Fails, Step, Goes, Does}
 use Rattle.sc_model.specs.Moves.{moves}
 use Rattle.sc_model.specs.Handlers.{Errand, Calls, Makes, Request, Answer, Reply, Failed, Refused, Origin, Called, Requested, Stage, Runs, Reserves, ReservesBlock, InCall, Awaits, Frame, Handler, World, new_handler, put, with_stack, point_of, frame_at}
 use Rattle.sc_model.specs.Sessions.{standing_in}
@@ -187,7 +187,7 @@ correctness_keeps : (s : System) (h : ℕ) (o : Origin) (f : Frame) (below : Lis
 correctness_keeps s h (Called c) f below w = fail_keeps h cause.Precondition w
 correctness_keeps s h (Requested r) f below w = refuses_keeps s h r f below w
 
-clause_keeps : (v : Verdict) (s : System) (h : ℕ) (f : Frame) (below : List Frame) (w : World) → Keeps h w
+clause_keeps : (v : EntryVerdict) (s : System) (h : ℕ) (f : Frame) (below : List Frame) (w : World) → Keeps h w
     (false_clause v s h f below w)
 clause_keeps verdict.Wait s h f below w = waits_again_keeps h f below w
 clause_keeps verdict.Refuse s h f below w = correctness_keeps s h f.origin f below w
@@ -426,7 +426,7 @@ effect_moves : (most : ℕ) (s : System) (h : ℕ) (a : Act) (f : Frame) (below 
 effect_moves most s h (Prints text) f below w = keeps_moves
     (put_own h (record (w.handlers h) { output = (w.handlers h).output ++ text }) w
     (same_queue (w.handlers h) _ refl refl))
-effect_moves most s h Tests f below w = keeps_moves (stays h w)
+effect_moves most s h Until f below w = keeps_moves (stays h w)
 effect_moves most s h Creates f below w = keeps_moves (stays h w)
 effect_moves most s h Starts f below w = keeps_moves (stays h w)
 effect_moves most s h (CreatesHandler class procedure us t passing) f below w =

@@ -12,7 +12,7 @@ use Rattle.sc_rules.specs.Names.{RoutineName}
 use Rattle.sc_rules.specs.Positions.{is_condition, operand_position}
 use Rattle.sc_rules.specs.Types.{binary_type, gives_if, is_boolean, is_integer}
 use Rattle.sc_rules.specs.declared.position.Context.{Context}
-use Rattle.sc_formula.specs.Arithmetic.{Outcome, opposite_of}
+use Rattle.sc_formula.specs.Arithmetic.{ArithmeticResult, opposite_of}
 use Rattle.sc_formula.specs.declared.arithmetic.ArithmeticFault.TheVariants as fault
 use Rattle.sc_model.specs.Environments.{handler_named, scope_of}
 use Rattle.sc_model.specs.Expressions.{applies, apply_unary, concludes, decided_by, evals_right, gives_outcome}
@@ -112,7 +112,7 @@ first_of_types a ts (u ∷ us) e = (u, us, refl, head_is, tail_is)
     tail_is = cc
 
 module _ (s : System) (pure : RoutineName → Bool) (r : Routine) (me : Reference) (p : Point) (b : BaseOf s r me p) (fs : AllFit s me p p.values) where
-  outcome : {u : EntityType} → integer ≡ u → TasksTyped s pure r p p.tasks (u ∷ types_of p.values) → (o : Outcome) → StepFits s pure r me (gives_outcome o p)
+  outcome : {u : EntityType} → integer ≡ u → TasksTyped s pure r p p.tasks (u ∷ types_of p.values) → (o : ArithmeticResult) → StepFits s pure r me (gives_outcome o p)
   outcome {u} e k (Ok z) = found s pure r me p b (Integer z) integer u e k refl fs
   outcome e k (Err fault.Overflow) = (refl, b.store)
   outcome e k (Err fault.DivideByZero) = (refl, b.store)

@@ -110,7 +110,7 @@ module _ (s : System) (root : Root) (pure : RoutineName → Bool) (faultless : I
         moves s f.current (point_of f (w.handlers h).objects) ≡ x → IsMatched s (asked_in h w.count below x)
     act_matched f below is e (Goes p) i = tt
     act_matched f below is e (Does (act.Prints text) p) i = tt
-    act_matched f below is e (Does act.Tests p) i = tt
+    act_matched f below is e (Does act.Until p) i = tt
     act_matched f below is e (Does act.Creates p) i = tt
     act_matched f below is e (Does act.Starts p) i = tt
     act_matched f below is e (Does act.Opens p) i = tt

@@ -89,7 +89,7 @@ entries_keep_it s root pure faultless well tells most w fits h l f below is runs
         (led s pure w h f below fits l is (act.Enters c o x us gives) p m).1
         (subst (λ k. EntryFits s k (handler_named p.environment) o x us gives) own call)
     by (act.Prints text) m such g = cc
-    by act.Tests m such g = cc
+    by act.Until m such g = cc
     by act.Creates m such g = cc
     by act.Starts m such g = cc
     by act.Opens m such g = cc

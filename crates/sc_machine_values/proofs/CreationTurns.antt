@@ -277,7 +277,7 @@ creations_keep_it s root pure faultless well tells most w fits h l f below is ru
         (subst (λ j. CreationFits s j (handler_named p.environment) k x us) own creation) (led s pure w h f below fits l is (act.CreatesHandler k x us t passing) p m).1
         (λ j. subst (λ i. Fits s i (handler_named p.environment) (Attached (record { handler = j; number = 1; class = k })) t) own (seen j)) passing most
     by (act.Prints text) m such g = cc
-    by act.Tests m such g = cc
+    by act.Until m such g = cc
     by act.Creates m such g = cc
     by act.Starts m such g = cc
     by act.Opens m such g = cc

@@ -228,7 +228,7 @@ module _ (s : System) (root : Root) (pure : RoutineName → Bool) (faultless : I
             AllSpared (effect most s h a (frame_at f p) below (moved p))
         act_spared (act.Prints text) p m g = put_spared h (record ((moved p).handlers h) { output = ((moved p).handlers h).output ++ text }) (moved p)
             (record { spared = ((after p).each h).spared; goes = ((after p).each h).goes }) (after p)
-        act_spared act.Tests p m g = after p
+        act_spared act.Until p m g = after p
         act_spared act.Creates p m g = after p
         act_spared act.Starts p m g = after p
         act_spared act.Opens p m g = stack_spared h (record (frame_at f p) { stage = ReservesBlock } ∷ below) (moved p) refl (after p)

@@ -25,7 +25,7 @@ module _ (P : Value → Type 0) (me : Reference) (own : HoldsOfOwn P me) (object
   -- what any act leaves
   pub stays_after : (a : Act) (q : Point) → ActStays P me own objects a q → Stays P objects q
   stays_after (act.Prints t) q f = f
-  stays_after act.Tests q f = f
+  stays_after act.Until q f = f
   stays_after act.Creates q f = f
   stays_after (act.CreatesHandler k x us t b) q f = f.0
   stays_after (act.Enters c o x us t) q f = f.0

@@ -13,7 +13,7 @@ use Rattle.sc_proctype.specs.declared.entity_type.EntityType.{EntityType}
 use Rattle.sc_proctype.specs.declared.tag.Reserved.{Reserved}
 use Rattle.sc_rules.specs.Names.{RoutineName}
 use Rattle.sc_rules.specs.Types.{binary_type, gives_if, is_boolean, is_comparable, is_integer}
-use Rattle.sc_formula.specs.Arithmetic.{Outcome, result_of}
+use Rattle.sc_formula.specs.Arithmetic.{ArithmeticResult, result_of}
 use Rattle.sc_formula.specs.Comparison.{compares}
 use Rattle.sc_formula.specs.Connective.{truth_table}
 use Rattle.sc_formula.specs.declared.arithmetic.ArithmeticFault.TheVariants as fault
@@ -128,7 +128,7 @@ module _ (s : System) (pure : RoutineName → Bool) (r : Routine) (me : Referenc
   comes_to : (x : Value) (t : EntityType) → t ≡ u → Fits s me.handler (handler_named p.environment) x t → StandsSo s pure r me [] (record p { values = operand x t ∷ p.values })
   comes_to x t e f = found s pure r me p base x t u e k f fs
 
-  outcome : integer ≡ u → (o : Outcome) → StepFits s pure r me (gives_outcome o p)
+  outcome : integer ≡ u → (o : ArithmeticResult) → StepFits s pure r me (gives_outcome o p)
   outcome e (Ok z) = comes_to (Integer z) integer e refl
   outcome e (Err fault.Overflow) = (refl, base.store)
   outcome e (Err fault.DivideByZero) = (refl, base.store)
@@ -156,7 +156,7 @@ module _ (s : System) (pure : RoutineName → Bool) (r : Routine) (me : Referenc
   on_references op go (inr e) (inr f) =
       subst (λ v. StepFits s pure r me (apply_binary op v w p)) (sym e.1) (subst (λ w. StepFits s pure r me (apply_binary op (Attached e.0) w p)) (sym f.1) (go (is_same_object e.0 f.0)))
 
-  arithmetic_step : (op : BinaryOperator) → ((x y : ℤ) → (o : Outcome) × (apply_binary op (Integer x) (Integer y) p ≡ gives_outcome o p)) → gives_if (is_integer a.class && is_integer b.class) integer ≡ Some u →
+  arithmetic_step : (op : BinaryOperator) → ((x y : ℤ) → (o : ArithmeticResult) × (apply_binary op (Integer x) (Integer y) p ≡ gives_outcome o p)) → gives_if (is_integer a.class && is_integer b.class) integer ≡ Some u →
       StepFits s pure r me (apply_binary op v w p)
   arithmetic_step op comes e =
       let t = takes (λ a b. is_integer a.class && is_integer b.class) integer a b u e in

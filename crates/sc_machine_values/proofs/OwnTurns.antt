@@ -66,7 +66,7 @@ own_acts_keep_it s root pure faultless well tells most w fits h l f below is run
     by : (a : Act) → moves s f.current (point_of f (w.handlers h).objects) ≡ Does a p → is_own_act a ≡ true → ActFits s pure f.routine f.current a p →
         WorldFits s pure (effect most s h a (frame_at f p) below (put h (record (w.handlers h) { objects = p.objects; stack = frame_at f p ∷ below }) w))
     by (act.Prints text) m such g = prints_fit s pure _ h (frame_at f p) below (settled (act.Prints text) m g) runs text
-    by act.Tests m such g = settled_fits s pure _ h (frame_at f p) below (settled act.Tests m g) runs
+    by act.Until m such g = settled_fits s pure _ h (frame_at f p) below (settled act.Until m g) runs
     by act.Creates m such g = settled_fits s pure _ h (frame_at f p) below (settled act.Creates m g) runs
     by act.Starts m such g = settled_fits s pure _ h (frame_at f p) below (settled act.Starts m g) runs
     by act.Opens m such g = settled_top s pure _ h [] (frame_at f p) below (settled act.Opens m g) ReservesBlock f.reserved f.blocks f.mark refl

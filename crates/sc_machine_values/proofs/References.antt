@@ -21,7 +21,7 @@ use Rattle.sc_rules.specs.CallRules.{count}
 use Rattle.sc_rules.specs.Names.{Assignee, assignee_type, attached, block_type, blocks, current, given_type, signature_of, test_type, to_attribute, to_local, unassignable, unknown_assignee}
 use Rattle.sc_rules.specs.Types.{declared_type}
 use Rattle.sc_rules.specs.declared.position.Role.TheVariants as role
-use Rattle.sc_formula.specs.Arithmetic.{Outcome, opposite_of, result_of}
+use Rattle.sc_formula.specs.Arithmetic.{ArithmeticResult, opposite_of, result_of}
 use Rattle.sc_formula.specs.Comparison.{compares}
 use Rattle.sc_formula.specs.Connective.{truth_table}
 use Rattle.sc_formula.specs.declared.arithmetic.ArithmeticFault.TheVariants as fault
@@ -158,7 +158,7 @@ module _ (P : Value → Type 0) (me : Reference) (own : HoldsOfOwn P me) (object
 
     -- ---- operators
 
-    outcome : (o : Outcome) → StepStays (gives_outcome o p)
+    outcome : (o : ArithmeticResult) → StepStays (gives_outcome o p)
     outcome (Ok z) = give (Integer z) integer (own.of_integer z)
     outcome (Err fault.Overflow) = fell
     outcome (Err fault.DivideByZero) = fell

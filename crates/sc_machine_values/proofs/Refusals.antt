@@ -9,8 +9,8 @@ use Rattle.sc_rules.specs.Names.{RoutineName, formals_known}
 use Rattle.sc_rules.specs.Purity.{IsPurity}
 use Rattle.sc_rules.specs.SystemRules.{WellFormed}
 use Rattle.sc_waitcond.specs.Reservations.{mark_of}
-use Rattle.sc_waitcond.specs.declared.condition.Verdict.{Verdict}
-use Rattle.sc_waitcond.specs.declared.condition.Verdict.TheVariants as verdict
+use Rattle.sc_waitcond.specs.declared.condition.EntryVerdict.{EntryVerdict}
+use Rattle.sc_waitcond.specs.declared.condition.EntryVerdict.TheVariants as verdict
 use Rattle.sc_waitcond.specs.declared.mark.Marked.{Marked}
 use Rattle.sc_waitcond.specs.declared.session.Release.TheVariants as release_at
 use Rattle.sc_model.specs.Answers.{finish}
@@ -108,7 +108,7 @@ module _ (s : System) (root : Root) (pure : RoutineName → Bool) (faultless : I
       by false = refusal_ends s pure (release release_at.Refusal f.reserved (put h (counted_refusal r.is_waited (record (w.handlers h) { stack = below })) w)) r
           (releases_keep_it s pure (put h (counted_refusal r.is_waited (record (w.handlers h) { stack = below })) w) release_at.Refusal f.reserved (gone r.is_waited))
 
-  pub false_clause_fits : IsAtEntry s f.routine f.text (scope_of f.environment) (types_of f.olds) → (v : Verdict) → WorldFits s pure (false_clause v s h f below w)
+  pub false_clause_fits : IsAtEntry s f.routine f.text (scope_of f.environment) (types_of f.olds) → (v : EntryVerdict) → WorldFits s pure (false_clause v s h f below w)
   false_clause_fits entry verdict.Wait = waits_fit entry
   false_clause_fits entry verdict.Start = settled_fails s pure w h [] f below z cause.BadCode []
   false_clause_fits entry verdict.Refuse = of_origin f.origin
@@ -128,7 +128,7 @@ refusals_keep_it s root pure faultless well tells most w fits h l f below is run
         (settled_after s pure w h f below fits l is (act.Refuses k) p m runs [] stands) entry (verdict_on (frame_at f p) k)
     by (act.Enters c o x us t) m such g = cc
     by (act.Prints text) m such g = cc
-    by act.Tests m such g = cc
+    by act.Until m such g = cc
     by act.Creates m such g = cc
     by act.Starts m such g = cc
     by act.Opens m such g = cc

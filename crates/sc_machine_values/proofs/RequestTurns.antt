@@ -109,7 +109,7 @@ requests_keep_it s root pure faultless well tells most w fits h l f below is run
         (settled_after s pure w h f below fits l is (act.Requests o x us gives passing) p m runs (listed gives) stands) runs o x us
         (subst (λ k. CallFits s k (handler_named p.environment) o x us gives) own call) (after.2 o refl) after.1 passing
     by (act.Prints text) m such g = cc
-    by act.Tests m such g = cc
+    by act.Until m such g = cc
     by act.Creates m such g = cc
     by act.Starts m such g = cc
     by act.Opens m such g = cc

@@ -42,7 +42,7 @@ module _ (s : System) (root : Root) (pure : RoutineName → Bool) (faultless : I
     moves_on : f.stage ≡ Runs → (x : Step) → moves s f.current (point_of f (w.handlers h).objects) ≡ x → WorldFits s pure (settles most s h x f below w)
     moves_on e (Goes p) move = fits
     moves_on e (Does (act.Prints text) p) move = own_acts_keep_it s root pure faultless well tells most w fits h l f below is e (act.Prints text) p move refl
-    moves_on e (Does act.Tests p) move = own_acts_keep_it s root pure faultless well tells most w fits h l f below is e act.Tests p move refl
+    moves_on e (Does act.Until p) move = own_acts_keep_it s root pure faultless well tells most w fits h l f below is e act.Until p move refl
     moves_on e (Does act.Creates p) move = own_acts_keep_it s root pure faultless well tells most w fits h l f below is e act.Creates p move refl
     moves_on e (Does act.Starts p) move = own_acts_keep_it s root pure faultless well tells most w fits h l f below is e act.Starts p move refl
     moves_on e (Does act.Opens p) move = own_acts_keep_it s root pure faultless well tells most w fits h l f below is e act.Opens p move refl

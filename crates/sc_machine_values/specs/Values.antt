@@ -23,7 +23,7 @@ use Rattle.sc_model.specs.Objects.{Object}
 use Rattle.sc_model.specs.Routines.{Routine, routine_named, version_of}
 use Rattle.sc_model.specs.Runs.{IsReached, opening}
 use Rattle.sc_model.specs.Sessions.{release}
-use Rattle.sc_model.specs.Steps.{Act, Creates, CreatesHandler, Does, Enters, Exits, Fails, Leaves, Opens, Point, Prints, Refuses, Requests, Starts, Tests}
+use Rattle.sc_model.specs.Steps.{Act, Creates, CreatesHandler, Does, Enters, Exits, Fails, Leaves, Opens, Point, Prints, Refuses, Requests, Starts, Until}
 use Rattle.sc_model.specs.Takes.{takes_answer, takes_callback, takes_next}
 use Rattle.sc_model.specs.Turns.{settles, turn}
 use Rattle.sc_model.specs.Values.{Attached, Operand, Reference, Value}
@@ -135,7 +135,7 @@ ActsKeepIt is_such = (s : System) (root : Root) (pure : RoutineName → Bool) �
 -- what concerns the own handler alone: no call, no request, no new handler, and no end of the routine
 abbrev pub is_own_act : Act → Bool
 is_own_act (Prints text) = true
-is_own_act Tests = true
+is_own_act Until = true
 is_own_act Creates = true
 is_own_act Starts = true
 is_own_act Opens = true

@@ -7,7 +7,7 @@ use Rattle.sc_proctype.specs.declared.entity_type.EntityType.{EntityType}
 use Rattle.sc_model.specs.declared.cause.Cause.{Cause}
 use Rattle.sc_model.specs.declared.cause.Cause.TheVariants as cause
 use Rattle.sc_model.specs.Values.{Reference, Operand}
-use Rattle.sc_model.specs.Steps.{Act, Prints, Tests, Creates, CreatesHandler, Enters, Requests, Starts, Refuses, Opens, Leaves, Exits, Fails, Step, Goes, Does}
+use Rattle.sc_model.specs.Steps.{Act, Prints, Until, Creates, CreatesHandler, Enters, Requests, Starts, Refuses, Opens, Leaves, Exits, Fails, Step, Goes, Does}
 use Rattle.sc_model.specs.Moves.{moves}
 use Rattle.sc_model.specs.Handlers.{Stage, Runs, Reserves, ReservesBlock, InCall, Awaits, Frame, World, point_of}
 use Rattle.sc_model.specs.Failures.{fail}
@@ -40,7 +40,7 @@ same_creation few most h class procedure us t passing f below w le c =
 same_effect : (few most : ℕ) (s : System) (h : ℕ) (a : Act) (f : Frame) (below : List Frame) (w : World) → few ≤ most
     → (effect most s h a f below w).count ≤ few → effect few s h a f below w ≡ effect most s h a f below w
 same_effect few most s h (Prints text) f below w le c = refl
-same_effect few most s h Tests f below w le c = refl
+same_effect few most s h Until f below w le c = refl
 same_effect few most s h Creates f below w le c = refl
 same_effect few most s h Starts f below w le c = refl
 same_effect few most s h (CreatesHandler class procedure us t passing) f below w le c = same_creation few most h class procedure us t passing f below w le c

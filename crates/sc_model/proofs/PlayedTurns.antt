@@ -4,7 +4,7 @@ use Rattle.std.specs.Prelude.{map}
 use Rattle.sc_tree.specs.Plain.{System, Clause}
 use Rattle.sc_model.specs.declared.status.Status.{Status}
 use Rattle.sc_model.specs.Handlers.{World, Frame}
-use Rattle.sc_model.specs.Clauses.{Outcome, after, begun}
+use Rattle.sc_model.specs.Clauses.{EvaluationState, after, begun}
 use Rattle.sc_model.specs.Runs.{opening, run}
 use Rattle.sc_model.specs.Reports.{status_of, some_has_turn}
 use Rattle.sc_model.proofs.Texts.{root}
@@ -28,6 +28,6 @@ rounds zero hs = []
 rounds (suc n) hs = hs ++ rounds n hs
 
 -- what the clauses of the precondition of a handler's topmost frame come to in so many steps
-abbrev pub clauses_of : ℕ → System → World → List Frame → List Outcome
+abbrev pub clauses_of : ℕ → System → World → List Frame → List EvaluationState
 clauses_of n s w [] = []
 clauses_of n s w (f ∷ below) = map (λ (k : Clause). after n s w (begun w f k)) f.routine.require

@@ -5,7 +5,7 @@ use Rattle.sc_formula.specs.declared.arithmetic.ArithmeticFault.TheVariants as f
 use Rattle.sc_formula.specs.declared.arithmetic.ArithmeticOperator.{ArithmeticOperator}
 use Rattle.sc_formula.specs.declared.comparison.Comparison.{Comparison}
 use Rattle.sc_formula.specs.declared.connective.Connective.{Connective}
-use Rattle.sc_formula.specs.Arithmetic.{Outcome, opposite_of, result_of}
+use Rattle.sc_formula.specs.Arithmetic.{ArithmeticResult, opposite_of, result_of}
 use Rattle.sc_tree.specs.declared.expression.UnaryOperator.{UnaryOperator}
 use Rattle.sc_tree.specs.declared.expression.UnaryOperator.TheVariants as unary
 use Rattle.sc_tree.specs.declared.expression.BinaryOperator.{BinaryOperator}
@@ -99,7 +99,7 @@ unfolding Smaller
 attribute_smaller n None t p h = tt
 attribute_smaller n (Some b) t p h = reads_as_smaller n t b.value t p h
 
-outcome_smaller : (n : ℕ) (o : Outcome) (p : Point) → size p.tasks < n → Smaller n (gives_outcome o p)
+outcome_smaller : (n : ℕ) (o : ArithmeticResult) (p : Point) → size p.tasks < n → Smaller n (gives_outcome o p)
 unfolding Smaller
 outcome_smaller n (Ok z) p h = h
 outcome_smaller n (Err fault.Overflow) p h = tt

@@ -5,7 +5,7 @@ use Rattle.sc_formula.specs.declared.arithmetic.ArithmeticFault.TheVariants as f
 use Rattle.sc_formula.specs.declared.arithmetic.ArithmeticOperator.{ArithmeticOperator}
 use Rattle.sc_formula.specs.declared.comparison.Comparison.{Comparison}
 use Rattle.sc_formula.specs.declared.connective.Connective.{Connective}
-use Rattle.sc_formula.specs.Arithmetic.{Outcome, opposite_of, result_of}
+use Rattle.sc_formula.specs.Arithmetic.{ArithmeticResult, opposite_of, result_of}
 use Rattle.sc_formula.specs.Comparison.{compares}
 use Rattle.sc_formula.specs.Connective.{decision_of, truth_table}
 use Rattle.sc_tree.specs.declared.expression.UnaryOperator.{UnaryOperator}
@@ -31,7 +31,7 @@ use Rattle.sc_model.specs.Steps.{Point, Step, Goes, fails, stuck, comes, gives, 
 
 -- ---- operators
 
-abbrev pub gives_outcome : Outcome → Point → Step
+abbrev pub gives_outcome : ArithmeticResult → Point → Step
 gives_outcome (Ok z) p = gives_integer z p
 gives_outcome (Err fault.Overflow) p = fails cause.Overflow p
 gives_outcome (Err fault.DivideByZero) p = fails cause.DivideByZero p

@@ -11,7 +11,7 @@ use Rattle.sc_model.specs.Values.{Reference, Value, Integer, Boolean, Void, Atta
 use Rattle.sc_model.specs.Environments.{assigned_to, block_bound}
 use Rattle.sc_model.specs.Objects.{attributes_of, with_attributes}
 use Rattle.sc_model.specs.Tasks.{Do, Forget, Eval, AssignTo, Print, Choose, Repeat, CallUnqualified, CallQualified, CreateBy, Open, Leave, evals, head_evals, checks}
-use Rattle.sc_model.specs.Steps.{Point, Prints, Tests, Refuses, Opens, Step, Goes, Does, fails, stuck, comes, forgets}
+use Rattle.sc_model.specs.Steps.{Point, Prints, Until, Refuses, Opens, Step, Goes, Does, fails, stuck, comes, forgets}
 
 -- ---- assignment (8.22)
 
@@ -48,8 +48,8 @@ chooses depth (Boolean false) body bs other p = chooses_other depth bs other (fo
 chooses depth v body bs other p = stuck p
 
 abbrev pub ends_loop : Value → tree.Expr → Instrs → Point → Step
-ends_loop (Boolean true) e body p = Does Tests p
-ends_loop (Boolean false) e body p = Does Tests (record p { tasks = Do body ∷ Repeat e body ∷ p.tasks })
+ends_loop (Boolean true) e body p = Does Until p
+ends_loop (Boolean false) e body p = Does Until (record p { tasks = Do body ∷ Repeat e body ∷ p.tasks })
 ends_loop v e body p = stuck p
 
 -- ---- clauses

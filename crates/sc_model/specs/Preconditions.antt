@@ -5,8 +5,8 @@ use Rattle.std.specs.Option.{option_and_then}
 use Rattle.sc_tree.specs.Plain.{System, Clause, Expr, Unary, Binary, ObjectTest, Call, no_target, target, Exprs, no_exprs, expr_then}
 use Rattle.sc_waitcond.specs.Conditions.{clause_kind, verdict_of_false}
 use Rattle.sc_waitcond.specs.Reservations.{mark_of}
-use Rattle.sc_waitcond.specs.declared.condition.Verdict.{Verdict}
-use Rattle.sc_waitcond.specs.declared.condition.Verdict.TheVariants as verdict
+use Rattle.sc_waitcond.specs.declared.condition.EntryVerdict.{EntryVerdict}
+use Rattle.sc_waitcond.specs.declared.condition.EntryVerdict.TheVariants as verdict
 use Rattle.sc_waitcond.specs.declared.session.Release.TheVariants as release_at
 use Rattle.sc_model.specs.declared.cause.Cause.TheVariants as cause
 use Rattle.sc_model.specs.Values.{handler_of}
@@ -43,7 +43,7 @@ abbrev pub formals_among : List Binding → List (List ℕ) → List (Option ℕ
 formals_among bs xs = filter_map (λ x. option_and_then handler_of_formal (binding_named x bs)) xs
 
 -- what comes of the clause, which is false
-abbrev pub verdict_on : Frame → Clause → Verdict
+abbrev pub verdict_on : Frame → Clause → EntryVerdict
 verdict_on f k = verdict_of_false (clause_kind f.reserved (formals_among f.environment (names_in k.condition)))
 
 -- ---- what comes of it
@@ -78,7 +78,7 @@ abbrev pub correctness_fails : System → ℕ → Origin → Frame → List Fram
 correctness_fails s h (Called c) f below w = fail h cause.Precondition w
 correctness_fails s h (Requested r) f below w = refuses s h r f below w
 
-abbrev pub false_clause : Verdict → System → ℕ → Frame → List Frame → World → World
+abbrev pub false_clause : EntryVerdict → System → ℕ → Frame → List Frame → World → World
 false_clause verdict.Wait s h f below w = waits_again h f below w
 false_clause verdict.Refuse s h f below w = correctness_fails s h f.origin f below w
 false_clause verdict.Start s h f below w = fail h cause.BadCode w

@@ -30,7 +30,7 @@ pub data Calling : Type 0 where
 -- what is seen of a visible step
 pub data Act : Type 0 where
   Prints : (text : List ℕ) → Act
-  Tests : Act  -- an `until`
+  Until : Act  -- an `until`
   Creates : Act  -- an object of the current handler, without a call
   CreatesHandler : (class : ℕ) (procedure : Option (List ℕ)) (actuals : List Operand) (type : EntityType) (passes : Bool) → Act
   Enters : (calling : Calling) (object : Reference) (name : List ℕ) (actuals : List Operand) (gives : Option EntityType) → Act

@@ -6,7 +6,7 @@ use Rattle.sc_model.specs.declared.cause.Cause.{Cause}
 use Rattle.sc_model.specs.declared.cause.Cause.TheVariants as cause
 use Rattle.sc_model.specs.Values.{values_of}
 use Rattle.sc_model.specs.Routines.{routine_named}
-use Rattle.sc_model.specs.Steps.{Act, Prints, Tests, Creates, CreatesHandler, Enters, Requests, Starts, Refuses, Opens, Leaves, Exits, Fails, Step, Goes, Does}
+use Rattle.sc_model.specs.Steps.{Act, Prints, Until, Creates, CreatesHandler, Enters, Requests, Starts, Refuses, Opens, Leaves, Exits, Fails, Step, Goes, Does}
 use Rattle.sc_model.specs.Moves.{moves}
 use Rattle.sc_model.specs.Handlers.{Request, Answer, Called, Stage, Runs, Reserves, ReservesBlock, InCall, Awaits, Frame, World, point_of, frame_at, put, with_stack}
 use Rattle.sc_model.specs.Failures.{fail}
@@ -22,7 +22,7 @@ prints_text h text w = put h (record (w.handlers h) { output = (w.handlers h).ou
 -- What a visible step does, where `f` stands on `below` after it. There may be so many handlers.
 abbrev pub effect : ℕ → System → ℕ → Act → Frame → List Frame → World → World
 effect most s h (Prints text) f below w = prints_text h text w
-effect most s h Tests f below w = w
+effect most s h Until f below w = w
 effect most s h Creates f below w = w
 effect most s h Starts f below w = w
 effect most s h (CreatesHandler class procedure us t passing) f below w = creates_handler most h class procedure us t passing f below w

@@ -24,7 +24,7 @@ use Rattle.sc_play.proofs.MadeTurns.{made_more}
 -- ---- one turn
 
 does_act : (h : ℕ) (o : Act) (x y : PlainStore) → Does o x y → y ≡ acted h o x
-does_act h (act.Test back) x y d = d
+does_act h (act.Until back) x y d = d
 does_act h (act.Enter calling r name n gives) x y d = d.0
 does_act h act.Exit x y d = d.0
 does_act h (act.PrintInteger z) x y d = absurd d
@@ -39,7 +39,7 @@ does_act h (act.Open first n) x y d = absurd d
 does_act h act.Leave x y d = absurd d
 
 asks_none : (h : ℕ) (o : Act) (x y : PlainStore) → Does o x y → asks_acted h o x y ≡ want.Continue
-asks_none h (act.Test back) x y d = refl
+asks_none h (act.Until back) x y d = refl
 asks_none h (act.Enter calling r name n gives) x y d = d.1
 asks_none h act.Exit x y d = d.1
 asks_none h (act.PrintInteger z) x y d = absurd d

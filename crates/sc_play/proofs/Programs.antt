@@ -5,8 +5,8 @@ use Rattle.sc_model.specs.declared.cause.Cause.TheVariants as cause
 use Rattle.sc_code.specs.declared.program.AttributeCode.{AttributeCode}
 use Rattle.sc_code.specs.declared.program.Image.{Image}
 use Rattle.sc_code.specs.declared.program.RoutineCode.{RoutineCode}
-use Rattle.sc_code.specs.declared.program.Version.{Version}
-use Rattle.sc_code.specs.declared.program.Version.TheVariants as version
+use Rattle.sc_code.specs.declared.program.FeatureCode.{FeatureCode}
+use Rattle.sc_code.specs.declared.program.FeatureCode.TheVariants as version
 use Rattle.sc_region.specs.declared.frame.Origin.{Origin}
 use Rattle.sc_region.specs.declared.frame.Origin.TheVariants as origin
 use Rattle.sc_region.specs.declared.frame.Stage.{Stage}
@@ -179,7 +179,7 @@ acted_keeps : (h : ℕ) (a : Act) (x : PlainStore) → (acted h a x).program ≡
 acted_keeps h (act.PrintInteger z) x = refl
 acted_keeps h (act.PrintBoolean b) x = refl
 acted_keeps h (act.PrintText k) x = refl
-acted_keeps h (act.Test back) x = refl
+acted_keeps h (act.Until back) x = refl
 acted_keeps h (act.Enter calling me name n gives) x = called_at_keeps calling me name n gives (top_activation x.frames) x
 acted_keeps h (act.Request r name n gives passes) x = sent_keeps (request_in h (call_of r name n gives passes) (top_activation x.frames)) (call_of r name n gives passes) x
 acted_keeps h (act.Create class procedure n) x = created_of_keeps (class_number class) h procedure n x
@@ -202,12 +202,12 @@ answered_keeps None v x = refl
 answered_keeps (Some a) None x = refl
 answered_keeps (Some a) (Some v) x = kept_if x.program (a.is_attached && is_void (Some v)) (failed cause.UnsetEntity x) x refl refl
 
-taken_version_keeps : (r : Request) (v : Option Version) (x : PlainStore) → (taken_version r v x).program ≡ x.program
+taken_version_keeps : (r : Request) (v : Option FeatureCode) (x : PlainStore) → (taken_version r v x).program ≡ x.program
 taken_version_keeps r None x = refl
 taken_version_keeps r (Some (version.Routine n)) x = entered_keeps r.target n origin.Requested r.actuals.items x
 taken_version_keeps r (Some (version.Attribute n)) x = answered_keeps (attribute_at x.program r.target.class n) (attribute_of r.target.number n x.objects) x
 
-taken_on_keeps : (r : Request) (o : Option PlainObject) (v : Option Version) (x : PlainStore) → (taken_on r o v x).program ≡ x.program
+taken_on_keeps : (r : Request) (o : Option PlainObject) (v : Option FeatureCode) (x : PlainStore) → (taken_on r o v x).program ≡ x.program
 taken_on_keeps r None v x = refl
 taken_on_keeps r (Some o) v x = taken_version_keeps r v x
 

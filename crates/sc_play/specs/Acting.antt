@@ -25,7 +25,7 @@ abbrev pub acted : ℕ → Act → PlainStore → PlainStore
 acted h (act.PrintInteger z) x = on_top (past 1) (printed (signed_decimal z) x)
 acted h (act.PrintBoolean b) x = on_top (past 1) (printed (boolean_text b) x)
 acted h (act.PrintText k) x = on_top (past 0) (printed (listed (pool_of x.program.pool).texts k) x)
-acted h (act.Test back) x = on_top (round_ended back) x
+acted h (act.Until back) x = on_top (round_ended back) x
 acted h (act.Enter calling me name n gives) x = called calling me name n gives x
 acted h (act.Request r name n gives passes) x = requested h (call_of r name n gives passes) x
 acted h (act.Create class procedure n) x = object_created h class procedure n x
@@ -41,7 +41,7 @@ abbrev pub asks_acted : ℕ → Act → PlainStore → PlainStore → Want
 asks_acted h (act.PrintInteger z) x y = want.Continue
 asks_acted h (act.PrintBoolean b) x y = want.Continue
 asks_acted h (act.PrintText k) x y = want.Continue
-asks_acted h (act.Test back) x y = want.Continue
+asks_acted h (act.Until back) x y = want.Continue
 asks_acted h (act.Enter calling me name n gives) x y = asks_beginning y.program (top_activation y.frames)
 asks_acted h (act.Request r name n gives passes) x y = asks_requesting h (call_of r name n gives passes) (top_activation x.frames)
 asks_acted h (act.Create class procedure n) x y = asks_created procedure y

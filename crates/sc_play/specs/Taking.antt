@@ -5,8 +5,8 @@ use Rattle.sc_model.specs.declared.cause.Cause.TheVariants as cause
 use Rattle.sc_code.specs.declared.program.AttributeCode.{AttributeCode}
 use Rattle.sc_code.specs.declared.program.ClassCode.{ClassCode}
 use Rattle.sc_code.specs.declared.program.Image.{Image}
-use Rattle.sc_code.specs.declared.program.Version.{Version}
-use Rattle.sc_code.specs.declared.program.Version.TheVariants as version
+use Rattle.sc_code.specs.declared.program.FeatureCode.{FeatureCode}
+use Rattle.sc_code.specs.declared.program.FeatureCode.TheVariants as version
 use Rattle.sc_region.specs.declared.frame.Origin.TheVariants as origin
 use Rattle.sc_region.specs.declared.job.Errand.{Errand}
 use Rattle.sc_region.specs.declared.job.Errand.TheVariants as errand
@@ -39,12 +39,12 @@ asks_answering v = want.Done v (record { items = [] }) false
 
 -- ---- a call
 
-abbrev pub taken_version : Request → Option Version → PlainStore → PlainStore
+abbrev pub taken_version : Request → Option FeatureCode → PlainStore → PlainStore
 taken_version r (Some (version.Routine n)) x = entered r.target n origin.Requested r.actuals.items x
 taken_version r (Some (version.Attribute n)) x = answered (attribute_at x.program r.target.class n) (attribute_of r.target.number n x.objects) x
 taken_version r None x = failed cause.BadCode x
 
-abbrev pub taken_on : Request → Option PlainObject → Option Version → PlainStore → PlainStore
+abbrev pub taken_on : Request → Option PlainObject → Option FeatureCode → PlainStore → PlainStore
 taken_on r (Some o) v x = taken_version r v x
 taken_on r None v x = failed cause.BadCode x
 
@@ -55,12 +55,12 @@ taken_call h r k x =
     then taken_on r (object_numbered r.target.number x.objects) (version_in x.program r.target.class k) x
     else failed cause.ForeignObject x
 
-abbrev pub asks_version : Request → Option Version → PlainStore → PlainStore → Want
+abbrev pub asks_version : Request → Option FeatureCode → PlainStore → PlainStore → Want
 asks_version r (Some (version.Attribute n)) x y = asks_answering (attribute_of r.target.number n x.objects)
 asks_version r (Some (version.Routine n)) x y = asks_beginning y.program (top_activation y.frames)
 asks_version r None x y = want.Continue
 
-abbrev pub asks_on : Request → Option PlainObject → Option Version → PlainStore → PlainStore → Want
+abbrev pub asks_on : Request → Option PlainObject → Option FeatureCode → PlainStore → PlainStore → Want
 asks_on r (Some o) v x y = asks_version r v x y
 asks_on r None v x y = want.Continue
 

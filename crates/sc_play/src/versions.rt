@@ -6,14 +6,14 @@ ghost use Rattle.sc_interp.specs.Entering.{routine_in};
 ghost use Rattle.sc_interp.specs.Serving.{version_in};
 ghost use Rattle.sc_play.specs.Taking.{attribute_at};
 
-use sc_code::{AttributeCode, Program, Version};
+use sc_code::{AttributeCode, FeatureCode, Program};
 
 /// What the name of a number is in the class of a number.
-pub fn version_in(program: &Program, class: u8, name: usize) -> Option<Version>
+pub fn version_in(program: &Program, class: u8, name: usize) -> Option<FeatureCode>
     ensures { result ≡ version_in program.now.image class name }
 {
     let code = program.classes().get(usize::from(class))?;
-    *code.versions.get(name)?
+    *code.features.get(name)?
 }
 
 /// The number of the routine of the name in the class, if it is one there.
@@ -21,8 +21,8 @@ pub fn routine_of(program: &Program, class: u8, name: usize) -> Option<usize>
     ensures { result ≡ routine_in (version_in program.now.image class name) }
 {
     match version_in(program, class, name) {
-        Some(Version::Routine(routine)) => Some(routine),
-        Some(Version::Attribute(_)) | None => None,
+        Some(FeatureCode::Routine(routine)) => Some(routine),
+        Some(FeatureCode::Attribute(_)) | None => None,
     }
 }
 

@@ -18,9 +18,9 @@ use sc_rules::{Context, Fault, Position, Role, Rule, Use};
 use sc_text::Span;
 use sc_tree::{BinaryOperator, Call, DeclaredType, Expr, UnaryOperator};
 use sc_typing::{
-    CallSite, CheckFault, Entity, JudgedActual, Meaning, RoutineContext, Typing, as_check_result,
-    judge_binary, judge_receiver, judge_unary, judged_type, keep_fault, operand_context,
-    operand_position, refusal, simple_typing,
+    CallContext, CheckFault, Entity, JudgedActual, Meaning, RoutineContext, Typing,
+    as_check_result, judge_binary, judge_receiver, judge_unary, judged_type, keep_fault,
+    operand_context, operand_position, refusal, simple_typing,
 };
 
 /// What is found of a target, as what is called sees it.
@@ -89,7 +89,7 @@ fn judge_met<'s>(
 {
     let target = as_check_result(target)?;
     let receiver = received(&call.target, target)?;
-    let site = CallSite {
+    let site = CallContext {
         context,
         usage: Use::Value,
         target: &call.target,

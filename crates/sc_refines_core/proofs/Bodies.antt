@@ -6,7 +6,7 @@ use Rattle.sc_formula.specs.declared.arithmetic.ArithmeticFault.TheVariants as f
 use Rattle.sc_formula.specs.declared.arithmetic.ArithmeticOperator.{ArithmeticOperator}
 use Rattle.sc_formula.specs.declared.comparison.Comparison.{Comparison}
 use Rattle.sc_formula.specs.declared.connective.Connective.{Connective}
-use Rattle.sc_formula.specs.Arithmetic.{Outcome, opposite_of, result_of}
+use Rattle.sc_formula.specs.Arithmetic.{ArithmeticResult, opposite_of, result_of}
 use Rattle.sc_formula.specs.Connective.{decision_of}
 use Rattle.sc_text.specs.declared.token.Span.{Span}
 use Rattle.sc_tree.specs.declared.expression.UnaryOperator.{UnaryOperator}
@@ -328,7 +328,7 @@ module _ (s : System) (pure : RoutineName → Bool) (r : Routine) (me : Referenc
     -- ---- operators
 
     module _ (vs : List EntityType) (a : EntityType) (p : Point) (b : IsAt vs p) (d : Left p.tasks (a ∷ vs)) where
-      outcome_fine : integer ≡ a → (o : Outcome) → Fine (gives_outcome o p)
+      outcome_fine : integer ≡ a → (o : ArithmeticResult) → Fine (gives_outcome o p)
       outcome_fine e (Ok x) = given vs a p (Integer x) integer b d e
       outcome_fine e (Err fault.Overflow) = tt
       outcome_fine e (Err fault.DivideByZero) = tt

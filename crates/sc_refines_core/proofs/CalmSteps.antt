@@ -5,7 +5,7 @@ use Rattle.sc_formula.specs.declared.arithmetic.ArithmeticFault.TheVariants as f
 use Rattle.sc_formula.specs.declared.arithmetic.ArithmeticOperator.{ArithmeticOperator}
 use Rattle.sc_formula.specs.declared.comparison.Comparison.{Comparison}
 use Rattle.sc_formula.specs.declared.connective.Connective.{Connective}
-use Rattle.sc_formula.specs.Arithmetic.{Outcome, opposite_of, result_of}
+use Rattle.sc_formula.specs.Arithmetic.{ArithmeticResult, opposite_of, result_of}
 use Rattle.sc_tree.specs.declared.expression.UnaryOperator.{UnaryOperator}
 use Rattle.sc_tree.specs.declared.expression.UnaryOperator.TheVariants as unary
 use Rattle.sc_tree.specs.declared.expression.BinaryOperator.{BinaryOperator}
@@ -86,7 +86,7 @@ attribute_calm : (b : Option Binding) (t : EntityType) (p : Point) → HasStarte
 attribute_calm None t p h = tt
 attribute_calm (Some b) t p h = reads_as_calm t b.value t p h
 
-outcome_calm : (o : Outcome) (p : Point) → HasStarted p.tasks → RefusesNone (gives_outcome o p)
+outcome_calm : (o : ArithmeticResult) (p : Point) → HasStarted p.tasks → RefusesNone (gives_outcome o p)
 outcome_calm (Ok z) p h = h
 outcome_calm (Err fault.Overflow) p h = tt
 outcome_calm (Err fault.DivideByZero) p h = tt

@@ -8,7 +8,7 @@ use Rattle.sc_formula.specs.declared.arithmetic.ArithmeticFault.TheVariants as f
 use Rattle.sc_formula.specs.declared.arithmetic.ArithmeticOperator.{ArithmeticOperator}
 use Rattle.sc_formula.specs.declared.comparison.Comparison.{Comparison}
 use Rattle.sc_formula.specs.declared.connective.Connective.{Connective}
-use Rattle.sc_formula.specs.Arithmetic.{Outcome, opposite_of, result_of}
+use Rattle.sc_formula.specs.Arithmetic.{ArithmeticResult, opposite_of, result_of}
 use Rattle.sc_tree.specs.declared.expression.UnaryOperator.{UnaryOperator}
 use Rattle.sc_tree.specs.declared.expression.UnaryOperator.TheVariants as unary
 use Rattle.sc_tree.specs.declared.expression.BinaryOperator.{BinaryOperator}
@@ -235,7 +235,7 @@ module _ (s : System) (pure : RoutineName → Bool) (t : Text) (n : Entities) (m
     boolean_given : (z : Bool) → Fine (gives_boolean z p)
     boolean_given z = given vs a p (Boolean z) boolean b d (inr (e, refl))
 
-    outcome_fine : (o : Outcome) → Fine (gives_outcome o p)
+    outcome_fine : (o : ArithmeticResult) → Fine (gives_outcome o p)
     outcome_fine (Ok z) = integer_given z
     outcome_fine (Err fault.Overflow) = tt
     outcome_fine (Err fault.DivideByZero) = tt

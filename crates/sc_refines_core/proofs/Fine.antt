@@ -10,8 +10,8 @@ use Rattle.sc_class.specs.Tables.Features.{DeclaredFeature}
 use Rattle.sc_proctype.specs.declared.entity_type.EntityType.{EntityType}
 use Rattle.sc_rules.specs.Types.{declared_type}
 use Rattle.sc_lockpass.specs.Rights.{is_handler}
-use Rattle.sc_waitcond.specs.declared.condition.Verdict.{Verdict}
-use Rattle.sc_waitcond.specs.declared.condition.Verdict.TheVariants as verdict
+use Rattle.sc_waitcond.specs.declared.condition.EntryVerdict.{EntryVerdict}
+use Rattle.sc_waitcond.specs.declared.condition.EntryVerdict.TheVariants as verdict
 use Rattle.sc_model.specs.declared.cause.Cause.TheVariants as cause
 use Rattle.sc_model.specs.Limits.{max_frames}
 use Rattle.sc_model.specs.Values.{Reference, Value, Integer, Boolean, Void, Attached, Operand, values_of}
@@ -23,7 +23,7 @@ use Rattle.sc_model.specs.Exits.{is_unset_value, is_unset, is_untested}
 use Rattle.sc_model.specs.Entries.{opened_in}
 use Rattle.sc_model.specs.Tasks.{Task, Do, Leave}
 use Rattle.sc_model.specs.Preconditions.{verdict_on, is_creation, object_meets}
-use Rattle.sc_model.specs.Steps.{Act, Prints, Tests, Creates, CreatesHandler, Enters, Requests, Starts, Refuses, Opens, Leaves, Exits, Fails, Point}
+use Rattle.sc_model.specs.Steps.{Act, Prints, Until, Creates, CreatesHandler, Enters, Requests, Starts, Refuses, Opens, Leaves, Exits, Fails, Point}
 use Rattle.sc_model.specs.Handlers as machine
 use Rattle.sc_model.specs.Handlers.{frame_at}
 use Rattle.sc_region.specs.declared.job.Want.{Want}
@@ -183,7 +183,7 @@ module _ (h : ℕ) (t : State) (bs : List Binding) (entry : List ℕ) where
       creates true = meets (object_meets s (object_numbered f.current.number objects))
       creates false = done_fine None f.reserved true held
 
-  after_fine : (v : Verdict) (s : System) (f : machine.Frame) (objects : List Object) → Holds f.reserved →
+  after_fine : (v : EntryVerdict) (s : System) (f : machine.Frame) (objects : List Object) → Holds f.reserved →
       (v ≡ verdict.Wait → entry ≡ handlers_of (separate_formals bs)) → IsFine h t bs entry (asks_after v s f objects)
   after_fine verdict.Wait s f objects held last = (all_held h t.rights.queue f.reserved held, last refl)
   after_fine verdict.Refuse s f objects held last = refuses_fine s f.origin f objects held
@@ -205,7 +205,7 @@ pub acts_fine : (n : Numbering) (s : System) (h : ℕ) (a : Act) (f : machine.Fr
     ((k : Clause) → a ≡ Refuses k → verdict_on (frame_at f p) k ≡ verdict.Wait → entry ≡ handlers_of (separate_formals f.environment)) →
     IsFine h t p.environment entry (asks_acting n s h a (frame_at f p) depth p.objects)
 acts_fine n s h (Prints text) f p depth t entry m same holds well last = (refl, tt)
-acts_fine n s h Tests f p depth t entry m same holds well last = (refl, tt)
+acts_fine n s h Until f p depth t entry m same holds well last = (refl, tt)
 acts_fine n s h Creates f p depth t entry m same holds well last = (refl, tt)
 acts_fine n s h Starts f p depth t entry m same holds well last = (refl, tt)
 acts_fine n s h (CreatesHandler class procedure us type passing) f p depth t entry m same holds well last = (refl, tt)

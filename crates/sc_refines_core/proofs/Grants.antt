@@ -7,7 +7,7 @@ use Rattle.sc_tree.specs.Plain.{System, Clause}
 use Rattle.sc_proctype.specs.declared.entity_type.EntityType.{EntityType}
 use Rattle.sc_waitcond.specs.Reservations.{reserve_fails, may_reserve}
 use Rattle.sc_waitcond.specs.declared.mark.Marked.{Marked}
-use Rattle.sc_waitcond.specs.declared.condition.Verdict.TheVariants as verdict
+use Rattle.sc_waitcond.specs.declared.condition.EntryVerdict.TheVariants as verdict
 use Rattle.sc_model.specs.declared.cause.Cause.{Cause}
 use Rattle.sc_model.specs.Environments.{separate_formals}
 use Rattle.sc_model.specs.Preconditions.{verdict_on}
@@ -18,7 +18,7 @@ use Rattle.sc_model.specs.Handlers.{point_of, frame_at}
 use Rattle.sc_region.specs.declared.job.Job.{Job}
 use Rattle.sc_region.specs.declared.job.Job.TheVariants as job
 use Rattle.sc_region.specs.declared.job.Want.{Want}
-use Rattle.sc_request.specs.Handlers.{Posted, Answer, Stage, Idle, Runs, HasMade, Reserves, Awaits, State, put, with_stage, standing_in}
+use Rattle.sc_request.specs.Handlers.{Posted, Answer, HandlerStage, Idle, Runs, HasMade, Reserves, Awaits, State, put, with_stage, standing_in}
 use Rattle.sc_request.specs.Picking.{needs, job_reserving, job_idle, job_answered, job_awaiting, job_at, job_with, job_of}
 use Rattle.sc_request.specs.Settling.{takes, made_at, begun}
 use Rattle.sc_request.specs.Asked.{Numbering, request_of, handlers_of, taken_of, asks_taking, asks_moving, asks_going, asks_on}
@@ -94,12 +94,12 @@ turn_runs : (n : Numbering) (s : System) (h : ℕ) (w : machine.World) (c : Stat
     ((c.handlers h).stage ≡ Runs) ⊎ ((k : ℕ) × ((c.handlers h).stage ≡ HasMade k)) →
     Grants n s h w c (job_at h (c.handlers h).stage (c.handlers h) c)
 turn_runs n s h w c f below z e stack runs (inl goes) =
-    subst (λ (t : Stage). Grants n s h w c (job_at h t (c.handlers h) c)) (sym goes) (runs_fine n s h w c c f below z e.count e.rights refl stack runs)
+    subst (λ (t : HandlerStage). Grants n s h w c (job_at h t (c.handlers h) c)) (sym goes) (runs_fine n s h w c c f below z e.count e.rights refl stack runs)
 turn_runs n s h w c f below z e stack runs (inr (k, made)) =
     let x = w.handlers h in
-    subst (λ (t : Stage). Grants n s h w c (job_at h t (c.handlers h) c)) (sym made)
+    subst (λ (t : HandlerStage). Grants n s h w c (job_at h t (c.handlers h) c)) (sym made)
     (subst
-    (λ (t : Stage). IsFine h (made_at h t c) (environment_at s x.stack x.objects) ((made_at h t c).handlers h).entry (asks_on n s h x.stack x.objects))
+    (λ (t : HandlerStage). IsFine h (made_at h t c) (environment_at s x.stack x.objects) ((made_at h t c).handlers h).entry (asks_on n s h x.stack x.objects))
     (sym made) (runs_fine n s h w c (with_stage h Runs c) f below z e.count e.rights (rw (eq-eqb h h refl) refl) stack runs))
 
 -- ---- the other stages
@@ -114,7 +114,7 @@ turn_reserves : (n : Numbering) (s : System) (h : ℕ) (w : machine.World) (c : 
     Grants n s h w c (job_at h (c.handlers h).stage (c.handlers h) c)
 turn_reserves n s h w c ks mark is =
     let needed = needs h ks c.rights in
-    subst (λ (t : Stage). Grants n s h w c (job_at h t (c.handlers h) c)) (sym is)
+    subst (λ (t : HandlerStage). Grants n s h w c (job_at h t (c.handlers h) c)) (sym is)
     (reserves_fine n s h w c (reserve_fails (standing_in c) c.rights needed) (may_reserve (standing_in c) c.rights needed mark) needed)
 
 -- what is asked, where the topmost frame is at this stage
@@ -151,7 +151,7 @@ idle_fine n s h w c (r ∷ rs) e sound stack queued =
 turn_idle : (n : Numbering) (s : System) (h : ℕ) (w : machine.World) (c : State) → IsHalfOf n w c → IsSound w → (w.handlers h).stack ≡ [] →
     (c.handlers h).stage ≡ Idle → Grants n s h w c (job_at h (c.handlers h).stage (c.handlers h) c)
 turn_idle n s h w c e sound stack idle =
-    subst (λ (t : Stage). Grants n s h w c (job_at h t (c.handlers h) c)) (sym idle)
+    subst (λ (t : HandlerStage). Grants n s h w c (job_at h t (c.handlers h) c)) (sym idle)
     (subst (λ (q : List Posted). Grants n s h w c (job_idle q)) (sym (e.handlers h).queue) (idle_fine n s h w c (w.handlers h).queue e sound stack refl))
 
 answers_fine : (n : Numbering) (s : System) (h k : ℕ) (gives : Option EntityType) (is_creation : Bool) (a : machine.Answer) (w : machine.World) (c : State)
@@ -183,7 +183,7 @@ turn_waits : (n : Numbering) (s : System) (h k : ℕ) (gives : Option EntityType
 turn_waits n s h k gives is_creation w c f below e sound stack is awaits =
     let x = w.handlers h in
     let y = c.handlers h in
-    subst (λ (t : Stage). Grants n s h w c (job_at h t y c)) (sym awaits)
+    subst (λ (t : HandlerStage). Grants n s h w c (job_at h t y c)) (sym awaits)
     (subst (λ (p : Option Posted). Grants n s h w c (job_awaiting k is_creation p y.answer)) (sym (e.handlers h).callback)
     (subst (λ (a : Option Answer). Grants n s h w c (job_awaiting k is_creation (option_map (posted_of n) x.callback) a)) (sym (e.handlers h).answer)
     (waits_fine n s h k gives is_creation x.callback x.answer w c f below e sound stack is refl)))
@@ -193,7 +193,7 @@ turn_waits n s h k gives is_creation w c f below e sound stack is awaits =
 turn_in_call : (n : Numbering) (s : System) (h : ℕ) (gives : Option EntityType) (w : machine.World) (c : State) (f : machine.Frame) (below : List machine.Frame) →
     (w.handlers h).stack ≡ f ∷ below → f.stage ≡ machine.InCall gives → (c.handlers h).stage ≡ Runs → Grants n s h w c (job_at h (c.handlers h).stage (c.handlers h) c)
 turn_in_call n s h gives w c f below stack is runs =
-    subst (λ (t : Stage). Grants n s h w c (job_at h t (c.handlers h) c)) (sym runs)
+    subst (λ (t : HandlerStage). Grants n s h w c (job_at h t (c.handlers h) c)) (sym runs)
     (asks_fine n s h w c (c.handlers h).entry f below (machine.InCall gives) stack is (refl, tt))
 
 turn_goes : (n : Numbering) (s : System) (h : ℕ) (stage : machine.Stage) (w : machine.World) (c : State) (f : machine.Frame) (below : List machine.Frame) →

@@ -21,8 +21,8 @@ use Rattle.sc_rules.proofs.PurityStands.{purity_stands}
 use Rattle.sc_lockpass.specs.Rights.{held}
 use Rattle.sc_waitcond.specs.Conditions.{clause_kind, kind_where, lies_on_any, verdict_of_false}
 use Rattle.sc_waitcond.specs.Reservations.{mark_of, reserve_fails}
-use Rattle.sc_waitcond.specs.declared.condition.Verdict.{Verdict}
-use Rattle.sc_waitcond.specs.declared.condition.Verdict.TheVariants as verdict
+use Rattle.sc_waitcond.specs.declared.condition.EntryVerdict.{EntryVerdict}
+use Rattle.sc_waitcond.specs.declared.condition.EntryVerdict.TheVariants as verdict
 use Rattle.sc_waitcond.specs.declared.session.Release.{Release}
 use Rattle.sc_waitcond.specs.declared.session.Release.TheVariants as release_at
 use Rattle.sc_model.specs.declared.cause.Cause.{Cause}
@@ -34,7 +34,7 @@ use Rattle.sc_model.specs.Objects.{Object, object_numbered, fresh_object}
 use Rattle.sc_model.specs.Invariants.{meets_invariant}
 use Rattle.sc_model.specs.Routines.{Routine, version_of, routine_named, routine_of, routine_from, routine_with, origin_of}
 use Rattle.sc_model.specs.Tasks.{Task, tasks_of}
-use Rattle.sc_model.specs.Steps.{Act, Prints, Tests, Creates, CreatesHandler, Enters, Requests, Starts, Refuses, Opens, Leaves, Exits, Fails, Step, Goes, Does}
+use Rattle.sc_model.specs.Steps.{Act, Prints, Until, Creates, CreatesHandler, Enters, Requests, Starts, Refuses, Opens, Leaves, Exits, Fails, Step, Goes, Does}
 use Rattle.sc_model.specs.Moves.{moves}
 use Rattle.sc_model.specs.Handlers.{Errand, Calls, Makes, Request, Answer, Reply, Failed, Refused, Origin, Called, Requested, Stage, Runs, Reserves, ReservesBlock, InCall, Awaits, Frame, Handler, World, new_handler, point_of, frame_at, put, with_stack}
 use Rattle.sc_model.specs.Sessions.{standing_in, release}
@@ -251,7 +251,7 @@ module _ (s : System) (pure : RoutineName → Bool) (h : ℕ) (w : World) where
       (finish_kept r Refused _ (release_kept release_at.Refusal f.reserved _
       (put_kept (counted_refusal r.is_waited x) v o (subst All (sym (counted_stack r.is_waited x)) is))))
 
-  clause_kept : (d : Verdict) (f : Frame) (below : List Frame) (v : World) → Others h w v → AllStarted below ⊎ (d ≡ verdict.Wait → ⊥) → All below → T (false_clause d s h f below v)
+  clause_kept : (d : EntryVerdict) (f : Frame) (below : List Frame) (v : World) → Others h w v → AllStarted below ⊎ (d ≡ verdict.Wait → ⊥) → All below → T (false_clause d s h f below v)
   clause_kept verdict.Wait f below v o (inl all) is =
       release_kept release_at.FalseWaitCondition f.reserved _
       (stack_kept
@@ -315,7 +315,7 @@ module _ (s : System) (pure : RoutineName → Bool) (h : ℕ) (w : World) where
   acts_kept : (most : ℕ) (a : Act) (f : Frame) (below : List Frame) (v : World) → Others h w v → (v.handlers h).stack ≡ f ∷ below →
       Next a f below → Guard f below → All below → T (effect most s h a f below v)
   acts_kept most (Prints text) f below v o at next g is = put_kept _ v o (subst All (sym at) (g, is))
-  acts_kept most Tests f below v o at next g is = stays v (f ∷ below) o at (g, is)
+  acts_kept most Until f below v o at next g is = stays v (f ∷ below) o at (g, is)
   acts_kept most Creates f below v o at next g is = stays v (f ∷ below) o at (g, is)
   acts_kept most Starts f below v o at next g is = stays v (f ∷ below) o at (g, is)
   acts_kept most (CreatesHandler class procedure us t passing) f below v o at next g is = creates_kept most class procedure us t passing f below v o next is
@@ -451,7 +451,7 @@ module _ (s : System) (root : Root) (pure : RoutineName → Bool) (faultless : I
     on_started : AllStarted below → (st : Step) → RefusesNone st ⊎ ClauseStep s pure f.routine.contract (formals_known s f.routine.text.formals) st → NextStep s pure h w st f below
     on_started all (Goes p) z = tt
     on_started all (Does (Prints text) p) z = tt
-    on_started all (Does Tests p) z = tt
+    on_started all (Does Until p) z = tt
     on_started all (Does Creates p) z = tt
     on_started all (Does Starts p) z = tt
     on_started all (Does (CreatesHandler class procedure us t passing) p) z = all
@@ -468,7 +468,7 @@ module _ (s : System) (root : Root) (pure : RoutineName → Bool) (faultless : I
     as_pure : f.reserved ≡ [] → (st : Step) → CalmStep s pure st → NextStep s pure h w st f below
     as_pure none (Goes p) z = tt
     as_pure none (Does (Prints text) p) z = tt
-    as_pure none (Does Tests p) z = tt
+    as_pure none (Does Until p) z = tt
     as_pure none (Does Creates p) z = tt
     as_pure none (Does Starts p) z = tt
     as_pure none (Does (CreatesHandler class procedure us t passing) p) z = absurd z
@@ -490,7 +490,7 @@ module _ (s : System) (root : Root) (pure : RoutineName → Bool) (faultless : I
         LendsStarted (asked_in h w.count below st)
     lends_started all (Goes p) z = tt
     lends_started all (Does (Prints text) p) z = tt
-    lends_started all (Does Tests p) z = tt
+    lends_started all (Does Until p) z = tt
     lends_started all (Does Creates p) z = tt
     lends_started all (Does Starts p) z = tt
     lends_started all (Does (CreatesHandler class procedure us t passing) p) (inl i) = λ e. (i, started_left below all)
@@ -507,7 +507,7 @@ module _ (s : System) (root : Root) (pure : RoutineName → Bool) (faultless : I
     lends_nothing : (st : Step) → CalmStep s pure st → LendsStarted (asked_in h w.count below st)
     lends_nothing (Goes p) z = tt
     lends_nothing (Does (Prints text) p) z = tt
-    lends_nothing (Does Tests p) z = tt
+    lends_nothing (Does Until p) z = tt
     lends_nothing (Does Creates p) z = tt
     lends_nothing (Does Starts p) z = tt
     lends_nothing (Does (CreatesHandler class procedure us t passing) p) z = absurd z

@@ -19,7 +19,7 @@ use Rattle.sc_region.specs.declared.job.Job.TheVariants as job
 use Rattle.sc_region.specs.declared.job.Request.{Request}
 use Rattle.sc_region.specs.declared.job.Want.{Want}
 use Rattle.sc_region.specs.declared.job.Want.TheVariants as want
-use Rattle.sc_request.specs.Handlers.{Posted, posted, Answer, Replied, Refused, Stage, Idle, Runs, HasMade, Reserves, Awaits, Service, service, Handler, State, new_handler, put, with_stage}
+use Rattle.sc_request.specs.Handlers.{Posted, posted, Answer, Replied, Refused, HandlerStage, Idle, Runs, HasMade, Reserves, Awaits, Service, service, Handler, State, new_handler, put, with_stage}
 use Rattle.sc_request.specs.Sessions.{session_ended, release, passed_if, passes, send, placed, is_callback, with_handler, answered, answer_to, return_rights, finish, is_waited_by, requests_at, told, fallen, fail}
 use Rattle.sc_request.specs.Settling.{serves, takes_next, takes_callback, takes, takes_answer, made_at, begun, awaits_if, sends, asks_of, creation, creates_with, creates, counted_refusal, ends_service, ends, done, posts_unheld, done_if, asked_in, fits_turns, may_ask}
 use Rattle.sc_refines_core.specs.Entries.{KeepsEntry, is_reserving, EntryStays, EntriesStay}
@@ -84,13 +84,13 @@ refusal_same true x = record { stage = refl; services = refl; entry = refl }
 refusal_same false x = record { stage = refl; services = refl; entry = refl }
 
 -- a stage at which nothing is reserved
-plain : (x : Handler) (stage : Stage) → is_reserving stage ≡ false → Kept x (record x { stage = stage })
+plain : (x : Handler) (stage : HandlerStage) → is_reserving stage ≡ false → Kept x (record x { stage = stage })
 plain x stage e = record { keeps = λ k. record { entered = λ ks mark is. no (sym e ∙ ap is_reserving is); over = k.over }; entry = refl }
   where
     no : {A : Type 0} → false ≡ true → A
     no e = cc
 
-served : (x : Handler) (p : Posted) (stage : Stage) → x.stage ≡ stage → is_reserving stage ≡ false → Kept x (serves p x)
+served : (x : Handler) (p : Posted) (stage : HandlerStage) → x.stage ≡ stage → is_reserving stage ≡ false → Kept x (serves p x)
 served x p stage is e = record {
   keeps = λ k. record { entered = λ ks mark i. no (ap is_reserving i); over = λ v i. by k v i };
   entry = refl;
@@ -154,7 +154,7 @@ put_same h x s p = put_with Same same h x s p
 release_same : (how : Release) (ks : List ℕ) (s : State) → AreSame s (release how ks s)
 release_same how ks s k = session_same (ends_session how && is_among k ks) (s.handlers k)
 
-staged : (h : ℕ) (stage : Stage) (s : State) → is_reserving stage ≡ false → Keep s (with_stage h stage s)
+staged : (h : ℕ) (stage : HandlerStage) (s : State) → is_reserving stage ≡ false → Keep s (with_stage h stage s)
 staged h stage s e = put_keeps h _ s (plain (s.handlers h) stage e)
 
 passes_same : (b : Bool) (h k : ℕ) (s : State) → AreSame s (passes b h k s)
@@ -221,7 +221,7 @@ callback_kept x (Some p) i c e =
     let z = served (record x { callback = None }) p (Awaits i c) e refl in
     record { keeps = λ k. z.keeps (same_keeps x (record x { callback = None }) (record { stage = refl; services = refl; entry = refl }) k); entry = refl }
 
-takes_kept : (x : Handler) (stage : Stage) → x.stage ≡ stage → Kept x (takes stage x)
+takes_kept : (x : Handler) (stage : HandlerStage) → x.stage ≡ stage → Kept x (takes stage x)
 takes_kept x Idle e = next_kept x x.queue e
 takes_kept x (Awaits i c) e = callback_kept x x.callback i c e
 takes_kept x Runs e = kept_same x
@@ -241,7 +241,7 @@ kept_released how ks s t p k =
     let z = release_same how ks t k in
     record { keeps = λ c. same_keeps (t.handlers k) _ z ((p k).keeps c); entry = z.entry ∙ (p k).entry }
 
-made_kept : (h : ℕ) (stage : Stage) (s : State) → Keep s (made_at h stage s)
+made_kept : (h : ℕ) (stage : HandlerStage) (s : State) → Keep s (made_at h stage s)
 made_kept h (Awaits k c) s = kept_released release_at.Creation (k ∷ []) s (put h (takes_answer (s.handlers h)) s) (put_keeps h _ s (answer_kept (s.handlers h)))
 made_kept h Idle s = staged h Runs s refl
 made_kept h Runs s = staged h Runs s refl
@@ -295,7 +295,7 @@ asks_stay h k r passing s =
     (sends_stay h k r passing (passing || r.is_waited || is_callback h k s) s))
 
 -- the new handler has no frames; its creator is another
-creator_stays : (h : ℕ) (stage : Stage) (s : State) → (h ≡ s.count → ⊥) → is_reserving stage ≡ false → Stay s (with_stage h stage (with_handler s.count h s))
+creator_stays : (h : ℕ) (stage : HandlerStage) (s : State) → (h ≡ s.count → ⊥) → is_reserving stage ≡ false → Stay s (with_stage h stage (with_handler s.count h s))
 creator_stays h stage s apart e j = by (j == h) refl (j == s.count) refl
   where
     no : {A : Type 0} → false ≡ true → A
@@ -402,7 +402,7 @@ begun_count h job.Refused s = refl
 begun_count h (job.Granted ks) s = refl
 begun_count h (job.Made k) s = by (s.handlers h).stage
   where
-    by : (stage : Stage) → (made_at h stage s).count ≡ s.count
+    by : (stage : HandlerStage) → (made_at h stage s).count ≡ s.count
     by (Awaits k c) = refl
     by Idle = refl
     by Runs = refl

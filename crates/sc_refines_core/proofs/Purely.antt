@@ -16,8 +16,8 @@ use Rattle.sc_rules.specs.SystemRules.{WellFormed}
 use Rattle.sc_rules.specs.Types.{declared_type}
 use Rattle.sc_lockpass.specs.Rights.{held}
 use Rattle.sc_waitcond.specs.Reservations.{mark_of, reserve_fails}
-use Rattle.sc_waitcond.specs.declared.condition.Verdict.{Verdict}
-use Rattle.sc_waitcond.specs.declared.condition.Verdict.TheVariants as verdict
+use Rattle.sc_waitcond.specs.declared.condition.EntryVerdict.{EntryVerdict}
+use Rattle.sc_waitcond.specs.declared.condition.EntryVerdict.TheVariants as verdict
 use Rattle.sc_waitcond.specs.declared.session.Release.{Release}
 use Rattle.sc_waitcond.specs.declared.session.Release.TheVariants as release_at
 use Rattle.sc_model.specs.declared.cause.Cause.{Cause}
@@ -29,7 +29,7 @@ use Rattle.sc_model.specs.Objects.{Object, object_numbered, fresh_object}
 use Rattle.sc_model.specs.Invariants.{meets_invariant}
 use Rattle.sc_model.specs.Routines.{Routine, version_of, routine_named, routine_of}
 use Rattle.sc_model.specs.Tasks.{tasks_of}
-use Rattle.sc_model.specs.Steps.{Calling, Act, Prints, Tests, Creates, CreatesHandler, Enters, Requests, Starts, Refuses, Opens, Leaves, Exits, Fails, Step, Goes, Does, Point}
+use Rattle.sc_model.specs.Steps.{Calling, Act, Prints, Until, Creates, CreatesHandler, Enters, Requests, Starts, Refuses, Opens, Leaves, Exits, Fails, Step, Goes, Does, Point}
 use Rattle.sc_model.specs.Moves.{moves}
 use Rattle.sc_model.specs.Handlers.{Errand, Calls, Makes, Request, Answer, Reply, Failed, Refused, Origin, Called, Requested, Stage, Runs, Reserves, ReservesBlock, InCall, Awaits, Frame, Handler, World, new_handler, point_of, frame_at, put, with_stack}
 use Rattle.sc_model.specs.Sessions.{standing_in, release}
@@ -276,7 +276,7 @@ module _ (s : System) (pure : RoutineName → Bool) (h : ℕ) (w : World) where
       (finish_stood r Refused _ (release_stood release_at.Refusal f.reserved _
       (put_stood (counted_refusal r.is_waited x) v o (subst All (sym (counted_stack r.is_waited x)) is))))
 
-  clause_stood : (d : Verdict) (f : Frame) (below : List Frame) (v : World) → Others h w v → IsOther pure f ⊎ IsFirst s f → All below → T (false_clause d s h f below v)
+  clause_stood : (d : EntryVerdict) (f : Frame) (below : List Frame) (v : World) → Others h w v → IsOther pure f ⊎ IsFirst s f → All below → T (false_clause d s h f below v)
   clause_stood verdict.Wait f below v o first is =
       release_stood release_at.FalseWaitCondition f.reserved _
       (stack_stood
@@ -320,7 +320,7 @@ module _ (s : System) (pure : RoutineName → Bool) (h : ℕ) (w : World) where
       All below → T (effect most s h a f below v)
   acts_stood most (Prints text) f below v r o at (inl i) first back is = put_stood _ v o (subst All (sym at) (inl i, is))
   acts_stood most (Prints text) f below v r o at (inr z) first back is = absurd z
-  acts_stood most Tests f below v r o at z first back is = stays v (f ∷ below) o at (now z, is)
+  acts_stood most Until f below v r o at z first back is = stays v (f ∷ below) o at (now z, is)
     where
       now : IsOther pure f ⊎ Stands s pure f [] → N s pure f
       now (inl i) = inl i
@@ -354,7 +354,7 @@ module _ (s : System) (pure : RoutineName → Bool) (h : ℕ) (w : World) where
   -- what the frame does where it stands at the point
   at_point : (a : Act) (f : Frame) (p : Point) → PureAct s pure f.routine a p → Acts a (frame_at f p)
   at_point (Prints text) f p z = z
-  at_point Tests f p z = at_objects s pure f.routine [] p [] z
+  at_point Until f p z = at_objects s pure f.routine [] p [] z
   at_point Creates f p z = z
   at_point Starts f p z = at_objects s pure f.routine [] p [] z
   at_point (CreatesHandler class procedure us t passing) f p z = z
@@ -692,7 +692,7 @@ module _ (s : System) (root : Root) (pure : RoutineName → Bool) (faultless : I
     where
       of_act : (a : Act) (q : Point) → PureAct s pure f.routine a q → CalmStep s pure (Does a q)
       of_act (Prints text) q z = z
-      of_act Tests q z = tt
+      of_act Until q z = tt
       of_act Creates q z = z
       of_act Starts q z = tt
       of_act (CreatesHandler class procedure us t passing) q z = z

@@ -12,8 +12,8 @@ use Rattle.sc_rules.specs.Types.{declared_type}
 use Rattle.sc_lockpass.specs.Rights.{is_among, is_handler, held}
 use Rattle.sc_lockpass.specs.Passing.{Passed}
 use Rattle.sc_waitcond.specs.Reservations.{ends_session, mark_of, reserve_fails}
-use Rattle.sc_waitcond.specs.declared.condition.Verdict.{Verdict}
-use Rattle.sc_waitcond.specs.declared.condition.Verdict.TheVariants as verdict
+use Rattle.sc_waitcond.specs.declared.condition.EntryVerdict.{EntryVerdict}
+use Rattle.sc_waitcond.specs.declared.condition.EntryVerdict.TheVariants as verdict
 use Rattle.sc_waitcond.specs.declared.session.Release.{Release}
 use Rattle.sc_waitcond.specs.declared.session.Release.TheVariants as release_at
 use Rattle.sc_model.specs.declared.cause.Cause.{Cause}
@@ -25,7 +25,7 @@ use Rattle.sc_model.specs.Objects.{Object, object_numbered, fresh_object}
 use Rattle.sc_model.specs.Invariants.{meets_invariant}
 use Rattle.sc_model.specs.Routines.{Routine, version_of, routine_named, routine_of}
 use Rattle.sc_model.specs.Tasks.{tasks_of}
-use Rattle.sc_model.specs.Steps.{Act, Prints, Tests, Creates, CreatesHandler, Enters, Requests, Starts, Refuses, Opens, Leaves, Exits, Fails, Step, Goes, Does, Point}
+use Rattle.sc_model.specs.Steps.{Act, Prints, Until, Creates, CreatesHandler, Enters, Requests, Starts, Refuses, Opens, Leaves, Exits, Fails, Step, Goes, Does, Point}
 use Rattle.sc_model.specs.Moves.{moves}
 use Rattle.sc_model.specs.Handlers.{Errand, Calls, Makes, Request, Answer, Reply, Failed, Refused, Origin, Called, Requested, Stage, Runs, Reserves, ReservesBlock, InCall, Awaits, Frame, Handler, World, new_handler, point_of, frame_at, put, with_stack}
 use Rattle.sc_model.specs.Sessions.{standing_in, session_ended, release}
@@ -283,7 +283,7 @@ module _ (h : ℕ) (e : List ℕ) (w : World) where
       (finish_turned r Refused _ (release_turned release_at.Refusal f.reserved _
       (put_turned (counted_refusal r.is_waited x) v o (subst (AllRecall e) (sym (counted_stack r.is_waited x)) is))))
 
-  clause_turned : (d : Verdict) (s : System) (f : Frame) (below : List Frame) (v : World) → Others h w v → AllRecall e below → T (false_clause d s h f below v)
+  clause_turned : (d : EntryVerdict) (s : System) (f : Frame) (below : List Frame) (v : World) → Others h w v → AllRecall e below → T (false_clause d s h f below v)
   clause_turned verdict.Wait s f below v o is =
       release_turned release_at.FalseWaitCondition f.reserved _
       (stack_turned
@@ -320,7 +320,7 @@ module _ (h : ℕ) (e : List ℕ) (w : World) where
   acts_turned : (most : ℕ) (s : System) (a : Act) (f : Frame) (below : List Frame) (v : World) → Others h w v → (v.handlers h).stack ≡ f ∷ below →
       IfGoing a (Recalls e f) → AllRecall e below → T (effect most s h a f below v)
   acts_turned most s (Prints text) f below v o at r is = put_turned _ v o (subst (AllRecall e) (sym at) (r, is))
-  acts_turned most s Tests f below v o at r is = stays v (f ∷ below) o at (r, is)
+  acts_turned most s Until f below v o at r is = stays v (f ∷ below) o at (r, is)
   acts_turned most s Creates f below v o at r is = stays v (f ∷ below) o at (r, is)
   acts_turned most s Starts f below v o at r is = stays v (f ∷ below) o at (r, is)
   acts_turned most s (CreatesHandler class procedure us t passing) f below v o at r is = creates_turned most class procedure us t passing f below v o (r, is)
@@ -343,7 +343,7 @@ module _ (h : ℕ) (e : List ℕ) (w : World) where
   acted : (K : ℕ → Type 0) (n : ℕ) (a : Act) (p : Point) (f : Frame) → (HasStarted f.tasks → RefusesNone (Does a p)) → DoesWell K (formals_of f) h n a p →
       Recalls e f → IfGoing a (Recalls e (frame_at f p))
   acted K n (Prints text) p f calm well r = common f p calm well.formals.same r
-  acted K n Tests p f calm well r = common f p calm well.formals.same r
+  acted K n Until p f calm well r = common f p calm well.formals.same r
   acted K n Creates p f calm well r = common f p calm well.formals.same r
   acted K n Starts p f calm well r = common f p calm well.formals.same r
   acted K n (CreatesHandler class procedure us t passing) p f calm well r = common f p calm well.1.formals.same r

@@ -15,8 +15,8 @@ use Rattle.sc_rules.specs.SystemRules.{WellFormed}
 use Rattle.sc_rules.specs.Types.{declared_type}
 use Rattle.sc_lockpass.specs.Rights.{held}
 use Rattle.sc_waitcond.specs.Reservations.{mark_of, reserve_fails}
-use Rattle.sc_waitcond.specs.declared.condition.Verdict.{Verdict}
-use Rattle.sc_waitcond.specs.declared.condition.Verdict.TheVariants as verdict
+use Rattle.sc_waitcond.specs.declared.condition.EntryVerdict.{EntryVerdict}
+use Rattle.sc_waitcond.specs.declared.condition.EntryVerdict.TheVariants as verdict
 use Rattle.sc_waitcond.specs.declared.session.Release.{Release}
 use Rattle.sc_waitcond.specs.declared.session.Release.TheVariants as release_at
 use Rattle.sc_model.specs.declared.cause.Cause.{Cause}
@@ -29,7 +29,7 @@ use Rattle.sc_model.specs.Invariants.{meets_invariant}
 use Rattle.sc_model.specs.Routines.{Routine, version_of, routine_named, routine_of}
 use Rattle.sc_model.specs.Tasks.{Task, Require, requires, keeps_olds, tasks_of}
 use Rattle.sc_model.specs.Olds.{olds_of_clauses}
-use Rattle.sc_model.specs.Steps.{Calling, Act, Prints, Tests, Creates, CreatesHandler, Enters, Requests, Starts, Refuses, Opens, Leaves, Exits, Fails, Step, Goes, Does, Point}
+use Rattle.sc_model.specs.Steps.{Calling, Act, Prints, Until, Creates, CreatesHandler, Enters, Requests, Starts, Refuses, Opens, Leaves, Exits, Fails, Step, Goes, Does, Point}
 use Rattle.sc_model.specs.Moves.{moves}
 use Rattle.sc_model.specs.Handlers.{Errand, Calls, Makes, Request, Answer, Reply, Failed, Refused, Origin, Called, Requested, Stage, Runs, Reserves, ReservesBlock, InCall, Awaits, Frame, Handler, World, new_handler, point_of, frame_at, put, with_stack}
 use Rattle.sc_model.specs.Sessions.{standing_in, release}
@@ -237,7 +237,7 @@ module _ (s : System) (pure : RoutineName → Bool) (h : ℕ) (w : World) where
       (finish_stood r Refused _ (release_stood release_at.Refusal f.reserved _
       (put_stood (counted_refusal r.is_waited x) v o (subst All (sym (counted_stack r.is_waited x)) is))))
 
-  clause_stood : (d : Verdict) (f : Frame) (below : List Frame) (v : World) → Others h w v → All below → T (false_clause d s h f below v)
+  clause_stood : (d : EntryVerdict) (f : Frame) (below : List Frame) (v : World) → Others h w v → All below → T (false_clause d s h f below v)
   clause_stood verdict.Wait f below v o is =
       release_stood release_at.FalseWaitCondition f.reserved _
       (stack_stood
@@ -275,8 +275,8 @@ module _ (s : System) (pure : RoutineName → Bool) (h : ℕ) (w : World) where
       All below → T (effect most s h a f below v)
   acts_stood most (Prints text) f below v o at (inl i) back is = put_stood _ v o (subst All (sym at) (inl i, is))
   acts_stood most (Prints text) f below v o at (inr z) back is = absurd z
-  acts_stood most Tests f below v o at (inl i) back is = stays v (f ∷ below) o at (inl i, is)
-  acts_stood most Tests f below v o at (inr z) back is = absurd z
+  acts_stood most Until f below v o at (inl i) back is = stays v (f ∷ below) o at (inl i, is)
+  acts_stood most Until f below v o at (inr z) back is = absurd z
   acts_stood most Creates f below v o at (inl i) back is = stays v (f ∷ below) o at (inl i, is)
   acts_stood most Creates f below v o at (inr z) back is = absurd z
   acts_stood most Starts f below v o at (inl i) back is = stays v (f ∷ below) o at (inl i, is)
@@ -304,7 +304,7 @@ module _ (s : System) (pure : RoutineName → Bool) (h : ℕ) (w : World) where
   -- what the frame does where it stands at the point
   at_point : (a : Act) (f : Frame) (p : Point) → ClauseAct s pure f.routine.contract (formals_known s f.routine.text.formals) a p → Acts a (frame_at f p)
   at_point (Prints text) f p z = z
-  at_point Tests f p z = z
+  at_point Until f p z = z
   at_point Creates f p z = z
   at_point Starts f p z = z
   at_point (CreatesHandler class procedure us t passing) f p z = z
@@ -320,7 +320,7 @@ module _ (s : System) (pure : RoutineName → Bool) (h : ℕ) (w : World) where
 
   started_after : (a : Act) (f : Frame) (p : Point) → RefusesNone (Does a p) → HasStarted (frame_at f p).tasks
   started_after (Prints text) f p i = i
-  started_after Tests f p i = i
+  started_after Until f p i = i
   started_after Creates f p i = i
   started_after Starts f p i = i
   started_after (CreatesHandler class procedure us t passing) f p i = i

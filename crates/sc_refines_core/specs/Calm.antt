@@ -29,7 +29,7 @@ use Rattle.sc_model.specs.Handlers.{Frame, Runs, World, point_of}
 use Rattle.sc_model.specs.Moves.{moves}
 use Rattle.sc_model.specs.Routines.{Routine, Text, place_in, routine_named}
 use Rattle.sc_model.specs.Runs.{IsReached}
-use Rattle.sc_model.specs.Steps.{Act, Enters, Starts, Tests, Refuses, Exits, Fails, Step, Goes, Does, Point}
+use Rattle.sc_model.specs.Steps.{Act, Enters, Starts, Until, Refuses, Exits, Fails, Step, Goes, Does, Point}
 use Rattle.sc_model.specs.Tasks.{Task, ApplyBinary, ApplyUnary, AssignTo, Bind, CallQualified, CallUnqualified, Checked, Choose, Conclude, Declare, Do, EndLoop, Ensured, Eval, EvalRight, Forget, In, KeepOld, Repeat, Require, Required, tasks_of}
 use Rattle.sc_model.specs.Values.{Boolean, Operand, Reference}
 use Rattle.sc_machine_values.specs.Points.{types_of}
@@ -183,7 +183,7 @@ abbrev pub PureAct : System → (RoutineName → Bool) → Routine → Act → P
 PureAct s pure r (Enters c o x us gives) p = RunsPure s pure o x ×
     ((a : EntityType) × (gives ≡ Some a) × StandsPure s pure r (a ∷ []) p)
 PureAct s pure r Starts p = StandsPure s pure r [] p
-PureAct s pure r Tests p = StandsPure s pure r [] p
+PureAct s pure r Until p = StandsPure s pure r [] p
 PureAct s pure r (Refuses k) p = Unit {0}
 PureAct s pure r Exits p = Unit {0}
 PureAct s pure r (Fails why) p = Unit {0}
@@ -197,7 +197,7 @@ PureStep s pure r (Does a p) = PureAct s pure r a p
 abbrev pub CalmAct : System → (RoutineName → Bool) → Act → Type 0
 CalmAct s pure (Enters c o x us gives) = RunsPure s pure o x
 CalmAct s pure Starts = Unit {0}
-CalmAct s pure Tests = Unit {0}
+CalmAct s pure Until = Unit {0}
 CalmAct s pure (Refuses k) = Unit {0}
 CalmAct s pure Exits = Unit {0}
 CalmAct s pure (Fails why) = Unit {0}

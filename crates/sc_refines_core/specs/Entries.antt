@@ -8,7 +8,7 @@ use Rattle.sc_model.specs.Tasks.{Task, Require, Required}
 use Rattle.sc_model.specs.Values.{Reference}
 use Rattle.sc_region.specs.declared.job.Job.{Job}
 use Rattle.sc_region.specs.declared.job.Want.{Want}
-use Rattle.sc_request.specs.Handlers.{Stage, Idle, Runs, HasMade, Reserves, Awaits, Service, Handler, State}
+use Rattle.sc_request.specs.Handlers.{HandlerStage, Idle, Runs, HasMade, Reserves, Awaits, Service, Handler, State}
 use Rattle.sc_request.specs.Settling.{settled}
 
 -- ---- the core
@@ -18,7 +18,7 @@ pub record KeepsEntry (x : Handler) : Type 0 where
   pub entered : (ks : List ℕ) (mark : List Marked) → x.stage ≡ Reserves ks mark → x.entry ≡ ks
   pub over : (v : Service) → Contains x.services v → (ks : List ℕ) (mark : List Marked) → v.over ≡ Reserves ks mark → ⊥
 
-abbrev pub is_reserving : Stage → Bool
+abbrev pub is_reserving : HandlerStage → Bool
 is_reserving (Reserves ks mark) = true
 is_reserving Idle = false
 is_reserving Runs = false

@@ -16,7 +16,7 @@ use Rattle.sc_region.specs.declared.job.Job.{Job}
 use Rattle.sc_region.specs.declared.job.Request.{Request}
 use Rattle.sc_region.specs.declared.job.Want.{Want}
 use Rattle.sc_region.specs.declared.job.Want.TheVariants as want
-use Rattle.sc_request.specs.Handlers.{Posted, posted, Answer, Replied, SupplierFailed, Refused, Stage, Idle, Runs, HasMade, Reserves, Awaits, Service, Handler, State, put, with_stage}
+use Rattle.sc_request.specs.Handlers.{Posted, posted, Answer, Replied, SupplierFailed, Refused, HandlerStage, Idle, Runs, HasMade, Reserves, Awaits, Service, Handler, State, put, with_stage}
 use Rattle.sc_request.specs.Sessions.{answer_to, answered, fail, fallen, finish, is_callback, passed_if, passes, placed, release, return_rights, send, session_ended, with_handler}
 use Rattle.sc_request.specs.Settling.{asked_in, asks, awaits_if, begun, counted_refusal, creates, creation, done, done_if, ends, may_ask, posts_unheld, sends, serves, takes, takes_answer, takes_callback, takes_next, made_at}
 use Rattle.sc_request.specs.Picking.{job_answered, job_at, job_awaiting, job_idle, job_reserving, job_with, needs}
@@ -213,16 +213,16 @@ module _ (h : ℕ) (c : State) (ends : EndsCalm (c.handlers h).services) where
 
   answer_rested : (k : ℕ) (b : Bool) (a : Answer) → (c.handlers h).stage ≡ Awaits k b → RestedUnder h c (Some (job_answered k b a))
   answer_rested k true (Replied v) is =
-      subst (λ (t : Stage). IsRested ((made_at h t c).handlers h)) (sym is)
+      subst (λ (t : HandlerStage). IsRested ((made_at h t c).handlers h)) (sym is)
       (released_rested release_at.Creation (k ∷ []) (put h (takes_answer (c.handlers h)) c) (put_rested (takes_answer (c.handlers h)) (record { calm = tt; ends = ends })))
   answer_rested k false (Replied v) is = put_rested (takes_answer (c.handlers h)) (record { calm = tt; ends = ends })
   answer_rested k b SupplierFailed is = record { calm = subst IsCalm (sym is) tt; ends = ends }
   answer_rested k b Refused is = record { calm = subst IsCalm (sym is) tt; ends = ends }
 
-  takes_rested : (t : Stage) (x : Handler) → (c.handlers h).stage ≡ t → takes t (c.handlers h) ≡ x → IsRested x → IsRested ((put h (takes (c.handlers h).stage (c.handlers h)) c).handlers h)
+  takes_rested : (t : HandlerStage) (x : Handler) → (c.handlers h).stage ≡ t → takes t (c.handlers h) ≡ x → IsRested x → IsRested ((put h (takes (c.handlers h).stage (c.handlers h)) c).handlers h)
   takes_rested t x is same r =
       put_rested (takes (c.handlers h).stage (c.handlers h))
-      (subst (λ (u : Stage). IsRested (takes u (c.handlers h))) (sym is) (subst IsRested (sym same) r))
+      (subst (λ (u : HandlerStage). IsRested (takes u (c.handlers h))) (sym is) (subst IsRested (sym same) r))
 
   idle_rested : (ps : List Posted) → (c.handlers h).queue ≡ ps → (c.handlers h).stage ≡ Idle → RestedUnder h c (job_idle ps)
   idle_rested [] queued is = tt
@@ -238,11 +238,11 @@ module _ (h : ℕ) (c : State) (ends : EndsCalm (c.handlers h).services) where
   awaiting_rested k b None (Some a) called is = answer_rested k b a is
   awaiting_rested k b None None called is = tt
 
-  at_rested : (t : Stage) → (c.handlers h).stage ≡ t → RestedUnder h c (job_at h t (c.handlers h) c)
+  at_rested : (t : HandlerStage) → (c.handlers h).stage ≡ t → RestedUnder h c (job_at h t (c.handlers h) c)
   at_rested Idle is = idle_rested (c.handlers h).queue refl is
   at_rested Runs is = record { calm = subst IsCalm (sym is) tt; ends = ends }
   at_rested (HasMade k) is =
-      subst (λ (t : Stage). IsRested ((made_at h t c).handlers h)) (sym is) (put_rested (record (c.handlers h) { stage = Runs }) (record { calm = tt; ends = ends }))
+      subst (λ (t : HandlerStage). IsRested ((made_at h t c).handlers h)) (sym is) (put_rested (record (c.handlers h) { stage = Runs }) (record { calm = tt; ends = ends }))
   at_rested (Reserves ks mark) is = entry_rested (needs h ks c.rights) _ _ (subst IsCalm (sym is) tt)
   at_rested (Awaits k b) is = awaiting_rested k b (c.handlers h).callback (c.handlers h).answer refl is
 
@@ -252,14 +252,14 @@ module _ (h : ℕ) (c : State) (ends : EndsCalm (c.handlers h).services) where
 
 -- ---- what frames serve
 
-over_calm : (o : machine.Stage) (f : machine.Frame) (t : Stage) → IsAwaiting o → IsStage o f t → IsCalm t
+over_calm : (o : machine.Stage) (f : machine.Frame) (t : HandlerStage) → IsAwaiting o → IsStage o f t → IsCalm t
 over_calm machine.Runs f t a e = absurd a
 over_calm machine.Reserves f t a e = absurd a
 over_calm machine.ReservesBlock f t a e = absurd a
 over_calm (machine.InCall gives) f t a e = absurd a
 over_calm (machine.Awaits k gives b) f t a e = subst IsCalm (sym e) tt
 
-top_calm : (fs : List machine.Frame) (r : machine.Request) (t : Stage) → StandsOver (machine.Requested r) fs → IsTop fs t → IsCalm t
+top_calm : (fs : List machine.Frame) (r : machine.Request) (t : HandlerStage) → StandsOver (machine.Requested r) fs → IsTop fs t → IsCalm t
 top_calm [] r t stands top = subst IsCalm (sym top) tt
 top_calm (g ∷ gs) r t stands top = over_calm g.stage g t stands top
 

@@ -11,8 +11,8 @@ use Rattle.sc_proctype.specs.declared.entity_type.EntityType.{EntityType}
 use Rattle.sc_rules.specs.Types.{declared_type}
 use Rattle.sc_lockpass.specs.Rights.{held}
 use Rattle.sc_waitcond.specs.Reservations.{mark_of, reserve_fails}
-use Rattle.sc_waitcond.specs.declared.condition.Verdict.{Verdict}
-use Rattle.sc_waitcond.specs.declared.condition.Verdict.TheVariants as verdict
+use Rattle.sc_waitcond.specs.declared.condition.EntryVerdict.{EntryVerdict}
+use Rattle.sc_waitcond.specs.declared.condition.EntryVerdict.TheVariants as verdict
 use Rattle.sc_waitcond.specs.declared.session.Release.{Release}
 use Rattle.sc_waitcond.specs.declared.session.Release.TheVariants as release_at
 use Rattle.sc_model.specs.declared.cause.Cause.{Cause}
@@ -25,7 +25,7 @@ use Rattle.sc_model.specs.Invariants.{meets_invariant}
 use Rattle.sc_model.specs.Routines.{Routine, version_of, routine_named, routine_of}
 use Rattle.sc_model.specs.Tasks.{tasks_of}
 use Rattle.sc_model.specs.Runs.{root_request}
-use Rattle.sc_model.specs.Steps.{Act, Prints, Tests, Creates, CreatesHandler, Enters, Requests, Starts, Refuses, Opens, Leaves, Exits, Fails, Step, Goes, Does}
+use Rattle.sc_model.specs.Steps.{Act, Prints, Until, Creates, CreatesHandler, Enters, Requests, Starts, Refuses, Opens, Leaves, Exits, Fails, Step, Goes, Does}
 use Rattle.sc_model.specs.Moves.{moves}
 use Rattle.sc_model.specs.Handlers.{Errand, Calls, Makes, Request, Answer, Reply, Failed, Refused, Origin, Called, Requested, Stage, Runs, Reserves, ReservesBlock, InCall, Awaits, Frame, Handler, World, new_handler, put, with_stack, point_of, frame_at}
 use Rattle.sc_model.specs.Sessions.{standing_in, release}
@@ -174,7 +174,7 @@ module _ (h : ℕ) where
   correctness_ordered s (Called c) f below w order = fail_ordered cause.Precondition w
   correctness_ordered s (Requested r) f below w order = refuses_ordered s r f below w order
 
-  clause_ordered : (v : Verdict) (s : System) (f : Frame) (below : List Frame) (w : World) → AreInOrder (f ∷ below) → Ordered (false_clause v s h f below w)
+  clause_ordered : (v : EntryVerdict) (s : System) (f : Frame) (below : List Frame) (w : World) → AreInOrder (f ∷ below) → Ordered (false_clause v s h f below w)
   clause_ordered verdict.Wait s f below w order =
       let g = record f { stage = Reserves; tasks = tasks_of f.routine; values = []; reserved = []; mark = mark_of (λ k. (w.handlers k).sessions) f.reserved } in
       released_ordered release_at.FalseWaitCondition f.reserved (with_stack h (g ∷ below) w) (stack_ordered (g ∷ below) w (order.0, tt, order.2))
@@ -237,7 +237,7 @@ module _ (h : ℕ) where
 
   act_ordered : (most : ℕ) (s : System) (a : Act) (f : Frame) (below : List Frame) (w : World) → Ordered w → AreInOrder (f ∷ below) → Ordered (effect most s h a f below w)
   act_ordered most s (Prints text) f below w given order = put_ordered (record (w.handlers h) { output = (w.handlers h).output ++ text }) w given
-  act_ordered most s Tests f below w given order = given
+  act_ordered most s Until f below w given order = given
   act_ordered most s Creates f below w given order = given
   act_ordered most s Starts f below w given order = given
   act_ordered most s (CreatesHandler class procedure us t passing) f below w given order = creates_ordered most class procedure us t passing f below w order

@@ -8,7 +8,7 @@ use Rattle.sc_model.specs.declared.cause.Cause.{Cause}
 use Rattle.sc_region.specs.declared.job.Job.{Job}
 use Rattle.sc_region.specs.declared.job.Job.TheVariants as job
 use Rattle.sc_region.specs.declared.job.Want.TheVariants as want
-use Rattle.sc_request.specs.Handlers.{Posted, Answer, Replied, SupplierFailed, Refused, Stage, Idle, Runs, HasMade, Reserves, Awaits, Handler, State, put}
+use Rattle.sc_request.specs.Handlers.{Posted, Answer, Replied, SupplierFailed, Refused, HandlerStage, Idle, Runs, HasMade, Reserves, Awaits, Handler, State, put}
 use Rattle.sc_request.specs.Sessions.{release, session_ended}
 use Rattle.sc_request.specs.Picking.{job_answered, job_at, job_awaiting, job_idle, job_of, job_reserving, job_with, needs}
 use Rattle.sc_request.specs.Settling.{asked_in, begun, fits_first, goes_on, made_at, settled, takes, takes_answer, takes_callback, takes_next}
@@ -21,7 +21,7 @@ some_same x y e = cc
 false_true : {B : Type 0} → false ≡ true → B
 false_true e = cc
 
-first_fits : (stage : Stage) (j : Job) → goes_on j ≡ true → fits_first stage j want.Continue ≡ true
+first_fits : (stage : HandlerStage) (j : Job) → goes_on j ≡ true → fits_first stage j want.Continue ≡ true
 first_fits stage (job.Take r) g = refl
 first_fits stage (job.Reply v) g = refl
 first_fits stage job.Failed g = false_true g
@@ -49,7 +49,7 @@ further_turns_settle most h (suc turns) j w c g =
 -- ---- the handler goes on
 
 -- The handler has this stage, and hasn't failed.
-record IsLiving (stage : Stage) (x : Handler) : Type 0 where
+record IsLiving (stage : HandlerStage) (x : Handler) : Type 0 where
   stage_is : x.stage ≡ stage
   lives : x.failure ≡ None
 
@@ -78,10 +78,10 @@ module _ (h : ℕ) (c : State) (lives : (c.handlers h).failure ≡ None) where
       by false = e
       by true = record { stage_is = e.stage_is; lives = e.lives }
 
-  takes_runs : (t : Stage) (x : Handler) → y.stage ≡ t → takes t y ≡ x → x.stage ≡ Runs → x.failure ≡ None →
+  takes_runs : (t : HandlerStage) (x : Handler) → y.stage ≡ t → takes t y ≡ x → x.stage ≡ Runs → x.failure ≡ None →
       IsLiving Runs ((put h (takes y.stage y) c).handlers h)
   takes_runs t x is same runs stands =
-      subst (λ (z : Handler). IsLiving Runs ((put h z c).handlers h)) (sym (ap (λ (u : Stage). takes u y) is ∙ same)) (put_runs x runs stands)
+      subst (λ (z : Handler). IsLiving Runs ((put h z c).handlers h)) (sym (ap (λ (u : HandlerStage). takes u y) is ∙ same)) (put_runs x runs stands)
 
   idle_runs : (ps : List Posted) → y.queue ≡ ps → y.stage ≡ Idle → RunsUnder (job_idle ps)
   idle_runs [] queued is = tt
@@ -94,7 +94,7 @@ module _ (h : ℕ) (c : State) (lives : (c.handlers h).failure ≡ None) where
 
   answer_runs : (k : ℕ) (b : Bool) (a : Answer) → y.stage ≡ Awaits k b → RunsUnder (Some (job_answered k b a))
   answer_runs k true (Replied v) is g =
-      subst (λ (t : Stage). IsLiving Runs ((made_at h t c).handlers h)) (sym is)
+      subst (λ (t : HandlerStage). IsLiving Runs ((made_at h t c).handlers h)) (sym is)
       (released_runs release_at.Creation (k ∷ []) (put h (takes_answer y) c) (put_runs (takes_answer y) refl lives))
   answer_runs k false (Replied v) is g = put_runs (takes_answer y) refl lives
   answer_runs k true SupplierFailed is g = false_true g
@@ -107,10 +107,10 @@ module _ (h : ℕ) (c : State) (lives : (c.handlers h).failure ≡ None) where
   awaiting_runs k b None (Some a) called is = answer_runs k b a is
   awaiting_runs k b None None called is = tt
 
-  at_runs : (t : Stage) → y.stage ≡ t → RunsUnder (job_at h t y c)
+  at_runs : (t : HandlerStage) → y.stage ≡ t → RunsUnder (job_at h t y c)
   at_runs Idle is = idle_runs y.queue refl is
   at_runs Runs is = λ g. record { stage_is = is; lives = lives }
-  at_runs (HasMade k) is = λ g. subst (λ (t : Stage). IsLiving Runs ((made_at h t c).handlers h)) (sym is) (put_runs (record y { stage = Runs }) refl lives)
+  at_runs (HasMade k) is = λ g. subst (λ (t : HandlerStage). IsLiving Runs ((made_at h t c).handlers h)) (sym is) (put_runs (record y { stage = Runs }) refl lives)
   at_runs (Reserves ks mark) is = entry_runs (needs h ks c.rights) _ _
   at_runs (Awaits k b) is = awaiting_runs k b y.callback y.answer refl is
 
@@ -122,7 +122,7 @@ begun_count h job.Refused c = refl
 begun_count h (job.Granted ks) c = refl
 begun_count h (job.Made k) c = by (c.handlers h).stage
   where
-    by : (t : Stage) → (made_at h t c).count ≡ c.count
+    by : (t : HandlerStage) → (made_at h t c).count ≡ c.count
     by Idle = refl
     by Runs = refl
     by (HasMade i) = refl
@@ -148,7 +148,7 @@ module _ (most h : ℕ) (j : Job) (c : State) (g : goes_on j ≡ true) where
       let runs = lived (c.handlers h).failure refl is in
       ap (λ (b : Bool). if b then job_with h (d.handlers h).failure (d.handlers h) d else None) (ap (λ (m : ℕ). nat_lt h m) (begun_count h j c) ∙ less)
       ∙ ap (λ (o : Option Cause). job_with h o (d.handlers h) d) runs.lives
-      ∙ ap (λ (t : Stage). job_at h t (d.handlers h) d) runs.stage_is
+      ∙ ap (λ (t : HandlerStage). job_at h t (d.handlers h) d) runs.stage_is
   go false less is = none_some j is
 
 -- Behind it the handler goes on.

@@ -17,7 +17,7 @@ use Rattle.sc_region.specs.declared.job.Job.TheVariants as job
 use Rattle.sc_region.specs.declared.job.Request.{Request}
 use Rattle.sc_region.specs.declared.job.Want.{Want}
 use Rattle.sc_region.specs.declared.job.Want.TheVariants as want
-use Rattle.sc_request.specs.Handlers.{posted, Replied, Refused, Stage, Idle, Runs, HasMade, Reserves, Awaits, Service, Handler, State, put, new_handler}
+use Rattle.sc_request.specs.Handlers.{posted, Replied, Refused, HandlerStage, Idle, Runs, HasMade, Reserves, Awaits, Service, Handler, State, put, new_handler}
 use Rattle.sc_request.specs.Sessions.{fail, is_callback, passed_if, release, send, told, with_handler}
 use Rattle.sc_request.specs.Settling.{asked_in, asks, awaits_if, begun, counted_refusal, creates, creation, done, done_if, ends, fits_turns, made_at, may_ask, posts_unheld, sends, takes, takes_answer}
 use Rattle.sc_request.specs.Asked.{Numbering, asked}
@@ -120,14 +120,14 @@ module _ (most h k : ℕ) (apart : k ≡ h → ⊥) where
 
   -- ---- the job begins
 
-  made_other : (t : Stage) (s : State) → Stands s (made_at h t s)
+  made_other : (t : HandlerStage) (s : State) → Stands s (made_at h t s)
   made_other Idle s = put_other (record (s.handlers h) { stage = Runs }) s
   made_other Runs s = put_other (record (s.handlers h) { stage = Runs }) s
   made_other (HasMade j) s = put_other (record (s.handlers h) { stage = Runs }) s
   made_other (Reserves ks mark) s = put_other (record (s.handlers h) { stage = Runs }) s
   made_other (Awaits j b) s = released_stage release_at.Creation (j ∷ []) (put h (takes_answer (s.handlers h)) s) k ∙ put_other (takes_answer (s.handlers h)) s
 
-  made_count : (t : Stage) (s : State) → (made_at h t s).count ≡ s.count
+  made_count : (t : HandlerStage) (s : State) → (made_at h t s).count ≡ s.count
   made_count Idle s = refl
   made_count Runs s = refl
   made_count (HasMade j) s = refl
@@ -162,6 +162,6 @@ module _ (most h k : ℕ) (apart : k ≡ h → ⊥) where
 -- The half of any other handler stays that.
 pub others_keep_halves : OthersKeepHalves
 others_keep_halves most n s h k w c x half apart less given =
-    subst (λ (t : Stage). IsRegionHalf k ((turn most s h w).handlers k) t x)
+    subst (λ (t : HandlerStage). IsRegionHalf k ((turn most s h w).handlers k) t x)
     (sym (stepped_other most h k apart n s w (job_of h c) c (subst (λ (m : ℕ). k < m) (sym half.count) less)))
     (half_alike k (c.handlers k).stage (w.handlers k) _ x ((turn_leads most s h w).others k less apart) given)

@@ -10,8 +10,8 @@ use Rattle.sc_proctype.specs.declared.entity_type.EntityType.{EntityType}
 use Rattle.sc_rules.specs.Types.{declared_type}
 use Rattle.sc_lockpass.specs.Rights.{held}
 use Rattle.sc_waitcond.specs.Reservations.{reserve_fails}
-use Rattle.sc_waitcond.specs.declared.condition.Verdict.{Verdict}
-use Rattle.sc_waitcond.specs.declared.condition.Verdict.TheVariants as verdict
+use Rattle.sc_waitcond.specs.declared.condition.EntryVerdict.{EntryVerdict}
+use Rattle.sc_waitcond.specs.declared.condition.EntryVerdict.TheVariants as verdict
 use Rattle.sc_waitcond.specs.declared.session.Release.{Release}
 use Rattle.sc_waitcond.specs.declared.session.Release.TheVariants as release_at
 use Rattle.sc_model.specs.declared.cause.Cause.{Cause}
@@ -22,7 +22,7 @@ use Rattle.sc_model.specs.Objects.{Object, object_numbered, fresh_object}
 use Rattle.sc_model.specs.Invariants.{meets_invariant}
 use Rattle.sc_model.specs.Routines.{Routine, version_of, routine_named, routine_of}
 use Rattle.sc_model.specs.Limits.{max_frames, max_queue}
-use Rattle.sc_model.specs.Steps.{Act, Prints, Tests, Creates, CreatesHandler, Enters, Requests, Starts, Refuses, Opens, Leaves, Exits, Fails, Step, Goes, Does}
+use Rattle.sc_model.specs.Steps.{Act, Prints, Until, Creates, CreatesHandler, Enters, Requests, Starts, Refuses, Opens, Leaves, Exits, Fails, Step, Goes, Does}
 use Rattle.sc_model.specs.Moves.{moves}
 use Rattle.sc_model.specs.Handlers.{Errand, Calls, Makes, Request, Answer, Reply, Failed, Refused, Origin, Called, Requested, Stage, Runs, Reserves, ReservesBlock, InCall, Awaits, Frame, Handler, World, new_handler, put, with_stack, point_of, frame_at}
 use Rattle.sc_model.specs.Sessions.{standing_in, reserve, release}
@@ -200,7 +200,7 @@ correctness_leads : (s : System) (h : ℕ) (o : Origin) (f : Frame) (below : Lis
 correctness_leads s h (Called c) f below w = fail_leads h cause.Precondition w
 correctness_leads s h (Requested r) f below w = refuses_leads s h r f below w
 
-clause_leads : (v : Verdict) (s : System) (h : ℕ) (f : Frame) (below : List Frame) (w : World) → Leads h w (false_clause v s h f below w)
+clause_leads : (v : EntryVerdict) (s : System) (h : ℕ) (f : Frame) (below : List Frame) (w : World) → Leads h w (false_clause v s h f below w)
 clause_leads verdict.Wait s h f below w = waits_again_leads h f below w
 clause_leads verdict.Refuse s h f below w = correctness_leads s h f.origin f below w
 clause_leads verdict.Start s h f below w = fail_leads h cause.BadCode w
@@ -275,7 +275,7 @@ answer_leads h Refused k g b f below w = fail_leads h cause.Precondition w
 effect_leads : (most : ℕ) (s : System) (h : ℕ) (a : Act) (f : Frame) (below : List Frame) (w : World) → Leads h w (effect most s h a f below w)
 effect_leads most s h (Prints text) f below w =
     put_own h (record (w.handlers h) { output = (w.handlers h).output ++ text }) w
-effect_leads most s h Tests f below w = stays h w
+effect_leads most s h Until f below w = stays h w
 effect_leads most s h Creates f below w = stays h w
 effect_leads most s h Starts f below w = stays h w
 effect_leads most s h (CreatesHandler class procedure us t passing) f below w = creates_leads most h class procedure us t passing f below w

@@ -6,8 +6,8 @@ use Rattle.sc_tree.specs.Plain.{System, FeatureKind}
 use Rattle.sc_class.specs.Tables.Features.{DeclaredFeature}
 use Rattle.sc_proctype.specs.declared.entity_type.EntityType.{EntityType}
 use Rattle.sc_rules.specs.Types.{declared_type}
-use Rattle.sc_waitcond.specs.declared.condition.Verdict.{Verdict}
-use Rattle.sc_waitcond.specs.declared.condition.Verdict.TheVariants as verdict
+use Rattle.sc_waitcond.specs.declared.condition.EntryVerdict.{EntryVerdict}
+use Rattle.sc_waitcond.specs.declared.condition.EntryVerdict.TheVariants as verdict
 use Rattle.sc_model.specs.declared.cause.Cause.TheVariants as cause
 use Rattle.sc_model.specs.Limits.{max_frames}
 use Rattle.sc_model.specs.Values.{Value, Operand, Reference, values_of}
@@ -17,7 +17,7 @@ use Rattle.sc_model.specs.Invariants.{meets_invariant}
 use Rattle.sc_model.specs.Routines.{Routine, version_of, routine_named, routine_of}
 use Rattle.sc_model.specs.Exits.{is_unset, is_unset_value, is_untested}
 use Rattle.sc_model.specs.Preconditions.{verdict_on, is_creation, object_meets}
-use Rattle.sc_model.specs.Steps.{Act, Prints, Tests, Creates, CreatesHandler, Enters, Requests, Starts, Refuses, Opens, Leaves, Exits, Fails}
+use Rattle.sc_model.specs.Steps.{Act, Prints, Until, Creates, CreatesHandler, Enters, Requests, Starts, Refuses, Opens, Leaves, Exits, Fails}
 use Rattle.sc_model.specs.Handlers.{Errand, Calls, Makes, Request, Origin, Called, Requested, Frame}
 use Rattle.sc_region.specs.declared.job.Want.TheVariants as want
 use Rattle.sc_request.specs.Asked.{Numbering, asks_acting, asks_after, asks_beginning, asks_bound, asks_calling, asks_done, asks_entering, asks_errand, asks_exiting, asks_leaving, asks_refusing, asks_releasing, asks_replying, asks_requesting, asks_returning, asks_taking, asks_version}
@@ -79,7 +79,7 @@ refusing s (Requested r) f objects =
     (λ e. by_test IsPlain (object_meets s (object_numbered f.current.number objects)) (asks_done None f.reserved true) (want.Fail cause.Invariant) (λ e. tt) (λ e. tt))
     (λ e. tt)
 
-after : (v : Verdict) (s : System) (f : Frame) (objects : List Object) → IsPlain (asks_after v s f objects)
+after : (v : EntryVerdict) (s : System) (f : Frame) (objects : List Object) → IsPlain (asks_after v s f objects)
 after verdict.Wait s f objects = tt
 after verdict.Refuse s f objects = refusing s f.origin f objects
 after verdict.Start s f objects = tt
@@ -104,7 +104,7 @@ exiting s f objects =
 
 pub acting : (n : Numbering) (s : System) (h : ℕ) (a : Act) (f : Frame) (depth : ℕ) (objects : List Object) → IsPlainAct a → IsPlain (asks_acting n s h a f depth objects)
 acting n s h (Prints text) f depth objects p = tt
-acting n s h Tests f depth objects p = tt
+acting n s h Until f depth objects p = tt
 acting n s h Creates f depth objects p = tt
 acting n s h Starts f depth objects p = tt
 acting n s h (CreatesHandler class procedure us t true) f depth objects p = tt

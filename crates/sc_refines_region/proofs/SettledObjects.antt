@@ -54,7 +54,7 @@ AreOnSame [] [] = Unit {0}
 AreOnSame (f ∷ fs) (g ∷ gs) = (f.current.number ≡ g.current.number) × AreOnSame fs gs
 AreOnSame fs gs = ⊥
 
-pub halves_same : (h : ℕ) (t : core.Stage) (fs gs : List Frame) → AreHalvesOf h t fs gs → AreOnSame fs gs
+pub halves_same : (h : ℕ) (t : core.HandlerStage) (fs gs : List Frame) → AreHalvesOf h t fs gs → AreOnSame fs gs
 halves_same h t [] [] e = tt
 halves_same h t [] (g ∷ gs) e = absurd e
 halves_same h t (f ∷ fs) [] e = absurd e

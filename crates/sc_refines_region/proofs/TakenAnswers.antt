@@ -31,7 +31,7 @@ module _ (s : System) (h : ℕ) (w : World) (f g : Frame) (below under : List Fr
 
   -- ---- answers
 
-  pub reply_half : (t : core.Stage) (k : ℕ) (gives : Option EntityType) (v : Option Value) → IsHalfOfFrame h t f g → f.stage ≡ Awaits k gives false →
+  pub reply_half : (t : core.HandlerStage) (k : ℕ) (gives : Option EntityType) (v : Option Value) → IsHalfOfFrame h t f g → f.stage ≡ Awaits k gives false →
       IsRegionHalf h ((answered (handed_as gives v f)).handlers h) core.Runs (region.takes_reply g.stage v g under x)
   reply_half t k gives v e is = by (subst (λ (st : Stage). IsStageFor h st g.stage) is e.stands)
     where
@@ -50,7 +50,7 @@ module _ (s : System) (h : ℕ) (w : World) (f g : Frame) (below under : List Fr
           (record { same = λ i. record (e.same i) { stage = Runs }; origin = e.origin; stands = runs; values = same })))
 
   -- the answer to a creation, with which the creator is told the handler
-  pub creation_half : (t : core.Stage) (k : ℕ) (gives : Option EntityType) (v : Option Value) → IsHalfOfFrame h t f g → f.stage ≡ Awaits k gives true →
+  pub creation_half : (t : core.HandlerStage) (k : ℕ) (gives : Option EntityType) (v : Option Value) → IsHalfOfFrame h t f g → f.stage ≡ Awaits k gives true →
       gives ≡ None →
       IsRegionHalf h ((sessions.release release_at.Creation (k ∷ []) (answered (handed_as gives v f))).handlers h) core.Runs
       (region.takes_made s h g.stage (record g { values = told k g.values }) under x)
@@ -71,7 +71,7 @@ module _ (s : System) (h : ℕ) (w : World) (f g : Frame) (below under : List Fr
       IsRegionHalf h ((sessions.reserve h ks (machine.with_stack h (f' ∷ below) w)).handlers h) core.Runs (region.with_stack (g' ∷ under) x)
   granted_half f' g' ks e = stack_half h core.Runs (f' ∷ below) w (region.with_stack (g' ∷ under) x) refl refl refl (e, halves)
 
-  pub entry_half : (t : core.Stage) (ks : List ℕ) → IsHalfOfFrame h t f g → f.stage ≡ Reserves →
+  pub entry_half : (t : core.HandlerStage) (ks : List ℕ) → IsHalfOfFrame h t f g → f.stage ≡ Reserves →
       IsRegionHalf h ((sessions.reserve h ks (machine.with_stack h (record f { stage = Runs; reserved = ks } ∷ below) w)).handlers h) core.Runs
       (region.takes_grant g.stage ks g under x)
   entry_half t ks e is =
@@ -82,7 +82,7 @@ module _ (s : System) (h : ℕ) (w : World) (f g : Frame) (below under : List Fr
       (granted_half (record f { stage = Runs; reserved = ks }) (record g { stage = Runs; reserved = ks }) ks
       (record { same = λ i. record (e.same i) { stage = Runs; reserved = ks }; origin = e.origin; stands = refl; values = same }))
 
-  pub block_half : (t : core.Stage) (ks : List ℕ) → IsHalfOfFrame h t f g → f.stage ≡ ReservesBlock →
+  pub block_half : (t : core.HandlerStage) (ks : List ℕ) → IsHalfOfFrame h t f g → f.stage ≡ ReservesBlock →
       IsRegionHalf h ((sessions.reserve h ks (machine.with_stack h (record f { stage = Runs; blocks = ks ∷ f.blocks } ∷ below) w)).handlers h) core.Runs
       (region.takes_grant g.stage ks g under x)
   block_half t ks e is =

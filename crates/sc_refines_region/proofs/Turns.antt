@@ -21,7 +21,7 @@ use Rattle.sc_model.specs.Entries as entries
 use Rattle.sc_model.specs.Entries.{needed_for, opened_in}
 use Rattle.sc_model.specs.Asking as asking
 use Rattle.sc_model.specs.Failures.{to_list, fail}
-use Rattle.sc_model.specs.Steps.{Act, Prints, Tests, Creates, CreatesHandler, Enters, Requests, Starts, Refuses, Opens, Leaves, Exits, Fails, Point, Step, Goes, Does}
+use Rattle.sc_model.specs.Steps.{Act, Prints, Until, Creates, CreatesHandler, Enters, Requests, Starts, Refuses, Opens, Leaves, Exits, Fails, Point, Step, Goes, Does}
 use Rattle.sc_model.specs.Moves.{moves}
 use Rattle.sc_model.specs.Takes as takes_at
 use Rattle.sc_model.specs.Sessions as sessions
@@ -60,7 +60,7 @@ use Rattle.sc_refines_region.proofs.Others.{turn_counts}
 -- ---- the core computes the same tests
 
 module _ (n : Numbering) where
-  staged_frames : (stage : Stage) (f : Frame) (t : core.Stage) → IsStage stage f t → core.has_frames t ≡ true
+  staged_frames : (stage : Stage) (f : Frame) (t : core.HandlerStage) → IsStage stage f t → core.has_frames t ≡ true
   staged_frames machine.Runs f t (inl e) = rw e refl
   staged_frames machine.Runs f t (inr (k, e)) = rw e refl
   staged_frames machine.Reserves f t e = rw e refl
@@ -68,7 +68,7 @@ module _ (n : Numbering) where
   staged_frames (machine.InCall gives) f t e = rw e refl
   staged_frames (machine.Awaits k gives c) f t e = rw e refl
 
-  same_frames : (stack : List Frame) (t : core.Stage) → IsTop stack t → core.has_frames t ≡ sessions.has_frames stack
+  same_frames : (stack : List Frame) (t : core.HandlerStage) → IsTop stack t → core.has_frames t ≡ sessions.has_frames stack
   same_frames [] t e = rw e refl
   same_frames (f ∷ below) t e = staged_frames f.stage f t e
 
@@ -241,12 +241,12 @@ module _ (most : ℕ) (names : List (List ℕ)) (s : System) (h : ℕ) (w : Worl
       lives_behind p = ap (λ (y : Handler). y.failure) (own h (stepped_to p) w) ∙ lives
 
       -- what the visible step leaves, where the core stands so
-      abbrev Leaves_half : Act → Point → core.Stage → Type 0
+      abbrev Leaves_half : Act → Point → core.HandlerStage → Type 0
       Leaves_half a p t =
           IsRegionHalf h ((turns.effect most s h a (frame_at f p) below (behind p)).handlers h) t
           (region.acts s h a (view (frame_at f p) m) under (half_at (stepped_to p) (view (frame_at f p) m ∷ under)))
 
-      abbrev settled_at : Act → Point → core.Stage
+      abbrev settled_at : Act → Point → core.HandlerStage
       settled_at a p = ((asked_in true most h (asks_acting n s h a (frame_at f p) (length (f ∷ below)) p.objects) c1).handlers h).stage
 
       plain_act : (a : Act) (p : Point) → IsPlainAct a → Meets s ((turns.effect most s h a (frame_at f p) below (behind p)).handlers h) → Leaves_half a p (settled_at a p)
@@ -287,7 +287,7 @@ module _ (most : ℕ) (names : List (List ℕ)) (s : System) (h : ℕ) (w : Worl
       act (CreatesHandler class procedure us t false) p meets = creation class procedure us t p
       act (CreatesHandler class procedure us t true) p meets = plain_act (CreatesHandler class procedure us t true) p tt meets
       act (Prints text) p meets = plain_act (Prints text) p tt meets
-      act Tests p meets = plain_act Tests p tt meets
+      act Until p meets = plain_act Until p tt meets
       act Creates p meets = plain_act Creates p tt meets
       act Starts p meets = plain_act Starts p tt meets
       act (Enters b me name us gives) p meets = plain_act (Enters b me name us gives) p tt meets
@@ -325,38 +325,38 @@ module _ (most : ℕ) (names : List (List ℕ)) (s : System) (h : ℕ) (w : Worl
     running : f.stage ≡ machine.Runs → ((c.handlers h).stage ≡ core.Runs) ⊎ ((k : ℕ) × ((c.handlers h).stage ≡ core.HasMade k)) →
         Comes (job_at h (c.handlers h).stage (c.handlers h) c) ran x
     running is (inl goes) =
-        subst (λ (t : core.Stage). Comes (job_at h t (c.handlers h) c) ran x) (sym goes)
+        subst (λ (t : core.HandlerStage). Comes (job_at h t (c.handlers h) c) ran x) (sym goes)
         (λ rested meets.
         let stands : g.stage ≡ machine.Runs = subst (λ (st : Stage). IsStageFor h st g.stage) is halves.0.stands in
         let values : f.values ≡ g.values =
-        subst (λ (st : Stage). IsToldOf st core.Runs f.values g.values) is (subst (λ (t : core.Stage). IsToldOf f.stage t f.values g.values) goes halves.0.values) in
+        subst (λ (st : Stage). IsToldOf st core.Runs f.values g.values) is (subst (λ (t : core.HandlerStage). IsToldOf f.stage t f.values g.values) goes halves.0.values) in
         let same : g ≡ view f g.mark = seen h (c.handlers h).stage f g f.stage g.values f.values halves.0 (stands ∙ sym is) (sym values) in
         subst (λ (st : Stage). IsRegionHalf h (ran.handlers h) ((stepped most n s h w (Some job.Go) c).handlers h).stage (region.goes_on s h st g under x)) (sym stands)
         (subst (λ (g' : Frame). IsRegionHalf h (ran.handlers h) ((stepped most n s h w (Some job.Go) c).handlers h).stage
         (region.goes_on s h machine.Runs g' under (half_at (w.handlers h) (g' ∷ under)))) (sym same)
         (runs c half.count rested g.mark is meets)))
     running is (inr (k, made)) =
-        subst (λ (t : core.Stage). Comes (job_at h t (c.handlers h) c) ran x) (sym made)
+        subst (λ (t : core.HandlerStage). Comes (job_at h t (c.handlers h) c) ran x) (sym made)
         (λ rested meets.
         let stands : g.stage ≡ machine.Runs = subst (λ (st : Stage). IsStageFor h st g.stage) is halves.0.stands in
         let values : f.values ≡ told k g.values =
-        subst (λ (st : Stage). IsToldOf st (core.HasMade k) f.values g.values) is (subst (λ (t : core.Stage). IsToldOf f.stage t f.values g.values) made halves.0.values) in
+        subst (λ (st : Stage). IsToldOf st (core.HasMade k) f.values g.values) is (subst (λ (t : core.HandlerStage). IsToldOf f.stage t f.values g.values) made halves.0.values) in
         let same : record g { values = told k g.values } ≡ view f g.mark =
         seen h (c.handlers h).stage f g f.stage (told k g.values) f.values halves.0 (stands ∙ sym is) (sym values) in
         let asks = asks_on n s h (w.handlers h).stack (w.handlers h).objects in
-        subst (λ (t : core.Stage). IsRegionHalf h (ran.handlers h) ((asked_in (fits_turns 1 t (job.Made k) asks) most h asks (made_at h t c)).handlers h).stage
+        subst (λ (t : core.HandlerStage). IsRegionHalf h (ran.handlers h) ((asked_in (fits_turns 1 t (job.Made k) asks) most h asks (made_at h t c)).handlers h).stage
         (region.takes_made s h g.stage (record g { values = told k g.values }) under x)) (sym made)
         (subst (λ (st : Stage). IsRegionHalf h (ran.handlers h) ((asked_in true most h asks (core.with_stage h core.Runs c)).handlers h).stage
         (region.takes_made s h st (record g { values = told k g.values }) under x)) (sym stands)
         (subst (λ (g' : Frame). IsRegionHalf h (ran.handlers h) ((asked_in true most h asks (core.with_stage h core.Runs c)).handlers h).stage
         (region.goes_on s h machine.Runs g' under (half_at (w.handlers h) (g' ∷ under)))) (sym same)
-        (runs (core.with_stage h core.Runs c) half.count (subst (λ (t : core.Stage). IsRested ((made_at h t c).handlers h)) made rested) g.mark is meets))))
+        (runs (core.with_stage h core.Runs c) half.count (subst (λ (t : core.HandlerStage). IsRested ((made_at h t c).handlers h)) made rested) g.mark is meets))))
 
     -- a frame in a call is never the topmost one of a handler that fails no test
     in_call : (gives : Option EntityType) → f.stage ≡ machine.InCall gives → (c.handlers h).stage ≡ core.Runs →
         Comes (job_at h (c.handlers h).stage (c.handlers h) c) (fail h cause.BadCode w) x
     in_call gives is goes =
-        subst (λ (t : core.Stage). Comes (job_at h t (c.handlers h) c) (fail h cause.BadCode w) x) (sym goes)
+        subst (λ (t : core.HandlerStage). Comes (job_at h t (c.handlers h) c) (fail h cause.BadCode w) x) (sym goes)
         (λ rested meets.
         let stands : g.stage ≡ machine.InCall gives = subst (λ (st : Stage). IsStageFor h st g.stage) is halves.0.stands in
         subst (λ (st : Stage). IsRegionHalf h ((fail h cause.BadCode w).handlers h) ((stepped most n s h w (Some job.Go) c).handlers h).stage (region.goes_on s h st g under x)) (sym stands)
@@ -368,14 +368,14 @@ module _ (most : ℕ) (names : List (List ℕ)) (s : System) (h : ℕ) (w : Worl
     goes machine.Reserves is none named at =
         let ks = needed_for h (separate_formals f.environment) w in
         let v = turns.goes_on most s h machine.Reserves f below w in
-        subst (λ (t : core.Stage). Comes (job_at h t (c.handlers h) c) v x) (sym at)
+        subst (λ (t : core.HandlerStage). Comes (job_at h t (c.handlers h) c) v x) (sym at)
         (subst (λ (j : Option Job). Comes j v x) (sym (same_job n h w c (separate_formals f.environment) f.mark half))
         (reserves (record f { stage = machine.Runs; reserved = ks }) ks _ _
         (answering.entry_half s h w f g below under lives halves.1 (c.handlers h).stage ks halves.0 is) refl))
     goes machine.ReservesBlock is none named at =
         let ks = needed_for h (opened_in f.environment f.tasks) w in
         let v = turns.goes_on most s h machine.ReservesBlock f below w in
-        subst (λ (t : core.Stage). Comes (job_at h t (c.handlers h) c) v x) (sym at)
+        subst (λ (t : core.HandlerStage). Comes (job_at h t (c.handlers h) c) v x) (sym at)
         (subst (λ (j : Option Job). Comes j v x) (sym (same_job n h w c (opened_in f.environment f.tasks) [] half))
         (reserves (record f { stage = machine.Runs; blocks = ks ∷ f.blocks }) ks _ _
         (answering.block_half s h w f g below under lives halves.1 (c.handlers h).stage ks halves.0 is) refl))
@@ -383,7 +383,7 @@ module _ (most : ℕ) (names : List (List ℕ)) (s : System) (h : ℕ) (w : Worl
     goes (machine.Awaits k gives b) is none named at =
         let y = w.handlers h in
         let v = turns.waits s h y.callback y.answer k gives b f below w in
-        subst (λ (t : core.Stage). Comes (job_at h t (c.handlers h) c) v x) (sym at)
+        subst (λ (t : core.HandlerStage). Comes (job_at h t (c.handlers h) c) v x) (sym at)
         (subst (λ (p : Option core.Posted). Comes (job_awaiting k b p (c.handlers h).answer) v x) (sym (half.handlers h).callback)
         (subst (λ (a : Option core.Answer). Comes (job_awaiting k b (option_map (posted_of n) y.callback) a) v x) (sym (half.handlers h).answer)
         (waits k gives b y.callback y.answer is none (subst IsCalm (sym at) tt) refl named)))
@@ -396,7 +396,7 @@ module _ (most : ℕ) (names : List (List ℕ)) (s : System) (h : ℕ) (w : Worl
   stands_comes [] [] stack halves order top named given =
       let y = w.handlers h in
       let v = takes_at.takes_next s h y.queue w in
-      subst (λ (t : core.Stage). Comes (job_at h t (c.handlers h) c) v (half_at y [])) (sym top)
+      subst (λ (t : core.HandlerStage). Comes (job_at h t (c.handlers h) c) v (half_at y [])) (sym top)
       (subst (λ (ps : List core.Posted). Comes (job_idle ps) v (half_at y [])) (sym (half.handlers h).queue) (idle y.queue stack refl named given))
   stands_comes [] (g ∷ under) stack halves order top named given = absurd halves
   stands_comes (f ∷ below) [] stack halves order top named given = absurd halves

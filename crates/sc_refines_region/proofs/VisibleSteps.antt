@@ -6,8 +6,8 @@ use Rattle.std.specs.Option.{option_map}
 use Rattle.sc_tree.specs.Plain.{System}
 use Rattle.sc_proctype.specs.declared.entity_type.EntityType.{EntityType}
 use Rattle.sc_lockpass.specs.Rights.{held}
-use Rattle.sc_waitcond.specs.declared.condition.Verdict.{Verdict}
-use Rattle.sc_waitcond.specs.declared.condition.Verdict.TheVariants as verdict
+use Rattle.sc_waitcond.specs.declared.condition.EntryVerdict.{EntryVerdict}
+use Rattle.sc_waitcond.specs.declared.condition.EntryVerdict.TheVariants as verdict
 use Rattle.sc_waitcond.specs.declared.mark.Marked.{Marked}
 use Rattle.sc_waitcond.specs.declared.session.Release.TheVariants as release_at
 use Rattle.sc_waitcond.specs.Reservations.{mark_of}
@@ -18,7 +18,7 @@ use Rattle.sc_model.specs.Values.{Reference, Value, Attached, Operand, operand, 
 use Rattle.sc_model.specs.Objects.{object_numbered}
 use Rattle.sc_model.specs.Routines.{routine_named}
 use Rattle.sc_model.specs.Tasks.{tasks_of}
-use Rattle.sc_model.specs.Steps.{Act, Prints, Tests, Creates, CreatesHandler, Enters, Requests, Starts, Refuses, Opens, Leaves, Exits, Fails}
+use Rattle.sc_model.specs.Steps.{Act, Prints, Until, Creates, CreatesHandler, Enters, Requests, Starts, Refuses, Opens, Leaves, Exits, Fails}
 use Rattle.sc_model.specs.Handlers as machine
 use Rattle.sc_model.specs.Handlers.{Calls, Makes, Request, Reply, Refused, Origin, Called, Requested, Stage, Runs, Reserves, ReservesBlock, InCall, Awaits, Frame, Handler, World, new_handler}
 use Rattle.sc_model.specs.Sessions.{release}
@@ -43,7 +43,7 @@ use Rattle.sc_refines_region.proofs.Entries.{enters_full}
 -- ---- frames
 
 -- a frame that is handed a value
-pub handed_half : (h : ℕ) (t : core.Stage) (gives : Option EntityType) (v : Option Value) (f g : Frame) → IsHalfOfFrame h t f g → f.values ≡ g.values →
+pub handed_half : (h : ℕ) (t : core.HandlerStage) (gives : Option EntityType) (v : Option Value) (f g : Frame) → IsHalfOfFrame h t f g → f.values ≡ g.values →
     IsHalfOfFrame h core.Runs (handed_as gives v f) (handed_as gives v g)
 handed_half h t (Some a) (Some v) f g e same = record {
   same = λ i. record (e.same i) { stage = Runs; values = operand v a ∷ f.values };
@@ -81,7 +81,7 @@ awaits_half h k f m false None true is = record { same = refl; origin = refl; st
 awaits_half h k f m false None false is = view_half h f m (runs_own f is)
 
 -- how the creator of a handler stands in the core
-abbrev pub made_stage : Bool → ℕ → core.Stage
+abbrev pub made_stage : Bool → ℕ → core.HandlerStage
 made_stage true k = core.Runs
 made_stage false k = core.HasMade k
 
@@ -236,7 +236,7 @@ module _ (most : ℕ) (s : System) (h : ℕ) (w : World) (f : Frame) (m : List M
   correctness (Called c) meets = fails cause.Precondition
   correctness (Requested r) meets = refuses r meets
 
-  clause : (v : Verdict) → Meets s ((preconditions.false_clause v s h f below w).handlers h) →
+  clause : (v : EntryVerdict) → Meets s ((preconditions.false_clause v s h f below w).handlers h) →
       IsHalf (preconditions.false_clause v s h f below w) (region.false_clause v s (view f m) under x)
   clause verdict.Wait meets = waits
   clause verdict.Refuse meets = correctness f.origin meets
@@ -318,7 +318,7 @@ module _ (most : ℕ) (s : System) (h : ℕ) (w : World) (f : Frame) (m : List M
   pub acts : (a : Act) → IsPlainAct a → (h ≡ w.count → ⊥) → Meets s ((effect most s h a f below w).handlers h) →
       IsHalf (effect most s h a f below w) (region.acts s h a (view f m) under x)
   acts (Prints text) plain apart meets = prints text
-  acts Tests plain apart meets = unchanged
+  acts Until plain apart meets = unchanged
   acts Creates plain apart meets = unchanged
   acts Starts plain apart meets = unchanged
   acts (CreatesHandler class procedure us t true) plain apart meets = creates class procedure us t true apart

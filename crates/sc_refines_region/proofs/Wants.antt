@@ -8,8 +8,8 @@ use Rattle.sc_tree.specs.Plain.{System, FeatureKind}
 use Rattle.sc_class.specs.Tables.Features.{DeclaredFeature}
 use Rattle.sc_proctype.specs.declared.entity_type.EntityType.{EntityType}
 use Rattle.sc_rules.specs.Types.{declared_type}
-use Rattle.sc_waitcond.specs.declared.condition.Verdict.{Verdict}
-use Rattle.sc_waitcond.specs.declared.condition.Verdict.TheVariants as verdict
+use Rattle.sc_waitcond.specs.declared.condition.EntryVerdict.{EntryVerdict}
+use Rattle.sc_waitcond.specs.declared.condition.EntryVerdict.TheVariants as verdict
 use Rattle.sc_waitcond.specs.declared.mark.Marked.{Marked}
 use Rattle.sc_waitcond.specs.declared.session.Release.TheVariants as release_at
 use Rattle.sc_model.specs.declared.cause.Cause.{Cause}
@@ -28,7 +28,7 @@ use Rattle.sc_model.specs.Preconditions.{verdict_on, is_creation, object_meets, 
 use Rattle.sc_model.specs.Sessions.{release}
 use Rattle.sc_model.specs.Answers.{finish}
 use Rattle.sc_model.specs.Failures.{to_list, fail, fails_with}
-use Rattle.sc_model.specs.Steps.{Act, Prints, Tests, Creates, CreatesHandler, Enters, Requests, Starts, Refuses, Opens, Leaves, Exits, Fails, Point, Step, Goes, Does}
+use Rattle.sc_model.specs.Steps.{Act, Prints, Until, Creates, CreatesHandler, Enters, Requests, Starts, Refuses, Opens, Leaves, Exits, Fails, Point, Step, Goes, Does}
 use Rattle.sc_model.specs.Moves.{moves}
 use Rattle.sc_model.specs.Takes as takes_at
 use Rattle.sc_model.specs.Turns as turns
@@ -112,7 +112,7 @@ module _ (n : Numbering) (most : ℕ) (s : System) (h : ℕ) (w : World) (f : Fr
   correctness_wants (Called c) meets = refl
   correctness_wants (Requested r) meets = refuses_wants r meets
 
-  clause_wants : (v : Verdict) → Meets s ((preconditions.false_clause v s h f below w).handlers h) →
+  clause_wants : (v : EntryVerdict) → Meets s ((preconditions.false_clause v s h f below w).handlers h) →
       unless_failed (region.false_clause v s (view f m) under x).failure (asks_after v s (view f m) objects) ≡ asks_after v s f objects
   clause_wants verdict.Wait meets = refl
   clause_wants verdict.Refuse meets = correctness_wants f.origin meets
@@ -161,7 +161,7 @@ module _ (n : Numbering) (most : ℕ) (s : System) (h : ℕ) (w : World) (f : Fr
       unless_failed (region.acts s h a (view f m) under x).failure (asks_acting n s h a (view f m) (length (view f m ∷ under)) objects)
       ≡ asks_acting n s h a f (length (view f m ∷ under)) objects
   acts_wants (Prints text) meets = refl
-  acts_wants Tests meets = refl
+  acts_wants Until meets = refl
   acts_wants Creates meets = refl
   acts_wants Starts meets = refl
   acts_wants (CreatesHandler class procedure us t passing) meets = refl
@@ -422,24 +422,24 @@ module _ (most : ℕ) (names : List (List ℕ)) (s : System) (h : ℕ) (w : Worl
     running : f.stage ≡ machine.Runs → ((c.handlers h).stage ≡ core.Runs) ⊎ ((k : ℕ) × ((c.handlers h).stage ≡ core.HasMade k)) →
         Asks (job_at h (c.handlers h).stage (c.handlers h) c) ran start
     running is (inl goes) =
-        subst (λ (t : core.Stage). Asks (job_at h t (c.handlers h) c) ran start) (sym goes)
+        subst (λ (t : core.HandlerStage). Asks (job_at h t (c.handlers h) c) ran start) (sym goes)
         (λ meets.
         let y = w.handlers h in
         let stands : g.stage ≡ machine.Runs = subst (λ (st : Stage). IsStageFor h st g.stage) is halves.0.stands in
         let values : f.values ≡ g.values =
-        subst (λ (st : Stage). IsToldOf st core.Runs f.values g.values) is (subst (λ (t : core.Stage). IsToldOf f.stage t f.values g.values) goes halves.0.values) in
+        subst (λ (st : Stage). IsToldOf st core.Runs f.values g.values) is (subst (λ (t : core.HandlerStage). IsToldOf f.stage t f.values g.values) goes halves.0.values) in
         let same : g ≡ view f g.mark = seen h (c.handlers h).stage f g f.stage g.values f.values halves.0 (stands ∙ sym is) (sym values) in
         subst (λ (st : Stage). unless_failed (region.goes_on s h st g under start).failure (asks_going n s h st g (length (g ∷ under)) y.objects) ≡ asks_on n s h y.stack y.objects) (sym stands)
         (subst (λ (g' : Frame). unless_failed (region.goes_on s h machine.Runs g' under (half_at y (g' ∷ under))).failure
         (asks_going n s h machine.Runs g' (length (g ∷ under)) y.objects) ≡ asks_on n s h y.stack y.objects) (sym same)
         (runs g.mark is meets)))
     running is (inr (k, made)) =
-        subst (λ (t : core.Stage). Asks (job_at h t (c.handlers h) c) ran start) (sym made)
+        subst (λ (t : core.HandlerStage). Asks (job_at h t (c.handlers h) c) ran start) (sym made)
         (λ meets.
         let y = w.handlers h in
         let stands : g.stage ≡ machine.Runs = subst (λ (st : Stage). IsStageFor h st g.stage) is halves.0.stands in
         let values : f.values ≡ told k g.values =
-        subst (λ (st : Stage). IsToldOf st (core.HasMade k) f.values g.values) is (subst (λ (t : core.Stage). IsToldOf f.stage t f.values g.values) made halves.0.values) in
+        subst (λ (st : Stage). IsToldOf st (core.HasMade k) f.values g.values) is (subst (λ (t : core.HandlerStage). IsToldOf f.stage t f.values g.values) made halves.0.values) in
         let same : record g { values = told k g.values } ≡ view f g.mark =
         seen h (c.handlers h).stage f g f.stage (told k g.values) f.values halves.0 (stands ∙ sym is) (sym values) in
         subst (λ (st : Stage). unless_failed (region.takes_made s h st (record g { values = told k g.values }) under start).failure
@@ -451,7 +451,7 @@ module _ (most : ℕ) (names : List (List ℕ)) (s : System) (h : ℕ) (w : Worl
     in_call : (gives : Option EntityType) → f.stage ≡ machine.InCall gives → (c.handlers h).stage ≡ core.Runs →
         Asks (job_at h (c.handlers h).stage (c.handlers h) c) (fail h cause.BadCode w) start
     in_call gives is goes =
-        subst (λ (t : core.Stage). Asks (job_at h t (c.handlers h) c) (fail h cause.BadCode w) start) (sym goes)
+        subst (λ (t : core.HandlerStage). Asks (job_at h t (c.handlers h) c) (fail h cause.BadCode w) start) (sym goes)
         (λ meets.
         let y = w.handlers h in
         let stands : g.stage ≡ machine.InCall gives = subst (λ (st : Stage). IsStageFor h st g.stage) is halves.0.stands in
@@ -465,21 +465,21 @@ module _ (most : ℕ) (names : List (List ℕ)) (s : System) (h : ℕ) (w : Worl
         let ks = needed_for h (separate_formals f.environment) w in
         let v = turns.goes_on most s h machine.Reserves f below w in
         let stands : g.stage ≡ machine.Reserves = subst (λ (st : Stage). IsStageFor h st g.stage) is halves.0.stands in
-        subst (λ (t : core.Stage). Asks (job_at h t (c.handlers h) c) v start) (sym at)
+        subst (λ (t : core.HandlerStage). Asks (job_at h t (c.handlers h) c) v start) (sym at)
         (subst (λ (j : Option Job). Asks j v start) (sym (same_job n h w c (separate_formals f.environment) f.mark half))
         (reserves v ks _ _ (subst (λ (st : Stage). unless_failed (region.takes_grant st ks g under start).failure want.Continue ≡ want.Continue) (sym stands) refl)))
     goes machine.ReservesBlock is named at =
         let ks = needed_for h (opened_in f.environment f.tasks) w in
         let v = turns.goes_on most s h machine.ReservesBlock f below w in
         let stands : g.stage ≡ machine.ReservesBlock = subst (λ (st : Stage). IsStageFor h st g.stage) is halves.0.stands in
-        subst (λ (t : core.Stage). Asks (job_at h t (c.handlers h) c) v start) (sym at)
+        subst (λ (t : core.HandlerStage). Asks (job_at h t (c.handlers h) c) v start) (sym at)
         (subst (λ (j : Option Job). Asks j v start) (sym (same_job n h w c (opened_in f.environment f.tasks) [] half))
         (reserves v ks _ _ (subst (λ (st : Stage). unless_failed (region.takes_grant st ks g under start).failure want.Continue ≡ want.Continue) (sym stands) refl)))
     goes (machine.InCall gives) is named at = in_call gives is at
     goes (machine.Awaits k gives b) is named at =
         let y = w.handlers h in
         let v = turns.waits s h y.callback y.answer k gives b f below w in
-        subst (λ (t : core.Stage). Asks (job_at h t (c.handlers h) c) v start) (sym at)
+        subst (λ (t : core.HandlerStage). Asks (job_at h t (c.handlers h) c) v start) (sym at)
         (subst (λ (p : Option core.Posted). Asks (job_awaiting k b p (c.handlers h).answer) v start) (sym (half.handlers h).callback)
         (subst (λ (a : Option core.Answer). Asks (job_awaiting k b (option_map (posted_of n) y.callback) a) v start) (sym (half.handlers h).answer)
         (waits k gives b y.callback y.answer is (subst IsCalm (sym at) tt) refl named)))
@@ -490,7 +490,7 @@ module _ (most : ℕ) (names : List (List ℕ)) (s : System) (h : ℕ) (w : Worl
   stands_asks [] [] stack halves top named =
       let y = w.handlers h in
       let v = takes_at.takes_next s h y.queue w in
-      subst (λ (t : core.Stage). Asks (job_at h t (c.handlers h) c) v (half_at y [])) (sym top)
+      subst (λ (t : core.HandlerStage). Asks (job_at h t (c.handlers h) c) v (half_at y [])) (sym top)
       (subst (λ (ps : List core.Posted). Asks (job_idle ps) v (half_at y [])) (sym (half.handlers h).queue) (idle y.queue stack refl named))
   stands_asks [] (g ∷ under) stack halves top named = absurd halves
   stands_asks (f ∷ below) [] stack halves top named = absurd halves

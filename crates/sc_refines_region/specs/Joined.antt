@@ -43,14 +43,14 @@ OthersKeepHalves =
 -- The half of a handler that is created in the turn is that of one that was asked for nothing yet.
 abbrev pub CreatedAreNew : Type 0
 CreatedAreNew =
-    (most : ℕ) (s : System) (h k : ℕ) (w : machine.World) (stage : core.Stage) →
+    (most : ℕ) (s : System) (h k : ℕ) (w : machine.World) (stage : core.HandlerStage) →
     w.count ≤ k → k < (turn most s h w).count →
     IsRegionHalf k ((turn most s h w).handlers k) stage new_half
 
 -- So is that of each handler at the opening.
 abbrev pub OpensAsNew : Type 0
 OpensAsNew =
-    (s : System) (root : Root) (k : ℕ) (stage : core.Stage) →
+    (s : System) (root : Root) (k : ℕ) (stage : core.HandlerStage) →
     IsRegionHalf k ((runs.opening s root).handlers k) stage new_half
 
 -- ---- all regions

@@ -82,7 +82,7 @@ enters_is bs cs c (model.Enters b j y vs t) r x us g e = record {
   gives_is = same_gives b c j r y x (values.values_of vs) us (is_some t) g e;
 }
 enters_is bs cs c (model.Prints t) r x us g e = cc
-enters_is bs cs c model.Tests r x us g e = cc
+enters_is bs cs c model.Until r x us g e = cc
 enters_is bs cs c model.Creates r x us g e = cc
 enters_is bs cs c (model.CreatesHandler k y vs t q) r x us g e = cc
 enters_is bs cs c (model.Requests j y vs t q) r x us g e = cc

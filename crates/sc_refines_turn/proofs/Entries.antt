@@ -31,7 +31,7 @@ use Rattle.sc_model.specs.Values as values
 use Rattle.sc_model.specs.Values.{Operand}
 use Rattle.sc_code.specs.declared.operation.DefaultValue.{DefaultValue}
 use Rattle.sc_code.specs.declared.program.RoutineCode.{RoutineCode}
-use Rattle.sc_code.specs.declared.program.Version.TheVariants as version
+use Rattle.sc_code.specs.declared.program.FeatureCode.TheVariants as version
 use Rattle.sc_code.specs.Emitted.{routine_slots}
 use Rattle.sc_code.specs.Lowered.{Beginning, run_of}
 use Rattle.sc_code.specs.Places.{known_type}

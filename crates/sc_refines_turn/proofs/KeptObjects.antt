@@ -5,7 +5,7 @@ use Rattle.sc_formula.specs.declared.arithmetic.ArithmeticFault.TheVariants as f
 use Rattle.sc_formula.specs.declared.arithmetic.ArithmeticOperator.{ArithmeticOperator}
 use Rattle.sc_formula.specs.declared.comparison.Comparison.{Comparison}
 use Rattle.sc_formula.specs.declared.connective.Connective.{Connective}
-use Rattle.sc_formula.specs.Arithmetic.{Outcome, opposite_of, result_of}
+use Rattle.sc_formula.specs.Arithmetic.{ArithmeticResult, opposite_of, result_of}
 use Rattle.sc_tree.specs.declared.expression.UnaryOperator.{UnaryOperator}
 use Rattle.sc_tree.specs.declared.expression.UnaryOperator.TheVariants as unary
 use Rattle.sc_tree.specs.declared.expression.BinaryOperator.{BinaryOperator}
@@ -89,7 +89,7 @@ module _ (P Q : List Object → Type 0) (s : System) (weaker : (os : List Object
     attribute_kept None t p h = h
     attribute_kept (Some b) t p h = reads_as_kept t b.value t p h
 
-    outcome_kept : (o : Outcome) (p : Point) → P p.objects → Keeps P Q start (gives_outcome o p)
+    outcome_kept : (o : ArithmeticResult) (p : Point) → P p.objects → Keeps P Q start (gives_outcome o p)
     outcome_kept (Ok z) p h = h
     outcome_kept (Err fault.Overflow) p h = h
     outcome_kept (Err fault.DivideByZero) p h = h

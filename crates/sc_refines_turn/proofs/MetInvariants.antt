@@ -26,7 +26,7 @@ use Rattle.sc_code.specs.declared.operation.DefaultValue.TheVariants as default
 use Rattle.sc_code.specs.declared.program.AttributeCode.{AttributeCode}
 use Rattle.sc_code.specs.declared.program.ClassCode.{ClassCode}
 use Rattle.sc_code.specs.declared.program.Image.{Image}
-use Rattle.sc_code.specs.declared.program.Version.{Version}
+use Rattle.sc_code.specs.declared.program.FeatureCode.{FeatureCode}
 use Rattle.sc_code.specs.Attributes.{known_formulas}
 use Rattle.sc_code.specs.Programs.{IsProgramOf, PlainClass, attribute_in, class_code_of, class_in, entry_of_feature, pool_of, version_entry}
 use Rattle.sc_code.specs.View as view
@@ -134,11 +134,11 @@ defaults_seen : (o : Option ClassCode) → values_of (defaults_of o) ≡ firsts_
 defaults_seen None = refl
 defaults_seen (Some c) = defaults_same c.attributes.items
 
-abbrev version_at : Option PlainClass → ℕ → Option Version
-version_at o n = option_and_then (λ (q : PlainClass). option_and_then (λ (v : Option Version). v) (slice_get q.versions n)) o
+abbrev version_at : Option PlainClass → ℕ → Option FeatureCode
+version_at o n = option_and_then (λ (q : PlainClass). option_and_then (λ (v : Option FeatureCode). v) (slice_get q.features n)) o
 
 version_seen : (o : Option ClassCode) (n : ℕ) →
-    option_and_then (λ (c : ClassCode). option_and_then (λ (v : Option Version). v) (slice_get c.versions.items n)) o ≡ version_at (option_map class_in o) n
+    option_and_then (λ (c : ClassCode). option_and_then (λ (v : Option FeatureCode). v) (slice_get c.features.items n)) o ≡ version_at (option_map class_in o) n
 version_seen None n = refl
 version_seen (Some c) n = refl
 
@@ -200,7 +200,7 @@ module _ (s : System) (root : Root) (p : Image) (is : IsProgramOf s root p) wher
           version_at (option_map (class_code_of s names) (slice_get (range_with_len 0 (length s.classes)) k)) n ≡ version_entry s k name
       by true e =
           ap (λ o. version_at (option_map (class_code_of s names) o) n) (range_at (length s.classes) k (ltb-true k (length s.classes) e))
-          ∙ ap (option_and_then (λ (v : Option Version). v)) (mapped_get (version_entry s k) names n ∙ ap (option_map (version_entry s k)) named)
+          ∙ ap (option_and_then (λ (v : Option FeatureCode). v)) (mapped_get (version_entry s k) names n ∙ ap (option_map (version_entry s k)) named)
       by false e =
           let past = ltb-false k (length s.classes) e in
           ap (λ o. version_at (option_map (class_code_of s names) o) n) (range_past 0 (length s.classes) k past)

@@ -41,7 +41,7 @@ use Rattle.sc_interp.proofs.Operands.{values_drop}
 use Rattle.sc_region_turns.proofs.RegionSame.{still_prints}
 use Rattle.sc_refines_turn.specs.Acting.{Comes, Meets, IntegersArePrinted, BooleansArePrinted, TextsArePrinted, RoundsEnd, BodiesStart, RoutinesFail}
 use Rattle.sc_refines_turn.proofs.SilentOperations.{meets}
-use Rattle.sc_refines_turn.proofs.ShownSteps.{prints_is, tests_is, starts_is, fails_is}
+use Rattle.sc_refines_turn.proofs.ShownSteps.{prints_is, until_is, starts_is, fails_is}
 use Rattle.sc_refines_turn.proofs.ProgramRoutines.{code_at, few_operations, frames_still}
 
 -- ---- flat code
@@ -69,9 +69,9 @@ back_stays n a = record { routine = refl; origin = refl; stage = refl; depth = r
 
 -- the last operand is gone, and the operation comes that is so many back
 back_is : (n : ℕ) (objects : List Object) (a : PlainActivation) →
-    flat.Does flat.Tests (record (without 1 (state_of objects a)) { place = a.place - n }) ≡ flat.Does flat.Tests (state_of objects (back n a))
+    flat.Does flat.Until (record (without 1 (state_of objects a)) { place = a.place - n }) ≡ flat.Does flat.Until (state_of objects (back n a))
 back_is n objects a =
-    ap (λ vs. flat.Does flat.Tests (record (state_of objects a) { place = a.place - n; values = vs })) (sym (values_drop 1 a.operands.values))
+    ap (λ vs. flat.Does flat.Until (record (state_of objects a) { place = a.place - n; values = vs })) (sym (values_drop 1 a.operands.values))
 
 module _ (s : System) (x : Half) (o : Hop) (y z : PlainStore) (is : IsProgramFor s y.program) (region : IsRegionOf s x y) (comes : Comes o y z) (m : Meets s x o y z) where
   abbrev pub run : Run
@@ -169,27 +169,27 @@ module _ (serve : ProgramsServe) where
       (printed_text (hop.Comes (act.PrintText k)) (listed (pool_of y.program.pool).texts k) 0 y z s h x is region comes m m.does)
 
   tested : (n : Option ℕ) (y z : PlainStore) (s : System) (h : ℕ) (x : Half) → IsProgramFor s y.program → IsRegionOf s x y →
-      (comes : Comes (hop.Comes (act.Test n)) y z) → (m : Meets s x (hop.Comes (act.Test n)) y z) → (f : State) → flat.Does flat.Tests f ≡ flat.Does m.shown m.state →
+      (comes : Comes (hop.Comes (act.Until n)) y z) → (m : Meets s x (hop.Comes (act.Until n)) y z) → (f : State) → flat.Does flat.Until f ≡ flat.Does m.shown m.state →
       ((to : ℕ) (tail : List Value) → m.state ≡ state_at to tail m.point → Stands (run_of s m.frame.routine) to tail m.point →
       IsRegionOf s (record x { objects = m.point.objects; stack = frame_at m.frame m.point ∷ m.below }) (on_top (round_ended n) z)) →
       IsRegionOf s (turn s h x) (on_top (round_ended n) z)
   tested n y z s h x is region comes m f does next =
-      let shown = act_same flat.Tests m.shown f m.state does in
-      let step = tests_is m.last.environment m.point.environment m.step (subst (λ a. Seen m.last.environment m.point.environment m.step a) (sym shown) m.seen) in
+      let shown = act_same flat.Until m.shown f m.state does in
+      let step = until_is m.last.environment m.point.environment m.step (subst (λ a. Seen m.last.environment m.point.environment m.step a) (sym shown) m.seen) in
       let leads = subst (λ a. Leads (run_of s m.frame.routine) a m.point m.state) step m.leads in
-      subst (λ half. IsRegionOf s half (on_top (round_ended n) z)) (sym (turn_is s x (hop.Comes (act.Test n)) y z is region comes m h model.Tests step))
+      subst (λ half. IsRegionOf s half (on_top (round_ended n) z)) (sym (turn_is s x (hop.Comes (act.Until n)) y z is region comes m h model.Until step))
       (next leads.0 leads.1 leads.2 leads.3)
 
   pub rounds_end : RoundsEnd
   rounds_end None y z comes s h x is region =
-      let m = meets serve s x (hop.Comes (act.Test None)) y z is region comes in
+      let m = meets serve s x (hop.Comes (act.Until None)) y z is region comes in
       tested None y z s h x is region comes m _ m.does
-      (λ to tail leads st. region_past s x (hop.Comes (act.Test None)) y z is region comes m flat.Tests 1 to tail m.does leads st)
+      (λ to tail leads st. region_past s x (hop.Comes (act.Until None)) y z is region comes m flat.Until 1 to tail m.does leads st)
   rounds_end (Some n) y z comes s h x is region =
-      let m = meets serve s x (hop.Comes (act.Test (Some n))) y z is region comes in
+      let m = meets serve s x (hop.Comes (act.Until (Some n))) y z is region comes in
       tested (Some n) y z s h x is region comes m _ m.does
-      (λ to tail leads st. region_after s x (hop.Comes (act.Test (Some n))) y z is region comes m (back n) to tail (back_stays n m.activation)
-      (state_same flat.Tests m.shown _ m.state (sym (back_is n (objects_in s z.objects) m.activation) ∙ m.does)) leads st)
+      (λ to tail leads st. region_after s x (hop.Comes (act.Until (Some n))) y z is region comes m (back n) to tail (back_stays n m.activation)
+      (state_same flat.Until m.shown _ m.state (sym (back_is n (objects_in s z.objects) m.activation) ∙ m.does)) leads st)
 
   pub bodies_start : BodiesStart
   bodies_start y z comes s h x is region =

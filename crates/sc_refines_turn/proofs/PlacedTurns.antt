@@ -23,8 +23,8 @@ use Rattle.sc_model.specs.Steps.{Calling, Point, Does}
 use Rattle.sc_model.specs.Values as values
 use Rattle.sc_model.specs.Values.{Operand}
 use Rattle.sc_code.specs.declared.program.Image.{Image}
-use Rattle.sc_code.specs.declared.program.Version.{Version}
-use Rattle.sc_code.specs.declared.program.Version.TheVariants as version
+use Rattle.sc_code.specs.declared.program.FeatureCode.{FeatureCode}
+use Rattle.sc_code.specs.declared.program.FeatureCode.TheVariants as version
 use Rattle.sc_code.specs.Lowered.{run_of}
 use Rattle.sc_code.specs.Machine as flat
 use Rattle.sc_code.specs.Machine.{State}
@@ -152,7 +152,7 @@ some_mapped f None = refl
 some_mapped f (Some a) = refl
 
 -- a version that is a routine has the number of one
-routine_some : (v : Option Version) → is_routine_in v ≡ Some true → (routine : ℕ) × (routine_in v ≡ Some routine)
+routine_some : (v : Option FeatureCode) → is_routine_in v ≡ Some true → (routine : ℕ) × (routine_in v ≡ Some routine)
 routine_some (Some (version.Routine n)) e = (n, refl)
 routine_some (Some (version.Attribute n)) e = cc
 routine_some None e = cc
@@ -453,7 +453,7 @@ module _ (serve : ProgramsServe) (h : ℕ) (y : PlainStore) (sound : IsSound y) 
   may_act (act.PrintInteger v) b comes told_so = tt
   may_act (act.PrintBoolean v) b comes told_so = tt
   may_act (act.PrintText k) b comes told_so = tt
-  may_act (act.Test n) b comes told_so = tt
+  may_act (act.Until n) b comes told_so = tt
   may_act act.Start b comes told_so = tt
   may_act act.Leave b comes told_so = tt
 

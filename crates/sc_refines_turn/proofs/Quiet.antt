@@ -5,7 +5,7 @@ use Rattle.sc_formula.specs.declared.arithmetic.ArithmeticFault.TheVariants as f
 use Rattle.sc_formula.specs.declared.arithmetic.ArithmeticOperator.{ArithmeticOperator}
 use Rattle.sc_formula.specs.declared.comparison.Comparison.{Comparison}
 use Rattle.sc_formula.specs.declared.connective.Connective.{Connective}
-use Rattle.sc_formula.specs.Arithmetic.{Outcome, opposite_of, result_of}
+use Rattle.sc_formula.specs.Arithmetic.{ArithmeticResult, opposite_of, result_of}
 use Rattle.sc_tree.specs.declared.expression.UnaryOperator.{UnaryOperator}
 use Rattle.sc_tree.specs.declared.expression.UnaryOperator.TheVariants as unary
 use Rattle.sc_tree.specs.declared.expression.BinaryOperator.{BinaryOperator}
@@ -93,7 +93,7 @@ module _ (point : Point) where
   attribute_quiet n None t p h = tt
   attribute_quiet n (Some b) t p h = reads_as_quiet n t b.value t p h
 
-  outcome_quiet : (n : ℕ) (o : Outcome) (p : Point) → Unit {0} → Quiet point (gives_outcome o p)
+  outcome_quiet : (n : ℕ) (o : ArithmeticResult) (p : Point) → Unit {0} → Quiet point (gives_outcome o p)
   unfolding Quiet
   outcome_quiet n (Ok z) p h = h
   outcome_quiet n (Err fault.Overflow) p h = tt

@@ -5,7 +5,7 @@ use Rattle.std.specs.List.{cons_option, list_any}
 use Rattle.std.specs.Option.{option_map, option_and_then}
 use Rattle.sc_tree.specs.Plain.{System, Clause}
 use Rattle.sc_waitcond.specs.Conditions as conditions
-use Rattle.sc_waitcond.specs.declared.condition.Verdict.TheVariants as verdict
+use Rattle.sc_waitcond.specs.declared.condition.EntryVerdict.TheVariants as verdict
 use Rattle.sc_model.specs.declared.cause.Cause.TheVariants as cause
 use Rattle.sc_model.specs.Environments.{Binding, binding_named, is_formal, scope_of}
 use Rattle.sc_model.specs.Handlers.{Origin, Called, Requested, frame_at}
@@ -63,7 +63,7 @@ same_slots xs ys e = cc
 
 refuses_is : (bs cs : List Binding) (a : model.Act) (slots : List ℕ) → Seen bs cs a (flat.Refuses slots) → IsRefusal bs a slots
 refuses_is bs cs (model.Prints t) slots e = cc
-refuses_is bs cs model.Tests slots e = cc
+refuses_is bs cs model.Until slots e = cc
 refuses_is bs cs model.Creates slots e = cc
 refuses_is bs cs (model.CreatesHandler k x us t passing) slots e = cc
 refuses_is bs cs (model.Enters c r x us t) slots e = cc

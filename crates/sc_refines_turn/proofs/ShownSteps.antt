@@ -14,7 +14,7 @@ same_cause w v e = cc
 
 pub prints_is : (bs cs : List Binding) (a : model.Act) (text : List ℕ) → Seen bs cs a (flat.Prints text) → a ≡ model.Prints text
 prints_is bs cs (model.Prints t) text e = ap model.Prints (same_text t text e)
-prints_is bs cs model.Tests text e = cc
+prints_is bs cs model.Until text e = cc
 prints_is bs cs model.Creates text e = cc
 prints_is bs cs (model.CreatesHandler k x us t passing) text e = cc
 prints_is bs cs (model.Enters c r x us t) text e = cc
@@ -26,23 +26,23 @@ prints_is bs cs model.Leaves text e = cc
 prints_is bs cs model.Exits text e = cc
 prints_is bs cs (model.Fails w) text e = cc
 
-pub tests_is : (bs cs : List Binding) (a : model.Act) → Seen bs cs a flat.Tests → a ≡ model.Tests
-tests_is bs cs (model.Prints t) e = cc
-tests_is bs cs model.Tests e = refl
-tests_is bs cs model.Creates e = cc
-tests_is bs cs (model.CreatesHandler k x us t passing) e = cc
-tests_is bs cs (model.Enters c r x us t) e = cc
-tests_is bs cs (model.Requests r x us t passing) e = cc
-tests_is bs cs model.Starts e = cc
-tests_is bs cs (model.Refuses k) e = cc
-tests_is bs cs model.Opens e = let no = e.2 in cc
-tests_is bs cs model.Leaves e = cc
-tests_is bs cs model.Exits e = cc
-tests_is bs cs (model.Fails w) e = cc
+pub until_is : (bs cs : List Binding) (a : model.Act) → Seen bs cs a flat.Until → a ≡ model.Until
+until_is bs cs (model.Prints t) e = cc
+until_is bs cs model.Until e = refl
+until_is bs cs model.Creates e = cc
+until_is bs cs (model.CreatesHandler k x us t passing) e = cc
+until_is bs cs (model.Enters c r x us t) e = cc
+until_is bs cs (model.Requests r x us t passing) e = cc
+until_is bs cs model.Starts e = cc
+until_is bs cs (model.Refuses k) e = cc
+until_is bs cs model.Opens e = let no = e.2 in cc
+until_is bs cs model.Leaves e = cc
+until_is bs cs model.Exits e = cc
+until_is bs cs (model.Fails w) e = cc
 
 pub starts_is : (bs cs : List Binding) (a : model.Act) → Seen bs cs a flat.Starts → a ≡ model.Starts
 starts_is bs cs (model.Prints t) e = cc
-starts_is bs cs model.Tests e = cc
+starts_is bs cs model.Until e = cc
 starts_is bs cs model.Creates e = cc
 starts_is bs cs (model.CreatesHandler k x us t passing) e = cc
 starts_is bs cs (model.Enters c r x us t) e = cc
@@ -56,7 +56,7 @@ starts_is bs cs (model.Fails w) e = cc
 
 pub exits_is : (bs cs : List Binding) (a : model.Act) → Seen bs cs a flat.Exits → a ≡ model.Exits
 exits_is bs cs (model.Prints t) e = cc
-exits_is bs cs model.Tests e = cc
+exits_is bs cs model.Until e = cc
 exits_is bs cs model.Creates e = cc
 exits_is bs cs (model.CreatesHandler k x us t passing) e = cc
 exits_is bs cs (model.Enters c r x us t) e = cc
@@ -70,7 +70,7 @@ exits_is bs cs (model.Fails w) e = cc
 
 pub fails_is : (bs cs : List Binding) (a : model.Act) (why : Cause) → Seen bs cs a (flat.Fails why) → a ≡ model.Fails why
 fails_is bs cs (model.Prints t) why e = cc
-fails_is bs cs model.Tests why e = cc
+fails_is bs cs model.Until why e = cc
 fails_is bs cs model.Creates why e = cc
 fails_is bs cs (model.CreatesHandler k x us t passing) why e = cc
 fails_is bs cs (model.Enters c r x us t) why e = cc
@@ -84,7 +84,7 @@ fails_is bs cs (model.Fails w) why e = ap model.Fails (same_cause w why e)
 
 pub leaves_is : (bs cs : List Binding) (a : model.Act) → Seen bs cs a flat.Leaves → a ≡ model.Leaves
 leaves_is bs cs (model.Prints t) e = cc
-leaves_is bs cs model.Tests e = cc
+leaves_is bs cs model.Until e = cc
 leaves_is bs cs model.Creates e = cc
 leaves_is bs cs (model.CreatesHandler k x us t passing) e = cc
 leaves_is bs cs (model.Enters c r x us t) e = cc
@@ -98,7 +98,7 @@ leaves_is bs cs (model.Fails w) e = cc
 
 pub creates_is : (bs cs : List Binding) (a : model.Act) → Seen bs cs a flat.Creates → a ≡ model.Creates
 creates_is bs cs (model.Prints t) e = cc
-creates_is bs cs model.Tests e = cc
+creates_is bs cs model.Until e = cc
 creates_is bs cs model.Creates e = refl
 creates_is bs cs (model.CreatesHandler k x us t passing) e = cc
 creates_is bs cs (model.Enters c r x us t) e = cc

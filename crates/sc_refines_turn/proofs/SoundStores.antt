@@ -3,8 +3,8 @@ use Rattle.std.proofs.Common.{◌≡◌, ◌<◌, ℕ, ◌+◌, Bool, true, fals
 use Rattle.std.specs.Prelude.{◌||◌, ◌&&◌, ◌==◌, nat_lt, if◌then◌else◌}
 use Rattle.sc_code.specs.declared.program.AttributeCode.{AttributeCode}
 use Rattle.sc_code.specs.declared.program.RoutineCode.{RoutineCode}
-use Rattle.sc_code.specs.declared.program.Version.{Version}
-use Rattle.sc_code.specs.declared.program.Version.TheVariants as version
+use Rattle.sc_code.specs.declared.program.FeatureCode.{FeatureCode}
+use Rattle.sc_code.specs.declared.program.FeatureCode.TheVariants as version
 use Rattle.sc_model.specs.declared.cause.Cause.TheVariants as cause
 use Rattle.sc_region.specs.declared.frame.Origin.{Origin}
 use Rattle.sc_region.specs.declared.frame.Origin.TheVariants as origin
@@ -238,7 +238,7 @@ acted_free : (h : ℕ) (a : Act) (z : PlainStore) → CreateForNothing z.frames 
 acted_free h (act.PrintInteger v) z free = top_free (past 1) (λ a h. h) z.frames free
 acted_free h (act.PrintBoolean b) z free = top_free (past 1) (λ a h. h) z.frames free
 acted_free h (act.PrintText k) z free = top_free (past 0) (λ a h. h) z.frames free
-acted_free h (act.Test n) z free = round_free n z.frames free
+acted_free h (act.Until n) z free = round_free n z.frames free
 acted_free h (act.Enter c r k n gives) z free = called_free c r k n gives z (top_activation z.frames) free
 acted_free h (act.Request r k n gives passes) z free =
     sent_free (request_in h (call_of r k n gives passes) (top_activation z.frames)) r k n gives passes z free
@@ -310,12 +310,12 @@ answered_sound (Some a) (Some v) x kept = either_sound (a.is_attached && is_void
 answered_sound (Some a) None x kept = (tt, tt)
 answered_sound None v x kept = (tt, tt)
 
-version_sound : (r : Request) (v : Option Version) (x : PlainStore) → AreSound x.frames → AreSound (taken_version r v x).frames
+version_sound : (r : Request) (v : Option FeatureCode) (x : PlainStore) → AreSound x.frames → AreSound (taken_version r v x).frames
 version_sound r (Some (version.Routine n)) x kept = entered_sound r.target n origin.Requested r.actuals.items x kept
 version_sound r (Some (version.Attribute n)) x kept = answered_sound (attribute_at x.program r.target.class n) (attribute_of r.target.number n x.objects) x kept
 version_sound r None x kept = (tt, tt)
 
-object_sound : (r : Request) (o : Option PlainObject) (v : Option Version) (x : PlainStore) → AreSound x.frames → AreSound (taken_on r o v x).frames
+object_sound : (r : Request) (o : Option PlainObject) (v : Option FeatureCode) (x : PlainStore) → AreSound x.frames → AreSound (taken_on r o v x).frames
 object_sound r (Some o) v x kept = version_sound r v x kept
 object_sound r None v x kept = (tt, tt)
 

@@ -82,7 +82,7 @@ creates_handler_is bs cs (model.CreatesHandler j y vs t q) k x us p e = record {
   actuals_are = same_given j k x y us (values.values_of vs) p q e;
 }
 creates_handler_is bs cs (model.Prints t) k x us p e = cc
-creates_handler_is bs cs model.Tests k x us p e = cc
+creates_handler_is bs cs model.Until k x us p e = cc
 creates_handler_is bs cs model.Creates k x us p e = cc
 creates_handler_is bs cs (model.Enters c r y vs t) k x us p e = cc
 creates_handler_is bs cs (model.Requests r y vs t q) k x us p e = cc
@@ -131,7 +131,7 @@ requests_is bs cs (model.Requests j y vs t q) r x us g p e = record {
   gives_is = same_gives j r x y us (values.values_of vs) g (is_some t) p q e;
 }
 requests_is bs cs (model.Prints t) r x us g p e = cc
-requests_is bs cs model.Tests r x us g p e = cc
+requests_is bs cs model.Until r x us g p e = cc
 requests_is bs cs model.Creates r x us g p e = cc
 requests_is bs cs (model.CreatesHandler k y vs t q) r x us g p e = cc
 requests_is bs cs (model.Enters c j y vs t) r x us g p e = cc
@@ -144,7 +144,7 @@ requests_is bs cs (model.Fails w) r x us g p e = cc
 
 pub opens_is : (bs cs : List Binding) (a : model.Act) (first n : ℕ) → Seen bs cs a (flat.Opens first n) → a ≡ model.Opens
 opens_is bs cs (model.Prints t) first n e = cc
-opens_is bs cs model.Tests first n e = cc
+opens_is bs cs model.Until first n e = cc
 opens_is bs cs model.Creates first n e = cc
 opens_is bs cs (model.CreatesHandler k y vs t q) first n e = cc
 opens_is bs cs (model.Enters c j y vs t) first n e = cc

@@ -26,7 +26,7 @@ use Rattle.sc_model.specs.Routines.{routine_named, routine_of, version_of}
 use Rattle.sc_model.specs.Values as values
 use Rattle.sc_code.specs.declared.program.AttributeCode.{AttributeCode}
 use Rattle.sc_code.specs.declared.program.RoutineCode.{RoutineCode}
-use Rattle.sc_code.specs.declared.program.Version.TheVariants as version
+use Rattle.sc_code.specs.declared.program.FeatureCode.TheVariants as version
 use Rattle.sc_code.specs.Attributes.{attribute_number}
 use Rattle.sc_code.specs.Programs.{entry_of_feature, entry_of_kind}
 use Rattle.sc_region.specs.declared.frame.Origin.TheVariants as origin

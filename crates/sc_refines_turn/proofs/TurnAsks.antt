@@ -23,7 +23,7 @@ use Rattle.sc_interp.specs.Turning.{unless_failed}
 use Rattle.sc_refines_turn.specs.Acting.{FailuresAreTold, Meets, SimpleStepsAskNothing}
 use Rattle.sc_refines_turn.proofs.SilentOperations.{meets}
 use Rattle.sc_refines_turn.proofs.PassedOperations.{act_same}
-use Rattle.sc_refines_turn.proofs.ShownSteps.{prints_is, starts_is, tests_is}
+use Rattle.sc_refines_turn.proofs.ShownSteps.{prints_is, starts_is, until_is}
 
 pub same_unless : (o : Option Cause) (w : Want) → region_steps.unless_failed o w ≡ unless_failed o w
 same_unless None w = refl
@@ -52,12 +52,12 @@ module _ (serve : ProgramsServe) where
       (asked_is s x o y z m n h (model.Prints text)
       (prints_is m.last.environment m.point.environment m.step text (subst (λ a. Seen m.last.environment m.point.environment m.step a) (sym shown) m.seen)))
 
-  tested : (o : Hop) (y z w : PlainStore) (n : Numbering) (s : System) (h : ℕ) (x : Half) (m : Meets s x o y z) → flat.Tests ≡ m.shown →
+  tested : (o : Hop) (y z w : PlainStore) (n : Numbering) (s : System) (h : ℕ) (x : Half) (m : Meets s x o y z) → flat.Until ≡ m.shown →
       IsRegionOf s (turn s h x) w → next_want n s h x ≡ unless_failed w.failure want.Continue
   tested o y z w n s h x m shown r =
       told_by n s h x w want.Continue r
-      (asked_is s x o y z m n h model.Tests
-      (tests_is m.last.environment m.point.environment m.step (subst (λ a. Seen m.last.environment m.point.environment m.step a) (sym shown) m.seen)))
+      (asked_is s x o y z m n h model.Until
+      (until_is m.last.environment m.point.environment m.step (subst (λ a. Seen m.last.environment m.point.environment m.step a) (sym shown) m.seen)))
 
   pub simple_steps_ask_nothing : SimpleStepsAskNothing
   simple_steps_ask_nothing (act.PrintInteger v) y z w simple comes turns n s h x is region =
@@ -69,12 +69,12 @@ module _ (serve : ProgramsServe) where
   simple_steps_ask_nothing (act.PrintText k) y z w simple comes turns n s h x is region =
       let m = meets serve s x (hop.Comes (act.PrintText k)) y z is region comes in
       printed (hop.Comes (act.PrintText k)) _ y z w n s h x m (act_same _ m.shown _ m.state m.does) (turns s h x is region)
-  simple_steps_ask_nothing (act.Test None) y z w simple comes turns n s h x is region =
-      let m = meets serve s x (hop.Comes (act.Test None)) y z is region comes in
-      tested (hop.Comes (act.Test None)) y z w n s h x m (act_same flat.Tests m.shown _ m.state m.does) (turns s h x is region)
-  simple_steps_ask_nothing (act.Test (Some k)) y z w simple comes turns n s h x is region =
-      let m = meets serve s x (hop.Comes (act.Test (Some k))) y z is region comes in
-      tested (hop.Comes (act.Test (Some k))) y z w n s h x m (act_same flat.Tests m.shown _ m.state m.does) (turns s h x is region)
+  simple_steps_ask_nothing (act.Until None) y z w simple comes turns n s h x is region =
+      let m = meets serve s x (hop.Comes (act.Until None)) y z is region comes in
+      tested (hop.Comes (act.Until None)) y z w n s h x m (act_same flat.Until m.shown _ m.state m.does) (turns s h x is region)
+  simple_steps_ask_nothing (act.Until (Some k)) y z w simple comes turns n s h x is region =
+      let m = meets serve s x (hop.Comes (act.Until (Some k))) y z is region comes in
+      tested (hop.Comes (act.Until (Some k))) y z w n s h x m (act_same flat.Until m.shown _ m.state m.does) (turns s h x is region)
   simple_steps_ask_nothing act.Start y z w simple comes turns n s h x is region =
       let m = meets serve s x (hop.Comes act.Start) y z is region comes in
       told_by n s h x w want.Continue (turns s h x is region)

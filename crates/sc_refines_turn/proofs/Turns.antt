@@ -223,7 +223,7 @@ module _ (serve : ProgramsServe) (h : ℕ) (y : PlainStore) (s : System) (x : Ha
     acts (act.PrintInteger v) comes may program = simple (act.PrintInteger v) _ refl comes (integers_are_printed serve v y b comes)
     acts (act.PrintBoolean v) comes may program = simple (act.PrintBoolean v) _ refl comes (booleans_are_printed serve v y b comes)
     acts (act.PrintText k) comes may program = simple (act.PrintText k) _ refl comes (texts_are_printed serve k y b comes)
-    acts (act.Test n) comes may program = simple (act.Test n) _ refl comes (rounds_end serve n y b comes)
+    acts (act.Until n) comes may program = simple (act.Until n) _ refl comes (rounds_end serve n y b comes)
     acts act.Start comes may program = simple act.Start _ refl comes (bodies_start serve y b comes)
     acts (act.Enter c r k n gives) comes may program =
         let left_so = calls_are_made serve c r k n gives may.0.0 y b comes may.0.1 may.1 s h x is region in

@@ -71,8 +71,8 @@ act_shown : (p : Image) (s : System) (c : Code) (me : Reference) (a : told.Act) 
 act_shown p s c me (act.PrintInteger z) f = does_shown _ _
 act_shown p s c me (act.PrintBoolean b) f = does_shown _ _
 act_shown p s c me (act.PrintText k) f = does_shown _ _
-act_shown p s c me (act.Test None) f = does_shown _ _
-act_shown p s c me (act.Test (Some n)) f = does_shown _ _
+act_shown p s c me (act.Until None) f = does_shown _ _
+act_shown p s c me (act.Until (Some n)) f = does_shown _ _
 act_shown p s c me (act.Enter calling.Unqualified r x n gives) f = does_shown _ _
 act_shown p s c me (act.Enter calling.Qualified r x n gives) f = does_shown _ _
 act_shown p s c me (act.Request r x n gives passes) f = does_shown _ _

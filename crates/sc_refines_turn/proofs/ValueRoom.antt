@@ -329,7 +329,7 @@ acts_room : (h : ℕ) (a : Act) (z : PlainStore) → IsTold (hop.Comes a) z → 
 acts_room h (act.PrintInteger v) z t kept = top_runs (past 1) (λ a. refl) z.frames kept.0 kept.1
 acts_room h (act.PrintBoolean b) z t kept = top_runs (past 1) (λ a. refl) z.frames kept.0 kept.1
 acts_room h (act.PrintText k) z t kept = top_runs (past 0) (λ a. refl) z.frames kept.0 kept.1
-acts_room h (act.Test n) z t kept = round_room n z.frames kept.0 kept.1
+acts_room h (act.Until n) z t kept = round_room n z.frames kept.0 kept.1
 acts_room h (act.Enter c r k n gives) z t kept = called_room c r k n gives z (top_activation z.frames) (calling_room z.program c r k n gives z.frames t kept.1)
 acts_room h (act.Request r k n gives passes) z t kept =
     sent_room (request_in h (call_of r k n gives passes) (top_activation z.frames)) r k n gives passes z (sending_room z.program r k n gives passes z.frames t kept.0 kept.1)

@@ -7,8 +7,8 @@ use Rattle.sc_tree.specs.Plain.{System, FeatureKind}
 use Rattle.sc_class.specs.Tables.Features.{DeclaredFeature}
 use Rattle.sc_proctype.specs.declared.entity_type.EntityType.{EntityType}
 use Rattle.sc_rules.specs.Types.{declared_type}
-use Rattle.sc_waitcond.specs.declared.condition.Verdict.{Verdict}
-use Rattle.sc_waitcond.specs.declared.condition.Verdict.TheVariants as verdict
+use Rattle.sc_waitcond.specs.declared.condition.EntryVerdict.{EntryVerdict}
+use Rattle.sc_waitcond.specs.declared.condition.EntryVerdict.TheVariants as verdict
 use Rattle.sc_model.specs.declared.cause.Cause.TheVariants as cause
 use Rattle.sc_model.specs.Asking.{awaits_if}
 use Rattle.sc_model.specs.Entries.{entry}
@@ -96,7 +96,7 @@ module _ (s : System) where
     correctness_keeps (Requested r) =
         if_kept (is_creation r.errand && not (object_meets s (object_numbered f.current.number x.objects))) (failed cause.Invariant x) (leaves s f below x) tt (leaves_keeps f below x a)
 
-    false_keeps : (v : Verdict) → AreKept (false_clause v s f below x)
+    false_keeps : (v : EntryVerdict) → AreKept (false_clause v s f below x)
     false_keeps verdict.Wait = (version, a)
     false_keeps verdict.Refuse = correctness_keeps f.origin
     false_keeps verdict.Start = tt
@@ -107,7 +107,7 @@ module _ (s : System) where
 
     acts_keep : (h : ℕ) (act : model.Act) → AreKept x → AreKept (acts s h act f below x)
     acts_keep h (model.Prints text) kept = kept
-    acts_keep h model.Tests kept = kept
+    acts_keep h model.Until kept = kept
     acts_keep h model.Creates kept = kept
     acts_keep h model.Starts kept = kept
     acts_keep h (model.CreatesHandler class procedure us t passing) kept = (

@@ -142,7 +142,7 @@ TextsArePrinted = (k : ℕ) (y z : PlainStore) → Comes (hop.Comes (act.PrintTe
 
 -- A loop ends, or its body comes again.
 abbrev pub RoundsEnd : Type 0
-RoundsEnd = (n : Option ℕ) (y z : PlainStore) → Comes (hop.Comes (act.Test n)) y z → TurnsInto y (on_top (round_ended n) z)
+RoundsEnd = (n : Option ℕ) (y z : PlainStore) → Comes (hop.Comes (act.Until n)) y z → TurnsInto y (on_top (round_ended n) z)
 
 -- A body begins behind its precondition.
 abbrev pub BodiesStart : Type 0
@@ -272,7 +272,7 @@ abbrev pub asks_nothing : Act → Bool
 asks_nothing (act.PrintInteger v) = true
 asks_nothing (act.PrintBoolean b) = true
 asks_nothing (act.PrintText k) = true
-asks_nothing (act.Test n) = true
+asks_nothing (act.Until n) = true
 asks_nothing act.Start = true
 asks_nothing other = false
 

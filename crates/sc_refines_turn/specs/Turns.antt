@@ -52,7 +52,7 @@ MayAct h act.Exit z = AreWhole z × TakesResult z.frames
 MayAct h (act.PrintInteger v) z = Unit {0}
 MayAct h (act.PrintBoolean b) z = Unit {0}
 MayAct h (act.PrintText k) z = Unit {0}
-MayAct h (act.Test n) z = Unit {0}
+MayAct h (act.Until n) z = Unit {0}
 MayAct h act.Start z = Unit {0}
 MayAct h act.Leave z = Unit {0}
 

@@ -478,8 +478,8 @@ module _ (distinct : DistinctNamesHaveNumbers) (h : ℕ) (s : System) (c : Code)
   acted_tells (act.PrintInteger i) ready = simple 1 (store.printed _ here) refl refl refl
   acted_tells (act.PrintBoolean b) ready = simple 1 (store.printed _ here) refl refl refl
   acted_tells (act.PrintText k) ready = simple 0 (store.printed _ here) refl refl refl
-  acted_tells (act.Test None) ready = simple 1 here refl refl refl
-  acted_tells (act.Test (Some k)) ready = record { grown = still p os (on_top (back k) here) refl refl; tells = inr refl }
+  acted_tells (act.Until None) ready = simple 1 here refl refl refl
+  acted_tells (act.Until (Some k)) ready = record { grown = still p os (on_top (back k) here) refl refl; tells = inr refl }
   acted_tells (act.Enter calling.Unqualified q x k gives) ready = entering calling.Unqualified q x k gives (name_there x k gives ready.named)
   acted_tells (act.Enter calling.Qualified q x k gives) ready = entering calling.Qualified q x k gives (name_there x k gives ready.named)
   acted_tells (act.Request q x k gives passes) ready = requesting (request_in h (call_of q x k gives passes) (Some t)) (call_of q x k gives passes)

@@ -20,7 +20,7 @@ use Rattle.sc_region.specs.declared.job.Job.{Job}
 use Rattle.sc_region.specs.declared.job.Job.TheVariants as job
 use Rattle.sc_region.specs.declared.job.Want.{Want}
 use Rattle.sc_region.specs.declared.job.Want.TheVariants as want
-use Rattle.sc_request.specs.Handlers.{Posted, posted, Answer, Replied, Refused, Stage, Idle, Runs, HasMade, Reserves, Awaits, Service, Handler, State, new_handler, put, with_stage}
+use Rattle.sc_request.specs.Handlers.{Posted, posted, Answer, Replied, Refused, HandlerStage, Idle, Runs, HasMade, Reserves, Awaits, Service, Handler, State, new_handler, put, with_stage}
 use Rattle.sc_request.specs.Sessions.{answer_to, answered, fail, fallen, finish, is_callback, is_waited_by, passed_if, passes, placed, release, requests_at, return_rights, send, session_ended, to_list, told, with_handler}
 use Rattle.sc_request.specs.Settling.{asks_of, awaits_if, begun, counted_refusal, creates, creates_with, creation, done, done_if, ends, ends_service, fits_turns, made_at, may_ask, posts_unheld, sends, settled, takes, takes_answer, takes_callback, takes_next, waits_again}
 use Rattle.sc_machine_values.specs.Points.{Each}
@@ -102,7 +102,7 @@ module _ (P : Errand → Type 0) where
   passes_asks false h k s all = all
   passes_asks true h k s all = all
 
-  stage_asks : (h : ℕ) (stage : Stage) (s : State) → AllAsk s → AllAsk (with_stage h stage s)
+  stage_asks : (h : ℕ) (stage : HandlerStage) (s : State) → AllAsk s → AllAsk (with_stage h stage s)
   stage_asks h stage s all = put_asks h (record (s.handlers h) { stage = stage }) s all (all h)
 
   waiting_asks : (b : Bool) (h k : ℕ) (s : State) → AllAsk s → AllAsk (awaits_if b h k s)
@@ -150,7 +150,7 @@ module _ (P : Errand → Type 0) where
 
   again_asks : (h : ℕ) (ks : List ℕ) (s : State) → AllAsk s → AllAsk (waits_again h ks s)
   again_asks h ks s all =
-      let stage : Stage = Reserves (s.handlers h).entry (mark_of (λ k. (s.handlers k).sessions) ks) in
+      let stage : HandlerStage = Reserves (s.handlers h).entry (mark_of (λ k. (s.handlers k).sessions) ks) in
       release_asks release_at.FalseWaitCondition ks (with_stage h stage s) (stage_asks h stage s all)
 
   refusal_asks : (b : Bool) (x : Handler) → Asks x → Asks (counted_refusal b x)
@@ -193,14 +193,14 @@ module _ (P : Errand → Type 0) where
   callback_asks None x is = is
   callback_asks (Some p) x is = (is.0, tt)
 
-  takes_asks : (stage : Stage) (x : Handler) → Asks x → Asks (takes stage x)
+  takes_asks : (stage : HandlerStage) (x : Handler) → Asks x → Asks (takes stage x)
   takes_asks Idle x is = next_asks x.queue x is.0 is
   takes_asks (Awaits k is_creation) x is = callback_asks x.callback x is
   takes_asks Runs x is = is
   takes_asks (HasMade k) x is = is
   takes_asks (Reserves ks mark) x is = is
 
-  made_asks : (h : ℕ) (stage : Stage) (s : State) → AllAsk s → AllAsk (made_at h stage s)
+  made_asks : (h : ℕ) (stage : HandlerStage) (s : State) → AllAsk s → AllAsk (made_at h stage s)
   made_asks h (Awaits k is_creation) s all =
       release_asks release_at.Creation (k ∷ []) (put h (takes_answer (s.handlers h)) s) (put_asks h (takes_answer (s.handlers h)) s all (all h))
   made_asks h Idle s all = stage_asks h Runs s all
@@ -302,7 +302,7 @@ done_if_counts true b most h w s = same_count most s (fail h cause.NotHeld s) re
 done_if_counts false true most h w s = done_counts most h w s
 done_if_counts false false most h w s = same_count most s (fail h cause.BadCode s) refl
 
-made_count : (h : ℕ) (stage : Stage) (s : State) → (made_at h stage s).count ≡ s.count
+made_count : (h : ℕ) (stage : HandlerStage) (s : State) → (made_at h stage s).count ≡ s.count
 made_count h (Awaits k is_creation) s = refl
 made_count h Idle s = refl
 made_count h Runs s = refl

@@ -97,7 +97,7 @@ module _ (s : System) (p : Image) (w : machine.World) (x : PlainWorld) (stands :
       let one = stands.regions k there in
       let same : one.0 ≡ start = same_region one.0 start (sym one.1 ∙ at) in
       let own : IsRegionFor s p k (w.handlers k) (core.Awaits i true) start =
-      subst (λ (t : core.Stage). IsRegionFor s p k (w.handlers k) t start) is (subst (IsRegionFor s p k (w.handlers k) (c.handlers k).stage) same one.2) in
+      subst (λ (t : core.HandlerStage). IsRegionFor s p k (w.handlers k) t start) is (subst (IsRegionFor s p k (w.handlers k) (c.handlers k).stage) same one.2) in
       let half : IsHandlerOf (numbering_by (names_in p)) (w.handlers k) (c.handlers k) = stands.core.handlers k in
       let halves = own.is_half.stands (sym half.failure ∙ lives) in
       top_waits s k i own.half.objects (w.handlers k).stack own.half.stack start.store.frames (subst (IsTop (w.handlers k).stack) is half.stage) halves.1 own.stands.frames runs

@@ -45,7 +45,7 @@ no_types [] e = refl
 no_types (u ∷ us) e = cc
 
 -- What holds of the machine's frame, where that has these operands, holds of the region's with them.
-pub same_frame : (P : Reference → Routine → Point → Type 0) (h : ℕ) (stage : core.Stage) (objects : List Object) (f g : Frame) (us : List Operand) → IsHalfOfFrame h stage f g →
+pub same_frame : (P : Reference → Routine → Point → Type 0) (h : ℕ) (stage : core.HandlerStage) (objects : List Object) (f g : Frame) (us : List Operand) → IsHalfOfFrame h stage f g →
     f.values ≡ us → P f.current f.routine (point_of f objects) → P g.current g.routine (point_of (record g { values = us }) objects)
 same_frame P h stage objects f g us half e stands =
     let me : f.current ≡ g.current = ap (λ (f : Frame). f.current) half.same in
@@ -138,18 +138,18 @@ module _ (h : ℕ) (y : core.Handler) (c : State) (j : Job) (f g : Frame) where
   awaiting_tells k None (Some a) e is = answered_tells k a e is
   awaiting_tells k None None e is = cc
 
-  pub tells_at : (st gt : Stage) (stage : core.Stage) → IsStage st f stage → IsStageFor h st gt → gt ≡ Runs → IsToldOf st stage f.values g.values → job_at h stage y c ≡ Some j →
+  pub tells_at : (st gt : Stage) (stage : core.HandlerStage) → IsStage st f stage → IsStageFor h st gt → gt ≡ Runs → IsToldOf st stage f.values g.values → job_at h stage y c ≡ Some j →
       f.values ≡ operands_under j g.values
   tells_at Runs gt stage (inl e) at runs values is =
-      let go : Some job.Go ≡ Some j = subst (λ (t : core.Stage). job_at h t y c ≡ Some j) e is in
-      subst (λ (i : Job). f.values ≡ operands_under i g.values) (same_job job.Go j go) (subst (λ (t : core.Stage). IsToldOf Runs t f.values g.values) e values)
+      let go : Some job.Go ≡ Some j = subst (λ (t : core.HandlerStage). job_at h t y c ≡ Some j) e is in
+      subst (λ (i : Job). f.values ≡ operands_under i g.values) (same_job job.Go j go) (subst (λ (t : core.HandlerStage). IsToldOf Runs t f.values g.values) e values)
   tells_at Runs gt stage (inr (k, e)) at runs values is =
-      let made : Some (job.Made k) ≡ Some j = subst (λ (t : core.Stage). job_at h t y c ≡ Some j) e is in
-      subst (λ (i : Job). f.values ≡ operands_under i g.values) (same_job (job.Made k) j made) (subst (λ (t : core.Stage). IsToldOf Runs t f.values g.values) e values)
+      let made : Some (job.Made k) ≡ Some j = subst (λ (t : core.HandlerStage). job_at h t y c ≡ Some j) e is in
+      subst (λ (i : Job). f.values ≡ operands_under i g.values) (same_job (job.Made k) j made) (subst (λ (t : core.HandlerStage). IsToldOf Runs t f.values g.values) e values)
   tells_at Reserves gt stage top at runs values is = let no : Runs ≡ Reserves = sym runs ∙ at in cc
   tells_at ReservesBlock gt stage top at runs values is = let no : Runs ≡ ReservesBlock = sym runs ∙ at in cc
   tells_at (InCall gives) gt stage top at runs values is = let no : Runs ≡ InCall gives = sym runs ∙ at in cc
   tells_at (Awaits k gives true) gt stage top at runs values is = let no : Runs ≡ Awaits h gives true = sym runs ∙ at in cc
   tells_at (Awaits k gives false) gt stage top (inl at) runs values is = let no : Runs ≡ Awaits k gives false = sym runs ∙ at in cc
   tells_at (Awaits k gives false) gt stage top (inr at) runs values is =
-      awaiting_tells k y.callback y.answer (subst (λ (t : core.Stage). job_at h t y c ≡ Some j) top is) values
+      awaiting_tells k y.callback y.answer (subst (λ (t : core.HandlerStage). job_at h t y c ≡ Some j) top is) values

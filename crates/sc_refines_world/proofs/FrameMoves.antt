@@ -12,8 +12,8 @@ use Rattle.sc_rules.specs.Types.{declared_type}
 use Rattle.sc_lockpass.specs.Passing.{Passed}
 use Rattle.sc_lockpass.specs.Rights.{held, is_among, is_handler}
 use Rattle.sc_waitcond.specs.Reservations.{ends_session, mark_of, reserve_fails}
-use Rattle.sc_waitcond.specs.declared.condition.Verdict.{Verdict}
-use Rattle.sc_waitcond.specs.declared.condition.Verdict.TheVariants as verdict
+use Rattle.sc_waitcond.specs.declared.condition.EntryVerdict.{EntryVerdict}
+use Rattle.sc_waitcond.specs.declared.condition.EntryVerdict.TheVariants as verdict
 use Rattle.sc_waitcond.specs.declared.session.Release.{Release}
 use Rattle.sc_waitcond.specs.declared.session.Release.TheVariants as release_at
 use Rattle.sc_model.specs.declared.cause.Cause.{Cause}
@@ -32,7 +32,7 @@ use Rattle.sc_model.specs.Objects.{Object, fresh_object, object_numbered}
 use Rattle.sc_model.specs.Preconditions.{correctness_fails, counted_refusal, false_clause, is_creation, object_meets, refuses, verdict_on}
 use Rattle.sc_model.specs.Routines.{Routine, routine_named, routine_of, version_of}
 use Rattle.sc_model.specs.Sessions.{release, session_ended, standing_in}
-use Rattle.sc_model.specs.Steps.{Act, Calling, Creates, CreatesHandler, Does, Enters, Exits, Fails, Goes, Leaves, Opens, Point, Prints, Refuses, Requests, Starts, Step, Tests}
+use Rattle.sc_model.specs.Steps.{Act, Calling, Creates, CreatesHandler, Does, Enters, Exits, Fails, Goes, Leaves, Opens, Point, Prints, Refuses, Requests, Starts, Step, Until}
 use Rattle.sc_model.specs.Takes.{released_if, replies, takes, takes_answer, takes_creation, takes_errand, takes_kind, takes_next, takes_version, with_new_object}
 use Rattle.sc_model.specs.Tasks.{Declare, Do, Forget, In, Task, ensures, keeps_olds, requires, tasks_of}
 use Rattle.sc_model.specs.Olds.{olds_of_clauses}
@@ -441,9 +441,9 @@ module _ (most : ℕ) (s : System) (h : ℕ) (w : World) (lives : (w.handlers h)
               never : HasStarted ((requires (k ∷ ks) ++ keeps_olds (olds_of_clauses f.routine.ensure)) ++ behind) → ⊥
               never z = let no : true ≡ false = z.0 in cc
 
-      clause_moves : (k : Clause) → Acts s w h f (Refuses k) p → (d : Verdict) → verdict_on (frame_at f p) k ≡ d → T (false_clause d s h (frame_at f p) below moved)
-      clause_moves k move verdict.Start is = fails_move cause.BadCode [] moved
-      clause_moves k move verdict.Wait is =
+      clause_moves : (d : EntryVerdict) → T (false_clause d s h (frame_at f p) below moved)
+      clause_moves verdict.Start = fails_move cause.BadCode [] moved
+      clause_moves verdict.Wait =
           let g : Frame = record (frame_at f p) { stage = Reserves; tasks = tasks_of f.routine; values = []; reserved = []; mark = mark_of (λ k. (moved.handlers k).sessions) f.reserved } in
           let a = release_like h release_at.FalseWaitCondition f.reserved (with_stack h (g ∷ below) moved) in
           go_on at (a.stack ∙ stack_own h (g ∷ below) moved) (waits_again_so k move is g refl refl refl refl refl refl) (rest_alike (rest_stack h (g ∷ below) moved moved_rest) a)
@@ -485,9 +485,8 @@ module _ (most : ℕ) (s : System) (h : ℕ) (w : World) (lives : (w.handlers h)
       act_moves : (a : Act) → Acts s w h f a p → T (effect most s h a (frame_at f p) below moved)
       act_moves (Prints text) move =
           let x : Handler = record (moved.handlers h) { output = (moved.handlers h).output ++ text } in
-          go_on at (ap (λ (y : Handler). y.stack) (put_own h x moved) ∙ moved_stack) (at_point (Prints text) move refl (frame_at f p) there)
-          (rest_put h (w.handlers h) x moved (record { queue_stays = moved_rest.queue_stays; callback_stays = moved_rest.callback_stays; failure_stays = moved_rest.failure_stays }))
-      act_moves Tests move = goes_there Tests move refl
+          go_on at (ap (λ (y : Handler). y.stack) (put_own h x moved) ∙ moved_stack) (at_point (Prints text) move refl (frame_at f p) refl refl refl refl)
+      act_moves Until move = goes_there Until move refl
       act_moves Creates move = goes_there Creates move refl
       act_moves Starts move = goes_there Starts move refl
       act_moves (CreatesHandler class k us t b) move =

@@ -5,8 +5,8 @@ use Rattle.sc_model.specs.declared.cause.Cause.{Cause}
 use Rattle.sc_code.specs.declared.program.AttributeCode.{AttributeCode}
 use Rattle.sc_code.specs.declared.program.Image.{Image}
 use Rattle.sc_code.specs.declared.program.RoutineCode.{RoutineCode}
-use Rattle.sc_code.specs.declared.program.Version.{Version}
-use Rattle.sc_code.specs.declared.program.Version.TheVariants as version
+use Rattle.sc_code.specs.declared.program.FeatureCode.{FeatureCode}
+use Rattle.sc_code.specs.declared.program.FeatureCode.TheVariants as version
 use Rattle.sc_region.specs.declared.frame.Origin.{Origin}
 use Rattle.sc_region.specs.declared.frame.Origin.TheVariants as origin
 use Rattle.sc_region.specs.declared.frame.Stage.{Stage}
@@ -68,12 +68,12 @@ module _ (y : PlainStore) where
   answers (Some a) None = fails y.program y.objects _ y same
   answers None v = fails y.program y.objects _ y same
 
-  takes_version : (r : Request) (v : Option Version) → Grows (taken_version r v y)
+  takes_version : (r : Request) (v : Option FeatureCode) → Grows (taken_version r v y)
   takes_version r (Some (version.Routine n)) = enters y.program y.objects r.target n origin.Requested r.actuals.items y same
   takes_version r (Some (version.Attribute n)) = answers (attribute_at y.program r.target.class n) (attribute_of r.target.number n y.objects)
   takes_version r None = fails y.program y.objects _ y same
 
-  takes_on : (r : Request) (o : Option PlainObject) (v : Option Version) → Grows (taken_on r o v y)
+  takes_on : (r : Request) (o : Option PlainObject) (v : Option FeatureCode) → Grows (taken_on r o v y)
   takes_on r (Some o) v = takes_version r v
   takes_on r None v = fails y.program y.objects _ y same
 

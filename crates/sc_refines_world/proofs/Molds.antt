@@ -63,7 +63,7 @@ module _ (p : Image) (n r : ℕ) (rest : List Mold) where
 
   abbrev pub Tells : flat.Act → State → List Mold → Type 0
   Tells (flat.Prints text) g ms = OneOf (top_mold g.place g.slots) ms
-  Tells flat.Tests g ms = OneOf (top_mold g.place g.slots) ms
+  Tells flat.Until g ms = OneOf (top_mold g.place g.slots) ms
   Tells flat.Creates g ms = OneOf (top_mold g.place g.slots) ms
   Tells (flat.CreatesHandler class procedure us passes) g ms = OneOf (top_mold g.place g.slots) ms
   Tells (flat.Enters calling me x us gives) g ms =
@@ -106,7 +106,7 @@ module _ (p : Image) (n r : ℕ) (rest : List Mold) where
 
   tells_same : (a : flat.Act) (g : State) (ms ks : List Mold) → length ms ≡ length ks → Tells a g ms → Tells a g ks → ms ≡ ks
   tells_same (flat.Prints text) g ms ks e l m = one_same _ ms ks e l m
-  tells_same flat.Tests g ms ks e l m = one_same _ ms ks e l m
+  tells_same flat.Until g ms ks e l m = one_same _ ms ks e l m
   tells_same flat.Creates g ms ks e l m = one_same _ ms ks e l m
   tells_same (flat.CreatesHandler class procedure us passes) g ms ks e l m = one_same _ ms ks e l m
   tells_same (flat.Enters calling me x us gives) g ms ks e l m = one_same _ ms ks e l m
@@ -126,7 +126,7 @@ module _ (p : Image) (n r : ℕ) (rest : List Mold) where
 
   tells_none : (a : flat.Act) (g : State) → Tells a g []
   tells_none (flat.Prints text) g = inl refl
-  tells_none flat.Tests g = inl refl
+  tells_none flat.Until g = inl refl
   tells_none flat.Creates g = inl refl
   tells_none (flat.CreatesHandler class procedure us passes) g = inl refl
   tells_none (flat.Enters calling me x us gives) g = inl refl

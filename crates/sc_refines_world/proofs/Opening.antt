@@ -118,7 +118,7 @@ module _ (s : System) (root : Root) (pure : RoutineName → Bool) (p : Image) (f
 -- ---- halves
 
 -- the half of each handler is new
-pub opens_new : (s : System) (root : Root) (h : ℕ) (stage : core.Stage) → IsRegionHalf h ((runs.opening s root).handlers h) stage new_half
+pub opens_new : (s : System) (root : Root) (h : ℕ) (stage : core.HandlerStage) → IsRegionHalf h ((runs.opening s root).handlers h) stage new_half
 opens_new s root h stage = by (nat_lt h 1)
   where
     fresh : (x : machine.Handler) → x.objects ≡ [] → x.output ≡ [] → x.stack ≡ [] → IsRegionHalf h x stage new_half

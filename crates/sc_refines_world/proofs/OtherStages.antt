@@ -18,7 +18,7 @@ use Rattle.sc_region.specs.declared.job.Job.TheVariants as job
 use Rattle.sc_region.specs.declared.job.Request.{Request}
 use Rattle.sc_region.specs.declared.job.Want.{Want}
 use Rattle.sc_region.specs.declared.job.Want.TheVariants as want
-use Rattle.sc_request.specs.Handlers.{Posted, posted, Answer, Replied, SupplierFailed, Refused, Stage, Idle, Runs, HasMade, Reserves, Awaits, Service, Handler, State, put, standing_in, with_stage}
+use Rattle.sc_request.specs.Handlers.{Posted, posted, Answer, Replied, SupplierFailed, Refused, HandlerStage, Idle, Runs, HasMade, Reserves, Awaits, Service, Handler, State, put, standing_in, with_stage}
 use Rattle.sc_request.specs.Picking.{job_at, job_awaiting, job_idle, job_of, job_reserving, job_with, needs}
 use Rattle.sc_request.specs.Sessions.{answer_to, answered, fail, finish, is_callback, is_waited_by, passed_if, passes, placed, release, requests_at, reserve, return_rights, send, session_ended, told, with_handler}
 use Rattle.sc_request.specs.Settling.{asks_of, awaits_if, begun, counted_refusal, creates, creates_with, creation, done, done_if, ends, ends_service, fits_turns, made_at, may_ask, posts_unheld, sends, settled, takes, takes_answer}
@@ -83,7 +83,7 @@ module _ (h : ℕ) where
   released : (how : Release) (ks : List ℕ) (s : State) → OthersStay h s (release how ks s)
   released how ks s = each_stays s (release how ks s) refl (λ k. ended_so (ends_session how && is_among k ks) (s.handlers k))
 
-  staged : (stage : Stage) (s : State) → OthersStay h s (with_stage h stage s)
+  staged : (stage : HandlerStage) (s : State) → OthersStay h s (with_stage h stage s)
   staged stage s = own_put (record (s.handlers h) { stage = stage }) s
 
   passed_on : (b : Bool) (i k : ℕ) (s : State) → OthersStay h s (passes b i k s)
@@ -127,7 +127,7 @@ module _ (h : ℕ) where
 
   -- ---- the job begins
 
-  made : (stage : Stage) (s : State) → OthersStay h s (made_at h stage s)
+  made : (stage : HandlerStage) (s : State) → OthersStay h s (made_at h stage s)
   made (Awaits k c) s =
       let t : State = put h (takes_answer (s.handlers h)) s in
       stay_then s t (release release_at.Creation (k ∷ []) t) (own_put (takes_answer (s.handlers h)) s) (released release_at.Creation (k ∷ []) t)
@@ -215,7 +215,7 @@ module _ (h : ℕ) where
   comes most (want.Create class procedure actuals passing) s = created most class procedure actuals passing s
   comes most (want.Release ks) s = released release_at.Leave ks.items s
   comes most (want.Wait ks) s =
-      let stage : Stage = Reserves (s.handlers h).entry (mark_of (λ k. (s.handlers k).sessions) ks.items) in
+      let stage : HandlerStage = Reserves (s.handlers h).entry (mark_of (λ k. (s.handlers k).sessions) ks.items) in
       let t : State = with_stage h stage s in
       stay_then s t (release release_at.FalseWaitCondition ks.items t) (staged stage s) (released release_at.FalseWaitCondition ks.items t)
   comes most (want.Done v ks refused) s = ends_all v ks.items refused (s.handlers h).services s
@@ -254,7 +254,7 @@ no_idle_go : {A : Type 0} (ps : List Posted) → job_idle ps ≡ Some job.Go →
 no_idle_go [] e = cc
 no_idle_go (p ∷ ps) e = cc
 
-go_runs : (k : ℕ) (stage : Stage) (x : Handler) (s : State) → job_at k stage x s ≡ Some job.Go → stage ≡ Runs
+go_runs : (k : ℕ) (stage : HandlerStage) (x : Handler) (s : State) → job_at k stage x s ≡ Some job.Go → stage ≡ Runs
 go_runs k Idle x s e = no_idle_go x.queue e
 go_runs k Runs x s e = refl
 go_runs k (HasMade i) x s e = cc
@@ -281,7 +281,7 @@ no_idle_made k [] e = cc
 no_idle_made k (p ∷ ps) e = cc
 
 -- it goes on with the handler that was made, or waits for that
-made_stage : (h k : ℕ) (stage : Stage) (x : Handler) (s : State) → job_at h stage x s ≡ Some (job.Made k) → (stage ≡ HasMade k) ⊎ (stage ≡ Awaits k true)
+made_stage : (h k : ℕ) (stage : HandlerStage) (x : Handler) (s : State) → job_at h stage x s ≡ Some (job.Made k) → (stage ≡ HasMade k) ⊎ (stage ≡ Awaits k true)
 made_stage h k Idle x s e = no_idle_made k x.queue e
 made_stage h k Runs x s e = cc
 made_stage h k (HasMade i) x s e = inl (ap (λ (n : ℕ). HasMade n) (made_same i k e))
@@ -306,12 +306,12 @@ has_job h s j e = by (nat_lt h s.count) (s.handlers h).failure refl refl e
     by true (Some why) there stands e = cc
     by false o there stands e = cc
 
-job_there : (h : ℕ) (s : State) (stage : Stage) (j : Job) → h < s.count → (s.handlers h).failure ≡ None → (s.handlers h).stage ≡ stage →
+job_there : (h : ℕ) (s : State) (stage : HandlerStage) (j : Job) → h < s.count → (s.handlers h).failure ≡ None → (s.handlers h).stage ≡ stage →
     job_at h stage (s.handlers h) s ≡ Some j → job_of h s ≡ Some j
 job_there h s stage j there stands at due =
     ap (λ (b : Bool). if b then job_with h (s.handlers h).failure (s.handlers h) s else None) (lt-ltb h s.count there)
     ∙ ap (λ (o : Option Cause). job_with h o (s.handlers h) s) stands
-    ∙ ap (λ (t : Stage). job_at h t (s.handlers h) s) at ∙ due
+    ∙ ap (λ (t : HandlerStage). job_at h t (s.handlers h) s) at ∙ due
 
 module _ (h k most turns : ℕ) (j : Job) (w : Want) (s : State) (apart : k ≡ h → ⊥) where
   abbrev later : State

@@ -14,7 +14,7 @@ use Rattle.sc_model.specs.Handlers.{World}
 use Rattle.sc_code.specs.declared.program.Image.{Image}
 use Rattle.sc_region.specs.declared.job.Job.{Job}
 use Rattle.sc_region.specs.declared.job.Job.TheVariants as job
-use Rattle.sc_request.specs.Handlers.{Answer, Awaits, Handler, HasMade, Idle, Posted, Refused, Replied, Reserves, Runs, Stage, State, SupplierFailed, standing_in}
+use Rattle.sc_request.specs.Handlers.{Answer, Awaits, Handler, HasMade, Idle, Posted, Refused, Replied, Reserves, Runs, HandlerStage, State, SupplierFailed, standing_in}
 use Rattle.sc_request.specs.Logs.{Center, granted, picked, put_back, put_back_with, ungranted}
 use Rattle.sc_request.specs.Picking.{job_answered, job_at, job_awaiting, job_idle, job_of, job_reserving, job_with, needs}
 use Rattle.sc_request.specs.Halves.{IsHalfOf}
@@ -94,7 +94,7 @@ awaiting_free s k b (Some p) a j is = none_given s (job.Take p.request) j refl i
 awaiting_free s k b None (Some a) j is = answered_free s k b a j is
 awaiting_free s k b None None j is = cc
 
-at_free : (s : State) (h : ℕ) (stage : Stage) (y : Handler) (j : Job) → job_at h stage y s ≡ Some j → Free s j
+at_free : (s : State) (h : ℕ) (stage : HandlerStage) (y : Handler) (j : Job) → job_at h stage y s ≡ Some j → Free s j
 at_free s h Idle y j is = idle_free s y.queue j is
 at_free s h Runs y j is = none_given s job.Go j refl is
 at_free s h (HasMade k) y j is = none_given s (job.Made k) j refl is

@@ -14,7 +14,7 @@ use Rattle.sc_model.specs.Handlers.{Frame, Runs, World, point_of}
 use Rattle.sc_model.specs.Moves.{moves}
 use Rattle.sc_model.specs.Routines.{Text}
 use Rattle.sc_model.specs.Runs.{IsReached}
-use Rattle.sc_model.specs.Steps.{Act, Creates, CreatesHandler, Does, Enters, Exits, Fails, Leaves, Opens, Point, Prints, Refuses, Requests, Starts, Tests}
+use Rattle.sc_model.specs.Steps.{Act, Creates, CreatesHandler, Does, Enters, Exits, Fails, Leaves, Opens, Point, Prints, Refuses, Requests, Starts, Until}
 use Rattle.sc_model.specs.Tasks.{Task}
 use Rattle.sc_model.specs.Turns.{turn_with}
 use Rattle.sc_machine_rights.proofs.links.Reached.{reached_linked}
@@ -92,7 +92,7 @@ module _ (s : System) (root : Root) (pure : RoutineName → Bool) (faultless : I
       of_act (Refuses k) e plain i = let no : false ≡ true = plain in cc
       of_act (Fails why) e plain i = let no : false ≡ true = plain in cc
       of_act (Prints text) e plain i = absurd i
-      of_act Tests e plain i = absurd i
+      of_act Until e plain i = absurd i
       of_act Creates e plain i = absurd i
       of_act (CreatesHandler class k us t b) e plain i = absurd i
       of_act Opens e plain i = absurd i

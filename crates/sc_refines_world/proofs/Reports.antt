@@ -31,7 +31,7 @@ use Rattle.sc_refines_world.specs.Standing.{IsNear, StandsNear, names_in}
 -- ---- how a handler stands
 
 -- one with frames waits
-idle_waits : (f : Frame) (st : machine.Stage) (stage : core.Stage) → IsStage st f stage → status_idle stage ≡ Waiting
+idle_waits : (f : Frame) (st : machine.Stage) (stage : core.HandlerStage) → IsStage st f stage → status_idle stage ≡ Waiting
 idle_waits f Runs stage (inl e) = ap status_idle e
 idle_waits f Runs stage (inr (k, e)) = ap status_idle e
 idle_waits f Reserves stage e = ap status_idle e
@@ -39,7 +39,7 @@ idle_waits f ReservesBlock stage e = ap status_idle e
 idle_waits f (InCall gives) stage e = ap status_idle e
 idle_waits f (Awaits k gives is_creation) stage e = ap status_idle e
 
-same_status : (why : Option Cause) (busy : Bool) (stack : List Frame) (stage : core.Stage) → IsTop stack stage → status_with why busy stage ≡ reports.status_with why busy stack
+same_status : (why : Option Cause) (busy : Bool) (stack : List Frame) (stage : core.HandlerStage) → IsTop stack stage → status_with why busy stage ≡ reports.status_with why busy stack
 same_status (Some why) busy stack stage top = refl
 same_status None true stack stage top = refl
 same_status None false [] stage top = ap status_idle top

@@ -87,7 +87,7 @@ number_within k os o = by (k == 0)
 
 -- ---- frames
 
-are_within : (s : System) (pure : RoutineName → Bool) (w : World) (h : ℕ) (stage : core.Stage) (fs gs : List Frame) → Each (FrameFits s pure w h) fs → AreHalvesOf h stage fs gs →
+are_within : (s : System) (pure : RoutineName → Bool) (w : World) (h : ℕ) (stage : core.HandlerStage) (fs gs : List Frame) → Each (FrameFits s pure w h) fs → AreHalvesOf h stage fs gs →
     AreWithin (length (w.handlers h).objects) gs
 are_within s pure w h stage [] [] fit are = tt
 are_within s pure w h stage [] (g ∷ gs) fit are = absurd are
@@ -127,7 +127,7 @@ same_call s h _ _ below c t (called {f} {g} {below = bs} {c = d} {t = u} is call
     stage_gives : (a b : Option EntityType) → InCall a ≡ InCall b → a ≡ b
     stage_gives a b e = cc
 
-gives_result : (s : System) (pure : RoutineName → Bool) (w : World) (h : ℕ) (stage : core.Stage) (f g : Frame) (fs gs : List Frame) (us : List Operand) → Linked s h (f ∷ fs) →
+gives_result : (s : System) (pure : RoutineName → Bool) (w : World) (h : ℕ) (stage : core.HandlerStage) (f g : Frame) (fs gs : List Frame) (us : List Operand) → Linked s h (f ∷ fs) →
     FrameFits s pure w h f → IsHalfOfFrame h stage f g → AreHalvesOf h core.Runs fs gs → GivesResult (record g { values = us }) gs
 gives_result s pure w h stage f g [] [] us linked fits half are = tt
 gives_result s pure w h stage f g (e ∷ fs) [] us linked fits half are = absurd are
@@ -322,7 +322,7 @@ module _ (s : System) (w : World) (h : ℕ) (names : List (List ℕ)) (r : Reque
   reserving_takes false true ks e = cc
   reserving_takes false false ks e = cc
 
-  at_asked : (y : core.Handler) (c : State) (stage : core.Stage) → y.queue ≡ map (posted_of (numbering_by names)) (w.handlers h).queue →
+  at_asked : (y : core.Handler) (c : State) (stage : core.HandlerStage) → y.queue ≡ map (posted_of (numbering_by names)) (w.handlers h).queue →
       y.callback ≡ option_map (posted_of (numbering_by names)) (w.handlers h).callback → Each (values.RequestFits s w h) (requests_at (w.handlers h)) →
       Each NamedPost y.queue → Each NamedPost (sessions.to_list y.callback) → job_at h stage y c ≡ Some (job.Take r) → IsAsked s w h names r
   at_asked y c core.Idle queue callback fits posts posted is =
@@ -385,7 +385,7 @@ module _ (v : Option coded.Value) where
   reserving_is false true ks e = cc
   reserving_is false false ks e = cc
 
-  at_reply : (h : ℕ) (y : core.Handler) (c : State) (stage : core.Stage) (a : Option machine.Answer) → y.answer ≡ option_map answer_of a → job_at h stage y c ≡ Some (job.Reply v) → IsReply a
+  at_reply : (h : ℕ) (y : core.Handler) (c : State) (stage : core.HandlerStage) (a : Option machine.Answer) → y.answer ≡ option_map answer_of a → job_at h stage y c ≡ Some (job.Reply v) → IsReply a
   at_reply h y c core.Idle a e is = idle_is y.queue is
   at_reply h y c core.Runs a e is = cc
   at_reply h y c (core.HasMade k) a e is = cc

@@ -5,8 +5,8 @@ use Rattle.std.specs.Option.{option_and_then, option_map}
 use Rattle.sc_model.specs.declared.cause.Cause.{Cause}
 use Rattle.sc_code.specs.declared.program.Image.{Image}
 use Rattle.sc_code.specs.declared.program.RoutineCode.{RoutineCode}
-use Rattle.sc_code.specs.declared.program.Version.{Version}
-use Rattle.sc_code.specs.declared.program.Version.TheVariants as version
+use Rattle.sc_code.specs.declared.program.FeatureCode.{FeatureCode}
+use Rattle.sc_code.specs.declared.program.FeatureCode.TheVariants as version
 use Rattle.sc_code.specs.Programs.{pool_of}
 use Rattle.sc_region.specs.declared.frame.Origin.{Origin}
 use Rattle.sc_region.specs.declared.frame.Origin.TheVariants as origin
@@ -159,7 +159,7 @@ acted_named : (h : ℕ) (a : Act) (x y : PlainStore) → IsTold (hop.Comes a) x 
 acted_named h (act.PrintInteger z) x y told = tt
 acted_named h (act.PrintBoolean b) x y told = tt
 acted_named h (act.PrintText k) x y told = tt
-acted_named h (act.Test back) x y told = tt
+acted_named h (act.Until back) x y told = tt
 acted_named h (act.Enter calling me name n gives) x y told = beginning_named (names_of x) y.program (top_activation y.frames)
 acted_named h (act.Request r k n gives passes) x y told = by (top_activation x.frames) told
   where
@@ -214,12 +214,12 @@ turn_made_named (Some (stage.InCall gives)) h x y w t = becomes_named (names_of 
 turn_made_named (Some (stage.Awaits k gives true)) h x y w t = becomes_named (names_of x) _ want.Continue y w tt t
 turn_made_named (Some (stage.Awaits k gives false)) h x y w t = becomes_named (names_of x) _ want.Continue y w tt t
 
-version_named : (names : List (List ℕ)) (r : Request) (v : Option Version) (x y : PlainStore) → AsksNamed names (taking.asks_version r v x y)
+version_named : (names : List (List ℕ)) (r : Request) (v : Option FeatureCode) (x y : PlainStore) → AsksNamed names (taking.asks_version r v x y)
 version_named names r (Some (version.Attribute n)) x y = tt
 version_named names r (Some (version.Routine n)) x y = beginning_named names y.program (top_activation y.frames)
 version_named names r None x y = tt
 
-on_named : (names : List (List ℕ)) (r : Request) (o : Option PlainObject) (v : Option Version) (x y : PlainStore) → AsksNamed names (taking.asks_on r o v x y)
+on_named : (names : List (List ℕ)) (r : Request) (o : Option PlainObject) (v : Option FeatureCode) (x y : PlainStore) → AsksNamed names (taking.asks_on r o v x y)
 on_named names r (Some o) v x y = version_named names r v x y
 on_named names r None v x y = tt
 

@@ -134,7 +134,7 @@ module _ (s : System) (root : Root) (p : Image) (faultless : IsFaultless s root)
   -- and one that is created has a new one.
   abbrev pub CreatedAreNew : Type 0
   CreatedAreNew =
-      (h k : ℕ) (w : machine.World) (stage : core.Stage) → w.count ≤ k → k < (turn most s h w).count → IsRegionHalf k ((turn most s h w).handlers k) stage new_half
+      (h k : ℕ) (w : machine.World) (stage : core.HandlerStage) → w.count ≤ k → k < (turn most s h w).count → IsRegionHalf k ((turn most s h w).handlers k) stage new_half
 
   -- In each state that is reached settled objects meet their invariants.
   abbrev pub SettledMeet : Type 0

@@ -20,7 +20,7 @@ names_in p = (pool_of p.pool).names
 
 -- The region is that of the handler of the number: its store stands for the region's half of what the machine has of the
 -- handler, where that stands so in the core.
-pub record IsRegionFor (s : System) (p : Image) (h : ℕ) (x : machine.Handler) (stage : core.Stage) (r : PlainRegion) :
+pub record IsRegionFor (s : System) (p : Image) (h : ℕ) (x : machine.Handler) (stage : core.HandlerStage) (r : PlainRegion) :
     Type 0 where
   pub handler : r.handler ≡ h
   pub program : r.store.program ≡ p

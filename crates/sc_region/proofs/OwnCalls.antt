@@ -10,7 +10,7 @@ use Rattle.sc_region.specs.Frames.{PlainActivation, PlainFrame, activation_of, f
 use Rattle.sc_region.specs.Lending.{with_top_activation}
 use Rattle.sc_region.specs.Stores.{PlainStore, beginning, entered_at, entry, failed, max_frames}
 use Rattle.sc_region.specs.declared.frame.Activation.{Activation}
-use Rattle.sc_region.specs.declared.frame.Call.{Call}
+use Rattle.sc_region.specs.declared.frame.OwnCall.{OwnCall}
 use Rattle.sc_region.specs.declared.value.Reference.{Reference}
 use Rattle.sc_region.specs.declared.value.Value.{Value}
 use Rattle.sc_region.proofs.DeeperOperands.{taken_length}
@@ -22,10 +22,10 @@ top_frame_length : (f : PlainActivation → PlainActivation) (fs : List PlainFra
 top_frame_length f [] = refl
 top_frame_length f (t ∷ below) = refl
 
-actuals_length : (k : Call) (fs : List PlainFrame) → k.actuals ≤ length (top_operands fs) → length (last_values k.actuals (top_operands fs)) ≡ k.actuals
+actuals_length : (k : OwnCall) (fs : List PlainFrame) → k.actuals ≤ length (top_operands fs) → length (last_values k.actuals (top_operands fs)) ≡ k.actuals
 actuals_length k fs l = let many = taken_length k.actuals [] (top_operands fs) l in omega (arith, many)
 
-calls_in : (me : Reference) (routine : ℕ) (k : Call) (x : PlainStore) (r : RoutineCode) (fits room : Bool) → k.actuals ≤ length (top_operands x.frames) → routine_at x.program routine ≡ Some r →
+calls_in : (me : Reference) (routine : ℕ) (k : OwnCall) (x : PlainStore) (r : RoutineCode) (fits room : Bool) → k.actuals ≤ length (top_operands x.frames) → routine_at x.program routine ≡ Some r →
     (k.actuals == r.formals) ≡ fits → nat_lt (length x.frames) max_frames ≡ room →
     calls me routine k x ≡ (if fits then (if room then record x { frames = called_on me routine r k x.frames } else failed cause.StackFull x) else failed cause.BadCode x)
 calls_in me routine k x r fits room l there e h =
@@ -39,20 +39,20 @@ calls_in me routine k x r fits room l there e h =
     ∙ ap (λ b. if b then (if nat_lt (length x.frames) max_frames then made else failed cause.StackFull x) else failed cause.BadCode x) e
     ∙ ap (λ b. if fits then (if b then made else failed cause.StackFull x) else failed cause.BadCode x) h
 
-pub calls_misfit : (me : Reference) (routine : ℕ) (k : Call) (x : PlainStore) (r : RoutineCode) → k.actuals ≤ length (top_operands x.frames) → routine_at x.program routine ≡ Some r →
+pub calls_misfit : (me : Reference) (routine : ℕ) (k : OwnCall) (x : PlainStore) (r : RoutineCode) → k.actuals ≤ length (top_operands x.frames) → routine_at x.program routine ≡ Some r →
     k.actuals ≢ r.formals → calls me routine k x ≡ failed cause.BadCode x
 calls_misfit me routine k x r l there e =
     let other : (k.actuals == r.formals) ≡ false = grind (arith, nat_tests, e) in
     calls_in me routine k x r false (nat_lt (length x.frames) max_frames) l there other refl
 
-pub calls_full : (me : Reference) (routine : ℕ) (k : Call) (x : PlainStore) (r : RoutineCode) → k.actuals ≤ length (top_operands x.frames) → routine_at x.program routine ≡ Some r →
+pub calls_full : (me : Reference) (routine : ℕ) (k : OwnCall) (x : PlainStore) (r : RoutineCode) → k.actuals ≤ length (top_operands x.frames) → routine_at x.program routine ≡ Some r →
     k.actuals ≡ r.formals → max_frames ≤ length x.frames → calls me routine k x ≡ failed cause.StackFull x
 calls_full me routine k x r l there e full =
     let same : (k.actuals == r.formals) ≡ true = grind (arith, nat_tests, e) in
     let room : nat_lt (length x.frames) max_frames ≡ false = grind (arith, nat_tests, full) in
     calls_in me routine k x r true false l there same room
 
-pub calls_made : (me : Reference) (routine : ℕ) (k : Call) (x : PlainStore) (r : RoutineCode) → k.actuals ≤ length (top_operands x.frames) → routine_at x.program routine ≡ Some r →
+pub calls_made : (me : Reference) (routine : ℕ) (k : OwnCall) (x : PlainStore) (r : RoutineCode) → k.actuals ≤ length (top_operands x.frames) → routine_at x.program routine ≡ Some r →
     k.actuals ≡ r.formals → length x.frames < max_frames → calls me routine k x ≡ record x { frames = called_on me routine r k x.frames }
 calls_made me routine k x r l there e room =
     let same : (k.actuals == r.formals) ≡ true = grind (arith, nat_tests, e) in
@@ -108,7 +108,7 @@ operands_are a [] e = cc
 operands_are a (f ∷ below) e = let same : f.activation ≡ a = cc in ap (λ (b : PlainActivation). b.operands.values) same
 
 -- The routine that was topmost is in the call, and the other one begins.
-pub called_is : (me : Reference) (routine : ℕ) (r : RoutineCode) (k : Call) (fs : List PlainFrame) (us : List Value) (a : PlainActivation) (t u : Activation) → top_activation fs ≡ Some a →
+pub called_is : (me : Reference) (routine : ℕ) (r : RoutineCode) (k : OwnCall) (fs : List PlainFrame) (us : List Value) (a : PlainActivation) (t u : Activation) → top_activation fs ≡ Some a →
     us ≡ last_values k.actuals a.operands.values → activation_of t ≡ beginning routine r k.origin us → activation_of u ≡ in_call k.operands k.gives a →
     frame_with me (activation_of t) ∷ with_top_activation u fs ≡ called_on me routine r k fs
 called_is me routine r k fs us a t u top actuals begun called =

@@ -14,7 +14,7 @@ use Rattle.sc_region.specs.declared.frame.Origin.TheVariants as origin
 use Rattle.sc_region.specs.Objects.{PlainObject, object_numbered}
 use Rattle.sc_region.specs.Frames.{PlainActivation, PlainFrame, is_current, top_current}
 use Rattle.sc_region.specs.Calls.{calls, in_call, last_values, on_top, top_frame, top_operands}
-use Rattle.sc_region.specs.declared.frame.Call.{Call}
+use Rattle.sc_region.specs.declared.frame.OwnCall.{OwnCall}
 use Rattle.sc_region.specs.Classes.{routine_at, fresh_object, MeetsInvariant, object_breaks}
 use Rattle.sc_region.specs.Stores.{PlainStore, max_objects, max_frames, new_store, is_settled, SettledObjectsMeet, failed, settled, written_to, written, entry, entered_at, entered, left_to, left, with_new, born, born_for, next_reference, made, made_for, printed}
 use Rattle.sc_region.specs.declared.frame.Activation.{Activation}
@@ -238,7 +238,7 @@ top_frame_settled number f (t ∷ below) = refl
 on_top_keeps : (f : PlainActivation → PlainActivation) (x : PlainStore) → SettledObjectsMeet x → SettledObjectsMeet (on_top f x)
 on_top_keeps f x m k o e g = m k o (ap (λ b. is_none x.failure && not b) (sym (top_frame_settled k f x.frames)) ∙ e) g
 
-pub calls_keeps : (me : Reference) (routine : ℕ) (k : Call) (x : PlainStore) → SettledObjectsMeet x → SettledObjectsMeet (calls me routine k x)
+pub calls_keeps : (me : Reference) (routine : ℕ) (k : OwnCall) (x : PlainStore) → SettledObjectsMeet x → SettledObjectsMeet (calls me routine k x)
 calls_keeps me routine k x m =
     entered_keeps me routine k.origin (last_values k.actuals (top_operands x.frames)) (on_top (in_call k.operands k.gives) x) (on_top_keeps (in_call k.operands k.gives) x m)
 

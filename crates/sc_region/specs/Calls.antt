@@ -1,7 +1,7 @@
 -- Routines that call others of the same handler.
 use Rattle.std.specs.Prelude.{ℕ, zero, suc, ◌+◌, Bool, List, [], ◌∷◌, drop, min}
 use Rattle.sc_code.specs.declared.program.RoutineCode.{RoutineCode}
-use Rattle.sc_region.specs.declared.frame.Call.{Call}
+use Rattle.sc_region.specs.declared.frame.OwnCall.{OwnCall}
 use Rattle.sc_region.specs.declared.frame.Stage.TheVariants as stage
 use Rattle.sc_region.specs.declared.value.Reference.{Reference}
 use Rattle.sc_region.specs.declared.value.Value.{Value}
@@ -49,9 +49,9 @@ in_call n gives a = record (past n a) { stage = stage.InCall gives }
 -- ---- the call
 
 -- The routine comes onto the others; its actuals are operands of the topmost one, which is in the call now.
-abbrev pub called_on : Reference → ℕ → RoutineCode → Call → List PlainFrame → List PlainFrame
+abbrev pub called_on : Reference → ℕ → RoutineCode → OwnCall → List PlainFrame → List PlainFrame
 called_on me routine r k fs = entry me routine r k.origin (last_values k.actuals (top_operands fs)) ∷ top_frame (in_call k.operands k.gives) fs
 
 -- the routine of the number is called on this object
-abbrev pub calls : Reference → ℕ → Call → PlainStore → PlainStore
+abbrev pub calls : Reference → ℕ → OwnCall → PlainStore → PlainStore
 calls me routine k x = entered me routine k.origin (last_values k.actuals (top_operands x.frames)) (on_top (in_call k.operands k.gives) x)

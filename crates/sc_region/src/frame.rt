@@ -49,7 +49,7 @@ pub enum Stage {
 
 /// How a routine calls another one of the same handler.
 #[derive(Clone, Copy)]
-pub struct Call {
+pub struct OwnCall {
     pub origin: Origin,
     /// How many of the last operands are the actuals.
     pub actuals: usize,

@@ -18,7 +18,7 @@ mod store;
 mod value;
 
 pub use breakdown::{Breakdown, BrokenInvariant, Point};
-pub use frame::{Activation, Call, Origin, Stage};
+pub use frame::{Activation, Origin, OwnCall, Stage};
 pub use job::{Errand, Job, Outcome, Request, Want};
 pub use operands::{Olds, Operands};
 pub use stack::Stack;

@@ -7,7 +7,7 @@ ghost use Rattle.sc_region.specs.Frames.{activation_of, frames_onto, is_current,
 ghost use Rattle.sc_region.specs.Stores.{entry};
 
 use crate::equality::{same_activations, same_references};
-use crate::frame::{Activation, Call, Origin};
+use crate::frame::{Activation, Origin, OwnCall};
 use crate::value::{Reference, Value};
 use sc_code::RoutineCode;
 use std::alloc::{AllocError, Global};
@@ -84,7 +84,7 @@ impl Stack {
         current: Reference,
         routine: usize,
         code: &RoutineCode,
-        call: Call,
+        call: OwnCall,
     ) -> Result<(), AllocError>
         requires caller { 0 < length self.old }
         requires actuals { call.actuals ≤ length (top_operands self.old) }

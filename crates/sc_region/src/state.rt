@@ -10,7 +10,7 @@ ghost use Rattle.sc_region.specs.Values.{atoms_of};
 ghost use Rattle.sc_code.specs.Cause.TheVariants as cause;
 
 use crate::breakdown::{Breakdown, BrokenInvariant, Point};
-use crate::frame::{Activation, Call, Origin};
+use crate::frame::{Activation, Origin, OwnCall};
 use crate::object::{Object, Objects};
 use crate::program::{class_at, routine_at};
 use crate::stack::Stack;
@@ -230,7 +230,7 @@ pub fn call(
     state: &mut State<'_>,
     current: Reference,
     routine: usize,
-    call: Call,
+    call: OwnCall,
 ) -> Result<(), AllocError>
     requires caller { 0 < length state.old.stack }
     requires actuals { call.actuals ≤ length (top_operands state.old.stack) }
@@ -253,7 +253,7 @@ pub fn call(
 }
 
 /// The stack is full: the topmost routine fails in its call, not at it.
-fn overflow(state: &mut State<'_>, call: Call)
+fn overflow(state: &mut State<'_>, call: OwnCall)
     ensures { state_of state.new ≡ failed cause.StackFull (state_of state.old) }
 {
     if let Some(activation) = state.stack.top_mut() {

@@ -7,7 +7,7 @@ ghost use Rattle.sc_region.specs.Stores.{AreSame, new_store, is_settled, failed,
 ghost use Rattle.sc_region.specs.declared.frame.Origin.TheVariants as origin;
 
 use crate::breakdown::Breakdown;
-use crate::frame::{Activation, Call, Origin};
+use crate::frame::{Activation, Origin, OwnCall};
 use crate::object::Objects;
 use crate::stack::Stack;
 use crate::state::{self, State};
@@ -184,7 +184,12 @@ impl<'p> Store<'p> {
     /// The topmost routine calls that of the number on an object: its last operands are the actuals, in place. F16 where
     /// there is no such routine, or it has another number of formals; F11 where the stack is full. Err where there is no
     /// memory; nothing has changed then.
-    pub fn call(&mut self, current: Reference, routine: usize, call: Call) -> Result<(), AllocError>
+    pub fn call(
+        &mut self,
+        current: Reference,
+        routine: usize,
+        call: OwnCall,
+    ) -> Result<(), AllocError>
         requires caller { 0 < length self.old.frames }
         requires actuals { call.actuals ≤ length (top_operands self.old.frames) }
         ensures ok { OnOk result (self.new ≡ calls current routine call self.old) }

@@ -34,8 +34,8 @@ use Rattle.sc_model.specs.Routines.{version_of}
 use Rattle.sc_code.specs.Attributes.{attribute_number}
 use Rattle.sc_code.specs.declared.program.ClassCode.{ClassCode}
 use Rattle.sc_code.specs.declared.program.Image.{Image}
-use Rattle.sc_code.specs.declared.program.Version.{Version}
-use Rattle.sc_code.specs.declared.program.Version.TheVariants as version
+use Rattle.sc_code.specs.declared.program.FeatureCode.{FeatureCode}
+use Rattle.sc_code.specs.declared.program.FeatureCode.TheVariants as version
 use Rattle.sc_code.specs.Programs.{IsProgramOf, PlainClass, class_code_of, class_in, entry_of_feature, entry_of_kind, pool_of, version_entry}
 use Rattle.sc_region_turns.specs.Laws.{ProgramsServe}
 use Rattle.sc_interp.specs.Serving.{TellsConformance, attribute_in, conforms_in, is_routine, is_routine_in, version_in}
@@ -127,8 +127,8 @@ itself_or s k j l = by (k == j) refl
 abbrev conforms_of : Option PlainClass → ℕ → Bool
 conforms_of o j = option_map_or (λ (q : PlainClass). option_map_or (λ b. b) (slice_get q.conforms j) false) o false
 
-abbrev version_at : Option PlainClass → ℕ → Option Version
-version_at o x = option_and_then (λ (q : PlainClass). option_and_then (λ (v : Option Version). v) (slice_get q.versions x)) o
+abbrev version_at : Option PlainClass → ℕ → Option FeatureCode
+version_at o x = option_and_then (λ (q : PlainClass). option_and_then (λ (v : Option FeatureCode). v) (slice_get q.features x)) o
 
 conforms_seen : (o : Option ClassCode) (j : ℕ) →
     option_map_or (λ (c : ClassCode). option_map_or (λ b. b) (slice_get c.conforms.items j) false) o false ≡ conforms_of (option_map class_in o) j
@@ -136,7 +136,7 @@ conforms_seen None j = refl
 conforms_seen (Some c) j = refl
 
 version_seen : (o : Option ClassCode) (x : ℕ) →
-    option_and_then (λ (c : ClassCode). option_and_then (λ (v : Option Version). v) (slice_get c.versions.items x)) o ≡ version_at (option_map class_in o) x
+    option_and_then (λ (c : ClassCode). option_and_then (λ (v : Option FeatureCode). v) (slice_get c.features.items x)) o ≡ version_at (option_map class_in o) x
 version_seen None x = refl
 version_seen (Some c) x = refl
 
@@ -196,7 +196,7 @@ module _ (s : System) (root : Root) (p : Image) (is : IsProgramOf s root p) wher
       by : (a : Bool) → nat_lt k count ≡ a → version_at (option_map (class_code_of s names) (class_number k)) x ≡ version_entry s k name
       by true e =
           ap (λ i. version_at (option_map (class_code_of s names) i) x) (range_at count k (ltb-true k count e))
-          ∙ ap (option_and_then (λ (v : Option Version). v)) (mapped_get (version_entry s k) names x ∙ ap (option_map (version_entry s k)) named)
+          ∙ ap (option_and_then (λ (v : Option FeatureCode). v)) (mapped_get (version_entry s k) names x ∙ ap (option_map (version_entry s k)) named)
       by false e =
           let past = ltb-false k count e in
           ap (λ i. version_at (option_map (class_code_of s names) i) x) (range_past 0 count k past) ∙ sym (entry_past declared k name past)

@@ -99,27 +99,27 @@ IsStageFor h (Awaits k gives false) g = (g ≡ Awaits k gives false) ⊎ ((gives
 IsStageFor h f g = g ≡ f
 
 -- the handler that the frame is still to be told of
-abbrev pub IsToldOf : Stage → core.Stage → List Operand → List Operand → Type 0
+abbrev pub IsToldOf : Stage → core.HandlerStage → List Operand → List Operand → Type 0
 IsToldOf (Awaits k gives true) stage us vs = us ≡ told k vs
 IsToldOf Runs (core.HasMade k) us vs = us ≡ told k vs
 IsToldOf f stage us vs = us ≡ vs
 
 -- The region of the handler of the number has `g` where the machine has `f` and the core this stage.
-pub record IsHalfOfFrame (h : ℕ) (stage : core.Stage) (f g : Frame) : Type 0 where
+pub record IsHalfOfFrame (h : ℕ) (stage : core.HandlerStage) (f g : Frame) : Type 0 where
   pub same : f ≡ record g { origin = f.origin; stage = f.stage; values = f.values; mark = f.mark }
   pub origin : g.origin ≡ unpassed f.origin
   pub stands : IsStageFor h f.stage g.stage
   pub values : IsToldOf f.stage stage f.values g.values
 
 -- below the topmost one none is to be told of a handler without an answer
-abbrev pub AreHalvesOf : ℕ → core.Stage → List Frame → List Frame → Type 0
+abbrev pub AreHalvesOf : ℕ → core.HandlerStage → List Frame → List Frame → Type 0
 AreHalvesOf h stage [] [] = Unit {0}
 AreHalvesOf h stage (f ∷ fs) (g ∷ gs) = IsHalfOfFrame h stage f g × AreHalvesOf h core.Runs fs gs
 AreHalvesOf h stage fs gs = ⊥
 
 -- The region's half of the handler of the number is this one. In the machine the stack of a handler that has failed is empty; a failure that the core finds
 -- isn't told to the region.
-pub record IsRegionHalf (h : ℕ) (y : machine.Handler) (stage : core.Stage) (x : Half) : Type 0 where
+pub record IsRegionHalf (h : ℕ) (y : machine.Handler) (stage : core.HandlerStage) (x : Half) : Type 0 where
   pub objects : x.objects ≡ y.objects
   pub output : x.output ≡ y.output
   pub stands : y.failure ≡ None → (x.failure ≡ None) × AreHalvesOf h stage y.stack x.stack

@@ -6,8 +6,8 @@ use Rattle.sc_tree.specs.Plain.{System, FeatureKind}
 use Rattle.sc_class.specs.Tables.Features.{DeclaredFeature}
 use Rattle.sc_proctype.specs.declared.entity_type.EntityType.{EntityType}
 use Rattle.sc_rules.specs.Types.{declared_type}
-use Rattle.sc_waitcond.specs.declared.condition.Verdict.{Verdict}
-use Rattle.sc_waitcond.specs.declared.condition.Verdict.TheVariants as verdict
+use Rattle.sc_waitcond.specs.declared.condition.EntryVerdict.{EntryVerdict}
+use Rattle.sc_waitcond.specs.declared.condition.EntryVerdict.TheVariants as verdict
 use Rattle.sc_model.specs.declared.cause.Cause.{Cause}
 use Rattle.sc_model.specs.declared.cause.Cause.TheVariants as cause
 use Rattle.sc_model.specs.Values.{Reference, Value, Attached, Operand, operand, values_of}
@@ -17,7 +17,7 @@ use Rattle.sc_model.specs.Objects.{Object, object_numbered, fresh_object}
 use Rattle.sc_model.specs.Invariants.{meets_invariant}
 use Rattle.sc_model.specs.Routines.{Routine, version_of, routine_named, routine_of}
 use Rattle.sc_model.specs.Tasks.{tasks_of}
-use Rattle.sc_model.specs.Steps.{Act, Prints, Tests, Creates, CreatesHandler, Enters, Requests, Starts, Refuses, Opens, Leaves, Exits, Fails, Step, Goes, Does}
+use Rattle.sc_model.specs.Steps.{Act, Prints, Until, Creates, CreatesHandler, Enters, Requests, Starts, Refuses, Opens, Leaves, Exits, Fails, Step, Goes, Does}
 use Rattle.sc_model.specs.Moves.{moves}
 use Rattle.sc_model.specs.Handlers.{Errand, Calls, Makes, Request, Origin, Called, Requested, Stage, Runs, Reserves, ReservesBlock, InCall, Awaits, Frame, point_of, frame_at}
 use Rattle.sc_model.specs.Asking.{awaits_if}
@@ -88,7 +88,7 @@ abbrev pub correctness_fails : System → Origin → Frame → List Frame → Ha
 correctness_fails s (Called c) f below x = failed cause.Precondition x
 correctness_fails s (Requested r) f below x = refuses s r f below x
 
-abbrev pub false_clause : Verdict → System → Frame → List Frame → Half → Half
+abbrev pub false_clause : EntryVerdict → System → Frame → List Frame → Half → Half
 false_clause verdict.Wait s f below x = waits_again f below x
 false_clause verdict.Refuse s f below x = correctness_fails s f.origin f below x
 false_clause verdict.Start s f below x = failed cause.BadCode x
@@ -136,7 +136,7 @@ creates_handler h class t passing f below x =
 -- What a visible step does, where `f` stands on `below` after it.
 abbrev pub acts : System → ℕ → Act → Frame → List Frame → Half → Half
 acts s h (Prints text) f below x = record x { output = x.output ++ text }
-acts s h Tests f below x = x
+acts s h Until f below x = x
 acts s h Creates f below x = x
 acts s h Starts f below x = x
 acts s h (CreatesHandler class procedure us t passing) f below x = creates_handler h class t passing f below x

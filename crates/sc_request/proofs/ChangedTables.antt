@@ -9,8 +9,8 @@ use Rattle.sc_region.specs.declared.job.Job.{Job}
 use Rattle.sc_request.specs.declared.handler.Handler as coded
 use Rattle.arrayvec.specs.ArrayVec.{ArrayVec}
 use Rattle.sc_waitcond.specs.declared.mark.Marked.{Marked}
-use Rattle.sc_request.specs.declared.handler.Stage as coded_stage
-use Rattle.sc_request.specs.declared.handler.Stage.TheVariants as stage
+use Rattle.sc_request.specs.declared.handler.HandlerStage as coded_stage
+use Rattle.sc_request.specs.declared.handler.HandlerStage.TheVariants as stage
 use Rattle.sc_request.specs.Candidates.{reserves_at}
 use Rattle.sc_request.specs.Handlers.{Handler, put, Reserves}
 use Rattle.sc_request.specs.Tables.{handler_in, handler_at, handler_with, stage_of, state_of, out_at}
@@ -46,7 +46,7 @@ pub outs_kept : (xs : List coded.Handler) (h : ℕ) (x y : coded.Handler) → sl
 outs_kept xs h x y e same = fun_ext (λ k. kept_at out_in xs h k x y e same)
 
 -- a stage that isn't a reserve step has neither an entry nor a mark
-pub stands : (st : coded_stage.Stage) (x : coded.Handler) → reserves_at st ≡ false →
+pub stands : (st : coded_stage.HandlerStage) (x : coded.Handler) → reserves_at st ≡ false →
     (n : ℕ) → handler_with n (record x { stage = st }) ≡ record (handler_with n x) { stage = stage_of [] [] st }
 stands stage.Idle x e n = refl
 stands stage.Runs x e n = refl

@@ -18,7 +18,7 @@ use Rattle.sc_region.specs.declared.job.Job.{Job}
 use Rattle.sc_region.specs.declared.job.Job.TheVariants as job
 use Rattle.sc_region.specs.declared.job.Want.{Want}
 use Rattle.sc_region.specs.declared.job.Want.TheVariants as want
-use Rattle.sc_request.specs.Handlers.{Posted, posted, Answer, Replied, Refused, Stage, Idle, Runs, HasMade, Reserves, Awaits, Service, Handler, State, new_handler, put, with_stage}
+use Rattle.sc_request.specs.Handlers.{Posted, posted, Answer, Replied, Refused, HandlerStage, Idle, Runs, HasMade, Reserves, Awaits, Service, Handler, State, new_handler, put, with_stage}
 use Rattle.sc_request.specs.Sessions.{session_ended, release, passed_if, passes, placed, send, is_callback, with_handler, answered, answer_to, return_rights, finish, requests_at, is_waited_by, told, fallen, fail}
 use Rattle.sc_request.specs.Settling.{takes_next, takes_callback, takes, takes_answer, made_at, begun, reserves, awaits_if, sends, asks_of, creation, creates_with, creates, counted_refusal, ends_service, ends, done, posts_unheld, may_post_to_all, may_ask, done_if, asked_in, fits_turns, settled}
 
@@ -136,14 +136,14 @@ callback_refused : (o : Option Posted) (x : Handler) → (takes_callback o x).re
 callback_refused None x = refl
 callback_refused (Some p) x = refl
 
-takes_sessions : (st : Stage) (x : Handler) → (takes st x).sessions ≡ x.sessions
+takes_sessions : (st : HandlerStage) (x : Handler) → (takes st x).sessions ≡ x.sessions
 takes_sessions Idle x = next_sessions x.queue x
 takes_sessions Runs x = refl
 takes_sessions (HasMade k) x = refl
 takes_sessions (Reserves ks mark) x = refl
 takes_sessions (Awaits k b) x = callback_sessions x.callback x
 
-takes_refused : (st : Stage) (x : Handler) → (takes st x).refused ≡ x.refused
+takes_refused : (st : HandlerStage) (x : Handler) → (takes st x).refused ≡ x.refused
 takes_refused Idle x = next_refused x.queue x
 takes_refused Runs x = refl
 takes_refused (HasMade k) x = refl
@@ -163,7 +163,7 @@ released_began : (n : ℕ) (b : Bool) (x : Handler) (q : Option ℕ) → x.sessi
 released_began n true x q e = inr (ap (λ (m : ℕ). m + 1) e, refl)
 released_began n false x q e = inl e
 
-made_began : (h : ℕ) (st : Stage) (s : State) → Began s (made_at h st s)
+made_began : (h : ℕ) (st : HandlerStage) (s : State) → Began s (made_at h st s)
 made_began h (Awaits k b) s =
     let t = put h (takes_answer (s.handlers h)) s in
     let same = put_same h (takes_answer (s.handlers h)) s refl refl in
@@ -256,7 +256,7 @@ passes_same : (b : Bool) (h k : ℕ) (s : State) → Same s (passes b h k s)
 passes_same true h k s = rights_same s (passes true h k s) refl
 passes_same false h k s = refl_same s
 
-stage_same : (h : ℕ) (st : Stage) (s : State) → Same s (with_stage h st s)
+stage_same : (h : ℕ) (st : HandlerStage) (s : State) → Same s (with_stage h st s)
 stage_same h st s = put_same h (record (s.handlers h) { stage = st }) s refl refl
 
 awaits_same : (b : Bool) (h k : ℕ) (s : State) → Same s (awaits_if b h k s)

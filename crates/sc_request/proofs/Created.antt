@@ -11,7 +11,7 @@ use Rattle.sc_lockpass.specs.Tables.{Table, rights_of}
 use Rattle.sc_waitcond.specs.declared.session.Release.TheVariants as release_at
 use Rattle.sc_region.specs.declared.job.Request.{Request}
 use Rattle.sc_request.specs.declared.handler.Handler as coded
-use Rattle.sc_request.specs.Handlers.{Posted, posted, Stage, Idle, Runs, HasMade, Reserves, Awaits, State, new_handler, put, with_stage}
+use Rattle.sc_request.specs.Handlers.{Posted, posted, HandlerStage, Idle, Runs, HasMade, Reserves, Awaits, State, new_handler, put, with_stage}
 use Rattle.sc_request.specs.Places.{awaited}
 use Rattle.sc_request.specs.Sessions.{given_to, is_callback, passed_if, passes, release, send, with_handler}
 use Rattle.sc_request.specs.Settling.{awaits_if, creates, creates_with, creation, made_at, sends, takes_answer}
@@ -74,7 +74,7 @@ creates_so most h class procedure actuals p s s1 s2 r below e f g =
 
 -- ---- requests
 
-pub stage_queue : (h k : ℕ) (st : Stage) (s : State) → ((with_stage h st s).handlers k).queue ≡ (s.handlers k).queue
+pub stage_queue : (h k : ℕ) (st : HandlerStage) (s : State) → ((with_stage h st s).handlers k).queue ≡ (s.handlers k).queue
 stage_queue h k st s = elim (cases_eq k h) [
   | inl is ↦ rw (is, eq-eqb h h refl) refl
   | inr apart ↦ rw (ne_eqb k h apart) refl
@@ -118,7 +118,7 @@ sent_by w p b h k r r' s s1 s2 s3 o c d e f g i =
 some_handler : (k j : ℕ) → Some k ≡ Some j → k ≡ j
 some_handler k j e = cc
 
-pub awaited_made : (h k : ℕ) (st : Stage) (s : State) → awaited st ≡ Some k →
+pub awaited_made : (h k : ℕ) (st : HandlerStage) (s : State) → awaited st ≡ Some k →
     release release_at.Creation (k ∷ []) (put h (takes_answer (s.handlers h)) s) ≡ made_at h st s
 awaited_made h k Idle s e = cc
 awaited_made h k Runs s e = cc

@@ -5,8 +5,8 @@ use Rattle.std.proofs.lemmas.Bool.{cases_Bool}
 use Rattle.std.specs.Option.{option_map}
 use Rattle.sc_tree.specs.Plain.{System}
 use Rattle.sc_waitcond.specs.Reservations.{mark_of}
-use Rattle.sc_waitcond.specs.declared.condition.Verdict.{Verdict}
-use Rattle.sc_waitcond.specs.declared.condition.Verdict.TheVariants as verdict
+use Rattle.sc_waitcond.specs.declared.condition.EntryVerdict.{EntryVerdict}
+use Rattle.sc_waitcond.specs.declared.condition.EntryVerdict.TheVariants as verdict
 use Rattle.sc_waitcond.specs.declared.mark.Marked.{Marked}
 use Rattle.sc_waitcond.specs.declared.session.Release.TheVariants as release_at
 use Rattle.sc_model.specs.declared.cause.Cause.TheVariants as cause
@@ -23,7 +23,7 @@ use Rattle.sc_model.specs.Answers as machine_answers
 use Rattle.sc_model.specs.Sessions as machine_sessions
 use Rattle.sc_model.specs.Handlers as machine
 use Rattle.sc_region.specs.declared.job.Want.TheVariants as want
-use Rattle.sc_request.specs.Handlers.{Posted, Replied, Refused, Stage, Runs, HasMade, Reserves, Service, Handler, State, put}
+use Rattle.sc_request.specs.Handlers.{Posted, Replied, Refused, HandlerStage, Runs, HasMade, Reserves, Service, Handler, State, put}
 use Rattle.sc_request.specs.Sessions.{release, finish}
 use Rattle.sc_request.specs.Settling.{counted_refusal, ends, may_ask, asked_in}
 use Rattle.sc_request.specs.Asked.{Numbering, value_of, handlers_of, asks_releasing, asks_returning, asks_exiting, asks_refusing, asks_after}
@@ -101,7 +101,7 @@ refused_at n h w s r below ks (u ∷ us) e serves =
 -- ---- a routine exits
 
 -- the frame below is in the call, and goes on
-handed_runs_at : (stage : machine.Stage) (v : Option Value) (g : machine.Frame) (below : List machine.Frame) (t : Stage) → IsInCall stage →
+handed_runs_at : (stage : machine.Stage) (v : Option Value) (g : machine.Frame) (below : List machine.Frame) (t : HandlerStage) → IsInCall stage →
     (t ≡ Runs) ⊎ ((k : ℕ) × (t ≡ HasMade k)) → IsTop (handed_at stage v g ∷ below) t
 handed_runs_at (machine.InCall (Some t)) (Some v) g below u call runs = runs
 handed_runs_at (machine.InCall (Some t)) None g below u call runs = runs
@@ -192,13 +192,13 @@ waits_alike n h most w s f below e runs entry may =
     let mark = mark_of (λ k. (w.handlers k).sessions) f.reserved in
     let f' : machine.Frame =
     record f { stage = machine.Reserves; tasks = tasks_of f.routine; values = []; reserved = []; mark = mark } in
-    let stage : Stage = Reserves (s.handlers h).entry (mark_of (λ k. (s.handlers k).sessions) f.reserved) in
+    let stage : HandlerStage = Reserves (s.handlers h).entry (mark_of (λ k. (s.handlers k).sessions) f.reserved) in
     let top : IsTop (f' ∷ below) stage =
     ap (λ (ks : List ℕ). Reserves ks (mark_of (λ k. (s.handlers k).sessions) f.reserved)) entry
     ∙ ap (λ (m : List Marked). Reserves (handlers_of (separate_formals f.environment)) m) (sym (same_mark n w s f.reserved e)) in
     rw may (release_alike n release_at.FalseWaitCondition f.reserved _ _ (stack_alike n w s h (f' ∷ below) stage e top runs.services))
 
-pub false_alike : (n : Numbering) (sys : System) (v : Verdict) (h most : ℕ) (w : machine.World) (s : State) (f : machine.Frame) (below : List machine.Frame) →
+pub false_alike : (n : Numbering) (sys : System) (v : EntryVerdict) (h most : ℕ) (w : machine.World) (s : State) (f : machine.Frame) (below : List machine.Frame) →
     IsHalfOf n w s → IsRunning n f below (s.handlers h) →
     IsLastEntry (asks_after v sys f (w.handlers h).objects) f.environment (s.handlers h).entry → may_ask h (asks_after v sys f (w.handlers h).objects) s ≡ true →
     IsHalfOf n (refusing.false_clause v sys h f below w) (asked_in true most h (asks_after v sys f (w.handlers h).objects) s)

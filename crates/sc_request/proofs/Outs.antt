@@ -16,8 +16,8 @@ use Rattle.sc_model.specs.declared.cause.Cause.{Cause}
 use Rattle.arrayvec.specs.ArrayVec.{ArrayVec}
 use Rattle.sc_region.specs.declared.job.Job.{Job}
 use Rattle.sc_region.specs.declared.job.Job.TheVariants as job
-use Rattle.sc_request.specs.declared.handler.Stage as coded_stage
-use Rattle.sc_request.specs.declared.handler.Stage.TheVariants as stage
+use Rattle.sc_request.specs.declared.handler.HandlerStage as coded_stage
+use Rattle.sc_request.specs.declared.handler.HandlerStage.TheVariants as stage
 use Rattle.sc_request.specs.declared.handler.Handler as coded
 use Rattle.sc_request.specs.Handlers.{Posted, Answer, Replied, SupplierFailed, Refused, Handler, State, standing_in}
 use Rattle.sc_request.specs.Picking.{needs, job_for_entry, job_reserving, job_idle, job_awaiting, job_at, job_with, job_of}
@@ -179,7 +179,7 @@ stays count xs sessions t last h none = ap (λ (o : Option Job). put_back_with h
 
 -- ---- what a handler has to do
 
-reserving_stage : (h : ℕ) (st : coded_stage.Stage) (es : List ℕ) (mark : List Marked) (y : Handler) (s : State) → is_reserving (stage_of es mark st) ≡ true →
+reserving_stage : (h : ℕ) (st : coded_stage.HandlerStage) (es : List ℕ) (mark : List Marked) (y : Handler) (s : State) → is_reserving (stage_of es mark st) ≡ true →
     job_at h (stage_of es mark st) y s ≡ job_for_entry (needs h es s.rights) mark s
 reserving_stage h stage.Idle es mark y s is = cc
 reserving_stage h stage.Runs es mark y s is = cc
@@ -237,7 +237,7 @@ no_grant_awaiting k c None (Some SupplierFailed) ks e = cc
 no_grant_awaiting k c None (Some Refused) ks e = cc
 no_grant_awaiting k c None None ks e = cc
 
-grant_at : (h : ℕ) (st : coded_stage.Stage) (es : List ℕ) (mark : List Marked) (y : Handler) (s : State) (ks : ArrayVec ℕ) →
+grant_at : (h : ℕ) (st : coded_stage.HandlerStage) (es : List ℕ) (mark : List Marked) (y : Handler) (s : State) (ks : ArrayVec ℕ) →
     job_at h (stage_of es mark st) y s ≡ Some (job.Granted ks) →
     (may_reserve (standing_in s) s.rights (needs h es s.rights) mark ≡ true) × (ks.items ≡ needs h es s.rights)
 grant_at h stage.Idle es mark y s ks e = absurd (no_grant_idle y.queue ks e)

@@ -14,7 +14,7 @@ use Rattle.sc_region.specs.declared.job.Job.{Job}
 use Rattle.sc_region.specs.declared.job.Job.TheVariants as job
 use Rattle.sc_region.specs.declared.job.Want.{Want}
 use Rattle.sc_region.specs.declared.job.Want.TheVariants as want
-use Rattle.sc_request.specs.Handlers.{Posted, posted, Stage, Idle, Runs, HasMade, Reserves, Awaits, Handler, State, put, has_requests, standing_of, standing_in}
+use Rattle.sc_request.specs.Handlers.{Posted, posted, HandlerStage, Idle, Runs, HasMade, Reserves, Awaits, Handler, State, put, has_requests, standing_of, standing_in}
 use Rattle.sc_request.specs.Picking.{job_at, job_for_entry, job_reserving, job_with, needs}
 use Rattle.sc_request.specs.Sessions.{fail, is_callback, passed_if, placed, send}
 use Rattle.sc_request.specs.Settling.{asks, awaits_if, begun, done, done_if, fits_turns, may_ask, posts_unheld, sends, settled, takes, takes_answer, takes_callback, takes_next}
@@ -76,7 +76,7 @@ callback_quiet : (o : Option Posted) (x : Handler) → IsNoFreer x (takes_callba
 callback_quiet None x = no_freer x
 callback_quiet (Some p) x = busy x (takes_callback (Some p) x) refl refl refl
 
-takes_quiet : (st : Stage) (x : Handler) → IsNoFreer x (takes st x)
+takes_quiet : (st : HandlerStage) (x : Handler) → IsNoFreer x (takes st x)
 takes_quiet Idle x = next_quiet x.queue x
 takes_quiet Runs x = no_freer x
 takes_quiet (HasMade i) x = no_freer x
@@ -215,7 +215,7 @@ entry_before s t ks mark e is =
     (may_before s t s.rights ks mark e)
     (ap (λ b. is_some (job_reserving b (may_reserve (standing_in t) s.rights ks mark) ks)) (sym (lost_alike s t s.rights ks e)) ∙ under)
 
-job_at_before : (k : ℕ) (st : Stage) (x y : Handler) (s t : State) → FreesNothing s t → is_reserving st ≡ true → is_some (job_at k st y t) ≡ true →
+job_at_before : (k : ℕ) (st : HandlerStage) (x y : Handler) (s t : State) → FreesNothing s t → is_reserving st ≡ true → is_some (job_at k st y t) ≡ true →
     is_some (job_at k st x s) ≡ true
 job_at_before k Idle x y s t e waits is = cc
 job_at_before k Runs x y s t e waits is = cc
@@ -228,7 +228,7 @@ job_with_before : (k : ℕ) (why : Option Cause) (x y : Handler) (s t : State) �
     is_some (job_with k why y t) ≡ true → is_some (job_with k why x s) ≡ true
 job_with_before k (Some why) x y s t e same waits is = cc
 job_with_before k None x y s t e same waits is =
-    job_at_before k x.stage x y s t e (ap is_reserving (sym same) ∙ waits) (ap (λ (st : Stage). is_some (job_at k st y t)) (sym same) ∙ is)
+    job_at_before k x.stage x y s t e (ap is_reserving (sym same) ∙ waits) (ap (λ (st : HandlerStage). is_some (job_at k st y t)) (sym same) ∙ is)
 
 -- Where nothing was freed, one that waits to reserve, and is as before, had something to do before.
 pub waiting_before : (most h : ℕ) (j : Job) (turns : ℕ) (w : Want) (s : State) (k : ℕ) → frees j w ≡ false →

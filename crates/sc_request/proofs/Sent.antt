@@ -6,7 +6,7 @@ use Rattle.sc_lockpass.specs.Rights.{Rights}
 use Rattle.sc_lockpass.specs.Passing.{pass}
 use Rattle.sc_model.specs.Handlers as machine
 use Rattle.sc_model.specs.Asking as asking
-use Rattle.sc_request.specs.Handlers.{Posted, Stage, Handler, State, with_stage}
+use Rattle.sc_request.specs.Handlers.{Posted, HandlerStage, Handler, State, with_stage}
 use Rattle.sc_request.specs.Sessions.{given_to, passes, placed, send, with_handler}
 use Rattle.sc_request.specs.Asked.{Numbering}
 use Rattle.sc_request.specs.Halves.{posted_of, IsTop, AreServices, IsHandlerOf, IsHalfOf}
@@ -29,7 +29,7 @@ put_left n w s h x e f = record {
       (λ same. subst (λ (j : ℕ). IsHandlerOf n x (s.handlers j)) (sym (eqb-true k h same)) f) (e.handlers k);
 }
 
-restacked : (n : Numbering) (x : machine.Handler) (y : Handler) (stack : List machine.Frame) (t : Stage) → IsHandlerOf n x y →
+restacked : (n : Numbering) (x : machine.Handler) (y : Handler) (stack : List machine.Frame) (t : HandlerStage) → IsHandlerOf n x y →
     IsTop stack t → AreServices n stack y.services → IsHandlerOf n (record x { stack = stack }) (record y { stage = t })
 restacked n x y stack t e f g = record {
   stage = f;
@@ -43,7 +43,7 @@ restacked n x y stack t e f g = record {
 }
 
 -- other frames, which serve the same requests
-pub stack_alike : (n : Numbering) (w : machine.World) (s : State) (h : ℕ) (stack : List machine.Frame) (t : Stage) → IsHalfOf n w s →
+pub stack_alike : (n : Numbering) (w : machine.World) (s : State) (h : ℕ) (stack : List machine.Frame) (t : HandlerStage) → IsHalfOf n w s →
     IsTop stack t → AreServices n stack (s.handlers h).services → IsHalfOf n (machine.with_stack h stack w) (with_stage h t s)
 stack_alike n w s h stack t e f g = put_alike n w s h _ _ e (restacked n (w.handlers h) (s.handlers h) stack t (e.handlers h) f g)
 

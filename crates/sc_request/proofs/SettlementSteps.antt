@@ -6,7 +6,7 @@ use Rattle.sc_tree.specs.Plain.{System}
 use Rattle.sc_model.specs.Values.{values_of}
 use Rattle.sc_model.specs.Objects.{Object}
 use Rattle.sc_model.specs.Routines.{routine_named}
-use Rattle.sc_model.specs.Steps.{Act, Prints, Tests, Creates, CreatesHandler, Enters, Requests, Starts, Refuses, Opens, Leaves, Exits, Fails, Step, Goes, Does}
+use Rattle.sc_model.specs.Steps.{Act, Prints, Until, Creates, CreatesHandler, Enters, Requests, Starts, Refuses, Opens, Leaves, Exits, Fails, Step, Goes, Does}
 use Rattle.sc_model.specs.Moves.{moves}
 use Rattle.sc_model.specs.Preconditions.{verdict_on}
 use Rattle.sc_model.specs.Turns as turns
@@ -16,7 +16,7 @@ use Rattle.sc_model.specs.Handlers.{point_of, frame_at}
 use Rattle.sc_region.specs.declared.job.Job.{Job}
 use Rattle.sc_region.specs.declared.job.Job.TheVariants as job
 use Rattle.sc_region.specs.declared.job.Want.{Want}
-use Rattle.sc_request.specs.Handlers.{Stage, Runs, HasMade, Handler, State, put, with_stage}
+use Rattle.sc_request.specs.Handlers.{HandlerStage, Runs, HasMade, Handler, State, put, with_stage}
 use Rattle.sc_request.specs.Picking.{job_at}
 use Rattle.sc_request.specs.Settling.{made_at, fits_turns, may_ask, asked_in}
 use Rattle.sc_request.specs.Asked.{Numbering, asks_acting, asks_moving, asks_going, asks_on}
@@ -36,7 +36,7 @@ acts : (n : Numbering) (sys : System) (h most : ℕ) (a : Act) (w : machine.Worl
     may_ask h (asks_acting n sys h a f (length (f ∷ below)) (w.handlers h).objects) s ≡ true →
     IsHalfOf n (effect most sys h a f below w) (asked_in true most h (asks_acting n sys h a f (length (f ∷ below)) (w.handlers h).objects) s)
 acts n sys h most (Prints text) w s f below apart e runs stands is entry may = print_alike n h w s ((w.handlers h).output ++ text) e
-acts n sys h most Tests w s f below apart e runs stands is entry may = e
+acts n sys h most Until w s f below apart e runs stands is entry may = e
 acts n sys h most Creates w s f below apart e runs stands is entry may = e
 acts n sys h most Starts w s f below apart e runs stands is entry may = e
 acts n sys h most (CreatesHandler class procedure us t passing) w s f below apart e runs stands is entry may =
@@ -140,7 +140,7 @@ goes_alike n w s h f below e stack is =
     let f' : IsTop (f ∷ below) Runs = subst (λ (st : machine.Stage). IsStage st f Runs) (sym is) (inl refl) in
     put_right n w s h _ e (restaged n x (s.handlers h) Runs (e.handlers h) (subst (λ (fs : List machine.Frame). IsTop fs Runs) (sym stack) f'))
   where
-    restaged : (n : Numbering) (x : machine.Handler) (y : Handler) (t : Stage) → IsHandlerOf n x y → IsTop x.stack t → IsHandlerOf n x (record y { stage = t })
+    restaged : (n : Numbering) (x : machine.Handler) (y : Handler) (t : HandlerStage) → IsHandlerOf n x y → IsTop x.stack t → IsHandlerOf n x (record y { stage = t })
     restaged n x y t e top = record {
       stage = top;
       services = e.services;
@@ -159,10 +159,10 @@ pub turn_runs : (n : Numbering) (sys : System) (h most : ℕ) (w : machine.World
     (turns.settles most sys h (moves sys f.current (point_of f (w.handlers h).objects)) f below w)
 turn_runs n sys h most w s f below apart e stack is stands (inl goes) =
     let w' = turns.settles most sys h (moves sys f.current (point_of f (w.handlers h).objects)) f below w in
-    subst (λ (t : Stage). Comes most n sys h w s (job_at h t (s.handlers h) s) w') (sym goes) (runs_on n sys h most w s f below apart e stack is stands)
+    subst (λ (t : HandlerStage). Comes most n sys h w s (job_at h t (s.handlers h) s) w') (sym goes) (runs_on n sys h most w s f below apart e stack is stands)
 turn_runs n sys h most w s f below apart e stack is stands (inr (k, made)) =
     let w' = turns.settles most sys h (moves sys f.current (point_of f (w.handlers h).objects)) f below w in
     let asks = asks_on n sys h (w.handlers h).stack (w.handlers h).objects in
-    subst (λ (t : Stage). Comes most n sys h w s (job_at h t (s.handlers h) s) w') (sym made)
-    (subst (λ (t : Stage). ComesOf most n sys h w (made_at h t s) (fits_turns 1 t (job.Made k) asks) w' asks) (sym made)
+    subst (λ (t : HandlerStage). Comes most n sys h w s (job_at h t (s.handlers h) s) w') (sym made)
+    (subst (λ (t : HandlerStage). ComesOf most n sys h w (made_at h t s) (fits_turns 1 t (job.Made k) asks) w' asks) (sym made)
     (runs_on n sys h most w (with_stage h Runs s) f below apart (goes_alike n w s h f below e stack is) stack is stands))

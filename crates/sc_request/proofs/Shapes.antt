@@ -7,18 +7,18 @@ use Rattle.sc_region.specs.declared.job.Job.TheVariants as job
 use Rattle.sc_region.specs.declared.job.Want.{Want}
 use Rattle.sc_request.specs.declared.begun.Shape.{Shape}
 use Rattle.sc_request.specs.Candidates.{granted_items}
-use Rattle.sc_request.specs.Handlers.{Stage, Idle, Runs, HasMade, Reserves, Awaits, State}
+use Rattle.sc_request.specs.Handlers.{HandlerStage, Idle, Runs, HasMade, Reserves, Awaits, State}
 use Rattle.sc_request.specs.Settling.{asked_in, begun, fits_turns, settled}
 use Rattle.sc_request.specs.Shapes.{of_shape, shape_of}
 
-fits_made : (k : ℕ) (st : Stage) (w : Want) → fits_turns 1 st (job.Made 0) w ≡ fits_turns 1 st (job.Made k) w
+fits_made : (k : ℕ) (st : HandlerStage) (w : Want) → fits_turns 1 st (job.Made 0) w ≡ fits_turns 1 st (job.Made k) w
 fits_made k Idle w = refl
 fits_made k Runs w = refl
 fits_made k (HasMade j) w = refl
 fits_made k (Reserves ks mark) w = refl
 fits_made k (Awaits j is_creation) w = refl
 
-fits_shape : (n : ℕ) (j : Job) (st : Stage) (w : Want) → fits_turns n st (of_shape (shape_of j)) w ≡ fits_turns n st j w
+fits_shape : (n : ℕ) (j : Job) (st : HandlerStage) (w : Want) → fits_turns n st (of_shape (shape_of j)) w ≡ fits_turns n st j w
 fits_shape zero j st w = refl
 fits_shape (suc zero) (job.Take r) st w = refl
 fits_shape (suc zero) (job.Reply v) st w = refl

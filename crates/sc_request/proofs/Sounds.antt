@@ -22,7 +22,7 @@ use Rattle.sc_region.specs.declared.job.Job.TheVariants as job
 use Rattle.sc_region.specs.declared.job.Want.{Want}
 use Rattle.sc_region.specs.declared.job.Want.TheVariants as want
 use Rattle.sc_request.specs.Candidates.{granted_items}
-use Rattle.sc_request.specs.Handlers.{Posted, posted, Answer, Replied, SupplierFailed, Refused, Stage, Idle, Runs, HasMade, Reserves, Awaits, Service, service, Handler, State, new_handler, put, with_stage}
+use Rattle.sc_request.specs.Handlers.{Posted, posted, Answer, Replied, SupplierFailed, Refused, HandlerStage, Idle, Runs, HasMade, Reserves, Awaits, Service, service, Handler, State, new_handler, put, with_stage}
 use Rattle.sc_request.specs.Sessions.{session_ended, release, passed_if, passes, placed, send, is_callback, given_to, with_handler, answered, answer_to, return_rights, finish, to_list, requests_at, is_waited_by, told, fallen, fail}
 use Rattle.sc_request.specs.Settling.{takes_next, takes_callback, takes, takes_answer, made_at, begun, reserves, awaits_if, sends, asks_of, creation, creates_with, creates, counted_refusal, ends_service, ends, done, posts_unheld, is_request_of, is_call, may_ask, done_if, asked_in, fits_turns, settled}
 use Rattle.sc_request.specs.Sound.{IsHeldBelow, IsListedBelow, PassesBelow, placed_poster, IsPlaced, ArePlaced, AreServed, IsServed, awaits_placed, may_take_over, IsSoundHandler, IsSound}
@@ -128,7 +128,7 @@ more c c' n n' m m' x lc ln lm s =
 pub new_is : (c n m : ℕ) → IsSoundHandler c n m new_handler
 new_is c n m = record { stage = refl; queue = All-nil IsPlaced; callback = All-nil IsPlaced; services = All-nil IsServed; entry = refl; sessions = omega arith; refused = omega arith; serves = omega arith }
 
-staged : (c n m : ℕ) (x : Handler) (st : Stage) → awaits_placed st ≡ true → IsSoundHandler c n m x → IsSoundHandler c n m (record x { stage = st })
+staged : (c n m : ℕ) (x : Handler) (st : HandlerStage) → awaits_placed st ≡ true → IsSoundHandler c n m x → IsSoundHandler c n m (record x { stage = st })
 staged c n m x st e s = record {
   stage = e;
   queue = s.queue;
@@ -297,7 +297,7 @@ callback_taken c n m x (Some p) all e s =
       serves = omega (arith, serves);
     }
 
-taken : (c n m : ℕ) (x : Handler) (st : Stage) → x.stage ≡ st → IsSoundHandler c n m x → IsSoundHandler c (n + 1) m (takes st x)
+taken : (c n m : ℕ) (x : Handler) (st : HandlerStage) → x.stage ≡ st → IsSoundHandler c n m x → IsSoundHandler c (n + 1) m (takes st x)
 taken c n m x Idle e s = next_taken c n m x x.queue s.queue (ap may_take_over e) s
 taken c n m x Runs e s = more c c n (n + 1) m m x (omega arith) (omega arith) (omega arith) s
 taken c n m x (HasMade k) e s = more c c n (n + 1) m m x (omega arith) (omega arith) (omega arith) s
@@ -324,7 +324,7 @@ put_is : (c n h : ℕ) (x : Handler) (s : State) → IsSoundHandler c n s.count 
 put_is c n h x s e all =
     record { within = all.within; rights = all.rights; handlers = λ k. if_is c n s.count (k == h) x (s.handlers k) e (all.handlers k) }
 
-stage_is : (c n h : ℕ) (st : Stage) (s : State) → awaits_placed st ≡ true → IsSound c n s → IsSound c n (with_stage h st s)
+stage_is : (c n h : ℕ) (st : HandlerStage) (s : State) → awaits_placed st ≡ true → IsSound c n s → IsSound c n (with_stage h st s)
 stage_is c n h st s e all = put_is c n h (record (s.handlers h) { stage = st }) s (staged c n s.count (s.handlers h) st e (all.handlers h)) all
 
 pub release_is : (c n : ℕ) (how : Release) (ks : List ℕ) (s : State) → IsSound c n s → IsSound (c + 1) n (release how ks s)
@@ -377,7 +377,7 @@ finish_is c n p a s is all =
 
 -- ---- the job begins
 
-made_is : (c n h : ℕ) (st : Stage) (s : State) → IsSound c n s → IsSound (c + 1) n (made_at h st s)
+made_is : (c n h : ℕ) (st : HandlerStage) (s : State) → IsSound c n s → IsSound (c + 1) n (made_at h st s)
 made_is c n h (Awaits k b) s all =
     release_is c n release_at.Creation (k ∷ []) (put h (takes_answer (s.handlers h)) s)
     (put_is c n h (takes_answer (s.handlers h)) s (answer_taken c n s.count (s.handlers h) (all.handlers h)) all)
@@ -502,7 +502,7 @@ creates_is c n most h class procedure actuals passing s within own all = elim (c
 
 -- ---- a request ends
 
-over_placed : (st : Stage) → may_take_over st ≡ true → awaits_placed st ≡ true
+over_placed : (st : HandlerStage) → may_take_over st ≡ true → awaits_placed st ≡ true
 over_placed Idle e = refl
 over_placed Runs e = refl
 over_placed (HasMade k) e = refl

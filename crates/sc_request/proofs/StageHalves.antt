@@ -23,7 +23,7 @@ use Rattle.sc_model.specs.Handlers as machine
 use Rattle.sc_region.specs.declared.job.Job.{Job}
 use Rattle.sc_region.specs.declared.job.Job.TheVariants as job
 use Rattle.sc_region.specs.declared.job.Want.{Want}
-use Rattle.sc_request.specs.Handlers.{Posted, Answer, Stage, Idle, Runs, Reserves, Awaits, State, put}
+use Rattle.sc_request.specs.Handlers.{Posted, Answer, HandlerStage, Idle, Runs, Reserves, Awaits, State, put}
 use Rattle.sc_request.specs.Picking.{needs, job_reserving, job_for_entry, job_idle, job_answered, job_awaiting, job_at, job_with}
 use Rattle.sc_request.specs.Settling.{takes, made_at, fits_turns, may_take, may_ask, asked_in}
 use Rattle.sc_request.specs.Asked.{Numbering, request_of, handlers_of, taken_of, asks_errand, asks_taking, asks_on}
@@ -65,7 +65,7 @@ turn_reserves : (n : Numbering) (sys : System) (h most : ℕ) (w : machine.World
     (entries.reserves_if (entries.may_reserve (needed_for h vs w) mark w) h (needed_for h vs w) f' below w)
 turn_reserves n sys h most w s f f' below vs mark e stack origin runs is =
     let w' = entries.reserves_if (entries.may_reserve (needed_for h vs w) mark w) h (needed_for h vs w) f' below w in
-    subst (λ (t : Stage). Comes most n sys h w s (job_at h t (s.handlers h) s) w') (sym is)
+    subst (λ (t : HandlerStage). Comes most n sys h w s (job_at h t (s.handlers h) s) w') (sym is)
     (subst (λ (j : Option Job). Comes most n sys h w s j w') (sym (same_job n h w s vs mark e))
     (reserves_by n sys h most w s f f' below (needed_for h vs w) _ _ e stack origin runs refl))
 
@@ -130,7 +130,7 @@ turn_idle : (n : Numbering) (sys : System) (h most : ℕ) (w : machine.World) (s
     Comes most n sys h w s (job_at h (s.handlers h).stage (s.handlers h) s) (takes_at.takes_next sys h (w.handlers h).queue w)
 turn_idle n sys h most w s e stack idle =
     let w' = takes_at.takes_next sys h (w.handlers h).queue w in
-    subst (λ (t : Stage). Comes most n sys h w s (job_at h t (s.handlers h) s) w') (sym idle)
+    subst (λ (t : HandlerStage). Comes most n sys h w s (job_at h t (s.handlers h) s) w') (sym idle)
     (subst (λ (q : List Posted). Comes most n sys h w s (job_idle q) w') (sym (e.handlers h).queue)
     (turn_next n sys h most w s (w.handlers h).queue e stack refl idle))
 
@@ -144,7 +144,7 @@ waits_on : (n : Numbering) (sys : System) (h most k : ℕ) (gives : Option Entit
 waits_on n sys h most k gives true (machine.Reply v) w s f below e stack is awaits =
     let asks = asks_on n sys h (w.handlers h).stack (w.handlers h).objects in
     let w' = takes_at.takes_answer h (machine.Reply v) k gives true f below w in
-    subst (λ (t : Stage). ComesOf most n sys h w (made_at h t s) (fits_turns 1 t (job.Made k) asks) w' asks) (sym awaits)
+    subst (λ (t : HandlerStage). ComesOf most n sys h w (made_at h t s) (fits_turns 1 t (job.Made k) asks) w' asks) (sym awaits)
     (subst (λ (a : Want). ComesOf most n sys h w (made_at h (Awaits k true) s) (fits_turns 1 (Awaits k true) (job.Made k) a) w' a)
     (sym (asks_at n sys h (w.handlers h) f below (machine.Awaits k gives true) stack is))
     (λ granted. creation_alike n h k w s f below gives v e stack))
@@ -174,7 +174,7 @@ turn_waits n sys h most k gives c w s f below e stack is awaits =
     let x = w.handlers h in
     let y = s.handlers h in
     let w' = turns.waits sys h x.callback x.answer k gives c f below w in
-    subst (λ (t : Stage). Comes most n sys h w s (job_at h t y s) w') (sym awaits)
+    subst (λ (t : HandlerStage). Comes most n sys h w s (job_at h t y s) w') (sym awaits)
     (subst (λ (p : Option Posted). Comes most n sys h w s (job_awaiting k c p y.answer) w') (sym (e.handlers h).callback)
     (subst (λ (a : Option Answer). Comes most n sys h w s (job_awaiting k c (option_map (posted_of n) x.callback) a) w') (sym (e.handlers h).answer)
     (waits_with n sys h most k gives c x.callback x.answer w s f below e stack is awaits refl)))
@@ -187,7 +187,7 @@ turn_in_call : (n : Numbering) (sys : System) (h most : ℕ) (gives : Option Ent
     Comes most n sys h w s (job_at h (s.handlers h).stage (s.handlers h) s) (turns.goes_on most sys h (machine.InCall gives) f below w)
 turn_in_call n sys h most gives w s f below e stack is runs =
     let w' = turns.goes_on most sys h (machine.InCall gives) f below w in
-    subst (λ (t : Stage). Comes most n sys h w s (job_at h t (s.handlers h) s) w') (sym runs)
+    subst (λ (t : HandlerStage). Comes most n sys h w s (job_at h t (s.handlers h) s) w') (sym runs)
     (subst (λ (a : Want). ComesOf most n sys h w s true w' a) (sym (asks_at n sys h (w.handlers h) f below (machine.InCall gives) stack is))
     (λ granted. fail_alike n h cause.BadCode w s e))
 

@@ -27,7 +27,7 @@ use Rattle.sc_model.specs.Handlers as machine
 use Rattle.sc_model.specs.Answers as machine_answers
 use Rattle.sc_model.specs.Failures as machine_failures
 use Rattle.sc_region.specs.declared.job.Want.{Want}
-use Rattle.sc_request.specs.Handlers.{Posted, Stage, Idle, Runs, Reserves, Awaits, Service, service, Handler, State, put}
+use Rattle.sc_request.specs.Handlers.{Posted, HandlerStage, Idle, Runs, Reserves, Awaits, Service, service, Handler, State, put}
 use Rattle.sc_request.specs.Sessions.{release, finish, to_list, requests_at, is_waited_by, told, fallen, fail}
 use Rattle.sc_request.specs.Settling.{serves, takes, takes_next, takes_callback, reserves, ends, may_take, may_ask, asked_in}
 use Rattle.sc_request.specs.Asked.{Numbering, value_of, handlers_of, asks_beginning, asks_bound, asks_entering, asks_done, asks_replying, asks_calling, asks_version, asks_errand}
@@ -111,7 +111,7 @@ done_taken n r h most w s v e =
 
 -- ---- a routine is entered for it
 
-stacked : (n : Numbering) (r : machine.Request) (h : ℕ) (w : machine.World) (s s' : State) (e : IsTaken n r h w s) (f : machine.Frame) (t : Stage) (es : List ℕ) →
+stacked : (n : Numbering) (r : machine.Request) (h : ℕ) (w : machine.World) (s s' : State) (e : IsTaken n r h w s) (f : machine.Frame) (t : HandlerStage) (es : List ℕ) →
     s'.count ≡ s.count → s'.rights ≡ s.rights → ((k : ℕ) → (k ≡ h → ⊥) → s'.handlers k ≡ s.handlers k) →
     s'.handlers h ≡ record (serves (posted_of n r) e.before) { stage = t; entry = es } → f.origin ≡ machine.Requested r → IsStage f.stage f t →
     IsHalfOf n (machine.with_stack h (f ∷ (w.handlers h).stack) w) s'

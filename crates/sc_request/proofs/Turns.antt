@@ -17,7 +17,7 @@ use Rattle.sc_model.specs.Entries.{opened_in}
 use Rattle.sc_model.specs.Handlers as machine
 use Rattle.sc_model.specs.Sessions as sessions
 use Rattle.sc_model.specs.Runs.{has_turn_with, goes}
-use Rattle.sc_request.specs.Handlers.{Posted, Answer, Stage, Handler, State, has_frames, has_requests, standing_of, standing_in}
+use Rattle.sc_request.specs.Handlers.{Posted, Answer, HandlerStage, Handler, State, has_frames, has_requests, standing_of, standing_in}
 use Rattle.sc_request.specs.Picking.{needs, job_reserving, job_for_entry, job_idle, job_awaiting, job_at, job_with}
 use Rattle.sc_request.specs.Asked.{Numbering, handlers_of}
 use Rattle.sc_request.specs.Halves.{posted_of, answer_of, IsStage, IsTop, IsHandlerOf, IsHalfOf}
@@ -25,7 +25,7 @@ use Rattle.sc_request.specs.Laws.{PicksWhereTurns}
 
 -- ---- what a reservation looks at
 
-staged_frames : (stage : machine.Stage) (f : machine.Frame) (below : List machine.Frame) (t : Stage) → IsStage stage f t → has_frames t ≡ true
+staged_frames : (stage : machine.Stage) (f : machine.Frame) (below : List machine.Frame) (t : HandlerStage) → IsStage stage f t → has_frames t ≡ true
 staged_frames machine.Runs f below t (inl e) = rw e refl
 staged_frames machine.Runs f below t (inr (k, e)) = rw e refl
 staged_frames machine.Reserves f below t e = rw e refl
@@ -33,7 +33,7 @@ staged_frames machine.ReservesBlock f below t e = rw e refl
 staged_frames (machine.InCall gives) f below t e = rw e refl
 staged_frames (machine.Awaits k gives c) f below t e = rw e refl
 
-same_frames : (stack : List machine.Frame) (t : Stage) → IsTop stack t → has_frames t ≡ sessions.has_frames stack
+same_frames : (stack : List machine.Frame) (t : HandlerStage) → IsTop stack t → has_frames t ≡ sessions.has_frames stack
 same_frames [] t e = rw e refl
 same_frames (f ∷ below) t e = staged_frames f.stage f below t e
 
@@ -98,19 +98,19 @@ waiting n w s h k c e =
 
 -- ---- a handler
 
-going : (n : Numbering) (w : machine.World) (s : State) (h : ℕ) (stage : machine.Stage) (f : machine.Frame) (t : Stage) → IsHalfOf n w s →
+going : (n : Numbering) (w : machine.World) (s : State) (h : ℕ) (stage : machine.Stage) (f : machine.Frame) (t : HandlerStage) → IsHalfOf n w s →
     IsStage stage f t → is_some (job_at h t (s.handlers h) s) ≡ goes h stage f w
 going n w s h machine.Runs f t e (inl is) = rw is refl
 going n w s h machine.Runs f t e (inr (k, is)) = rw is refl
-going n w s h machine.Reserves f t e is = ap (λ (u : Stage). is_some (job_at h u (s.handlers h) s)) is ∙ entering n w s h (separate_formals f.environment) f.mark e
-going n w s h machine.ReservesBlock f t e is = ap (λ (u : Stage). is_some (job_at h u (s.handlers h) s)) is ∙ entering n w s h (opened_in f.environment f.tasks) [] e
+going n w s h machine.Reserves f t e is = ap (λ (u : HandlerStage). is_some (job_at h u (s.handlers h) s)) is ∙ entering n w s h (separate_formals f.environment) f.mark e
+going n w s h machine.ReservesBlock f t e is = ap (λ (u : HandlerStage). is_some (job_at h u (s.handlers h) s)) is ∙ entering n w s h (opened_in f.environment f.tasks) [] e
 going n w s h (machine.InCall gives) f t e is = rw is refl
-going n w s h (machine.Awaits k gives c) f t e is = ap (λ (u : Stage). is_some (job_at h u (s.handlers h) s)) is ∙ waiting n w s h k c (e.handlers h)
+going n w s h (machine.Awaits k gives c) f t e is = ap (λ (u : HandlerStage). is_some (job_at h u (s.handlers h) s)) is ∙ waiting n w s h k c (e.handlers h)
 
 standing : (n : Numbering) (w : machine.World) (s : State) (h : ℕ) (stack : List machine.Frame) → IsHalfOf n w s →
     IsTop stack (s.handlers h).stage → is_some (job_at h (s.handlers h).stage (s.handlers h) s) ≡ has_turn_with h None stack w
 standing n w s h [] e is =
-    ap (λ (u : Stage). is_some (job_at h u (s.handlers h) s)) is
+    ap (λ (u : HandlerStage). is_some (job_at h u (s.handlers h) s)) is
     ∙ ap (λ (ps : List Posted). is_some (job_idle ps)) (e.handlers h).queue ∙ idling n (w.handlers h).queue
 standing n w s h (f ∷ below) e is = going n w s h f.stage f (s.handlers h).stage e is
 

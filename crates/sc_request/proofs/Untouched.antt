@@ -17,7 +17,7 @@ use Rattle.sc_region.specs.declared.job.Job.{Job}
 use Rattle.sc_region.specs.declared.job.Job.TheVariants as job
 use Rattle.sc_region.specs.declared.job.Want.{Want}
 use Rattle.sc_region.specs.declared.job.Want.TheVariants as want
-use Rattle.sc_request.specs.Handlers.{Posted, posted, Answer, Replied, Refused, Stage, Idle, Runs, HasMade, Reserves, Awaits, Service, Handler, State, put, with_stage}
+use Rattle.sc_request.specs.Handlers.{Posted, posted, Answer, Replied, Refused, HandlerStage, Idle, Runs, HasMade, Reserves, Awaits, Service, Handler, State, put, with_stage}
 use Rattle.sc_request.specs.Sessions.{session_ended, release, passed_if, passes, placed, send, is_callback, with_handler, answered, answer_to, return_rights, finish, to_list, fallen, fail}
 use Rattle.sc_request.specs.Settling.{takes_next, takes_callback, takes, takes_answer, made_at, begun, awaits_if, sends, asks, creation, creates_with, creates, counted_refusal, ends, done, posts_unheld, may_ask, done_if, fits_turns, settled}
 use Rattle.sc_request.specs.Candidates.{LeavesUntouched, may_hear_from, posted_first, touches, uncounted}
@@ -43,7 +43,7 @@ either P false s t p q = q
 
 -- ---- the job begins
 
-made_other : (h k : ℕ) (st : Stage) (s : State) → (k == h) ≡ false → uncounted ((made_at h st s).handlers k) ≡ uncounted (s.handlers k)
+made_other : (h k : ℕ) (st : HandlerStage) (s : State) → (k == h) ≡ false → uncounted ((made_at h st s).handlers k) ≡ uncounted (s.handlers k)
 made_other h k Idle s apart = ap uncounted (put_other h k _ s apart)
 made_other h k Runs s apart = ap uncounted (put_other h k _ s apart)
 made_other h k (HasMade i) s apart = ap uncounted (put_other h k _ s apart)
@@ -60,7 +60,7 @@ begun_other h k (job.Granted ks) s apart = ap uncounted (put_other h k (record (
 begun_other h k (job.Made i) s apart = made_other h k (s.handlers h).stage s apart
 begun_other h k job.Go s apart = refl
 
-made_count : (h : ℕ) (st : Stage) (s : State) → (made_at h st s).count ≡ s.count
+made_count : (h : ℕ) (st : HandlerStage) (s : State) → (made_at h st s).count ≡ s.count
 made_count h Idle s = refl
 made_count h Runs s = refl
 made_count h (HasMade i) s = refl
@@ -95,7 +95,7 @@ callback_posted : (k : ℕ) (o : Option Posted) (x : Handler) → posted_first k
 callback_posted k None x e f = f
 callback_posted k (Some p) x e f = e
 
-taken_posted : (k : ℕ) (st : Stage) (x : Handler) → posted_served k x ≡ false → posted_first k x.queue ≡ false → posted_first k (to_list x.callback) ≡ false →
+taken_posted : (k : ℕ) (st : HandlerStage) (x : Handler) → posted_served k x ≡ false → posted_first k x.queue ≡ false → posted_first k (to_list x.callback) ≡ false →
     posted_served k (takes st x) ≡ false
 taken_posted k Idle x e f g = next_posted k x.queue x f e
 taken_posted k Runs x e f g = e
@@ -107,7 +107,7 @@ ended_posted : (k : ℕ) (b : Bool) (x : Handler) → posted_served k (session_e
 ended_posted k true x = refl
 ended_posted k false x = refl
 
-made_posted : (h k : ℕ) (st : Stage) (s : State) → posted_served k ((made_at h st s).handlers h) ≡ posted_served k (s.handlers h)
+made_posted : (h k : ℕ) (st : HandlerStage) (s : State) → posted_served k ((made_at h st s).handlers h) ≡ posted_served k (s.handlers h)
 made_posted h k Idle s = ap (posted_served k) (put_own h _ s)
 made_posted h k Runs s = ap (posted_served k) (put_own h _ s)
 made_posted h k (HasMade i) s = ap (posted_served k) (put_own h _ s)

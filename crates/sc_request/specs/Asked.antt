@@ -7,8 +7,8 @@ use Rattle.sc_tree.specs.Plain.{System, FeatureKind}
 use Rattle.sc_class.specs.Tables.Features.{DeclaredFeature}
 use Rattle.sc_proctype.specs.declared.entity_type.EntityType.{EntityType}
 use Rattle.sc_rules.specs.Types.{declared_type}
-use Rattle.sc_waitcond.specs.declared.condition.Verdict.{Verdict}
-use Rattle.sc_waitcond.specs.declared.condition.Verdict.TheVariants as verdict
+use Rattle.sc_waitcond.specs.declared.condition.EntryVerdict.{EntryVerdict}
+use Rattle.sc_waitcond.specs.declared.condition.EntryVerdict.TheVariants as verdict
 use Rattle.sc_model.specs.declared.cause.Cause.TheVariants as cause
 use Rattle.sc_model.specs.Values as machine
 use Rattle.sc_model.specs.Values.{Operand, handler_of}
@@ -17,7 +17,7 @@ use Rattle.sc_model.specs.Environments.{Binding, binding_named, formals_bound, s
 use Rattle.sc_model.specs.Objects.{Object, object_numbered, fresh_object}
 use Rattle.sc_model.specs.Invariants.{meets_invariant}
 use Rattle.sc_model.specs.Routines.{Routine, version_of, routine_named, routine_of}
-use Rattle.sc_model.specs.Steps.{Act, Prints, Tests, Creates, CreatesHandler, Enters, Requests, Starts, Refuses, Opens, Leaves, Exits, Fails, Step, Goes, Does}
+use Rattle.sc_model.specs.Steps.{Act, Prints, Until, Creates, CreatesHandler, Enters, Requests, Starts, Refuses, Opens, Leaves, Exits, Fails, Step, Goes, Does}
 use Rattle.sc_model.specs.Moves.{moves}
 use Rattle.sc_model.specs.Handlers as handlers
 use Rattle.sc_model.specs.Handlers.{Origin, Called, Requested, Stage, Runs, Reserves, ReservesBlock, InCall, Awaits, Frame, Handler, point_of, frame_at}
@@ -146,7 +146,7 @@ asks_refusing s (Requested r) f objects =
     if is_creation r.errand then (if object_meets s (object_numbered f.current.number objects) then asks_done None f.reserved true else want.Fail cause.Invariant)
     else asks_done None f.reserved true
 
-abbrev pub asks_after : Verdict → System → Frame → List Object → Want
+abbrev pub asks_after : EntryVerdict → System → Frame → List Object → Want
 asks_after verdict.Wait s f objects = want.Wait (record { items = f.reserved })
 asks_after verdict.Refuse s f objects = asks_refusing s f.origin f objects
 asks_after verdict.Start s f objects = want.Fail cause.BadCode
@@ -169,7 +169,7 @@ asks_exiting s f objects =
 -- what a visible step asks, after which the frame is this one, over so many others, with these objects
 abbrev pub asks_acting : Numbering → System → ℕ → Act → Frame → ℕ → List Object → Want
 asks_acting n s h (Prints text) f depth objects = want.Continue
-asks_acting n s h Tests f depth objects = want.Continue
+asks_acting n s h Until f depth objects = want.Continue
 asks_acting n s h Creates f depth objects = want.Continue
 asks_acting n s h Starts f depth objects = want.Continue
 asks_acting n s h (CreatesHandler class procedure us t passing) f depth objects =

@@ -7,10 +7,10 @@ use Rattle.sc_region.specs.declared.job.Job.{Job}
 use Rattle.sc_region.specs.declared.job.Job.TheVariants as job
 use Rattle.sc_region.specs.declared.job.Want.{Want}
 use Rattle.sc_region.specs.declared.job.Want.TheVariants.{Continue, Reserve, Post, Ask, Create, Release, Wait, Done, Fail}
-use Rattle.sc_request.specs.declared.handler.Stage as coded_stage
-use Rattle.sc_request.specs.declared.handler.Stage.TheVariants as stage
+use Rattle.sc_request.specs.declared.handler.HandlerStage as coded_stage
+use Rattle.sc_request.specs.declared.handler.HandlerStage.TheVariants as stage
 use Rattle.sc_request.specs.declared.handler.Handler as coded
-use Rattle.sc_request.specs.Handlers.{Posted, Stage, Idle, Runs, HasMade, Reserves, Awaits, Service, Handler, State}
+use Rattle.sc_request.specs.Handlers.{Posted, HandlerStage, Idle, Runs, HasMade, Reserves, Awaits, Service, Handler, State}
 use Rattle.sc_request.specs.Sessions.{to_list}
 use Rattle.sc_request.specs.Settling.{settled}
 use Rattle.sc_request.specs.Tables.{out_at}
@@ -36,7 +36,7 @@ abbrev pub AreCandidates : List ℕ → Center → Type 0
 AreCandidates words c = (k : ℕ) → is_some (pick_for k c) ≡ true → is_member words k ≡ true
 
 -- its next step is a reserve step
-abbrev pub is_reserving : Stage → Bool
+abbrev pub is_reserving : HandlerStage → Bool
 is_reserving Idle = false
 is_reserving Runs = false
 is_reserving (HasMade k) = false
@@ -47,7 +47,7 @@ is_reserving (Awaits k is_creation) = false
 abbrev pub AreReserving : List ℕ → (ℕ → Handler) → Type 0
 AreReserving words xs = (k : ℕ) → is_reserving (xs k).stage ≡ true → is_member words k ≡ true
 
-abbrev pub reserves_at : coded_stage.Stage → Bool
+abbrev pub reserves_at : coded_stage.HandlerStage → Bool
 reserves_at stage.Idle = false
 reserves_at stage.Runs = false
 reserves_at (stage.HasMade k) = false

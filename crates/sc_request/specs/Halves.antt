@@ -4,7 +4,7 @@ use Rattle.std.specs.Option.{option_map}
 use Rattle.sc_model.specs.Environments.{separate_formals}
 use Rattle.sc_model.specs.Handlers as machine
 use Rattle.sc_model.specs.Entries.{opened_in}
-use Rattle.sc_request.specs.Handlers.{Posted, posted, Answer, Replied, SupplierFailed, Refused, Stage, Idle, Runs, HasMade, Reserves, Awaits, Service, Handler, State}
+use Rattle.sc_request.specs.Handlers.{Posted, posted, Answer, Replied, SupplierFailed, Refused, HandlerStage, Idle, Runs, HasMade, Reserves, Awaits, Service, Handler, State}
 use Rattle.sc_request.specs.Asked.{Numbering, value_of, request_of, handlers_of}
 
 abbrev pub posted_of : Numbering → machine.Request → Posted
@@ -18,14 +18,14 @@ answer_of machine.Refused = Refused
 -- ---- frames
 
 -- The frame stands so. That a handler was made for it the core tells it as it goes on.
-abbrev pub IsStage : machine.Stage → machine.Frame → Stage → Type 0
+abbrev pub IsStage : machine.Stage → machine.Frame → HandlerStage → Type 0
 IsStage machine.Runs f stage = (stage ≡ Runs) ⊎ ((k : ℕ) × (stage ≡ HasMade k))
 IsStage machine.Reserves f stage = stage ≡ Reserves (handlers_of (separate_formals f.environment)) f.mark
 IsStage machine.ReservesBlock f stage = stage ≡ Reserves (handlers_of (opened_in f.environment f.tasks)) []
 IsStage (machine.InCall gives) f stage = stage ≡ Runs
 IsStage (machine.Awaits k gives is_creation) f stage = stage ≡ Awaits k is_creation
 
-abbrev pub IsTop : List machine.Frame → Stage → Type 0
+abbrev pub IsTop : List machine.Frame → HandlerStage → Type 0
 IsTop [] stage = stage ≡ Idle
 IsTop (f ∷ below) stage = IsStage f.stage f stage
 

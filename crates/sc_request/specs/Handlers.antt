@@ -24,23 +24,23 @@ pub data Answer : Type 0 where
 
 -- What the next turn of a handler stands on: it has no frames; or its next step is always enabled, perhaps with a handler that was made for it; or it
 -- reserves what it doesn't hold of these, after a wait with a mark; or it waits for a supplier's answer, perhaps to a creation.
-pub data Stage : Type 0 where
-  Idle : Stage
-  Runs : Stage
-  HasMade : (made : ℕ) → Stage
-  Reserves : (handlers : List ℕ) (mark : List Marked) → Stage
-  Awaits : (supplier : ℕ) (is_creation : Bool) → Stage
+pub data HandlerStage : Type 0 where
+  Idle : HandlerStage
+  Runs : HandlerStage
+  HasMade : (made : ℕ) → HandlerStage
+  Reserves : (handlers : List ℕ) (mark : List Marked) → HandlerStage
+  Awaits : (supplier : ℕ) (is_creation : Bool) → HandlerStage
 
 -- a request that frames of a handler serve, and how it stood when that was taken
 pub record Service : Type 0 where
   pub posted : Posted
-  pub over : Stage
+  pub over : HandlerStage
 
-abbrev pub service : Posted → Stage → Service
+abbrev pub service : Posted → HandlerStage → Service
 service p stage = record { posted = p; over = stage }
 
 pub record Handler : Type 0 where
-  pub stage : Stage
+  pub stage : HandlerStage
   pub services : List Service  -- the one taken last first
   pub entry : List ℕ  -- what its last reserve step was for
   pub queue : List Posted  -- the next first
@@ -73,12 +73,12 @@ pub record State : Type 0 where
 abbrev pub put : ℕ → Handler → State → State
 put h x s = record s { handlers = λ k. if k == h then x else s.handlers k }
 
-abbrev pub with_stage : ℕ → Stage → State → State
+abbrev pub with_stage : ℕ → HandlerStage → State → State
 with_stage h stage s = put h (record (s.handlers h) { stage = stage }) s
 
 -- ---- what a reservation looks at
 
-abbrev pub has_frames : Stage → Bool
+abbrev pub has_frames : HandlerStage → Bool
 has_frames Idle = false
 has_frames Runs = true
 has_frames (HasMade k) = true

@@ -9,7 +9,7 @@ use Rattle.sc_model.specs.declared.status.Status.{Status}
 use Rattle.sc_model.specs.declared.status.Status.TheVariants as status
 use Rattle.sc_region.specs.declared.job.Job.{Job}
 use Rattle.sc_region.specs.declared.job.Job.TheVariants as job
-use Rattle.sc_request.specs.Handlers.{Posted, Answer, Replied, SupplierFailed, Refused, Stage, Idle, Runs, HasMade, Reserves, Awaits, Handler, State, standing_in}
+use Rattle.sc_request.specs.Handlers.{Posted, Answer, Replied, SupplierFailed, Refused, HandlerStage, Idle, Runs, HasMade, Reserves, Awaits, Handler, State, standing_in}
 
 -- ---- jobs
 
@@ -44,7 +44,7 @@ job_awaiting k is_creation (Some p) a = Some (job.Take p.request)
 job_awaiting k is_creation None (Some a) = Some (job_answered k is_creation a)
 job_awaiting k is_creation None None = None
 
-abbrev pub job_at : ℕ → Stage → Handler → State → Option Job
+abbrev pub job_at : ℕ → HandlerStage → Handler → State → Option Job
 job_at h Idle x s = job_idle x.queue
 job_at h Runs x s = Some job.Go
 job_at h (HasMade k) x s = Some (job.Made k)
@@ -62,14 +62,14 @@ job_of h s = if nat_lt h s.count then job_with h (s.handlers h).failure (s.handl
 
 -- ---- how a handler stands
 
-abbrev pub status_idle : Stage → Status
+abbrev pub status_idle : HandlerStage → Status
 status_idle Idle = status.Free
 status_idle Runs = status.Waiting
 status_idle (HasMade k) = status.Waiting
 status_idle (Reserves ks mark) = status.Waiting
 status_idle (Awaits k is_creation) = status.Waiting
 
-abbrev pub status_with : Option Cause → Bool → Stage → Status
+abbrev pub status_with : Option Cause → Bool → HandlerStage → Status
 status_with (Some why) is_busy stage = status.Failed why
 status_with None true stage = status.Busy
 status_with None false stage = status_idle stage

@@ -4,7 +4,7 @@ use Rattle.std.specs.List.{list_any}
 use Rattle.sc_lockpass.specs.Rights.{is_handler, release_all}
 use Rattle.sc_region.specs.declared.job.Job.{Job}
 use Rattle.sc_request.specs.declared.state.State as coded
-use Rattle.sc_request.specs.Handlers.{Posted, Stage, Idle, Runs, HasMade, Reserves, Awaits, Service, Handler, State}
+use Rattle.sc_request.specs.Handlers.{Posted, HandlerStage, Idle, Runs, HasMade, Reserves, Awaits, Service, Handler, State}
 use Rattle.sc_request.specs.Sessions.{is_waited_by, session_ended, told}
 use Rattle.sc_request.specs.Settling.{counted_refusal}
 use Rattle.sc_request.specs.Logs.{Center}
@@ -24,7 +24,7 @@ center_at last s = center s.count s.handlers.items s.sessions.items s.rights las
 -- ---- parts of settlements
 
 -- the handler that one waits for
-abbrev pub awaited : Stage → Option ℕ
+abbrev pub awaited : HandlerStage → Option ℕ
 awaited Idle = None
 awaited Runs = None
 awaited (HasMade k) = None

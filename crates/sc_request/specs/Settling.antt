@@ -15,7 +15,7 @@ use Rattle.sc_region.specs.declared.job.Job.{Job}
 use Rattle.sc_region.specs.declared.job.Job.TheVariants as job
 use Rattle.sc_region.specs.declared.job.Want.{Want}
 use Rattle.sc_region.specs.declared.job.Want.TheVariants.{Continue, Reserve, Post, Ask, Create, Release, Wait, Done, Fail}
-use Rattle.sc_request.specs.Handlers.{Posted, posted, Replied, Refused, Stage, Idle, Runs, HasMade, Reserves, Awaits, Service, service, Handler, State, put, with_stage}
+use Rattle.sc_request.specs.Handlers.{Posted, posted, Replied, Refused, HandlerStage, Idle, Runs, HasMade, Reserves, Awaits, Service, service, Handler, State, put, with_stage}
 use Rattle.sc_request.specs.Sessions.{reserve, release, passed_if, passes, send, is_callback, with_handler, finish, fail}
 
 -- ---- the job begins
@@ -33,7 +33,7 @@ takes_callback None x = x
 takes_callback (Some p) x = serves p (record x { callback = None })
 
 -- the next of its queue, or its callback
-abbrev pub takes : Stage → Handler → Handler
+abbrev pub takes : HandlerStage → Handler → Handler
 takes Idle x = takes_next x.queue x
 takes (Awaits k is_creation) x = takes_callback x.callback x
 takes stage x = x
@@ -42,7 +42,7 @@ abbrev pub takes_answer : Handler → Handler
 takes_answer x = record x { stage = Runs; answer = None }
 
 -- With the answer to a creation its creator releases the new handler. Else it goes on with that.
-abbrev pub made_at : ℕ → Stage → State → State
+abbrev pub made_at : ℕ → HandlerStage → State → State
 made_at h (Awaits k is_creation) s = release release_at.Creation (k ∷ []) (put h (takes_answer (s.handlers h)) s)
 made_at h stage s = with_stage h Runs s
 
@@ -192,7 +192,7 @@ fails_by_precondition (Fail cause.Precondition) = true
 fails_by_precondition w = false
 
 -- The handler's first turn under the job may ask this, where it stood so.
-abbrev pub fits_first : Stage → Job → Want → Bool
+abbrev pub fits_first : HandlerStage → Job → Want → Bool
 fits_first stage (job.Take r) w = may_take w
 fits_first stage (job.Reply v) w = may_take_answer w
 fits_first stage job.Failed w = fails_by_supplier w
@@ -213,7 +213,7 @@ goes_on (job.Made k) = true
 goes_on job.Go = true
 
 -- the last of so many turns
-abbrev pub fits_turns : ℕ → Stage → Job → Want → Bool
+abbrev pub fits_turns : ℕ → HandlerStage → Job → Want → Bool
 fits_turns zero stage j w = false
 fits_turns (suc zero) stage j w = fits_first stage j w
 fits_turns (suc (suc n)) stage j w = goes_on j

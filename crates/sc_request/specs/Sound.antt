@@ -3,7 +3,7 @@ use Rattle.std.specs.Prelude.{ℕ, ◌≡◌, ◌≤◌, Bool, true, false, List
 use Rattle.std.specs.List.{All, list_all}
 use Rattle.sc_lockpass.specs.Rights.{Rights}
 use Rattle.sc_lockpass.specs.Passing.{Passed}
-use Rattle.sc_request.specs.Handlers.{Posted, Stage, Idle, Runs, HasMade, Reserves, Awaits, Service, Handler, State}
+use Rattle.sc_request.specs.Handlers.{Posted, HandlerStage, Idle, Runs, HasMade, Reserves, Awaits, Service, Handler, State}
 use Rattle.sc_request.specs.Sessions.{to_list}
 
 -- ---- rights
@@ -37,7 +37,7 @@ ArePlaced ps = All IsPlaced ps
 -- ---- handlers
 
 -- the handler that it waits for has a place
-abbrev pub awaits_placed : Stage → Bool
+abbrev pub awaits_placed : HandlerStage → Bool
 awaits_placed Idle = true
 awaits_placed Runs = true
 awaits_placed (HasMade k) = true
@@ -45,7 +45,7 @@ awaits_placed (Reserves ks mark) = true
 awaits_placed (Awaits k is_creation) = nat_lt k 512
 
 -- one that takes a request has no frames, or waits
-abbrev pub may_take_over : Stage → Bool
+abbrev pub may_take_over : HandlerStage → Bool
 may_take_over Idle = true
 may_take_over Runs = false
 may_take_over (HasMade k) = false

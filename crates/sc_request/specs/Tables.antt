@@ -7,11 +7,11 @@ use Rattle.sc_region.specs.declared.job.Job.{Job}
 use Rattle.sc_region.specs.declared.job.Request.{Request}
 use Rattle.sc_request.specs.declared.handler.Answer as coded_answer
 use Rattle.sc_request.specs.declared.handler.Answer.TheVariants as answer
-use Rattle.sc_request.specs.declared.handler.Stage as coded_stage
-use Rattle.sc_request.specs.declared.handler.Stage.TheVariants as stage
+use Rattle.sc_request.specs.declared.handler.HandlerStage as coded_stage
+use Rattle.sc_request.specs.declared.handler.HandlerStage.TheVariants as stage
 use Rattle.sc_request.specs.declared.handler.Posting.{Posting}
 use Rattle.sc_request.specs.declared.handler.Handler as coded
-use Rattle.sc_request.specs.Handlers.{Posted, posted, Answer, Replied, SupplierFailed, Refused, Stage, Idle, Runs, HasMade, Reserves, Awaits, Service, service, Handler, State, new_handler}
+use Rattle.sc_request.specs.Handlers.{Posted, posted, Answer, Replied, SupplierFailed, Refused, HandlerStage, Idle, Runs, HasMade, Reserves, Awaits, Service, service, Handler, State, new_handler}
 use Rattle.sc_request.specs.Logs.{Center}
 
 -- ---- a handler
@@ -25,7 +25,7 @@ abbrev pub answers_of : Option coded_answer.Answer → Option Answer
 answers_of a = option_map answer_of a
 
 -- the stage, of a handler with this entry and this mark
-abbrev pub stage_of : List ℕ → List Marked → coded_stage.Stage → Stage
+abbrev pub stage_of : List ℕ → List Marked → coded_stage.HandlerStage → HandlerStage
 stage_of entry mark stage.Idle = Idle
 stage_of entry mark stage.Runs = Runs
 stage_of entry mark (stage.HasMade k) = HasMade k
@@ -66,7 +66,7 @@ abbrev pub handler_with : ℕ → coded.Handler → Handler
 handler_with n x = record (handler_of x) { sessions = n }
 
 -- the first one was taken over this stage
-abbrev pub over_first : coded_stage.Stage → List Posting → List Posting
+abbrev pub over_first : coded_stage.HandlerStage → List Posting → List Posting
 over_first over [] = []
 over_first over (p ∷ ps) = record p { over = over } ∷ ps
 

@@ -3,11 +3,11 @@ use Rattle.std.specs.Prelude.{ℕ, Bool, false, not, List, [], ◌∷◌, Option
 use Rattle.sc_lockpass.specs.Rights.{Rights}
 use Rattle.sc_waitcond.specs.Reservations.{mark_allows}
 use Rattle.sc_region.specs.declared.job.Request.{Request}
-use Rattle.sc_request.specs.Handlers.{Posted, Stage, Idle, Runs, HasMade, Reserves, Awaits}
+use Rattle.sc_request.specs.Handlers.{Posted, HandlerStage, Idle, Runs, HasMade, Reserves, Awaits}
 use Rattle.sc_request.specs.Picking.{needs}
 
 -- of the handlers that its next step reserves, those that it doesn't hold
-abbrev pub needed_at : ℕ → Rights → Stage → List ℕ
+abbrev pub needed_at : ℕ → Rights → HandlerStage → List ℕ
 needed_at h r Idle = []
 needed_at h r Runs = []
 needed_at h r (HasMade k) = []
@@ -15,7 +15,7 @@ needed_at h r (Reserves ks mark) = needs h ks r
 needed_at h r (Awaits k is_creation) = []
 
 -- its next step is a reserve step that was put off by a false wait condition, and no session of a handler has ended since that might have made it true
-abbrev pub is_put_off : (ℕ → ℕ) → Stage → Bool
+abbrev pub is_put_off : (ℕ → ℕ) → HandlerStage → Bool
 is_put_off sessions Idle = false
 is_put_off sessions Runs = false
 is_put_off sessions (HasMade k) = false

@@ -9,7 +9,7 @@ ghost use Rattle.sc_request.specs.Sound.{IsSound};
 ghost use Rattle.sc_request.specs.Shapes.{of_shape, shape_of};
 
 use crate::copy::copy_handlers;
-use crate::handler::Stage;
+use crate::handler::HandlerStage;
 use crate::sessions::reserve_each;
 use crate::state::State;
 use arrayvec::ArrayVec;
@@ -56,7 +56,7 @@ impl State {
             Shape::Take => self.take_at(handler as usize),
             Shape::Reply => self.take_answer_at(handler as usize),
             Shape::Granted(handlers) => {
-                self.stand(handler as usize, Stage::Runs);
+                self.stand(handler as usize, HandlerStage::Runs);
                 reserve_each(&mut self.rights, handler, handlers.as_slice());
             }
             Shape::Made => self.go_on_with_made(handler),
@@ -77,7 +77,7 @@ impl State {
                 self.take_answer_at(handler as usize);
                 self.end_sessions(&[supplier]);
             }
-            None => self.stand(handler as usize, Stage::Runs),
+            None => self.stand(handler as usize, HandlerStage::Runs),
         }
     }
 
@@ -87,11 +87,14 @@ impl State {
         ensures { result ≡ awaited ((plain self.now).handlers handler).stage }
     {
         match self.handlers[handler].stage {
-            Stage::Awaits {
+            HandlerStage::Awaits {
                 supplier,
                 is_creation: _,
             } => Some(supplier),
-            Stage::Idle | Stage::Runs | Stage::HasMade(_) | Stage::Reserves => None,
+            HandlerStage::Idle
+            | HandlerStage::Runs
+            | HandlerStage::HasMade(_)
+            | HandlerStage::Reserves => None,
         }
     }
 }

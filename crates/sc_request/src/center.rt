@@ -7,7 +7,7 @@ ghost use Rattle.sc_request.specs.Places.{plain};
 ghost use Rattle.sc_request.specs.Sound.{IsSound};
 ghost use Rattle.sc_request.specs.Tables.{out_total, asked, center, fresh, handler_at};
 
-use crate::handler::{Handler, Posting, Stage};
+use crate::handler::{Handler, HandlerStage, Posting};
 use crate::handler_set::HandlerSet;
 use crate::logged::Log;
 use crate::state::State;
@@ -116,11 +116,11 @@ impl Core {
             return None;
         }
         match place.stage {
-            Stage::Idle => place.job_idle(),
-            Stage::Runs => Some(Job::Go),
-            Stage::HasMade(made) => Some(Job::Made(made)),
-            Stage::Reserves => self.state.job_for_entry(handler, place),
-            Stage::Awaits {
+            HandlerStage::Idle => place.job_idle(),
+            HandlerStage::Runs => Some(Job::Go),
+            HandlerStage::HasMade(made) => Some(Job::Made(made)),
+            HandlerStage::Reserves => self.state.job_for_entry(handler, place),
+            HandlerStage::Awaits {
                 supplier,
                 is_creation,
             } => place.job_awaiting(supplier, is_creation),
@@ -142,7 +142,7 @@ impl Core {
             return Some(Status::Busy);
         }
         match place.stage {
-            Stage::Idle => Some(Status::Free),
+            HandlerStage::Idle => Some(Status::Free),
             _ => Some(Status::Waiting),
         }
     }

@@ -7,7 +7,7 @@ ghost use Rattle.sc_request.specs.Sessions.{placed, answered, fallen};
 ghost use Rattle.sc_request.specs.Settling.{takes, takes_answer};
 ghost use Rattle.sc_request.specs.Tables.{answer_of, cleared, handler_with, posting_of, sent, served, service_of};
 
-use crate::handler::{Answer, Handler, Posting, Stage};
+use crate::handler::{Answer, Handler, HandlerStage, Posting};
 use crate::postings::{append, stand_over, take_all, take_first, write_first};
 use sc_lockpass::Passed;
 use sc_model::Cause;
@@ -31,11 +31,11 @@ impl Handler {
         ensures out { self.new.out ≡ self.old.out }
     {
         match self.stage {
-            Stage::Idle => {
+            HandlerStage::Idle => {
                 let first = take_first(&mut self.queue);
                 self.serve(first);
             }
-            Stage::Awaits {
+            HandlerStage::Awaits {
                 supplier: _,
                 is_creation: _,
             } => {
@@ -43,7 +43,7 @@ impl Handler {
                 self.callback.clear();
                 self.serve(first);
             }
-            Stage::Runs | Stage::HasMade(_) | Stage::Reserves => {}
+            HandlerStage::Runs | HandlerStage::HasMade(_) | HandlerStage::Reserves => {}
         }
     }
 
@@ -59,7 +59,7 @@ impl Handler {
         stand_over(&mut first, self.stage);
         append(&mut first, &mut self.services);
         self.services = first;
-        self.stage = Stage::Runs;
+        self.stage = HandlerStage::Runs;
     }
 
     /// Takes an answer, and goes on.
@@ -67,7 +67,7 @@ impl Handler {
         ensures handler { (n : ℕ) → handler_with n self.new ≡ takes_answer (handler_with n self.old) }
         ensures out { self.new.out ≡ self.old.out }
     {
-        self.stage = Stage::Runs;
+        self.stage = HandlerStage::Runs;
         self.answer = None;
     }
 
@@ -159,7 +159,7 @@ impl Handler {
     fn clear(&mut self)
         ensures { self.new ≡ cleared self.old }
     {
-        self.stage = Stage::Idle;
+        self.stage = HandlerStage::Idle;
         self.entry.clear();
         self.mark = Mark::new();
         self.services.clear();

@@ -6,13 +6,13 @@ ghost use Rattle.sc_request.specs.Shapes.{of_shape};
 ghost use Rattle.sc_request.specs.Tables.{stage_of};
 
 use crate::begun::Shape;
-use crate::handler::Stage;
+use crate::handler::HandlerStage;
 use crate::state::State;
 use sc_model::Cause;
 use sc_region::{Errand, Request, Want};
 
 /// Whether the last of so many turns under the job may ask this, where the handler stood so before them.
-pub(crate) fn fits_turns(turns: u32, stage: Stage, shape: &Shape, want: &Want) -> bool
+pub(crate) fn fits_turns(turns: u32, stage: HandlerStage, shape: &Shape, want: &Want) -> bool
     ensures { (entry : List ℕ) (mark : List Marked) → result ≡ fits_turns turns (stage_of entry mark stage) (of_shape shape.now) want.now }
 {
     match turns {
@@ -23,7 +23,7 @@ pub(crate) fn fits_turns(turns: u32, stage: Stage, shape: &Shape, want: &Want) -
 }
 
 /// Whether the first turn under the job may ask this, where the handler stood so.
-fn fits_first(stage: Stage, shape: &Shape, want: &Want) -> bool
+fn fits_first(stage: HandlerStage, shape: &Shape, want: &Want) -> bool
     ensures { (entry : List ℕ) (mark : List Marked) → result ≡ fits_first (stage_of entry mark stage) (of_shape shape.now) want.now }
 {
     match shape {
@@ -32,7 +32,7 @@ fn fits_first(stage: Stage, shape: &Shape, want: &Want) -> bool
         Shape::Failed => fails_by_supplier(want),
         Shape::Refused => fails_by_precondition(want),
         Shape::Made => match stage {
-            Stage::Awaits {
+            HandlerStage::Awaits {
                 supplier: _,
                 is_creation: _,
             } => may_take_answer(want),

@@ -29,7 +29,7 @@ pub(crate) enum Answer {
 
 /// What the next turn of a handler stands on.
 #[derive(Clone, Copy, PartialEq, Eq)]
-pub(crate) enum Stage {
+pub(crate) enum HandlerStage {
     /// It has no frames.
     Idle,
     /// Its next step is always enabled.
@@ -49,7 +49,7 @@ pub(crate) struct Posting {
     /// The rights that went with it.
     pub(crate) passed: Option<Passed>,
     /// How the handler stood when it was taken.
-    pub(crate) over: Stage,
+    pub(crate) over: HandlerStage,
 }
 
 impl Posting {
@@ -68,7 +68,7 @@ impl Posting {
                 is_waited: false,
             },
             passed: None,
-            over: Stage::Idle,
+            over: HandlerStage::Idle,
         }
     }
 }
@@ -76,7 +76,7 @@ impl Posting {
 /// What the core keeps of a handler, but for the count of its sessions.
 #[derive(Drop)]
 pub(crate) struct Handler {
-    pub(crate) stage: Stage,
+    pub(crate) stage: HandlerStage,
     /// The handlers that its last reserve step was for.
     pub(crate) entry: ArrayVec<u16, 16>,
     /// The mark of that, if it waits.
@@ -101,7 +101,7 @@ impl Handler {
         ensures { result ≡ fresh }
     {
         Handler {
-            stage: Stage::Idle,
+            stage: HandlerStage::Idle,
             entry: ArrayVec::new(),
             mark: Mark::new(),
             services: LinkedList::new(alloc),
@@ -122,7 +122,7 @@ impl Handler {
         handler.queue.push_back(Posting {
             request,
             passed: None,
-            over: Stage::Idle,
+            over: HandlerStage::Idle,
         })?;
         Ok(handler)
     }
@@ -138,7 +138,7 @@ impl Handler {
     pub(crate) fn is_idle(&self) -> bool
         ensures { result ≡ (is_idle (standing_of (handler_of self.now)) && not (has_requests (map posting_of self.now.queue))) }
     {
-        self.stage == Stage::Idle && self.failure.is_none() && self.queue.is_empty()
+        self.stage == HandlerStage::Idle && self.failure.is_none() && self.queue.is_empty()
     }
 
     /// Whether its callback or an answer has come.
@@ -176,11 +176,11 @@ impl Handler {
         ensures { (n h : ℕ) (s : State) → is_reserving (handler_with n self.old).stage ≡ false → self.new ≡ record self.old { out = job_at h (handler_with n self.old).stage (handler_with n self.old) s } }
     {
         match self.stage {
-            Stage::Idle => self.set_idle(),
-            Stage::Runs => self.out.set_go(),
-            Stage::HasMade(made) => self.out.set_made(made),
-            Stage::Reserves => {}
-            Stage::Awaits {
+            HandlerStage::Idle => self.set_idle(),
+            HandlerStage::Runs => self.out.set_go(),
+            HandlerStage::HasMade(made) => self.out.set_made(made),
+            HandlerStage::Reserves => {}
+            HandlerStage::Awaits {
                 supplier,
                 is_creation,
             } => self.set_awaiting(supplier, is_creation),

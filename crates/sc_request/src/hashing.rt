@@ -1,7 +1,7 @@
 //! Numbers by which states of cores are told apart at a glance.
 
 use crate::center::Core;
-use crate::handler::{Answer, Handler, Posting, Stage};
+use crate::handler::{Answer, Handler, HandlerStage, Posting};
 use sc_region::{Errand, Reference, Request, Value};
 use std::hash::{FoldHasher, Hasher};
 
@@ -67,13 +67,13 @@ fn word_of(handler: Option<u16>) -> u64 {
     }
 }
 
-fn stage_word(stage: Stage) -> u64 {
+fn stage_word(stage: HandlerStage) -> u64 {
     match stage {
-        Stage::Idle => 0,
-        Stage::Runs => 1,
-        Stage::HasMade(made) => 2 | (made as u64) << 8,
-        Stage::Reserves => 3,
-        Stage::Awaits {
+        HandlerStage::Idle => 0,
+        HandlerStage::Runs => 1,
+        HandlerStage::HasMade(made) => 2 | (made as u64) << 8,
+        HandlerStage::Reserves => 3,
+        HandlerStage::Awaits {
             supplier,
             is_creation,
         } => 4 | is_creation as u64 | (supplier as u64) << 8,

@@ -10,7 +10,7 @@ ghost use Rattle.sc_request.specs.Logs.{first_with_job, next, numbers_from, pick
 ghost use Rattle.sc_request.specs.Picking.{job_at, job_for_entry, needs};
 ghost use Rattle.sc_request.specs.Places.{center_at, plain};
 
-use crate::handler::{Handler, Stage};
+use crate::handler::{Handler, HandlerStage};
 use crate::handler_set::HandlerSet;
 use crate::state::State;
 use arrayvec::ArrayVec;
@@ -30,10 +30,10 @@ impl State {
             return false;
         }
         match place.stage {
-            Stage::Idle => place.is_asked(),
-            Stage::Runs | Stage::HasMade(_) => true,
-            Stage::Reserves => self.is_enabled(handler, place),
-            Stage::Awaits {
+            HandlerStage::Idle => place.is_asked(),
+            HandlerStage::Runs | HandlerStage::HasMade(_) => true,
+            HandlerStage::Reserves => self.is_enabled(handler, place),
+            HandlerStage::Awaits {
                 supplier: _,
                 is_creation: _,
             } => place.is_called(),

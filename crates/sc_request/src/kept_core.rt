@@ -7,7 +7,7 @@ ghost use Rattle.sc_request.specs.Keeping.{AreNewFrom, holders_in, rights_in};
 ghost use Rattle.sc_request.specs.Tables.{handler_at, handler_in, handler_of};
 
 use crate::center::Core;
-use crate::handler::{Handler, Stage};
+use crate::handler::{Handler, HandlerStage};
 use crate::same::same_handler;
 use sc_lockpass::Rights;
 use std::alloc::{AllocError, Global};
@@ -132,7 +132,7 @@ fn is_new_at(handlers: &[Handler], sessions: &[u64], place: usize) -> bool
 fn is_fresh(handler: &Handler) -> bool
     ensures { IsTrue result ↔ handler_of handler.now ≡ new_handler }
 {
-    handler.stage == Stage::Idle
+    handler.stage == HandlerStage::Idle
         && handler.entry.is_empty()
         && handler.services.is_empty()
         && handler.queue.is_empty()

@@ -7,7 +7,7 @@ ghost use Rattle.sc_request.specs.Settling.{creates, creates_with, creation};
 ghost use Rattle.sc_request.specs.Sound.{IsSound};
 
 use crate::copy::copy_values;
-use crate::handler::{Posting, Stage};
+use crate::handler::{HandlerStage, Posting};
 use crate::sessions::give_new;
 use crate::state::State;
 use arrayvec::ArrayVec;
@@ -79,7 +79,7 @@ impl State {
         ensures outs { outs_of self.new ≡ outs_of self.old }
         ensures version { self.new.rights.version ≡ self.old.rights.version }
     {
-        let stage = Stage::Awaits {
+        let stage = HandlerStage::Awaits {
             supplier: made,
             is_creation: true,
         };
@@ -106,7 +106,7 @@ impl State {
         ensures outs { outs_of self.new ≡ outs_of self.old }
         ensures version { self.new.rights.version ≡ self.old.rights.version }
     {
-        self.stand(handler as usize, Stage::HasMade(made));
+        self.stand(handler as usize, HandlerStage::HasMade(made));
         self.send(false, made, &request, request.is_waited, &mut None, spare);
         self.end_sessions(&[made]);
     }

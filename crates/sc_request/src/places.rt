@@ -9,7 +9,7 @@ ghost use Rattle.sc_request.specs.Tables.{answer_of, posting_of, sent, stage_of}
 
 use crate::changes::Dropped;
 use crate::copy::copy_handlers;
-use crate::handler::{Answer, Posting, Stage};
+use crate::handler::{Answer, HandlerStage, Posting};
 use crate::state::State;
 use arrayvec::ArrayVec;
 use sc_lockpass::Passed;
@@ -43,7 +43,7 @@ impl State {
     }
 
     /// The handler stands so from now on.
-    pub(crate) fn stand(&mut self, handler: usize, stage: Stage)
+    pub(crate) fn stand(&mut self, handler: usize, stage: HandlerStage)
         requires there { handler < 512 }
         requires kind { reserves_at stage ≡ false }
         ensures plain { plain self.new ≡ with_stage handler (stage_of [] [] stage) (plain self.old) }
@@ -63,7 +63,7 @@ impl State {
         ensures sessions { self.new.sessions ≡ self.old.sessions }
     {
         let place = &mut self.handlers[handler as usize];
-        place.stage = Stage::Reserves;
+        place.stage = HandlerStage::Reserves;
         place.entry = copy_handlers(entry);
         place.mark = Mark::new();
     }
@@ -77,7 +77,7 @@ impl State {
         ensures sessions { self.new.sessions ≡ self.old.sessions }
     {
         let place = &mut self.handlers[handler];
-        place.stage = Stage::Reserves;
+        place.stage = HandlerStage::Reserves;
         place.mark = mark;
     }
 

@@ -3,7 +3,7 @@ ghost use Rattle.std.specs.Prelude.{◌≡◌, ◌<◌, ◌≤◌, ◌+◌, ◌^
 ghost use Rattle.sc_request.specs.Tables.{over_first, sent};
 
 use crate::copy::write_request;
-use crate::handler::{Posting, Stage};
+use crate::handler::{HandlerStage, Posting};
 use sc_lockpass::Passed;
 use sc_region::Request;
 use std::alloc::Global;
@@ -45,7 +45,7 @@ pub(crate) fn write_first(
     if let Some(first) = list.front_mut() {
         write_request(&mut first.request, request, is_waited);
         hand_over(&mut first.passed, passed);
-        first.over = Stage::Idle;
+        first.over = HandlerStage::Idle;
     }
 }
 
@@ -66,7 +66,7 @@ fn move_over(place: &mut Option<Passed>, passed: &mut Option<Passed>)
 }
 
 /// Writes over which stage the first request of a list was taken.
-pub(crate) fn stand_over(list: &mut LinkedList<Posting>, over: Stage)
+pub(crate) fn stand_over(list: &mut LinkedList<Posting>, over: HandlerStage)
     ensures { list.new ≡ over_first over list.old }
 {
     if let Some(first) = list.front_mut() {

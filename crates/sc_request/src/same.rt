@@ -9,7 +9,7 @@ ghost use Rattle.sc_request.specs.Tables.{first_posted, handler_of, posting_of, 
 
 use crate::agreement::same_errand;
 use crate::center::Core;
-use crate::handler::{Handler, Posting, Stage};
+use crate::handler::{Handler, HandlerStage, Posting};
 use crate::state::State;
 use arrayvec::ArrayVec;
 use sc_lockpass::Passed;
@@ -75,7 +75,7 @@ fn same_stage(a: &Handler, b: &Handler) -> bool
     ensures { IsTrue result ↔ stage_of a.now.entry.items a.now.mark a.now.stage ≡ stage_of b.now.entry.items b.now.mark b.now.stage }
 {
     match (a.stage, b.stage) {
-        (Stage::Reserves, Stage::Reserves) => {
+        (HandlerStage::Reserves, HandlerStage::Reserves) => {
             same_handlers(&a.entry, &b.entry) && a.mark.is_same(&b.mark)
         }
         (stage, its_stage) => stage == its_stage,

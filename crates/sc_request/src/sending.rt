@@ -12,7 +12,7 @@ ghost use Rattle.sc_request.specs.Settling.{asks, awaits_if, sends};
 ghost use Rattle.sc_request.specs.Sound.{IsSound};
 
 use crate::failing::holds;
-use crate::handler::{Posting, Stage};
+use crate::handler::{HandlerStage, Posting};
 use crate::postings::take_first;
 use crate::state::State;
 use sc_lockpass::Passed;
@@ -112,7 +112,7 @@ impl State {
         ensures sessions { self.new.sessions ≡ self.old.sessions }
     {
         if is_waited {
-            let stage = Stage::Awaits {
+            let stage = HandlerStage::Awaits {
                 supplier,
                 is_creation: false,
             };

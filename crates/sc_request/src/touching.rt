@@ -6,7 +6,7 @@ ghost use Rattle.sc_request.specs.Candidates.{frees, frees_by, frees_under, is_r
 ghost use Rattle.sc_request.specs.Places.{plain};
 ghost use Rattle.sc_request.specs.Tables.{posting_of};
 
-use crate::handler::{Posting, Stage};
+use crate::handler::{HandlerStage, Posting};
 use crate::handler_set::HandlerSet;
 use crate::state::State;
 use sc_region::{Job, Want};
@@ -79,11 +79,11 @@ impl State {
         ensures { result ≡ is_reserving ((plain self.now).handlers handler).stage }
     {
         match self.handlers[handler].stage {
-            Stage::Reserves => true,
-            Stage::Idle
-            | Stage::Runs
-            | Stage::HasMade(_)
-            | Stage::Awaits {
+            HandlerStage::Reserves => true,
+            HandlerStage::Idle
+            | HandlerStage::Runs
+            | HandlerStage::HasMade(_)
+            | HandlerStage::Awaits {
                 supplier: _,
                 is_creation: _,
             } => false,

@@ -7,7 +7,7 @@ ghost use Rattle.sc_request.specs.Waiting as waiting;
 ghost use Rattle.sc_request.specs.Waiting.{is_put_off, needed_at};
 
 use crate::center::Core;
-use crate::handler::{Handler, Stage};
+use crate::handler::{Handler, HandlerStage};
 use arrayvec::ArrayVec;
 use sc_region::Request;
 
@@ -28,7 +28,7 @@ impl Core {
     {
         match self.state.handlers.get(handler as usize) {
             Some(place) => match place.stage {
-                Stage::Reserves => self.state.needed(handler, place),
+                HandlerStage::Reserves => self.state.needed(handler, place),
                 _ => ArrayVec::new(),
             },
             None => ArrayVec::new(),
@@ -42,7 +42,7 @@ impl Core {
     {
         match self.state.handlers.get(handler as usize) {
             Some(place) => match place.stage {
-                Stage::Reserves => !place.mark.allows(self.state.sessions.as_slice()),
+                HandlerStage::Reserves => !place.mark.allows(self.state.sessions.as_slice()),
                 _ => false,
             },
             None => false,
@@ -54,7 +54,7 @@ impl Core {
         ensures { result ≡ awaited ((state_of self.now).handlers handler).stage }
     {
         match self.state.handlers.get(handler as usize)?.stage {
-            Stage::Awaits {
+            HandlerStage::Awaits {
                 supplier,
                 is_creation: _,
             } => Some(supplier),

@@ -10,7 +10,7 @@ use Rattle.sc_region.specs.declared.job.Outcome.{Outcome}
 use Rattle.sc_region.specs.Frames.{PlainFrame, is_current}
 use Rattle.sc_code.specs.declared.program.Image.{Image}
 use Rattle.sc_region.specs.Stores.{PlainStore, is_settled, new_store}
-use Rattle.sc_request.specs.Handlers.{Stage, Idle, Runs, HasMade, Reserves, Awaits, Service, Handler, Posted, State, has_frames, new_handler, posted}
+use Rattle.sc_request.specs.Handlers.{HandlerStage, Idle, Runs, HasMade, Reserves, Awaits, Service, Handler, Posted, State, has_frames, new_handler, posted}
 use Rattle.sc_request.specs.Logs.{Center, opening, pick_for, picked, put_back, put_back_with, root_of, settles, status_in}
 use Rattle.sc_request.specs.Picking.{job_of, status_idle, status_with}
 use Rattle.sc_request.specs.Settling.{settled}
@@ -121,19 +121,19 @@ status_there : (b : Bool) (s t : Status) → (if b then Some s else None) ≡ So
 status_there true s t e = (refl, some_same s t e)
 status_there false s t e = none_some t e
 
-is_idle : (stage : Stage) → status_idle stage ≡ status.Free → has_frames stage ≡ false
+is_idle : (stage : HandlerStage) → status_idle stage ≡ status.Free → has_frames stage ≡ false
 is_idle Idle e = refl
 is_idle Runs e = cc
 is_idle (HasMade k) e = cc
 is_idle (Reserves ks mark) e = cc
 is_idle (Awaits k c) e = cc
 
-is_free : (o : Option Cause) (b : Bool) (stage : Stage) → status_with o b stage ≡ status.Free → (o ≡ None) × (has_frames stage ≡ false)
+is_free : (o : Option Cause) (b : Bool) (stage : HandlerStage) → status_with o b stage ≡ status.Free → (o ≡ None) × (has_frames stage ≡ false)
 is_free (Some why) b stage e = cc
 is_free None true stage e = cc
 is_free None false stage e = (refl, is_idle stage e)
 
-serves_none : (stage : Stage) (vs : List Service) → has_frames stage ≡ false → HasFrames stage vs → vs ≡ []
+serves_none : (stage : HandlerStage) (vs : List Service) → has_frames stage ≡ false → HasFrames stage vs → vs ≡ []
 serves_none stage [] e f = refl
 serves_none stage (v ∷ vs) e f = let has = f.0 in cc
 

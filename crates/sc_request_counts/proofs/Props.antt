@@ -4,7 +4,7 @@ use Rattle.std.specs.Coded.{Unit-prop, le_prop, Π_prop, →_prop, ×_prop}
 use Rattle.std.proofs.Props.{props}
 use Rattle.sc_region.specs.Frames.{PlainFrame}
 use Rattle.sc_region.specs.Stores.{PlainStore}
-use Rattle.sc_request.specs.Handlers.{Handler, Service, Stage}
+use Rattle.sc_request.specs.Handlers.{Handler, Service, HandlerStage}
 use Rattle.sc_request.specs.Logs.{Center}
 use Rattle.sc_play.specs.Regions.{PlainRegion}
 use Rattle.sc_request_counts.specs.Free.{AreLinked}
@@ -18,7 +18,7 @@ serve_prop (f ∷ below) n = ×_prop le_prop (serve_prop below (n - served f.act
 serves_prop : (n : ℕ) (x : PlainStore) → IsProp (Serves n x)
 serves_prop n x = hlevel (props, serve_prop x.frames n)
 
-frames_prop : (stage : Stage) (vs : List Service) → IsProp (HasFrames stage vs)
+frames_prop : (stage : HandlerStage) (vs : List Service) → IsProp (HasFrames stage vs)
 frames_prop stage [] = Unit-prop
 frames_prop stage (v ∷ vs) = hlevel (props, frames_prop v.over vs)
 

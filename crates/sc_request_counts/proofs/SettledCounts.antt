@@ -18,7 +18,7 @@ use Rattle.sc_region.specs.declared.job.Job.TheVariants as job
 use Rattle.sc_region.specs.declared.job.Request.{Request}
 use Rattle.sc_region.specs.declared.job.Want.{Want}
 use Rattle.sc_region.specs.declared.job.Want.TheVariants as want
-use Rattle.sc_request.specs.Handlers.{Posted, posted, Answer, Replied, SupplierFailed, Refused, Stage, Idle, Runs, HasMade, Reserves, Awaits, Service, Handler, State, has_frames, new_handler, put, with_stage}
+use Rattle.sc_request.specs.Handlers.{Posted, posted, Answer, Replied, SupplierFailed, Refused, HandlerStage, Idle, Runs, HasMade, Reserves, Awaits, Service, Handler, State, has_frames, new_handler, put, with_stage}
 use Rattle.sc_request.specs.Logs.{Center, pick_for, picked}
 use Rattle.sc_request.specs.Picking.{job_answered, job_at, job_awaiting, job_idle, job_of, job_reserving, job_with}
 use Rattle.sc_request.specs.Sessions.{answer_to, answered, fail, fallen, finish, is_callback, is_waited_by, passed_if, passes, placed, release, requests_at, reserve, return_rights, send, session_ended, told, with_handler}
@@ -42,7 +42,7 @@ keeps_then x y z p q e =
     (first.0, later.1 ∙ first.1, λ f. later.2 (first.2 f))
 
 -- what serves requests has frames at this stage, too
-staged : (x : Handler) (stage : Stage) → has_frames stage ≡ true → KeepsServices x (record x { stage = stage })
+staged : (x : Handler) (stage : HandlerStage) → has_frames stage ≡ true → KeepsServices x (record x { stage = stage })
 staged x stage has e = (e, refl, by x.services)
   where
     by : (vs : List Service) → HasFrames x.stage vs → HasFrames stage vs
@@ -116,7 +116,7 @@ put_alike h x s p = record { count = refl; handlers = λ k. by k (cases_eq k h) 
 release_alike : (how : Release) (ks : List ℕ) (s : State) → Alike s (release how ks s)
 release_alike how ks s = record { count = refl; handlers = λ k. ended_keeps (ends_session how && is_among k ks) (s.handlers k) }
 
-stage_alike : (h : ℕ) (stage : Stage) (s : State) → has_frames stage ≡ true → Alike s (with_stage h stage s)
+stage_alike : (h : ℕ) (stage : HandlerStage) (s : State) → has_frames stage ≡ true → Alike s (with_stage h stage s)
 stage_alike h stage s has = put_alike h (record (s.handlers h) { stage = stage }) s (staged (s.handlers h) stage has)
 
 passes_alike : (b : Bool) (h k : ℕ) (s : State) → Alike s (passes b h k s)
@@ -161,7 +161,7 @@ if_keep false s t u p q = q
 
 -- ---- the job begins
 
-made_alike : (h : ℕ) (stage : Stage) (s : State) → Alike s (made_at h stage s)
+made_alike : (h : ℕ) (stage : HandlerStage) (s : State) → Alike s (made_at h stage s)
 made_alike h (Awaits k c) s =
     let t : State = put h (takes_answer (s.handlers h)) s in
     alike_then s t (release release_at.Creation (k ∷ []) t)
@@ -392,7 +392,7 @@ done_if_passes false false most h n w s = passes_fail h n (left_after w n) cause
 
 -- ---- a request is taken
 
-serves_one : (n : ℕ) (x : Handler) (stage : Stage) (p : Posted) (y : Handler) → x.stage ≡ stage → KeepsServices x y → y.stage ≡ x.stage → y.services ≡ x.services →
+serves_one : (n : ℕ) (x : Handler) (stage : HandlerStage) (p : Posted) (y : Handler) → x.stage ≡ stage → KeepsServices x y → y.stage ≡ x.stage → y.services ≡ x.services →
     Counts n x → Counts (n + 1) (serves p y)
 serves_one n x stage p y is kept same services c e =
     let had = counts_kept n x y kept c e in
@@ -430,7 +430,7 @@ callback_counts n k b r (Some p) a x is c = serves_one n x x.stage p (record x {
 callback_counts n k b r None (Some a) x is c = no_answer k b a r is
 callback_counts n k b r None None x is c = no_none r is
 
-takes_counts : (n h : ℕ) (r : Request) (stage : Stage) (x : Handler) (s : State) → job_at h stage x s ≡ Some (job.Take r) → Counts n x →
+takes_counts : (n h : ℕ) (r : Request) (stage : HandlerStage) (x : Handler) (s : State) → job_at h stage x s ≡ Some (job.Take r) → Counts n x →
     Counts (n + 1) (takes stage x)
 takes_counts n h r Idle x s is c = next_counts n r x.queue x is c
 takes_counts n h r Runs x s is c = no_go r is

@@ -4,8 +4,8 @@ use Rattle.std.specs.Prelude.{◌&&◌, ◌==◌, if◌then◌else◌}
 use Rattle.sc_model.specs.declared.cause.Cause.{Cause}
 use Rattle.sc_model.specs.declared.cause.Cause.TheVariants as cause
 use Rattle.sc_code.specs.declared.program.AttributeCode.{AttributeCode}
-use Rattle.sc_code.specs.declared.program.Version.{Version}
-use Rattle.sc_code.specs.declared.program.Version.TheVariants as version
+use Rattle.sc_code.specs.declared.program.FeatureCode.{FeatureCode}
+use Rattle.sc_code.specs.declared.program.FeatureCode.TheVariants as version
 use Rattle.sc_region.specs.declared.frame.Origin.TheVariants as origin
 use Rattle.sc_region.specs.declared.frame.Stage.{Stage}
 use Rattle.sc_region.specs.declared.frame.Stage.TheVariants as stage
@@ -96,7 +96,7 @@ answered_serves n None v x s = failed_serves n cause.BadCode x
 one_less : (n : ℕ) → (n + 1) - 1 ≡ n
 one_less n = omega arith
 
-version_serves : (n : ℕ) (r : Request) (v : Option Version) (x : PlainStore) → Serving n x →
+version_serves : (n : ℕ) (r : Request) (v : Option FeatureCode) (x : PlainStore) → Serving n x →
     Serving (left_after (asks_version r v x (taken_version r v x)) (n + 1)) (taken_version r v x)
 version_serves n r (Some (version.Routine k)) x s =
     let y : PlainStore = entered r.target k origin.Requested r.actuals.items x in
@@ -109,12 +109,12 @@ version_serves n r (Some (version.Attribute k)) x s =
     so_many n ((n + 1) - 1) (answered a v x) (sym (one_less n)) (answered_serves n a v x s)
 version_serves n r None x s = failed_serves (n + 1) cause.BadCode x
 
-taken_on_serves : (n : ℕ) (r : Request) (o : Option PlainObject) (v : Option Version) (x : PlainStore) → Serving n x →
+taken_on_serves : (n : ℕ) (r : Request) (o : Option PlainObject) (v : Option FeatureCode) (x : PlainStore) → Serving n x →
     Serving (left_after (asks_on r o v x (taken_on r o v x)) (n + 1)) (taken_on r o v x)
 taken_on_serves n r (Some o) v x s = version_serves n r v x s
 taken_on_serves n r None v x s = failed_serves (n + 1) cause.BadCode x
 
-call_serves : (b : Bool) (n : ℕ) (r : Request) (o : Option PlainObject) (v : Option Version) (x : PlainStore) → Serving n x →
+call_serves : (b : Bool) (n : ℕ) (r : Request) (o : Option PlainObject) (v : Option FeatureCode) (x : PlainStore) → Serving n x →
     Serving (left_after (if b then asks_on r o v x (if b then taken_on r o v x else failed cause.ForeignObject x) else want.Continue) (n + 1))
     (if b then taken_on r o v x else failed cause.ForeignObject x)
 call_serves true n r o v x s = taken_on_serves n r o v x s

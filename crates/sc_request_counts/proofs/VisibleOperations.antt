@@ -278,7 +278,7 @@ pub acted_serves : (n h : ℕ) (a : Act) (x : PlainStore) → Serving n x → Se
 acted_serves n h (act.PrintInteger z) x s = on_top_serves (past 1) n (printed (signed_decimal z) x) (λ a. refl) s
 acted_serves n h (act.PrintBoolean b) x s = on_top_serves (past 1) n (printed (boolean_text b) x) (λ a. refl) s
 acted_serves n h (act.PrintText k) x s = on_top_serves (past 0) n (printed (listed (pool_of x.program.pool).texts k) x) (λ a. refl) s
-acted_serves n h (act.Test back) x s = on_top_serves (round_ended back) n x (λ a. round_same back a) s
+acted_serves n h (act.Until back) x s = on_top_serves (round_ended back) n x (λ a. round_same back a) s
 acted_serves n h (act.Enter c me name k gives) x s =
     let y : PlainStore = acted h (act.Enter c me name k gives) x in
     so_many n (left_after (asks_beginning y.program (top_activation y.frames)) n) y (sym (beginning_left y.program (top_activation y.frames) n))

@@ -4,7 +4,7 @@ use Rattle.sc_region.specs.declared.frame.Origin.{Origin}
 use Rattle.sc_region.specs.declared.frame.Origin.TheVariants as origin
 use Rattle.sc_region.specs.Frames.{PlainFrame}
 use Rattle.sc_region.specs.Stores.{PlainStore}
-use Rattle.sc_request.specs.Handlers.{Stage, Service, Handler, has_frames}
+use Rattle.sc_request.specs.Handlers.{HandlerStage, Service, Handler, has_frames}
 
 -- ---- stores
 
@@ -29,7 +29,7 @@ pub record Serves (n : ℕ) (x : PlainStore) : Type 0 where
 -- ---- handlers
 
 -- Where a handler serves requests it has frames, and so it had as each was taken while it served others.
-abbrev pub HasFrames : Stage → List Service → Type 0
+abbrev pub HasFrames : HandlerStage → List Service → Type 0
 HasFrames stage [] = Unit {0}
 HasFrames stage (v ∷ vs) = (has_frames stage ≡ true) × HasFrames v.over vs
 

@@ -12,7 +12,7 @@ ghost use Rattle.sc_routines.specs.Settings.{setting_in};
 use crate::code::Code;
 use crate::leaves::{push_leaf, push_type};
 use crate::lowered::{Lowered, LoweredActuals};
-use crate::operator_code::{Operands, close_binary, close_unary, open_right};
+use crate::operator_code::{BinaryOperands, close_binary, close_unary, open_right};
 use crate::setting::Setting;
 use crate::sums::sum;
 use crate::unlinked::UnlinkedOperation;
@@ -70,7 +70,7 @@ impl<'t, 's> Setting<'t, 's> {
                 let place = code.len();
                 open_right(code, *operator)?;
                 let right = self.lower_condition(names, left.olds, code, right)?;
-                let operands = Operands { left, place, right };
+                let operands = BinaryOperands { left, place, right };
                 close_binary(names, count, code, *operator, operands)
             }
             Expr::ObjectTest(_, declared, tested, name) => {

@@ -122,7 +122,7 @@ fn forget_names(names: &mut Vec<Entity>, count: usize, operator: BinaryOperator)
 
 /// The operands of a binary operator, in code.
 #[derive(Clone, Copy)]
-pub struct Operands {
+pub struct BinaryOperands {
     /// The first one.
     pub left: Lowered,
     /// Where the code of the second one begins.
@@ -137,7 +137,7 @@ pub fn close_binary(
     count: usize,
     code: &mut Code,
     operator: BinaryOperator,
-    operands: Operands,
+    operands: BinaryOperands,
 ) -> Result<Lowered, AllocError>
     requires { model.is_short operator ≡ true → operands.place < length code.old }
     ensures code { OnOk result ((base right : List plain.Operation) → code.old ≡ base ++ (opened operator ++ right) → operands.place ≡ length base → code.new ≡ base ++ emitted.right_code operator right) }
@@ -146,7 +146,7 @@ pub fn close_binary(
     ensures told { IfOk result (λ l. l ≡ record { value = Some (places.binary_type operator); depth = max operands.left.depth (emitted.operand_depth operator operands.right.depth); olds = operands.right.olds; slots = max operands.left.slots operands.right.slots }) }
 {
     forget_names(names, count, operator);
-    let Operands { left, place, right } = operands;
+    let BinaryOperands { left, place, right } = operands;
     close_right(code, operator, place)?;
     Ok(Lowered {
         value: Some(binary_type(operator)),

@@ -11,7 +11,7 @@ use std::alloc::{AllocError, Global};
 
 /// Turns from the opening on, behind which no handler has anything to do, and the report of what they leave.
 #[derive(Drop)]
-pub(crate) struct Outcome {
+pub(crate) struct FoundEnd {
     turns: Vec<u16>,
     report: Vec<u8>,
 }
@@ -22,7 +22,7 @@ pub(crate) struct Outcome {
 /// Where there is no memory.
 pub(crate) fn push_outcome(
     alloc: Global,
-    outcomes: &mut Vec<Outcome>,
+    outcomes: &mut Vec<FoundEnd>,
     world: &World<'_>,
     turns: &[u16],
 ) -> Result<(), AllocError> {
@@ -34,7 +34,7 @@ pub(crate) fn push_outcome(
         return Ok(());
     }
     let turns = Vec::from_slice(alloc, turns)?;
-    outcomes.push(Outcome { turns, report })?;
+    outcomes.push(FoundEnd { turns, report })?;
     Ok(())
 }
 
@@ -42,7 +42,10 @@ pub(crate) fn push_outcome(
 ///
 /// # Errors
 /// Where there is no memory.
-pub(crate) fn ends_after(subject: Subject<'_>, outcomes: &[Outcome]) -> Result<Vec<End>, AllocError>
+pub(crate) fn ends_after(
+    subject: Subject<'_>,
+    outcomes: &[FoundEnd],
+) -> Result<Vec<End>, AllocError>
     ensures { IfOk result (λ ends. AreEnds subject.entry.program.now.image subject.entry.version ends.items) }
 {
     let mut ends = Vec::new(subject.alloc);

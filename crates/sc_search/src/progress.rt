@@ -5,7 +5,7 @@ ghost use Rattle.sc_world.specs.Views.{world_of};
 ghost use Rattle.sc_world.specs.Worlds.{opened};
 ghost use Rattle.sc_search.specs.Steps.{Keeps};
 
-use crate::ends::{Outcome, push_outcome};
+use crate::ends::{FoundEnd, push_outcome};
 use crate::judging::{Kind, is_met, some_is};
 use crate::length::Edge;
 use crate::replay::Subject;
@@ -32,7 +32,7 @@ pub(crate) enum Stop {
 pub(crate) struct Progress<'p> {
     pub(crate) states: States<'p>,
     pub(crate) edges: Vec<Edge>,
-    pub(crate) outcomes: Vec<Outcome>,
+    pub(crate) outcomes: Vec<FoundEnd>,
     /// How many turns were played anew.
     turns: u64,
 }

@@ -11,7 +11,7 @@ use sc_audit::RecordLine;
 use sc_auditing::{AuditFault, audit};
 use sc_class::Root;
 use sc_code::Program;
-use sc_driver::{Ended, Outcome, load_text, run_program};
+use sc_driver::{Ended, RunReport, load_text, run_program};
 use sc_explain_failure::{Limit, Played, run_note};
 use sc_lockpass::Version;
 use sc_model::Status;
@@ -79,7 +79,7 @@ fn run_loaded<'a, R: Threads + Wait + Sync>(
         Ok(ended) => ended,
         Err(fault) => return Err(fault_of(fault)),
     };
-    let Outcome { report, statuses } = outcome;
+    let RunReport { report, statuses } = outcome;
     let (text, exit) = judge(alloc, program, options, &left, report, statuses.as_slice())?;
     let may_refuse = has_refused(&left);
     let Left { lines, .. } = left;

@@ -6,8 +6,8 @@ use Rattle.sc_lockpass.specs.Rights.{Rights, unreserved, held, reserve, release}
 use Rattle.sc_waitcond.specs.declared.condition.ClauseKind.{ClauseKind}
 use Rattle.sc_waitcond.specs.declared.condition.ClauseKind.TheVariants.{WaitCondition, CorrectnessCondition}
 use Rattle.sc_waitcond.specs.declared.condition.ClauseResult.{ClauseResult}
-use Rattle.sc_waitcond.specs.declared.condition.Verdict.{Verdict}
-use Rattle.sc_waitcond.specs.declared.condition.Verdict.TheVariants.{Start, Wait, Refuse}
+use Rattle.sc_waitcond.specs.declared.condition.EntryVerdict.{EntryVerdict}
+use Rattle.sc_waitcond.specs.declared.condition.EntryVerdict.TheVariants.{Start, Wait, Refuse}
 use Rattle.sc_waitcond.specs.declared.mark.Marked.{Marked}
 use Rattle.sc_waitcond.specs.declared.session.Release.TheVariants.{Exit, FalseWaitCondition}
 use Rattle.sc_waitcond.specs.Entries.{needed}
@@ -19,7 +19,7 @@ clause k b = record { kind = k; holds = b }
 
 -- An entry with one formal and one clause that names it: what the formal's value lies on, and whether the clause is true. How
 -- many handlers it newly reserves, what becomes of it where the clause is false, and what the clause decides.
-abbrev entered : Rights → ℕ → Option ℕ → Bool → ℕ × ClauseKind × Verdict
+abbrev entered : Rights → ℕ → Option ℕ → Bool → ℕ × ClauseKind × EntryVerdict
 entered r h value holds =
     let ks : List ℕ = needed r h (value ∷ []) in
     let kind : ClauseKind = clause_kind ks (value ∷ []) in

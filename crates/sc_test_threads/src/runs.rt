@@ -4,7 +4,7 @@ use sc_audit::Record;
 use sc_auditing::{AuditFault, audit};
 use sc_class::Root;
 use sc_code::Program;
-use sc_driver::{Outcome, load_text, replay};
+use sc_driver::{RunReport, load_text, replay};
 use sc_plant::{Gate, Left, RunFault, run};
 use std::alloc::{AllocError, Global};
 use std::process::Abort;
@@ -120,7 +120,7 @@ fn replayed<R: Abort>(
     let report = text_of(left.report(alloc)?)?;
     let Left { lines, version, .. } = left;
     let record = Record { version, lines };
-    let Outcome { report: told, .. } = replay(alloc, program, &record)?;
+    let RunReport { report: told, .. } = replay(alloc, program, &record)?;
     let told = text_of(told)?;
     assert_eq!(rt; report.as_str(), told.as_str());
     Ok(report)

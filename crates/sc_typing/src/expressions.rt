@@ -10,7 +10,7 @@ ghost use Rattle.sc_typing.specs.Judges.{Judges, Passes, JudgesActuals, judge_ca
 
 use crate::declarations::names::Entity;
 use crate::declarations::types::judge_type;
-use crate::expressions::calls::{CallSite, judge_receiver};
+use crate::expressions::calls::{CallContext, judge_receiver};
 use crate::expressions::operators::test_result;
 use crate::expressions::positions::{operand_context, operand_position, takes_void};
 use crate::expressions::typing::{
@@ -147,7 +147,7 @@ impl<'t, 's> RoutineContext<'t, 's> {
         let receiver = self.receiver(context, names, &call.target)?;
         let meaning = self.meaning_of(names, &call.target, receiver.entity_type, &call.name);
         let found = self.judged_actuals(context, names, &call.actuals)?;
-        let site = CallSite {
+        let site = CallContext {
             context,
             usage,
             target: &call.target,

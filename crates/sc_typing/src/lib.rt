@@ -15,7 +15,7 @@ mod routine_context;
 pub use declarations::assignee::{Assignee, variable_span};
 pub use declarations::names::{Entity, add_formals, add_locals, block_type, blocks};
 pub use declarations::types::{declared_type, is_own, judge_type, result_type};
-pub use expressions::calls::{CallSite, judge_receiver};
+pub use expressions::calls::{CallContext, judge_receiver};
 pub use expressions::operators::is_boolean;
 pub use expressions::positions::{operand_context, operand_position};
 pub use expressions::typing::{

@@ -7,7 +7,7 @@ use Rattle.sc_lockpass.specs.Rights.{Rights, is_among}
 use Rattle.sc_waitcond.specs.declared.condition.ClauseKind.{ClauseKind}
 use Rattle.sc_waitcond.specs.declared.condition.ClauseKind.TheVariants.{WaitCondition, CorrectnessCondition}
 use Rattle.sc_waitcond.specs.declared.condition.ClauseResult.{ClauseResult}
-use Rattle.sc_waitcond.specs.declared.condition.Verdict.TheVariants.{Start}
+use Rattle.sc_waitcond.specs.declared.condition.EntryVerdict.TheVariants.{Start}
 use Rattle.sc_waitcond.specs.Conditions.{lies_on_any, kind_where, verdict, verdict_of_false}
 use Rattle.sc_waitcond.specs.Reservations.{Standing, is_idle, may_be_reserved, is_lost, has_risen, mark_of, reserve_fails}
 use Rattle.sc_waitcond.specs.Laws.{NothingWaitedFor, StartsWhereAllHold, FirstFalseDecides, WaitsAtFirst, IsTriedAgain, ReservesUnreserved, ReservesIdle, EitherReservesOrFails}

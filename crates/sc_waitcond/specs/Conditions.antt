@@ -5,8 +5,8 @@ use Rattle.sc_lockpass.specs.Rights.{is_among}
 use Rattle.sc_waitcond.specs.declared.condition.ClauseKind.{ClauseKind}
 use Rattle.sc_waitcond.specs.declared.condition.ClauseKind.TheVariants.{WaitCondition, CorrectnessCondition}
 use Rattle.sc_waitcond.specs.declared.condition.ClauseResult.{ClauseResult}
-use Rattle.sc_waitcond.specs.declared.condition.Verdict.{Verdict}
-use Rattle.sc_waitcond.specs.declared.condition.Verdict.TheVariants.{Start, Wait, Refuse}
+use Rattle.sc_waitcond.specs.declared.condition.EntryVerdict.{EntryVerdict}
+use Rattle.sc_waitcond.specs.declared.condition.EntryVerdict.TheVariants.{Start, Wait, Refuse}
 
 -- the value lies on one of these handlers
 abbrev pub lies_on_any : List ℕ → Option ℕ → Bool
@@ -23,11 +23,11 @@ abbrev pub clause_kind : List ℕ → List (Option ℕ) → ClauseKind
 clause_kind reserved values = kind_where (list_any (lies_on_any reserved) values)
 
 -- what comes of a false clause
-abbrev pub verdict_of_false : ClauseKind → Verdict
+abbrev pub verdict_of_false : ClauseKind → EntryVerdict
 verdict_of_false WaitCondition = Wait
 verdict_of_false CorrectnessCondition = Refuse
 
 -- The first false clause decides. Where none is, the body starts.
-abbrev pub verdict : List ClauseResult → Verdict
+abbrev pub verdict : List ClauseResult → EntryVerdict
 verdict [] = Start
 verdict (c ∷ cs) = if c.holds then verdict cs else verdict_of_false c.kind

@@ -5,7 +5,7 @@ use Rattle.sc_lockpass.specs.Rights.{Rights, held, is_among, reserve}
 use Rattle.sc_lockpass.specs.Laws.{AreUnreserved}
 use Rattle.sc_waitcond.specs.declared.condition.ClauseKind.TheVariants.{CorrectnessCondition}
 use Rattle.sc_waitcond.specs.declared.condition.ClauseResult.{ClauseResult}
-use Rattle.sc_waitcond.specs.declared.condition.Verdict.TheVariants.{Start}
+use Rattle.sc_waitcond.specs.declared.condition.EntryVerdict.TheVariants.{Start}
 use Rattle.sc_waitcond.specs.declared.mark.Marked.{Marked}
 use Rattle.sc_waitcond.specs.Entries.{needed}
 use Rattle.sc_waitcond.specs.Conditions.{clause_kind, verdict, verdict_of_false}

@@ -20,7 +20,7 @@ pub struct ClauseResult {
 
 /// What the clauses of a precondition decide.
 #[derive(Clone, Copy, Debug, PartialEq, Eq)]
-pub enum Verdict {
+pub enum EntryVerdict {
     /// The body starts.
     Start,
     /// What was newly reserved is released, and the entry waits.

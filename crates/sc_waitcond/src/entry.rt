@@ -6,7 +6,7 @@ ghost use Rattle.sc_lockpass.specs.Tables.{rights_of};
 ghost use Rattle.sc_waitcond.specs.Entries as entries;
 ghost use Rattle.sc_waitcond.specs.Conditions as conditions;
 
-use crate::condition::{ClauseKind, ClauseResult, Verdict};
+use crate::condition::{ClauseKind, ClauseResult, EntryVerdict};
 use arrayvec::ArrayVec;
 use sc_lockpass::Rights;
 
@@ -75,18 +75,18 @@ impl Entry {
 
     /// What the clauses of an entry's precondition decide, in the order of the text: the first false one decides, and
     /// the body starts where none is false. What follows a false one doesn't matter.
-    pub fn verdict(results: &[ClauseResult]) -> Verdict
+    pub fn verdict(results: &[ClauseResult]) -> EntryVerdict
         ensures { result ≡ conditions.verdict results.now }
     {
         for clause in results {
             if !clause.holds {
                 return match clause.kind {
-                    ClauseKind::WaitCondition => Verdict::Wait,
-                    ClauseKind::CorrectnessCondition => Verdict::Refuse,
+                    ClauseKind::WaitCondition => EntryVerdict::Wait,
+                    ClauseKind::CorrectnessCondition => EntryVerdict::Refuse,
                 };
             }
         }
-        Verdict::Start
+        EntryVerdict::Start
     }
 }
 

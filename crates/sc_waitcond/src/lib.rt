@@ -10,7 +10,7 @@ pub mod laws;
 mod mark;
 mod session;
 
-pub use condition::{ClauseKind, ClauseResult, Verdict};
+pub use condition::{ClauseKind, ClauseResult, EntryVerdict};
 pub use entry::Entry;
 pub use mark::{Mark, Marked};
 pub use session::Release;

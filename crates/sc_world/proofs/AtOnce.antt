@@ -15,7 +15,7 @@ use Rattle.sc_region.specs.declared.job.Request.{Request}
 use Rattle.sc_region.specs.declared.job.Want.{Want}
 use Rattle.sc_region.specs.declared.job.Want.TheVariants as want
 use Rattle.sc_region.specs.Stores.{PlainStore}
-use Rattle.sc_request.specs.Handlers.{Answer, Awaits, Handler, HasMade, Idle, Posted, Refused, Replied, Reserves, Runs, Stage, State, SupplierFailed, put, with_stage}
+use Rattle.sc_request.specs.Handlers.{Answer, Awaits, Handler, HasMade, Idle, Posted, Refused, Replied, Reserves, Runs, HandlerStage, State, SupplierFailed, put, with_stage}
 use Rattle.sc_request.specs.Logs.{Center, granted, pick_for, picked, put_back, put_back_with, settles}
 use Rattle.sc_request.specs.Picking.{job_answered, job_at, job_awaiting, job_idle, job_of, job_reserving, job_with}
 use Rattle.sc_request.specs.Sessions.{session_ended}
@@ -61,7 +61,7 @@ settled_out most h j turns w c k e = by (k == h)
     by true = refl
     by false = e
 
-made_count : (h : ℕ) (stage : Stage) (s : State) → (made_at h stage s).count ≡ s.count
+made_count : (h : ℕ) (stage : HandlerStage) (s : State) → (made_at h stage s).count ≡ s.count
 made_count h (Awaits k is_creation) s = refl
 made_count h Idle s = refl
 made_count h Runs s = refl
@@ -100,7 +100,7 @@ set_other (r ∷ rs) (suc h) (suc k) y apart = set_other rs h k y (λ e. apart (
 
 -- ---- where nothing is asked, the handler goes on
 
-continue_fits : (n : ℕ) (stage : Stage) (j : Job) → goes_on j ≡ true → fits_turns (suc n) stage j want.Continue ≡ true
+continue_fits : (n : ℕ) (stage : HandlerStage) (j : Job) → goes_on j ≡ true → fits_turns (suc n) stage j want.Continue ≡ true
 continue_fits (suc n) stage j e = e
 continue_fits zero stage (job.Take r) e = refl
 continue_fits zero stage (job.Reply v) e = refl
@@ -184,7 +184,7 @@ module _ (h : ℕ) (c : State) (x : Handler) where
   callback_goes k b None (Some a) q e = answered_takes k b a q e
   callback_goes k b None None q e = cc
 
-  taking_goes : (stage : Stage) (q : Request) → job_at h stage x c ≡ Some (job.Take q) → ((takes stage x).stage ≡ Runs) × ((takes stage x).failure ≡ x.failure)
+  taking_goes : (stage : HandlerStage) (q : Request) → job_at h stage x c ≡ Some (job.Take q) → ((takes stage x).stage ≡ Runs) × ((takes stage x).failure ≡ x.failure)
   taking_goes Idle q e = next_goes x.queue q e
   taking_goes (Awaits k b) q e = callback_goes k b x.callback x.answer q e
   taking_goes Runs q e = cc
@@ -200,7 +200,7 @@ module _ (h : ℕ) (c : State) (x : Handler) where
   awaiting_goes k b None (Some a) e = answered_goes k b a e
   awaiting_goes k b None None e = cc
 
-  going_runs : (stage : Stage) → job_at h stage x c ≡ Some job.Go → stage ≡ Runs
+  going_runs : (stage : HandlerStage) → job_at h stage x c ≡ Some job.Go → stage ≡ Runs
   going_runs Runs e = refl
   going_runs Idle e = idle_goes x.queue e
   going_runs (HasMade k) e = cc
@@ -211,10 +211,10 @@ module _ (h : ℕ) (c : State) (r : Rights) where
   abbrev s : State
   s = record c { rights = r }
 
-  made_goes : (stage : Stage) → (c.handlers h).failure ≡ None → GoesOn ((made_at h stage s).handlers h)
+  made_goes : (stage : HandlerStage) → (c.handlers h).failure ≡ None → GoesOn ((made_at h stage s).handlers h)
   made_goes stage lives = by stage
     where
-      by : (stage : Stage) → GoesOn ((made_at h stage s).handlers h)
+      by : (stage : HandlerStage) → GoesOn ((made_at h stage s).handlers h)
       by (Awaits i b) =
           let e = own h (takes_answer (c.handlers h)) s (refl, lives) in
           (ended_stage _ ((put h (takes_answer (c.handlers h)) s).handlers h) ∙ e.0, ended_failure _ ((put h (takes_answer (c.handlers h)) s).handlers h) ∙ e.1)
@@ -245,7 +245,7 @@ job_there h c j = by (nat_lt h c.count)
 goes_job : (h : ℕ) (t : State) → nat_lt h t.count ≡ true → GoesOn (t.handlers h) → job_of h t ≡ Some job.Go
 goes_job h t there e =
     ap (λ (b : Bool). if b then job_with h (t.handlers h).failure (t.handlers h) t else None) there
-    ∙ ap (λ (o : Option Cause). job_with h o (t.handlers h) t) e.1 ∙ ap (λ (st : Stage). job_at h st (t.handlers h) t) e.0
+    ∙ ap (λ (o : Option Cause). job_with h o (t.handlers h) t) e.1 ∙ ap (λ (st : HandlerStage). job_at h st (t.handlers h) t) e.0
 
 -- ---- the core of turns that are made at once
 

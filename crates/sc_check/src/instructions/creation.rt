@@ -14,7 +14,7 @@ use sc_proctype::{EntityType, Tag};
 use sc_rules::{Context, Rule, Use};
 use sc_text::Span;
 use sc_tree::{CreationCall, Name};
-use sc_typing::{CallSite, CheckFault, Entity, Meaning, RoutineContext, Typing, required};
+use sc_typing::{CallContext, CheckFault, Entity, Meaning, RoutineContext, Typing, required};
 
 /// Whether the tag names a formal or a block.
 fn is_tagged(tag: Tag) -> bool
@@ -113,7 +113,7 @@ fn judge_creation_call<'s>(
 {
     let found = routine.judged_actuals(Context::Body, names, &call.actuals)?;
     let meaning = creation_meaning(routine, created, &call.name);
-    let site = CallSite {
+    let site = CallContext {
         context: Context::Body,
         usage: Use::Instruction,
         target: &None,

@@ -11,9 +11,9 @@ use crate::attributes::version_in;
 use crate::turning::beginning::ask_beginning;
 use crate::turning::caller::has_operands;
 use crate::turning::steps::unless_failed;
-use sc_code::{Program, Version};
+use sc_code::{FeatureCode, Program};
 use sc_model::Cause;
-use sc_region::{Call, Origin, Reference, Store, Want};
+use sc_region::{Origin, OwnCall, Reference, Store, Want};
 use std::alloc::AllocError;
 
 fn operands_of(calling: Calling, count: usize) -> usize
@@ -51,8 +51,8 @@ pub fn routine_of(program: &Program, class: u8, name: usize) -> Option<usize>
     ensures { result ≡ routine_in (version_in program.now.image class name) }
 {
     match version_in(program, class, name) {
-        Some(Version::Routine(routine)) => Some(routine),
-        Some(Version::Attribute(_)) | None => None,
+        Some(FeatureCode::Routine(routine)) => Some(routine),
+        Some(FeatureCode::Attribute(_)) | None => None,
     }
 }
 
@@ -77,7 +77,7 @@ fn call(
         store.fail(Cause::BadCode);
         return Ok(());
     };
-    let call = Call {
+    let call = OwnCall {
         origin: origin_of(calling),
         actuals: count,
         operands: operands_of(calling, count),

@@ -95,7 +95,7 @@ fn class_code(
     let clauses = tables.invariant_of(alloc, ClassId::Declared(class))?;
     Ok(ClassCode {
         attributes: attribute_codes(alloc, &attributes)?,
-        versions: versions(alloc, numbering, &attributes, class, names)?,
+        features: versions(alloc, numbering, &attributes, class, names)?,
         conforms: conforms(alloc, tables, class)?,
         invariant: formulas(alloc, &attributes, &clauses)?,
     })

@@ -5,7 +5,7 @@ ghost use Rattle.sc_code.specs.RequestRoom.{FitsRequests};
 ghost use Rattle.sc_lower.specs.Lowerings.{HandsBack, IsLowered, image_of};
 
 use crate::image::image;
-use crate::refusal::Refusal;
+use crate::refusal::LoweringFault;
 use sc_check::Checked;
 use sc_code::Program;
 use std::alloc::Global;
@@ -47,7 +47,7 @@ pub fn lower_within<'s>(
 {
     match image(alloc, checked.tables(), most) {
         Ok(image) => Ok(Program::of(image)),
-        Err(Refusal::OutOfMemory) => Err(Lowering::OutOfMemory(checked)),
-        Err(Refusal::CodeTooLong) => Err(Lowering::CodeTooLong(checked)),
+        Err(LoweringFault::OutOfMemory) => Err(Lowering::OutOfMemory(checked)),
+        Err(LoweringFault::CodeTooLong) => Err(Lowering::CodeTooLong(checked)),
     }
 }

@@ -8,14 +8,14 @@ ghost use Rattle.sc_class.specs.Tables.Features.{declared_in};
 ghost use Rattle.sc_class.specs.View.{entry_of};
 ghost use Rattle.sc_rules.specs.SystemRules.{WellFormed};
 ghost use Rattle.sc_typing.specs.FeatureNumbers.{all_features};
-ghost use Rattle.sc_lower.specs.declared.refusal.Refusal.TheVariants.{CodeTooLong};
+ghost use Rattle.sc_lower.specs.declared.refusal.LoweringFault.TheVariants.{CodeTooLong};
 ghost use Rattle.sc_code.specs.declared.program.RoutineCode.{RoutineCode};
 ghost use Rattle.sc_lower.specs.Pools.{pool_in};
 ghost use Rattle.sc_code.specs.Programs.{code_length, codes_of, routine_in};
 
 use crate::link_tables::Linker;
 use crate::program::routine_code::feature_code;
-use crate::refusal::Refusal;
+use crate::refusal::LoweringFault;
 use sc_class::{FeatureEntry, Tables};
 use sc_code::RoutineCode;
 use sc_tree::Feature;
@@ -88,7 +88,7 @@ pub fn lower_routines<'s>(
     linker: &mut Linker<'s>,
     features: &[FeatureEntry<'s>],
     most: u32,
-) -> Result<Routines, Refusal>
+) -> Result<Routines, LoweringFault>
     requires in_order { map entry_of features.now ≡ all_features (system_in tables.now) }
     requires well_formed { WellFormed (system_in tables.now) }
     ensures codes { let s = system_in tables.now in
@@ -102,7 +102,7 @@ pub fn lower_routines<'s>(
     for entry in features {
         let code = feature_code(alloc, tables, linker, *entry)?;
         let Some(total) = counted(instructions, length_of(&code), most) else {
-            return Err(Refusal::CodeTooLong);
+            return Err(LoweringFault::CodeTooLong);
         };
         instructions = total;
         codes.push(code)?;

@@ -10,7 +10,7 @@ ghost use Rattle.sc_code.specs.Programs.{entry_of_kind, version_entry};
 
 use crate::program::attributes::{Attribute, find};
 use sc_class::{ClassId, FeatureEntry};
-use sc_code::Version;
+use sc_code::FeatureCode;
 use sc_tree::FeatureKind;
 use sc_typing::Numbering;
 use std::alloc::{AllocError, Global};
@@ -22,7 +22,7 @@ fn feature_version(
     attributes: &[Attribute],
     class: usize,
     entry: FeatureEntry,
-) -> Option<Version>
+) -> Option<FeatureCode>
     requires { map binding_of attributes.now ≡ fresh_attributes (system_in numbering.now.tables.now) (features (system_in numbering.now.tables.now) class) }
     ensures { result ≡ entry_of_kind (system_in numbering.now.tables.now) class (entry_of entry.entry) (entry_of entry.entry).feature.kind }
 {
@@ -30,11 +30,11 @@ fn feature_version(
     match &entry.feature.kind {
         FeatureKind::Attribute(_) => match find(attributes, name) {
             None => None,
-            Some((number, _)) => Some(Version::Attribute(number)),
+            Some((number, _)) => Some(FeatureCode::Attribute(number)),
         },
         FeatureKind::Routine(_) => match numbering.number(entry.class, name) {
             None => None,
-            Some(number) => Some(Version::Routine(number)),
+            Some(number) => Some(FeatureCode::Routine(number)),
         },
     }
 }
@@ -45,7 +45,7 @@ fn version_named(
     attributes: &[Attribute],
     class: usize,
     name: &str,
-) -> Option<Version>
+) -> Option<FeatureCode>
     requires { map binding_of attributes.now ≡ fresh_attributes (system_in numbering.now.tables.now) (features (system_in numbering.now.tables.now) class) }
     ensures { result ≡ version_entry (system_in numbering.now.tables.now) class name.now }
 {
@@ -62,7 +62,7 @@ pub fn versions(
     attributes: &[Attribute],
     class: usize,
     names: &[String],
-) -> Result<Vec<Option<Version>>, AllocError>
+) -> Result<Vec<Option<FeatureCode>>, AllocError>
     requires { map binding_of attributes.now ≡ fresh_attributes (system_in numbering.now.tables.now) (features (system_in numbering.now.tables.now) class) }
     ensures { IfOk result (λ versions. versions.items ≡ map (version_entry (system_in numbering.now.tables.now) class) (map string_bytes names.now)) }
 {

@@ -7,8 +7,8 @@ use Rattle.sc_lockpass.specs.Rights as rights
 use Rattle.sc_lockpass.specs.Rights.{is_among}
 use Rattle.sc_waitcond.specs.declared.session.Release.TheVariants as release_at
 use Rattle.sc_waitcond.specs.Reservations.{ends_session, mark_of}
-use Rattle.sc_waitcond.specs.declared.condition.Verdict.{Verdict}
-use Rattle.sc_waitcond.specs.declared.condition.Verdict.TheVariants as verdict
+use Rattle.sc_waitcond.specs.declared.condition.EntryVerdict.{EntryVerdict}
+use Rattle.sc_waitcond.specs.declared.condition.EntryVerdict.TheVariants as verdict
 use Rattle.sc_proctype.specs.declared.entity_type.EntityType.{EntityType}
 use Rattle.sc_machine_rights.specs.World.{Answer, Request, Frame, World, rights_of, enter}
 use Rattle.sc_machine_rights.specs.Steps.{waits_for, AnswersNobody, Enters}
@@ -275,7 +275,7 @@ refuses_leads G K s w m h f below good g none = by f.origin at.origin
         (looks_counted q.is_waited (record (m.handlers h) { stack = below }))) refl at.rest))
 
 pub clause_leads : (G : World → Type 0) (K : Keeps G) (s : System) (w : World) (m : machine.World) (h : ℕ) (f : machine.Frame)
-    (below : List machine.Frame) (v : Verdict) → G w → Going w m h machine.Runs f below → f.blocks ≡ []
+    (below : List machine.Frame) (v : EntryVerdict) → G w → Going w m h machine.Runs f below → f.blocks ≡ []
     → Leads w (false_clause v s h f below m)
 clause_leads G K s w m h f below verdict.Wait good g none = waits_again_leads w m h f below g none
 clause_leads G K s w m h f below verdict.Refuse good g none = refuses_leads G K s w m h f below good g none

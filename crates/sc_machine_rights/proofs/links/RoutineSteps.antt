@@ -6,7 +6,7 @@ use Rattle.sc_formula.specs.declared.arithmetic.ArithmeticFault.TheVariants as f
 use Rattle.sc_formula.specs.declared.arithmetic.ArithmeticOperator.{ArithmeticOperator}
 use Rattle.sc_formula.specs.declared.comparison.Comparison.{Comparison}
 use Rattle.sc_formula.specs.declared.connective.Connective.{Connective}
-use Rattle.sc_formula.specs.Arithmetic.{Outcome, opposite_of, result_of}
+use Rattle.sc_formula.specs.Arithmetic.{ArithmeticResult, opposite_of, result_of}
 use Rattle.sc_tree.specs.declared.expression.UnaryOperator.{UnaryOperator}
 use Rattle.sc_tree.specs.declared.expression.UnaryOperator.TheVariants as unary
 use Rattle.sc_tree.specs.declared.expression.BinaryOperator.{BinaryOperator}
@@ -66,7 +66,7 @@ module _ (K : ℕ → Type 0) (fm : Formals) (s : System) (me : Reference) (ther
   attribute_well n None t p w is = (w.objects, refl)
   attribute_well n (Some b) t p w is = reads_well n t b.value t p w is
 
-  outcome_well : (n : ℕ) (o : Outcome) (p : Point) → IsWell K fm n p → StepsWell K fm me.handler n (gives_outcome o p)
+  outcome_well : (n : ℕ) (o : ArithmeticResult) (p : Point) → IsWell K fm n p → StepsWell K fm me.handler n (gives_outcome o p)
   outcome_well n (Ok z) p w = with_value K fm n p _ w tt
   outcome_well n (Err fault.Overflow) p w = (w.objects, refl)
   outcome_well n (Err fault.DivideByZero) p w = (w.objects, refl)

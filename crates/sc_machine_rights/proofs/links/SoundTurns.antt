@@ -10,8 +10,8 @@ use Rattle.sc_waitcond.specs.Laws.{is_on}
 use Rattle.sc_waitcond.specs.Reservations.{mark_of, reserve_fails}
 use Rattle.sc_waitcond.proofs.EntryLaws.{needs_unheld}
 use Rattle.sc_waitcond.specs.declared.session.Release.TheVariants as release_at
-use Rattle.sc_waitcond.specs.declared.condition.Verdict.{Verdict}
-use Rattle.sc_waitcond.specs.declared.condition.Verdict.TheVariants as verdict
+use Rattle.sc_waitcond.specs.declared.condition.EntryVerdict.{EntryVerdict}
+use Rattle.sc_waitcond.specs.declared.condition.EntryVerdict.TheVariants as verdict
 use Rattle.sc_model.specs.declared.cause.Cause.{Cause}
 use Rattle.sc_model.specs.declared.cause.Cause.TheVariants as cause
 use Rattle.sc_model.specs.Values.{Reference, Value, Integer, Boolean, Void, Attached, Operand, operand, values_of, handler_of}
@@ -20,7 +20,7 @@ use Rattle.sc_model.specs.Objects.{object_numbered}
 use Rattle.sc_model.specs.Routines.{routine_named}
 use Rattle.sc_model.specs.Limits.{max_queue}
 use Rattle.sc_model.specs.Tasks.{Task, Do, Leave, tasks_of}
-use Rattle.sc_model.specs.Steps.{Point, Act, Prints, Tests, Creates, CreatesHandler, Enters, Requests, Starts, Refuses, Opens, Leaves, Exits, Fails, Step, Goes, Does}
+use Rattle.sc_model.specs.Steps.{Point, Act, Prints, Until, Creates, CreatesHandler, Enters, Requests, Starts, Refuses, Opens, Leaves, Exits, Fails, Step, Goes, Does}
 use Rattle.sc_model.specs.Moves.{moves}
 use Rattle.sc_model.specs.Handlers.{Calls, Makes, Request, Answer, Reply, Failed, Refused, Origin, Called, Requested, Stage, Runs, Reserves, ReservesBlock, InCall, Awaits, Frame, Handler, World, point_of, frame_at, new_handler, put, with_stack}
 use Rattle.sc_model.specs.Sessions as sessions
@@ -242,7 +242,7 @@ no_blocks [] e = refl
 no_blocks (x ∷ xs) e = absurd (omega (arith, e))
 
 -- a false clause
-clause_sound : (s : System) (f : Frame) (p : Point) (below : List Frame) (h : ℕ) (m : World) (v : Verdict) → At f p below h m → length f.blocks ≡ 0
+clause_sound : (s : System) (f : Frame) (p : Point) (below : List Frame) (h : ℕ) (m : World) (v : EntryVerdict) → At f p below h m → length f.blocks ≡ 0
     → IsWell (λ j. j < m.count) (formals_of f) (length f.blocks) p → IsSound (false_clause v s h (frame_at f p) below m)
 clause_sound s f p below h m verdict.Start a none w = fail_sound h cause.BadCode m a.but
 clause_sound s f p below h m verdict.Wait a none w =
@@ -338,7 +338,7 @@ effect_sound most s h (Prints text) f p below m a w =
       callback = a.but.callback;
       answer = a.but.answer;
     })
-effect_sound most s h Tests f p below m a w = stays_sound f p below h m a w
+effect_sound most s h Until f p below m a w = stays_sound f p below h m a w
 effect_sound most s h Creates f p below m a w = stays_sound f p below h m a w
 effect_sound most s h Starts f p below m a w = stays_sound f p below h m a w
 effect_sound most s h (CreatesHandler class procedure us t passing) f p below m a w =
@@ -384,7 +384,7 @@ effect_sound most s h (Fails why) f p below m a w = fail_sound h why m a.but
 
 objects_of : (K : ℕ → Type 0) (c : Formals) (h n : ℕ) (a : Act) (p : Point) → DoesWell K c h n a p → Every (ObjectKnown K) p.objects
 objects_of K c h n (Prints text) p w = w.objects
-objects_of K c h n Tests p w = w.objects
+objects_of K c h n Until p w = w.objects
 objects_of K c h n Creates p w = w.objects
 objects_of K c h n Starts p w = w.objects
 objects_of K c h n (CreatesHandler class procedure us t passing) p w = w.1.objects
@@ -570,7 +570,7 @@ opened_known K bs ts is = tt
 
 act_fits : (K : ℕ → Type 0) (h : ℕ) (f : Frame) (a : Act) (p : Point) → DoesWell K (formals_of f) h (length f.blocks) a p → ActFits h f a
 act_fits K h f (Prints text) p w = tt
-act_fits K h f Tests p w = tt
+act_fits K h f Until p w = tt
 act_fits K h f Creates p w = tt
 act_fits K h f Starts p w = tt
 act_fits K h f (CreatesHandler class procedure us t passing) p w = tt
@@ -591,7 +591,7 @@ act_fits K h f (Fails why) p w = tt
 
 formals_stay : (K : ℕ → Type 0) (h : ℕ) (f : Frame) (a : Act) (p : Point) → DoesWell K (formals_of f) h (length f.blocks) a p → FormalsStay f p
 formals_stay K h f (Prints text) p w = inl w.formals.same
-formals_stay K h f Tests p w = inl w.formals.same
+formals_stay K h f Until p w = inl w.formals.same
 formals_stay K h f Creates p w = inl w.formals.same
 formals_stay K h f Starts p w = inl w.formals.same
 formals_stay K h f (CreatesHandler class procedure us t passing) p w = inl w.1.formals.same
@@ -605,7 +605,7 @@ formals_stay K h f (Fails why) p w = inr (ap separate_formals w.1)
 
 names_stay : (K : ℕ → Type 0) (h : ℕ) (f : Frame) (a : Act) (p : Point) → DoesWell K (formals_of f) h (length f.blocks) a p → NamesStay f a p
 names_stay K h f (Prints text) p w = w.formals.named
-names_stay K h f Tests p w = w.formals.named
+names_stay K h f Until p w = w.formals.named
 names_stay K h f Creates p w = w.formals.named
 names_stay K h f Starts p w = w.formals.named
 names_stay K h f (CreatesHandler class procedure us t passing) p w = w.1.formals.named

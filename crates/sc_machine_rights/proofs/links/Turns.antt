@@ -23,7 +23,7 @@ use Rattle.sc_model.specs.declared.cause.Cause.TheVariants as cause
 use Rattle.sc_model.specs.Values.{values_of, handler_of}
 use Rattle.sc_model.specs.Environments.{separate_formals}
 use Rattle.sc_model.specs.Routines.{routine_named}
-use Rattle.sc_model.specs.Steps.{Act, Prints, Tests, Creates, CreatesHandler, Enters, Requests, Starts, Refuses, Opens, Leaves, Exits, Fails, Step, Goes, Does, Point}
+use Rattle.sc_model.specs.Steps.{Act, Prints, Until, Creates, CreatesHandler, Enters, Requests, Starts, Refuses, Opens, Leaves, Exits, Fails, Step, Goes, Does, Point}
 use Rattle.sc_model.specs.Moves.{moves}
 use Rattle.sc_model.specs.Handlers as machine
 use Rattle.sc_model.specs.Handlers.{Calls, Makes, Stage, Runs, Reserves, ReservesBlock, InCall, Awaits, point_of, frame_at, put}
@@ -119,7 +119,7 @@ effect_leads G K most s h (Prints text) f below w m named good g runs fits plain
     (put_handler h (m.handlers h).stack (record (m.handlers h) { output = (m.handlers h).output ++ text }) m
     (record { failure = refl; stack = refl; queue = refl; callback = refl; answer = refl }))
     (g.stands.handlers h).stack refl)
-effect_leads G K most s h Tests f below w m named good g runs fits plain = stays w m g.stands
+effect_leads G K most s h Until f below w m named good g runs fits plain = stays w m g.stands
 effect_leads G K most s h Creates f below w m named good g runs fits plain = stays w m g.stands
 effect_leads G K most s h Starts f below w m named good g runs fits plain = stays w m g.stands
 effect_leads G K most s h (CreatesHandler class procedure us t passing) f below w m named good g runs fits plain =
@@ -180,7 +180,7 @@ settles_leads G K most s h (Does a p) f below w m named good g runs fits = by a 
 
     by : (a : Act) → w.asks ≡ asked_by h m.count a (place_of (frame_at f p) below) → StepFits h f (Does a p) → Leads w (settles most s h (Does a p) f below m)
     by (Prints text) same_asked i = same (Prints text) same_asked tt tt i.1 i.2
-    by Tests same_asked i = same Tests same_asked tt tt i.1 i.2
+    by Until same_asked i = same Until same_asked tt tt i.1 i.2
     by Creates same_asked i = same Creates same_asked tt tt i.1 i.2
     by Starts same_asked i = same Starts same_asked tt tt i.1 i.2
     by (CreatesHandler class procedure us t passing) same_asked i = same (CreatesHandler class procedure us t passing) same_asked tt tt i.1 i.2

@@ -34,7 +34,7 @@ fn dispatch(
         Act::PrintInteger(value) => print_integer(store, value),
         Act::PrintBoolean(value) => print_boolean(store, value),
         Act::PrintText(text) => print_text(store, text),
-        Act::Test(back) => {
+        Act::Until(back) => {
             end_round(store, back);
             Ok(())
         }

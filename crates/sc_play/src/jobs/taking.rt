@@ -9,7 +9,7 @@ use crate::beginning::ask_beginning;
 use crate::steps::unless_failed;
 use crate::versions::{attribute_at, routine_of, version_in};
 use arrayvec::ArrayVec;
-use sc_code::{AttributeCode, Version};
+use sc_code::{AttributeCode, FeatureCode};
 use sc_model::Cause;
 use sc_region::{Errand, Origin, Reference, Request, Store, Value, Want};
 use std::alloc::AllocError;
@@ -61,7 +61,7 @@ fn answer_at(store: &mut Store<'_>, target: Reference, number: usize, asked: &mu
 fn call_version(
     store: &mut Store<'_>,
     request: &Request,
-    version: Option<Version>,
+    version: Option<FeatureCode>,
     asked: &mut Want,
 ) -> Result<(), AllocError>
     requires { asked.old ≡ want.Continue }
@@ -71,13 +71,13 @@ fn call_version(
     ensures kept { OnErr result (asked.new ≡ asked.old) }
 {
     match version {
-        Some(Version::Routine(routine)) => {
+        Some(FeatureCode::Routine(routine)) => {
             let actuals = request.actuals.as_slice();
             store.push(request.target, routine, Origin::Requested, actuals)?;
             ask_beginning(store, asked);
             Ok(())
         }
-        Some(Version::Attribute(number)) => {
+        Some(FeatureCode::Attribute(number)) => {
             answer_at(store, request.target, number, asked);
             Ok(())
         }

@@ -92,7 +92,7 @@ fn is_exported_to(target: &Option<Box<Expr>>, is_secret: bool) -> bool
 
 /// Where a call stands, and how it is used.
 #[derive(Drop)]
-pub struct CallSite<'a> {
+pub struct CallContext<'a> {
     pub context: Context,
     pub usage: Use,
     /// What is called on, if something stands before the dot.
@@ -139,7 +139,7 @@ impl<'t, 's> RoutineContext<'t, 's> {
     /// Judges the name of a call with so many actuals, where it stands for what has this signature.
     fn judge_signature(
         &self,
-        site: &CallSite,
+        site: &CallContext,
         signature: &Signature,
         actuals: usize,
     ) -> Result<Option<EntityType>, CheckFault>
@@ -166,7 +166,7 @@ impl<'t, 's> RoutineContext<'t, 's> {
     /// Judges the name of a call with so many actuals.
     fn judge_name(
         &self,
-        site: &CallSite,
+        site: &CallContext,
         meaning: &Meaning,
         actuals: usize,
     ) -> Result<Option<EntityType>, CheckFault>
@@ -184,7 +184,7 @@ impl<'t, 's> RoutineContext<'t, 's> {
     /// Judges the actuals and the name of a call, where this is meant and its target is this receiver.
     pub fn judge_actuals_and_name(
         &self,
-        site: &CallSite,
+        site: &CallContext,
         meaning: &Meaning,
         found: &[JudgedActual],
         receiver: Typing,
