@@ -1,3 +1,3 @@
--- What the code holds and looks for, one definition for a function. No public contract speaks of these: what they come to is
--- said in the files beside this folder.
+-- What the code holds and looks for, one definition for a function. No public contract speaks of these: what they come
+-- to is said in the files beside this folder.
 pub mod SoleName

@@ -17,7 +17,8 @@ use Rattle.sc_auditing.specs.Same.{FirstDiffers, IsSame}
 abbrev pub turns_of : List RecordLine → List ℕ
 turns_of lines = flat_map (λ (line : RecordLine). replicate line.turns line.handler) lines
 
--- From the opening of the program, with as many handlers as the version has, the turns of the record lead to this world.
+-- From the opening of the program, with as many handlers as the version has, the turns of the record lead to this
+-- world.
 abbrev pub LeadsTo : Image → Left → PlainWorld → Type 0
 LeadsTo p left w = Runs (turns_of left.lines.items) (opened p left.version) w
 
@@ -28,7 +29,8 @@ pub record IsAudited (p : Image) (left : Left) : Type 0 where
   pub leads : LeadsTo p left world
   pub same : IsSame world (world_of left)
 
--- The record is one, and its turns end in a world that differs from what is left. The handler is the least of which it does.
+-- The record is one, and its turns end in a world that differs from what is left. The handler is the least of which it
+-- does.
 pub record DiffersAt (p : Image) (left : Left) (h : ℕ) : Type 0 where
   pub is_record : IsRecord left.version left.lines.items
   pub world : PlainWorld

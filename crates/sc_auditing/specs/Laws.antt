@@ -28,5 +28,6 @@ RunsAuditYes = (p : Image) (limit : ℕ) (left : Left) → limit ≤ most_turns 
 
 -- Worlds that hold the same report the same, where there are no more handlers than are compared.
 abbrev pub SameWorldsHaveSameReports : Type 0
-SameWorldsHaveSameReports = (w v : PlainWorld) → w.center.state.count ≤ max_handlers → v.center.state.count ≤ max_handlers →
+SameWorldsHaveSameReports = (w v : PlainWorld) → w.center.state.count ≤ max_handlers →
+    v.center.state.count ≤ max_handlers →
     IsSame w v → report w ≡ report v

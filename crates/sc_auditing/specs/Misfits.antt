@@ -11,8 +11,8 @@ pub record IsLine (version : Version) (turns_left : ℕ) (line : RecordLine) : T
   pub some : 0 < line.turns
   pub few : line.turns ≤ turns_left
 
--- The line of this number in the text, from 1, is the first that doesn't fit: the lines before it are a record's, and with it
--- they aren't. One line stands before them all.
+-- The line of this number in the text, from 1, is the first that doesn't fit: the lines before it are a record's, and
+-- with it they aren't. One line stands before them all.
 pub record IsFirstMisfit (version : Version) (lines : List RecordLine) (number : ℕ) : Type 0 where
   pub before : ℕ
   pub number_is : number ≡ before + 2

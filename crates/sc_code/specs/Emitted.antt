@@ -78,16 +78,19 @@ is_own tag.Any = false
 is_own tag.None = false
 
 abbrev pub site_of : List ℕ → ℕ → EntityType → List EntityType → Signature → CallSite
-site_of x c t ts g = record { name = x; count = c; gives = gives_of g.gives; is_own = is_own t.tag; passes = types_pass g.formals ts }
+site_of x c t ts g =
+    record { name = x; count = c; gives = gives_of g.gives; is_own = is_own t.tag; passes = types_pass g.formals ts }
 
 -- a call of this feature behind a target of this type
-abbrev pub call_code : (CallSite → Operation) → System → List ℕ → ℕ → EntityType → List EntityType → Option DeclaredFeature → List Operation
+abbrev pub call_code : (CallSite → Operation) → System → List ℕ → ℕ → EntityType → List EntityType →
+    Option DeclaredFeature → List Operation
 call_code op s x c t ts None = []
 call_code op s x c t ts (Some f) = op (site_of x c t ts (signature_of s t f)) ∷ []
 
 -- a routine of Current
 abbrev pub routine_call : Setting → List ℕ → ℕ → List EntityType → List Operation
-routine_call h x c ts = call_code CallRoutine h.system x c (current (here h)) ts (feature_named h.system (class.Declared h.text.class) x)
+routine_call h x c ts =
+    call_code CallRoutine h.system x c (current (here h)) ts (feature_named h.system (class.Declared h.text.class) x)
 
 -- a feature of a target of this type
 abbrev pub feature_call : Setting → List ℕ → ℕ → Option EntityType → List EntityType → List Operation
@@ -106,7 +109,8 @@ kind_code h x actuals call (tree.Attribute d) = attribute_code x (given_type h.s
 kind_code h x actuals call (tree.Routine r) = actuals ++ call
 
 -- an entity is read, or else a feature of Current called
-abbrev pub name_code : Setting → List ℕ → List Operation → List Operation → Option (ℕ × Option EntityType) → Option DeclaredFeature → List Operation
+abbrev pub name_code : Setting → List ℕ → List Operation → List Operation → Option (ℕ × Option EntityType) →
+    Option DeclaredFeature → List Operation
 name_code h x actuals call (Some (k, Some t)) f = PushSlot k t.attached ∷ []
 name_code h x actuals call (Some (k, None)) f = []
 name_code h x actuals call None None = []
@@ -128,13 +132,16 @@ abbrev mutual
   expr_code h n i (tree.Current q) = PushCurrent ∷ []
   expr_code h n i (tree.Result q) = result_code h.result
   expr_code h n i (tree.Call q tree.no_target x es) =
-      name_code h x.text (exprs_code h n i es) (routine_call h x.text (count es) (exprs_types h n i es)) (slot_named x.text n)
+      name_code h x.text (exprs_code h n i es) (routine_call h x.text (count es) (exprs_types h n i es))
+      (slot_named x.text n)
       (feature_named h.system (class.Declared h.text.class) x.text)
   expr_code h n i (tree.Call q (tree.target a) x es) =
-      expr_code h n i a ++ (exprs_code h n (i + olds_in a) es ++ feature_call h x.text (count es) (expr_type h n i a) (exprs_types h n (i + olds_in a) es))
+      expr_code h n i a ++ (exprs_code h n (i + olds_in a) es
+      ++ feature_call h x.text (count es) (expr_type h n i a) (exprs_types h n (i + olds_in a) es))
   expr_code h n i (tree.Unary q unary.Old a) = PushOld i ∷ []
   expr_code h n i (tree.Unary q op a) = expr_code h n i a ++ ApplyUnary op ∷ []
-  expr_code h n i (tree.Binary q op a b) = expr_code h n i a ++ right_code op (expr_code h (names_given h n i a) (i + olds_in a) b)
+  expr_code h n i (tree.Binary q op a b) =
+      expr_code h n i a ++ right_code op (expr_code h (names_given h n i a) (i + olds_in a) b)
   expr_code h n i (tree.ObjectTest q d a x) = expr_code h n i a ++ Test (tested h n d) (length n) ∷ []
 
   pub exprs_code : Setting → Entities → ℕ → Exprs → List Operation
@@ -163,8 +170,10 @@ creation_passes h t (Some x) ts = types_pass (formals_meant (qualified_meaning (
 
 -- an object of the current handler, or of a new one
 abbrev pub creation_code : Setting → Option (List ℕ) → ℕ → List EntityType → EntityType → Tag → ClassId → List Operation
-creation_code h p c ts t tag.Own (class.Declared k) = Create (record { class = k; procedure = p; count = c; passes = false }) ∷ []
-creation_code h p c ts t tag.Any (class.Declared k) = CreateHandler (record { class = k; procedure = p; count = c; passes = creation_passes h t p ts }) ∷ []
+creation_code h p c ts t tag.Own (class.Declared k) =
+    Create (record { class = k; procedure = p; count = c; passes = false }) ∷ []
+creation_code h p c ts t tag.Any (class.Declared k) =
+    CreateHandler (record { class = k; procedure = p; count = c; passes = creation_passes h t p ts }) ∷ []
 creation_code h p c ts t g k = []
 
 abbrev pub create_code : Setting → Option (List ℕ) → ℕ → List EntityType → Option EntityType → List Operation
@@ -202,17 +211,23 @@ abbrev mutual
   instr_code h n (tree.CallRoutine q tree.no_target x es) =
       instruction_call (is_print x.text) (exprs_code h n 0 es) (routine_call h x.text (count es) (exprs_types h n 0 es))
   instr_code h n (tree.CallRoutine q (tree.target a) x es) =
-      expr_code h n 0 a ++ (exprs_code h n 0 es ++ feature_call h x.text (count es) (expr_type h n 0 a) (exprs_types h n 0 es))
+      expr_code h n 0 a
+      ++ (exprs_code h n 0 es ++ feature_call h x.text (count es) (expr_type h n 0 a) (exprs_types h n 0 es))
   instr_code h n (tree.Create q c) =
       exprs_code h n 0 (actuals_of c.call)
-      ++ (create_code h (procedure_of c.call) (count (actuals_of c.call)) (exprs_types h n 0 (actuals_of c.call)) (assignee_type (assignee (here h) n c.variable))
+      ++ (create_code h (procedure_of c.call) (count (actuals_of c.call)) (exprs_types h n 0 (actuals_of c.call))
+      (assignee_type (assignee (here h) n c.variable))
       ++ assign_code h n c.variable)
-  instr_code h n (tree.If q e body bs other) = expr_code h n 0 e ++ branch_code (instrs_code h (names_given h n 0 e) body) (other_code h n bs (instrs_code h n other))
+  instr_code h n (tree.If q e body bs other) =
+      expr_code h n 0 e
+      ++ branch_code (instrs_code h (names_given h n 0 e) body) (other_code h n bs (instrs_code h n other))
   instr_code h n (tree.Loop q initial e body) =
-      instrs_code h n initial ++ Jump (length (instrs_code h n body)) ∷ loop_code (instrs_code h n body) (expr_code h n 0 e)
+      instrs_code h n initial ++ Jump (length (instrs_code h n body))
+      ∷ loop_code (instrs_code h n body) (expr_code h n 0 e)
   instr_code h n (tree.Check q ks) = checks_code h n ks
   instr_code h n (tree.Block q ds body) =
-      heads_code h n ds ++ Open (length n) (length ds) ∷ (instrs_code h (with_heads (names_of ds) (head_types h n ds) n) body ++ Leave ∷ [])
+      heads_code h n ds ++ Open (length n) (length ds)
+      ∷ (instrs_code h (with_heads (names_of ds) (head_types h n ds) n) body ++ Leave ∷ [])
 
   pub instrs_code : Setting → Entities → Instrs → List Operation
   instrs_code h n no_instrs = []
@@ -221,14 +236,16 @@ abbrev mutual
   -- the further conditions, and the code of what stands under `else`
   pub other_code : Setting → Entities → Branches → List Operation → List Operation
   other_code h n no_branches other = other
-  other_code h n (branch_then e body bs) other = expr_code h n 0 e ++ branch_code (instrs_code h (names_given h n 0 e) body) (other_code h n bs other)
+  other_code h n (branch_then e body bs) other =
+      expr_code h n 0 e ++ branch_code (instrs_code h (names_given h n 0 e) body) (other_code h n bs other)
 
 -- ---- routines
 
 -- the first of the name, where that is a formal
 abbrev pub formal_slot : List ℕ → Entities → Option ℕ
 formal_slot x [] = None
-formal_slot x (e ∷ n) = if bytes_eq e.name x then (if is_formal e.role then Some 0 else None) else option_map (λ k. suc k) (formal_slot x n)
+formal_slot x (e ∷ n) =
+    if bytes_eq e.name x then (if is_formal e.role then Some 0 else None) else option_map (λ k. suc k) (formal_slot x n)
 
 -- the slots of the formals that the clause names
 abbrev pub formals_in : Entities → Clause → List ℕ
@@ -253,7 +270,8 @@ declare_code k (b ∷ bs) = Initialize k b.value ∷ declare_code (suc k) bs
 
 abbrev pub ensure_code : Setting → Entities → ℕ → List Clause → List Operation
 ensure_code h n i [] = []
-ensure_code h n i (k ∷ ks) = expr_code h n i k.condition ++ Expect cause.Postcondition ∷ ensure_code h n (i + olds_in k.condition) ks
+ensure_code h n i (k ∷ ks) =
+    expr_code h n i k.condition ++ Expect cause.Postcondition ∷ ensure_code h n (i + olds_in k.condition) ks
 
 -- a text of the routine, where these `old`s are kept
 abbrev pub setting : System → Routine → Text → List EntityType → Setting
@@ -277,7 +295,8 @@ opening_code s r =
     ++ olds_code (setting s r r.contract []) (formals_of s r) (olds_of_clauses r.ensure)
 
 abbrev pub body_code : System → Routine → List Operation
-body_code s r = instrs_code (setting s r r.text (olds_of_routine s r)) (formals_of s r ++ scope_of (locals_of s r)) r.body
+body_code s r =
+    instrs_code (setting s r r.text (olds_of_routine s r)) (formals_of s r ++ scope_of (locals_of s r)) r.body
 
 abbrev pub closing_code : System → Routine → List Operation
 closing_code s r = ensure_code (setting s r r.contract (olds_of_routine s r)) (formals_of s r) 0 r.ensure
@@ -285,7 +304,8 @@ closing_code s r = ensure_code (setting s r r.contract (olds_of_routine s r)) (f
 -- A routine: its precondition, the `old`s, its locals' defaults, its body, its postcondition, and the exit.
 abbrev pub routine_code : System → Routine → List Operation
 routine_code s r =
-    opening_code s r ++ (declare_code (length (formals_of s r)) (locals_of s r) ++ (body_code s r ++ (closing_code s r ++ Exit ∷ [])))
+    opening_code s r
+    ++ (declare_code (length (formals_of s r)) (locals_of s r) ++ (body_code s r ++ (closing_code s r ++ Exit ∷ [])))
 
 -- ---- how many operands are needed
 
@@ -305,11 +325,14 @@ operand_depth op d = if is_short op then d else suc d
 abbrev mutual
   pub expr_depth : Setting → Entities → ℕ → Expr → ℕ
   expr_depth h n i (tree.Call q tree.no_target x es) =
-      name_depth (exprs_depth h n i es) (slot_named x.text n) (feature_named h.system (class.Declared h.text.class) x.text)
-  expr_depth h n i (tree.Call q (tree.target a) x es) = max (expr_depth h n i a) (suc (exprs_depth h n (i + olds_in a) es))
+      name_depth (exprs_depth h n i es) (slot_named x.text n)
+      (feature_named h.system (class.Declared h.text.class) x.text)
+  expr_depth h n i (tree.Call q (tree.target a) x es) =
+      max (expr_depth h n i a) (suc (exprs_depth h n (i + olds_in a) es))
   expr_depth h n i (tree.Unary q unary.Old a) = 1
   expr_depth h n i (tree.Unary q op a) = expr_depth h n i a
-  expr_depth h n i (tree.Binary q op a b) = max (expr_depth h n i a) (operand_depth op (expr_depth h (names_given h n i a) (i + olds_in a) b))
+  expr_depth h n i (tree.Binary q op a b) =
+      max (expr_depth h n i a) (operand_depth op (expr_depth h (names_given h n i a) (i + olds_in a) b))
   expr_depth h n i (tree.ObjectTest q d a x) = expr_depth h n i a
   expr_depth h n i (tree.Integer q z) = 1
   expr_depth h n i (tree.Boolean q b) = 1
@@ -348,10 +371,13 @@ abbrev mutual
   instr_depth h n (tree.CallRoutine q (tree.target a) x es) = max (expr_depth h n 0 a) (suc (exprs_depth h n 0 es))
   instr_depth h n (tree.Create q c) = max 1 (exprs_depth h n 0 (actuals_of c.call))
   instr_depth h n (tree.If q e body bs other) =
-      max (expr_depth h n 0 e) (max (instrs_depth h (names_given h n 0 e) body) (max (branches_depth h n bs) (instrs_depth h n other)))
-  instr_depth h n (tree.Loop q initial e body) = max (instrs_depth h n initial) (max (expr_depth h n 0 e) (instrs_depth h n body))
+      max (expr_depth h n 0 e)
+      (max (instrs_depth h (names_given h n 0 e) body) (max (branches_depth h n bs) (instrs_depth h n other)))
+  instr_depth h n (tree.Loop q initial e body) =
+      max (instrs_depth h n initial) (max (expr_depth h n 0 e) (instrs_depth h n body))
   instr_depth h n (tree.Check q ks) = checks_depth h n ks
-  instr_depth h n (tree.Block q ds body) = max (heads_depth h n ds) (instrs_depth h (with_heads (names_of ds) (head_types h n ds) n) body)
+  instr_depth h n (tree.Block q ds body) =
+      max (heads_depth h n ds) (instrs_depth h (with_heads (names_of ds) (head_types h n ds) n) body)
 
   pub instrs_depth : Setting → Entities → Instrs → ℕ
   instrs_depth h n no_instrs = 0
@@ -364,22 +390,26 @@ abbrev mutual
 
 abbrev pub opening_depth : System → Routine → ℕ
 opening_depth s r =
-    max (checks_depth (setting s r r.contract []) (formals_of s r) r.require) (olds_depth (setting s r r.contract []) (formals_of s r) (olds_of_clauses r.ensure))
+    max (checks_depth (setting s r r.contract []) (formals_of s r) r.require)
+    (olds_depth (setting s r r.contract []) (formals_of s r) (olds_of_clauses r.ensure))
 
 abbrev pub body_depth : System → Routine → ℕ
-body_depth s r = instrs_depth (setting s r r.text (olds_of_routine s r)) (formals_of s r ++ scope_of (locals_of s r)) r.body
+body_depth s r =
+    instrs_depth (setting s r r.text (olds_of_routine s r)) (formals_of s r ++ scope_of (locals_of s r)) r.body
 
 -- the greatest number of operands of a routine
 abbrev pub routine_depth : System → Routine → ℕ
 routine_depth s r =
-    max (opening_depth s r) (max (body_depth s r) (clauses_depth (setting s r r.contract (olds_of_routine s r)) (formals_of s r) 0 r.ensure))
+    max (opening_depth s r)
+    (max (body_depth s r) (clauses_depth (setting s r r.contract (olds_of_routine s r)) (formals_of s r) 0 r.ensure))
 
 -- ---- how many slots are needed
 
 -- by a condition, whose object tests are known one after the other
 abbrev pub expr_slots : Setting → Entities → ℕ → Expr → ℕ
 expr_slots h n i (tree.ObjectTest q d a x) = suc (length n)
-expr_slots h n i (tree.Binary q op a b) = max (expr_slots h n i a) (expr_slots h (names_given h n i a) (i + olds_in a) b)
+expr_slots h n i (tree.Binary q op a b) =
+    max (expr_slots h n i a) (expr_slots h (names_given h n i a) (i + olds_in a) b)
 expr_slots h n i e = 0
 
 abbrev mutual
@@ -389,7 +419,8 @@ abbrev mutual
   instr_slots h n (tree.CallRoutine q t x es) = 0
   instr_slots h n (tree.Create q c) = 0
   instr_slots h n (tree.If q e body bs other) =
-      max (expr_slots h n 0 e) (max (instrs_slots h (names_given h n 0 e) body) (max (branches_slots h n bs) (instrs_slots h n other)))
+      max (expr_slots h n 0 e)
+      (max (instrs_slots h (names_given h n 0 e) body) (max (branches_slots h n bs) (instrs_slots h n other)))
   instr_slots h n (tree.Loop q initial e body) = max (instrs_slots h n initial) (instrs_slots h n body)
   instr_slots h n (tree.Check q ks) = 0
   instr_slots h n (tree.Block q ds body) =

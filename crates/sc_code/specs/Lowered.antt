@@ -1,4 +1,5 @@
--- The code of a routine stands for its tasks, and follows the model; in a well-formed system so does that of each routine.
+-- The code of a routine stands for its tasks, and follows the model; in a well-formed system so does that of each
+-- routine.
 use Rattle.std.specs.Prelude.{◌≡◌, ◌+◌, ◌++◌, ℕ, List, [], Some, length}
 use Rattle.std.specs.Option.{option_map}
 use Rattle.sc_tree.specs.Plain.{System}
@@ -49,16 +50,19 @@ pub record Beginning (s : System) (r : Routine) (p : Point) (tail : List Value) 
 
 -- At its first place a routine's code stands for the routine.
 abbrev pub LoweredStands : Type 0
-LoweredStands = (s : System) (r : Routine) (p : Point) (tail : List Value) → IsTypedRoutine s r → Beginning s r p tail → Stands (run_of s r) 0 tail p
+LoweredStands = (s : System) (r : Routine) (p : Point) (tail : List Value) → IsTypedRoutine s r → Beginning s r p tail →
+    Stands (run_of s r) 0 tail p
 
--- Whatever silent steps a routine makes at a point that a place stands for, silent operations follow them; at the visible step the same visible
--- operation is met, and behind it a place that stands for the point after the step.
+-- Whatever silent steps a routine makes at a point that a place stands for, silent operations follow them; at the
+-- visible step the same visible operation is met, and behind it a place that stands for the point after the step.
 abbrev pub MovesFollow : Type 0
-MovesFollow = (g : Run) (me : Reference) (place : ℕ) (tail : List Value) (p : Point) → Stands g place tail p → Moves g me place tail p (moves g.system me p)
+MovesFollow = (g : Run) (me : Reference) (place : ℕ) (tail : List Value) (p : Point) → Stands g place tail p →
+    Moves g me place tail p (moves g.system me p)
 
 -- Where the model enters a routine, its formals bound to actuals, the routine begins.
 abbrev pub EntriesBegin : Type 0
-EntriesBegin = (s : System) (r : Routine) (me : Reference) (o : Origin) (vs : List Value) (bs : List Binding) (os : List Object) (tail : List Value) →
+EntriesBegin = (s : System) (r : Routine) (me : Reference) (o : Origin) (vs : List Value) (bs : List Binding)
+    (os : List Object) (tail : List Value) →
     formals_bound s r.text.formals 0 r.text.formals vs ≡ Some bs → length bs + length tail ≡ routine_slots s r →
     Beginning s r (point_of (entry me r o bs) os) tail
 
@@ -69,7 +73,8 @@ ObjectsMayChange = (g : Run) (place : ℕ) (tail : List Value) (p : Point) (os :
 
 -- ---- well-formed systems
 
--- the law of each routine that an object of a class runs for a name, in a well-formed system whose classes have no fault
+-- the law of each routine that an object of a class runs for a name, in a well-formed system whose classes have no
+-- fault
 abbrev pub WhereAccepted : (System → Routine → Type 0) → Type 0
 WhereAccepted law = (s : System) (root : Root) → IsFaultless s root → WellFormed s →
     (k : ℕ) (x : List ℕ) (r : Routine) → routine_named s k x ≡ Some r → law s r
@@ -80,10 +85,11 @@ RoutinesAreTyped = WhereAccepted λ s r. IsTypedRoutine s r
 
 -- At its first place a routine's code stands for the routine.
 abbrev pub RoutinesStand : Type 0
-RoutinesStand = WhereAccepted λ s r. (p : Point) (tail : List Value) → Beginning s r p tail → Stands (run_of s r) 0 tail p
+RoutinesStand = WhereAccepted λ s r. (p : Point) (tail : List Value) → Beginning s r p tail →
+    Stands (run_of s r) 0 tail p
 
--- From a routine's beginning its code makes the silent steps of the model silently, meets the same visible step, and goes on at a place that stands
--- for the point after it.
+-- From a routine's beginning its code makes the silent steps of the model silently, meets the same visible step, and
+-- goes on at a place that stands for the point after it.
 abbrev pub RoutinesFollow : Type 0
 RoutinesFollow = WhereAccepted λ s r. (me : Reference) (p : Point) (tail : List Value) → Beginning s r p tail →
     Moves (run_of s r) me 0 tail p (moves s me p)

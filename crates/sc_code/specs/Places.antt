@@ -16,7 +16,8 @@ use Rattle.sc_rules.specs.Names.{RoutineContext, Entities, entity, current, sign
 use Rattle.sc_model.specs.Routines.{Text, place_in}
 use Rattle.sc_model.specs.Olds.{olds_in}
 
--- Where a piece of code is emitted: the text, the type of its routine's Result, if that has one, and the types of the `old`s that are kept.
+-- Where a piece of code is emitted: the text, the type of its routine's Result, if that has one, and the types of the
+-- `old`s that are kept.
 pub record Setting : Type 0 where
   pub system : System
   pub text : Text
@@ -29,7 +30,8 @@ here h = place_in h.system h.text
 -- the slot of the first of this name, and its type
 abbrev pub slot_named : List ℕ → Entities → Option (ℕ × Option EntityType)
 slot_named x [] = None
-slot_named x (e ∷ n) = if bytes_eq e.name x then Some (0, e.type) else option_map (λ found. (suc found.0, found.1)) (slot_named x n)
+slot_named x (e ∷ n) =
+    if bytes_eq e.name x then Some (0, e.type) else option_map (λ found. (suc found.0, found.1)) (slot_named x n)
 
 -- ---- types
 
@@ -67,7 +69,9 @@ expr_type h n i (tree.Void q) = Some void
 expr_type h n i (tree.Current q) = Some (current (here h))
 expr_type h n i (tree.Result q) = known_type h.text.result
 expr_type h n i (tree.Call q tree.no_target x es) = name_type h x.text (slot_named x.text n)
-expr_type h n i (tree.Call q (tree.target a) x es) = option_and_then (λ (t : EntityType). feature_type h.system t (feature_named h.system t.class x.text)) (expr_type h n i a)
+expr_type h n i (tree.Call q (tree.target a) x es) =
+    option_and_then (λ (t : EntityType). feature_type h.system t (feature_named h.system t.class x.text))
+    (expr_type h n i a)
 expr_type h n i (tree.Unary q unary.Old a) = slice_get h.olds i
 expr_type h n i (tree.Unary q op a) = Some (unary_type op)
 expr_type h n i (tree.Binary q op a b) = Some (binary_type op)

@@ -55,8 +55,8 @@ pool_of p = record {
 
 -- ---- routines
 
--- A routine in flat code: how many formals it has, the slots of those that it reserves, its Result's default and whether that is of an attached type,
--- what it needs, and its operations, where the tables have what they name.
+-- A routine in flat code: how many formals it has, the slots of those that it reserves, its Result's default and
+-- whether that is of an attached type, what it needs, and its operations, where the tables have what they name.
 pub record PlainRoutine : Type 0 where
   pub formals : ℕ
   pub separate_formals : List ℕ
@@ -126,8 +126,8 @@ code_length s = length_of_codes s (all_features s)
 
 -- ---- classes
 
--- A class: the defaults of its attributes and whether they are of an attached type, by number; what each name is here; to which classes it conforms; and
--- its joined invariant.
+-- A class: the defaults of its attributes and whether they are of an attached type, by number; what each name is here;
+-- to which classes it conforms; and its joined invariant.
 pub record PlainClass : Type 0 where
   pub attributes : List (Value × Bool)
   pub features : List (Option FeatureCode)
@@ -139,11 +139,18 @@ attribute_in a = (default_value a.default, a.is_attached)
 
 -- the class that tables in memory are
 abbrev pub class_in : ClassCode → PlainClass
-class_in c = record { attributes = map attribute_in c.attributes.items; features = c.features.items; conforms = c.conforms.items; invariant = map plain_formula c.invariant.items }
+class_in c =
+    record {
+      attributes = map attribute_in c.attributes.items;
+      features = c.features.items;
+      conforms = c.conforms.items;
+      invariant = map plain_formula c.invariant.items;
+    }
 
 -- an attribute by its number in the class, a routine by its number among all features
 abbrev pub entry_of_kind : System → ℕ → DeclaredFeature → FeatureKind → Option FeatureCode
-entry_of_kind s k f (tree.Attribute d) = option_map version.Attribute (attribute_number f.feature.name.text (fresh_attributes s (features s k)))
+entry_of_kind s k f (tree.Attribute d) =
+    option_map version.Attribute (attribute_number f.feature.name.text (fresh_attributes s (features s k)))
 entry_of_kind s k f (tree.Routine d) = option_map version.Routine (feature_number s (names.routine_of f))
 
 abbrev pub entry_of_feature : System → ℕ → Option DeclaredFeature → Option FeatureCode
@@ -154,7 +161,8 @@ entry_of_feature s k (Some f) = entry_of_kind s k f f.feature.kind
 abbrev pub version_entry : System → ℕ → List ℕ → Option FeatureCode
 version_entry s k x = entry_of_feature s k (version_of s k x)
 
--- the class at the number, where names have these numbers; each table is read at one place, so dynamic binding takes constant time
+-- the class at the number, where names have these numbers; each table is read at one place, so dynamic binding takes
+-- constant time
 abbrev pub class_code_of : System → List (List ℕ) → ℕ → PlainClass
 class_code_of s names k = record {
   attributes = map (λ (b : Binding). (b.value, b.type.attached)) (fresh_attributes s (features s k));
@@ -168,7 +176,8 @@ class_code_of s names k = record {
 -- The image is the system in flat code, run from the root.
 pub record IsProgramOf (s : System) (root : Root) (p : Image) : Type 0 where
   pub routines : map (option_map (routine_in (pool_of p.pool))) p.routines.items ≡ codes_of s (all_features s)
-  pub classes : map class_in p.classes.items ≡ map (class_code_of s (pool_of p.pool).names) (range_with_len 0 (length s.classes))
+  pub classes : map class_in p.classes.items ≡ map (class_code_of s (pool_of p.pool).names)
+      (range_with_len 0 (length s.classes))
   pub root_class : number_of s root.class ≡ Some p.root_class
   pub root_procedure : slice_get (pool_of p.pool).names p.root_procedure ≡ Some root.procedure
   pub instructions : p.instructions ≡ code_length s

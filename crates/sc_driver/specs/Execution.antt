@@ -35,8 +35,8 @@ use Rattle.sc_driver.specs.declared.rejection.Rejection.TheVariants as rejection
 abbrev pub kinds : List Lexeme → List Kind
 kinds ts = map (λ t. t.kind) ts
 
--- The text spells tokens that spell the tree, in no more than 1,048,576 bytes and nested at most 64 deep. The tree is one
--- without places.
+-- The text spells tokens that spell the tree, in no more than 1,048,576 bytes and nested at most 64 deep. The tree is
+-- one without places.
 pub record IsSpelled (text : List ℕ) (tree : System) : Type 0 where
   pub tokens : List Lexeme
   pub nesting : ℕ
@@ -156,11 +156,12 @@ pub record Leaves (world : PlainWorld) (text : List ℕ) (statuses : List Status
 abbrev pub line_turns : RecordLine → List ℕ
 line_turns line = replicate line.turns line.handler
 
--- A run on threads whose record has these lines. From the opening of the program, with 512 handlers at most, one thread that
--- makes the lines' turns, one after the other, comes to a world that leaves the report and the handlers standing so. The
--- turns are so many at most, and the lines 1,000,000. Both are fewer only where no handler of that world has anything to do
--- any more.
-pub record IsThreadRun (program : Image) (limit : ℕ) (lines : List RecordLine) (text : List ℕ) (statuses : List Status) :
+-- A run on threads whose record has these lines. From the opening of the program, with 512 handlers at most, one thread
+-- that makes the lines' turns, one after the other, comes to a world that leaves the report and the handlers standing
+-- so. The turns are so many at most, and the lines 1,000,000. Both are fewer only where no handler of that world has
+-- anything to do any more.
+pub record IsThreadRun (program : Image) (limit : ℕ) (lines : List RecordLine) (text : List ℕ)
+    (statuses : List Status) :
     Type 0 where
   pub world : PlainWorld
   pub runs : Runs (flat_map line_turns lines) (opened program Two) world
@@ -177,9 +178,10 @@ pub record IsLoaded (text : List ℕ) (root : Root) (program : Image) : Type 0 w
   pub is_program : IsProgramOf system root program
   pub fits : FitsRequests program
 
--- The text spells a system that is sound. The report, how the handlers stand and the lines of the record are those of a run
--- of its program on threads.
-pub record IsRunOf (text : List ℕ) (root : Root) (limit : ℕ) (lines : List RecordLine) (output : List ℕ) (statuses : List Status) :
+-- The text spells a system that is sound. The report, how the handlers stand and the lines of the record are those of a
+-- run of its program on threads.
+pub record IsRunOf (text : List ℕ) (root : Root) (limit : ℕ) (lines : List RecordLine) (output : List ℕ)
+    (statuses : List Status) :
     Type 0 where
   pub program : Image
   pub loaded : IsLoaded text root program
@@ -187,9 +189,10 @@ pub record IsRunOf (text : List ℕ) (root : Root) (limit : ℕ) (lines : List R
 
 -- ---- replays
 
--- From the opening of the program, with as many handlers as the version has, the turns of these lines, one after the other,
--- lead to a world that leaves the report and the handlers standing so.
-pub record IsReplay (program : Image) (version : Version) (lines : List RecordLine) (text : List ℕ) (statuses : List Status) : Type 0 where
+-- From the opening of the program, with as many handlers as the version has, the turns of these lines, one after the
+-- other, lead to a world that leaves the report and the handlers standing so.
+pub record IsReplay (program : Image) (version : Version) (lines : List RecordLine) (text : List ℕ)
+    (statuses : List Status) : Type 0 where
   pub world : PlainWorld
   pub runs : Runs (flat_map line_turns lines) (opened program version) world
   pub leaves : Leaves world text statuses
@@ -201,9 +204,11 @@ EmptyReplayLeavesOpening = (program : Image) (version : Version) (text : List �
 
 -- A line may be split: one handler's turns, some and then others.
 abbrev pub LinesMayBeSplit : Type 0
-LinesMayBeSplit = (program : Image) (version : Version) (before after : List RecordLine) (h m n : ℕ) (text : List ℕ) (statuses : List Status) →
+LinesMayBeSplit = (program : Image) (version : Version) (before after : List RecordLine) (h m n : ℕ) (text : List ℕ)
+    (statuses : List Status) →
     IsReplay program version (before ++ record { handler = h; turns = m + n } ∷ after) text statuses
-    ↔ IsReplay program version (before ++ record { handler = h; turns = m } ∷ record { handler = h; turns = n } ∷ after) text statuses
+    ↔ IsReplay program version
+    (before ++ record { handler = h; turns = m } ∷ record { handler = h; turns = n } ∷ after) text statuses
 
 -- ---- canonical text
 

@@ -14,4 +14,5 @@ heading_of page = before_first (λ b. b == 10) page
 -- The word is what stands before the first space of the page's first line, its code, or what stands after it, its name.
 abbrev pub IsPageOf : List ℕ → List ℕ → Type 0
 IsPageOf page word =
-    IsSameWord (before_first (λ b. b == 32) (heading_of page)) word ⊎ IsSameWord (after_first (λ b. b == 32) (heading_of page)) word
+    IsSameWord (before_first (λ b. b == 32) (heading_of page)) word
+    ⊎ IsSameWord (after_first (λ b. b == 32) (heading_of page)) word

@@ -59,7 +59,8 @@ result_of Times a b = product_of a b
 result_of Quotient a b = quotient_of a b
 result_of Remainder a b = remainder_of a b
 
--- Division that rounds toward zero: what it leaves is smaller than the divisor, and has the dividend's sign where it isn't 0.
+-- Division that rounds toward zero: what it leaves is smaller than the divisor, and has the dividend's sign where it
+-- isn't 0.
 pub record Divides (dividend divisor quotient remainder : ℤ) : Type 0 where
   pub whole : quotient *ℤ divisor +ℤ remainder ≡ dividend
   pub smaller : unsigned_abs remainder < unsigned_abs divisor

@@ -20,7 +20,8 @@ truth_table Implies a b = not a || b
 truth_table Equal a b = not (either a b)
 truth_table NotEqual a b = either a b
 
--- What the left side decides alone: only the semistrict operators leave the right side unevaluated, where it can't matter.
+-- What the left side decides alone: only the semistrict operators leave the right side unevaluated, where it can't
+-- matter.
 abbrev pub decision_of : Connective → Bool → Option Bool
 decision_of AndThen false = Some false
 decision_of OrElse true = Some true
@@ -32,7 +33,8 @@ abbrev pub decision_or : Option Bool → Option Bool → Option Bool
 decision_or (Some b) other = Some b
 decision_or None other = other
 
--- The truth of two sides joined. A side may have no truth: the left one always counts, the right one where it is evaluated.
+-- The truth of two sides joined. A side may have no truth: the left one always counts, the right one where it is
+-- evaluated.
 abbrev pub connection_of : Connective → Option Bool → Option Bool → Option Bool
 connection_of c None right = None
 connection_of c (Some a) right = decision_or (decision_of c a) (option_map (truth_table c a) right)

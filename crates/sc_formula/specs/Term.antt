@@ -26,4 +26,5 @@ value_of (Integer z) atoms = Some z
 value_of (Attribute n) atoms = integer_at atoms n
 value_of (Identity t) atoms = value_of t atoms
 value_of (Opposite t) atoms = option_and_then (λ z. result_ok (opposite_of z)) (value_of t atoms)
-value_of (Arithmetic l op r) atoms = with_both (λ a b. result_ok (result_of op a b)) (value_of l atoms) (value_of r atoms)
+value_of (Arithmetic l op r) atoms =
+    with_both (λ a b. result_ok (result_of op a b)) (value_of l atoms) (value_of r atoms)

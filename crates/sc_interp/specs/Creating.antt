@@ -30,7 +30,9 @@ has_room_in n (Some a) = has_room n a
 
 -- so many operands are gone, and the reference comes in their place
 abbrev pub given : ℕ → Reference → PlainStore → PlainStore
-given n r x = if has_room_in n (top_activation x.frames) then on_top (with_reference r) (on_top (past n) x) else failed cause.BadCode x
+given n r x =
+    if has_room_in n (top_activation x.frames) then on_top (with_reference r) (on_top (past n) x)
+    else failed cause.BadCode x
 
 -- An object is created of the class of the reference, which is to name it.
 abbrev pub created : Reference → ℕ → PlainStore → PlainStore
@@ -46,7 +48,8 @@ abbrev pub created_at : Reference → ℕ → ℕ → Option PlainActivation →
 created_at r name n None x = failed cause.BadCode x
 created_at r name n (Some a) x =
     if has_room n a && has_operands n a
-    then made_if (routine_in (version_in x.program r.class name)) r (last_values n a.operands.values) (on_top (with_reference r) (on_top (in_call n false) x))
+    then made_if (routine_in (version_in x.program r.class name)) r (last_values n a.operands.values)
+    (on_top (with_reference r) (on_top (in_call n false) x))
     else failed cause.BadCode x
 
 -- the same, and the procedure of the name is called on it, with so many actuals, which are the last operands

@@ -25,7 +25,8 @@ use Rattle.sc_interp.specs.Serving.{version_in}
 
 -- ---- operands
 
--- There are so many operands, and a call takes as many: a routine has at most 16 formals, and a target lies under the actuals.
+-- There are so many operands, and a call takes as many: a routine has at most 16 formals, and a target lies under the
+-- actuals.
 abbrev pub has_operands : ℕ → PlainActivation → Bool
 has_operands n a = nat_lt n 18 && not (nat_lt (length a.operands.values) n)
 
@@ -42,9 +43,11 @@ origin_of calling.Qualified = origin.Qualified
 
 -- it stands again as before the call
 abbrev pub resumed : List Value → ℕ → Stage → PlainActivation → PlainActivation
-resumed us place s a = record a { place = place; stage = s; operands = record a.operands { values = operands_onto us a.operands.values } }
+resumed us place s a =
+    record a { place = place; stage = s; operands = record a.operands { values = operands_onto us a.operands.values } }
 
--- The routine stands at this place in this stage, and its last operands, so many, are these; as many as there are have room.
+-- The routine stands at this place in this stage, and its last operands, so many, are these; as many as there are have
+-- room.
 pub record StandsSo (n : ℕ) (us : List Value) (place : ℕ) (s : Stage) (a : PlainActivation) : Type 0 where
   pub at_place : a.place ≡ place
   pub in_stage : a.stage ≡ s
@@ -93,7 +96,8 @@ abbrev pub called_at : Calling → Reference → ℕ → ℕ → Bool → Option
 called_at c me name n gives None x = failed cause.BadCode x
 called_at c me name n gives (Some a) x =
     if nat_lt n 17 && has_operands (operands_of c n) a
-    then entered_if (routine_in (version_in x.program me.class name)) me (origin_of c) (last_values n a.operands.values) (on_top (in_call (operands_of c n) gives) x)
+    then entered_if (routine_in (version_in x.program me.class name)) me (origin_of c) (last_values n a.operands.values)
+    (on_top (in_call (operands_of c n) gives) x)
     else failed cause.BadCode x
 
 -- The routine of the name is called on the object, with so many actuals, which are the last operands.

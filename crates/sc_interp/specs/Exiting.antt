@@ -49,7 +49,9 @@ is_untested origin.RequestedCreation = false
 -- ---- where the Result goes
 
 abbrev pub handed_value : Value → PlainActivation → PlainActivation
-handed_value v a = if nat_lt (length a.operands.values) a.operands.depth then record a { operands = record a.operands { values = v ∷ a.operands.values } } else a
+handed_value v a =
+    if nat_lt (length a.operands.values) a.operands.depth
+    then record a { operands = record a.operands { values = v ∷ a.operands.values } } else a
 
 abbrev pub handed_as : Bool → Option Value → PlainActivation → PlainActivation
 handed_as true (Some v) a = handed_value v a

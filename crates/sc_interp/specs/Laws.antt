@@ -10,9 +10,12 @@ use Rattle.sc_region.specs.Calls.{past}
 
 -- A silent operation goes ahead: less of the code lies behind its place than before.
 abbrev pub SilentOperationsFall : Type 0
-SilentOperationsFall = (s : System) (c : Code) (me : Reference) (f g : State) → hop s c me f ≡ Goes g → length c.operations - g.place < length c.operations - f.place
+SilentOperationsFall = (s : System) (c : Code) (me : Reference) (f g : State) → hop s c me f ≡ Goes g →
+    length c.operations - g.place < length c.operations - f.place
 
--- Behind a visible operation that takes so many operands a routine stands where flat code does, if a number can say that place.
+-- Behind a visible operation that takes so many operands a routine stands where flat code does, if a number can say
+-- that place.
 abbrev pub VisibleOperationsPass : Type 0
-VisibleOperationsPass = (act : Act) (n : ℕ) (objects : List Object) (a : PlainActivation) → a.place < 18446744073709551615 →
+VisibleOperationsPass = (act : Act) (n : ℕ) (objects : List Object) (a : PlainActivation) →
+    a.place < 18446744073709551615 →
     does act (without n (state_of objects a)) ≡ Does act (state_of objects (past n a))

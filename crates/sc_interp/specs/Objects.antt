@@ -16,7 +16,8 @@ valued (b ∷ bs) (v ∷ vs) = record b { value = v } ∷ valued bs vs
 
 -- An object of a store has the attributes of its class, in the order of the features.
 abbrev pub object_in : System → PlainObject → Object
-object_in s o = record { class = o.class; attributes = valued (fresh_attributes s (features s o.class)) (values_of o.attributes) }
+object_in s o =
+    record { class = o.class; attributes = valued (fresh_attributes s (features s o.class)) (values_of o.attributes) }
 
 abbrev pub objects_in : System → List PlainObject → List Object
 objects_in s os = map (object_in s) os

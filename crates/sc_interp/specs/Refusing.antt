@@ -42,13 +42,15 @@ is_waited_for a slots = list_any (λ slot. is_reserved a slot) slots
 abbrev pub waiting : PlainActivation → PlainActivation
 waiting a = record a { stage = stage.Reserves; place = 0; operands = record a.operands { values = [] }; reserved = [] }
 
--- An own call fails, and a request is refused; where it was to create an object, that stays, so it must meet its invariant.
+-- An own call fails, and a request is refused; where it was to create an object, that stays, so it must meet its
+-- invariant.
 abbrev pub refused_as : Origin → Reference → PlainStore → PlainStore
 refused_as origin.Unqualified me x = failed cause.Precondition x
 refused_as origin.Qualified me x = failed cause.Precondition x
 refused_as origin.Creation me x = failed cause.Precondition x
 refused_as origin.Requested me x = left x
-refused_as origin.RequestedCreation me x = if object_meets x.program (object_numbered me.number x.objects) then left x else failed cause.Invariant x
+refused_as origin.RequestedCreation me x =
+    if object_meets x.program (object_numbered me.number x.objects) then left x else failed cause.Invariant x
 
 abbrev pub refused_at : List ℕ → Option Reference → Option PlainActivation → PlainStore → PlainStore
 refused_at slots (Some me) (Some a) x = if is_waited_for a slots then on_top waiting x else refused_as a.origin me x
@@ -62,4 +64,6 @@ refused k x = refused_at (formals_at x.program k) (top_current x.frames) (top_ac
 -- what it asks, unless the routine fails
 abbrev pub asks_refusing : List ℕ → Option PlainActivation → Want
 asks_refusing slots None = want.Continue
-asks_refusing slots (Some a) = if is_waited_for a slots then want.Wait (record { items = a.reserved }) else want.Done None (record { items = a.reserved }) true
+asks_refusing slots (Some a) =
+    if is_waited_for a slots then want.Wait (record { items = a.reserved })
+    else want.Done None (record { items = a.reserved }) true

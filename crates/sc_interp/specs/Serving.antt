@@ -17,11 +17,15 @@ use Rattle.sc_code.specs.Programs.{pool_of}
 
 -- the first class is the second one, or its table names that
 abbrev pub conforms_in : Image → ℕ → ℕ → Bool
-conforms_in p k j = k == j || option_map_or (λ (c : ClassCode). option_map_or (λ b. b) (slice_get c.conforms.items j) false) (slice_get p.classes.items k) false
+conforms_in p k j =
+    k == j || option_map_or (λ (c : ClassCode). option_map_or (λ b. b) (slice_get c.conforms.items j) false)
+    (slice_get p.classes.items k) false
 
 -- what the name of the number is in the class at the number, by its table
 abbrev pub version_in : Image → ℕ → ℕ → Option FeatureCode
-version_in p k x = option_and_then (λ (c : ClassCode). option_and_then (λ (v : Option FeatureCode). v) (slice_get c.features.items x)) (slice_get p.classes.items k)
+version_in p k x =
+    option_and_then (λ (c : ClassCode). option_and_then (λ (v : Option FeatureCode). v) (slice_get c.features.items x))
+    (slice_get p.classes.items k)
 
 -- the number of the attribute that it is
 abbrev pub attribute_in : Option FeatureCode → Option ℕ
@@ -46,6 +50,8 @@ TellsConformance s p = (k j : ℕ) → conforms_in p k j ≡ class_conforms s (c
 -- The same, which attribute of a class has a name, and whether its feature of that name is a routine.
 pub record Serves (s : System) (p : Image) : Type 0 where
   pub conforms : TellsConformance s p
-  pub attributes : (k x : ℕ) (name : List ℕ) → slice_get (pool_of p.pool).names x ≡ Some name → attribute_in (version_in p k x) ≡ attribute_number name (fresh_attributes s (features s k))
+  pub attributes : (k x : ℕ) (name : List ℕ) → slice_get (pool_of p.pool).names x ≡ Some name →
+      attribute_in (version_in p k x) ≡ attribute_number name (fresh_attributes s (features s k))
   pub routines : (k x : ℕ) (name : List ℕ) → slice_get (pool_of p.pool).names x ≡ Some name →
-      is_routine_in (version_in p k x) ≡ option_map (λ (f : DeclaredFeature). is_routine f.feature.kind) (version_of s k name)
+      is_routine_in (version_in p k x) ≡ option_map (λ (f : DeclaredFeature). is_routine f.feature.kind)
+      (version_of s k name)

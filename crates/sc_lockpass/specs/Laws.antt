@@ -9,7 +9,8 @@ Restores = (r : Rights) (client supplier : ℕ) → give_back (passed_by client 
 
 -- Whatever became of the rights since, a client that is given back what it passed holds all that it held.
 abbrev pub HoldsAgain : Type 0
-HoldsAgain = (r now : Rights) (client k : ℕ) → held r client k ≡ true → held (give_back (passed_by client r) now) client k ≡ true
+HoldsAgain = (r now : Rights) (client k : ℕ) → held r client k ≡ true →
+    held (give_back (passed_by client r) now) client k ≡ true
 
 -- And its waiting stack is whose it was: the supplier doesn't keep it.
 abbrev pub TopReturns : Type 0
@@ -17,16 +18,19 @@ TopReturns = (r now : Rights) (client : ℕ) → (give_back (passed_by client r)
 
 -- A supplier holds what it held, and what its client held.
 abbrev pub SupplierHolds : Type 0
-SupplierHolds = (r : Rights) (client supplier k : ℕ) → held (pass client supplier r) supplier k ≡ (held r supplier k || held r client k)
+SupplierHolds = (r : Rights) (client supplier k : ℕ) →
+    held (pass client supplier r) supplier k ≡ (held r supplier k || held r client k)
 
 -- A client that has passed its rights holds itself alone.
 abbrev pub ClientHolds : Type 0
-ClientHolds = (r : Rights) (client supplier k : ℕ) → client ≢ supplier → held (pass client supplier r) client k ≡ (k == client)
+ClientHolds = (r : Rights) (client supplier k : ℕ) → client ≢ supplier →
+    held (pass client supplier r) client k ≡ (k == client)
 
 -- Others hold what they held, but for the client.
 abbrev pub OthersHold : Type 0
 OthersHold =
-    (r : Rights) (client supplier h k : ℕ) → h ≢ client → h ≢ supplier → k ≢ client → held (pass client supplier r) h k ≡ held r h k
+    (r : Rights) (client supplier h k : ℕ) → h ≢ client → h ≢ supplier → k ≢ client →
+    held (pass client supplier r) h k ≡ held r h k
 
 -- A handler that has released all its rights holds itself alone, and the others hold what they held.
 abbrev pub NothingKept : Type 0
@@ -46,7 +50,8 @@ AreUnreserved ks r = (k : ℕ) → is_among k ks ≡ true → r.queue k ≡ None
 -- Reserving handlers that nobody may post to takes nothing from anybody, and releasing them restores all rights.
 abbrev pub TakesNothing : Type 0
 TakesNothing =
-    (r : Rights) (h other k : ℕ) (ks : List ℕ) → AreUnreserved ks r → other ≢ h → held (reserve h ks r) other k ≡ held r other k
+    (r : Rights) (h other k : ℕ) (ks : List ℕ) → AreUnreserved ks r → other ≢ h →
+    held (reserve h ks r) other k ≡ held r other k
 
 abbrev pub ReleaseRestores : Type 0
 ReleaseRestores = (r : Rights) (h : ℕ) (ks : List ℕ) → AreUnreserved ks r → release ks (reserve h ks r) ≡ r

@@ -35,7 +35,8 @@ is_member words k = bit_at (slice_index_or words (k / 64) 0) (k % 64) == 1
 abbrev pub IsBelow : ℕ → List ℕ → Type 0
 IsBelow reach words = (k : ℕ) → reach ≤ k → is_member words k ≡ false
 
--- What a client passed: the handlers to which it could post and on whose waiting stack it could push, as two sets, and who could push on its own.
+-- What a client passed: the handlers to which it could post and on whose waiting stack it could push, as two sets, and
+-- who could push on its own.
 pub record Listing : Type 0 where
   pub client : ℕ
   pub top_holder : Option ℕ

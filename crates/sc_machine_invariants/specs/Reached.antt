@@ -12,7 +12,8 @@ SettledMeetWhereReached = WhereAccepted λ s root. (most : ℕ) (w : World) → 
 
 -- So it does after the turn of any handler.
 abbrev pub SettledMeetAfterTurns : Type 0
-SettledMeetAfterTurns = WhereAccepted λ s root. (most h : ℕ) (w : World) → IsReached most s root w → SettledObjectsMeet s (turn most s h w)
+SettledMeetAfterTurns = WhereAccepted λ s root. (most h : ℕ) (w : World) → IsReached most s root w →
+    SettledObjectsMeet s (turn most s h w)
 
 -- Each object of a free handler does.
 abbrev pub FreeMeetWhereReached : Type 0

@@ -137,7 +137,8 @@ HasGrantsOf w k n = (j x : ℕ) → (HasGrant x n (w.queue j) → x ≡ k) × (H
 abbrev pub HasClient : World → ℕ → Request → Type 0
 HasClient w k r =
     (((w.handlers r.poster).failed ≡ true) × IsNobodys w r.number × HasGrantsOf w k r.number)
-    ⊎ ((v : Wait) × IsOpen v (w.handlers r.poster) × (v.number ≡ r.number) × (v.target ≡ k) × (v.passing ≡ passes r) × (v.asked ≡ r.asked))
+    ⊎ ((v : Wait) × IsOpen v (w.handlers r.poster) × (v.number ≡ r.number) × (v.target ≡ k) × (v.passing ≡ passes r)
+    × (v.asked ≡ r.asked))
 
 -- why k's wait v may have no grant of k's waiting stack: k is told of a failure, or v is stuck and the right was lost
 -- since

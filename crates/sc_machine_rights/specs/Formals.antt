@@ -17,10 +17,13 @@ goes_on (Awaits k gives is_creation) = false
 -- A handler whose topmost frame goes on holds the handlers of that frame's attached separate formals.
 abbrev pub FormalsAreHeld : World → Type 0
 FormalsAreHeld w =
-    (h k : ℕ) (f : Frame) (below : List Frame) (v : Value) → (w.handlers h).failure ≡ None → (w.handlers h).stack ≡ f ∷ below
-    → goes_on f.stage ≡ true → Contains (separate_formals f.environment) v → handler_of v ≡ Some k → held w.rights h k ≡ true
+    (h k : ℕ) (f : Frame) (below : List Frame) (v : Value) → (w.handlers h).failure ≡ None →
+    (w.handlers h).stack ≡ f ∷ below
+    → goes_on f.stage ≡ true → Contains (separate_formals f.environment) v → handler_of v ≡ Some k →
+    held w.rights h k ≡ true
 
--- What the frame knows, but the names of a block that is about to reserve: its body comes next, and its end forgets them.
+-- What the frame knows, but the names of a block that is about to reserve: its body comes next, and its end forgets
+-- them.
 abbrev pub before_reserve : Stage → List Task → List Binding → List Binding
 before_reserve ReservesBlock (Do body ∷ Leave depth ∷ ts) bs = take depth bs
 before_reserve stage ts bs = bs
@@ -32,5 +35,6 @@ open_names f = block_values (before_reserve f.stage f.tasks f.environment)
 -- A handler whose topmost frame goes on holds the handlers of the names of that frame's open blocks.
 abbrev pub NamesAreHeld : World → Type 0
 NamesAreHeld w =
-    (h k : ℕ) (f : Frame) (below : List Frame) (v : Value) → (w.handlers h).failure ≡ None → (w.handlers h).stack ≡ f ∷ below
+    (h k : ℕ) (f : Frame) (below : List Frame) (v : Value) → (w.handlers h).failure ≡ None →
+    (w.handlers h).stack ≡ f ∷ below
     → goes_on f.stage ≡ true → Contains (open_names f) v → handler_of v ≡ Some k → held w.rights h k ≡ true

@@ -22,7 +22,14 @@ root = record { number = 0; poster = 0; waited = false; passed = None; asked = N
 
 -- The root request stands at handler 0. All rights are nobody's.
 abbrev pub opening : World
-opening = record { handlers = put 0 (resting (root ∷ [])) (λ k. resting []); queue = λ k. []; top = λ k. []; next = 1; asks = None }
+opening =
+    record {
+      handlers = put 0 (resting (root ∷ [])) (λ k. resting []);
+      queue = λ k. [];
+      top = λ k. [];
+      next = 1;
+      asks = None;
+    }
 
 abbrev pub IsReached : World → Type 0
 IsReached w = Steps opening w

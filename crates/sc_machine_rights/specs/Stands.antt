@@ -89,10 +89,12 @@ NamesOf machine.Runs f i ks = AreCovered f.current.handler ks (names_in f.tasks 
 NamesOf (machine.InCall gives) f i ks = AreCovered f.current.handler ks (names_in f.tasks f.environment i)
 NamesOf (machine.Awaits k gives b) f i ks = AreCovered f.current.handler ks (names_in f.tasks f.environment i)
 
--- a frame of the machine's is its routine, under its open blocks, the innermost first, under the creation whose answer it awaits
+-- a frame of the machine's is its routine, under its open blocks, the innermost first, under the creation whose answer
+-- it awaits
 abbrev pub IsRoutine : machine.Frame → (List ℕ → Type 0) → (List Frame → Type 0) → List Frame → Type 0
 IsRoutine f Needs Below [] = ⊥
-IsRoutine f Needs Below (g ∷ gs) = IsOrigin g.origin f.origin × (handlers_of g.reserved ≡ f.reserved) × Below gs × Needs g.needs
+IsRoutine f Needs Below (g ∷ gs) =
+    IsOrigin g.origin f.origin × (handlers_of g.reserved ≡ f.reserved) × Below gs × Needs g.needs
 
 abbrev pub AreBlocks : (ℕ → List ℕ → Type 0) → List (List ℕ) → (List Frame → Type 0) → List Frame → Type 0
 AreBlocks Names [] Below gs = Below gs
@@ -146,7 +148,9 @@ IsStaged (machine.InCall gives) at Below gs = (waits_for gs ≡ None) × Below g
 abbrev pub IsStack : List machine.Frame → List Frame → Type 0
 IsStack [] [] = Unit {0}
 IsStack [] (g ∷ gs) = ⊥
-IsStack (f ∷ fs) gs = IsStaged f.stage (place_of f fs) (AreBlocks (NamesOf f.stage f) f.blocks (IsRoutine f (NeedsOf f.stage f) (IsStack fs))) gs
+IsStack (f ∷ fs) gs =
+    IsStaged f.stage (place_of f fs)
+    (AreBlocks (NamesOf f.stage f) f.blocks (IsRoutine f (NeedsOf f.stage f) (IsStack fs))) gs
 
 -- ---- handlers and worlds
 

@@ -16,8 +16,8 @@ pub record Grant : Type 0 where
   pub holder : ℕ
   pub number : ℕ
 
--- What the request of a handler asks for, and what its poster takes, where names stand for these; whether its poster lends all
--- that it has reserved, and what is left to do of each routine on its stack, the topmost first.
+-- What the request of a handler asks for, and what its poster takes, where names stand for these; whether its poster
+-- lends all that it has reserved, and what is left to do of each routine on its stack, the topmost first.
 pub record Asked : Type 0 where
   pub poster : ℕ
   pub target : Reference
@@ -166,7 +166,8 @@ land b k r w = record w { handlers = put k (arrive b r (w.handlers k)) w.handler
 abbrev pub post : ℕ → ℕ → World → World
 post h k w = record w {
   handlers =
-      put k (arrive false (record { number = w.next; poster = h; waited = false; passed = None; asked = w.asks }) (w.handlers k))
+      put k (arrive false (record { number = w.next; poster = h; waited = false; passed = None; asked = w.asks })
+      (w.handlers k))
       w.handlers;
   next = suc w.next;
 }
@@ -225,7 +226,10 @@ resumed (f ∷ fs) = record f { waits = None } ∷ fs
 
 abbrev pub take_answer : ℕ → World → World
 take_answer h w =
-    record w { handlers = put h (record (w.handlers h) { stack = resumed (w.handlers h).stack; answer = None }) w.handlers }
+    record w {
+      handlers = put h
+          (record (w.handlers h) { stack = resumed (w.handlers h).stack; answer = None }) w.handlers;
+    }
 
 -- ---- reserving and releasing
 

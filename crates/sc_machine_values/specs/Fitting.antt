@@ -19,11 +19,13 @@ use Rattle.sc_machine_values.specs.Points.{AttributesFit, Each, IsAmong, PointFi
 
 -- ---- objects
 
--- The reference is to an object that is there, of its class, or to the first one of a handler whose creation waits to be
--- taken.
+-- The reference is to an object that is there, of its class, or to the first one of a handler whose creation waits to
+-- be taken.
 pub data IsThere (w : World) (r : Reference) : Type 0 where
-  is_made : {o : Object} → r.handler < w.count → object_numbered r.number (w.handlers r.handler).objects ≡ Some o → o.class ≡ r.class → IsThere w r
-  is_due : {q : Request} {qs : List Request} {x : Option (List ℕ)} → r.handler < w.count → (w.handlers r.handler).objects ≡ [] → (w.handlers r.handler).queue ≡ q ∷ qs →
+  is_made : {o : Object} → r.handler < w.count → object_numbered r.number (w.handlers r.handler).objects ≡ Some o →
+      o.class ≡ r.class → IsThere w r
+  is_due : {q : Request} {qs : List Request} {x : Option (List ℕ)} → r.handler < w.count →
+      (w.handlers r.handler).objects ≡ [] → (w.handlers r.handler).queue ≡ q ∷ qs →
       q.target ≡ r → q.errand ≡ Makes x → r.number ≡ 1 → IsThere w r
 
 abbrev pub ValueIsThere : World → Value → Type 0
@@ -37,20 +39,25 @@ pub record ObjectFits (s : System) (w : World) (h : ℕ) (o : Object) : Type 0 w
 -- ---- requests
 
 -- pair by pair: the actuals fit the types of the formals, seen from the target's handler
-pub data ActualsFit (s : System) (h : ℕ) (all : List Declaration) (of : Reserved → Option ℕ) : List Declaration → List Value → Type 0 where
+pub data ActualsFit (s : System) (h : ℕ) (all : List Declaration) (of : Reserved → Option ℕ) : List Declaration →
+    List Value → Type 0 where
   no_more : ActualsFit s h all of [] []
-  one_more : {d : Declaration} {ds : List Declaration} {v : Value} {vs : List Value} {t : EntityType} → declared_type s all d.declared_type ≡ Some t →
+  one_more : {d : Declaration} {ds : List Declaration} {v : Value} {vs : List Value} {t : EntityType} →
+      declared_type s all d.declared_type ≡ Some t →
       Fits s h of v t → ActualsFit s h all of ds vs → ActualsFit s h all of (d ∷ ds) (v ∷ vs)
 
--- The class of the target has a version of what is called, a routine if it makes the object; its actuals fit, and lie where there are objects.
+-- The class of the target has a version of what is called, a routine if it makes the object; its actuals fit, and lie
+-- where there are objects.
 pub record RequestFits (s : System) (w : World) (h : ℕ) (r : Request) : Type 0 where
   pub is_here : r.target.handler ≡ h
   pub is_of_class : r.target.class < length s.classes
   pub is_known : (x : List ℕ) → called_name r.errand ≡ Some x → is_some (version_of s r.target.class x) ≡ true
   -- a creation's procedure is a routine
-  pub made_by_routine : (x : List ℕ) (f : DeclaredFeature) → r.errand ≡ Makes (Some x) → version_of s r.target.class x ≡ Some f → is_routine f.feature.kind ≡ true
+  pub made_by_routine : (x : List ℕ) (f : DeclaredFeature) → r.errand ≡ Makes (Some x) →
+      version_of s r.target.class x ≡ Some f → is_routine f.feature.kind ≡ true
   pub target_is_there : IsThere w r.target
-  pub actuals_fit : ActualsFit s r.target.handler (formals_of_request s r) (of_actuals r.actuals) (formals_of_request s r) r.actuals
+  pub actuals_fit : ActualsFit s r.target.handler (formals_of_request s r) (of_actuals r.actuals)
+      (formals_of_request s r) r.actuals
   pub actuals_are_there : Each (ValueIsThere w) r.actuals
 
 -- ---- frames
@@ -63,7 +70,8 @@ coming_to ReservesBlock = []
 coming_to (InCall gives) = listed gives
 coming_to (Awaits k gives is_creation) = listed gives
 
--- Its routine is a version of its object's class, what is left to do is typed, and its values fit and lie where there are objects.
+-- Its routine is a version of its object's class, what is left to do is typed, and its values fit and lie where there
+-- are objects.
 pub record FrameFits (s : System) (pure : RoutineName → Bool) (w : World) (h : ℕ) (f : Frame) : Type 0 where
   pub is_own : f.current.handler ≡ h
   pub is_there : IsAmong (w.handlers h).objects f.current
@@ -80,10 +88,13 @@ Gives s h (Some (Some t)) k cs (Some u) = (v : Value) → Fits s h no_names v t 
 Gives s h None k cs None = Unit {0}
 Gives s h g k cs u = ⊥
 
--- The frames of a stack, each called by the one below it on its own handler, or for a request that asks for what its routine gives.
+-- The frames of a stack, each called by the one below it on its own handler, or for a request that asks for what its
+-- routine gives.
 pub data Linked (s : System) (h : ℕ) : List Frame → Type 0 where
-  alone : {f : Frame} {r : Request} {below : List Frame} → f.origin ≡ Requested r → f.routine.text.result ≡ result_of_request s r → Linked s h below → Linked s h (f ∷ below)
-  called : {f g : Frame} {below : List Frame} {c : Calling} {t : Option EntityType} → f.origin ≡ Called c → g.stage ≡ InCall t →
+  alone : {f : Frame} {r : Request} {below : List Frame} → f.origin ≡ Requested r →
+      f.routine.text.result ≡ result_of_request s r → Linked s h below → Linked s h (f ∷ below)
+  called : {f g : Frame} {below : List Frame} {c : Calling} {t : Option EntityType} → f.origin ≡ Called c →
+      g.stage ≡ InCall t →
       Gives s h f.routine.text.result h g.environment t → Linked s h (g ∷ below) → Linked s h (f ∷ g ∷ below)
   empty : Linked s h []
 
@@ -96,10 +107,12 @@ pub record ReplyFits (s : System) (w : World) (h : ℕ) (v : Option Value) : Typ
   pub is_creation : Bool
   pub stack_is : (w.handlers h).stack ≡ frame ∷ below
   pub stage_is : frame.stage ≡ Awaits supplier takes is_creation
-  pub fits : (t : EntityType) → takes ≡ Some t → (x : Value) × (v ≡ Some x) × Fits s h (handler_named frame.environment) x t × ValueIsThere w x
+  pub fits : (t : EntityType) → takes ≡ Some t →
+      (x : Value) × (v ≡ Some x) × Fits s h (handler_named frame.environment) x t × ValueIsThere w x
 
--- A reply stands only where it is waited for. The link from a request to the frame that waits is by the poster, whose topmost frame
--- that waits for this handler is that of the request (the law on rights: each open wait has its request at its target).
+-- A reply stands only where it is waited for. The link from a request to the frame that waits is by the poster, whose
+-- topmost frame that waits for this handler is that of the request (the law on rights: each open wait has its request
+-- at its target).
 abbrev pub AnswerFits : System → World → ℕ → Type 0
 AnswerFits s w h = (v : Option Value) → (w.handlers h).answer ≡ Some (Reply v) → ReplyFits s w h v
 
@@ -116,9 +129,11 @@ pub record TakesResult (s : System) (w : World) (p : ℕ) (h : ℕ) (result : Op
 
 -- Whoever waits for the request, and has neither failed nor an answer yet, takes such a result.
 abbrev pub IsAwaited : System → World → ℕ → Request → Option (Option EntityType) → Type 0
-IsAwaited s w h r result = (p : ℕ) → p < w.count → r.is_waited ≡ true → r.poster ≡ Some p → (w.handlers p).failure ≡ None → (w.handlers p).answer ≡ None → TakesResult s w p h result
+IsAwaited s w h r result = (p : ℕ) → p < w.count → r.is_waited ≡ true → r.poster ≡ Some p →
+    (w.handlers p).failure ≡ None → (w.handlers p).answer ≡ None → TakesResult s w p h result
 
--- The request may end in the next turn of its handler: the routine that it began runs on top, or it is the next that is taken.
+-- The request may end in the next turn of its handler: the routine that it began runs on top, or it is the next that is
+-- taken.
 pub data MayEnd (x : Handler) (r : Request) : Type 0 where
   runs : {f : Frame} {below : List Frame} → x.stack ≡ f ∷ below → f.stage ≡ Runs → f.origin ≡ Requested r → MayEnd x r
   next : {rs : List Request} → x.stack ≡ [] → x.queue ≡ r ∷ rs → MayEnd x r
@@ -126,11 +141,13 @@ pub data MayEnd (x : Handler) (r : Request) : Type 0 where
 
 -- Whoever waits for what may end takes what it asks for.
 abbrev pub EndsAreAwaited : System → World → Type 0
-EndsAreAwaited s w = (h : ℕ) (r : Request) → h < w.count → MayEnd (w.handlers h) r → IsAwaited s w h r (result_of_request s r)
+EndsAreAwaited s w = (h : ℕ) (r : Request) → h < w.count → MayEnd (w.handlers h) r →
+    IsAwaited s w h r (result_of_request s r)
 
 -- No callback stands beside a reply.
 abbrev pub CallbacksStandAlone : World → Type 0
-CallbacksStandAlone w = (h : ℕ) (r : Request) (v : Option Value) → h < w.count → (w.handlers h).callback ≡ Some r → (w.handlers h).answer ≡ Some (Reply v) → ⊥
+CallbacksStandAlone w = (h : ℕ) (r : Request) (v : Option Value) → h < w.count → (w.handlers h).callback ≡ Some r →
+    (w.handlers h).answer ≡ Some (Reply v) → ⊥
 
 -- ---- the world
 

@@ -18,16 +18,20 @@ use Rattle.sc_machine_values.specs.Typed.{Takes}
 
 -- What fits a type fits each that it conforms to.
 abbrev pub FitWhereConforming : Type 0
-FitWhereConforming = (s : System) (me : ℕ) (of : Reserved → Option ℕ) (v : Value) (t u : EntityType) → conforms s t u ≡ true → Fits s me of v t → Fits s me of v u
+FitWhereConforming = (s : System) (me : ℕ) (of : Reserved → Option ℕ) (v : Value) (t u : EntityType) →
+    conforms s t u ≡ true → Fits s me of v t → Fits s me of v u
 
 -- What fits the declared type of a result on the target's handler fits the combined type, seen by the caller.
 abbrev pub FitWhereGiven : Type 0
-FitWhereGiven = (s : System) (me k : ℕ) (of : Reserved → Option ℕ) (v : Value) (t g : EntityType) (d : DeclaredType) → declared_type s [] d ≡ Some g → Lies t.tag me of k →
+FitWhereGiven = (s : System) (me k : ℕ) (of : Reserved → Option ℕ) (v : Value) (t g : EntityType) (d : DeclaredType) →
+    declared_type s [] d ≡ Some g → Lies t.tag me of k →
     Fits s k no_names v g → Fits s me of v (combined_result t g)
 
--- Values that fit their types, which the rules let pass as actuals behind a target of this type, fit the formals on the target's handler.
+-- Values that fit their types, which the rules let pass as actuals behind a target of this type, fit the formals on the
+-- target's handler.
 abbrev pub FitWherePassed : Type 0
-FitWherePassed = (s : System) (me k : ℕ) (bs : List Binding) (t : EntityType) (formals : List Declaration) (us : List Operand) → Lies t.tag me (handler_named bs) k →
+FitWherePassed = (s : System) (me k : ℕ) (bs : List Binding) (t : EntityType) (formals : List Declaration)
+    (us : List Operand) → Lies t.tag me (handler_named bs) k →
     are_declared s formals formals ≡ true → Takes s (types_of us) (record {
       target = t;
       formals = map (λ (d : Declaration). formal_type (declared_type s formals d.declared_type)) formals;

@@ -28,9 +28,11 @@ types_of us = map (λ (u : Operand). u.type) us
 -- What is known at the point, where values of these types are still to come onto its own.
 pub data Agrees (p : Point) (coming : List EntityType) : Known → Type 0 where
   here : Agrees p coming (at p.text (scope_of p.environment) (types_of p.olds) (coming ++ types_of p.values))
-  held : {n m : Entities} {t : EntityType} {us : List Operand} → coming ≡ [] → p.values ≡ operand (Boolean true) t ∷ us → scope_of p.environment ≡ m →
+  held : {n m : Entities} {t : EntityType} {us : List Operand} → coming ≡ [] →
+      p.values ≡ operand (Boolean true) t ∷ us → scope_of p.environment ≡ m →
       Agrees p coming (after p.text n m (types_of p.olds) (types_of us))
-  denied : {n m : Entities} {t : EntityType} {us : List Operand} → coming ≡ [] → p.values ≡ operand (Boolean false) t ∷ us → Extends n (scope_of p.environment) →
+  denied : {n m : Entities} {t : EntityType} {us : List Operand} → coming ≡ [] →
+      p.values ≡ operand (Boolean false) t ∷ us → Extends n (scope_of p.environment) →
       Agrees p coming (after p.text n m (types_of p.olds) (types_of us))
 
 -- ---- names
@@ -41,7 +43,8 @@ AreBehind bs = Each (λ (b : Binding). is_formal b.role ≡ false) bs
 
 -- A local's type is a declared one, so it names no separate block.
 abbrev pub LocalIsDeclared : System → Binding → Type 0
-LocalIsDeclared s b = is_local b.role ≡ true → (formals : List Declaration) × (d : DeclaredType) × (declared_type s formals d ≡ Some b.type)
+LocalIsDeclared s b = is_local b.role ≡ true →
+    (formals : List Declaration) × (d : DeclaredType) × (declared_type s formals d ≡ Some b.type)
 
 abbrev pub NamesFit : System → ℕ → List Binding → Type 0
 NamesFit s h bs = Each (BindingFits s h bs) bs
@@ -81,8 +84,10 @@ pub record StoreFits (s : System) (me : Reference) (objects : List Object) : Typ
 
 -- ---- the routine
 
--- The routine, on an object of this handler, stands at the point, where values of these types are still to come onto its own.
-pub record PointFits (s : System) (pure : RoutineName → Bool) (r : Routine) (h : ℕ) (coming : List EntityType) (p : Point) : Type 0 where
+-- The routine, on an object of this handler, stands at the point, where values of these types are still to come onto
+-- its own.
+pub record PointFits (s : System) (pure : RoutineName → Bool) (r : Routine) (h : ℕ) (coming : List EntityType)
+    (p : Point) : Type 0 where
   pub text_is : (p.text ≡ r.text) ⊎ (p.text ≡ r.contract)
   -- what is left to do is typed
   pub known : Known

@@ -27,29 +27,36 @@ use Rattle.sc_machine_values.specs.Typed.{IsAtEntry}
 abbrev pub GivesFit : System → ℕ → (Reserved → Option ℕ) → ℕ → Option DeclaredType → Option EntityType → Type 0
 GivesFit s me of k None None = Unit {0}
 GivesFit s me of k (Some d) (Some t) =
-    (g : EntityType) × (declared_type s [] d ≡ Some g) × (is_expanded g.class ≡ false → is_expanded t.class ≡ false) × ((v : Value) → Fits s k no_names v g → Fits s me of v t)
+    (g : EntityType) × (declared_type s [] d ≡ Some g) × (is_expanded g.class ≡ false → is_expanded t.class ≡ false)
+    × ((v : Value) → Fits s k no_names v g → Fits s me of v t)
 GivesFit s me of k d t = ⊥
 
 -- the actuals fit the formals, and what is given fits
-pub data KindFits (s : System) (me : ℕ) (of : Reserved → Option ℕ) (k : ℕ) (us : List Operand) (gives : Option EntityType) : FeatureKind → Type 0 where
-  a_routine : {version : RoutineDeclaration} → ActualsFit s k version.formals (of_actuals (values_of us)) version.formals (values_of us) →
+pub data KindFits (s : System) (me : ℕ) (of : Reserved → Option ℕ) (k : ℕ) (us : List Operand)
+    (gives : Option EntityType) : FeatureKind → Type 0 where
+  a_routine : {version : RoutineDeclaration} →
+      ActualsFit s k version.formals (of_actuals (values_of us)) version.formals (values_of us) →
       GivesFit s me of k version.result_type gives → KindFits s me of k us gives (tree.Routine version)
-  an_attribute : {d : DeclaredType} → us ≡ [] → GivesFit s me of k (Some d) gives → KindFits s me of k us gives (tree.Attribute d)
+  an_attribute : {d : DeclaredType} → us ≡ [] → GivesFit s me of k (Some d) gives →
+      KindFits s me of k us gives (tree.Attribute d)
 
 -- The object's class has a version of the name, which the call fits.
-pub record CallFits (s : System) (me : ℕ) (of : Reserved → Option ℕ) (o : Reference) (x : List ℕ) (us : List Operand) (gives : Option EntityType) : Type 0 where
+pub record CallFits (s : System) (me : ℕ) (of : Reserved → Option ℕ) (o : Reference) (x : List ℕ) (us : List Operand)
+    (gives : Option EntityType) : Type 0 where
   pub version : DeclaredFeature
   pub is_version : version_of s o.class x ≡ Some version
   pub fits : KindFits s me of o.handler us gives version.feature.kind
 
 -- a routine of the object is entered so
-abbrev pub EntryFits : System → ℕ → (Reserved → Option ℕ) → Reference → List ℕ → List Operand → Option EntityType → Type 0
+abbrev pub EntryFits : System → ℕ → (Reserved → Option ℕ) → Reference → List ℕ → List Operand →
+    Option EntityType → Type 0
 EntryFits s me of o x us gives = (c : CallFits s me of o x us gives) × (is_routine c.version.feature.kind ≡ true)
 
 -- On whichever handler the new object lies, its creation procedure takes the actuals.
 abbrev pub CreationFits : System → ℕ → (Reserved → Option ℕ) → ℕ → Option (List ℕ) → List Operand → Type 0
 CreationFits s me of k None us = us ≡ []
-CreationFits s me of k (Some x) us = (j : ℕ) → EntryFits s me of (record { handler = j; number = 1; class = k }) x us None
+CreationFits s me of k (Some x) us = (j : ℕ) →
+    EntryFits s me of (record { handler = j; number = 1; class = k }) x us None
 
 -- One of the names lies on the handler: an attached separate formal, or the name of a separate block.
 pub data IsNamed (bs : List Binding) (k : ℕ) : Type 0 where
@@ -75,12 +82,15 @@ module _ (s : System) (pure : RoutineName → Bool) (r : Routine) (me : Referenc
   abbrev pub ActFits : Act → Point → Type 0
   ActFits (Fails why) p = (is_excluded why ≡ false) × StoreFits s me p.objects
   ActFits (Enters c o x us gives) p =
-      (o.handler ≡ me.handler) × IsAmong p.objects o × EntryFits s me.handler (handler_named p.environment) o x us gives × StandsSo (listed gives) p
+      (o.handler ≡ me.handler) × IsAmong p.objects o × EntryFits s me.handler (handler_named p.environment) o x us gives
+      × StandsSo (listed gives) p
   ActFits (Requests o x us gives passes) p =
-      CallFits s me.handler (handler_named p.environment) o x us gives × StandsSo (listed gives) p × IsNamed p.environment o.handler
+      CallFits s me.handler (handler_named p.environment) o x us gives × StandsSo (listed gives) p
+      × IsNamed p.environment o.handler
   ActFits (CreatesHandler k x us t passes) p =
       (k < length s.classes) × CreationFits s me.handler (handler_named p.environment) k x us
-      × ((j : ℕ) → Fits s me.handler (handler_named p.environment) (Attached (record { handler = j; number = 1; class = k })) t) × StandsSo (t ∷ []) p
+      × ((j : ℕ) → Fits s me.handler (handler_named p.environment)
+      (Attached (record { handler = j; number = 1; class = k })) t) × StandsSo (t ∷ []) p
   ActFits (Refuses k) p = IsAtEntry s r p.text (scope_of p.environment) (types_of p.olds) × StandsSo [] p
   ActFits act p = StandsSo [] p
 

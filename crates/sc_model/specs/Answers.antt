@@ -4,7 +4,8 @@ use Rattle.sc_lockpass.specs.Passing.{Passed, give_back}
 use Rattle.sc_model.specs.declared.cause.Cause.{Cause}
 use Rattle.sc_model.specs.Handlers.{Request, Answer, Reply, Failed, Refused, Handler, World, put}
 
--- A handler that has failed takes no answer, and one that has an answer keeps it; but that a supplier has failed it always hears.
+-- A handler that has failed takes no answer, and one that has an answer keeps it; but that a supplier has failed it
+-- always hears.
 abbrev pub heard : Answer → Option Cause → Option Answer → Option Answer
 heard a (Some why) old = old
 heard Failed None old = Some Failed

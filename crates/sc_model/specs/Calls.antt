@@ -1,4 +1,5 @@
--- Calls (ECMA-367, 8.23): on the same handler the version of the object's class is entered; another handler is asked (after Nienaltowski's thesis).
+-- Calls (ECMA-367, 8.23): on the same handler the version of the object's class is entered; another handler is asked
+-- (after Nienaltowski's thesis).
 use Rattle.std.specs.Prelude.{ℕ, Bool, false, not, ◌&&◌, ◌||◌, ◌==◌, List, [], ◌∷◌, Option, Some, None, if◌then◌else◌}
 use Rattle.sc_tree.specs.Plain.{System, FeatureKind, Attribute, Routine}
 use Rattle.sc_class.specs.declared.identity.ClassId.TheVariants as class
@@ -43,12 +44,14 @@ enters_unqualified me x us (Some gives) p = Does (Enters Unqualified me x us giv
 
 abbrev pub calls_own : System → Reference → List ℕ → Option DeclaredFeature → List Operand → Point → Step
 calls_own s me x None us p = stuck p
-calls_own s me x (Some f) us p = enters_unqualified me x us (given_by (signature_of s (current (place_in s p.text)) f).gives) p
+calls_own s me x (Some f) us p =
+    enters_unqualified me x us (given_by (signature_of s (current (place_in s p.text)) f).gives) p
 
 -- a routine of Current with these actuals
 abbrev pub calls_unqualified : System → Reference → List ℕ → Option (List Operand × List Operand) → Point → Step
 calls_unqualified s me x None p = stuck p
-calls_unqualified s me x (Some (us, vs)) p = calls_own s me x (feature_named s (class.Declared p.text.class) x) us (record p { values = vs })
+calls_unqualified s me x (Some (us, vs)) p =
+    calls_own s me x (feature_named s (class.Declared p.text.class) x) us (record p { values = vs })
 
 -- ---- qualified calls
 
@@ -58,7 +61,8 @@ calls_kind r x us None o (Attribute d) p = stuck p
 calls_kind r x us gives o (Routine c) p = Does (Enters Qualified r x us gives) p
 
 -- an attribute of the object is read, or a routine entered
-abbrev pub calls_version : Reference → List ℕ → List Operand → Option EntityType → Option Object → Option DeclaredFeature → Point → Step
+abbrev pub calls_version : Reference → List ℕ → List Operand → Option EntityType → Option Object →
+    Option DeclaredFeature → Point → Step
 calls_version r x us gives (Some o) (Some f) p = calls_kind r x us gives o f.feature.kind p
 calls_version r x us gives o f p = stuck p
 
@@ -70,14 +74,16 @@ requests r tag.Any x us gives passes p = Does (Requests r x us gives passes) p
 requests r tag.None x us gives passes p = Does (Requests r x us gives passes) p
 
 -- the object's own handler runs it, whatever the type of the target
-abbrev pub calls_object : System → Reference → Reference → EntityType → List ℕ → List Operand → Signature → Option (Option EntityType) → Point → Step
+abbrev pub calls_object : System → Reference → Reference → EntityType → List ℕ → List Operand → Signature →
+    Option (Option EntityType) → Point → Step
 calls_object s me r t x us g None p = stuck p
 calls_object s me r t x us g (Some gives) p =
     if r.handler == me.handler
     then calls_version r x us gives (object_numbered r.number p.objects) (version_of s r.class x) p
     else requests r t.tag x us gives (passes_rights g.formals us) p
 
-abbrev pub calls_on : System → Reference → List ℕ → Value → EntityType → Option DeclaredFeature → List Operand → Point → Step
+abbrev pub calls_on : System → Reference → List ℕ → Value → EntityType → Option DeclaredFeature →
+    List Operand → Point → Step
 calls_on s me x Void t f us p = fails cause.VoidTarget p
 calls_on s me x (Integer z) t f us p = stuck p
 calls_on s me x (Boolean b) t f us p = stuck p
@@ -89,4 +95,5 @@ calls_on s me x (Attached r) t (Some f) us p =
 abbrev pub calls_qualified : System → Reference → List ℕ → Option (List Operand × List Operand) → Point → Step
 calls_qualified s me x None p = stuck p
 calls_qualified s me x (Some (us, [])) p = stuck p
-calls_qualified s me x (Some (us, v ∷ vs)) p = calls_on s me x v.value v.type (feature_named s v.type.class x) us (record p { values = vs })
+calls_qualified s me x (Some (us, v ∷ vs)) p =
+    calls_on s me x v.value v.type (feature_named s v.type.class x) us (record p { values = vs })

@@ -10,9 +10,11 @@ asked_by (Requested r) = r.poster
 
 -- The first handler waits for the second: one of its frames awaits its answer, the topmost or one below it.
 pub data WaitsFor (w : World) (h k : ℕ) : Type 0 where
-  waits : {f : Frame} {gives : Option EntityType} {is_creation : Bool} → Contains (w.handlers h).stack f → f.stage ≡ Awaits k gives is_creation → WaitsFor w h k
+  waits : {f : Frame} {gives : Option EntityType} {is_creation : Bool} → Contains (w.handlers h).stack f →
+      f.stage ≡ Awaits k gives is_creation → WaitsFor w h k
 
--- The chain of a request that the first handler posted and waits for: the first handler, and whoever one of the chain waits for.
+-- The chain of a request that the first handler posted and waits for: the first handler, and whoever one of the chain
+-- waits for.
 pub data InChain (w : World) (h : ℕ) : ℕ → Type 0 where
   poster : InChain w h h
   further : {j k : ℕ} → InChain w h j → WaitsFor w j k → InChain w h k

@@ -1,4 +1,5 @@
--- When a clause holds: evaluated over the objects of all handlers at once, with the bodies of functions and without their contracts, it is true.
+-- When a clause holds: evaluated over the objects of all handlers at once, with the bodies of functions and without
+-- their contracts, it is true.
 use Rattle.std.specs.Prelude.{ℕ, zero, suc, ◌≡◌, true, List, [], ◌∷◌, Option, Some, None, if◌then◌else◌}
 use Rattle.sc_tree.specs.Plain as tree
 use Rattle.sc_tree.specs.Plain.{System, Clause, FeatureKind}
@@ -36,7 +37,8 @@ last_value (u ∷ us) = Comes u.value
 -- a value for the caller, that its call gives as one of this type
 abbrev pub goes_to : Option EntityType → Value → Evaluation → List Evaluation → EvaluationState
 goes_to None v e callers = Sticks
-goes_to (Some t) v e callers = Further (record e { point = record e.point { values = operand v t ∷ e.point.values } }) callers
+goes_to (Some t) v e callers =
+    Further (record e { point = record e.point { values = operand v t ∷ e.point.values } }) callers
 
 -- a function returns its Result, unless that is unset
 abbrev pub returns : Option Operand → Evaluation → List Evaluation → EvaluationState
@@ -53,27 +55,44 @@ ends p (e ∷ callers) = returns p.result e callers
 -- the body of a function, without its contract
 abbrev pub body_point : System → Routine → List Object → List Binding → Point
 body_point s q objects bs =
-    record { objects = objects; text = q.text; environment = bs; result = result_of q.text.result; olds = []; tasks = Declare q.locals ∷ Do q.body ∷ []; values = [] }
+    record {
+      objects = objects;
+      text = q.text;
+      environment = bs;
+      result = result_of q.text.result;
+      olds = [];
+      tasks = Declare q.locals ∷ Do q.body ∷ [];
+      values = [];
+    }
 
-abbrev pub evaluates_bound : System → Reference → Routine → List Object → List Evaluation → Option (List Binding) → EvaluationState
+abbrev pub evaluates_bound : System → Reference → Routine → List Object → List Evaluation → Option (List Binding) →
+    EvaluationState
 evaluates_bound s r q objects callers None = Sticks
-evaluates_bound s r q objects callers (Some bs) = Further (record { current = r; point = body_point s q objects bs; gives = None }) callers
+evaluates_bound s r q objects callers (Some bs) =
+    Further (record { current = r; point = body_point s q objects bs; gives = None }) callers
 
-abbrev pub evaluates_routine : System → Reference → List Operand → List Object → List Evaluation → Option Routine → EvaluationState
+abbrev pub evaluates_routine : System → Reference → List Operand → List Object → List Evaluation → Option Routine →
+    EvaluationState
 evaluates_routine s r us objects callers None = Sticks
-evaluates_routine s r us objects callers (Some q) = evaluates_bound s r q objects callers (formals_bound s q.text.formals 0 q.text.formals (values_of us))
+evaluates_routine s r us objects callers (Some q) =
+    evaluates_bound s r q objects callers (formals_bound s q.text.formals 0 q.text.formals (values_of us))
 
 -- an attribute gives its value, unless that is unset
 abbrev pub gives_attribute : Option EntityType → Option Binding → Evaluation → List Evaluation → EvaluationState
-gives_attribute (Some t) (Some b) e callers = if is_unset_value b.value b.type then Sticks else goes_to (Some t) b.value e callers
+gives_attribute (Some t) (Some b) e callers =
+    if is_unset_value b.value b.type then Sticks else goes_to (Some t) b.value e callers
 gives_attribute gives b e callers = Sticks
 
-abbrev pub calls_kind : System → Reference → List ℕ → List Operand → List Object → Object → DeclaredFeature → FeatureKind → Evaluation → List Evaluation → EvaluationState
-calls_kind s r x us objects o f (tree.Attribute d) e callers = gives_attribute e.gives (binding_named x o.attributes) e callers
-calls_kind s r x us objects o f (tree.Routine c) e callers = evaluates_routine s r us objects (e ∷ callers) (routine_of s f)
+abbrev pub calls_kind : System → Reference → List ℕ → List Operand → List Object → Object → DeclaredFeature →
+    FeatureKind → Evaluation → List Evaluation → EvaluationState
+calls_kind s r x us objects o f (tree.Attribute d) e callers =
+    gives_attribute e.gives (binding_named x o.attributes) e callers
+calls_kind s r x us objects o f (tree.Routine c) e callers =
+    evaluates_routine s r us objects (e ∷ callers) (routine_of s f)
 
 -- the object's version of the feature, on its handler's objects
-abbrev pub calls : System → Reference → List ℕ → List Operand → List Object → Option Object → Option DeclaredFeature → Evaluation → List Evaluation → EvaluationState
+abbrev pub calls : System → Reference → List ℕ → List Operand → List Object → Option Object → Option DeclaredFeature →
+    Evaluation → List Evaluation → EvaluationState
 calls s r x us objects (Some o) (Some f) e callers = calls_kind s r x us objects o f f.feature.kind e callers
 calls s r x us objects o f e callers = Sticks
 
@@ -84,10 +103,13 @@ call_of s w r x us e callers =
 
 -- ---- evaluation
 
--- The steps are those of a turn, but that a call is done at once, on whatever handler. Nothing else that is seen stands in a clause.
+-- The steps are those of a turn, but that a call is done at once, on whatever handler. Nothing else that is seen stands
+-- in a clause.
 abbrev pub acts : System → World → Reference → Act → Point → List Evaluation → EvaluationState
-acts s w me (Enters c r x us gives) p callers = call_of s w r x us (record { current = me; point = p; gives = gives }) callers
-acts s w me (Requests r x us gives passing) p callers = call_of s w r x us (record { current = me; point = p; gives = gives }) callers
+acts s w me (Enters c r x us gives) p callers =
+    call_of s w r x us (record { current = me; point = p; gives = gives }) callers
+acts s w me (Requests r x us gives passing) p callers =
+    call_of s w r x us (record { current = me; point = p; gives = gives }) callers
 acts s w me Until p callers = Further (record { current = me; point = p; gives = None }) callers
 acts s w me Exits p callers = ends p callers
 acts s w me other p callers = Sticks
@@ -109,7 +131,11 @@ after (suc n) s w o = after n s w (next s w o)
 abbrev pub begun : World → Frame → Clause → EvaluationState
 begun w f k = Further (record {
   current = f.current;
-  point = record (point_of f (w.handlers f.current.handler).objects) { text = f.routine.contract; tasks = Eval 0 k.condition ∷ []; values = [] };
+  point = record (point_of f (w.handlers f.current.handler).objects) {
+    text = f.routine.contract;
+    tasks = Eval 0 k.condition ∷ [];
+    values = [];
+  };
   gives = None;
 }) []
 

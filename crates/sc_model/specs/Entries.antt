@@ -43,7 +43,8 @@ entry me r o bs = record {
   mark = [];
 }
 
-abbrev pub enters_bound : ℕ → Reference → Routine → Origin → List Frame → List Request → Option (List Binding) → World → World
+abbrev pub enters_bound : ℕ → Reference → Routine → Origin → List Frame → List Request →
+    Option (List Binding) → World → World
 enters_bound h me r o below taken None w = fails_with h cause.BadCode taken w
 enters_bound h me r o below taken (Some bs) w =
     if nat_lt (length below) max_frames
@@ -51,9 +52,11 @@ enters_bound h me r o below taken (Some bs) w =
     else fails_with h cause.StackFull taken w
 
 -- The routine is entered on top of this stack, perhaps for a request that is taken.
-abbrev pub enters : System → ℕ → Reference → Option Routine → Origin → List Frame → List Request → List Value → World → World
+abbrev pub enters : System → ℕ → Reference → Option Routine → Origin → List Frame → List Request →
+    List Value → World → World
 enters s h me None o below taken vs w = fails_with h cause.BadCode taken w
-enters s h me (Some r) o below taken vs w = enters_bound h me r o below taken (formals_bound s r.text.formals 0 r.text.formals vs) w
+enters s h me (Some r) o below taken vs w =
+    enters_bound h me r o below taken (formals_bound s r.text.formals 0 r.text.formals vs) w
 
 -- ---- reserve steps
 
@@ -75,7 +78,8 @@ block_needs h f w = needed_for h (opened_in f.environment f.tasks) w
 -- These are reserved, all at once, and the frame becomes this one; where one of them is lost the step fails.
 abbrev pub reserves : ℕ → List ℕ → Frame → List Frame → World → World
 reserves h ks f below w =
-    if reserve_fails (standing_in w) w.rights ks then fail h cause.SupplierFailed w else reserve h ks (with_stack h (f ∷ below) w)
+    if reserve_fails (standing_in w) w.rights ks then fail h cause.SupplierFailed w
+    else reserve h ks (with_stack h (f ∷ below) w)
 
 -- the step, where it is enabled
 abbrev pub reserves_if : Bool → ℕ → List ℕ → Frame → List Frame → World → World
@@ -86,7 +90,9 @@ abbrev pub may_reserve : List ℕ → List Marked → World → Bool
 may_reserve ks mark w = reserve_is_enabled (standing_in w) w.rights ks mark
 
 abbrev pub reserves_entry : ℕ → List ℕ → Frame → List Frame → World → World
-reserves_entry h ks f below w = reserves_if (may_reserve ks f.mark w) h ks (record f { stage = Runs; reserved = ks }) below w
+reserves_entry h ks f below w =
+    reserves_if (may_reserve ks f.mark w) h ks (record f { stage = Runs; reserved = ks }) below w
 
 abbrev pub reserves_block : ℕ → List ℕ → Frame → List Frame → World → World
-reserves_block h ks f below w = reserves_if (may_reserve ks [] w) h ks (record f { stage = Runs; blocks = ks ∷ f.blocks }) below w
+reserves_block h ks f below w =
+    reserves_if (may_reserve ks [] w) h ks (record f { stage = Runs; blocks = ks ∷ f.blocks }) below w

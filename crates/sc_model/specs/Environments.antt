@@ -54,7 +54,8 @@ with_binding t x i v bs = None
 -- the formals with their actuals, where there are as many; the first has this number among all of the routine
 abbrev pub formals_bound : System → List Declaration → ℕ → List Declaration → List Value → Option (List Binding)
 formals_bound s all i [] [] = Some []
-formals_bound s all i (d ∷ ds) (v ∷ vs) = with_binding (declared_type s all d.declared_type) d.name.text i v (formals_bound s all (i + 1) ds vs)
+formals_bound s all i (d ∷ ds) (v ∷ vs) =
+    with_binding (declared_type s all d.declared_type) d.name.text i v (formals_bound s all (i + 1) ds vs)
 formals_bound s all i ds vs = None
 
 -- an attached formal that isn't of the current handler
@@ -68,7 +69,9 @@ separate_formals bs = map (λ (b : Binding). b.value) (filter is_separate_formal
 
 -- a local with its default
 abbrev pub local_bound : System → List Declaration → Declaration → Option Binding
-local_bound s formals d = option_map (λ (t : EntityType). bind d.name.text t role.Local (default_of t.class)) (declared_type s formals d.declared_type)
+local_bound s formals d =
+    option_map (λ (t : EntityType). bind d.name.text t role.Local (default_of t.class))
+    (declared_type s formals d.declared_type)
 
 abbrev pub locals_bound : System → List Declaration → List Declaration → List Binding
 locals_bound s formals locals = filter_map (local_bound s formals) locals
@@ -83,7 +86,8 @@ name_bound x (Some t) v = bind x.text t role.Block v ∷ []
 abbrev pub block_bound : List Name → List Operand → List Binding → List Binding
 block_bound [] us bs = bs
 block_bound (x ∷ xs) [] bs = bs
-block_bound (x ∷ xs) (u ∷ us) bs = block_bound xs us (bs ++ name_bound x (block_type (blocks (scope_of bs)) (Some u.type)) u.value)
+block_bound (x ∷ xs) (u ∷ us) bs =
+    block_bound xs us (bs ++ name_bound x (block_type (blocks (scope_of bs)) (Some u.type)) u.value)
 
 abbrev pub block_values : List Binding → List Value
 block_values [] = []

@@ -50,7 +50,8 @@ handed v (f ∷ below) = handed_at f.stage v f ∷ below
 -- What the entry newly reserved is released, and the result goes to the caller, or to the request's poster.
 abbrev pub leaves_to : ℕ → Origin → List ℕ → Option Value → List Frame → World → World
 leaves_to h (Called c) reserved v below w = release release_at.Exit reserved (with_stack h (handed v below) w)
-leaves_to h (Requested r) reserved v below w = finish r (Reply v) (release release_at.Exit reserved (with_stack h below w))
+leaves_to h (Requested r) reserved v below w =
+    finish r (Reply v) (release release_at.Exit reserved (with_stack h below w))
 
 abbrev pub exits : System → ℕ → Frame → List Frame → World → World
 exits s h f below w =

@@ -83,7 +83,8 @@ decided_by op v = None
 abbrev pub evals_right : Option Bool → Bool → BinaryOperator → ℕ → tree.Expr → Operand → Point → Step
 evals_right (Some b) short op i right left p = gives_boolean b p
 evals_right None true op i right left p = comes (Eval i right ∷ Conclude ∷ []) p
-evals_right None false op i right left p = Goes (record p { tasks = Eval i right ∷ ApplyBinary op ∷ p.tasks; values = left ∷ p.values })
+evals_right None false op i right left p =
+    Goes (record p { tasks = Eval i right ∷ ApplyBinary op ∷ p.tasks; values = left ∷ p.values })
 
 abbrev pub concludes : Value → Point → Step
 concludes (Boolean b) p = gives_boolean b p
@@ -106,7 +107,8 @@ reads_own (Some t) b p = reads_attribute b t p
 
 -- an attribute of Current, or a routine with these actuals
 abbrev pub begins_kind : System → Reference → List ℕ → FeatureKind → ℕ → Exprs → Point → Step
-begins_kind s me x (tree.Attribute d) i es p = reads_own (given_type s (current (place_in s p.text)) d) (binding_named x (attributes_of me.number p.objects)) p
+begins_kind s me x (tree.Attribute d) i es p =
+    reads_own (given_type s (current (place_in s p.text)) d) (binding_named x (attributes_of me.number p.objects)) p
 begins_kind s me x (tree.Routine c) i es p = comes (evals i es ++ CallUnqualified x (count es) ∷ []) p
 
 abbrev pub begins_feature : System → Reference → List ℕ → Option DeclaredFeature → ℕ → Exprs → Point → Step
@@ -125,8 +127,10 @@ evaluate s me i (tree.Boolean q b) p = gives_boolean b p
 evaluate s me i (tree.Void q) p = gives Void void p
 evaluate s me i (tree.Current q) p = gives (Attached me) (current (place_in s p.text)) p
 evaluate s me i (tree.Result q) p = reads_result p.result p.text.result p
-evaluate s me i (tree.Call q tree.no_target x es) p = begins_name s me x.text (binding_named x.text p.environment) i es p
-evaluate s me i (tree.Call q (tree.target a) x es) p = comes (Eval i a ∷ evals (i + olds_in a) es ++ CallQualified x.text (count es) ∷ []) p
+evaluate s me i (tree.Call q tree.no_target x es) p =
+    begins_name s me x.text (binding_named x.text p.environment) i es p
+evaluate s me i (tree.Call q (tree.target a) x es) p =
+    comes (Eval i a ∷ evals (i + olds_in a) es ++ CallQualified x.text (count es) ∷ []) p
 evaluate s me i (tree.Unary q unary.Old a) p = gives_found (slice_get p.olds i) p
 evaluate s me i (tree.Unary q op a) p = comes (Eval i a ∷ ApplyUnary op ∷ []) p
 evaluate s me i (tree.Binary q op a b) p = comes (Eval i a ∷ EvalRight op (i + olds_in a) b ∷ []) p

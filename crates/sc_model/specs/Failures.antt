@@ -33,11 +33,13 @@ told true x = answered Failed x
 abbrev pub fallen : Cause → Handler → Handler
 fallen why x = record x { stack = []; failure = Some why; queue = []; callback = None; answer = None }
 
--- The handler fails, perhaps while it takes a request. It releases every right that it holds, and each handler that waits for it is told.
+-- The handler fails, perhaps while it takes a request. It releases every right that it holds, and each handler that
+-- waits for it is told.
 abbrev pub fails_with : ℕ → Cause → List Request → World → World
 fails_with h why taken w = record w {
   handlers = λ k. session_ended (ends_session release.Failure && is_handler h (w.rights.queue k))
-      (if k == h then fallen why (w.handlers k) else told (list_any (is_waited_by k) (taken ++ requests_at (w.handlers h))) (w.handlers k));
+      (if k == h then fallen why (w.handlers k)
+      else told (list_any (is_waited_by k) (taken ++ requests_at (w.handlers h))) (w.handlers k));
   rights = release_all h w.rights;
 }
 

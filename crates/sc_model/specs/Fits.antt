@@ -11,7 +11,8 @@ use Rattle.sc_rules.specs.Names.{is_local}
 use Rattle.sc_model.specs.Values.{Value, Integer, Boolean, Void, Attached, Operand}
 use Rattle.sc_model.specs.Environments.{Binding, handler_named}
 
--- An object of a type with this tag may lie on the last handler, seen from the first one, where names have these handlers.
+-- An object of a type with this tag may lie on the last handler, seen from the first one, where names have these
+-- handlers.
 abbrev pub Lies : Tag → ℕ → (Reserved → Option ℕ) → ℕ → Type 0
 Lies tag.Own me of k = k ≡ me
 Lies tag.Any me of k = Unit {0}
@@ -35,7 +36,8 @@ FitsOrUnset s me of v t = Fits s me of v t ⊎ IsUnset v t
 
 -- an entity of a frame with these
 abbrev pub BindingFits : System → ℕ → List Binding → Binding → Type 0
-BindingFits s me bs b = Fits s me (handler_named bs) b.value b.type ⊎ ((is_local b.role ≡ true) × IsUnset b.value b.type)
+BindingFits s me bs b =
+    Fits s me (handler_named bs) b.value b.type ⊎ ((is_local b.role ≡ true) × IsUnset b.value b.type)
 
 -- an operand of such a frame
 abbrev pub OperandFits : System → ℕ → List Binding → Operand → Type 0

@@ -40,8 +40,9 @@ pub data Origin : Type 0 where
   Called : (calling : Calling) → Origin
   Requested : (request : Request) → Origin
 
--- What a frame does in its next turn: it goes on, it reserves the handlers of its formals or of the names of a separate block, it is in a call
--- on its own handler, or it waits for a supplier's answer, perhaps to a creation. A call gives a value of a type, if any.
+-- What a frame does in its next turn: it goes on, it reserves the handlers of its formals or of the names of a separate
+-- block, it is in a call on its own handler, or it waits for a supplier's answer, perhaps to a creation. A call gives a
+-- value of a type, if any.
 pub data Stage : Type 0 where
   Runs : Stage
   Reserves : Stage
@@ -68,11 +69,27 @@ pub record Frame : Type 0 where
 -- where the frame stands, with these objects
 abbrev pub point_of : Frame → List Object → Point
 point_of f objects =
-    record { objects = objects; text = f.text; environment = f.environment; result = f.result; olds = f.olds; tasks = f.tasks; values = f.values }
+    record {
+      objects = objects;
+      text = f.text;
+      environment = f.environment;
+      result = f.result;
+      olds = f.olds;
+      tasks = f.tasks;
+      values = f.values;
+    }
 
 -- the frame at this point
 abbrev pub frame_at : Frame → Point → Frame
-frame_at f p = record f { text = p.text; environment = p.environment; result = p.result; olds = p.olds; tasks = p.tasks; values = p.values }
+frame_at f p =
+    record f {
+      text = p.text;
+      environment = p.environment;
+      result = p.result;
+      olds = p.olds;
+      tasks = p.tasks;
+      values = p.values;
+    }
 
 -- ---- handlers
 
@@ -88,7 +105,18 @@ pub record Handler : Type 0 where
   pub refused : ℕ  -- how many requests it refused for which nobody waited
 
 abbrev pub new_handler : Handler
-new_handler = record { objects = []; stack = []; output = []; failure = None; queue = []; callback = None; answer = None; sessions = 0; refused = 0 }
+new_handler =
+    record {
+      objects = [];
+      stack = [];
+      output = [];
+      failure = None;
+      queue = [];
+      callback = None;
+      answer = None;
+      sessions = 0;
+      refused = 0;
+    }
 
 -- the handlers, numbered below `count`, and who holds whom
 pub record World : Type 0 where

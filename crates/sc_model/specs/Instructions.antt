@@ -18,7 +18,11 @@ use Rattle.sc_model.specs.Steps.{Point, Prints, Until, Refuses, Opens, Step, Goe
 -- a local of the name, an attribute of Current, or a Result gets the value
 abbrev pub assigns : Reference → Variable → Assignee → Value → Point → Step
 assigns me (Named x) (to_local t) v p = Goes (record p { environment = assigned_to x.text v p.environment })
-assigns me (Named x) (to_attribute t) v p = Goes (record p { objects = with_attributes me.number (assigned_to x.text v (attributes_of me.number p.objects)) p.objects })
+assigns me (Named x) (to_attribute t) v p =
+    Goes (record p {
+      objects = with_attributes me.number
+          (assigned_to x.text v (attributes_of me.number p.objects)) p.objects;
+    })
 assigns me (ResultVariable q) (to_local (Some t)) v p = Goes (record p { result = Some (operand v t) })
 assigns me x a v p = stuck p
 
@@ -72,7 +76,12 @@ required k v p = stuck p
 abbrev pub opens : List Name → Instrs → Option (List Operand × List Operand) → Point → Step
 opens xs body None p = stuck p
 opens xs body (Some (us, vs)) p =
-    Does Opens (record p { environment = block_bound xs us p.environment; tasks = Do body ∷ Leave (length p.environment) ∷ p.tasks; values = vs })
+    Does Opens (record p {
+      environment = block_bound xs us p.environment;
+      tasks = Do body ∷ Leave (length p.environment)
+          ∷ p.tasks;
+      values = vs;
+    })
 
 -- ---- an instruction begins
 
@@ -94,8 +103,10 @@ abbrev pub begins : Instr → Point → Step
 begins (tree.Assign q x e) p = comes (Eval 0 e ∷ AssignTo x ∷ []) p
 begins (tree.PrintText q text) p = Does (Prints text) p
 begins (tree.CallRoutine q tree.no_target x es) p = begins_routine (is_print x.text) x.text es p
-begins (tree.CallRoutine q (tree.target a) x es) p = comes (Eval 0 a ∷ evals 0 es ++ CallQualified x.text (count es) ∷ []) p
-begins (tree.Create q c) p = comes (evals 0 (actuals_of c.call) ++ CreateBy c.variable (procedure_of c.call) (count (actuals_of c.call)) ∷ []) p
+begins (tree.CallRoutine q (tree.target a) x es) p =
+    comes (Eval 0 a ∷ evals 0 es ++ CallQualified x.text (count es) ∷ []) p
+begins (tree.Create q c) p =
+    comes (evals 0 (actuals_of c.call) ++ CreateBy c.variable (procedure_of c.call) (count (actuals_of c.call)) ∷ []) p
 begins (tree.If q e body bs other) p = comes (Eval 0 e ∷ Choose (length p.environment) body bs other ∷ []) p
 begins (tree.Loop q initial e body) p = comes (Do initial ∷ Repeat e body ∷ []) p
 begins (tree.Check q ks) p = comes (checks ks) p

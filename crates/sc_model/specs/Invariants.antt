@@ -65,9 +65,11 @@ arithmetic_term operator left right = None
 -- An expression as a term over these attributes, where it is one.
 abbrev pub term_of : List Binding → Expr → Option PlainTerm
 term_of attributes (Integer span z) = Some (term.Integer z)
-term_of attributes (Call span no_target name no_exprs) = option_and_then (λ found. integer_numbered found.0 found.1) (attribute_named name.text attributes)
+term_of attributes (Call span no_target name no_exprs) =
+    option_and_then (λ found. integer_numbered found.0 found.1) (attribute_named name.text attributes)
 term_of attributes (Unary span operator operand) = unary_term operator (term_of attributes operand)
-term_of attributes (Binary span operator left right) = arithmetic_term (arithmetic_of operator) (term_of attributes left) (term_of attributes right)
+term_of attributes (Binary span operator left right) =
+    arithmetic_term (arithmetic_of operator) (term_of attributes left) (term_of attributes right)
 term_of attributes other = None
 
 abbrev pub unary_formula : UnaryOperator → Option PlainFormula → Option PlainFormula
@@ -84,7 +86,8 @@ connective_formula operator left right = None
 
 -- the number of the attribute that is compared with Void
 abbrev pub void_test : List Binding → Expr → Option ℕ
-void_test attributes (Call span no_target name no_exprs) = option_map (λ found. found.0) (attribute_named name.text attributes)
+void_test attributes (Call span no_target name no_exprs) =
+    option_map (λ found. found.0) (attribute_named name.text attributes)
 void_test attributes other = None
 
 abbrev pub void_formula : BinaryOperator → Option ℕ → Option PlainFormula
@@ -95,7 +98,8 @@ void_formula operator number = None
 -- An expression as a formula over these attributes, where it is one.
 abbrev pub formula_of : List Binding → Expr → Option PlainFormula
 formula_of attributes (Boolean span b) = Some (formula.Constant b)
-formula_of attributes (Call span no_target name no_exprs) = option_and_then (λ found. boolean_numbered found.0 found.1) (attribute_named name.text attributes)
+formula_of attributes (Call span no_target name no_exprs) =
+    option_and_then (λ found. boolean_numbered found.0 found.1) (attribute_named name.text attributes)
 formula_of attributes (Unary span operator operand) = unary_formula operator (formula_of attributes operand)
 formula_of attributes (Binary span operator left (tree.Void here)) = void_formula operator (void_test attributes left)
 formula_of attributes (Binary span operator left right) =
@@ -111,7 +115,8 @@ with_clause clause others = None
 -- the clauses as formulas over these attributes, where each is one
 abbrev pub clauses_of : List Binding → List Clause → Option (List PlainFormula)
 clauses_of attributes [] = Some []
-clauses_of attributes (clause ∷ others) = with_clause (formula_of attributes clause.condition) (clauses_of attributes others)
+clauses_of attributes (clause ∷ others) =
+    with_clause (formula_of attributes clause.condition) (clauses_of attributes others)
 
 -- the joined invariant of the class at the number as formulas
 abbrev pub formulas_of : System → ℕ → Option (List PlainFormula)

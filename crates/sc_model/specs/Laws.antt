@@ -41,7 +41,8 @@ IdleTurnsChangeNothing = (most : ℕ) (s : System) (h : ℕ) (w : World) → has
 
 -- A run of two lists is the run of the second from where the first ends.
 abbrev pub RunsJoin : Type 0
-RunsJoin = (most : ℕ) (s : System) (first second : List ℕ) (w : World) → run most s (first ++ second) w ≡ run most s second (run most s first w)
+RunsJoin = (most : ℕ) (s : System) (first second : List ℕ) (w : World) →
+    run most s (first ++ second) w ≡ run most s second (run most s first w)
 
 -- At no point of the run are there more than so many handlers.
 abbrev pub StaysWithin : ℕ → ℕ → System → List ℕ → World → Type 0
@@ -50,12 +51,14 @@ StaysWithin few most s hs w = (first second : List ℕ) → hs ≡ first ++ seco
 -- Where a run stays within fewer handlers, it is the same where there may be no more.
 abbrev pub FewerAreEnough : Type 0
 FewerAreEnough =
-    (few most : ℕ) (s : System) (hs : List ℕ) (w : World) → few ≤ most → StaysWithin few most s hs w → run few s hs w ≡ run most s hs w
+    (few most : ℕ) (s : System) (hs : List ℕ) (w : World) → few ≤ most → StaysWithin few most s hs w →
+    run few s hs w ≡ run most s hs w
 
 -- A turn only adds to outputs.
 abbrev pub OutputGrows : Type 0
 OutputGrows =
-    (most : ℕ) (s : System) (h : ℕ) (w : World) (k : ℕ) → k < w.count → (added : List ℕ) × (((turn most s h w).handlers k).output ≡ (w.handlers k).output ++ added)
+    (most : ℕ) (s : System) (h : ℕ) (w : World) (k : ℕ) → k < w.count →
+    (added : List ℕ) × (((turn most s h w).handlers k).output ≡ (w.handlers k).output ++ added)
 
 -- A handler that has failed stays as it is, but that its sessions may end.
 abbrev pub FailedHandlersStay : Type 0
@@ -63,14 +66,16 @@ FailedHandlersStay =
     (most : ℕ) (s : System) (h : ℕ) (w : World) (k : ℕ) (why : Cause) → k < w.count → (w.handlers k).failure ≡ Some why
     → record ((turn most s h w).handlers k) { sessions = (w.handlers k).sessions } ≡ w.handlers k
 
--- In an accepted system the joined invariant of each class is a list of formulas over its attributes (ECMA-367, 8.9.16).
+-- In an accepted system the joined invariant of each class is a list of formulas over its attributes (ECMA-367,
+-- 8.9.16).
 abbrev pub InvariantsHaveFormulas : Type 0
 InvariantsHaveFormulas =
-    (s : System) (root : Root) (pure : RoutineName → Bool) → IsFaultless s root → WellFormed s → IsPurity s pure → (j : ℕ)
+    (s : System) (root : Root) (pure : RoutineName → Bool) → IsFaultless s root → WellFormed s →
+    IsPurity s pure → (j : ℕ)
     → (formulas : List PlainFormula) × (formulas_of s j ≡ Some formulas)
 
--- What an entity holds at first says nothing yet: a sum with an INTEGER's default is the other integer, `or` with a BOOLEAN's is the other side, and
--- no object is attached to any other (ECMA-367, 8.19.14).
+-- What an entity holds at first says nothing yet: a sum with an INTEGER's default is the other integer, `or` with a
+-- BOOLEAN's is the other side, and no object is attached to any other (ECMA-367, 8.19.14).
 pub record DefaultsAreNeutral : Type 0 where
   pub integer : (n : ℤ) × (default_of class.Integer ≡ Integer n) × ((z : ℤ) → is_integer z ≡ true → sum_of n z ≡ Ok z)
   pub boolean : (b : Bool) × (default_of class.Boolean ≡ Boolean b) × ((c : Bool) → truth_table connective.Or b c ≡ c)

@@ -38,7 +38,8 @@ abbrev pub performs : System → Reference → Task → List Operand → Point �
 performs s me (Do no_instrs) vs p = Goes p
 performs s me (Do (instr_then i is)) vs p = begins i (record p { tasks = Do is ∷ p.tasks })
 performs s me (In text) vs p = Goes (record p { text = text })
-performs s me (Declare locals) vs p = Goes (record p { environment = p.environment ++ locals_bound s p.text.formals locals })
+performs s me (Declare locals) vs p =
+    Goes (record p { environment = p.environment ++ locals_bound s p.text.formals locals })
 performs s me (Forget depth) vs p = Goes (forgets depth p)
 performs s me (Eval i e) vs p = evaluate s me i e p
 performs s me (CallUnqualified x n) vs p = calls_unqualified s me x (popped n [] vs) p

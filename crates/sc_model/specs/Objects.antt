@@ -17,7 +17,8 @@ pub record Object : Type 0 where
 
 -- an attribute with its default; a routine is none
 abbrev pub fresh_attribute : System → List ℕ → FeatureKind → Option Binding
-fresh_attribute s x (Attribute d) = option_map (λ (t : EntityType). bind x t role.Local (default_of t.class)) (declared_type s [] d)
+fresh_attribute s x (Attribute d) =
+    option_map (λ (t : EntityType). bind x t role.Local (default_of t.class)) (declared_type s [] d)
 fresh_attribute s x (Routine c) = None
 
 abbrev pub fresh_attributes : System → List DeclaredFeature → List Binding

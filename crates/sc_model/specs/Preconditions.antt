@@ -72,7 +72,8 @@ abbrev pub refuses : System → ℕ → Request → Frame → List Frame → Wor
 refuses s h r f below w =
     if is_creation r.errand && not (object_meets s (object_numbered f.current.number (w.handlers h).objects))
     then fail h cause.Invariant w
-    else finish r Refused (release release_at.Refusal f.reserved (put h (counted_refusal r.is_waited (record (w.handlers h) { stack = below })) w))
+    else finish r Refused (release release_at.Refusal f.reserved
+    (put h (counted_refusal r.is_waited (record (w.handlers h) { stack = below })) w))
 
 abbrev pub correctness_fails : System → ℕ → Origin → Frame → List Frame → World → World
 correctness_fails s h (Called c) f below w = fail h cause.Precondition w

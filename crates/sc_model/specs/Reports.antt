@@ -56,12 +56,14 @@ line_feed = 10 ∷ []
 abbrev pub handler_report : ℕ → Handler → Status → List ℕ
 handler_report h x status =
     codes "handler " ++ decimal h ++ codes " " ++ status_text status
-    ++ codes " refused " ++ decimal x.refused ++ codes " output " ++ decimal (length x.output) ++ line_feed ++ x.output ++ line_feed
+    ++ codes " refused " ++ decimal x.refused ++ codes " output " ++ decimal (length x.output) ++ line_feed
+    ++ x.output ++ line_feed
 
 -- the last so many handlers
 abbrev pub handlers_report : ℕ → World → List ℕ
 handlers_report zero w = []
-handlers_report (suc n) w = let h : ℕ = w.count - suc n in handler_report h (w.handlers h) (status_of h w) ++ handlers_report n w
+handlers_report (suc n) w =
+    let h : ℕ = w.count - suc n in handler_report h (w.handlers h) (status_of h w) ++ handlers_report n w
 
 abbrev pub end_text : Bool → List ℕ
 end_text true = codes "stopped limit"

@@ -25,7 +25,10 @@ root_request k procedure = record {
 abbrev pub opening : System → Root → World
 opening s root = record {
   count = 1;
-  handlers = λ k. if nat_lt k 1 then record new_handler { queue = root_request (option_map_or (λ k. k) (number_of s root.class) 0) root.procedure ∷ [] } else new_handler;
+  handlers = λ k. if nat_lt k 1 then record new_handler {
+    queue = root_request
+        (option_map_or (λ k. k) (number_of s root.class) 0) root.procedure ∷ [];
+  } else new_handler;
   rights = unreserved;
 }
 

@@ -22,7 +22,8 @@ pub record IsFree (x : Handler) : Type 0 where
 -- each settled object meets its class invariant (ECMA-367, 8.9.16)
 abbrev pub SettledObjectsMeet : System → World → Type 0
 SettledObjectsMeet s w =
-    (h number : ℕ) (o : Object) → h < w.count → IsSettled (w.handlers h) number → object_numbered number (w.handlers h).objects ≡ Some o → MeetsInvariant s o
+    (h number : ℕ) (o : Object) → h < w.count → IsSettled (w.handlers h) number →
+    object_numbered number (w.handlers h).objects ≡ Some o → MeetsInvariant s o
 
 -- each object of a free handler does
 abbrev pub FreeObjectsMeet : System → World → Type 0

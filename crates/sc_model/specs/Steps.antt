@@ -32,9 +32,12 @@ pub data Act : Type 0 where
   Prints : (text : List ℕ) → Act
   Until : Act  -- an `until`
   Creates : Act  -- an object of the current handler, without a call
-  CreatesHandler : (class : ℕ) (procedure : Option (List ℕ)) (actuals : List Operand) (type : EntityType) (passes : Bool) → Act
-  Enters : (calling : Calling) (object : Reference) (name : List ℕ) (actuals : List Operand) (gives : Option EntityType) → Act
-  Requests : (object : Reference) (name : List ℕ) (actuals : List Operand) (gives : Option EntityType) (passes : Bool) → Act
+  CreatesHandler : (class : ℕ) (procedure : Option (List ℕ)) (actuals : List Operand) (type : EntityType)
+      (passes : Bool) → Act
+  Enters : (calling : Calling) (object : Reference) (name : List ℕ) (actuals : List Operand)
+      (gives : Option EntityType) → Act
+  Requests : (object : Reference) (name : List ℕ) (actuals : List Operand) (gives : Option EntityType)
+      (passes : Bool) → Act
   Starts : Act  -- each clause of the precondition holds
   Refuses : (clause : Clause) → Act  -- this is the first that doesn't
   Opens : Act  -- a separate block

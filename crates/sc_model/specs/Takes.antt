@@ -26,12 +26,14 @@ replies h r (Some t) (Some b) w =
     if is_unset_value b.value t then fails_with h cause.UnsetEntity (r ∷ []) w else finish r (Reply (Some b.value)) w
 replies h r t b w = fails_with h cause.BadCode (r ∷ []) w
 
-abbrev pub takes_kind : System → ℕ → Request → List ℕ → List Frame → Object → DeclaredFeature → FeatureKind → World → World
+abbrev pub takes_kind : System → ℕ → Request → List ℕ → List Frame → Object → DeclaredFeature →
+    FeatureKind → World → World
 takes_kind s h r x below o f (tree.Attribute d) w = replies h r (declared_type s [] d) (binding_named x o.attributes) w
 takes_kind s h r x below o f (tree.Routine c) w =
     enters s h r.target (routine_of s f) (Requested r) below (r ∷ []) r.actuals w
 
-abbrev pub takes_version : System → ℕ → Request → List ℕ → List Frame → Option Object → Option DeclaredFeature → World → World
+abbrev pub takes_version : System → ℕ → Request → List ℕ → List Frame → Option Object →
+    Option DeclaredFeature → World → World
 takes_version s h r x below (Some o) (Some f) w = takes_kind s h r x below o f f.feature.kind w
 takes_version s h r x below o f w = fails_with h cause.BadCode (r ∷ []) w
 
@@ -39,12 +41,15 @@ takes_version s h r x below o f w = fails_with h cause.BadCode (r ∷ []) w
 
 -- without a procedure it is tested at once, and the creation is done
 abbrev pub takes_creation : System → ℕ → Request → Option (List ℕ) → List Frame → World → World
-takes_creation s h r (Some x) below w = enters s h r.target (routine_named s r.target.class x) (Requested r) below (r ∷ []) r.actuals w
+takes_creation s h r (Some x) below w =
+    enters s h r.target (routine_named s r.target.class x) (Requested r) below (r ∷ []) r.actuals w
 takes_creation s h r None below w =
-    if meets_invariant s (fresh_object s r.target.class) then finish r (Reply None) w else fails_with h cause.Invariant (r ∷ []) w
+    if meets_invariant s (fresh_object s r.target.class) then finish r (Reply None) w
+    else fails_with h cause.Invariant (r ∷ []) w
 
 abbrev pub with_new_object : System → ℕ → ℕ → World → World
-with_new_object s h class w = put h (record (w.handlers h) { objects = (w.handlers h).objects ++ fresh_object s class ∷ [] }) w
+with_new_object s h class w =
+    put h (record (w.handlers h) { objects = (w.handlers h).objects ++ fresh_object s class ∷ [] }) w
 
 -- ---- a request
 
@@ -52,7 +57,8 @@ abbrev pub takes_errand : System → ℕ → Request → Errand → List Frame �
 takes_errand s h r (Makes k) below w = takes_creation s h r k below (with_new_object s h r.target.class w)
 takes_errand s h r (Calls x) below w =
     if r.target.handler == h
-    then takes_version s h r x below (object_numbered r.target.number (w.handlers h).objects) (version_of s r.target.class x) w
+    then takes_version s h r x below (object_numbered r.target.number (w.handlers h).objects)
+    (version_of s r.target.class x) w
     else fails_with h cause.ForeignObject (r ∷ []) w
 
 -- the request is taken, on top of this stack

@@ -14,7 +14,8 @@ pub data Task : Type 0 where
   Forget : (depth : ℕ) → Task  -- of the known names so many stay known
   Eval : (olds : ℕ) (expression : Expr) → Task  -- its value comes onto the values
   ApplyUnary : (operator : UnaryOperator) → Task  -- to the last value
-  EvalRight : (operator : BinaryOperator) (olds : ℕ) (right : Expr) → Task  -- the last value decides, or this operand is evaluated too
+  -- the last value decides, or this operand is evaluated too
+  EvalRight : (operator : BinaryOperator) (olds : ℕ) (right : Expr) → Task
   ApplyBinary : (operator : BinaryOperator) → Task  -- to the last two values
   Conclude : Task  -- the last value, a truth value, is that of the whole
   Bind : (tested : Option DeclaredType) (name : List ℕ) → Task  -- an object test of the last value

@@ -25,9 +25,11 @@ effect most s h (Prints text) f below w = prints_text h text w
 effect most s h Until f below w = w
 effect most s h Creates f below w = w
 effect most s h Starts f below w = w
-effect most s h (CreatesHandler class procedure us t passing) f below w = creates_handler most h class procedure us t passing f below w
+effect most s h (CreatesHandler class procedure us t passing) f below w =
+    creates_handler most h class procedure us t passing f below w
 effect most s h (Enters c me x us gives) f below w =
-    enters s h me (routine_named s me.class x) (Called c) (record f { stage = InCall gives } ∷ below) [] (values_of us) w
+    enters s h me (routine_named s me.class x) (Called c) (record f { stage = InCall gives } ∷ below) []
+    (values_of us) w
 effect most s h (Requests r x us gives passing) f below w = request h r x us gives passing f below w
 effect most s h (Refuses k) f below w = false_clause (verdict_on f k) s h f below w
 effect most s h Opens f below w = with_stack h (record f { stage = ReservesBlock } ∷ below) w
@@ -42,7 +44,8 @@ settles most s h (Does a p) f below w =
     effect most s h a (frame_at f p) below (put h (record (w.handlers h) { objects = p.objects; stack = frame_at f p ∷ below }) w)
 
 -- a callback comes before an answer
-abbrev pub waits : System → ℕ → Option Request → Option Answer → ℕ → Option EntityType → Bool → Frame → List Frame → World → World
+abbrev pub waits : System → ℕ → Option Request → Option Answer → ℕ → Option EntityType → Bool → Frame →
+    List Frame → World → World
 waits s h (Some r) a k gives is_creation f below w = takes_callback s h r (f ∷ below) w
 waits s h None (Some a) k gives is_creation f below w = takes_answer h a k gives is_creation f below w
 waits s h None None k gives is_creation f below w = w
@@ -52,7 +55,8 @@ goes_on most s h Runs f below w = settles most s h (moves s f.current (point_of 
 goes_on most s h Reserves f below w = reserves_entry h (entry_needs h f w) f below w
 goes_on most s h ReservesBlock f below w = reserves_block h (block_needs h f w) f below w
 goes_on most s h (InCall gives) f below w = fail h cause.BadCode w
-goes_on most s h (Awaits k gives is_creation) f below w = waits s h (w.handlers h).callback (w.handlers h).answer k gives is_creation f below w
+goes_on most s h (Awaits k gives is_creation) f below w =
+    waits s h (w.handlers h).callback (w.handlers h).answer k gives is_creation f below w
 
 -- a handler that has failed does nothing, one without frames takes the next request, and else its topmost frame goes on
 abbrev pub turn_with : ℕ → System → ℕ → Option Cause → List Frame → World → World

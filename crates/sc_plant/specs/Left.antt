@@ -29,9 +29,10 @@ use Rattle.sc_plant.specs.Regions.{AgreesIn}
 abbrev pub world_of : Left → PlainWorld
 world_of left = record { most = most_handlers left.version; center = center_of left.core; regions = left.regions.items }
 
--- The regions are of this program, the settlements play from the opening to the state of the core, each under the job that was
--- due, and are the lines of the record.
-pub record IsLeftWith (p : Image) (v : Version) (rs : List PlainRegion) (core : coded.Core) (ls : List RecordLine) : Type 0 where
+-- The regions are of this program, the settlements play from the opening to the state of the core, each under the job
+-- that was due, and are the lines of the record.
+pub record IsLeftWith (p : Image) (v : Version) (rs : List PlainRegion) (core : coded.Core)
+    (ls : List RecordLine) : Type 0 where
   pub version : v ≡ Two
   pub count : length rs ≡ max_handlers
   pub programs : All (λ (x : PlainRegion). x.store.program ≡ p) rs
@@ -54,8 +55,8 @@ AgreesAt left h = AgreesIn left.regions.items (log_of left.core) h
 abbrev pub turns_in : List RecordLine → ℕ
 turns_in ls = sum_by (λ (l : RecordLine). l.turns) ls
 
--- No more turns were made than the limit, and the record has 1,000,000 lines at most. No handler is out, and nothing can be
--- picked, or no more may be.
+-- No more turns were made than the limit, and the record has 1,000,000 lines at most. No handler is out, and nothing
+-- can be picked, or no more may be.
 pub record IsOver (limit : ℕ) (c : Center) (ls : List RecordLine) : Type 0 where
   pub few : turns_in ls ≤ limit
   pub lines : length ls ≤ 1000000
@@ -64,7 +65,8 @@ pub record IsOver (limit : ℕ) (c : Center) (ls : List RecordLine) : Type 0 whe
 
 -- The turns of each handler's settlements, one after the other, lead its new region to the one of its number.
 abbrev pub AreMadeBy : Image → List Settlement → List PlainRegion → Type 0
-AreMadeBy p es rs = (h : ℕ) (x : PlainRegion) → slice_get rs h ≡ Some x → ∥ AreMade (settlements_for h es) (new_region p h) x ∥₁
+AreMadeBy p es rs = (h : ℕ) (x : PlainRegion) → slice_get rs h ≡ Some x →
+    ∥ AreMade (settlements_for h es) (new_region p h) x ∥₁
 
 -- They replay to it, with turns among them that memory was refused to.
 abbrev pub AreReplayed : Image → List Settlement → List PlainRegion → Type 0
@@ -104,7 +106,8 @@ RunsAreOneThreads = (p : Image) (limit : ℕ) (left : Left) → IsRun p limit le
     ∥ ((y : PlainWorld) × Runs (turns_of (log_of left.core)) (opened p Two) y
     × EndsIn y (state_of left.core) left.regions.items) ∥₁
 
--- What a run of no more turns than a record may have leaves is a record: its lines name handlers that there can be, each with
--- one turn at least, and there are neither too many lines nor too many turns.
+-- What a run of no more turns than a record may have leaves is a record: its lines name handlers that there can be,
+-- each with one turn at least, and there are neither too many lines nor too many turns.
 abbrev pub LinesAreARecord : Type 0
-LinesAreARecord = (p : Image) (limit : ℕ) (left : Left) → IsRun p limit left → limit ≤ most_turns → IsRecord left.version left.lines.items
+LinesAreARecord = (p : Image) (limit : ℕ) (left : Left) → IsRun p limit left → limit ≤ most_turns →
+    IsRecord left.version left.lines.items

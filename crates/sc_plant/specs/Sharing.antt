@@ -28,4 +28,5 @@ pub record Fits (image : Option Image) (h : ℕ) (x : PlainRegion) (l : Log) : T
 
 -- So each region and each log, by number.
 abbrev pub AreFit : Option Image → List PlainRegion → List Log → Type 0
-AreFit image xs ls = (h : ℕ) (x : PlainRegion) (l : Log) → slice_get xs h ≡ Some x → slice_get ls h ≡ Some l → Fits image h x l
+AreFit image xs ls = (h : ℕ) (x : PlainRegion) (l : Log) → slice_get xs h ≡ Some x → slice_get ls h ≡ Some l →
+    Fits image h x l

@@ -43,9 +43,11 @@ asks_acted h (act.PrintBoolean b) x y = want.Continue
 asks_acted h (act.PrintText k) x y = want.Continue
 asks_acted h (act.Until back) x y = want.Continue
 asks_acted h (act.Enter calling me name n gives) x y = asks_beginning y.program (top_activation y.frames)
-asks_acted h (act.Request r name n gives passes) x y = asks_requesting h (call_of r name n gives passes) (top_activation x.frames)
+asks_acted h (act.Request r name n gives passes) x y =
+    asks_requesting h (call_of r name n gives passes) (top_activation x.frames)
 asks_acted h (act.Create class procedure n) x y = asks_created procedure y
-asks_acted h (act.CreateHandler class procedure n passes) x y = asks_creating (creation_with class procedure n passes) (top_activation x.frames)
+asks_acted h (act.CreateHandler class procedure n passes) x y =
+    asks_creating (creation_with class procedure n passes) (top_activation x.frames)
 asks_acted h act.Start x y = want.Continue
 asks_acted h (act.Refuse k) x y = asks_refusing (formals_at x.program k) (top_activation x.frames)
 asks_acted h (act.Open first n) x y = asks_opening first n (top_activation x.frames)

@@ -20,7 +20,8 @@ runs a = record a { stage = stage.Runs }
 
 -- ---- an answer
 
--- A routine that waits goes on, with the value, where it is given one. One that goes on takes the end of a callback that it posted as a command.
+-- A routine that waits goes on, with the value, where it is given one. One that goes on takes the end of a callback
+-- that it posted as a command.
 abbrev pub replied_in : Option Stage → Option Value → PlainStore → PlainStore
 replied_in (Some (stage.Awaits k gives is_creation)) v x = on_top (λ a. handed_as gives v (runs a)) x
 replied_in (Some stage.Runs) v x = x

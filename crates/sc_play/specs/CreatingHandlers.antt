@@ -24,12 +24,14 @@ abbrev pub may_create : ℕ → PlainActivation → Bool
 may_create n a = has_actuals n a && has_room n a
 
 abbrev pub creation_by : RemoteCreation → ℕ → Option ℕ → PlainActivation → Want
-creation_by c class procedure a = want.Create class procedure (record { items = last_values c.count a.operands.values }) c.passes
+creation_by c class procedure a =
+    want.Create class procedure (record { items = last_values c.count a.operands.values }) c.passes
 
 -- what the creation of an object of the class asks, where its procedure has a number and its operands are there
 abbrev pub creation_of : RemoteCreation → ℕ → PlainActivation → Option Want
 creation_of c class a =
-    option_and_then (λ procedure. if may_create c.count a then Some (creation_by c class procedure a) else None) (procedure_number c.procedure)
+    option_and_then (λ procedure. if may_create c.count a then Some (creation_by c class procedure a) else None)
+    (procedure_number c.procedure)
 
 -- the same of the topmost routine
 abbrev pub creation_in : RemoteCreation → ℕ → Option PlainActivation → Option Want

@@ -16,7 +16,8 @@ nearest_reference h class x = record { handler = h; number = min (length x.objec
 
 -- by the procedure of the name; where there are too many objects it fails for that, whatever the procedure is
 abbrev pub created_by_name : Reference → ℕ → ℕ → PlainStore → PlainStore
-created_by_name r name n x = if nat_lt (length x.objects) max_objects then created_by r name n x else failed cause.TooManyObjects x
+created_by_name r name n x =
+    if nat_lt (length x.objects) max_objects then created_by r name n x else failed cause.TooManyObjects x
 
 -- by the procedure of the name, or without one
 abbrev pub created_with : Option ℕ → Reference → ℕ → PlainStore → PlainStore

@@ -41,7 +41,8 @@ request_by h c name a = record {
 
 -- the request of this handler that the call is, where its name has a number and its operands are there
 abbrev pub request_of : ℕ → RemoteCall → PlainActivation → Option Request
-request_of h c a = option_and_then (λ name. if has_call c.count a then Some (request_by h c name a) else None) (name_number c.name)
+request_of h c a =
+    option_and_then (λ name. if has_call c.count a then Some (request_by h c name a) else None) (name_number c.name)
 
 -- the same of the topmost routine
 abbrev pub request_in : ℕ → RemoteCall → Option PlainActivation → Option Request

@@ -28,7 +28,8 @@ use Rattle.sc_interp.specs.Serving.{version_in}
 abbrev pub attribute_at : Image → ℕ → ℕ → Option AttributeCode
 attribute_at p k n = option_and_then (λ (c : ClassCode). slice_get c.attributes.items n) (class_at p k)
 
--- The attribute, which has this value, is answered at once. It is unset where its type is attached and it is still Void.
+-- The attribute, which has this value, is answered at once. It is unset where its type is attached and it is still
+-- Void.
 abbrev pub answered : Option AttributeCode → Option Value → PlainStore → PlainStore
 answered (Some a) (Some v) x = if a.is_attached && is_void (Some v) then failed cause.UnsetEntity x else x
 answered (Some a) None x = failed cause.BadCode x
@@ -41,7 +42,8 @@ asks_answering v = want.Done v (record { items = [] }) false
 
 abbrev pub taken_version : Request → Option FeatureCode → PlainStore → PlainStore
 taken_version r (Some (version.Routine n)) x = entered r.target n origin.Requested r.actuals.items x
-taken_version r (Some (version.Attribute n)) x = answered (attribute_at x.program r.target.class n) (attribute_of r.target.number n x.objects) x
+taken_version r (Some (version.Attribute n)) x =
+    answered (attribute_at x.program r.target.class n) (attribute_of r.target.number n x.objects) x
 taken_version r None x = failed cause.BadCode x
 
 abbrev pub taken_on : Request → Option PlainObject → Option FeatureCode → PlainStore → PlainStore

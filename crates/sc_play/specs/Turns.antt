@@ -72,7 +72,8 @@ TurnOf h x y w = TurnIn (top_stage x) h x y w
 
 -- ---- the first turn under a job
 
--- The handler that the creator was made is told to it. With lock passing this is the answer, and a turn of its own; else the creator goes on.
+-- The handler that the creator was made is told to it. With lock passing this is the answer, and a turn of its own;
+-- else the creator goes on.
 abbrev pub TurnMade : Option Stage → ℕ → PlainStore → PlainStore → Want → Type 0
 TurnMade None h x y w = Becomes (failed cause.BadCode x) want.Continue y w
 TurnMade (Some (stage.Awaits k gives true)) h x y w = Becomes (on_top runs x) want.Continue y w
@@ -110,21 +111,26 @@ TurnUnder h job.Go x y w = TurnOf h x y w
 abbrev pub FirstTurn : ℕ → Bool → Job → PlainStore → PlainStore → Want → Type 0
 FirstTurn h is_told j x y w = TurnUnder h j (begun is_told j x) y w
 
--- The first turn was made, as this says of the store that it leads to and of what it asks; or nothing was done, and any turn of the handler is that turn.
+-- The first turn was made, as this says of the store that it leads to and of what it asks; or nothing was done, and any
+-- turn of the handler is that turn.
 abbrev pub Begins : Bool → ℕ → (PlainStore → Want → Type 0) → PlainStore → PlainStore → Want → Type 0
 Begins true h First x y w = First y w
 Begins false h First x y w = (y ≡ x) × (w ≡ want.Continue) × ((z : PlainStore) (v : Want) → TurnOf h x z v → First z v)
 
 -- ---- turns
 
--- So many turns under the job lead from the first store to this one, and the last of them asks this. None before it asks anything.
+-- So many turns under the job lead from the first store to this one, and the last of them asks this. None before it
+-- asks anything.
 pub data Turns (h : ℕ) (is_told : Bool) (j : Job) (x : PlainStore) : ℕ → PlainStore → Want → Type 0 where
   first : {y : PlainStore} {w : Want} → FirstTurn h is_told j x y w → Turns h is_told j x 1 y w
-  more : {n : ℕ} {y z : PlainStore} {w : Want} → Turns h is_told j x n y want.Continue → TurnOf h y z w → Turns h is_told j x (n + 1) z w
+  more : {n : ℕ} {y z : PlainStore} {w : Want} → Turns h is_told j x n y want.Continue → TurnOf h y z w →
+      Turns h is_told j x (n + 1) z w
 
--- So many turns under the job lead to this store, and the last of them asks this. Where none was made, any turn of the handler is the first.
+-- So many turns under the job lead to this store, and the last of them asks this. Where none was made, any turn of the
+-- handler is the first.
 abbrev pub AreMade : ℕ → ℕ → Bool → Job → PlainStore → PlainStore → Want → Type 0
-AreMade zero h is_told j x y w = (w ≡ want.Continue) × ((z : PlainStore) (v : Want) → TurnOf h y z v → FirstTurn h is_told j x z v)
+AreMade zero h is_told j x y w =
+    (w ≡ want.Continue) × ((z : PlainStore) (v : Want) → TurnOf h y z v → FirstTurn h is_told j x z v)
 AreMade (suc n) h is_told j x y w = Turns h is_told j x (suc n) y w
 
 -- ---- refused memory
@@ -145,7 +151,8 @@ is_going (job.Granted ks) = false
 is_going (job.Made k) = true
 is_going job.Go = true
 
--- Memory was refused to a first turn in the first store, and left the second one: that itself, or one ahead where it was a turn of the handler.
+-- Memory was refused to a first turn in the first store, and left the second one: that itself, or one ahead where it
+-- was a turn of the handler.
 abbrev pub StopsFirst : Bool → PlainStore → PlainStore → Type 0
 StopsFirst false x y = y ≡ x
 StopsFirst true x y = IsAhead x y

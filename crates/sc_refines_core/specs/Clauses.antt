@@ -50,35 +50,48 @@ AreOfTypes as' us = ⊥
 abbrev pub IsPureIfRoutine : (RoutineName → Bool) → DeclaredFeature → Option RoutineName → Type 0
 IsPureIfRoutine pure f name = name ≡ Some (routine_of f) → pure (routine_of f) ≡ true
 
--- In this text, where these names are known, what is left to do begins with what is left of clauses of the precondition, each of which the rules accept;
--- values of these types lie there.
-pub data InClauses (s : System) (pure : RoutineName → Bool) (t : Text) (n : Entities) : List Task → List EntityType → Type 0 where
+-- In this text, where these names are known, what is left to do begins with what is left of clauses of the
+-- precondition, each of which the rules accept; values of these types lie there.
+pub data InClauses (s : System) (pure : RoutineName → Bool) (t : Text) (n : Entities) : List Task →
+    List EntityType → Type 0 where
   require : {k : List Task} {ks : List Clause} → HasStarted k →
-      ((q : Clause) → Contains ks q → (a : EntityType) × (b : Bool) × HasType (context_in s pure t) context.Require Plain n q.condition (typing (Some a) b)) →
+      ((q : Clause) → Contains ks q → (a : EntityType) × (b : Bool)
+      × HasType (context_in s pure t) context.Require Plain n q.condition (typing (Some a) b)) →
       InClauses s pure t n (Require ks ∷ k) []
-  required : {k : List Task} {q : Clause} {a : EntityType} → InClauses s pure t n k [] → InClauses s pure t n (Required q ∷ k) (a ∷ [])
-  eval : {k : List Task} {vs : List EntityType} {i : ℕ} {e : Expr} {a : EntityType} {b : Bool} (q : Position) → is_condition q ≡ false →
-      HasType (context_in s pure t) context.Require q n e (typing (Some a) b) → InClauses s pure t n k (a ∷ vs) → InClauses s pure t n (Eval i e ∷ k) vs
-  apply_unary : {k : List Task} {vs : List EntityType} {op : UnaryOperator} {a b : EntityType} → is_expanded b.class ≡ true →
+  required : {k : List Task} {q : Clause} {a : EntityType} → InClauses s pure t n k [] →
+      InClauses s pure t n (Required q ∷ k) (a ∷ [])
+  eval : {k : List Task} {vs : List EntityType} {i : ℕ} {e : Expr} {a : EntityType} {b : Bool} (q : Position) →
+      is_condition q ≡ false →
+      HasType (context_in s pure t) context.Require q n e (typing (Some a) b) → InClauses s pure t n k (a ∷ vs) →
+      InClauses s pure t n (Eval i e ∷ k) vs
+  apply_unary : {k : List Task} {vs : List EntityType} {op : UnaryOperator} {a b : EntityType} →
+      is_expanded b.class ≡ true →
       InClauses s pure t n k (b ∷ vs) → InClauses s pure t n (ApplyUnary op ∷ k) (a ∷ vs)
-  eval_right : {k : List Task} {vs : List EntityType} {op : BinaryOperator} {i : ℕ} {e : Expr} {a b u : EntityType} {c : Bool} (q : Position) → is_condition q ≡ false →
+  eval_right : {k : List Task} {vs : List EntityType} {op : BinaryOperator} {i : ℕ} {e : Expr} {a b u : EntityType}
+      {c : Bool} (q : Position) → is_condition q ≡ false →
       HasType (context_in s pure t) context.Require q n e (typing (Some b) c) → is_expanded u.class ≡ true →
       InClauses s pure t n k (u ∷ vs) → InClauses s pure t n (EvalRight op i e ∷ k) (a ∷ vs)
-  apply_binary : {k : List Task} {vs : List EntityType} {op : BinaryOperator} {a b u : EntityType} → is_expanded u.class ≡ true →
+  apply_binary : {k : List Task} {vs : List EntityType} {op : BinaryOperator} {a b u : EntityType} →
+      is_expanded u.class ≡ true →
       InClauses s pure t n k (u ∷ vs) → InClauses s pure t n (ApplyBinary op ∷ k) (b ∷ a ∷ vs)
   conclude : {k : List Task} {vs : List EntityType} {a u : EntityType} → is_expanded u.class ≡ true →
       InClauses s pure t n k (u ∷ vs) → InClauses s pure t n (Conclude ∷ k) (a ∷ vs)
-  call_unqualified : {k : List Task} {vs us : List EntityType} (ts : List EntityType) {x : List ℕ} {i : ℕ} {f : DeclaredFeature} {a : EntityType} →
+  call_unqualified : {k : List Task} {vs us : List EntityType} (ts : List EntityType) {x : List ℕ} {i : ℕ}
+      {f : DeclaredFeature} {a : EntityType} →
       feature_named s (class.Declared t.class) x ≡ Some f → pure (routine_of f) ≡ true →
       (signature_of s (current (context_in s pure t)) f).gives ≡ Some (Some a) → i ≡ length ts → vs ≡ stacked ts us →
       InClauses s pure t n k (a ∷ us) → InClauses s pure t n (CallUnqualified x i ∷ k) vs
-  call_qualified : {k : List Task} {vs us : List EntityType} (ts : List EntityType) (a : EntityType) {x : List ℕ} {i : ℕ} {f : DeclaredFeature} {b : EntityType} →
-      feature_named s a.class x ≡ Some f → IsPureIfRoutine pure f (signature_of s a f).routine → (signature_of s a f).gives ≡ Some (Some b) →
-      (is_foreign a.tag ≡ true → list_all (λ (u : EntityType). is_expanded u.class) ts ≡ true) → i ≡ length ts → vs ≡ stacked ts (a ∷ us) →
+  call_qualified : {k : List Task} {vs us : List EntityType} (ts : List EntityType) (a : EntityType) {x : List ℕ}
+      {i : ℕ} {f : DeclaredFeature} {b : EntityType} →
+      feature_named s a.class x ≡ Some f → IsPureIfRoutine pure f (signature_of s a f).routine →
+      (signature_of s a f).gives ≡ Some (Some b) →
+      (is_foreign a.tag ≡ true → list_all (λ (u : EntityType). is_expanded u.class) ts ≡ true) → i ≡ length ts →
+      vs ≡ stacked ts (a ∷ us) →
       InClauses s pure t n k (b ∷ us) → InClauses s pure t n (CallQualified x i ∷ k) vs
 
 -- The routine stands in its precondition, where values of these types are still to come.
-pub record StandsInClauses (s : System) (pure : RoutineName → Bool) (t : Text) (n : Entities) (coming : List EntityType) (p : Point) : Type 0 where
+pub record StandsInClauses (s : System) (pure : RoutineName → Bool) (t : Text) (n : Entities) (coming : List EntityType)
+    (p : Point) : Type 0 where
   pub types : List EntityType
   pub text_is : p.text ≡ t
   pub names_are : scope_of p.environment ≡ n
@@ -92,11 +105,14 @@ RunsPure s pure o x = (f : DeclaredFeature) → version_of s o.class x ≡ Some 
 -- each such version that is a routine is one
 abbrev pub RunsPureIfRoutine : System → (RoutineName → Bool) → Reference → List ℕ → Type 0
 RunsPureIfRoutine s pure o x =
-    (f : DeclaredFeature) → version_of s o.class x ≡ Some f → is_routine f.feature.kind ≡ true → pure (routine_of f) ≡ true
+    (f : DeclaredFeature) → version_of s o.class x ≡ Some f → is_routine f.feature.kind ≡ true →
+    pure (routine_of f) ≡ true
 
--- It calls and asks for what contracts may call, lends nothing with a request, and does nothing else until it starts, is refused or fails.
+-- It calls and asks for what contracts may call, lends nothing with a request, and does nothing else until it starts,
+-- is refused or fails.
 abbrev pub ClauseAct : System → (RoutineName → Bool) → Text → Entities → Act → Point → Type 0
-ClauseAct s pure t n (Enters c o x us gives) p = RunsPure s pure o x × ((a : EntityType) × (gives ≡ Some a) × StandsInClauses s pure t n (a ∷ []) p)
+ClauseAct s pure t n (Enters c o x us gives) p =
+    RunsPure s pure o x × ((a : EntityType) × (gives ≡ Some a) × StandsInClauses s pure t n (a ∷ []) p)
 ClauseAct s pure t n (Requests o x us gives passes) p =
     (passes ≡ false) × ((a : EntityType) × (gives ≡ Some a) × StandsInClauses s pure t n (a ∷ []) p) × RunsPureIfRoutine s pure o x
 ClauseAct s pure t n Starts p = HasStarted p.tasks
@@ -112,15 +128,20 @@ ClauseStep s pure t n (Does a p) = ClauseAct s pure t n a p
 
 -- So does the next turn of a routine that stands in its precondition, where its values fit.
 abbrev pub ClausesCallPure : Type 0
-ClausesCallPure = (s : System) (root : Root) (pure : RoutineName → Bool) → IsFaultless s root → WellFormed s → IsPurity s pure → (r : Routine) (me : Reference) →
-    routine_named s me.class r.name ≡ Some r → (n : Entities) (p : Point) → StandsSo s pure r me [] p → ValuesDo (IsThereIfOwn me.handler p.objects) p →
+ClausesCallPure = (s : System) (root : Root) (pure : RoutineName → Bool) → IsFaultless s root → WellFormed s →
+    IsPurity s pure → (r : Routine) (me : Reference) →
+    routine_named s me.class r.name ≡ Some r → (n : Entities) (p : Point) → StandsSo s pure r me [] p →
+    ValuesDo (IsThereIfOwn me.handler p.objects) p →
     StandsInClauses s pure r.contract n [] p → ClauseStep s pure r.contract n (moves s me p)
 
 -- A routine with a precondition that is entered with actuals that fit begins there.
 abbrev pub ClausesComeFirst : Type 0
-ClausesComeFirst = (s : System) (root : Root) (pure : RoutineName → Bool) → IsFaultless s root → WellFormed s → IsPurity s pure → (r : Routine) (me : Reference) →
-    routine_named s me.class r.name ≡ Some r → (r.require ≡ [] → ⊥) → (vs : List Value) → ActualsFit s me.handler r.text.formals (of_actuals vs) r.text.formals vs →
-    (bs : List Binding) → formals_bound s r.text.formals 0 r.text.formals vs ≡ Some bs → (o : Origin) (objects : List Object) →
+ClausesComeFirst = (s : System) (root : Root) (pure : RoutineName → Bool) → IsFaultless s root → WellFormed s →
+    IsPurity s pure → (r : Routine) (me : Reference) →
+    routine_named s me.class r.name ≡ Some r → (r.require ≡ [] → ⊥) → (vs : List Value) →
+    ActualsFit s me.handler r.text.formals (of_actuals vs) r.text.formals vs →
+    (bs : List Binding) → formals_bound s r.text.formals 0 r.text.formals vs ≡ Some bs →
+    (o : Origin) (objects : List Object) →
     StandsInClauses s pure r.contract (formals_known s r.text.formals) [] (point_of (entry me r o bs) objects)
 
 -- ---- in each state that is reached
@@ -132,5 +153,6 @@ HasStartedOrStands s pure f =
 
 -- So it is of each frame in each state that is reached.
 abbrev pub EachStandsInClauses : Type 0
-EachStandsInClauses = (s : System) (root : Root) (pure : RoutineName → Bool) → IsFaultless s root → WellFormed s → IsPurity s pure → (most : ℕ) (w : World) → IsReached most s root w →
+EachStandsInClauses = (s : System) (root : Root) (pure : RoutineName → Bool) → IsFaultless s root → WellFormed s →
+    IsPurity s pure → (most : ℕ) (w : World) → IsReached most s root w →
     (h : ℕ) → h < w.count → Each (HasStartedOrStands s pure) (w.handlers h).stack

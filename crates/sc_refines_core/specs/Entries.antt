@@ -25,7 +25,8 @@ is_reserving Runs = false
 is_reserving (HasMade k) = false
 is_reserving (Awaits k is_creation) = false
 
--- The entry stays, or the handler is about to reserve, or it has no frames; and what it is about to reserve is still its entry.
+-- The entry stays, or the handler is about to reserve, or it has no frames; and what it is about to reserve is still
+-- its entry.
 pub record EntryStays (x y : Handler) : Type 0 where
   pub keeps : KeepsEntry x → KeepsEntry y
   pub stays : (y.entry ≡ x.entry) ⊎ ((is_reserving y.stage ≡ true) ⊎ (y.stage ≡ Idle))

@@ -10,5 +10,7 @@ use Rattle.sc_model.specs.Values.{Value}
 -- It reserves nothing as it is entered, whatever its actuals.
 abbrev pub PureReserveNothing : Type 0
 PureReserveNothing = (s : System) (pure : RoutineName → Bool) → IsPurity s pure → (f : RoutineName) → pure f ≡ true →
-    (d : DeclaredFeature) (routine : RoutineDeclaration) → routine_named s f ≡ Some d → d.feature.kind ≡ Routine routine →
-    (vs : List Value) (bs : List Binding) → formals_bound s routine.formals 0 routine.formals vs ≡ Some bs → separate_formals bs ≡ []
+    (d : DeclaredFeature) (routine : RoutineDeclaration) → routine_named s f ≡ Some d →
+    d.feature.kind ≡ Routine routine →
+    (vs : List Value) (bs : List Binding) → formals_bound s routine.formals 0 routine.formals vs ≡ Some bs →
+    separate_formals bs ≡ []

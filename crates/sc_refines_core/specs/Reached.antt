@@ -22,20 +22,24 @@ use Rattle.sc_machine_values.specs.Values.{WhereAccepted}
 
 -- Where the handler's entry finds a clause false and waits, it is the entry that the handler reserved for last.
 abbrev pub RemembersEntry : System → ℕ → machine.World → State → Type 0
-RemembersEntry s h w c = (f : machine.Frame) (below : List machine.Frame) (k : Clause) (p : Point) → (w.handlers h).stack ≡ f ∷ below →
+RemembersEntry s h w c = (f : machine.Frame) (below : List machine.Frame) (k : Clause) (p : Point) →
+    (w.handlers h).stack ≡ f ∷ below →
     f.stage ≡ machine.Runs → moves s f.current (machine.point_of f (w.handlers h).objects) ≡ Does (Refuses k) p →
-    verdict_on (machine.frame_at f p) k ≡ verdict.Wait → (c.handlers h).entry ≡ handlers_of (separate_formals f.environment)
+    verdict_on (machine.frame_at f p) k ≡ verdict.Wait →
+    (c.handlers h).entry ≡ handlers_of (separate_formals f.environment)
 
 -- In each state that is reached, the settlement of a turn leaves the half of the state that the machine steps to.
 abbrev pub HalvesWhereReached : Type 0
-HalvesWhereReached = WhereAccepted λ s root. (most : ℕ) (n : Numbering) (h : ℕ) (w : machine.World) (c : State) → IsReached most s root w →
+HalvesWhereReached = WhereAccepted λ s root. (most : ℕ) (n : Numbering) (h : ℕ) (w : machine.World) (c : State) →
+    IsReached most s root w →
     IsHalfOf n w c → RemembersEntry s h w c → IsHalfOf n (turn most s h w) (stepped most n s h w (job_of h c) c)
 
 -- ---- runs
 
 -- the core that opens, asked for the creation of the root object
 abbrev pub opened : Numbering → System → Root → State
-opened n s root = opening (request_of n (root_request (option_map_or (λ k. k) (number_of s root.class) 0) root.procedure))
+opened n s root =
+    opening (request_of n (root_request (option_map_or (λ k. k) (number_of s root.class) 0) root.procedure))
 
 -- the state of the core after what the turns of these handlers ask, beside the machine
 abbrev pub run_beside : ℕ → Numbering → System → List ℕ → machine.World → State → State

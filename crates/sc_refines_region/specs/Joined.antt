@@ -19,8 +19,8 @@ use Rattle.sc_refines_region.specs.Order.{AreInOrder, EachInOrder}
 
 -- ---- the handler of the turn
 
--- What the handler's turn under its job makes of the region's half is that of the machine's turn, beside what the core's
--- settlement leaves.
+-- What the handler's turn under its job makes of the region's half is that of the machine's turn, beside what the
+-- core's settlement leaves.
 abbrev pub RegionsFollow : Type 0
 RegionsFollow =
     (most : ℕ) (names : List (List ℕ)) (s : System) (h : ℕ) (w : machine.World) (c : core.State) (x : Half) →

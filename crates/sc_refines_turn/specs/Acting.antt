@@ -59,8 +59,9 @@ pub record Comes (o : Hop) (y z : PlainStore) : Type 0 where
   pub comes : ComesTo o y z
   pub remains : Remains y z
 
--- The topmost frame of the half makes this visible step next, from the point `last`, which a place of the code stands for. The store has come to the
--- operation that is that step in flat code, and is still to do it. So many silent operations lead to the place.
+-- The topmost frame of the half makes this visible step next, from the point `last`, which a place of the code stands
+-- for. The store has come to the operation that is that step in flat code, and is still to do it. So many silent
+-- operations lead to the place.
 pub record Meets (s : System) (x : Half) (o : Hop) (y z : PlainStore) : Type 0 where
   pub frame : Frame
   pub below : List Frame
@@ -82,11 +83,13 @@ pub record Meets (s : System) (x : Half) (o : Hop) (y z : PlainStore) : Type 0 w
   pub tail : List model_values.Value
   pub stands : Stands (run_of s frame.routine) place tail last
   pub silent : ℕ
-  pub reaches : flat.hops silent s (run_of s frame.routine).code (reference_of current) (state_in s y before) ≡ flat.Goes (state_at place tail last)
+  pub reaches : flat.hops silent s (run_of s frame.routine).code (reference_of current)
+      (state_in s y before) ≡ flat.Goes (state_at place tail last)
   pub ends : model_step s frame.current last ≡ Does step point
   pub shown : flat.Act
   pub state : flat.State
-  pub does : hopped y.program s (run_of s frame.routine).code (reference_of current) o (state_in s z activation) ≡ flat.Does shown state
+  pub does : hopped y.program s (run_of s frame.routine).code (reference_of current) o
+      (state_in s z activation) ≡ flat.Does shown state
   pub seen : Seen last.environment point.environment step shown
   pub leads : Leads (run_of s frame.routine) step point state
 
@@ -96,18 +99,21 @@ SilentOperationsJoin = (o : Hop) (y z w : PlainStore) → LeadsTo y z → Remain
 
 -- What silent operations come to is what silent steps come to in the half.
 abbrev pub SilentOperationsFollow : Type 0
-SilentOperationsFollow = (s : System) (x : Half) (o : Hop) (y z : PlainStore) → IsProgramFor s y.program → IsRegionOf s x y → Comes o y z → Meets s x o y z
+SilentOperationsFollow = (s : System) (x : Half) (o : Hop) (y z : PlainStore) → IsProgramFor s y.program →
+    IsRegionOf s x y → Comes o y z → Meets s x o y z
 
 -- ---- what holds of stores
 
 -- Each object has at least as many attributes as its class.
 abbrev pub AreWhole : PlainStore → Type 0
-AreWhole y = (number : ℕ) (o : PlainObject) → object_numbered number y.objects ≡ Some o → length (defaults_of (class_at y.program o.class)) ≤ length o.attributes
+AreWhole y = (number : ℕ) (o : PlainObject) → object_numbered number y.objects ≡ Some o →
+    length (defaults_of (class_at y.program o.class)) ≤ length o.attributes
 
 -- A caller that takes a value gets this one, and has room for it. The caller is the first of the frames.
 abbrev pub TakesAs : Option Value → List PlainFrame → Type 0
 TakesAs v [] = Unit {0}
-TakesAs v (g ∷ gs) = g.activation.stage ≡ stage.InCall true → (is_some v ≡ true) × (length g.activation.operands.values < g.activation.operands.depth)
+TakesAs v (g ∷ gs) = g.activation.stage ≡ stage.InCall true →
+    (is_some v ≡ true) × (length g.activation.operands.values < g.activation.operands.depth)
 
 -- A call of the same handler began the routine.
 abbrev pub is_called : code_origin.Origin → Bool
@@ -126,7 +132,8 @@ TakesResult (f ∷ below) = is_called f.activation.origin ≡ true → TakesAs f
 
 -- Whatever half the first store stands for, the second one stands for what a turn makes of it.
 abbrev pub TurnsInto : PlainStore → PlainStore → Type 0
-TurnsInto y z = (s : System) (h : ℕ) (x : Half) → IsProgramFor s y.program → IsRegionOf s x y → IsRegionOf s (turn s h x) z
+TurnsInto y z = (s : System) (h : ℕ) (x : Half) → IsProgramFor s y.program → IsRegionOf s x y →
+    IsRegionOf s (turn s h x) z
 
 -- An integer is printed.
 abbrev pub IntegersArePrinted : Type 0
@@ -138,11 +145,13 @@ BooleansArePrinted = (b : Bool) (y z : PlainStore) → Comes (hop.Comes (act.Pri
 
 -- The text of the number is printed.
 abbrev pub TextsArePrinted : Type 0
-TextsArePrinted = (k : ℕ) (y z : PlainStore) → Comes (hop.Comes (act.PrintText k)) y z → TurnsInto y (on_top (past 0) (printed (listed (pool_of z.program.pool).texts k) z))
+TextsArePrinted = (k : ℕ) (y z : PlainStore) → Comes (hop.Comes (act.PrintText k)) y z →
+    TurnsInto y (on_top (past 0) (printed (listed (pool_of z.program.pool).texts k) z))
 
 -- A loop ends, or its body comes again.
 abbrev pub RoundsEnd : Type 0
-RoundsEnd = (n : Option ℕ) (y z : PlainStore) → Comes (hop.Comes (act.Until n)) y z → TurnsInto y (on_top (round_ended n) z)
+RoundsEnd = (n : Option ℕ) (y z : PlainStore) → Comes (hop.Comes (act.Until n)) y z →
+    TurnsInto y (on_top (round_ended n) z)
 
 -- A body begins behind its precondition.
 abbrev pub BodiesStart : Type 0
@@ -154,7 +163,8 @@ RoutinesFail = (why : Cause) (y z : PlainStore) → Comes (hop.Failed why) y z �
 
 -- A routine ends.
 abbrev pub RoutinesEnd : Type 0
-RoutinesEnd = (y z : PlainStore) → Comes (hop.Comes act.Exit) y z → AreWhole z → TakesResult z.frames → TurnsInto y (exited z)
+RoutinesEnd = (y z : PlainStore) → Comes (hop.Comes act.Exit) y z → AreWhole z → TakesResult z.frames →
+    TurnsInto y (exited z)
 
 -- The clause that is found false isn't waited for.
 abbrev pub IsNotWaitedFor : List ℕ → Option PlainActivation → Type 0
@@ -164,7 +174,8 @@ IsNotWaitedFor slots (Some a) = is_waited_for a slots ≡ false
 -- A request is refused, or an own call fails, where a clause of the precondition is false that isn't waited for.
 abbrev pub CallsAreRefused : Type 0
 CallsAreRefused =
-    (k : ℕ) (y z : PlainStore) → Comes (hop.Comes (act.Refuse k)) y z → AreWhole z → IsNotWaitedFor (formals_at z.program k) (top_activation z.frames) → TurnsInto y (refused k z)
+    (k : ℕ) (y z : PlainStore) → Comes (hop.Comes (act.Refuse k)) y z → AreWhole z →
+    IsNotWaitedFor (formals_at z.program k) (top_activation z.frames) → TurnsInto y (refused k z)
 
 -- ---- requests, handlers and blocks
 
@@ -179,7 +190,8 @@ sending r n gives passes a = awaiting_if (passes || gives) r.handler gives false
 
 -- A request goes to another handler.
 abbrev pub RequestsAreMade : Type 0
-RequestsAreMade = (r : Reference) (k n : ℕ) (gives passes : Bool) (y z : PlainStore) → Comes (hop.Comes (act.Request r k n gives passes)) y z →
+RequestsAreMade = (r : Reference) (k n : ℕ) (gives passes : Bool) (y z : PlainStore) →
+    Comes (hop.Comes (act.Request r k n gives passes)) y z →
     TurnsInto y (on_top (sending r n gives passes) z)
 
 -- the first object of the handler that is made, which has the creator's number until it is told
@@ -192,8 +204,10 @@ creating h class n passes a = awaiting_if passes h false true (with_reference (f
 
 -- The handler of this number creates another.
 abbrev pub HandlersAreCreated : Type 0
-HandlersAreCreated = (h class : ℕ) (k : Option ℕ) (n : ℕ) (passes : Bool) (y z : PlainStore) → Comes (hop.Comes (act.CreateHandler class k n passes)) y z →
-    (s : System) (x : Half) → IsProgramFor s y.program → IsRegionOf s x y → IsRegionOf s (turn s h x) (on_top (creating h class n passes) z)
+HandlersAreCreated = (h class : ℕ) (k : Option ℕ) (n : ℕ) (passes : Bool) (y z : PlainStore) →
+    Comes (hop.Comes (act.CreateHandler class k n passes)) y z →
+    (s : System) (x : Half) → IsProgramFor s y.program → IsRegionOf s x y →
+    IsRegionOf s (turn s h x) (on_top (creating h class n passes) z)
 
 -- the values go into the slots, from this one on
 abbrev pub written : ℕ → List Value → List Value → List Value
@@ -202,11 +216,13 @@ written k (v ∷ vs) slots = written (suc k) vs (slice_set slots k v)
 
 -- The heads, so many, go into the slots from this one on, and the reserve step comes next.
 abbrev pub opening : ℕ → ℕ → PlainActivation → PlainActivation
-opening first n a = record (past n a) { slots = written first (last_values n a.operands.values) a.slots; stage = stage.ReservesBlock }
+opening first n a =
+    record (past n a) { slots = written first (last_values n a.operands.values) a.slots; stage = stage.ReservesBlock }
 
 -- A separate block begins.
 abbrev pub BlocksBegin : Type 0
-BlocksBegin = (first n : ℕ) (y z : PlainStore) → Comes (hop.Comes (act.Open first n)) y z → TurnsInto y (on_top (opening first n) z)
+BlocksBegin = (first n : ℕ) (y z : PlainStore) → Comes (hop.Comes (act.Open first n)) y z →
+    TurnsInto y (on_top (opening first n) z)
 
 -- The innermost block is open no more.
 abbrev pub closing : PlainActivation → PlainActivation
@@ -222,25 +238,31 @@ HasNoBlock (Some a) = a.blocks ≡ []
 
 -- A separate block ends.
 abbrev pub BlocksEnd : Type 0
-BlocksEnd = (y z : PlainStore) → Comes (hop.Comes act.Leave) y z → HasBlock (top_activation z.frames) → TurnsInto y (on_top closing z)
+BlocksEnd = (y z : PlainStore) → Comes (hop.Comes act.Leave) y z → HasBlock (top_activation z.frames) →
+    TurnsInto y (on_top closing z)
 
 -- None is open.
 abbrev pub NoBlockEnds : Type 0
-NoBlockEnds = (y z : PlainStore) → Comes (hop.Comes act.Leave) y z → HasNoBlock (top_activation z.frames) → TurnsInto y (failed cause.BadCode z)
+NoBlockEnds = (y z : PlainStore) → Comes (hop.Comes act.Leave) y z → HasNoBlock (top_activation z.frames) →
+    TurnsInto y (failed cause.BadCode z)
 
 -- ---- routines that are entered
 
 -- The routine of the name of this number is entered on top of the frames.
 abbrev pub RoutinesAreEntered : Type 0
 RoutinesAreEntered =
-    (s : System) (x : Half) (y : PlainStore) (me : Reference) (k : ℕ) (name : List ℕ) (from : Origin) (us : List Value) → IsProgramFor s y.program → IsRegionOf s x y →
+    (s : System) (x : Half) (y : PlainStore) (me : Reference) (k : ℕ) (name : List ℕ) (from : Origin)
+    (us : List Value) → IsProgramFor s y.program → IsRegionOf s x y →
     slice_get (pool_of y.program.pool).names k ≡ Some name →
-    IsRegionOf s (enters s (reference_of me) (routine_named s me.class name) from x.stack (values_of us) x) (entered_if (routine_in (version_in y.program me.class k)) me (origin_of from) us y)
+    IsRegionOf s (enters s (reference_of me) (routine_named s me.class name) from x.stack (values_of us) x)
+    (entered_if (routine_in (version_in y.program me.class k)) me (origin_of from) us y)
 
 -- A routine of the same handler is called, whose name has the number, and whose operands are there.
 abbrev pub CallsAreMade : Type 0
-CallsAreMade = (c : Calling) (r : Reference) (k n : ℕ) (gives : Bool) (name : List ℕ) (y z : PlainStore) → Comes (hop.Comes (act.Enter c r k n gives)) y z →
-    slice_get (pool_of z.program.pool).names k ≡ Some name → HasCall c n (top_activation z.frames) → TurnsInto y (called c r k n gives z)
+CallsAreMade = (c : Calling) (r : Reference) (k n : ℕ) (gives : Bool) (name : List ℕ) (y z : PlainStore) →
+    Comes (hop.Comes (act.Enter c r k n gives)) y z →
+    slice_get (pool_of z.program.pool).names k ≡ Some name → HasCall c n (top_activation z.frames) →
+    TurnsInto y (called c r k n gives z)
 
 -- ---- objects that are created
 
@@ -256,13 +278,17 @@ pub record IsCreator (h : ℕ) (z : PlainStore) : Type 0 where
 
 -- An object of the class is created without a procedure, by the handler of this number.
 abbrev pub ObjectsAreCreated : Type 0
-ObjectsAreCreated = (h class n : ℕ) (y z : PlainStore) → Comes (hop.Comes (act.Create class None n)) y z → IsCreator h z →
+ObjectsAreCreated = (h class n : ℕ) (y z : PlainStore) → Comes (hop.Comes (act.Create class None n)) y z →
+    IsCreator h z →
     TurnsInto y (created (next_reference h class z) n z)
 
--- The same by the procedure of the name of this number, which is a routine, where the operands are there and have room for the reference.
+-- The same by the procedure of the name of this number, which is a routine, where the operands are there and have room
+-- for the reference.
 abbrev pub ObjectsAreCreatedBy : Type 0
-ObjectsAreCreatedBy = (h class k n routine : ℕ) (name : List ℕ) (y z : PlainStore) → Comes (hop.Comes (act.Create class (Some k) n)) y z → RunsOn h z →
-    slice_get (pool_of z.program.pool).names k ≡ Some name → Has n (top_activation z.frames) → has_room_in n (top_activation z.frames) ≡ true →
+ObjectsAreCreatedBy = (h class k n routine : ℕ) (name : List ℕ) (y z : PlainStore) →
+    Comes (hop.Comes (act.Create class (Some k) n)) y z → RunsOn h z →
+    slice_get (pool_of z.program.pool).names k ≡ Some name → Has n (top_activation z.frames) →
+    has_room_in n (top_activation z.frames) ≡ true →
     routine_in (version_in z.program class k) ≡ Some routine → TurnsInto y (created_by (next_reference h class z) k n z)
 
 -- ---- what turns ask
@@ -278,8 +304,10 @@ asks_nothing other = false
 
 -- These ask nothing of the core, unless the store that the turn leaves has failed.
 abbrev pub SimpleStepsAskNothing : Type 0
-SimpleStepsAskNothing = (a : Act) (y z w : PlainStore) → asks_nothing a ≡ true → Comes (hop.Comes a) y z → TurnsInto y w →
-    (n : Numbering) (s : System) (h : ℕ) (x : Half) → IsProgramFor s y.program → IsRegionOf s x y → next_want n s h x ≡ unless_failed w.failure want.Continue
+SimpleStepsAskNothing = (a : Act) (y z w : PlainStore) → asks_nothing a ≡ true → Comes (hop.Comes a) y z →
+    TurnsInto y w →
+    (n : Numbering) (s : System) (h : ℕ) (x : Half) → IsProgramFor s y.program → IsRegionOf s x y →
+    next_want n s h x ≡ unless_failed w.failure want.Continue
 
 -- A turn that leaves a store that has failed tells why.
 abbrev pub FailuresAreTold : Type 0

@@ -48,12 +48,13 @@ GivesResult f (g ∷ gs) = (c : Calling) (t : EntityType) → f.origin ≡ Calle
 abbrev pub HasRoutine : System → ℕ → List ℕ → Type 0
 HasRoutine s class name = option_map (λ (f : DeclaredFeature). is_routine f.feature.kind) (version_of s class name) ≡ Some true
 
--- The frame runs on an object of the handler of the number, gives its caller a Result, enters only routines that there are, and doesn't come to what no case
--- fits.
+-- The frame runs on an object of the handler of the number, gives its caller a Result, enters only routines that there
+-- are, and doesn't come to what no case fits.
 pub record GoesWell (s : System) (h : ℕ) (objects : List Object) (f : Frame) (below : List Frame) : Type 0 where
   pub own : f.current.handler ≡ h
   pub gives_result : GivesResult f below
-  pub enters : (c : Calling) (r : values.Reference) (name : List ℕ) (us : List values.Operand) (t : Option EntityType) (p : Point) →
+  pub enters : (c : Calling) (r : values.Reference) (name : List ℕ) (us : List values.Operand)
+      (t : Option EntityType) (p : Point) →
       moves s f.current (point_of f objects) ≡ Does (Enters c r name us t) p → HasRoutine s r.class name
   pub fits : (p : Point) → moves s f.current (point_of f objects) ≡ Does (Fails cause.BadCode) p → ⊥
 
@@ -64,8 +65,8 @@ TopGoesWell s h objects (f ∷ below) = f.stage ≡ Runs → GoesWell s h object
 
 -- ---- halves
 
--- What a turn of the handler of the number needs of its half: it hasn't failed, its objects are complete, its frames run on some of them, the topmost one goes
--- well, and where that finds a clause false it stands in its contract.
+-- What a turn of the handler of the number needs of its half: it hasn't failed, its objects are complete, its frames
+-- run on some of them, the topmost one goes well, and where that finds a clause false it stands in its contract.
 pub record HalfFits (s : System) (h : ℕ) (x : Half) : Type 0 where
   pub lives : x.failure ≡ None
   pub complete : AreComplete s x.objects
@@ -76,10 +77,11 @@ pub record HalfFits (s : System) (h : ℕ) (x : Half) : Type 0 where
 -- A topmost frame that waits for a value gets one.
 abbrev pub GetsReply : Option Value → List Frame → Type 0
 GetsReply v [] = Unit {0}
-GetsReply v (f ∷ below) = (k : ℕ) (t : EntityType) (is_creation : Bool) → f.stage ≡ Awaits k (Some t) is_creation → is_some v ≡ true
+GetsReply v (f ∷ below) = (k : ℕ) (t : EntityType) (is_creation : Bool) → f.stage ≡ Awaits k (Some t) is_creation →
+    is_some v ≡ true
 
--- What a request needs: it names what the program does, and its target is of its class, if it is there; the objects are complete, and the frames run on some of
--- them.
+-- What a request needs: it names what the program does, and its target is of its class, if it is there; the objects are
+-- complete, and the frames run on some of them.
 pub record RequestFits (s : System) (names : List (List ℕ)) (r : Request) (x : Half) : Type 0 where
   pub named : IsNamed names r.errand
   pub of_class : (o : Object) → object_numbered r.target.number x.objects ≡ Some o → o.class ≡ r.target.class

@@ -15,11 +15,13 @@ use Rattle.sc_play.specs.Answering.{granted, replied}
 
 -- Whatever half the first store stands for, the second one stands for what the first turn under the job makes of it.
 abbrev pub BeginsAs : Task → PlainStore → PlainStore → Type 0
-BeginsAs job y z = (s : System) (h : ℕ) (x : Half) → IsProgramFor s y.program → IsRegionOf s x y → IsRegionOf s (taken_turn s h job x) z
+BeginsAs job y z = (s : System) (h : ℕ) (x : Half) → IsProgramFor s y.program → IsRegionOf s x y →
+    IsRegionOf s (taken_turn s h job x) z
 
 -- The failure of the supplier, and the refusal of what was waited for, are the handler's failures.
 abbrev pub BadAnswersAreTaken : Type 0
-BadAnswersAreTaken = (y : PlainStore) → BeginsAs SupplierFailed y (failed cause.SupplierFailed y) × BeginsAs WasRefused y (failed cause.Precondition y)
+BadAnswersAreTaken = (y : PlainStore) →
+    BeginsAs SupplierFailed y (failed cause.SupplierFailed y) × BeginsAs WasRefused y (failed cause.Precondition y)
 
 -- A reserve step has reserved these handlers.
 abbrev pub GrantsAreTaken : Type 0
@@ -29,8 +31,10 @@ GrantsAreTaken = (ks : List ℕ) (y : PlainStore) → BeginsAs (Granted ks) y (g
 abbrev pub TakesAnswer : Option Value → List PlainFrame → Type 0
 TakesAnswer v [] = Unit {0}
 TakesAnswer v (g ∷ gs) =
-    (k : ℕ) (is_creation : Bool) → g.activation.stage ≡ stage.Awaits k true is_creation → (is_some v ≡ true) × (length g.activation.operands.values < g.activation.operands.depth)
+    (k : ℕ) (is_creation : Bool) → g.activation.stage ≡ stage.Awaits k true is_creation →
+    (is_some v ≡ true) × (length g.activation.operands.values < g.activation.operands.depth)
 
 -- An answer is taken.
 abbrev pub AnswersAreTaken : Type 0
-AnswersAreTaken = (v : Option Value) (y : PlainStore) → TakesAnswer v y.frames → BeginsAs (Replied (option_map value_of v)) y (replied v y)
+AnswersAreTaken = (v : Option Value) (y : PlainStore) → TakesAnswer v y.frames →
+    BeginsAs (Replied (option_map value_of v)) y (replied v y)

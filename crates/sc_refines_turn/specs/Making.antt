@@ -18,5 +18,6 @@ CreatorsAreTold = (k : ℕ) (y : PlainStore) (s : System) (x : Half) → IsRegio
 
 -- With lock passing this is the answer: a creator that waits for it goes on. The creation of a handler gives no value.
 abbrev pub MadeAreAnswers : Type 0
-MadeAreAnswers = (h j k : ℕ) (y : PlainStore) (s : System) (x : Half) → IsRegionOf s (told_half k x) y → top_stage y ≡ Some (stage.Awaits j false true) →
+MadeAreAnswers = (h j k : ℕ) (y : PlainStore) (s : System) (x : Half) → IsRegionOf s (told_half k x) y →
+    top_stage y ≡ Some (stage.Awaits j false true) →
     IsRegionOf s (taken_turn s h (Made k) x) (on_top runs y)

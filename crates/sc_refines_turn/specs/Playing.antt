@@ -1,4 +1,5 @@
--- The turns of a handler under a job: what they make of a store is what the definition makes of the half that the store stands for, and they ask the same.
+-- The turns of a handler under a job: what they make of a store is what the definition makes of the half that the store
+-- stands for, and they ask the same.
 use Rattle.std.specs.Prelude.{◌<◌, ◌≤◌, ℕ, false}
 use Rattle.sc_tree.specs.Plain.{System}
 use Rattle.sc_region.specs.declared.job.Job.{Job}
@@ -13,7 +14,8 @@ use Rattle.sc_refines_turn.specs.Turns.{MayTurn, MayTurnUnder, RefusesUnder}
 use Rattle.sc_refines_turn.specs.Waiting.{RefusesInContract}
 
 -- Each of the turns may be made.
-abbrev pub MayPlay : (h : ℕ) (j : Job) (start : PlainStore) (n : ℕ) (z : PlainStore) (w : Want) → Turns h false j start n z w → Type 0
+abbrev pub MayPlay : (h : ℕ) (j : Job) (start : PlainStore) (n : ℕ) (z : PlainStore) (w : Want) →
+    Turns h false j start n z w → Type 0
 MayPlay h j start _ _ _ (first {y} {w} t) = MayTurnUnder h j (begun false j start) y w t
 MayPlay h j start _ _ _ (more {n} {y} {z} {w} before t) = MayPlay h j start n y want.Continue before × MayTurn h y z w t
 

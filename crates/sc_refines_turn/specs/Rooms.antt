@@ -34,7 +34,8 @@ HaveRoom (f ∷ below) = HasRoom f.activation × HaveRoom below
 
 -- The operation that is told leaves room, whatever it is.
 abbrev pub RoomIsKept : Type 0
-RoomIsKept = (h : ℕ) (a : Act) (y z : PlainStore) → TopRuns y → Remains y z → IsTold (hop.Comes a) z → HaveRoom y.frames → HaveRoom (acted h a z).frames
+RoomIsKept = (h : ℕ) (a : Act) (y z : PlainStore) → TopRuns y → Remains y z → IsTold (hop.Comes a) z →
+    HaveRoom y.frames → HaveRoom (acted h a z).frames
 
 -- A caller that takes a value gets this one. The caller is the first of the frames.
 abbrev pub GetsAs : Option Value → List PlainFrame → Type 0
@@ -48,13 +49,16 @@ HasResult (f ∷ below) = is_called f.activation.origin ≡ true → GetsAs f.ac
 
 -- A routine ends, where each frame has room for the value that it is to be given.
 abbrev pub RoutinesEndWithRoom : Type 0
-RoutinesEndWithRoom = (h : ℕ) (y z : PlainStore) → Comes (hop.Comes act.Exit) y z → AreWhole z → HaveRoom z.frames → HasResult z.frames → Turns h act.Exit y z
+RoutinesEndWithRoom = (h : ℕ) (y z : PlainStore) → Comes (hop.Comes act.Exit) y z → AreWhole z → HaveRoom z.frames →
+    HasResult z.frames → Turns h act.Exit y z
 
 -- A routine that waits for a value is given one.
 abbrev pub GetsAnswer : Option Value → List PlainFrame → Type 0
 GetsAnswer v [] = Unit {0}
-GetsAnswer v (g ∷ gs) = (k : ℕ) (is_creation : Bool) → g.activation.stage ≡ stage.Awaits k true is_creation → is_some v ≡ true
+GetsAnswer v (g ∷ gs) = (k : ℕ) (is_creation : Bool) → g.activation.stage ≡ stage.Awaits k true is_creation →
+    is_some v ≡ true
 
 -- It has room for it, where each frame has.
 abbrev pub AnswersHaveRoom : Type 0
-AnswersHaveRoom = (v : Option Value) (y : PlainStore) → HaveRoom y.frames → GetsAnswer v y.frames → TakesAnswer v y.frames
+AnswersHaveRoom = (v : Option Value) (y : PlainStore) → HaveRoom y.frames → GetsAnswer v y.frames →
+    TakesAnswer v y.frames

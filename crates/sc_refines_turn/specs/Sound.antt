@@ -38,11 +38,13 @@ NewStoresAreSound = (p : Image) → IsSound (new_store p)
 abbrev pub TurnsKeepSound : Type 0
 TurnsKeepSound = (h : ℕ) (y z : PlainStore) (w : Want) → TurnOf h y z w → IsSound y → IsSound z
 
--- So do the beginning of a job, whether its creator was told the handler that was made or not, and the first turn under it.
+-- So do the beginning of a job, whether its creator was told the handler that was made or not, and the first turn under
+-- it.
 abbrev pub JobsKeepSound : Type 0
 JobsKeepSound = (h : ℕ) (is_told : Bool) (j : Job) (y : PlainStore) → IsSound y →
     IsSound (begun is_told j y) × ((z : PlainStore) (w : Want) → TurnUnder h j (begun is_told j y) z w → IsSound z)
 
 -- So do the turns under a job.
 abbrev pub PlaysKeepSound : Type 0
-PlaysKeepSound = (h : ℕ) (is_told : Bool) (j : Job) (y : PlainStore) (n : ℕ) (z : PlainStore) (w : Want) → Turns h is_told j y n z w → IsSound y → IsSound z
+PlaysKeepSound = (h : ℕ) (is_told : Bool) (j : Job) (y : PlainStore) (n : ℕ) (z : PlainStore) (w : Want) →
+    Turns h is_told j y n z w → IsSound y → IsSound z

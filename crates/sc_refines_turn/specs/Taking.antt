@@ -1,4 +1,5 @@
--- What a request that is taken makes of a store, and what it asks, is what its definition makes of the half that the store stands for, and asks.
+-- What a request that is taken makes of a store, and what it asks, is what its definition makes of the half that the
+-- store stands for, and asks.
 use Rattle.std.specs.Prelude.{◌≡◌, ℕ, ◌+◌, false, List, None, Some, length, slice_get}
 use Rattle.sc_tree.specs.Plain.{System}
 use Rattle.sc_region.specs.declared.job.Errand.{Errand}
@@ -17,9 +18,11 @@ use Rattle.sc_interp.specs.Turning.{unless_failed}
 use Rattle.sc_play.specs.Taking.{asks_taking, taken}
 use Rattle.sc_refines_turn.specs.Acting.{AreWhole}
 
--- Whatever half the first store stands for, the second one stands for what the handler's first turn under the job makes of it.
+-- Whatever half the first store stands for, the second one stands for what the handler's first turn under the job makes
+-- of it.
 abbrev pub JobBecomes : ℕ → Job → PlainStore → PlainStore → Type 0
-JobBecomes h j y z = (s : System) (x : Half) → IsProgramFor s y.program → IsRegionOf s x y → IsRegionOf s (taken_turn s h (task_of (names_of y) j) x) z
+JobBecomes h j y z = (s : System) (x : Half) → IsProgramFor s y.program → IsRegionOf s x y →
+    IsRegionOf s (taken_turn s h (task_of (names_of y) j) x) z
 
 -- What that turn asks is this, unless the second store has failed.
 abbrev pub JobAsks : ℕ → Job → PlainStore → PlainStore → Want → Type 0

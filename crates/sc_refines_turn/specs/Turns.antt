@@ -1,4 +1,5 @@
--- One whole turn of a handler: what it makes of a store is what the definition of a turn makes of the half that the store stands for, and it asks the same.
+-- One whole turn of a handler: what it makes of a store is what the definition of a turn makes of the half that the
+-- store stands for, and it asks the same.
 use Rattle.std.specs.Prelude.{◌≡◌, ℕ, true, false, Option, Some, None, length, nat_lt}
 use Rattle.sc_tree.specs.Plain.{System}
 use Rattle.sc_region.specs.declared.frame.Stage.{Stage}
@@ -31,16 +32,18 @@ use Rattle.sc_refines_turn.specs.Wanting.{IsNumbered, IsProcedure, MayCreate, Ma
 
 -- ---- what is asked of a store where an operation is done
 
--- The class has a number, and the store may create. A procedure's operands are there, with room for the reference, and its name is that of a routine where there
--- is room for one more object.
+-- The class has a number, and the store may create. A procedure's operands are there, with room for the reference, and
+-- its name is that of a routine where there is room for one more object.
 abbrev pub MayCreateHere : ℕ → ℕ → Option ℕ → ℕ → PlainStore → Type 0
 MayCreateHere h class None n z = (class_number class ≡ Some class) × IsCreator h z
 MayCreateHere h class (Some k) n z =
-    (class_number class ≡ Some class) × IsNameOf (names_of z) k × Has n (top_activation z.frames) × (has_room_in n (top_activation z.frames) ≡ true)
-    × (nat_lt (length z.objects) max_objects ≡ true → (routine : ℕ) × (routine_in (version_in z.program class k) ≡ Some routine)) × RunsOn h z
+    (class_number class ≡ Some class) × IsNameOf (names_of z) k × Has n (top_activation z.frames)
+    × (has_room_in n (top_activation z.frames) ≡ true)
+    × (nat_lt (length z.objects) max_objects ≡ true →
+    (routine : ℕ) × (routine_in (version_in z.program class k) ≡ Some routine)) × RunsOn h z
 
--- The numbers of the operation are those of names and classes, and its operands are there. Where objects are tested, they are whole, and a routine that ends has
--- a Result for its caller.
+-- The numbers of the operation are those of names and classes, and its operands are there. Where objects are tested,
+-- they are whole, and a routine that ends has a Result for its caller.
 abbrev pub MayAct : ℕ → Act → PlainStore → Type 0
 MayAct h (act.Enter c r k n gives) z = IsNameOf (names_of z) k × HasCall c n (top_activation z.frames)
 MayAct h (act.Request r k n gives passes) z = IsNumbered z k × MayRequest k n (top_activation z.frames)
@@ -83,7 +86,8 @@ MayTurn h y z w t = MayTurnIn (top_stage y) h y z w t
 -- A turn of a handler.
 abbrev pub TurnsAreMade : Type 0
 TurnsAreMade =
-    (h : ℕ) (y z : PlainStore) (w : Want) (t : TurnOf h y z w) → MayTurn h y z w t → (s : System) (x : Half) → IsProgramFor s y.program → IsRegionOf s x y →
+    (h : ℕ) (y z : PlainStore) (w : Want) (t : TurnOf h y z w) → MayTurn h y z w t → (s : System) (x : Half) →
+    IsProgramFor s y.program → IsRegionOf s x y →
     RefusesInContract s x.objects x.stack → IsRegionOf s (turn s h x) z × (w ≡ next_want (numbering_by (names_of y)) s h x)
 
 -- ---- jobs
@@ -131,13 +135,16 @@ RefusesUnder s (job.Granted ks) x = Unit {0}
 -- The first turn under a job, in a store in which it has begun.
 abbrev pub JobsAreTaken : Type 0
 JobsAreTaken =
-    (h : ℕ) (j : Job) (y z : PlainStore) (w : Want) (t : TurnUnder h j y z w) → MayTurnUnder h j y z w t → (s : System) (x : Half) → IsProgramFor s y.program →
+    (h : ℕ) (j : Job) (y z : PlainStore) (w : Want) (t : TurnUnder h j y z w) → MayTurnUnder h j y z w t →
+    (s : System) (x : Half) → IsProgramFor s y.program →
     IsRegionOf s (begun_half j x) y → RefusesUnder s j x →
-    IsRegionOf s (taken_turn s h (task_of (names_of y) j) x) z × (w ≡ first_want (numbering_by (names_of y)) s h (task_of (names_of y) j) x)
+    IsRegionOf s (taken_turn s h (task_of (names_of y) j) x) z
+    × (w ≡ first_want (numbering_by (names_of y)) s h (task_of (names_of y) j) x)
 
 -- The first turn under a job that hasn't begun.
 abbrev pub FirstTurnsAreMade : Type 0
 FirstTurnsAreMade =
     (h : ℕ) (j : Job) (y z : PlainStore) (w : Want) (t : FirstTurn h false j y z w) → MayTurnUnder h j (begun false j y) z w t → (s : System) (x : Half) → IsProgramFor s y.program →
     IsRegionOf s x y → RefusesUnder s j x →
-    IsRegionOf s (taken_turn s h (task_of (names_of y) j) x) z × (w ≡ first_want (numbering_by (names_of y)) s h (task_of (names_of y) j) x)
+    IsRegionOf s (taken_turn s h (task_of (names_of y) j) x) z
+    × (w ≡ first_want (numbering_by (names_of y)) s h (task_of (names_of y) j) x)

@@ -36,7 +36,8 @@ abbrev pub RefusesInContract : System → List Object → List Frame → Type 0
 RefusesInContract s objects [] = Unit {0}
 RefusesInContract s objects (f ∷ below) =
     f.stage ≡ Runs →
-    IsVersion s f.routine × ((k : Clause) (p : Point) → moves s f.current (point_of f objects) ≡ Does (Refuses k) p → IsInContract s f.routine p)
+    IsVersion s f.routine × ((k : Clause) (p : Point) → moves s f.current (point_of f objects) ≡ Does (Refuses k) p →
+    IsInContract s f.routine p)
 
 -- The clause that is found false is waited for.
 abbrev pub IsWaitedFor : List ℕ → Option PlainActivation → Type 0
@@ -45,5 +46,7 @@ IsWaitedFor slots (Some a) = is_waited_for a slots ≡ true
 
 -- The routine begins anew with its reserve step, where a clause of its precondition is false that is waited for.
 abbrev pub RoutinesWait : Type 0
-RoutinesWait = (k : ℕ) (y z : PlainStore) → Comes (hop.Comes (act.Refuse k)) y z → IsWaitedFor (formals_at z.program k) (top_activation z.frames) →
-    (s : System) (h : ℕ) (x : Half) → IsProgramFor s y.program → IsRegionOf s x y → RefusesInContract s x.objects x.stack → IsRegionOf s (turn s h x) (refused k z)
+RoutinesWait = (k : ℕ) (y z : PlainStore) → Comes (hop.Comes (act.Refuse k)) y z →
+    IsWaitedFor (formals_at z.program k) (top_activation z.frames) →
+    (s : System) (h : ℕ) (x : Half) → IsProgramFor s y.program → IsRegionOf s x y →
+    RefusesInContract s x.objects x.stack → IsRegionOf s (turn s h x) (refused k z)

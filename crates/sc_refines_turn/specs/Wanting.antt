@@ -22,8 +22,8 @@ use Rattle.sc_play.specs.Operands.{class_number, has_call, name_number, procedur
 use Rattle.sc_play.specs.Requesting.{asks_requesting, call_of}
 use Rattle.sc_refines_turn.specs.Acting.{AreWhole, Comes}
 
--- Whatever half the first store stands for, a turn of the handler of the number that leaves the second store asks this, unless that has failed. Names have the
--- numbers of the program.
+-- Whatever half the first store stands for, a turn of the handler of the number that leaves the second store asks this,
+-- unless that has failed. Names have the numbers of the program.
 abbrev pub TurnAsks : ℕ → PlainStore → PlainStore → Want → Type 0
 TurnAsks h y w v = (s : System) (x : Half) → IsProgramFor s y.program → IsRegionOf s x y → IsRegionOf s (turn s h x) w →
     next_want (numbering_by (names_of y)) s h x ≡ unless_failed w.failure v
@@ -32,7 +32,8 @@ TurnAsks h y w v = (s : System) (x : Half) → IsProgramFor s y.program → IsRe
 
 -- Among distinct names each has the number at which it stands.
 abbrev pub DistinctNamesHaveNumbers : Type 0
-DistinctNamesHaveNumbers = (names : List (List ℕ)) (k : ℕ) (name : List ℕ) → AreDistinct names → slice_get names k ≡ Some name → number_among name names ≡ k
+DistinctNamesHaveNumbers = (names : List (List ℕ)) (k : ℕ) (name : List ℕ) → AreDistinct names →
+    slice_get names k ≡ Some name → number_among name names ≡ k
 
 -- The number is that of the name which stands there.
 abbrev pub IsNumbered : PlainStore → ℕ → Type 0
@@ -47,7 +48,8 @@ IsProcedure z (Some k) = IsNumbered z k
 
 -- The end of a routine asks that what its entry newly reserved is released, and that a request ends with the Result.
 abbrev pub RoutineEndsAsk : Type 0
-RoutineEndsAsk = (h : ℕ) (y z : PlainStore) → Comes (hop.Comes act.Exit) y z → AreWhole z → TurnAsks h y (exited z) (asks_exiting (top_activation z.frames))
+RoutineEndsAsk = (h : ℕ) (y z : PlainStore) → Comes (hop.Comes act.Exit) y z → AreWhole z →
+    TurnAsks h y (exited z) (asks_exiting (top_activation z.frames))
 
 -- A clause of a precondition that is false asks that the entry waits, or that its request is refused.
 abbrev pub RefusalsAsk : Type 0
@@ -57,7 +59,8 @@ RefusalsAsk =
 
 -- The end of a separate block asks that what it newly reserved is released.
 abbrev pub BlockEndsAsk : Type 0
-BlockEndsAsk = (h : ℕ) (y z w : PlainStore) → Comes (hop.Comes act.Leave) y z → TurnAsks h y w (asks_leaving (top_activation z.frames))
+BlockEndsAsk = (h : ℕ) (y z w : PlainStore) → Comes (hop.Comes act.Leave) y z →
+    TurnAsks h y w (asks_leaving (top_activation z.frames))
 
 -- ---- requests and handlers
 
@@ -69,16 +72,21 @@ MayRequest k n (Some a) = (name_number k ≡ Some k) × (has_call n a ≡ true)
 -- A call on an object of another handler asks for its request.
 abbrev pub RequestsAsk : Type 0
 RequestsAsk =
-    (h : ℕ) (r : Reference) (k n : ℕ) (gives passes : Bool) (y z w : PlainStore) → Comes (hop.Comes (act.Request r k n gives passes)) y z → IsNumbered z k →
-    MayRequest k n (top_activation z.frames) → TurnAsks h y w (asks_requesting h (call_of r k n gives passes) (top_activation z.frames))
+    (h : ℕ) (r : Reference) (k n : ℕ) (gives passes : Bool) (y z w : PlainStore) →
+    Comes (hop.Comes (act.Request r k n gives passes)) y z → IsNumbered z k →
+    MayRequest k n (top_activation z.frames) →
+    TurnAsks h y w (asks_requesting h (call_of r k n gives passes) (top_activation z.frames))
 
 -- The numbers of the class and of the procedure have room, and the operands are there, with room for the reference.
 abbrev pub MayCreate : ℕ → Option ℕ → ℕ → Option PlainActivation → Type 0
 MayCreate class k n None = ⊥
-MayCreate class k n (Some a) = (class_number class ≡ Some class) × (procedure_number k ≡ Some k) × (may_create n a ≡ true)
+MayCreate class k n (Some a) =
+    (class_number class ≡ Some class) × (procedure_number k ≡ Some k) × (may_create n a ≡ true)
 
 -- The creation of a handler asks for it.
 abbrev pub CreationsAsk : Type 0
 CreationsAsk =
-    (h class : ℕ) (k : Option ℕ) (n : ℕ) (passes : Bool) (y z w : PlainStore) → Comes (hop.Comes (act.CreateHandler class k n passes)) y z → IsProcedure z k →
-    MayCreate class k n (top_activation z.frames) → TurnAsks h y w (asks_creating (creation_with class k n passes) (top_activation z.frames))
+    (h class : ℕ) (k : Option ℕ) (n : ℕ) (passes : Bool) (y z w : PlainStore) →
+    Comes (hop.Comes (act.CreateHandler class k n passes)) y z → IsProcedure z k →
+    MayCreate class k n (top_activation z.frames) →
+    TurnAsks h y w (asks_creating (creation_with class k n passes) (top_activation z.frames))

@@ -50,8 +50,10 @@ in_call n gives a = record (past n a) { stage = stage.InCall gives }
 
 -- The routine comes onto the others; its actuals are operands of the topmost one, which is in the call now.
 abbrev pub called_on : Reference → ℕ → RoutineCode → OwnCall → List PlainFrame → List PlainFrame
-called_on me routine r k fs = entry me routine r k.origin (last_values k.actuals (top_operands fs)) ∷ top_frame (in_call k.operands k.gives) fs
+called_on me routine r k fs =
+    entry me routine r k.origin (last_values k.actuals (top_operands fs)) ∷ top_frame (in_call k.operands k.gives) fs
 
 -- the routine of the number is called on this object
 abbrev pub calls : Reference → ℕ → OwnCall → PlainStore → PlainStore
-calls me routine k x = entered me routine k.origin (last_values k.actuals (top_operands x.frames)) (on_top (in_call k.operands k.gives) x)
+calls me routine k x =
+    entered me routine k.origin (last_values k.actuals (top_operands x.frames)) (on_top (in_call k.operands k.gives) x)

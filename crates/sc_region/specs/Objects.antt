@@ -18,7 +18,8 @@ object_numbered number objects = if number == 0 then None else slice_get objects
 
 -- the attribute of the object at the numbers
 abbrev pub attribute_of : ℕ → ℕ → List PlainObject → Option Value
-attribute_of number slot objects = option_and_then (λ (o : PlainObject). slice_get o.attributes slot) (object_numbered number objects)
+attribute_of number slot objects =
+    option_and_then (λ (o : PlainObject). slice_get o.attributes slot) (object_numbered number objects)
 
 abbrev pub with_slot : ℕ → Value → PlainObject → PlainObject
 with_slot slot v o = record o { attributes = slice_set o.attributes slot v }

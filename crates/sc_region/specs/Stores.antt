@@ -49,7 +49,8 @@ is_settled number x = is_none x.failure && not (is_current number x.frames)
 
 -- Each settled object meets its class invariant.
 abbrev pub SettledObjectsMeet : PlainStore → Type 0
-SettledObjectsMeet x = (number : ℕ) (o : PlainObject) → is_settled number x ≡ true → object_numbered number x.objects ≡ Some o → MeetsInvariant x.program o
+SettledObjectsMeet x = (number : ℕ) (o : PlainObject) → is_settled number x ≡ true →
+    object_numbered number x.objects ≡ Some o → MeetsInvariant x.program o
 
 -- ---- failure
 
@@ -59,7 +60,9 @@ failed why x = record x { frames = []; failure = Some why }
 
 -- Where the object of the number is settled now and breaks its invariant, the store fails.
 abbrev pub settled : ℕ → PlainStore → PlainStore
-settled number x = if is_settled number x && object_breaks x.program (object_numbered number x.objects) then failed cause.Invariant x else x
+settled number x =
+    if is_settled number x && object_breaks x.program (object_numbered number x.objects)
+    then failed cause.Invariant x else x
 
 -- ---- attributes
 
@@ -96,12 +99,14 @@ beginning routine r o actuals = record {
 abbrev pub entry : Reference → ℕ → RoutineCode → Origin → List Value → PlainFrame
 entry me routine r o actuals = record { current = me; activation = beginning routine r o actuals }
 
--- The frame comes onto the others, of which there are so many; where there are as many as there may be, the store fails.
+-- The frame comes onto the others, of which there are so many; where there are as many as there may be, the store
+-- fails.
 abbrev pub entered_at : ℕ → Reference → ℕ → Option RoutineCode → Origin → List Value → PlainStore → PlainStore
 entered_at count me routine None o actuals x = failed cause.BadCode x
 entered_at count me routine (Some r) o actuals x =
     if length actuals == r.formals
-    then (if nat_lt count max_frames then record x { frames = entry me routine r o actuals ∷ x.frames } else failed cause.StackFull x)
+    then (if nat_lt count max_frames then record x { frames = entry me routine r o actuals ∷ x.frames }
+    else failed cause.StackFull x)
     else failed cause.BadCode x
 
 -- the routine of the number is entered on this object

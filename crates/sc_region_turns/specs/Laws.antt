@@ -12,7 +12,8 @@ use Rattle.sc_region_turns.specs.RegionTurns.{new_half}
 
 -- The tables of a program serve its system, where that has no fault and its types are declared without fault.
 abbrev pub ProgramsServe : Type 0
-ProgramsServe = (s : System) (root : Root) (p : Image) → IsFaultless s root → AllDeclared s → IsProgramOf s root p → Serves s p
+ProgramsServe = (s : System) (root : Root) (p : Image) → IsFaultless s root → AllDeclared s →
+    IsProgramOf s root p → Serves s p
 
 -- A new store stands for the half of a handler that was asked for nothing yet.
 abbrev pub NewStoresStand : Type 0

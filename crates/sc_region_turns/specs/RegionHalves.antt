@@ -60,7 +60,8 @@ StandsIn ReservesBlock g place tail p = Stands g place tail p
 StandsIn (InCall gives) g place tail p = StandsWith g place tail gives p
 StandsIn (Awaits k gives is_creation) g place tail p = StandsWith g place tail gives p
 
--- The frame of a store is this one, of a handler with these objects. Its routine is the feature of its number; `tail` lies behind the slots of its names.
+-- The frame of a store is this one, of a handler with these objects. Its routine is the feature of its number; `tail`
+-- lies behind the slots of its names.
 pub record IsFrame (s : System) (objects : List Object) (f : Frame) (g : PlainFrame) : Type 0 where
   pub current : reference_of g.current ≡ f.current
   pub routine : option_and_then (routine_of s) (slice_get (all_features s) g.activation.routine) ≡ Some f.routine
@@ -117,8 +118,8 @@ AreHalvesOf h stage [] [] = Unit {0}
 AreHalvesOf h stage (f ∷ fs) (g ∷ gs) = IsHalfOfFrame h stage f g × AreHalvesOf h core.Runs fs gs
 AreHalvesOf h stage fs gs = ⊥
 
--- The region's half of the handler of the number is this one. In the machine the stack of a handler that has failed is empty; a failure that the core finds
--- isn't told to the region.
+-- The region's half of the handler of the number is this one. In the machine the stack of a handler that has failed is
+-- empty; a failure that the core finds isn't told to the region.
 pub record IsRegionHalf (h : ℕ) (y : machine.Handler) (stage : core.HandlerStage) (x : Half) : Type 0 where
   pub objects : x.objects ≡ y.objects
   pub output : x.output ≡ y.output

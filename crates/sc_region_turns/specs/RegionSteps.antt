@@ -46,7 +46,15 @@ errand_in names (errand.Makes None) = Some (machine.Makes None)
 errand_in names (errand.Makes (Some k)) = option_map (λ x. machine.Makes (Some x)) (slice_get names k)
 
 abbrev pub request_with : Request → machine.Errand → machine.Request
-request_with r e = record { poster = r.poster; target = reference_of r.target; errand = e; actuals = values_of r.actuals.items; is_waited = r.is_waited; passed = None }
+request_with r e =
+    record {
+      poster = r.poster;
+      target = reference_of r.target;
+      errand = e;
+      actuals = values_of r.actuals.items;
+      is_waited = r.is_waited;
+      passed = None;
+    }
 
 abbrev pub taking : Request → Option machine.Errand → Task
 taking r None = Misfits
@@ -90,9 +98,11 @@ want_after n s h job (suc (suc k)) x = next_want n s h (played s h job (suc k) x
 
 -- ---- what `play` does
 
--- So many turns under the job, at most the limit, lead from one half to the other, and the last asks this. None of those before it asks anything: so none is
--- skipped, and where there is memory they end early only at a step that needs the core.
-pub record MakesTurns (n : Numbering) (s : System) (h : ℕ) (job : Task) (limit : ℕ) (turns : ℕ) (w : Want) (x y : Half) : Type 0 where
+-- So many turns under the job, at most the limit, lead from one half to the other, and the last asks this. None of
+-- those before it asks anything: so none is skipped, and where there is memory they end early only at a step that needs
+-- the core.
+pub record MakesTurns (n : Numbering) (s : System) (h : ℕ) (job : Task) (limit : ℕ) (turns : ℕ) (w : Want)
+    (x y : Half) : Type 0 where
   pub some : 0 < turns
   pub few : turns ≤ limit
   pub state : y ≡ played s h job turns x
@@ -117,7 +127,8 @@ pub record IsProgramFor (s : System) (p : Image) : Type 0 where
 abbrev pub names_of : PlainStore → List (List ℕ)
 names_of x = (pool_of x.program.pool).names
 
--- What `play` does to a store: whatever half the first one stands for, the second one stands for what so many turns make of it, and the last asks this.
+-- What `play` does to a store: whatever half the first one stands for, the second one stands for what so many turns
+-- make of it, and the last asks this.
 abbrev pub PlaysOn : ℕ → Job → ℕ → ℕ → Want → PlainStore → PlainStore → Type 0
 PlaysOn h j limit turns w x y = (s : System) (a : Half) → IsProgramFor s x.program → IsRegionOf s a x →
     (let b : Half = played s h (task_of (names_of x) j) turns a in
@@ -147,6 +158,8 @@ AreNamed names y = All (λ (r : machine.Request). IsNamed names r.errand) (y.que
 -- Where core and region are the machine's halves, what the region asks is what the machine's turn asks.
 abbrev pub RegionsAsk : Type 0
 RegionsAsk =
-    (most : ℕ) (names : List (List ℕ)) (s : System) (h : ℕ) (w : World) (c : core.State) (x : Half) (j : Job) → IsHalfOf (numbering_by names) w c →
-    IsRegionHalf h (w.handlers h) (c.handlers h).stage x → job_of h c ≡ Some j → AreNamed names (w.handlers h) → SettledObjectsMeet s (model.turn most s h w) →
+    (most : ℕ) (names : List (List ℕ)) (s : System) (h : ℕ) (w : World) (c : core.State) (x : Half) (j : Job) →
+    IsHalfOf (numbering_by names) w c →
+    IsRegionHalf h (w.handlers h) (c.handlers h).stage x → job_of h c ≡ Some j → AreNamed names (w.handlers h) →
+    SettledObjectsMeet s (model.turn most s h w) →
     first_want (numbering_by names) s h (task_of names j) x ≡ asked (numbering_by names) s h j (w.handlers h)

@@ -1,4 +1,5 @@
--- The region's half of a handler: its objects, its frames, its output and its failure; and what a turn under a job makes of it.
+-- The region's half of a handler: its objects, its frames, its output and its failure; and what a turn under a job
+-- makes of it.
 use Rattle.std.specs.Prelude.{ℕ, zero, suc, ◌+◌, Bool, true, false, not, ◌&&◌, ◌||◌, List, [], ◌∷◌, ◌++◌, Option, Some, None, is_some, length, nat_lt, ◌==◌, if◌then◌else◌}
 use Rattle.std.specs.Option.{is_none, option_map}
 use Rattle.sc_tree.specs.Plain as tree
@@ -25,7 +26,8 @@ use Rattle.sc_model.specs.Entries.{entry}
 use Rattle.sc_model.specs.Preconditions.{verdict_on, is_creation, object_meets}
 use Rattle.sc_model.specs.Exits.{is_unset_value, is_unset, is_untested, handed, handed_as}
 
--- The frames that a region keeps have no mark, and the requests that they serve tell nothing of what was passed; these are the core's.
+-- The frames that a region keeps have no mark, and the requests that they serve tell nothing of what was passed; these
+-- are the core's.
 pub record Half : Type 0 where
   pub objects : List Object
   pub stack : List Frame  -- the topmost first
@@ -57,7 +59,8 @@ object_breaks s (Some o) = not (meets_invariant s o)
 -- Where the object of the number is settled now, it is tested.
 abbrev pub settles : System → ℕ → Half → Half
 settles s number x =
-    if is_none x.failure && not (is_current number x.stack) && object_breaks s (object_numbered number x.objects) then failed cause.Invariant x else x
+    if is_none x.failure && not (is_current number x.stack) && object_breaks s (object_numbered number x.objects)
+    then failed cause.Invariant x else x
 
 -- the frame on this object goes, and these are left
 abbrev pub leaves : System → Frame → List Frame → Half → Half
@@ -67,7 +70,8 @@ leaves s f below x = settles s f.current.number (with_stack below x)
 
 abbrev pub enters_bound : Reference → Routine → Origin → List Frame → Option (List Binding) → Half → Half
 enters_bound me r o below None x = failed cause.BadCode x
-enters_bound me r o below (Some bs) x = if nat_lt (length below) max_frames then with_stack (entry me r o bs ∷ below) x else failed cause.StackFull x
+enters_bound me r o below (Some bs) x =
+    if nat_lt (length below) max_frames then with_stack (entry me r o bs ∷ below) x else failed cause.StackFull x
 
 -- the routine is entered on top of these frames
 abbrev pub enters : System → Reference → Option Routine → Origin → List Frame → List Value → Half → Half
@@ -78,11 +82,13 @@ enters s me (Some r) o below vs x = enters_bound me r o below (formals_bound s r
 
 -- The entry begins anew with its reserve step.
 abbrev pub waits_again : Frame → List Frame → Half → Half
-waits_again f below x = with_stack (record f { stage = Reserves; tasks = tasks_of f.routine; values = []; reserved = [] } ∷ below) x
+waits_again f below x =
+    with_stack (record f { stage = Reserves; tasks = tasks_of f.routine; values = []; reserved = [] } ∷ below) x
 
 abbrev pub refuses : System → Request → Frame → List Frame → Half → Half
 refuses s r f below x =
-    if is_creation r.errand && not (object_meets s (object_numbered f.current.number x.objects)) then failed cause.Invariant x else leaves s f below x
+    if is_creation r.errand && not (object_meets s (object_numbered f.current.number x.objects))
+    then failed cause.Invariant x else leaves s f below x
 
 abbrev pub correctness_fails : System → Origin → Frame → List Frame → Half → Half
 correctness_fails s (Called c) f below x = failed cause.Precondition x
@@ -129,7 +135,10 @@ told_frames k (f ∷ below) = record f { values = told k f.values } ∷ below
 -- The creator goes on with a reference whose handler it is told later, until then its own.
 abbrev pub creates_handler : ℕ → ℕ → EntityType → Bool → Frame → List Frame → Half → Half
 creates_handler h class t passing f below x =
-    with_stack (awaits_if passing h None true (record f { values = operand (Attached (record { handler = h; number = 1; class = class })) t ∷ f.values }) ∷ below) x
+    with_stack (awaits_if passing h None true (record f {
+      values = operand
+          (Attached (record { handler = h; number = 1; class = class })) t ∷ f.values;
+    }) ∷ below) x
 
 -- ---- turns
 
@@ -142,7 +151,8 @@ acts s h Starts f below x = x
 acts s h (CreatesHandler class procedure us t passing) f below x = creates_handler h class t passing f below x
 acts s h (Enters c me name us gives) f below x =
     enters s me (routine_named s me.class name) (Called c) (record f { stage = InCall gives } ∷ below) (values_of us) x
-acts s h (Requests r name us gives passing) f below x = with_stack (awaits_if (passing || is_some gives) r.handler gives false f ∷ below) x
+acts s h (Requests r name us gives passing) f below x =
+    with_stack (awaits_if (passing || is_some gives) r.handler gives false f ∷ below) x
 acts s h (Refuses k) f below x = false_clause (verdict_on f k) s f below x
 acts s h Opens f below x = with_stack (record f { stage = ReservesBlock } ∷ below) x
 acts s h Leaves f below x = leaves_block f.blocks f below x
@@ -151,7 +161,8 @@ acts s h (Fails why) f below x = failed why x
 
 abbrev pub moved : System → ℕ → Step → Frame → List Frame → Half → Half
 moved s h (Goes p) f below x = x
-moved s h (Does a p) f below x = acts s h a (frame_at f p) below (record x { objects = p.objects; stack = frame_at f p ∷ below })
+moved s h (Does a p) f below x =
+    acts s h a (frame_at f p) below (record x { objects = p.objects; stack = frame_at f p ∷ below })
 
 abbrev pub goes_on : System → ℕ → Stage → Frame → List Frame → Half → Half
 goes_on s h Runs f below x = moved s h (moves s f.current (point_of f x.objects)) f below x
@@ -186,7 +197,8 @@ takes_version s r name o f x = failed cause.BadCode x
 
 -- without a procedure the object is tested at once
 abbrev pub takes_creation : System → Request → Option (List ℕ) → Half → Half
-takes_creation s r (Some name) x = enters s r.target (routine_named s r.target.class name) (Requested r) x.stack r.actuals x
+takes_creation s r (Some name) x =
+    enters s r.target (routine_named s r.target.class name) (Requested r) x.stack r.actuals x
 takes_creation s r None x = x
 
 abbrev pub with_new : System → ℕ → Half → Half

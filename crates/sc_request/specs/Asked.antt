@@ -77,7 +77,8 @@ asks_beginning (v ∷ vs) = want.Reserve (record { items = handlers_of (v ∷ vs
 
 abbrev pub asks_bound : Option (List Binding) → ℕ → Want
 asks_bound None depth = want.Fail cause.BadCode
-asks_bound (Some bs) depth = if nat_lt depth max_frames then asks_beginning (separate_formals bs) else want.Fail cause.StackFull
+asks_bound (Some bs) depth =
+    if nat_lt depth max_frames then asks_beginning (separate_formals bs) else want.Fail cause.StackFull
 
 -- the routine is entered over so many frames
 abbrev pub asks_entering : System → Option Routine → List machine.Value → ℕ → Want
@@ -90,7 +91,8 @@ asks_done v ks refused = want.Done (option_map value_of v) (record { items = ks 
 -- ---- a request is taken
 
 abbrev pub asks_replying : Option EntityType → Option Binding → Want
-asks_replying (Some t) (Some b) = if is_unset_value b.value t then want.Fail cause.UnsetEntity else asks_done (Some b.value) [] false
+asks_replying (Some t) (Some b) =
+    if is_unset_value b.value t then want.Fail cause.UnsetEntity else asks_done (Some b.value) [] false
 asks_replying t b = want.Fail cause.BadCode
 
 abbrev pub asks_calling : System → handlers.Request → List ℕ → ℕ → Object → DeclaredFeature → FeatureKind → Want
@@ -102,7 +104,8 @@ asks_version s r x depth (Some o) (Some f) = asks_calling s r x depth o f f.feat
 asks_version s r x depth o f = want.Fail cause.BadCode
 
 abbrev pub asks_errand : System → ℕ → handlers.Request → handlers.Errand → ℕ → List Object → Want
-asks_errand s h r (handlers.Makes (Some k)) depth objects = asks_entering s (routine_named s r.target.class k) r.actuals depth
+asks_errand s h r (handlers.Makes (Some k)) depth objects =
+    asks_entering s (routine_named s r.target.class k) r.actuals depth
 asks_errand s h r (handlers.Makes None) depth objects =
     if meets_invariant s (fresh_object s r.target.class) then asks_done None [] false else want.Fail cause.Invariant
 asks_errand s h r (handlers.Calls x) depth objects =
@@ -143,7 +146,8 @@ asks_requesting n h r x us waits passing =
 abbrev pub asks_refusing : System → Origin → Frame → List Object → Want
 asks_refusing s (Called c) f objects = want.Fail cause.Precondition
 asks_refusing s (Requested r) f objects =
-    if is_creation r.errand then (if object_meets s (object_numbered f.current.number objects) then asks_done None f.reserved true else want.Fail cause.Invariant)
+    if is_creation r.errand then (if object_meets s (object_numbered f.current.number objects)
+    then asks_done None f.reserved true else want.Fail cause.Invariant)
     else asks_done None f.reserved true
 
 abbrev pub asks_after : EntryVerdict → System → Frame → List Object → Want
@@ -173,11 +177,15 @@ asks_acting n s h Until f depth objects = want.Continue
 asks_acting n s h Creates f depth objects = want.Continue
 asks_acting n s h Starts f depth objects = want.Continue
 asks_acting n s h (CreatesHandler class procedure us t passing) f depth objects =
-    want.Create class (option_map (n.procedure class) procedure) (record { items = map value_of (machine.values_of us) }) passing
-asks_acting n s h (Enters c me x us gives) f depth objects = asks_entering s (routine_named s me.class x) (machine.values_of us) depth
-asks_acting n s h (Requests r x us gives passing) f depth objects = asks_requesting n h r x us (passing || is_some gives) passing
+    want.Create class (option_map (n.procedure class) procedure)
+    (record { items = map value_of (machine.values_of us) }) passing
+asks_acting n s h (Enters c me x us gives) f depth objects =
+    asks_entering s (routine_named s me.class x) (machine.values_of us) depth
+asks_acting n s h (Requests r x us gives passing) f depth objects =
+    asks_requesting n h r x us (passing || is_some gives) passing
 asks_acting n s h (Refuses k) f depth objects = asks_after (verdict_on f k) s f objects
-asks_acting n s h Opens f depth objects = want.Reserve (record { items = handlers_of (opened_in f.environment f.tasks) })
+asks_acting n s h Opens f depth objects =
+    want.Reserve (record { items = handlers_of (opened_in f.environment f.tasks) })
 asks_acting n s h Leaves f depth objects = asks_leaving f.blocks
 asks_acting n s h Exits f depth objects = asks_exiting s f objects
 asks_acting n s h (Fails why) f depth objects = want.Fail why

@@ -97,7 +97,9 @@ posted_first k (p ∷ ps) = is_handler k p.request.poster
 
 -- the handler posted what this one serves, or takes next
 abbrev pub may_hear_from : Handler → ℕ → Bool
-may_hear_from x k = posted_first k (map (λ (v : Service). v.posted) x.services) || (posted_first k x.queue || posted_first k (to_list x.callback))
+may_hear_from x k =
+    posted_first k (map (λ (v : Service). v.posted) x.services)
+    || (posted_first k x.queue || posted_first k (to_list x.callback))
 
 -- A turn of the handler that asks this touches another one: that is asked, or made, or may hear an answer.
 abbrev pub touches : ℕ → Want → State → ℕ → Bool
@@ -146,4 +148,5 @@ uncounted x = record x { sessions = 0 }
 abbrev pub LeavesUntouched : Type 0
 LeavesUntouched =
     (most h : ℕ) (j : Job) (turns : ℕ) (w : Want) (s : State) (k : ℕ) → (k == h) ≡ false → touches h w s k ≡ false →
-    ((settled most h j turns w s).handlers h).failure ≡ None → uncounted ((settled most h j turns w s).handlers k) ≡ uncounted (s.handlers k)
+    ((settled most h j turns w s).handlers h).failure ≡ None →
+    uncounted ((settled most h j turns w s).handlers k) ≡ uncounted (s.handlers k)

@@ -11,7 +11,8 @@ settlement_in vs ks e = record {
   handler = e.handler;
   job = unpacked_job e.job (drop e.first_actual vs) (drop e.first_handler ks);
   turns = e.turns;
-  want = unpacked_want e.want (drop (e.first_actual + actuals_in_job e.job) vs) (drop (e.first_handler + handlers_in_job e.job) ks);
+  want = unpacked_want e.want (drop (e.first_actual + actuals_in_job e.job) vs)
+      (drop (e.first_handler + handlers_in_job e.job) ks);
 }
 
 -- What it tells of lies among so many actuals and handlers, and each list of it has at most 16.

@@ -1,4 +1,5 @@
--- The core's half of a state of the machine: who stands where, and who is asked for what, without objects, frames and outputs.
+-- The core's half of a state of the machine: who stands where, and who is asked for what, without objects, frames and
+-- outputs.
 use Rattle.std.specs.Prelude.{◌≡◌, ◌⊎◌, ℕ, List, [], ◌∷◌, map}
 use Rattle.std.specs.Option.{option_map}
 use Rattle.sc_model.specs.Environments.{separate_formals}

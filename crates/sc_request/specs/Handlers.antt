@@ -22,8 +22,9 @@ pub data Answer : Type 0 where
   SupplierFailed : Answer
   Refused : Answer
 
--- What the next turn of a handler stands on: it has no frames; or its next step is always enabled, perhaps with a handler that was made for it; or it
--- reserves what it doesn't hold of these, after a wait with a mark; or it waits for a supplier's answer, perhaps to a creation.
+-- What the next turn of a handler stands on: it has no frames; or its next step is always enabled, perhaps with a
+-- handler that was made for it; or it reserves what it doesn't hold of these, after a wait with a mark; or it waits for
+-- a supplier's answer, perhaps to a creation.
 pub data HandlerStage : Type 0 where
   Idle : HandlerStage
   Runs : HandlerStage
@@ -90,7 +91,13 @@ has_requests [] = false
 has_requests (p ∷ ps) = true
 
 abbrev pub standing_of : Handler → Standing
-standing_of x = record { has_frames = has_frames x.stage; has_failed = is_some x.failure; has_requests = has_requests x.queue; sessions = x.sessions }
+standing_of x =
+    record {
+      has_frames = has_frames x.stage;
+      has_failed = is_some x.failure;
+      has_requests = has_requests x.queue;
+      sessions = x.sessions;
+    }
 
 abbrev pub standing_in : State → ℕ → Standing
 standing_in s k = standing_of (s.handlers k)

@@ -6,4 +6,9 @@ use Rattle.sc_request.specs.Tables.{handler_at}
 
 -- the state of a core that is kept, in which all handlers past those that are kept are new
 abbrev pub kept_of : coded.KeptCore → State
-kept_of c = record { count = c.count; handlers = handler_at c.handlers.items c.sessions.items; rights = rights_in c.holders.items }
+kept_of c =
+    record {
+      count = c.count;
+      handlers = handler_at c.handlers.items c.sessions.items;
+      rights = rights_in c.holders.items;
+    }

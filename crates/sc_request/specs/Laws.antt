@@ -15,8 +15,10 @@ use Rattle.sc_request.specs.Logs.{opening}
 -- The core opens as the half of the machine's opening.
 abbrev pub OpensAsHalf : Type 0
 OpensAsHalf = (n : Numbering) (s : System) (root : Root) →
-    IsHalfOf n (runs.opening s root) (opening (request_of n (root_request (option_map_or (λ k. k) (number_of s root.class) 0) root.procedure)))
+    IsHalfOf n (runs.opening s root)
+    (opening (request_of n (root_request (option_map_or (λ k. k) (number_of s root.class) 0) root.procedure)))
 
 -- A handler has something to do exactly where the machine gives it a turn.
 abbrev pub PicksWhereTurns : Type 0
-PicksWhereTurns = (n : Numbering) (w : machine.World) (s : State) (h : ℕ) → IsHalfOf n w s → is_some (job_of h s) ≡ has_turn h w
+PicksWhereTurns = (n : Numbering) (w : machine.World) (s : State) (h : ℕ) → IsHalfOf n w s →
+    is_some (job_of h s) ≡ has_turn h w

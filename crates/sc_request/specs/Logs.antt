@@ -42,7 +42,8 @@ Plays most s (x ∷ xs) t = (job_of x.handler s ≡ Some x.job) × Plays most (a
 
 -- ---- handlers that are out
 
--- The state, the job that each handler is out with, and the one picked last. What a reserve step was granted is reserved from its pick on.
+-- The state, the job that each handler is out with, and the one picked last. What a reserve step was granted is
+-- reserved from its pick on.
 pub record Center : Type 0 where
   pub state : State
   pub out : ℕ → Option Job
@@ -58,7 +59,9 @@ pick_for h c = if is_some (c.out h) then None else job_of h c.state
 
 -- a handler that is out is busy
 abbrev pub status_in : ℕ → Center → Status
-status_in h c = status_with (c.state.handlers h).failure (is_some (c.out h) || is_some (job_of h c.state)) (c.state.handlers h).stage
+status_in h c =
+    status_with (c.state.handlers h).failure (is_some (c.out h) || is_some (job_of h c.state))
+    (c.state.handlers h).stage
 
 abbrev pub status_for : ℕ → Center → Option Status
 status_for h c = if nat_lt h c.state.count then Some (status_in h c) else None
@@ -76,7 +79,8 @@ with_out h j c = record c { out = λ k. if k == h then j else c.out k }
 
 -- The handler is out with the job.
 abbrev pub picked : ℕ → Job → Center → Center
-picked h j c = with_out h (Some j) (record c { state = record c.state { rights = granted h j c.state.rights }; last = h })
+picked h j c =
+    with_out h (Some j) (record c { state = record c.state { rights = granted h j c.state.rights }; last = h })
 
 -- The handler is out with the job, if it has one.
 abbrev pub picked_if : ℕ → Option Job → Center → Center
@@ -90,7 +94,8 @@ picks (Some p) c = picked p.0 p.1 c
 
 abbrev pub put_back_with : ℕ → Option Job → Center → Center
 put_back_with h None c = c
-put_back_with h (Some j) c = with_out h None (record c { state = record c.state { rights = ungranted j c.state.rights } })
+put_back_with h (Some j) c =
+    with_out h None (record c { state = record c.state { rights = ungranted j c.state.rights } })
 
 -- The pick of the handler is undone, where it is out.
 abbrev pub put_back : ℕ → Center → Center
@@ -103,7 +108,8 @@ numbers_from first (suc n) = first ∷ numbers_from (suc first) n
 
 -- the handlers in the order in which they are tried: those after the last one picked, and round to it
 abbrev pub round : ℕ → ℕ → List ℕ
-round count last = numbers_from (suc last) (count - suc last) ++ numbers_from 0 (if nat_lt last count then suc last else count)
+round count last =
+    numbers_from (suc last) (count - suc last) ++ numbers_from 0 (if nat_lt last count then suc last else count)
 
 abbrev pub first_from : ℕ → Option Job → Option (ℕ × Job) → Option (ℕ × Job)
 first_from h (Some j) rest = Some (h, j)

@@ -101,7 +101,8 @@ packed_want want.Continue = packed_as.Continue
 packed_want (want.Reserve ks) = packed_as.Reserve (length ks.items)
 packed_want (want.Post r) = packed_as.Post (packed_request r)
 packed_want (want.Ask r passes) = packed_as.Ask (packed_request r) passes
-packed_want (want.Create class procedure actuals passes) = packed_as.Create class procedure (length actuals.items) passes
+packed_want (want.Create class procedure actuals passes) =
+    packed_as.Create class procedure (length actuals.items) passes
 packed_want (want.Release ks) = packed_as.Release (length ks.items)
 packed_want (want.Wait ks) = packed_as.Wait (length ks.items)
 packed_want (want.Done v ks refused) = packed_as.Done v (length ks.items) refused

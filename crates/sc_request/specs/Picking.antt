@@ -24,7 +24,8 @@ job_reserving false true ks = Some (job.Granted (record { items = ks }))
 job_reserving false false ks = None
 
 abbrev pub job_for_entry : List ℕ → List Marked → State → Option Job
-job_for_entry ks mark s = job_reserving (reserve_fails (standing_in s) s.rights ks) (may_reserve (standing_in s) s.rights ks mark) ks
+job_for_entry ks mark s =
+    job_reserving (reserve_fails (standing_in s) s.rights ks) (may_reserve (standing_in s) s.rights ks mark) ks
 
 -- the next of its queue
 abbrev pub job_idle : List Posted → Option Job

@@ -33,7 +33,11 @@ awaited (Awaits k is_creation) = Some k
 
 -- the handler releases every right that it holds
 abbrev pub lets_go : ℕ → State → State
-lets_go h s = record s { handlers = λ k. session_ended (is_handler h (s.rights.queue k)) (s.handlers k); rights = release_all h s.rights }
+lets_go h s =
+    record s {
+      handlers = λ k. session_ended (is_handler h (s.rights.queue k)) (s.handlers k);
+      rights = release_all h s.rights;
+    }
 
 -- those that wait for the answer to one of these hear that their supplier has failed
 abbrev pub tells : List Posted → State → State
@@ -50,4 +54,5 @@ counted_if true is_waited x = counted_refusal is_waited x
 -- the handler after the request that it served last
 abbrev pub without_first : Bool → List Service → Handler → Handler
 without_first refused [] x = x
-without_first refused (e ∷ es) x = counted_if refused e.posted.request.is_waited (record x { stage = e.over; services = es })
+without_first refused (e ∷ es) x =
+    counted_if refused e.posted.request.is_waited (record x { stage = e.over; services = es })

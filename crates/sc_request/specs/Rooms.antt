@@ -7,8 +7,8 @@ use Rattle.sc_request.specs.declared.settlement.Settlement.{Settlement}
 use Rattle.sc_request.specs.declared.settlement.SettleFault.{SettleFault}
 use Rattle.sc_request.specs.declared.settlement.SettleFault.TheVariants.{NotOut, OutOfMemory}
 
--- There is room to settle each handler that is out, and so many more: a place in some queue, and in the log an entry and as many actuals and handlers
--- as the two lists of a settlement may have.
+-- There is room to settle each handler that is out, and so many more: a place in some queue, and in the log an entry
+-- and as many actuals and handlers as the two lists of a settlement may have.
 pub record HasRoomFor (more : ℕ) (c : coded.Core) : Type 0 where
   pub places : c.outs + more ≤ length c.spare
   pub entries : vec_len c.log.entries + (c.outs + more) ≤ vec_capacity c.log.entries

@@ -62,7 +62,8 @@ with_handler k h s = record s {
 
 -- ---- answers
 
--- A handler that has failed takes no answer, and one that has an answer keeps it; but that a supplier has failed it always hears.
+-- A handler that has failed takes no answer, and one that has an answer keeps it; but that a supplier has failed it
+-- always hears.
 abbrev pub heard : Answer → Option Cause → Option Answer → Option Answer
 heard a (Some why) old = old
 heard SupplierFailed None old = Some SupplierFailed
@@ -105,12 +106,14 @@ told false x = x
 told true x = answered SupplierFailed x
 
 abbrev pub fallen : Cause → Handler → Handler
-fallen why x = record x { stage = Idle; services = []; entry = []; queue = []; callback = None; answer = None; failure = Some why }
+fallen why x =
+    record x { stage = Idle; services = []; entry = []; queue = []; callback = None; answer = None; failure = Some why }
 
 -- The handler fails. It releases every right that it holds, and each handler that waits for it is told.
 abbrev pub fail : ℕ → Cause → State → State
 fail h why s = record s {
   handlers = λ k. session_ended (ends_session release_at.Failure && is_handler h (s.rights.queue k))
-      (if k == h then fallen why (s.handlers k) else told (list_any (is_waited_by k) (requests_at (s.handlers h))) (s.handlers k));
+      (if k == h then fallen why (s.handlers k)
+      else told (list_any (is_waited_by k) (requests_at (s.handlers h))) (s.handlers k));
   rights = release_all h s.rights;
 }

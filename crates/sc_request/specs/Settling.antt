@@ -64,7 +64,8 @@ reserves h ks s = put h (record (s.handlers h) { stage = Reserves ks []; entry =
 -- The entry waits: what it newly reserved is released and marked, and its reserve step comes again.
 abbrev pub waits_again : ℕ → List ℕ → State → State
 waits_again h ks s =
-    release release_at.FalseWaitCondition ks (with_stage h (Reserves (s.handlers h).entry (mark_of (λ k. (s.handlers k).sessions) ks)) s)
+    release release_at.FalseWaitCondition ks
+    (with_stage h (Reserves (s.handlers h).entry (mark_of (λ k. (s.handlers k).sessions) ks)) s)
 
 abbrev pub awaits_if : Bool → ℕ → ℕ → State → State
 awaits_if false h k s = s
@@ -73,13 +74,15 @@ awaits_if true h k s = with_stage h (Awaits k false) s
 -- The request is sent. One with lock passing and a callback are waited for, too.
 abbrev pub sends : ℕ → ℕ → Request → Bool → Bool → State → State
 sends h k r passing waits s =
-    passes passing h k (send (is_callback h k s) k (posted (record r { is_waited = waits }) (passed_if passing h s.rights)) (awaits_if waits h k s))
+    passes passing h k (send (is_callback h k s) k
+    (posted (record r { is_waited = waits }) (passed_if passing h s.rights)) (awaits_if waits h k s))
 
 -- The handler that is asked has not failed, and has room.
 abbrev pub asks_of : ℕ → ℕ → Request → Bool → State → State
 asks_of h k r passing s =
     if is_some (s.handlers k).failure then fail h cause.SupplierFailed s
-    else if not (is_callback h k s) && not (nat_lt (length (s.handlers k).queue) max_queue) then fail h cause.QueueFull s
+    else if not (is_callback h k s) && not (nat_lt (length (s.handlers k).queue) max_queue)
+    then fail h cause.QueueFull s
     else sends h k r passing (passing || r.is_waited || is_callback h k s) s
 
 abbrev pub asks : ℕ → Request → Bool → State → State
@@ -97,8 +100,10 @@ creation h k class procedure actuals is_waited = record {
 
 -- With lock passing the creator waits, and releases the new handler with the answer; else it does so at once.
 abbrev pub creates_with : Bool → ℕ → ℕ → Request → State → State
-creates_with true h k r s = passes true h k (send false k (posted r (passed_if true h s.rights)) (with_stage h (Awaits k true) s))
-creates_with false h k r s = release release_at.Creation (k ∷ []) (send false k (posted r None) (with_stage h (HasMade k) s))
+creates_with true h k r s =
+    passes true h k (send false k (posted r (passed_if true h s.rights)) (with_stage h (Awaits k true) s))
+creates_with false h k r s =
+    release release_at.Creation (k ∷ []) (send false k (posted r None) (with_stage h (HasMade k) s))
 
 -- There may be this many handlers.
 abbrev pub creates : ℕ → ℕ → ℕ → Option ℕ → ArrayVec Value → Bool → State → State
@@ -114,11 +119,13 @@ counted_refusal false x = record x { refused = x.refused + 1 }
 -- The request ends, with a value or none, or refused; what its entry newly reserved is released.
 abbrev pub ends_service : Bool → ℕ → Option Value → List ℕ → Service → Handler → State → State
 ends_service false h v ks e x s = finish e.posted (Replied v) (release release_at.Exit ks (put h x s))
-ends_service true h v ks e x s = finish e.posted Refused (release release_at.Refusal ks (put h (counted_refusal e.posted.request.is_waited x) s))
+ends_service true h v ks e x s =
+    finish e.posted Refused (release release_at.Refusal ks (put h (counted_refusal e.posted.request.is_waited x) s))
 
 abbrev pub ends : ℕ → Option Value → List ℕ → Bool → List Service → State → State
 ends h v ks refused [] s = fail h cause.BadCode s
-ends h v ks refused (e ∷ es) s = ends_service refused h v ks e (record (s.handlers h) { stage = e.over; services = es }) s
+ends h v ks refused (e ∷ es) s =
+    ends_service refused h v ks e (record (s.handlers h) { stage = e.over; services = es }) s
 
 -- What comes of it. There may be this many handlers.
 abbrev pub done : ℕ → ℕ → Want → State → State
@@ -229,6 +236,7 @@ done_if false false most h w s = fail h cause.BadCode s
 abbrev pub asked_in : Bool → ℕ → ℕ → Want → State → State
 asked_in fits most h w s = done_if (posts_unheld h w s) (fits && may_ask h w s) most h w s
 
--- The state after so many turns of the handler under the job, the last of which asks this. There may be this many handlers.
+-- The state after so many turns of the handler under the job, the last of which asks this. There may be this many
+-- handlers.
 abbrev pub settled : ℕ → ℕ → Job → ℕ → Want → State → State
 settled most h j turns w s = asked_in (fits_turns turns (s.handlers h).stage j w) most h w (begun h j s)

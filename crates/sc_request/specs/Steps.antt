@@ -49,10 +49,12 @@ abbrev pub StandsOnCall : List machine.Frame → Type 0
 StandsOnCall [] = Unit {0}
 StandsOnCall (f ∷ below) = IsCalledFrom f.origin below
 
--- What the turn asks the core grants to a turn. Of a state that is reached this is to be proved from who holds what there.
+-- What the turn asks the core grants to a turn. Of a state that is reached this is to be proved from who holds what
+-- there.
 abbrev pub IsGranted : System → Want → ℕ → machine.World → State → Type 0
 IsGranted sys want h w s =
-    (may_ask h want s ≡ true) × IsLastEntry want (environment_at sys (w.handlers h).stack (w.handlers h).objects) (s.handlers h).entry
+    (may_ask h want s ≡ true)
+    × IsLastEntry want (environment_at sys (w.handlers h).stack (w.handlers h).objects) (s.handlers h).entry
 
 abbrev pub IsGrantedUnder : Numbering → System → ℕ → machine.World → Option Job → State → Type 0
 IsGrantedUnder n sys h w None s = Unit {0}
@@ -61,5 +63,6 @@ IsGrantedUnder n sys h w (Some j) s = IsGranted sys (asked n sys h j (w.handlers
 -- The core's half of the machine's step: what comes of the handler's turn, under the job that it has, where it has one.
 abbrev pub HalvesStep : Type 0
 HalvesStep =
-    (most : ℕ) (n : Numbering) (sys : System) (h : ℕ) (w : machine.World) (s : State) → IsHalfOf n w s → StandsOnCall (w.handlers h).stack →
+    (most : ℕ) (n : Numbering) (sys : System) (h : ℕ) (w : machine.World) (s : State) → IsHalfOf n w s →
+    StandsOnCall (w.handlers h).stack →
     IsGrantedUnder n sys h w (job_of h s) s → IsHalfOf n (turn most sys h w) (stepped most n sys h w (job_of h s) s)

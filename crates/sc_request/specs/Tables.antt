@@ -77,7 +77,16 @@ served (p ∷ ps) x = record x { services = record p { over = x.stage } ∷ x.se
 
 -- the handler with no frames, and nothing that it is asked for
 abbrev pub cleared : coded.Handler → coded.Handler
-cleared x = record x { stage = stage.Idle; entry = record { items = [] }; mark = []; services = []; queue = []; callback = []; answer = None }
+cleared x =
+    record x {
+      stage = stage.Idle;
+      entry = record { items = [] };
+      mark = [];
+      services = [];
+      queue = [];
+      callback = [];
+      answer = None;
+    }
 
 -- a handler that nobody has asked for anything
 abbrev pub fresh : coded.Handler
@@ -109,7 +118,8 @@ abbrev pub handler_at : List coded.Handler → List ℕ → ℕ → Handler
 handler_at xs sessions k = record (handler_in (slice_get xs k)) { sessions = slice_index sessions k }
 
 abbrev pub state_of : ℕ → List coded.Handler → List ℕ → Table → State
-state_of count xs sessions rights = record { count = count; handlers = handler_at xs sessions; rights = rights_of rights }
+state_of count xs sessions rights =
+    record { count = count; handlers = handler_at xs sessions; rights = rights_of rights }
 
 -- the job that the handler of the number is out with
 abbrev pub out_at : List coded.Handler → ℕ → Option Job
@@ -121,4 +131,5 @@ out_total [] = 0
 out_total (x ∷ xs) = if is_some x.out then out_total xs + 1 else out_total xs
 
 abbrev pub center : ℕ → List coded.Handler → List ℕ → Table → ℕ → Center
-center count xs sessions rights last = record { state = state_of count xs sessions rights; out = out_at xs; last = last }
+center count xs sessions rights last =
+    record { state = state_of count xs sessions rights; out = out_at xs; last = last }

@@ -14,7 +14,8 @@ needed_at h r (HasMade k) = []
 needed_at h r (Reserves ks mark) = needs h ks r
 needed_at h r (Awaits k is_creation) = []
 
--- its next step is a reserve step that was put off by a false wait condition, and no session of a handler has ended since that might have made it true
+-- its next step is a reserve step that was put off by a false wait condition, and no session of a handler has ended
+-- since that might have made it true
 abbrev pub is_put_off : (ℕ → ℕ) → HandlerStage → Bool
 is_put_off sessions Idle = false
 is_put_off sessions Runs = false

@@ -17,7 +17,8 @@ known h s = if nat_lt h s.count then s.handlers h else new_handler
 abbrev pub KeepsServices : Handler → Handler → Type 0
 KeepsServices x y =
     y.failure ≡ None →
-    (x.failure ≡ None) × (length y.services ≡ length x.services) × (HasFrames x.stage x.services → HasFrames y.stage y.services)
+    (x.failure ≡ None) × (length y.services ≡ length x.services)
+    × (HasFrames x.stage x.services → HasFrames y.stage y.services)
 
 -- A handler was picked with a job. After the settlement of its turns it serves one request more where it took one, and
 -- one less where one is done, unless it fails; and it fails where a failure is asked.

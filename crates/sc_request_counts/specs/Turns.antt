@@ -50,7 +50,8 @@ ServesAfter w n y = is_failure w ≡ false → Serves (left_after w n) y
 -- The first turn under a job serves one request more where that is taken, and one less where it is done.
 abbrev pub FirstTurnsServe : Type 0
 FirstTurnsServe =
-    (h : ℕ) (is_told : Bool) (j : Job) (x y : PlainStore) (w : Want) (n : ℕ) → Serves n x → FirstTurn h is_told j x y w →
+    (h : ℕ) (is_told : Bool) (j : Job) (x y : PlainStore) (w : Want) (n : ℕ) → Serves n x →
+    FirstTurn h is_told j x y w →
     ServesAfter w (served_under j n) y
 
 -- So does a further turn.

@@ -16,7 +16,8 @@ jump_of place condition body = place + length condition + suc (length body)
 
 abbrev pub open_branches : Setting → Entities → Branches → List Operation
 open_branches h n no_branches = []
-open_branches h n (branch_then e body bs) = open_branch (expr_code h n 0 e) (instrs_code h (names_given h n 0 e) body) ++ open_branches h n bs
+open_branches h n (branch_then e body bs) =
+    open_branch (expr_code h n 0 e) (instrs_code h (names_given h n 0 e) body) ++ open_branches h n bs
 
 -- the places of their jumps, where the first one's code begins at this place
 abbrev pub jumps_of : Setting → Entities → ℕ → Branches → List ℕ

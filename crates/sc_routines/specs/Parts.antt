@@ -22,7 +22,8 @@ call_in c = tree.Call c.span (target_of c.target) (name_of c.name) (exprs_of c.a
 
 -- a call of the feature of this name behind a target of this type, if there is such a feature
 abbrev pub site_named : System → List ℕ → ℕ → EntityType → List EntityType → Option CallSite
-site_named s x c t ts = option_map (λ (f : DeclaredFeature). site_of x c t ts (signature_of s t f)) (feature_named s t.class x)
+site_named s x c t ts =
+    option_map (λ (f : DeclaredFeature). site_of x c t ts (signature_of s t f)) (feature_named s t.class x)
 
 -- an entity in the slot is read, if its type is known
 abbrev pub slot_code : ℕ → Option EntityType → List Operation

@@ -14,7 +14,8 @@ abbrev pub text_in : RoutineContext → Text
 text_in c = record { class = c.class; formals = map declaration_of c.formals.now; result = c.result }
 
 abbrev pub setting_in : coded.Setting → Setting
-setting_in h = record { system = system_in h.context.tables.now; text = text_in h.context; result = h.result; olds = h.olds.items }
+setting_in h =
+    record { system = system_in h.context.tables.now; text = text_in h.context; result = h.result; olds = h.olds.items }
 
 -- the expressions that these refer to
 abbrev pub operands_of : List (Bor Expr) → List plain.Expr

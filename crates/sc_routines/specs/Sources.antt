@@ -13,7 +13,8 @@ source_in s r = record {
   text = text_of s r.class (map declaration_of r.routine.now.formals.items) (type_if_any r.routine.now.result_type);
   locals = map declaration_of r.routine.now.locals.items;
   body = instrs_of r.routine.now.body.items;
-  contract = text_of s r.contract_class (map declaration_of r.contract.now.formals.items) (type_if_any r.contract.now.result_type);
+  contract = text_of s r.contract_class (map declaration_of r.contract.now.formals.items)
+      (type_if_any r.contract.now.result_type);
   require = map clause_of r.contract.now.precondition.items;
   ensure = map clause_of r.contract.now.postcondition.items;
 }

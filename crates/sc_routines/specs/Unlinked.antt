@@ -11,7 +11,8 @@ abbrev pub unlinked_call : UnlinkedCall → plain.CallSite
 unlinked_call c = record { name = c.name.now; count = c.count; gives = c.gives; is_own = c.is_own; passes = c.passes }
 
 abbrev pub unlinked_creation : UnlinkedCreation → plain.CreationSite
-unlinked_creation c = record { class = c.class; procedure = option_copied c.procedure; count = c.count; passes = c.passes }
+unlinked_creation c =
+    record { class = c.class; procedure = option_copied c.procedure; count = c.count; passes = c.passes }
 
 abbrev pub unlinked : UnlinkedOperation → plain.Operation
 unlinked (op.PushInteger z) = plain.PushInteger z

@@ -10,8 +10,8 @@ use Rattle.sc_search.specs.declared.verdict.End.{End}
 use Rattle.sc_search.specs.Aims.{some_is}
 use Rattle.sc_search.specs.Found.{turns_of}
 
--- The turns of its order lead from the opening of the program to a world in which no handler has anything to do, and its
--- report is that of this world.
+-- The turns of its order lead from the opening of the program to a world in which no handler has anything to do, and
+-- its report is that of this world.
 pub record IsEnd (p : Image) (v : Version) (e : End) : Type 0 where
   pub world : PlainWorld
   pub runs : Runs (turns_of e.order.lines.items) (opened p v) world

@@ -21,8 +21,8 @@ line_turns line = replicate line.turns line.handler
 abbrev pub turns_of : List RecordLine → List ℕ
 turns_of lines = flat_map line_turns lines
 
--- The turns of the lines lead from the opening of the program, with as many handlers as the version has, to this world, and
--- its handlers stand so.
+-- The turns of the lines lead from the opening of the program, with as many handlers as the version has, to this world,
+-- and its handlers stand so.
 pub record LeadsTo (p : Image) (v : Version) (lines : List RecordLine) (Stand : List Status → Type 0) : Type 0 where
   pub world : PlainWorld
   pub runs : Runs (turns_of lines) (opened p v) world

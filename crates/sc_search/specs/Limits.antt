@@ -10,7 +10,8 @@ use Rattle.sc_search.specs.declared.verdict.Finding.{Finding}
 use Rattle.sc_search.specs.declared.verdict.Finding.TheVariants as finding
 use Rattle.sc_search.specs.Closed.{IsUnmet}
 
--- So many states were met, or more. Turns lead to each of them, and in none of them the handlers stand as is looked for.
+-- So many states were met, or more. Turns lead to each of them, and in none of them the handlers stand as is looked
+-- for.
 pub record AreMet (p : Image) (v : Version) (a : Aim) (count : ℕ) : Type 0 where
   pub states : List PlainKept
   pub many : count ≤ length states
@@ -40,8 +41,8 @@ pub record AreTwo (p : Image) (v : Version) : Type 0 where
 abbrev pub turns_a_state : ℕ
 turns_a_state = 2000
 
--- Why a search gives up that may keep so many states: it has met as many, or played as many turns as go with them. Or an order
--- led to two worlds, which those of accepted texts don't.
+-- Why a search gives up that may keep so many states: it has met as many, or played as many turns as go with them. Or
+-- an order led to two worlds, which those of accepted texts don't.
 pub data GivesUp (p : Image) (v : Version) (a : Aim) (limit : ℕ) : Type 0 where
   AllMet : (met : AreMet p v a limit) → GivesUp p v a limit
   AllPlayed : (played : ArePlayed p v (turns_a_state * limit)) → GivesUp p v a limit

@@ -26,7 +26,8 @@ pub record Opens (p : Image) (v : Version) (a : Aim) (ks : List PlainKept) : Typ
   pub unmet : AreUnmet p v a ks
 
 -- These turns lead to the world from the opening of the program, and it is in the state of this number.
-pub record Stands (p : Image) (v : Version) (ks : List PlainKept) (number : ℕ) (path : List ℕ) (w : PlainWorld) : Type 0 where
+pub record Stands (p : Image) (v : Version) (ks : List PlainKept) (number : ℕ) (path : List ℕ)
+    (w : PlainWorld) : Type 0 where
   pub runs : Runs path (opened p v) w
   pub stands : slice_get ks number ≡ Some (kept w)
 

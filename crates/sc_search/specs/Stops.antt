@@ -20,7 +20,8 @@ use Rattle.sc_search.specs.Limits.{ArePlayed, GivesUp}
 use Rattle.sc_search.specs.Views.{orders_of, states_of}
 
 -- The order of the number leads to a world in the state, whose handlers don't stand as is looked for.
-pub record IsReached (p : Image) (v : Version) (a : Aim) (orders : List (List ℕ)) (number : ℕ) (k : PlainKept) : Type 0 where
+pub record IsReached (p : Image) (v : Version) (a : Aim) (orders : List (List ℕ)) (number : ℕ)
+    (k : PlainKept) : Type 0 where
   pub order : List ℕ
   pub stands : slice_get orders number ≡ Some order
   pub world : PlainWorld
@@ -29,7 +30,8 @@ pub record IsReached (p : Image) (v : Version) (a : Aim) (orders : List (List �
   pub unmet : IsMet a (statuses world) → ⊥
 
 -- Each state is reached so, and so many turns were played.
-pub record AreReached (p : Image) (v : Version) (a : Aim) (ks : List PlainKept) (orders : List (List ℕ)) (turns : ℕ) : Type 0 where
+pub record AreReached (p : Image) (v : Version) (a : Aim) (ks : List PlainKept) (orders : List (List ℕ))
+    (turns : ℕ) : Type 0 where
   pub each : (number : ℕ) (k : PlainKept) → slice_get ks number ≡ Some k → IsReached p v a orders number k
   pub count : length orders ≡ length ks
   pub played : ArePlayed p v turns

@@ -55,7 +55,8 @@ IsReadFault file room fault.OutOfMemory = Unit {0}
 -- The same, where the file is to be UTF-8 too.
 abbrev pub IsFileFault : List ℕ → ℕ → FileFault → Type 0
 IsFileFault file room fault.TooLong = room ≤ length (unmarked file)
-IsFileFault file room (fault.NotUtf8 offset) = (length (unmarked file) < room) × (¬ IsUtf8 file × IsValidUpTo file offset)
+IsFileFault file room (fault.NotUtf8 offset) =
+    (length (unmarked file) < room) × (¬ IsUtf8 file × IsValidUpTo file offset)
 IsFileFault file room (fault.Unreadable error) = IsForGood (error_kind error)
 IsFileFault file room fault.OutOfMemory = Unit {0}
 
@@ -120,12 +121,13 @@ pub record StopsAtFile {R : Type 0} (old new : List R) (files : List (List ℕ))
 abbrev pub source_text_to : List (List ℕ) → ℕ → List ℕ
 source_text_to files file = source_text (take (file + 1) files)
 
--- Reading stops at the first file at fault, and what is said of it is true. A file that makes the source text too long may
--- be anything else.
+-- Reading stops at the first file at fault, and what is said of it is true. A file that makes the source text too long
+-- may be anything else.
 abbrev pub IsSourceFault : {R : Type 0} → List R → List R → List (List ℕ) → SourceFault → Type 0
 IsSourceFault old new files (told.Unreadable file) = StopsAtFile old new files file
 IsSourceFault old new files (told.NotUtf8 file) =
-    StopsAtFile old new files file × (¬ IsUtf8 (slice_index_or files file []) × (length (source_text_to files file) ≤ max_source_bytes))
+    StopsAtFile old new files file
+    × (¬ IsUtf8 (slice_index_or files file []) × (length (source_text_to files file) ≤ max_source_bytes))
 IsSourceFault old new files told.SourceTooLong =
     (file : ℕ) × (StopsAtFile old new files file × (max_source_bytes < length (source_text_to files file)))
 IsSourceFault old new files told.OutOfMemory = Unit {0}

@@ -66,9 +66,11 @@ column_after text = 1 + suffix_len (λ c. not (is_line_feed c)) text
 
 -- where the byte at an offset of a file's text stands
 abbrev pub place_in : File → ℕ → Place
-place_in f offset = record { file = f.name; line = line_after (take offset f.text); column = column_after (take offset f.text) }
+place_in f offset =
+    record { file = f.name; line = line_after (take offset f.text); column = column_after (take offset f.text) }
 
--- Where the byte at an offset of the source text of files stands. The line feed after a file's text stands in that file.
+-- Where the byte at an offset of the source text of files stands. The line feed after a file's text stands in that
+-- file.
 abbrev pub place_of : List File → ℕ → Option Place
 place_of [] offset = None
 place_of (f ∷ fs) offset =

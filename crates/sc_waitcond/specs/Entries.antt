@@ -13,7 +13,8 @@ abbrev pub unheld : Rights → ℕ → Option ℕ → Option ℕ
 unheld r h None = None
 unheld r h (Some k) = if held r h k then None else Some k
 
--- The handlers of these values that the entering handler doesn't hold, each once. A value has the handler on which its object lies, or none.
+-- The handlers of these values that the entering handler doesn't hold, each once. A value has the handler on which its
+-- object lies, or none.
 abbrev pub needed : Rights → ℕ → List (Option ℕ) → List ℕ
 needed r h values = each_once (filter_map (unheld r h) values)
 

@@ -41,7 +41,8 @@ mark_of sessions ks = map (λ k. record { handler = k; sessions = sessions k }) 
 
 -- All that an entry needs may be reserved together.
 abbrev pub may_reserve : (ℕ → Standing) → Rights → List ℕ → List Marked → Bool
-may_reserve standing r ks mark = list_all (λ k. may_be_reserved (standing k) (r.queue k)) ks && mark_allows (λ k. (standing k).sessions) mark
+may_reserve standing r ks mark =
+    list_all (λ k. may_be_reserved (standing k) (r.queue k)) ks && mark_allows (λ k. (standing k).sessions) mark
 
 -- The reserve step fails: one that it needs is lost.
 abbrev pub reserve_fails : (ℕ → Standing) → Rights → List ℕ → Bool

@@ -18,8 +18,8 @@ TurnsReplay =
     (p : Image) (h : ℕ) (es : List Settlement) (x : PlainRegion) → AreMade es (new_region p h) x →
     (r : Replays p h es x) × IsUnrefused p h es x r
 
--- Entries that replay to a region are its handler's, each of one turn or more, and the program is the region's; also where
--- memory was refused.
+-- Entries that replay to a region are its handler's, each of one turn or more, and the program is the region's; also
+-- where memory was refused.
 abbrev pub EntriesAreTheHandlers : Type 0
 EntriesAreTheHandlers =
     (p : Image) (h : ℕ) (es : List Settlement) (x : PlainRegion) → Replays p h es x →

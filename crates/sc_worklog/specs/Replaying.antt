@@ -7,13 +7,14 @@ use Rattle.sc_request.specs.declared.settlement.Settlement.{Settlement}
 use Rattle.sc_play.specs.Regions.{IsRefused, PlainRegion, Plays, new_region}
 use Rattle.sc_play.specs.Turns.{Turns}
 
--- The entry of a job has the job, the handler that played it, how many turns that made, and what the last of them asked.
+-- The entry of a job has the job, the handler that played it, how many turns that made, and what the last of them
+-- asked.
 abbrev pub entry_of : Job → Outcome → Settlement
 entry_of j o = record { handler = o.handler; job = j; turns = o.turns; want = o.want }
 
--- The entries replay to this region, which is that of the handler of the number, for the program. Where there is none, it
--- is new. A play of a job leads on from a region to which the entries before replay, and has its own entry behind them. A
--- play that was refused memory leads on without an entry.
+-- The entries replay to this region, which is that of the handler of the number, for the program. Where there is none,
+-- it is new. A play of a job leads on from a region to which the entries before replay, and has its own entry behind
+-- them. A play that was refused memory leads on without an entry.
 pub data Replays (p : Image) (h : ℕ) : List Settlement → PlainRegion → Type 0 where
   opened : Replays p h [] (new_region p h)
   played : {es : List Settlement} {x y : PlainRegion} {limit : ℕ} {j : Job} {o : Outcome} →
@@ -28,7 +29,8 @@ IsUnrefused p h _ _ opened = Unit {0}
 IsUnrefused p h _ _ (played {es} {x} {y} before plays) = IsUnrefused p h es x before × (y.store ≡ plays.last)
 IsUnrefused p h _ _ (refused before is) = ⊥
 
--- The turns of the entry lead from one region to the other: as many as it says, under its job, and the last asks its want.
+-- The turns of the entry lead from one region to the other: as many as it says, under its job, and the last asks its
+-- want.
 pub record IsMade (e : Settlement) (x y : PlainRegion) : Type 0 where
   pub handler : e.handler ≡ x.handler
   pub turns : Turns x.handler x.is_told e.job x.store e.turns y.store e.want

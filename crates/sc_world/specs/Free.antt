@@ -16,8 +16,8 @@ use Rattle.sc_world.specs.Worlds.{PlainWorld, opened}
 abbrev pub IsLinked : PlainWorld → Type 0
 IsLinked w = AreLinked w.center w.regions
 
--- If there is an object of this number on the handler, and that is free, so it hasn't failed, the object meets its class
--- invariant (ECMA-367, 8.9.16).
+-- If there is an object of this number on the handler, and that is free, so it hasn't failed, the object meets its
+-- class invariant (ECMA-367, 8.9.16).
 abbrev pub FreeObjectMeets : ℕ → ℕ → PlainWorld → Type 0
 FreeObjectMeets h number w =
     (x : PlainRegion) (o : PlainObject) → status_for h w.center ≡ Some Free → slice_get w.regions h ≡ Some x →

@@ -11,7 +11,8 @@ use Rattle.sc_world.specs.declared.kept_world.KeptWorld as coded
 use Rattle.sc_world.specs.Turning.{Attempt, Attempts, Runs}
 use Rattle.sc_world.specs.Worlds.{PlainWorld, max_handlers, opened}
 
--- The state of the core, and what the region of each handler holds. Which handlers are out, and which was picked last, is no part of it.
+-- The state of the core, and what the region of each handler holds. Which handlers are out, and which was picked last,
+-- is no part of it.
 pub record PlainKept : Type 0 where
   pub state : State
   pub regions : ℕ → Contents
@@ -37,7 +38,8 @@ with_last h w = record w { center = record w.center { last = h } }
 
 -- Worlds of one program of which the same is kept are the same, but for the handler picked last.
 abbrev pub KeptAlikeAreAlike : Type 0
-KeptAlikeAreAlike = (p : Image) (most : ℕ) (w v : PlainWorld) → IsOf p most w → IsOf p most v → kept w ≡ kept v → with_last v.center.last w ≡ v
+KeptAlikeAreAlike = (p : Image) (most : ℕ) (w v : PlainWorld) → IsOf p most w → IsOf p most v → kept w ≡ kept v →
+    with_last v.center.last w ≡ v
 
 -- A world is so at the opening of the program,
 abbrev pub OpeningsAreOf : Type 0
@@ -45,8 +47,10 @@ OpeningsAreOf = (p : Image) (version : Version) → IsOf p (most_handlers versio
 
 -- and stays so where handlers have their turns.
 abbrev pub RunsStayOf : Type 0
-RunsStayOf = (p : Image) (most : ℕ) (handlers : List ℕ) (w v : PlainWorld) → IsOf p most w → Runs handlers w v → IsOf p most v
+RunsStayOf = (p : Image) (most : ℕ) (handlers : List ℕ) (w v : PlainWorld) → IsOf p most w →
+    Runs handlers w v → IsOf p most v
 
 -- It does so too where memory is refused to some of these turns.
 abbrev pub AttemptsStayOf : Type 0
-AttemptsStayOf = (p : Image) (most : ℕ) (attempts : List Attempt) (w v : PlainWorld) → IsOf p most w → Attempts attempts w v → IsOf p most v
+AttemptsStayOf = (p : Image) (most : ℕ) (attempts : List Attempt) (w v : PlainWorld) → IsOf p most w →
+    Attempts attempts w v → IsOf p most v

@@ -9,8 +9,8 @@ use Rattle.sc_play.specs.Regions.{PlainRegion}
 use Rattle.sc_world.specs.Turning.{Makes, IsHeldUp, Settles}
 use Rattle.sc_world.specs.Worlds.{PlainWorld}
 
--- how many turns the handler that is out with the job may make at once, of so many that are left: all of them where it is
--- the next one again as long as they ask nothing
+-- how many turns the handler that is out with the job may make at once, of so many that are left: all of them where it
+-- is the next one again as long as they ask nothing
 abbrev pub turns_at_once : ℕ → Job → Center → ℕ
 turns_at_once left j c = if comes_again j c then left else 1
 
@@ -23,14 +23,15 @@ turns_of_picked left h j x = turns_at_once left j (picked h j x.center)
 abbrev pub AreCutShort : ℕ → ℕ → Want → Type 0
 AreCutShort limit turns asked = (turns < limit) × (asked ≡ want.Continue)
 
--- The handler, which is out with the job, plays so many turns under it, and is settled. It is told whether they were cut
--- short.
-pub record Played (limit h : ℕ) (j : Job) (turns most : ℕ) (c d : Center) (x y : PlainRegion) (told : Bool) : Type 0 where
+-- The handler, which is out with the job, plays so many turns under it, and is settled. It is told whether they were
+-- cut short.
+pub record Played (limit h : ℕ) (j : Job) (turns most : ℕ) (c d : Center) (x y : PlainRegion)
+    (told : Bool) : Type 0 where
   pub settles : Settles limit h j turns most c d x y
   pub tells : IsTrue told ↔ AreCutShort limit turns settles.outcome.want
 
--- The handler makes so many turns under its job, and memory is refused to none of them: where the last asks nothing, they
--- are all that it might make.
+-- The handler makes so many turns under its job, and memory is refused to none of them: where the last asks nothing,
+-- they are all that it might make.
 pub record MakesAll (limit h : ℕ) (j : Job) (turns : ℕ) (x y : PlainWorld) : Type 0 where
   pub makes : Makes limit h j turns x y
   pub all : makes.settles.outcome.want ≡ want.Continue → turns ≡ limit
@@ -48,7 +49,8 @@ TurnsOfNext (Some p) left turns x y = MakesAll (turns_of_picked left p.0 p.1 x) 
 -- Memory is refused to the first turn of the handler under its job, or behind some of them.
 abbrev pub StopsNext : Option (ℕ × Job) → ℕ → PlainWorld → PlainWorld → Type 0
 StopsNext None left x y = y ≡ x
-StopsNext (Some p) left x y = IsHeldUp p.0 p.1 x y ⊎ ((turns : ℕ) × MakesSome (turns_of_picked left p.0 p.1 x) p.0 p.1 turns x y)
+StopsNext (Some p) left x y =
+    IsHeldUp p.0 p.1 x y ⊎ ((turns : ℕ) × MakesSome (turns_of_picked left p.0 p.1 x) p.0 p.1 turns x y)
 
 -- Memory was refused to a turn of the next handler, where so many were left. Behind the turns that it made nothing has
 -- changed, or only what its silent operations change.
@@ -60,7 +62,8 @@ IsRefusedNext left x y = (y ≡ x) ⊎ StopsNext (next x.center) left x y
 pub data Rounds (limit : ℕ) (x : PlainWorld) : ℕ → PlainWorld → Type 0 where
   none : Rounds limit x limit x
   more : {left turns : ℕ} {y z : PlainWorld} (h : ℕ) (j : Job) → Rounds limit x left y → 0 < left →
-      next y.center ≡ Some (h, j) → MakesAll (turns_of_picked left h j y) h j turns y z → Rounds limit x (left - turns) z
+      next y.center ≡ Some (h, j) → MakesAll (turns_of_picked left h j y) h j turns y z →
+      Rounds limit x (left - turns) z
 
 -- The rounds end: all turns are made, or no handler has anything to do.
 pub record EndsRounds (limit : ℕ) (x y : PlainWorld) : Type 0 where

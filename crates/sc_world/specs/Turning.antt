@@ -10,7 +10,8 @@ use Rattle.sc_world.specs.declared.world.Turned.{Turned}
 use Rattle.sc_world.specs.declared.world.Turned.TheVariants.{Moved, Nothing}
 use Rattle.sc_world.specs.Worlds.{PlainWorld, opened}
 
--- The handler, which is out with the job, plays so many turns under it, at most the limit, and what they come to is settled.
+-- The handler, which is out with the job, plays so many turns under it, at most the limit, and what they come to is
+-- settled.
 pub record Settles (limit h : ℕ) (j : Job) (turns most : ℕ) (c d : Center) (x y : PlainRegion) : Type 0 where
   pub outcome : Outcome
   pub count : outcome.turns ≡ turns
@@ -109,8 +110,8 @@ pub record IsTried (x : PlainWorld) : Type 0 where
 
 -- ---- turns of one handler
 
--- So many turns of the handler, at most the limit, lead from the first world to the second. None are made where it has nothing
--- to do.
+-- So many turns of the handler, at most the limit, lead from the first world to the second. None are made where it has
+-- nothing to do.
 pub record TurnsUnderJob (limit h turns : ℕ) (x y : PlainWorld) : Type 0 where
   pub few : turns ≤ limit
   pub runs : Runs (replicate turns h) x y
