@@ -14,7 +14,7 @@ use Rattle.sc_model.proofs.cause.Cause.TheSendSync as cause
 use Rattle.sc_code.proofs.program.AttributeCode.TheSendSync as attribute
 use Rattle.sc_code.proofs.program.ConstantPool.TheSendSync as constants
 use Rattle.sc_code.proofs.program.RoutineCode.TheSendSync as routine
-use Rattle.sc_code.proofs.program.Version.TheSendSync as version
+use Rattle.sc_code.proofs.program.FeatureCode.TheSendSync as version
 use Rattle.sc_region.proofs.breakdown.Breakdown.TheSendSync as breakdown
 use Rattle.sc_region.proofs.frame.Activation.TheSendSync as activation
 use Rattle.sc_region.proofs.value.Reference.TheSendSync as reference
