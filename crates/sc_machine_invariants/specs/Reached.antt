@@ -8,7 +8,8 @@ use Rattle.sc_machine_values.specs.Values.{WhereAccepted}
 
 -- Each settled object meets its class invariant (ECMA-367, 8.9.16).
 abbrev pub SettledMeetWhereReached : Type 0
-SettledMeetWhereReached = WhereAccepted λ s root. (most : ℕ) (w : World) → IsReached most s root w → SettledObjectsMeet s w
+SettledMeetWhereReached = WhereAccepted λ s root. (most : ℕ) (w : World) → IsReached most s root w →
+    SettledObjectsMeet s w
 
 -- So it does after the turn of any handler.
 abbrev pub SettledMeetAfterTurns : Type 0

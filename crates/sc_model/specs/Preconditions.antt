@@ -52,7 +52,13 @@ verdict_on f k = verdict_of_false (clause_kind f.reserved (formals_among f.envir
 abbrev pub waits_again : ℕ → Frame → List Frame → World → World
 waits_again h f below w =
     release release_at.FalseWaitCondition f.reserved
-    (with_stack h (record f { stage = Reserves; tasks = tasks_of f.routine; values = []; reserved = []; mark = mark_of (λ k. (w.handlers k).sessions) f.reserved } ∷ below) w)
+    (with_stack h (record f {
+      stage = Reserves;
+      tasks = tasks_of f.routine;
+      values = [];
+      reserved = [];
+      mark = mark_of (λ k. (w.handlers k).sessions) f.reserved;
+    } ∷ below) w)
 
 abbrev pub is_creation : Errand → Bool
 is_creation (Calls x) = false

@@ -16,7 +16,13 @@ has_requests (r ∷ rs) = true
 
 -- what a reservation looks at
 abbrev pub standing_of : Handler → Standing
-standing_of x = record { has_frames = has_frames x.stack; has_failed = is_some x.failure; has_requests = has_requests x.queue; sessions = x.sessions }
+standing_of x =
+    record {
+      has_frames = has_frames x.stack;
+      has_failed = is_some x.failure;
+      has_requests = has_requests x.queue;
+      sessions = x.sessions;
+    }
 
 abbrev pub standing_in : World → ℕ → Standing
 standing_in w k = standing_of (w.handlers k)

@@ -41,7 +41,8 @@ effect most s h (Fails why) f below w = fail h why w
 abbrev pub settles : ℕ → System → ℕ → Step → Frame → List Frame → World → World
 settles most s h (Goes p) f below w = w
 settles most s h (Does a p) f below w =
-    effect most s h a (frame_at f p) below (put h (record (w.handlers h) { objects = p.objects; stack = frame_at f p ∷ below }) w)
+    effect most s h a (frame_at f p) below
+    (put h (record (w.handlers h) { objects = p.objects; stack = frame_at f p ∷ below }) w)
 
 -- a callback comes before an answer
 abbrev pub waits : System → ℕ → Option Request → Option Answer → ℕ → Option EntityType → Bool → Frame →

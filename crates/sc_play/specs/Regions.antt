@@ -79,7 +79,8 @@ pub record IsRefused (j : Job) (x y : PlainRegion) : Type 0 where
 
 -- What the job comes to as it is played again it comes to from where it was played first:
 abbrev pub RefusedJobsGoOn : Type 0
-RefusedJobsGoOn = (limit : ℕ) (j : Job) (x y z : PlainRegion) (o : Outcome) → IsRefused j x y → Plays limit j y z o → Plays limit j x z o
+RefusedJobsGoOn = (limit : ℕ) (j : Job) (x y z : PlainRegion) (o : Outcome) → IsRefused j x y → Plays limit j y z o →
+    Plays limit j x z o
 
 -- refused once more, it is as if it was refused once.
 abbrev pub RefusedTwiceIsRefused : Type 0

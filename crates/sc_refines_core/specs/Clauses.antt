@@ -114,7 +114,8 @@ abbrev pub ClauseAct : System → (RoutineName → Bool) → Text → Entities �
 ClauseAct s pure t n (Enters c o x us gives) p =
     RunsPure s pure o x × ((a : EntityType) × (gives ≡ Some a) × StandsInClauses s pure t n (a ∷ []) p)
 ClauseAct s pure t n (Requests o x us gives passes) p =
-    (passes ≡ false) × ((a : EntityType) × (gives ≡ Some a) × StandsInClauses s pure t n (a ∷ []) p) × RunsPureIfRoutine s pure o x
+    (passes ≡ false) × ((a : EntityType) × (gives ≡ Some a) × StandsInClauses s pure t n (a ∷ []) p)
+    × RunsPureIfRoutine s pure o x
 ClauseAct s pure t n Starts p = HasStarted p.tasks
 ClauseAct s pure t n (Refuses k) p = Unit {0}
 ClauseAct s pure t n (Fails why) p = Unit {0}
@@ -149,7 +150,8 @@ ClausesComeFirst = (s : System) (root : Root) (pure : RoutineName → Bool) → 
 -- it has started, or stands in its own precondition
 abbrev pub HasStartedOrStands : System → (RoutineName → Bool) → Frame → Type 0
 HasStartedOrStands s pure f =
-    HasStarted f.tasks ⊎ StandsInClauses s pure f.routine.contract (formals_known s f.routine.text.formals) (coming_to f.stage) (point_of f [])
+    HasStarted f.tasks ⊎ StandsInClauses s pure f.routine.contract (formals_known s f.routine.text.formals)
+    (coming_to f.stage) (point_of f [])
 
 -- So it is of each frame in each state that is reached.
 abbrev pub EachStandsInClauses : Type 0

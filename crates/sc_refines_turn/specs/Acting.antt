@@ -137,11 +137,13 @@ TurnsInto y z = (s : System) (h : ℕ) (x : Half) → IsProgramFor s y.program �
 
 -- An integer is printed.
 abbrev pub IntegersArePrinted : Type 0
-IntegersArePrinted = (v : ℤ) (y z : PlainStore) → Comes (hop.Comes (act.PrintInteger v)) y z → TurnsInto y (on_top (past 1) (printed (signed_decimal v) z))
+IntegersArePrinted = (v : ℤ) (y z : PlainStore) → Comes (hop.Comes (act.PrintInteger v)) y z →
+    TurnsInto y (on_top (past 1) (printed (signed_decimal v) z))
 
 -- A truth value is printed.
 abbrev pub BooleansArePrinted : Type 0
-BooleansArePrinted = (b : Bool) (y z : PlainStore) → Comes (hop.Comes (act.PrintBoolean b)) y z → TurnsInto y (on_top (past 1) (printed (boolean_text b) z))
+BooleansArePrinted = (b : Bool) (y z : PlainStore) → Comes (hop.Comes (act.PrintBoolean b)) y z →
+    TurnsInto y (on_top (past 1) (printed (boolean_text b) z))
 
 -- The text of the number is printed.
 abbrev pub TextsArePrinted : Type 0
@@ -312,4 +314,5 @@ SimpleStepsAskNothing = (a : Act) (y z w : PlainStore) → asks_nothing a ≡ tr
 -- A turn that leaves a store that has failed tells why.
 abbrev pub FailuresAreTold : Type 0
 FailuresAreTold = (why : Cause) (y w : PlainStore) → TurnsInto y w → w.failure ≡ Some why →
-    (n : Numbering) (s : System) (h : ℕ) (x : Half) → IsProgramFor s y.program → IsRegionOf s x y → next_want n s h x ≡ want.Fail why
+    (n : Numbering) (s : System) (h : ℕ) (x : Half) → IsProgramFor s y.program → IsRegionOf s x y →
+    next_want n s h x ≡ want.Fail why

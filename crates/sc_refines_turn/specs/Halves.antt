@@ -42,11 +42,13 @@ AreWithin count (f ∷ below) = (f.current.number ≤ count) × AreWithin count 
 -- Where the frame was called by one that takes a value it has a Result. The caller is the first of the frames.
 abbrev pub GivesResult : Frame → List Frame → Type 0
 GivesResult f [] = Unit {0}
-GivesResult f (g ∷ gs) = (c : Calling) (t : EntityType) → f.origin ≡ Called c → g.stage ≡ InCall (Some t) → is_some f.result ≡ true
+GivesResult f (g ∷ gs) = (c : Calling) (t : EntityType) → f.origin ≡ Called c → g.stage ≡ InCall (Some t) →
+    is_some f.result ≡ true
 
 -- The class has a routine of the name.
 abbrev pub HasRoutine : System → ℕ → List ℕ → Type 0
-HasRoutine s class name = option_map (λ (f : DeclaredFeature). is_routine f.feature.kind) (version_of s class name) ≡ Some true
+HasRoutine s class name =
+    option_map (λ (f : DeclaredFeature). is_routine f.feature.kind) (version_of s class name) ≡ Some true
 
 -- The frame runs on an object of the handler of the number, gives its caller a Result, enters only routines that there
 -- are, and doesn't come to what no case fits.

@@ -14,7 +14,8 @@ told_half k x = with_stack (told_frames k x.stack) x
 
 -- The creator is told it in memory as in the half.
 abbrev pub CreatorsAreTold : Type 0
-CreatorsAreTold = (k : ℕ) (y : PlainStore) (s : System) (x : Half) → IsRegionOf s x y → IsRegionOf s (told_half k x) (told k y)
+CreatorsAreTold = (k : ℕ) (y : PlainStore) (s : System) (x : Half) → IsRegionOf s x y →
+    IsRegionOf s (told_half k x) (told k y)
 
 -- With lock passing this is the answer: a creator that waits for it goes on. The creation of a handler gives no value.
 abbrev pub MadeAreAnswers : Type 0

@@ -27,7 +27,8 @@ pub record PlaysInContract (s : System) (h : ℕ) (j : Job) (task : Task) (n : �
 -- So many turns under a job that hasn't begun.
 abbrev pub TurnsArePlayed : Type 0
 TurnsArePlayed =
-    (h : ℕ) (j : Job) (limit n : ℕ) (y z : PlainStore) (w : Want) (t : Turns h false j y n z w) → n ≤ limit → MayPlay h j y n z w t → (s : System) (x : Half) → IsProgramFor s y.program →
+    (h : ℕ) (j : Job) (limit n : ℕ) (y z : PlainStore) (w : Want) (t : Turns h false j y n z w) → n ≤ limit →
+    MayPlay h j y n z w t → (s : System) (x : Half) → IsProgramFor s y.program →
     IsRegionOf s x y → PlaysInContract s h j (task_of (names_of y) j) n x →
     (let b : Half = played s h (task_of (names_of y) j) n x in
     IsRegionOf s b z × MakesTurns (numbering_by (names_of y)) s h (task_of (names_of y) j) limit n w x b)

@@ -24,7 +24,8 @@ CallsAsk =
 -- The creation of an object of the same handler asks so for its procedure, and nothing where there is none.
 abbrev pub ObjectCreationsAsk : Type 0
 ObjectCreationsAsk =
-    (h class : ℕ) (k : Option ℕ) (n : ℕ) (y z w : PlainStore) → Comes (hop.Comes (act.Create class k n)) y z → w.program ≡ y.program → TurnAsks h y w (asks_created k w)
+    (h class : ℕ) (k : Option ℕ) (n : ℕ) (y z w : PlainStore) → Comes (hop.Comes (act.Create class k n)) y z →
+    w.program ≡ y.program → TurnAsks h y w (asks_created k w)
 
 -- The heads of the block are there, and slots for them.
 abbrev pub MayOpen : ℕ → ℕ → Option PlainActivation → Type 0

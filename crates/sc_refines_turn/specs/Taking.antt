@@ -54,4 +54,5 @@ RequestsAreTaken = (h : ℕ) (r : Request) (y : PlainStore) → IsTakeable y r �
 
 -- A request that is taken asks for the reserve step of the routine that begins, or ends at once.
 abbrev pub TakenRequestsAsk : Type 0
-TakenRequestsAsk = (h : ℕ) (r : Request) (y : PlainStore) → IsTakeable y r → JobAsks h (job.Take r) y (taken h r y) (asks_taking h r y (taken h r y))
+TakenRequestsAsk = (h : ℕ) (r : Request) (y : PlainStore) → IsTakeable y r →
+    JobAsks h (job.Take r) y (taken h r y) (asks_taking h r y (taken h r y))

@@ -88,7 +88,8 @@ abbrev pub TurnsAreMade : Type 0
 TurnsAreMade =
     (h : ℕ) (y z : PlainStore) (w : Want) (t : TurnOf h y z w) → MayTurn h y z w t → (s : System) (x : Half) →
     IsProgramFor s y.program → IsRegionOf s x y →
-    RefusesInContract s x.objects x.stack → IsRegionOf s (turn s h x) z × (w ≡ next_want (numbering_by (names_of y)) s h x)
+    RefusesInContract s x.objects x.stack →
+    IsRegionOf s (turn s h x) z × (w ≡ next_want (numbering_by (names_of y)) s h x)
 
 -- ---- jobs
 
@@ -144,7 +145,9 @@ JobsAreTaken =
 -- The first turn under a job that hasn't begun.
 abbrev pub FirstTurnsAreMade : Type 0
 FirstTurnsAreMade =
-    (h : ℕ) (j : Job) (y z : PlainStore) (w : Want) (t : FirstTurn h false j y z w) → MayTurnUnder h j (begun false j y) z w t → (s : System) (x : Half) → IsProgramFor s y.program →
+    (h : ℕ) (j : Job) (y z : PlainStore) (w : Want)
+    (t : FirstTurn h false j y z w) → MayTurnUnder h j (begun false j y) z w t → (s : System) (x : Half) →
+    IsProgramFor s y.program →
     IsRegionOf s x y → RefusesUnder s j x →
     IsRegionOf s (taken_turn s h (task_of (names_of y) j) x) z
     × (w ≡ first_want (numbering_by (names_of y)) s h (task_of (names_of y) j) x)

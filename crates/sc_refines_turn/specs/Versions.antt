@@ -16,4 +16,5 @@ TurnsKeepVersions = (s : System) (h : ℕ) (x : Half) → AreVersions s x.stack 
 
 -- So does the first turn under a job.
 abbrev pub JobsKeepVersions : Type 0
-JobsKeepVersions = (s : System) (h : ℕ) (j : Task) (x : Half) → AreVersions s x.stack → AreVersions s (taken_turn s h j x).stack
+JobsKeepVersions = (s : System) (h : ℕ) (j : Task) (x : Half) → AreVersions s x.stack →
+    AreVersions s (taken_turn s h j x).stack
