@@ -18,5 +18,5 @@ mod waits;
 
 pub use clause::{push_attributes, push_false_clause, push_operation_values};
 pub use naming::{push_name, push_place, push_request, push_stand};
-pub use origin::Origin;
+pub use origin::RunSource;
 pub use telling::push_waits;
