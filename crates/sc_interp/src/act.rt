@@ -23,7 +23,7 @@ pub enum Act {
     /// The text of the number is printed.
     PrintText(usize),
     /// An `until` was evaluated, whose value is the last operand; the loop ends, or the routine goes so many operations back.
-    Test(Option<usize>),
+    Until(Option<usize>),
     /// A routine of an object of this handler is called.
     Enter {
         calling: Calling,
