@@ -1,7 +1,9 @@
 pub mod Bodies
 pub mod Contracts
-pub mod Extensions
-pub mod TrueClauses
+pub mod Extending
+pub mod FormulaAttributes
+pub mod FormulaSteps
+pub mod Holding
 pub mod Locally
 pub mod WithoutOld
 pub mod Stems

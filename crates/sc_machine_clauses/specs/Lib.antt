@@ -1,3 +1,4 @@
 pub mod Evaluating
+pub mod Formulas
 pub mod Laws
 pub mod Texts

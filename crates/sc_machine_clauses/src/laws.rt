@@ -1,5 +1,6 @@
 //! Laws of evaluations by their parts, and of the steps that they are made of. Each is the contract of a function that
 //! does nothing.
+ghost use Rattle.sc_machine_clauses.specs.Formulas.{FormulasAreSteps};
 ghost use Rattle.sc_machine_clauses.specs.Laws.{AnswersAreLocal, EvaluationsAreLocal, EvaluationsMayAskMore, StepExtends, StepOfContract, StepKeepsNoOld, TextsAreWithoutOld, TextsAreWithoutTests, TrueEvaluationsHold};
 
 /// A clause whose evaluation by its parts, text by text, comes to its end with True holds in the world.
@@ -46,4 +47,11 @@ pub fn contracts_step()
 /// In an accepted system no object test stands in a contract.
 pub fn contracts_are_without_tests()
     ensures { TextsAreWithoutTests }
+{}
+
+/// An expression of a class invariant is a formula: its silent steps end with a truth value exactly where that is the
+/// formula's truth over the attributes of Current, and in an overflow or a division by zero exactly where it has none.
+/// They are steps of a text in which the attributes are read: none is hidden by an entity, or attached and still Void.
+pub fn formulas_are_steps()
+    ensures { FormulasAreSteps }
 {}
