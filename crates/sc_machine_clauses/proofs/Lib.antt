@@ -4,6 +4,7 @@ pub mod Extending
 pub mod FormulaAttributes
 pub mod FormulaSteps
 pub mod Holding
+pub mod InvariantSteps
 pub mod Locally
 pub mod WithoutOld
 pub mod Stems

@@ -1,20 +1,20 @@
 -- Formulas, and the steps of the expressions that they are made from: two definitions that agree.
-use Rattle.std.specs.Prelude.{ℕ, ◌≡◌, ◌↔◌, Bool, false, List, [], ◌∷◌, Option, Some, None, map}
+use Rattle.std.specs.Prelude.{ℕ, ◌≡◌, ◌↔◌, Bool, true, false, List, [], ◌∷◌, Option, Some, None, map, All}
 use Rattle.sc_formula.specs.Atom.{kinds_of}
 use Rattle.sc_formula.specs.Fit.{IsFit}
 use Rattle.sc_formula.specs.Formula.{PlainFormula, truth_of}
 use Rattle.sc_tree.specs.Plain as tree
-use Rattle.sc_tree.specs.Plain.{System, DeclaredType, Expr}
+use Rattle.sc_tree.specs.Plain.{System, DeclaredType, Clause, Expr}
 use Rattle.sc_class.specs.declared.identity.ClassId.TheVariants as class
-use Rattle.sc_class.specs.Tables.Features.{DeclaredFeature, feature_named}
+use Rattle.sc_class.specs.Tables.Features.{DeclaredFeature, feature_named, features, invariant_of}
 use Rattle.sc_proctype.specs.declared.entity_type.EntityType.{EntityType}
 use Rattle.sc_rules.specs.Names.{current, given_type}
 use Rattle.sc_model.specs.declared.cause.Cause.{Cause}
 use Rattle.sc_model.specs.declared.cause.Cause.TheVariants as cause
 use Rattle.sc_model.specs.Values.{Reference, Value, Boolean, operand}
 use Rattle.sc_model.specs.Environments.{Binding, binding_named}
-use Rattle.sc_model.specs.Objects.{attributes_of}
-use Rattle.sc_model.specs.Invariants.{atoms_of, formula_of}
+use Rattle.sc_model.specs.Objects.{Object, attributes_of, fresh_attributes, object_numbered}
+use Rattle.sc_model.specs.Invariants.{atoms_of, formula_of, formulas_of, MeetsInvariant}
 use Rattle.sc_model.specs.Routines.{place_in}
 use Rattle.sc_model.specs.Tasks.{Eval}
 use Rattle.sc_model.specs.Steps.{Point, Exits, Fails, Does}
@@ -82,3 +82,16 @@ FormulasAreSteps = (s : System) (me : Reference) (defaults : List Binding) (p : 
     (f : PlainFormula) → ReadsAttributes s me defaults p → formula_of defaults e ≡ Some f →
     IsFit f (kinds_of (atoms_of defaults)) →
     StepsTo s me (evaluating i e p) (truth_of f (atoms_of (attributes_of me.number p.objects)))
+
+-- the attributes that the objects of the class have, with their defaults
+abbrev pub defaults_of : System → ℕ → List Binding
+defaults_of s k = fresh_attributes s (features s k)
+
+-- Current meets its class invariant exactly where the steps of each clause end with True.
+abbrev pub InvariantsAreSteps : Type 0
+InvariantsAreSteps = (s : System) (me : Reference) (o : Object) (p : Point) (formulas : List PlainFormula) →
+    object_numbered me.number p.objects ≡ Some o → ReadsAttributes s me (defaults_of s o.class) p →
+    formulas_of s o.class ≡ Some formulas →
+    All (λ (f : PlainFormula). IsFit f (kinds_of (atoms_of (defaults_of s o.class)))) formulas →
+    MeetsInvariant s o
+    ↔ All (λ (k : Clause). EndsWith s me (evaluating 0 k.condition p) (Boolean true)) (invariant_of s o.class)

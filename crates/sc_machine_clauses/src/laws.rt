@@ -1,6 +1,6 @@
 //! Laws of evaluations by their parts, and of the steps that they are made of. Each is the contract of a function that
 //! does nothing.
-ghost use Rattle.sc_machine_clauses.specs.Formulas.{FormulasAreSteps};
+ghost use Rattle.sc_machine_clauses.specs.Formulas.{FormulasAreSteps, InvariantsAreSteps};
 ghost use Rattle.sc_machine_clauses.specs.Laws.{AnswersAreLocal, EvaluationsAreLocal, EvaluationsMayAskMore, StepExtends, StepOfContract, StepKeepsNoOld, TextsAreWithoutOld, TextsAreWithoutTests, TrueEvaluationsHold};
 
 /// A clause whose evaluation by its parts, text by text, comes to its end with True holds in the world.
@@ -54,4 +54,10 @@ pub fn contracts_are_without_tests()
 /// They are steps of a text in which the attributes are read: none is hidden by an entity, or attached and still Void.
 pub fn formulas_are_steps()
     ensures { FormulasAreSteps }
+{}
+
+/// So an object meets its class invariant exactly where the steps of each clause, with the object as Current, end with
+/// True.
+pub fn invariants_are_steps()
+    ensures { InvariantsAreSteps }
 {}
