@@ -4,6 +4,7 @@ mod Attempts
 pub mod Rounds
 mod ComingAgain
 mod Contracts
+pub mod GoingRound
 mod Headlined
 mod IdleWorlds
 mod TurnNeeds

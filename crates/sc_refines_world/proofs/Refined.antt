@@ -36,8 +36,9 @@ use Rattle.sc_refines_world.specs.Standing.{names_in}
 use Rattle.sc_refines_world.specs.Anew.{AnewRunsAsMachine}
 use Rattle.sc_refines_world.proofs.RefinedRuns.{stands_along, stands_anew}
 use Rattle.sc_refines_world.proofs.Rounds.{refused_next_stops, rounds_are_turns, stops_join}
-use Rattle.sc_refines_world.proofs.IdleWorlds.{idle_world_is_idle}
-use Rattle.sc_refines_world.proofs.TurnNeeds.{job_fits}
+use Rattle.sc_refines_world.proofs.GoingRound.{WorldsStand, rounds_go}
+use Rattle.sc_refines_world.proofs.Idling.{idle_world_is_idle}
+use Rattle.sc_refines_world.proofs.Meeting.{job_fits}
 use Rattle.sc_refines_world.proofs.PuttingBack.{refused_turn_stays_near, same_or_further_near}
 use Rattle.sc_refines_world.proofs.ReachedStates.{in_each, reached_fits}
 use Rattle.sc_refines_world.proofs.WorldTurns.{HalvesMeet, OthersKeep, RegionsAskSo, RegionsFollow, SettledMeet, StoresTurn, TurnsEndThere}
@@ -140,12 +141,14 @@ world_has_headline runs_as holds s root faultless well p v hs y program fits run
 
 pub rounds_run_as_machine : WorldRunsAsMachine → PicksWhereTurns → RoundsRunAsMachine
 rounds_run_as_machine runs_as picks s root faultless well p v limit y program fits ends =
-    let turns = rounds_are_turns limit (opened p v) ends.left y ends.rounds in
+    let stand : WorldsStand s root p v = λ hs x runs. runs_as s root faultless well p v hs x program fits runs in
+    let turns = rounds_go picks s root p v stand limit ends.left y ends.rounds in
     let w : machine.World = run (most_handlers v) s turns.0 (opening s root) in
-    let stands = runs_as s root faultless well p v turns.0 y program fits turns.2 in
-    let within : IsRunWithin limit turns.0 w = record {
-      few = omega (arith, turns.1);
-      ends = ended (length turns.0) ends.left limit (next y.center) w turns.1 ends.ends (λ none. idle_world_is_idle picks s p w y stands none);
+    let stands = stand turns.0 y turns.1.1 in
+    let within : IsRunWithin (most_handlers v) s root limit turns.0 = record {
+      few = omega (arith, turns.1.0);
+      go_round = turns.1.2;
+      ends = ended (length turns.0) ends.left limit (next y.center) w turns.1.0 ends.ends (λ none. idle_world_is_idle picks s p w y stands none);
     } in
     (turns.0, stands, within)
 

@@ -60,7 +60,7 @@ module _ (limit h : ℕ) (j : Job) (turns : ℕ) (x y : PlainWorld) (picks : pic
 
 -- ---- rounds
 
-at_most_left : (left h : ℕ) (j : Job) (x : PlainWorld) → 0 < left → turns_of_picked left h j x ≤ left
+pub at_most_left : (left h : ℕ) (j : Job) (x : PlainWorld) → 0 < left → turns_of_picked left h j x ≤ left
 at_most_left left h j x some = by (comes_again j (picked h j x.center))
   where
     by : (b : Bool) → (if b then left else 1) ≤ left

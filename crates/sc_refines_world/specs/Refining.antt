@@ -1,7 +1,8 @@
 -- What is said of each world that turns lead to, from the opening of the program of an accepted system on.
 use Rattle.std.specs.List.{range_with_len}
-use Rattle.std.specs.Prelude.{◌≡◌, ◌≢◌, ◌⊎◌, ◌<◌, ◌≤◌, ◌+◌, ◌++◌, ℕ, suc, Bool, true, false, List, [], ◌∷◌, Option, Some, None, Contains, drop, length, map, slice_get, take}
+use Rattle.std.specs.Prelude.{◌≡◌, ◌≢◌, ◌⊎◌, ◌<◌, ◌≤◌, ◌+◌, ◌-◌, ◌++◌, ℕ, suc, Bool, true, false, List, [], ◌∷◌, Option, Some, None, Contains, drop, if◌then◌else◌, length, map, slice_get, take}
 use Rattle.sc_tree.specs.Plain.{System}
+use Rattle.sc_class.specs.ClassNames.{Root}
 use Rattle.sc_proctype.specs.declared.entity_type.EntityType.{EntityType}
 use Rattle.sc_proctype.specs.declared.tag.Reserved.{Reserved}
 use Rattle.sc_proctype.specs.declared.tag.Tag.TheVariants as tag
@@ -12,7 +13,7 @@ use Rattle.sc_model.specs.Fits.{Fits, IsUnset}
 use Rattle.sc_model.specs.Failures.{requests_at}
 use Rattle.sc_model.specs.Handlers.{Request, World}
 use Rattle.sc_model.specs.Reports as machine
-use Rattle.sc_model.specs.Runs.{IsReached, opening, run}
+use Rattle.sc_model.specs.Runs.{IsReached, has_turn, opening, run}
 use Rattle.sc_model.specs.Settled.{SettledObjectsMeet}
 use Rattle.sc_model.specs.Turns.{turn}
 use Rattle.sc_model.specs.Values.{Attached, Reference, Value}
@@ -23,7 +24,7 @@ use Rattle.sc_region.specs.declared.job.Job.{Job}
 use Rattle.sc_region.specs.declared.job.Job.TheVariants as job
 use Rattle.sc_region.specs.declared.job.Want.TheVariants as want
 use Rattle.sc_request.specs.Candidates.{comes_again}
-use Rattle.sc_request.specs.Logs.{Center, next, pick_for, picked, settles}
+use Rattle.sc_request.specs.Logs.{Center, next, pick_for, picked, round, settles}
 use Rattle.sc_request.specs.Settling.{goes_on}
 use Rattle.sc_machine_rights.specs.Formals.{FormalsAreHeld, NamesAreHeld}
 use Rattle.sc_machine_rights.specs.Headline.{CallbacksComeFirst, ChainsHold, OnlyWaitersAreTold, RepliesMeetNone, ReservedAreHeld, TargetsAreKept, WaitersAreTold}
@@ -190,11 +191,25 @@ IdleWorldIsIdle =
     (s : System) (p : Image) (w : World) (x : PlainWorld) → StandsFor s p w x → next x.center ≡ None →
     machine.some_has_turn w.count w ≡ false
 
--- The turns of these handlers lead the machine to this state. They are so many at most, and fewer only where no handler
--- has a turn any more.
-pub record IsRunWithin (limit : ℕ) (hs : List ℕ) (w : World) : Type 0 where
+-- the first of these handlers that has a turn in the state
+abbrev pub first_with_turn : List ℕ → World → Option ℕ
+first_with_turn [] w = None
+first_with_turn (h ∷ hs) w = if has_turn h w then Some h else first_with_turn hs w
+
+-- From the state on each of these handlers has a turn when it comes to it: it is the first that has one behind the handler of the
+-- turn before, round the numbers.
+abbrev pub GoRound : ℕ → System → ℕ → List ℕ → World → Type 0
+GoRound most s before [] w = Unit {0}
+GoRound most s before (h ∷ hs) w =
+    (first_with_turn (round w.count before) w ≡ Some h) × GoRound most s h hs (turn most s h w)
+
+-- From the opening on each of these handlers has a turn in the machine, in the order of rounds. They are so many at most, and
+-- fewer only where no handler has a turn any more.
+pub record IsRunWithin (most : ℕ) (s : System) (root : Root) (limit : ℕ) (hs : List ℕ) : Type 0 where
   pub few : length hs ≤ limit
-  pub ends : (length hs ≡ limit) ⊎ (machine.some_has_turn w.count w ≡ false)
+  pub go_round : GoRound most s (most - 1) hs (opening s root)
+  pub ends : let w : World = run most s hs (opening s root) in
+      (length hs ≡ limit) ⊎ (machine.some_has_turn w.count w ≡ false)
 
 -- Rounds that end lead a program's world to one that stands for a state to which such turns lead the machine.
 abbrev pub RoundsRunAsMachine : Type 0
@@ -202,7 +217,7 @@ RoundsRunAsMachine = WhereAccepted λ s root.
     (p : Image) (v : Version) (limit : ℕ) (y : PlainWorld) → IsProgramOf s root p → FitsRequests p →
     EndsRounds limit (opened p v) y →
     (hs : List ℕ) × StandsFor s p (run (most_handlers v) s hs (opening s root)) y
-    × IsRunWithin limit hs (run (most_handlers v) s hs (opening s root))
+    × IsRunWithin (most_handlers v) s root limit hs
 
 -- Where memory was refused to one of their turns, the world is near the state to which those before it lead the
 -- machine.

@@ -146,7 +146,7 @@ pub fn handlers_come_again()
 {}
 
 /// So rounds that end lead a program's world to one that stands for a state to which as many turns lead the machine, or
-/// fewer where no handler has a turn any more.
+/// fewer where no handler has a turn any more. Each of them is that of the next handler that has one, round the numbers.
 pub fn rounds_run_as_machine()
     ensures { RoundsRunAsMachine }
 {
