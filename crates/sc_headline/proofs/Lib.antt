@@ -1,5 +1,6 @@
 mod Headed
 mod Threaded
+mod TurnsMade
 mod Exactness
 mod SearchLaws
 mod Stuck

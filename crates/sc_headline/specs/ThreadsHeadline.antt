@@ -1,7 +1,12 @@
 -- What is claimed of what a run on several threads leaves, from the bytes of a source text on.
-use Rattle.std.specs.Prelude.{ℕ, List}
+use Rattle.std.specs.Prelude.{◌≡◌, ℕ, List, [], ◌∷◌, true}
+use Rattle.sc_tree.specs.Plain.{System}
 use Rattle.sc_class.specs.ClassNames.{Root}
+use Rattle.sc_lockpass.specs.Versions.{most_handlers}
 use Rattle.sc_lockpass.specs.declared.version.Version.TheVariants.{Two}
+use Rattle.sc_model.specs.Handlers as machine
+use Rattle.sc_model.specs.Runs.{has_turn, opening}
+use Rattle.sc_model.specs.Turns.{turn}
 use Rattle.sc_code.specs.declared.program.Image.{Image}
 use Rattle.sc_request.specs.Cores.{log_of, state_of}
 use Rattle.sc_world.specs.Reports as told
@@ -35,3 +40,15 @@ ThreadsReportAsMachine =
     (text : List ℕ) (root : Root) (program : Image) (limit : ℕ) (left : Left) →
     IsLoaded text root program → IsRun program limit left →
     ∥ IsMachineRun text root Two (turns_of (log_of left.core)) (told.report (world_of left)) (told.statuses (world_of left)) ∥₁
+
+-- From the state on each of these handlers has a turn when it comes to it, behind the turns of those before it.
+abbrev pub HaveTurns : ℕ → System → List ℕ → machine.World → Type 0
+HaveTurns most s [] w = Unit {0}
+HaveTurns most s (h ∷ hs) w = (has_turn h w ≡ true) × HaveTurns most s hs (turn most s h w)
+
+-- So has each handler of the turns of the record's lines, from the opening of the text's system on.
+abbrev pub ThreadsMakeTurns : Type 0
+ThreadsMakeTurns =
+    (text : List ℕ) (root : Root) (program : Image) (limit : ℕ) (left : Left) →
+    (loaded : IsLoaded text root program) → IsRun program limit left →
+    ∥ HaveTurns (most_handlers Two) loaded.system (turns_of (log_of left.core)) (opening loaded.system root) ∥₁

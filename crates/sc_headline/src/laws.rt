@@ -4,7 +4,7 @@ ghost use Rattle.sc_headline.specs.Everywhere.{HasHeadlineAnyhow};
 ghost use Rattle.sc_headline.specs.Exactly.{AuditsAreExact, OneWorld, RunsAreAnsweredYes};
 ghost use Rattle.sc_headline.specs.Headline.{Headline, MachineHeadline, ReplaysAreTheMachines, RunsAreTheMachines};
 ghost use Rattle.sc_headline.specs.Searched.{FoundOrdersAreTheMachines, SearchesGiveUpAtLimits, StuckHaveNoTurn, WholeSearchesFindAll};
-ghost use Rattle.sc_headline.specs.ThreadsHeadline.{ThreadsHaveHeadline, ThreadsReportAsMachine};
+ghost use Rattle.sc_headline.specs.ThreadsHeadline.{ThreadsHaveHeadline, ThreadsMakeTurns, ThreadsReportAsMachine};
 ghost use Rattle.sc_world.specs.Views.{world_of};
 
 use sc_auditing::laws::{misfits_are_no_record, one_misfit, runs_audit_yes};
@@ -14,6 +14,7 @@ use sc_refines_world::laws::{
     standing_world_is_near, world_has_headline, world_reports_as_machine, world_runs_as_machine,
 };
 use sc_refines_world::once::runs_are_functional;
+use sc_request::laws::core_picks_where_the_machine_turns;
 use sc_world::World;
 use sc_world::laws::{attempts_stay_of_their_program, openings_are_of_their_program};
 
@@ -83,6 +84,14 @@ pub fn threads_report_as_machine()
 {
     replays_are_the_machines();
     runs_are_one_threads();
+}
+
+/// And each of these turns is one that its handler has in the machine, in the state to which those before it lead.
+pub fn threads_make_turns()
+    ensures { ThreadsMakeTurns }
+{
+    world_runs_as_machine();
+    core_picks_where_the_machine_turns();
 }
 
 /// For every source text that is accepted, where an audit says yes to what a run of its program left: the turns of the record

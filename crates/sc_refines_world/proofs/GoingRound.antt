@@ -89,7 +89,7 @@ first_asks_on h b j x y t = by j t
     by job.Go t = refl
 
 -- So many turns lead to some store, and ask nothing.
-abbrev Quiet : (h : ℕ) → Bool → Job → PlainStore → ℕ → Type 0
+abbrev pub Quiet : (h : ℕ) → Bool → Job → PlainStore → ℕ → Type 0
 Quiet h b j x k = (y : PlainStore) × Turns h b j x k y want.Continue
 
 -- the first ones of a row of turns
