@@ -10,7 +10,7 @@ pub mod TopRoutines
 pub mod Shapes
 pub mod Assignments
 pub mod Targets
-pub mod Moves
+pub mod SilentMoves
 pub mod Told
 pub mod SilentSteps
 pub mod FirstItems

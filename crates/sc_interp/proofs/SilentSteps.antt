@@ -14,7 +14,7 @@ use Rattle.sc_interp.specs.Hopping as hopping
 use Rattle.sc_interp.specs.Playing.{Plays, Remains}
 use Rattle.sc_interp.specs.Standing.{Passes, stepped}
 use Rattle.sc_interp.specs.Told.{IsDone, IsTold}
-use Rattle.sc_interp.proofs.Moves.{next_plays, passes_more, remains_after}
+use Rattle.sc_interp.proofs.SilentMoves.{next_plays, passes_more, remains_after}
 use Rattle.sc_interp.proofs.Told.{told_done}
 
 pub done_stepped : (step : Result Unit Cause) (h : outcome.Hop) → h ≡ stepped step → IsDone h

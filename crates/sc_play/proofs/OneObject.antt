@@ -15,7 +15,7 @@ use Rattle.sc_interp.specs.Playing.{Remains}
 use Rattle.sc_interp.specs.Running as here
 use Rattle.sc_interp.specs.Running.{Arrives, Does, RestsIn, Stops, Turn}
 use Rattle.sc_interp.specs.Turning.{unless_failed}
-use Rattle.sc_interp.proofs.Moves.{remains_after}
+use Rattle.sc_interp.proofs.SilentMoves.{remains_after}
 use Rattle.sc_interp.proofs.Onward.{comes_on, leads_on, still_runs}
 use Rattle.sc_play.specs.Acting.{acted, asks_acted}
 use Rattle.sc_play.specs.Turns.{AreMade, GoesOn, IsAhead, TurnIn, TurnOf}

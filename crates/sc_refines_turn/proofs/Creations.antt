@@ -41,7 +41,7 @@ use Rattle.sc_interp.specs.Standing.{actuals, state_of, without}
 use Rattle.sc_region.specs.Calls.{on_top, past, top_frame}
 use Rattle.sc_interp.specs.Values.{reference_of, value_of, values_of}
 use Rattle.sc_interp.proofs.Behind.{passes}
-use Rattle.sc_interp.proofs.Moves.{stays_after}
+use Rattle.sc_interp.proofs.SilentMoves.{stays_after}
 use Rattle.sc_interp.proofs.TopRoutines.{some_same}
 use Rattle.sc_interp.proofs.Operands.{values_drop}
 use Rattle.sc_refines_turn.specs.Acting.{Comes, IsCreator, Meets, ObjectsAreCreated}

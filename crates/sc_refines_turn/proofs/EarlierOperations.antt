@@ -13,7 +13,7 @@ use Rattle.sc_interp.specs.Hopping.{ComesTo, LeadsTo, state_in}
 use Rattle.sc_interp.specs.Playing.{Remains}
 use Rattle.sc_interp.specs.Standing.{hopped}
 use Rattle.sc_interp.specs.Values.{reference_of}
-use Rattle.sc_interp.proofs.Moves.{remains_after, runs_on, top_of}
+use Rattle.sc_interp.proofs.SilentMoves.{remains_after, runs_on, top_of}
 use Rattle.sc_interp.proofs.TopRoutines.{none_some}
 use Rattle.sc_play.specs.Turns.{GoesOn, TurnIn, TurnMade}
 use Rattle.sc_refines_turn.specs.Acting.{SilentOperationsJoin, TopRuns}

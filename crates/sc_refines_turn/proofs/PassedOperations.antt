@@ -36,7 +36,7 @@ use Rattle.sc_interp.specs.Standing.{Stays, listed, state_of, without}
 use Rattle.sc_region.specs.Calls.{on_top, past, top_frame}
 use Rattle.sc_interp.specs.Turning.{back, round_ended}
 use Rattle.sc_interp.proofs.Behind.{passes}
-use Rattle.sc_interp.proofs.Moves.{stays_after}
+use Rattle.sc_interp.proofs.SilentMoves.{stays_after}
 use Rattle.sc_interp.proofs.Operands.{values_drop}
 use Rattle.sc_region_turns.proofs.RegionSame.{still_prints}
 use Rattle.sc_refines_turn.specs.Acting.{Comes, Meets, IntegersArePrinted, BooleansArePrinted, TextsArePrinted, RoundsEnd, BodiesStart, RoutinesFail}

@@ -8,7 +8,7 @@ use Rattle.sc_request.specs.Candidates.{comes_again, frees_under}
 use Rattle.sc_request.specs.Handlers.{State}
 use Rattle.sc_request.specs.Logs.{Center, next, pick_for, picked, settles}
 use Rattle.sc_request.specs.Settling.{goes_on, settled}
-use Rattle.sc_request.proofs.Grants.{below_there}
+use Rattle.sc_request.proofs.GrantedReservations.{below_there}
 use Rattle.sc_request.proofs.SettledCandidates.{had_job}
 use Rattle.sc_world.proofs.FreeHandlers.{next_picks}
 use Rattle.sc_refines_world.specs.Refining.{HandlersComeAgain}

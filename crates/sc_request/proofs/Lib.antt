@@ -16,7 +16,7 @@ pub mod StageHalves
 mod Outs
 mod Rounds
 mod Bits
-pub mod Grants
+pub mod GrantedReservations
 mod ChangedTables
 mod Counted
 pub mod Sounds

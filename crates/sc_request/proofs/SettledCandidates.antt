@@ -11,7 +11,7 @@ use Rattle.sc_request.specs.Settling.{settled}
 use Rattle.sc_request.specs.Logs.{Center, pick_for, settles}
 use Rattle.sc_request.specs.Candidates.{AreCandidates, AreReserving, frees, is_reserving, touches}
 use Rattle.sc_request.proofs.Elsewhere.{same_job}
-use Rattle.sc_request.proofs.Grants.{below_there}
+use Rattle.sc_request.proofs.GrantedReservations.{below_there}
 use Rattle.sc_request.proofs.Quiet.{waiting_before}
 use Rattle.sc_request.proofs.Untouched.{leaves_untouched, settled_count}
 

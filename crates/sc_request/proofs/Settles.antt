@@ -15,7 +15,7 @@ use Rattle.sc_request.specs.Sound.{IsSound}
 use Rattle.sc_request.specs.Tables.{center, out_at, out_total, state_of}
 use Rattle.sc_request.specs.Candidates.{HasGrantsBelow, HasOutsBelow, granted_items, is_granted}
 use Rattle.sc_request.proofs.Outs.{fewer_out, out_is, out_set, same_handler, with_job}
-use Rattle.sc_request.proofs.Grants.{grants_back, outs_back}
+use Rattle.sc_request.proofs.GrantedReservations.{grants_back, outs_back}
 use Rattle.sc_request.proofs.Counted.{counted}
 use Rattle.sc_request.proofs.Sounds.{all_more, settled_is}
 

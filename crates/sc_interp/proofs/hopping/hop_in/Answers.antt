@@ -3,7 +3,7 @@ use Rattle.std.proofs.lemmas.Result.{IfOk-weaker}
 use Rattle.sc_interp.specs.declared.act.Hop as outcome
 use Rattle.sc_interp.specs.Hopping.{IsNext, NextIs}
 use Rattle.sc_interp.specs.Playing.{Plays}
-use Rattle.sc_interp.proofs.Moves.{next_stuck}
+use Rattle.sc_interp.proofs.SilentMoves.{next_stuck}
 use Rattle.sc_interp.proofs.SilentSteps.{next_other, next_step, told_stepped}
 use Rattle.sc_interp.proofs.hopping.hop_in.Goals as goal
 

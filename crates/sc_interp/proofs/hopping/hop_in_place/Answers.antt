@@ -7,7 +7,7 @@ use Rattle.sc_region.specs.Lending.{with_top}
 use Rattle.sc_interp.specs.Playing.{Plays}
 use Rattle.sc_interp.specs.Standing.{Follows}
 use Rattle.sc_interp.proofs.TopRoutines.{remains_top}
-use Rattle.sc_interp.proofs.Moves.{in_place_plays, in_place_same}
+use Rattle.sc_interp.proofs.SilentMoves.{in_place_plays, in_place_same}
 use Rattle.sc_interp.specs.Told.{IsTold, OnComes, Tells}
 use Rattle.sc_interp.proofs.Told.{comes_top, told_top}
 use Rattle.sc_interp.proofs.hopping.hop_in_place.Goals as goal

@@ -5,7 +5,7 @@ use Rattle.sc_interp.specs.declared.act.Hop as outcome
 use Rattle.sc_interp.specs.declared.act.Hop.TheVariants as told
 use Rattle.sc_interp.specs.Hopping.{IsNext, Passes}
 use Rattle.sc_interp.specs.Playing.{Plays}
-use Rattle.sc_interp.proofs.Moves.{code_still, comes_after, comes_never, count_some, leads_after, next_stuck, remains_after}
+use Rattle.sc_interp.proofs.SilentMoves.{code_still, comes_after, comes_never, count_some, leads_after, next_stuck, remains_after}
 use Rattle.sc_interp.proofs.SilentSteps.{next_other, next_step, passes_on, remains_on, remains_other}
 use Rattle.sc_interp.specs.Told.{IsTold, OnComes}
 use Rattle.sc_interp.proofs.hopping.moves_in.Goals.{in-Some-Ok, in-None+in_ok-hop_by-in-None+in-Passed}

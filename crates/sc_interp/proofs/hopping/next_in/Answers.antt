@@ -3,7 +3,7 @@ use Rattle.std.specs.Prelude.{slice_get}
 use Rattle.std.specs.Option.{option_map}
 use Rattle.sc_region.specs.declared.frame.Activation.{Activation}
 use Rattle.sc_region.specs.Frames.{activation_of, top_activation}
-use Rattle.sc_interp.proofs.Moves.{next_past, next_there}
+use Rattle.sc_interp.proofs.SilentMoves.{next_past, next_there}
 use Rattle.sc_interp.proofs.hopping.next_in.Goals as goal
 
 pub returns-in-Some : goal.returns-in-Some

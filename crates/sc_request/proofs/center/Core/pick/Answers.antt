@@ -1,7 +1,7 @@
 use Rattle.std.proofs.Common.{◌∙◌, refl, arith}
 use Rattle.sc_request.specs.Cores.{center_of}
 use Rattle.sc_request.specs.Logs.{pick_for}
-use Rattle.sc_request.proofs.Grants.{below_there}
+use Rattle.sc_request.proofs.GrantedReservations.{below_there}
 use Rattle.sc_request.proofs.Rounds.{next_has, picks_next}
 use Rattle.sc_request.proofs.center.Core.pick.Goals as goal
 

@@ -8,7 +8,7 @@ use Rattle.sc_request.specs.Candidates.{AreCandidates, AreReserving, HasGrantsBe
 use Rattle.sc_request.specs.Sound.{IsSound}
 use Rattle.sc_request.specs.Tables.{center, handler_at, out_total, state_of}
 use Rattle.sc_request.proofs.Outs.{back_center, fewer_out, is_counted, none_is_out, out_is, stays, with_job}
-use Rattle.sc_request.proofs.Grants.{candidates_back, grants_back, outs_back, sound_back}
+use Rattle.sc_request.proofs.GrantedReservations.{candidates_back, grants_back, outs_back, sound_back}
 use Rattle.sc_request.proofs.Reservers.{same_reserving}
 use Rattle.sc_request.proofs.Shapes.{job_is}
 use Rattle.sc_request.proofs.center.Core.put_back.Goals as goal

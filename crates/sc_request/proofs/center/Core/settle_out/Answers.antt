@@ -16,7 +16,7 @@ use Rattle.sc_request.specs.Candidates.{AreCandidates, AreReserving, HasGrantsBe
 use Rattle.sc_request.specs.Cores.{center_of, log_of}
 use Rattle.sc_request.specs.Handlers.{State}
 use Rattle.sc_request.specs.Sound.{IsSound}
-use Rattle.sc_request.proofs.Grants.{granted_below}
+use Rattle.sc_request.proofs.GrantedReservations.{granted_below}
 use Rattle.sc_request.proofs.Reservers.{same_reserving, settled_reserving}
 use Rattle.sc_request.proofs.SettledCandidates.{settled_candidates}
 use Rattle.sc_request.proofs.Settles.{out_counted, settled_center, settled_grants, settled_outs, settled_sound, settled_total}
