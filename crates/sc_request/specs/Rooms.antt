@@ -1,5 +1,5 @@
 -- Room for settlements: what one takes is kept for each handler that is out.
-use Rattle.std.specs.Prelude.{◌≤◌, ◌+◌, ◌*◌, ℕ, Bool, true, false, Result, Ok, Err, length, vec_len, vec_capacity}
+use Rattle.std.specs.Prelude.{◌≡◌, ◌≤◌, ◌+◌, ◌*◌, ℕ, Bool, true, false, Result, Ok, Err, length, vec_len, vec_capacity}
 use Rattle.sc_region.specs.declared.job.Job.{Job}
 use Rattle.sc_region.specs.declared.job.Want.{Want}
 use Rattle.sc_request.specs.declared.center.Core as coded
@@ -19,13 +19,18 @@ pub record HasRoomFor (more : ℕ) (c : coded.Core) : Type 0 where
 
 abbrev pub is_not_out : Result Unit SettleFault → Bool
 is_not_out (Ok u) = false
-is_not_out (Err NotOut) = true
+is_not_out (Err (NotOut h)) = true
 is_not_out (Err OutOfMemory) = false
+
+-- The handler that is said not to be out is this one.
+abbrev pub IsNamed : ℕ → SettleFault → Type 0
+IsNamed handler (NotOut h) = h ≡ handler
+IsNamed handler OutOfMemory = Unit {0}
 
 -- there was no memory for it
 abbrev pub is_short : Result Unit SettleFault → Bool
 is_short (Ok u) = false
-is_short (Err NotOut) = false
+is_short (Err (NotOut h)) = false
 is_short (Err OutOfMemory) = true
 
 -- what the log has of so many turns of a handler that was out with the job, the last of which asks this

@@ -1,5 +1,5 @@
 //! What a handler's turns came to is settled.
-ghost use Rattle.std.specs.Prelude.{◌≡◌, ◌++◌, ◌∷◌, ◌+◌, ◌<◌, ◌≤◌, ◌-◌, ◌^◌, ℕ, [], Some, OnErr, OnOk, false, is_some, length, not, true};
+ghost use Rattle.std.specs.Prelude.{◌≡◌, ◌++◌, ◌∷◌, ◌+◌, ◌<◌, ◌≤◌, ◌-◌, ◌^◌, ℕ, [], Some, IfErr, OnErr, OnOk, false, is_some, length, not, true};
 ghost use Rattle.std.specs.List.{All};
 ghost use Rattle.std.specs.Option.{option_map};
 ghost use Rattle.sc_lockpass.specs.Versions.{most_handlers};
@@ -7,7 +7,7 @@ ghost use Rattle.sc_request.specs.Candidates.{granted_items};
 ghost use Rattle.sc_request.specs.Logged.{HasPlaces};
 ghost use Rattle.sc_request.specs.Logs.{settles};
 ghost use Rattle.sc_request.specs.Places.{outs_of, plain};
-ghost use Rattle.sc_request.specs.Rooms.{HasRoomFor, is_not_out, is_short, settlement};
+ghost use Rattle.sc_request.specs.Rooms.{HasRoomFor, IsNamed, is_not_out, is_short, settlement};
 ghost use Rattle.sc_request.specs.Settling.{asked_in, settled};
 ghost use Rattle.sc_request.specs.Sound.{IsSound};
 ghost use Rattle.sc_request.specs.Shapes.{of_shape};
@@ -30,12 +30,13 @@ impl Core {
     /// no case for the job that was picked fails its handler: by F13 where it posts to a handler that isn't held, else by
     /// F16.
     ///
-    /// S1 where the handler isn't out, and S9 where there is no memory. Nothing has changed then. S9 doesn't come where
-    /// there is room for a settlement.
+    /// S1 with the handler's number where it isn't out, and S9 where there is no memory. Nothing has changed then. S9
+    /// doesn't come where there is room for a settlement.
     pub fn settle(&mut self, handler: u16, turns: u32, want: &Want) -> Result<(), SettleFault>
         ensures center { OnOk result ((job : Job) → (center_of self.old).out handler ≡ Some job → center_of self.new ≡ settles (most_handlers self.old.state.rights.version) handler job turns want.now (center_of self.old)) }
         ensures log { OnOk result ((job : Job) → (center_of self.old).out handler ≡ Some job → log_of self.new ≡ log_of self.old ++ settlement handler job turns want.now ∷ []) }
         ensures not_out { is_not_out result ≡ not (is_some ((center_of self.old).out handler)) }
+        ensures named { IfErr result (IsNamed handler) }
         ensures short { HasRoomFor 0 self.old → is_short result ≡ false }
         ensures unchanged { OnErr result ((center_of self.new ≡ center_of self.old) × (log_of self.new ≡ log_of self.old)) }
         ensures outs { OnOk result (self.old.outs ≡ self.new.outs + 1) }
@@ -43,7 +44,7 @@ impl Core {
         ensures version { self.new.state.rights.version ≡ self.old.state.rights.version }
     {
         if !self.is_out(handler) {
-            return Err(SettleFault::NotOut);
+            return Err(SettleFault::NotOut { handler });
         }
         if self.make_room_for_one().is_err() {
             return Err(SettleFault::OutOfMemory);

@@ -17,8 +17,8 @@ pub struct Settlement {
 /// Why turns aren't settled.
 #[derive(Clone, Copy, Debug, PartialEq, Eq)]
 pub enum SettleFault {
-    /// S1: its handler isn't out.
-    NotOut,
+    /// S1: the handler of this number isn't out.
+    NotOut { handler: u16 },
     /// S9: there is no memory for the settlement.
     OutOfMemory,
 }
