@@ -4,6 +4,7 @@ mod explaining;
 mod format;
 mod given;
 mod help;
+mod options;
 mod root_option;
 mod searching;
 
@@ -14,7 +15,7 @@ ghost use Rattle.sc_arguments.specs.Usage as spec;
 use crate::arguments::explaining::{is_explained, with_explain};
 use crate::arguments::format::{format_argument, read_format};
 use crate::arguments::given::given_in;
-use clap::builder::ValueParser;
+use crate::arguments::options::{flag, number, option};
 use clap::error::ErrorKind;
 use clap::{Arg, ArgAction, ArgMatches};
 pub use format::Format;

@@ -1,6 +1,6 @@
 //! What is said of handlers that have failed, wait or are busy, beside the report.
 
-use crate::breakdown::RunSource;
+use crate::breakdown::push_failing;
 use crate::failing::failing_in;
 use crate::limit::{Limit, push_limit};
 use crate::moments::{Kind, Moment, moments_of};
@@ -11,7 +11,7 @@ use sc_code::Program;
 use sc_explain::find;
 use sc_explain_classes::{let_tables_go, tables_of};
 use sc_explain_text::{Lines, let_go, system_of};
-use sc_explain_waiting::{Origin, push_waits};
+use sc_explain_waiting::{RunSource, push_waits};
 use sc_lockpass::Version;
 use sc_lower::{Lowering, lower};
 use sc_model::{Cause, Status};
@@ -30,15 +30,6 @@ pub struct Played<'r> {
     pub limit: Limit,
     /// Whether a request may have been refused for which nobody waited.
     pub may_refuse: bool,
-}
-
-/// A run that was played once more, with what it is of.
-#[derive(Clone, Copy)]
-struct Rerun<'r> {
-    origin: RunSource<'r>,
-    world: &'r World<'r>,
-    played: Played<'r>,
-    moments: &'r [Moment],
 }
 
 /// What the failure of each handler that has failed in a run is, in words, and where and for whom it ran, which requests were
@@ -118,7 +109,7 @@ fn note_of_program(
 
 /// The same, where its turns are played from this opening.
 fn note_of_rerun(
-    origin: RunSource<'_>,
+    origin: &RunSource<'_>,
     statuses: &[Status],
     world: &mut World<'_>,
     program: &Program,
@@ -135,7 +126,7 @@ fn note_of_rerun(
 
 /// The same, where that is what there was in front of each failure.
 fn note_of_moments(
-    origin: &Origin<'_>,
+    origin: &RunSource<'_>,
     statuses: &[Status],
     world: &World<'_>,
     played: &Played<'_>,
@@ -204,7 +195,7 @@ fn note(alloc: Global, statuses: &[Status]) -> Result<Vec<u8>, AllocError> {
 
 /// Adds what the failure of each handler is, where it was, and where more is said of it.
 fn push_failures(
-    origin: &Origin<'_>,
+    origin: &RunSource<'_>,
     lines: &mut Lines,
     statuses: &[Status],
     world: &World<'_>,

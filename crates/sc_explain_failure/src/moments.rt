@@ -1,13 +1,12 @@
 //! What there was in front of a settlement of a run: what is lost behind it.
 
-use crate::breakdown::RunSource;
 use crate::failure::Played;
 use crate::history::taken_before;
 use sc_audit::RecordLine;
 use sc_code::Program;
 use sc_explain_text::Lines;
 use sc_explain_waiting::{
-    Origin, push_attributes, push_false_clause, push_name, push_operation_values, push_request,
+    RunSource, push_attributes, push_false_clause, push_name, push_operation_values, push_request,
     push_stand,
 };
 use sc_model::{Cause, Status};
@@ -50,7 +49,7 @@ pub struct Moment {
 
 /// What there was in front of each failure of a run that was played, and of each refusal for which nobody waited.
 pub fn moments_of(
-    origin: RunSource<'_>,
+    origin: &RunSource<'_>,
     world: &World<'_>,
     program: &Program,
     played: &Played<'_>,
@@ -73,7 +72,7 @@ fn found(alloc: Global, world: &World<'_>) -> Result<Vec<Moment>, AllocError> {
 
 /// Tells of each, where the run is played once more.
 fn tell_of(
-    origin: &Origin<'_>,
+    origin: &RunSource<'_>,
     ended: &World<'_>,
     program: &Program,
     played: &Played<'_>,
@@ -100,7 +99,7 @@ fn add_all(
 }
 
 fn add(
-    origin: RunSource<'_>,
+    alloc: Global,
     moments: &mut Vec<Moment>,
     handler: u16,
     kind: Kind,
@@ -122,7 +121,7 @@ fn add(
 }
 
 fn add_failure(
-    origin: RunSource<'_>,
+    alloc: Global,
     moments: &mut Vec<Moment>,
     world: &World<'_>,
     handler: u16,
@@ -147,7 +146,7 @@ fn last_of(log: &Log, handler: u16) -> Option<usize> {
 }
 
 fn add_refusals(
-    origin: RunSource<'_>,
+    alloc: Global,
     moments: &mut Vec<Moment>,
     world: &World<'_>,
     handler: u16,
@@ -200,8 +199,8 @@ fn served_before(log: &Log, handler: u16, place: usize) -> Option<Settlement> {
 
 /// A run that is played once more, settlement by settlement.
 #[derive(Drop)]
-struct Rewound<'r, 'p> {
-    origin: RunSource<'r>,
+struct Rewound<'o, 'r, 'p> {
+    origin: &'o RunSource<'r>,
     world: World<'p>,
     lines: &'r [RecordLine],
     /// The line that is played, and how many turns of it are made.

@@ -17,7 +17,7 @@ const MOST_VALUES: usize = 8;
 /// Adds which clause of the precondition of the routine that a handler is in is false, with the values of what it names, on a
 /// line, as far as that is found on the objects as they are; else nothing.
 pub fn push_false_clause(
-    origin: RunSource<'_>,
+    origin: &RunSource<'_>,
     lines: &mut Lines,
     world: &World<'_>,
     handler: u16,
@@ -33,7 +33,7 @@ pub fn push_false_clause(
 /// Adds the values of what the topmost routine of a handler reads and calls for the operation at a place of it, where it goes on
 /// to there without asking anything of others, and gets this answer first if one has come: a line, or nothing.
 pub fn push_operation_values(
-    origin: RunSource<'_>,
+    origin: &RunSource<'_>,
     lines: &mut Lines,
     world: &World<'_>,
     handler: u16,
@@ -66,7 +66,7 @@ pub fn push_operation_values(
 
 /// Adds the values that the attributes of an object have which a part of the text names: a line, or nothing.
 pub fn push_attributes(
-    origin: RunSource<'_>,
+    origin: &RunSource<'_>,
     lines: &mut Lines,
     world: &World<'_>,
     object: Reference,

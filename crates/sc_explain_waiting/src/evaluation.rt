@@ -260,7 +260,7 @@ impl<'r> Evaluation<'r> {
     fn store_attribute(&mut self, name: usize) -> bool {
         let object = self.frame.current;
         let version = self.version(object, name);
-        match (self.values.pop(self.frame), version) {
+        match (self.values.pop(&self.frame), version) {
             (Some(value), Some(FeatureCode::Attribute(attribute))) => {
                 self.note_write(Write {
                     object,

@@ -18,18 +18,18 @@ pub struct Stand<'r> {
 }
 
 /// The class of the root object of a handler, if there is one.
-fn root_class<'r>(origin: RunSource<'r>, world: &World<'_>, handler: u16) -> Option<&'r str> {
+fn root_class<'r>(origin: &RunSource<'r>, world: &World<'_>, handler: u16) -> Option<&'r str> {
     let class = world.region(handler)?.store().class_of(1)?;
     origin.class_name(class as usize)
 }
 
 /// Where a handler stands, if it has frames.
-pub fn stand_of<'r>(origin: RunSource<'r>, world: &World<'_>, handler: u16) -> Option<Stand<'r>> {
+pub fn stand_of<'r>(origin: &RunSource<'r>, world: &World<'_>, handler: u16) -> Option<Stand<'r>> {
     let standing = standing_of(world, handler)?;
     stand_at(origin, standing)
 }
 
-fn stand_at<'r>(origin: RunSource<'r>, standing: Standing) -> Option<Stand<'r>> {
+fn stand_at<'r>(origin: &RunSource<'r>, standing: Standing) -> Option<Stand<'r>> {
     let there = locate(origin.tables, standing.routine, standing.place)?;
     let span = if standing.is_entry {
         there.routine
@@ -44,7 +44,7 @@ fn stand_at<'r>(origin: RunSource<'r>, standing: Standing) -> Option<Stand<'r>> 
 
 /// What a request asks for: the name of the feature, as it is declared, or of the creation procedure; None for a creation
 /// without one.
-fn asked_feature<'r>(origin: RunSource<'r>, request: &Request) -> Option<&'r str> {
+fn asked_feature<'r>(origin: &RunSource<'r>, request: &Request) -> Option<&'r str> {
     let number = match request.errand {
         Errand::Calls(name) => name,
         Errand::Makes(name) => name?,
@@ -56,7 +56,7 @@ fn asked_feature<'r>(origin: RunSource<'r>, request: &Request) -> Option<&'r str
 }
 
 /// Adds the number of a handler, and the class of its root object.
-pub fn push_name(origin: RunSource<'_>, lines: &mut Lines, world: &World<'_>, handler: u16) {
+pub fn push_name(origin: &RunSource<'_>, lines: &mut Lines, world: &World<'_>, handler: u16) {
     lines.push_number(u64::from(handler));
     if let Some(class) = root_class(origin, world, handler) {
         lines.push_all(&[" (", class, ")"]);
@@ -65,7 +65,7 @@ pub fn push_name(origin: RunSource<'_>, lines: &mut Lines, world: &World<'_>, ha
 
 /// Adds what a request asks for, and for whom.
 pub fn push_request(
-    origin: RunSource<'_>,
+    origin: &RunSource<'_>,
     lines: &mut Lines,
     world: &World<'_>,
     request: &Request,
@@ -84,7 +84,7 @@ pub fn push_request(
 }
 
 /// Adds where a handler stands in the text, if it has frames.
-pub fn push_stand(origin: RunSource<'_>, lines: &mut Lines, world: &World<'_>, handler: u16) {
+pub fn push_stand(origin: &RunSource<'_>, lines: &mut Lines, world: &World<'_>, handler: u16) {
     if let Some(stand) = stand_of(origin, world, handler)
         && let Some(place) = origin.source.place_of(stand.span.start)
     {

@@ -14,8 +14,8 @@ const MOST_LISTED: usize = 8;
 
 /// What is spoken of: a world that has stopped, and who waits for whom there.
 #[derive(Clone, Copy)]
-pub struct Scene<'r> {
-    pub origin: RunSource<'r>,
+pub struct Scene<'o, 'r> {
+    pub origin: &'o RunSource<'r>,
     pub world: &'r World<'r>,
     pub waits: &'r [Wait],
     pub chains: &'r Chains,

@@ -15,7 +15,7 @@ const MOST_TOLD: usize = 64;
 /// first the cycles of handlers that wait for each other, then those that wait for a condition, then the others that wait, each
 /// with the chain that it waits in, then those that are busy, and last the requests that stand where nobody takes them.
 pub fn push_waits(
-    origin: RunSource<'_>,
+    origin: &RunSource<'_>,
     lines: &mut Lines,
     world: &World<'_>,
 ) -> Result<(), AllocError> {

@@ -28,7 +28,7 @@ use Rattle.sc_plant.specs.Due.{AreBelow, PlaysTo}
 use Rattle.sc_plant.specs.Left.{AreMadeBy}
 use Rattle.sc_plant.specs.Recorded.{settlements_for, turns_of}
 use Rattle.sc_refines_world.specs.Refining.{WorldRunsAsMachine}
-use Rattle.sc_refines_world.proofs.GoingRound.{WorldsStand, behind, goes_behind, turns_where}
+use Rattle.sc_refines_world.proofs.RoundTurns.{WorldsStand, behind, goes_behind, turns_where}
 use Rattle.sc_headline.specs.ThreadsHeadline.{HaveTurns, ThreadsMakeTurns}
 
 -- ---- regions and settlements

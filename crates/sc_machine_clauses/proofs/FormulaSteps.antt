@@ -10,7 +10,7 @@ use Rattle.sc_formula.specs.declared.atom.AtomKind.{AtomKind}
 use Rattle.sc_formula.specs.declared.atom.AtomKind.TheVariants as kind
 use Rattle.sc_formula.specs.declared.comparison.Comparison.{Comparison}
 use Rattle.sc_formula.specs.declared.connective.Connective.{Connective}
-use Rattle.sc_formula.specs.Arithmetic.{Outcome, opposite_of, result_of}
+use Rattle.sc_formula.specs.Arithmetic.{ArithmeticResult, opposite_of, result_of}
 use Rattle.sc_formula.specs.Atom.{as_integer, as_boolean, as_void, kind_of, kinds_of}
 use Rattle.sc_formula.specs.Comparison.{compares}
 use Rattle.sc_formula.specs.Connective.{decision_of, decision_or, truth_table, connection_of}
@@ -185,7 +185,7 @@ module _ (s : System) (me : Reference) where
     }
     comes_after ts vs (Some v) l c = record { type = c.type; leads = leads_then l c.leads }
 
-    outcome_comes : (q : Point) (ts : List Task) (vs : List Operand) (o : Outcome) →
+    outcome_comes : (q : Point) (ts : List Task) (vs : List Operand) (o : ArithmeticResult) →
         step s me q ≡ gives_outcome o (at ts vs) → Comes q ts vs (option_map Integer (result_ok o))
     outcome_comes q ts vs (Ok z) e = record { type = integer; leads = leads_once e }
     outcome_comes q ts vs (Err fault.Overflow) e = record {

@@ -1,9 +1,9 @@
 pub mod Bodies
 pub mod Contracts
-pub mod Extending
+pub mod Extensions
 pub mod FormulaAttributes
 pub mod FormulaSteps
-pub mod Holding
+pub mod TrueClauses
 pub mod InvariantSteps
 pub mod Locally
 pub mod WithoutOld

@@ -6,7 +6,7 @@ use Rattle.sc_tree.specs.Grammar.Classes.{routine_of, ends_class}
 use Rattle.sc_tree.specs.Grammar.Operators.{top}
 use Rattle.sc_tree.specs.Plain.{Name, DeclaredType, Declaration, Clause, Expr, ObjectTest, Head, Instr, Loop, Block, Instrs, Feature, Parent, ClassMark, Class}
 use Rattle.sc_tree.specs.Internal.Reading.Looks.{Fault, ◌>>=◌}
-use Rattle.sc_tree.proofs.Combining.{bind_ok}
+use Rattle.sc_tree.proofs.ReadingSteps.{bind_ok}
 use Rattle.sc_parse.specs.Reading.Looks.{Ahead, up_to, Read, expect, skip, name}
 use Rattle.sc_parse.specs.Reading.Assertions.{assertion}
 use Rattle.sc_parse.specs.Reading.Types.{tested_type}

@@ -38,10 +38,9 @@ use Rattle.sc_model.specs.Tasks.{Declare, Do, Forget, In, Task, ensures, keeps_o
 use Rattle.sc_model.specs.Olds.{olds_of_clauses}
 use Rattle.sc_model.specs.Turns.{effect, goes_on, settles, turn_with, waits}
 use Rattle.sc_model.specs.Values.{Attached, Operand, Reference, Value, operand, values_of}
-use Rattle.sc_machine_rights.proofs.links.Standing.{m_put-off}
+use Rattle.sc_machine_rights.proofs.links.Looks.{m_put-off}
 use Rattle.sc_machine_values.specs.Places.{called_name}
 use Rattle.sc_refines_core.specs.Entries.{HasStarted}
-use Rattle.sc_refines_core.proofs.RecalledEntries.{counted_stack, dropped_if, fallen_stack, passes_alike, send_alike}
 use Rattle.sc_machine_preconditions.specs.Starting.{IsVerdict}
 use Rattle.sc_refines_world.specs.Moving as moving
 use Rattle.sc_refines_world.specs.Moving.{Acts, AsksForNone, ComesTo, Falls, FramesMove, GoesOn, IsCall, IsTaken, RequestsStay, call, end, fall, go_on, is_plain, refuse, return, stay, take_callback, take_next}
@@ -441,9 +440,9 @@ module _ (most : ℕ) (s : System) (h : ℕ) (w : World) (lives : (w.handlers h)
               never : HasStarted ((requires (k ∷ ks) ++ keeps_olds (olds_of_clauses f.routine.ensure)) ++ behind) → ⊥
               never z = let no : true ≡ false = z.0 in cc
 
-      clause_moves : (d : EntryVerdict) → T (false_clause d s h (frame_at f p) below moved)
-      clause_moves verdict.Start = fails_move cause.BadCode [] moved
-      clause_moves verdict.Wait =
+      clause_moves : (k : Clause) → Acts s w h f (Refuses k) p → (d : EntryVerdict) → verdict_on (frame_at f p) k ≡ d → T (false_clause d s h (frame_at f p) below moved)
+      clause_moves k move verdict.Start is = fails_move cause.BadCode [] moved
+      clause_moves k move verdict.Wait is =
           let g : Frame = record (frame_at f p) { stage = Reserves; tasks = tasks_of f.routine; values = []; reserved = []; mark = mark_of (λ k. (moved.handlers k).sessions) f.reserved } in
           let a = release_like h release_at.FalseWaitCondition f.reserved (with_stack h (g ∷ below) moved) in
           go_on at (a.stack ∙ stack_own h (g ∷ below) moved) (waits_again_so k move is g refl refl refl refl refl refl) (rest_alike (rest_stack h (g ∷ below) moved moved_rest) a)
@@ -485,7 +484,8 @@ module _ (most : ℕ) (s : System) (h : ℕ) (w : World) (lives : (w.handlers h)
       act_moves : (a : Act) → Acts s w h f a p → T (effect most s h a (frame_at f p) below moved)
       act_moves (Prints text) move =
           let x : Handler = record (moved.handlers h) { output = (moved.handlers h).output ++ text } in
-          go_on at (ap (λ (y : Handler). y.stack) (put_own h x moved) ∙ moved_stack) (at_point (Prints text) move refl (frame_at f p) refl refl refl refl)
+          go_on at (ap (λ (y : Handler). y.stack) (put_own h x moved) ∙ moved_stack) (at_point (Prints text) move refl (frame_at f p) there)
+          (rest_put h (w.handlers h) x moved (record { queue_stays = moved_rest.queue_stays; callback_stays = moved_rest.callback_stays; failure_stays = moved_rest.failure_stays }))
       act_moves Until move = goes_there Until move refl
       act_moves Creates move = goes_there Creates move refl
       act_moves Starts move = goes_there Starts move refl

@@ -4,7 +4,7 @@ mod Attempts
 pub mod Rounds
 mod ComingAgain
 mod Contracts
-pub mod GoingRound
+pub mod RoundTurns
 mod Headlined
 mod IdleWorlds
 mod TurnNeeds
@@ -24,6 +24,9 @@ mod Ownership
 mod Exact
 mod Molds
 mod FrameMoves
+mod Creations
+mod Scopes
+mod KnownNames
 mod Acted
 mod Frames
 mod Growth

@@ -19,7 +19,7 @@ use Rattle.sc_model.specs.Tasks.{Task}
 use Rattle.sc_model.specs.Turns.{turn_with}
 use Rattle.sc_machine_rights.proofs.links.Reached.{reached_linked}
 use Rattle.sc_machine_rights.proofs.links.SoundTurns.{stack_fits}
-use Rattle.sc_machine_rights.proofs.links.Turning as rights
+use Rattle.sc_machine_rights.proofs.links.Turns as rights
 use Rattle.sc_machine_values.specs.Fitting.{FrameFits, WorldFits, coming_to}
 use Rattle.sc_machine_values.specs.Points.{Each, PointFits}
 use Rattle.sc_machine_values.specs.Steps.{IsThereIfOwn, StandsSo, ValuesDo}
@@ -31,8 +31,8 @@ use Rattle.sc_refines_core.proofs.Clausal.{clauses_call_pure}
 use Rattle.sc_refines_core.proofs.Unstarted.{each_stands}
 use Rattle.sc_machine_requests.proofs.Turned as kept
 use Rattle.sc_machine_preconditions.specs.Starting.{IsVerdict}
-use Rattle.sc_refines_world.specs.Moving.{FramesMove, TurnsMoveRequests}
-use Rattle.sc_refines_world.proofs.FrameMoves.{is_plain, turn_moves}
+use Rattle.sc_refines_world.specs.Moving.{FramesMove, TurnsMoveRequests, is_plain}
+use Rattle.sc_refines_world.proofs.FrameMoves.{AsksAnother, turn_moves}
 use Rattle.sc_refines_world.proofs.ReachedStates.{reached_fits}
 
 -- where a clause of a precondition is left a routine has not started

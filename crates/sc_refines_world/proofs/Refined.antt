@@ -36,9 +36,9 @@ use Rattle.sc_refines_world.specs.Standing.{names_in}
 use Rattle.sc_refines_world.specs.Anew.{AnewRunsAsMachine}
 use Rattle.sc_refines_world.proofs.RefinedRuns.{stands_along, stands_anew}
 use Rattle.sc_refines_world.proofs.Rounds.{refused_next_stops, rounds_are_turns, stops_join}
-use Rattle.sc_refines_world.proofs.GoingRound.{WorldsStand, rounds_go}
-use Rattle.sc_refines_world.proofs.Idling.{idle_world_is_idle}
-use Rattle.sc_refines_world.proofs.Meeting.{job_fits}
+use Rattle.sc_refines_world.proofs.RoundTurns.{WorldsStand, rounds_go}
+use Rattle.sc_refines_world.proofs.IdleWorlds.{idle_world_is_idle}
+use Rattle.sc_refines_world.proofs.TurnNeeds.{job_fits}
 use Rattle.sc_refines_world.proofs.PuttingBack.{refused_turn_stays_near, same_or_further_near}
 use Rattle.sc_refines_world.proofs.ReachedStates.{in_each, reached_fits}
 use Rattle.sc_refines_world.proofs.WorldTurns.{HalvesMeet, OthersKeep, RegionsAskSo, RegionsFollow, SettledMeet, StoresTurn, TurnsEndThere}

@@ -7,7 +7,7 @@ use Rattle.sc_formula.specs.declared.arithmetic.ArithmeticFault.TheVariants as f
 use Rattle.sc_formula.specs.declared.arithmetic.ArithmeticOperator.{ArithmeticOperator}
 use Rattle.sc_formula.specs.declared.comparison.Comparison.{Comparison}
 use Rattle.sc_formula.specs.declared.connective.Connective.{Connective}
-use Rattle.sc_formula.specs.Arithmetic.{Outcome, opposite_of, result_of}
+use Rattle.sc_formula.specs.Arithmetic.{ArithmeticResult, opposite_of, result_of}
 use Rattle.sc_tree.specs.declared.expression.UnaryOperator.{UnaryOperator}
 use Rattle.sc_tree.specs.declared.expression.UnaryOperator.TheVariants as unary
 use Rattle.sc_tree.specs.declared.expression.BinaryOperator.{BinaryOperator}
@@ -271,7 +271,7 @@ module _ (s : System) (me : Reference) (routine : Routine) where
   attribute_l None t p l = tt
   attribute_l (Some b) t p l = reads_as_l t b.value t p l
 
-  outcome_l : (o : Outcome) (p : Point) → Left p → Leaves (gives_outcome o p)
+  outcome_l : (o : ArithmeticResult) (p : Point) → Left p → Leaves (gives_outcome o p)
   outcome_l (Ok z) p l = l
   outcome_l (Err fault.Overflow) p l = tt
   outcome_l (Err fault.DivideByZero) p l = tt

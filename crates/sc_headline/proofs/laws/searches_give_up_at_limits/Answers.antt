@@ -1,4 +1,4 @@
-use Rattle.sc_headline.proofs.Searching.{gives_up}
+use Rattle.sc_headline.proofs.SearchLaws.{gives_up}
 use Rattle.sc_headline.proofs.laws.searches_give_up_at_limits.Goals as goal
 
 pub returns : goal.returns

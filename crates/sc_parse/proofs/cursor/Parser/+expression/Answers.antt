@@ -1,7 +1,7 @@
 use Rattle.std.proofs.Common.{◌≡◌, ℕ, refl, ◌∙◌, ap, sym, List, [], ◌∷◌, ◌++◌, Ok, arith}
 use Rattle.std.proofs.lemmas.Result.{err_from_is_err_and}
 use Rattle.sc_tree.proofs.ReadingSteps.{choose_false}
-use Rattle.sc_tree.proofs.ViewLemmas.{expr_of-current, expr_of-result, expr_of-call, expr_of-binary, expr_of-object_test}
+use Rattle.sc_tree.proofs.ViewLemmas.{expr_of-current, expr_of-result, expr_of-call, expr_of-object_test}
 use Rattle.sc_parse.proofs.Views.{exprs_of-push}
 use Rattle.sc_tree.specs.declared.expression.Expr.{Expr}
 use Rattle.sc_text.specs.declared.token.Span.{Span}

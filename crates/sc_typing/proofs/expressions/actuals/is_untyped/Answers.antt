@@ -2,9 +2,9 @@ use Rattle.std.proofs.Common.{refl, ap, sym, ◌∙◌}
 use Rattle.std.specs.Prelude.{is_some}
 use Rattle.sc_class.proofs.Anys.{got}
 use Rattle.sc_class.proofs.FeatureLemmas.{got_item}
-use Rattle.sc_rules.specs.Typing.{has_type}
-use Rattle.sc_typing.proofs.ActualNumbers.{type_at, has_type-some}
-use Rattle.sc_typing.proofs.expressions.actuals.has_type.Goals as goal
+use Rattle.sc_rules.specs.Typing.{is_untyped}
+use Rattle.sc_typing.proofs.ActualNumbers.{type_at, untyped-some}
+use Rattle.sc_typing.proofs.expressions.actuals.is_untyped.Goals as goal
 
 pub returns-in-Some : goal.returns-in-Some
 returns-in-Some c =

@@ -15,7 +15,7 @@ use Rattle.sc_model.specs.Exits.{handed, handed_as, handed_at}
 use Rattle.sc_model.specs.Handlers.{Awaits, Frame, Handler, InCall, Reserves, Request, ReservesBlock, Runs, Stage, World, new_handler, point_of}
 use Rattle.sc_model.specs.Routines.{Routine, Text}
 use Rattle.sc_model.specs.Runs.{IsReached, opening, root_request}
-use Rattle.sc_model.specs.Steps.{Act, Creates, CreatesHandler, Does, Enters, Exits, Fails, Leaves, Opens, Point, Prints, Refuses, Requests, Starts, Step, Tests}
+use Rattle.sc_model.specs.Steps.{Act, Creates, CreatesHandler, Does, Enters, Exits, Fails, Leaves, Opens, Point, Prints, Refuses, Requests, Starts, Step, Until}
 use Rattle.sc_model.specs.Tasks.{Task, tasks_of}
 use Rattle.sc_model.specs.Turns.{turn}
 use Rattle.sc_model.specs.Values.{Reference, Value, values_of}
@@ -27,9 +27,9 @@ use Rattle.sc_machine_values.proofs.Lists.{each_in}
 use Rattle.sc_refines_world.specs.Moving as moving
 use Rattle.sc_refines_world.specs.Moving.{Acts, ComesTo, FramesMove, GoesOn, IsEntered, IsTaken, call, end, fall, go_on, is_plain, refuse, return, stay, take_callback, take_next}
 use Rattle.sc_refines_world.specs.Texts.{FramesAreTyped, FramesKnowTheirTexts, IsBehindFormals}
-use Rattle.sc_refines_world.proofs.Beginning.{reached_turns_move}
-use Rattle.sc_refines_world.proofs.Creating.{created_begin}
-use Rattle.sc_refines_world.proofs.Reaching.{in_each, reached_fits}
+use Rattle.sc_refines_world.proofs.ReachedMoves.{reached_turns_move}
+use Rattle.sc_refines_world.proofs.Creations.{created_begin}
+use Rattle.sc_refines_world.proofs.ReachedStates.{in_each, reached_fits}
 use Rattle.sc_refines_world.proofs.Scopes as scopes
 use Rattle.sc_refines_world.proofs.Scopes.{AreOf, Knows, entry_knows, moves_leave, routine_is}
 
@@ -64,7 +64,7 @@ module _ (s : System) (w : World) (h : ℕ) (f : Frame) (is : IsSuch s f) where
 
   plain_left : (a : Act) (p : Point) → is_plain a ≡ true → After (Does a p) → Such s f.routine p.text p.environment p.tasks
   plain_left (Prints text) p plain l = l
-  plain_left Tests p plain l = l
+  plain_left Until p plain l = l
   plain_left Creates p plain l = l
   plain_left (CreatesHandler class k us t b) p plain l = l
   plain_left (Enters c o x us t) p plain l = l

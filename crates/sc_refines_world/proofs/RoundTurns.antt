@@ -30,7 +30,7 @@ use Rattle.sc_world.specs.Rounds.{MakesAll, Rounds, more as one_more, none, turn
 use Rattle.sc_world.specs.Turning.{Runs as RunsBy}
 use Rattle.sc_world.specs.Worlds.{PlainWorld, opened}
 use Rattle.sc_world.proofs.AtOnce.{after, all_run, all_turns, picks_job, runs_join}
-use Rattle.sc_world.proofs.Freeing.{next_picks}
+use Rattle.sc_world.proofs.FreeHandlers.{next_picks}
 use Rattle.sc_refines_world.specs.Refining.{GoRound, first_with_turn}
 use Rattle.sc_refines_world.specs.Standing.{StandsFor, names_in}
 use Rattle.sc_refines_world.proofs.ComingAgain.{handlers_come_again}

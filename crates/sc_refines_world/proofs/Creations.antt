@@ -11,8 +11,8 @@ use Rattle.sc_rules.specs.Types.{declared_type}
 use Rattle.sc_lockpass.specs.Passing.{Passed}
 use Rattle.sc_lockpass.specs.Rights.{held, is_among}
 use Rattle.sc_waitcond.specs.Reservations.{ends_session, reserve_fails}
-use Rattle.sc_waitcond.specs.declared.condition.Verdict.{Verdict}
-use Rattle.sc_waitcond.specs.declared.condition.Verdict.TheVariants as verdict
+use Rattle.sc_waitcond.specs.declared.condition.EntryVerdict.{EntryVerdict}
+use Rattle.sc_waitcond.specs.declared.condition.EntryVerdict.TheVariants as verdict
 use Rattle.sc_waitcond.specs.declared.session.Release.TheVariants as release_at
 use Rattle.sc_model.specs.declared.cause.Cause.{Cause}
 use Rattle.sc_model.specs.declared.cause.Cause.TheVariants as cause
@@ -30,11 +30,11 @@ use Rattle.sc_model.specs.Objects.{Object, fresh_object, object_numbered}
 use Rattle.sc_model.specs.Preconditions.{correctness_fails, counted_refusal, false_clause, is_creation, object_meets, verdict_on}
 use Rattle.sc_model.specs.Routines.{Routine, routine_named, routine_of, version_of}
 use Rattle.sc_model.specs.Sessions.{release, session_ended, standing_in}
-use Rattle.sc_model.specs.Steps.{Act, Creates, CreatesHandler, Does, Enters, Exits, Fails, Goes, Leaves, Opens, Point, Prints, Refuses, Requests, Starts, Step, Tests}
+use Rattle.sc_model.specs.Steps.{Act, Creates, CreatesHandler, Does, Enters, Exits, Fails, Goes, Leaves, Opens, Point, Prints, Refuses, Requests, Starts, Step, Until}
 use Rattle.sc_model.specs.Takes.{replies, takes_answer, takes_creation, takes_errand, takes_kind, takes_next, takes_version}
 use Rattle.sc_model.specs.Turns.{effect, goes_on, settles, turn_with, waits}
 use Rattle.sc_model.specs.Values.{Attached, Operand, Reference, Value, operand, values_of}
-use Rattle.sc_machine_rights.proofs.links.Standing.{m_put-off, m_put-own}
+use Rattle.sc_machine_rights.proofs.links.Looks.{m_put-off, m_put-own}
 use Rattle.sc_refines_world.specs.Moving.{Acts, BeginsWithOne, CreatedBeginWithOne}
 
 -- ---- what leaves the number of handlers
@@ -117,7 +117,7 @@ module _ (s : System) (h : ℕ) where
       (if_same u (not (is_callback h r.handler u) && not (nat_lt (length (u.handlers r.handler).queue) max_queue)) _ _ refl
       (passes_same b h r.handler (send (is_callback h r.handler u) r.handler (request_by h r (Calls x) us waiting b u) asking))))
 
-  clause_same : (d : Verdict) (f : Frame) (below : List Frame) (u : World) → Same u (false_clause d s h f below u)
+  clause_same : (d : EntryVerdict) (f : Frame) (below : List Frame) (u : World) → Same u (false_clause d s h f below u)
   clause_same verdict.Start f below u = refl
   clause_same verdict.Wait f below u = refl
   clause_same verdict.Refuse f below u = by f.origin
@@ -252,7 +252,7 @@ module _ (most : ℕ) (s : System) (h : ℕ) (w : World) (here : h < w.count) wh
         by true = created_begins class procedure us t lends move
         by false = none_new (fails_with h cause.TooManyHandlers [] moved) refl
     act_begins (Prints text) move = none_new (effect most s h (Prints text) (frame_at f p) below moved) refl
-    act_begins Tests move = none_new moved refl
+    act_begins Until move = none_new moved refl
     act_begins Creates move = none_new moved refl
     act_begins Starts move = none_new moved refl
     act_begins (Enters c me x us t) move =
