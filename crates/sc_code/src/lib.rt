@@ -12,9 +12,13 @@ pub mod laws;
 mod operation;
 mod program;
 mod site;
+mod text_site;
 
 pub use operation::{DefaultValue, Operation};
 pub use program::lookup::Program;
-pub use program::{AttributeCode, ClassCode, ConstantPool, FeatureCode, Image, RoutineCode};
+pub use program::{
+    AttributeCode, ClassCode, ConstantPool, FeatureCode, Image, RoutineCode, RoutineText,
+};
 pub use sc_model::Cause;
 pub use site::{CallSite, CreationSite, Heads, ObjectTest, Residence, TestedType};
+pub use text_site::{Assertion, NameSpan, SiteKind, TextSite};
