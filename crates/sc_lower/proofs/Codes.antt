@@ -11,12 +11,13 @@ use Rattle.sc_class.specs.declared.class_tables.feature_entry.FeatureEntry.{Feat
 use Rattle.sc_class.specs.View.{entry_of}
 use Rattle.sc_model.specs.Routines.{Routine, routine_of}
 use Rattle.sc_model.specs.Values.{Value}
+use Rattle.sc_code.specs.declared.operation.Operation as coded
 use Rattle.sc_code.specs.declared.program.RoutineCode.{RoutineCode}
-use Rattle.sc_routines.specs.declared.unlinked.UnlinkedOperation.{UnlinkedOperation}
+use Rattle.sc_routines.specs.declared.code.SitedOperation.{SitedOperation}
 use Rattle.sc_code.specs.Emitted.{formals_of, routine_code, routine_depth, routine_slots}
 use Rattle.sc_code.specs.Places.{known_type}
 use Rattle.sc_code.specs.Room.{routine_blocks, routine_olds}
-use Rattle.sc_routines.specs.Unlinked.{unlinked}
+use Rattle.sc_routines.specs.Unlinked.{operation_in}
 use Rattle.sc_code.specs.Operations as plain
 use Rattle.sc_lower.specs.Pools.{Grows}
 use Rattle.sc_code.specs.Programs.{PlainRoutine, code_of, codes_of, length_of_codes, result_in, result_of, routine_in, separate_slots}
@@ -49,9 +50,16 @@ coded s r {a} {b} {q} {d} {e} {f} {g} {h} i j k l m n o p =
     same_parts a (length r.text.formals) b (separate_slots 0 (formals_of s r)) q (result_of (known_type r.text.result)) d (routine_slots s r) e (routine_depth s r) f (routine_olds r)
     g (routine_blocks r) h (map (λ o. Some o) (routine_code s r)) i j k l m n o p
 
-pub all_unlinked : (os : List UnlinkedOperation) → map (λ (o : UnlinkedOperation). Some (unlinked o)) os ≡ map (λ (o : plain.Operation). Some o) (map unlinked os)
+pub all_unlinked : (os : List SitedOperation) → map (λ (o : SitedOperation). Some (operation_in o)) os ≡ map (λ (o : plain.Operation). Some o) (map operation_in os)
 all_unlinked [] = refl
-all_unlinked (o ∷ os) = ap (λ (xs : List (Option plain.Operation)). Some (unlinked o) ∷ xs) (all_unlinked os)
+all_unlinked (o ∷ os) = ap (λ (xs : List (Option plain.Operation)). Some (operation_in o) ∷ xs) (all_unlinked os)
+
+-- there are as many sites as operations, where both are of the same list
+pub as_many_sites : {S U : Type 0} (f : U → plain.Operation) (g : U → S) (p : Pool) (us : List U) (ss : List S) (os : List coded.Operation) →
+    map (operation_of p) os ≡ map (λ u. Some (f u)) us → ss ≡ map g us → length ss ≡ length os
+as_many_sites {S} f g p us ss os eo es =
+    ap (λ (l : List S). length l) es ∙ length-map us g ∙ sym (length-map us (λ u. Some (f u))) ∙ ap (λ (l : List (Option plain.Operation)). length l) (sym eo)
+    ∙ length-map os (operation_of p)
 
 -- the routine that code in memory is, where its operations are these
 abbrev with_operations : RoutineCode → List (Option plain.Operation) → PlainRoutine

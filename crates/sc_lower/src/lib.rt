@@ -10,6 +10,7 @@ mod image;
 mod link;
 mod link_names;
 mod link_pools;
+mod link_sites;
 mod link_tables;
 mod program;
 mod refusal;

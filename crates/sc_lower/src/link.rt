@@ -7,12 +7,12 @@ ghost use Rattle.sc_lower.specs.Pools.{pool_in, Grows};
 ghost use Rattle.sc_code.specs.View.{named, call_of, creation_of, operation_of, test_of};
 ghost use Rattle.sc_code.specs.Operations as plain;
 ghost use Rattle.sc_code.specs.declared.site.Heads as heads;
-ghost use Rattle.sc_routines.specs.Unlinked.{unlinked, unlinked_call, unlinked_creation};
+ghost use Rattle.sc_routines.specs.Unlinked.{operation_in, unlinked, unlinked_call, unlinked_creation};
 
 use crate::link_pools::add;
 use crate::link_tables::Linker;
 use sc_code::{CallSite, CreationSite, Heads, ObjectTest, Operation, TestedType};
-use sc_routines::{UnlinkedCall, UnlinkedCreation, UnlinkedOperation};
+use sc_routines::{SitedOperation, UnlinkedCall, UnlinkedCreation, UnlinkedOperation};
 use std::alloc::AllocError;
 
 /// The number of a name.
@@ -199,15 +199,15 @@ fn link<'s>(
 /// Links the operations of a routine.
 pub fn link_all<'s>(
     linker: &mut Linker<'s>,
-    code: &[UnlinkedOperation<'s>],
+    code: &[SitedOperation<'s>],
 ) -> Result<Vec<Operation>, AllocError>
-    requires { AllFit (map unlinked code.now) }
-    ensures linked { IfOk result (λ operations. map (operation_of (pool_in linker.new)) operations.items ≡ map (λ o. Some (unlinked o)) code.now) }
+    requires { AllFit (map operation_in code.now) }
+    ensures linked { IfOk result (λ operations. map (operation_of (pool_in linker.new)) operations.items ≡ map (λ o. Some (operation_in o)) code.now) }
     ensures grows { OnOk result (Grows (pool_in linker.old) (pool_in linker.new)) }
 {
     let mut operations = Vec::with_capacity(linker.alloc, code.len())?;
-    for operation in code {
-        operations.push(link(linker, operation)?)?;
+    for sited in code {
+        operations.push(link(linker, &sited.operation)?)?;
     }
     Ok(operations)
 }

@@ -229,6 +229,18 @@ code_behind : {E : Type 0} (r : Result Lowered E) (c0 c1 c2 u v w : List Operati
 code_behind r c0 c1 c2 u v w e1 e2 e3 =
     on_ok_weaker r (λ (e : c2 ≡ c1 ++ v). e ∙ ap (λ (l : List Operation). l ++ v) e1 ∙ append_assoc c0 u v ∙ ap (λ (l : List Operation). c0 ++ l) e3) e2
 
+-- ---- constants and Current
+
+module _ {E : Type 0} (h : Setting) (n : Entities) (i : ℕ) (p q : Expr) (r : Result Lowered E) (ep : p ≡ q) where
+  pub leaf_code : (o : Operation) (c0 c1 : List Operation) → o ∷ [] ≡ expr_code h n i q → OnOk r (c1 ≡ c0 ++ o ∷ []) → OnOk r (c1 ≡ c0 ++ expr_code h n i p)
+  leaf_code o c0 c1 eo e = code_added r c0 c1 (o ∷ []) (expr_code h n i p) e (eo ∙ sym (ap (expr_code h n i) ep))
+
+  pub leaf_told : (t u : EntityType) → t ≡ u → Some u ≡ expr_type h n i q → 1 ≡ expr_depth h n i q → i ≡ i + olds_in q → 0 ≡ expr_slots h n i q →
+      IfOk r (λ l. l ≡ record { value = Some t; depth = 1; olds = i; slots = 0 }) → Told h n i p r
+  leaf_told t u et ev ed eo es e =
+      subst (λ p. Told h n i p r) (sym ep)
+      (told h n i q r (record { value = Some t; depth = 1; olds = i; slots = 0 }) e (ap (λ t. Some t) et ∙ ev) ed eo es)
+
 -- ---- Result
 
 pub result_code : {E : Type 0} (h : Setting) (n : Entities) (i : ℕ) (p : Expr) (q : Span) (r : Result Lowered E) (c0 c1 : List Operation) → p ≡ tree.Result q →

@@ -1,12 +1,11 @@
 -- What settings and references in memory are.
 use Rattle.std.specs.Prelude.{List, map}
-use Rattle.std.specs.Borrow.{Bor}
-use Rattle.sc_tree.specs.declared.expression.Expr.{Expr}
 use Rattle.sc_tree.specs.Plain as plain
 use Rattle.sc_tree.specs.View.{declaration_of, expr_of}
 use Rattle.sc_class.specs.SystemIn.{system_in}
 use Rattle.sc_model.specs.Routines.{Text}
 use Rattle.sc_typing.specs.declared.routine_context.RoutineContext.{RoutineContext}
+use Rattle.sc_routines.specs.declared.olds.OldValue.{OldValue}
 use Rattle.sc_routines.specs.declared.setting.Setting as coded
 use Rattle.sc_code.specs.Places.{Setting}
 
@@ -17,6 +16,6 @@ abbrev pub setting_in : coded.Setting → Setting
 setting_in h =
     record { system = system_in h.context.tables.now; text = text_in h.context; result = h.result; olds = h.olds.items }
 
--- the expressions that these refer to
-abbrev pub operands_of : List (Bor Expr) → List plain.Expr
-operands_of es = map (λ (e : Bor Expr). expr_of e.now) es
+-- what these `old`s are applied to
+abbrev pub operands_of : List OldValue → List plain.Expr
+operands_of es = map (λ (e : OldValue). expr_of e.operand.now) es

@@ -4,6 +4,7 @@ use Rattle.sc_routines.specs.declared.unlinked.UnlinkedCall.{UnlinkedCall}
 use Rattle.sc_routines.specs.declared.unlinked.UnlinkedCreation.{UnlinkedCreation}
 use Rattle.sc_routines.specs.declared.unlinked.UnlinkedOperation.{UnlinkedOperation}
 use Rattle.sc_routines.specs.declared.unlinked.UnlinkedOperation.TheVariants as op
+use Rattle.sc_routines.specs.declared.code.SitedOperation.{SitedOperation}
 use Rattle.sc_code.specs.View.{default_value, tested_of}
 use Rattle.sc_code.specs.Operations as plain
 
@@ -48,3 +49,7 @@ unlinked (op.CreateHandler c) = plain.CreateHandler (unlinked_creation c)
 unlinked (op.Open first count) = plain.Open first count
 unlinked op.Leave = plain.Leave
 unlinked op.Exit = plain.Exit
+
+-- the operation without what it was made of
+abbrev pub operation_in : SitedOperation → plain.Operation
+operation_in o = unlinked o.operation

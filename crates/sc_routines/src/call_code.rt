@@ -20,6 +20,8 @@ use crate::olds::olds_in_each;
 use crate::own_feature::OwnFeature;
 use crate::setting::Setting;
 use crate::sums::sum;
+use crate::text_sites::call_site;
+use sc_code::TextSite;
 use sc_proctype::EntityType;
 use sc_tree::Call;
 use sc_typing::Entity;
@@ -44,18 +46,19 @@ impl<'t, 's> Setting<'t, 's> {
         &self,
         names: &[Entity],
         code: &mut Code<'s>,
+        site: TextSite,
         name: &'s str,
     ) -> Result<Option<EntityType>, AllocError>
         ensures code { OnOk result (code.new ≡ code.old ++ named.read_code name.now (places.slot_named name.now (map entity_of names.now)) (named.own_named (setting_in self.now) name.now)) }
         ensures told { IfOk result (λ t. t ≡ named.read_type (places.slot_named name.now (map entity_of names.now)) (named.own_named (setting_in self.now) name.now)) }
     {
         if let Some((slot, value)) = slot_named(name, names) {
-            push_slot(code, slot, value)?;
+            push_slot(code, site, slot, value)?;
             return Ok(value);
         }
         match self.own_feature(name) {
             OwnFeature::Attribute(value) => {
-                push_attribute(code, name, value)?;
+                push_attribute(code, site, name, value)?;
                 Ok(value)
             }
             OwnFeature::Unknown | OwnFeature::Routine(_) => Ok(None),
@@ -73,7 +76,7 @@ impl<'t, 's> Setting<'t, 's> {
         ensures code { OnOk result (code.new ≡ code.old ++ named.read_code (name_of call.now.name).text (places.slot_named (name_of call.now.name).text (map entity_of names.now)) (named.own_named (setting_in self.now) (name_of call.now.name).text)) }
         ensures told { IfOk result (λ l. l ≡ record { value = named.read_type (places.slot_named (name_of call.now.name).text (map entity_of names.now)) (named.own_named (setting_in self.now) (name_of call.now.name).text); depth = 1; olds = olds + length (olds_of_each (exprs_of call.now.actuals.items)); slots = 0 }) }
     {
-        let value = self.push_read(names, code, call.name.text.as_str())?;
+        let value = self.push_read(names, code, call_site(call), call.name.text.as_str())?;
         let passed = olds_in_each(self.context.alloc, &call.actuals)?;
         Ok(leaf(value, sum(olds, passed)?))
     }
@@ -90,7 +93,8 @@ impl<'t, 's> Setting<'t, 's> {
         ensures told { IfOk result (λ l. l ≡ record { value = value; depth = max 1 actuals.now.depth; olds = actuals.now.olds; slots = 0 }) }
     {
         let name = call.name.text.as_str();
-        self.push_routine_call(code, name, &actuals.types, call.actuals.len())?;
+        let site = call_site(call);
+        self.push_routine_call(code, site, name, &actuals.types, call.actuals.len())?;
         Ok(Lowered {
             value,
             depth: actuals.depth.max(1),
@@ -111,7 +115,14 @@ impl<'t, 's> Setting<'t, 's> {
         ensures told { IfOk result (λ l. l ≡ record { value = option_and_then (λ t. places.feature_type (system_in self.now.context.tables.now) t (feature_named (system_in self.now.context.tables.now) t.class (name_of call.now.name).text)) target.value; depth = max target.depth (actuals.now.depth + 1); olds = actuals.now.olds; slots = 0 }) }
     {
         let name = call.name.text.as_str();
-        self.push_feature_call(code, name, target.value, &actuals.types, call.actuals.len())?;
+        self.push_feature_call(
+            code,
+            call_site(call),
+            name,
+            target.value,
+            &actuals.types,
+            call.actuals.len(),
+        )?;
         Ok(Lowered {
             value: self.feature_type(name, target.value),
             depth: target.depth.max(sum(actuals.depth, 1)?),

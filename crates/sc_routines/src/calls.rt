@@ -19,6 +19,7 @@ use crate::code::Code;
 use crate::setting::Setting;
 use crate::unlinked::{UnlinkedCall, UnlinkedOperation};
 use sc_class::Tables;
+use sc_code::TextSite;
 use sc_proctype::{EntityType, Tag};
 use sc_tree::Declaration;
 use sc_typing::{Formals, Meaning, Signature, declared_type};
@@ -142,6 +143,7 @@ impl<'t, 's> Setting<'t, 's> {
     pub fn push_routine_call(
         &self,
         code: &mut Code<'s>,
+        site: TextSite,
         name: &'s str,
         actuals: &[EntityType],
         count: usize,
@@ -150,7 +152,7 @@ impl<'t, 's> Setting<'t, 's> {
     {
         match self.call_site(name, self.context.current(), actuals, count) {
             None => Ok(()),
-            Some(site) => code.push(UnlinkedOperation::CallRoutine(site)),
+            Some(call) => code.push(site, UnlinkedOperation::CallRoutine(call)),
         }
     }
 
@@ -158,6 +160,7 @@ impl<'t, 's> Setting<'t, 's> {
     pub fn push_feature_call(
         &self,
         code: &mut Code<'s>,
+        site: TextSite,
         name: &'s str,
         target: Option<EntityType>,
         actuals: &[EntityType],
@@ -170,7 +173,7 @@ impl<'t, 's> Setting<'t, 's> {
         };
         match self.call_site(name, target, actuals, count) {
             None => Ok(()),
-            Some(site) => code.push(UnlinkedOperation::CallFeature(site)),
+            Some(call) => code.push(site, UnlinkedOperation::CallFeature(call)),
         }
     }
 }

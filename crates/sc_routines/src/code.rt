@@ -2,22 +2,30 @@
 
 ghost use Rattle.std.specs.Prelude.{◌≡◌, ◌<◌, ◌++◌, [], ◌∷◌, List, OnOk, length, map, slice_set};
 ghost use Rattle.sc_code.specs.Operations as plain;
-ghost use Rattle.sc_routines.specs.Unlinked.{unlinked};
+ghost use Rattle.sc_routines.specs.Unlinked.{operation_in, unlinked};
 
 use crate::unlinked::UnlinkedOperation;
+use sc_code::TextSite;
 use std::alloc::{AllocError, Global};
 use std::marker::Model;
 
-/// Operations one after the other, as definitions see them.
+/// An operation, and what it was made of.
+#[derive(Drop)]
+pub struct SitedOperation<'s> {
+    pub operation: UnlinkedOperation<'s>,
+    pub site: TextSite,
+}
+
+/// Operations one after the other, as definitions see them: without what they were made of.
 #[derive(Drop)]
 pub struct Code<'s> {
-    operations: Vec<UnlinkedOperation<'s>>,
+    operations: Vec<SitedOperation<'s>>,
 }
 
 impl<'s> Model for Code<'s> {
     ghost Value = { List plain.Operation };
 
-    ghost view = { λ c. map unlinked c.operations.items };
+    ghost view = { λ c. map operation_in c.operations.items };
 }
 
 impl<'s> Code<'s> {
@@ -37,25 +45,30 @@ impl<'s> Code<'s> {
         self.operations.len()
     }
 
-    /// Adds an operation behind the others.
-    pub(crate) fn push(&mut self, operation: UnlinkedOperation<'s>) -> Result<(), AllocError>
+    /// Adds an operation behind the others, which was made of what is at the site.
+    pub(crate) fn push(
+        &mut self,
+        site: TextSite,
+        operation: UnlinkedOperation<'s>,
+    ) -> Result<(), AllocError>
         ensures { OnOk result (self.new ≡ self.old ++ unlinked operation.entry ∷ []) }
     {
-        self.operations.push(operation)?;
+        self.operations.push(SitedOperation { operation, site })?;
         Ok(())
     }
 
-    /// Writes an operation in place of the one at the number.
+    /// Writes an operation in place of the one at the number, which was made of the same.
     pub(crate) fn set(&mut self, place: usize, operation: UnlinkedOperation<'s>)
         requires { place < length self.old }
         ensures { self.new ≡ slice_set self.old place (unlinked operation.entry) }
     {
-        self.operations[place] = operation;
+        let site = self.operations[place].site;
+        self.operations[place] = SitedOperation { operation, site };
     }
 
-    /// The operations.
-    pub fn operations(&self) -> &[UnlinkedOperation<'s>]
-        ensures { map unlinked result.now ≡ self.now }
+    /// The operations, and what they were made of.
+    pub fn operations(&self) -> &[SitedOperation<'s>]
+        ensures { map operation_in result.now ≡ self.now }
     {
         &self.operations
     }

@@ -42,41 +42,44 @@ impl<'t, 's> Setting<'t, 's> {
     {
         let count = names.len();
         match e {
-            Expr::Integer(_, value) => {
+            Expr::Integer(span, value) => {
                 let operation = UnlinkedOperation::PushInteger(*value);
-                push_leaf(code, operation, EntityType::integer(), olds)
+                push_leaf(code, *span, operation, EntityType::integer(), olds)
             }
-            Expr::Boolean(_, value) => {
+            Expr::Boolean(span, value) => {
                 let operation = UnlinkedOperation::PushBoolean(*value);
-                push_leaf(code, operation, EntityType::boolean(), olds)
+                push_leaf(code, *span, operation, EntityType::boolean(), olds)
             }
-            Expr::Void(_) => push_leaf(code, UnlinkedOperation::PushVoid, EntityType::void(), olds),
-            Expr::Current(_) => {
-                let current = self.context.current();
-                push_leaf(code, UnlinkedOperation::PushCurrent, current, olds)
+            Expr::Void(span) => {
+                let operation = UnlinkedOperation::PushVoid;
+                push_leaf(code, *span, operation, EntityType::void(), olds)
             }
-            Expr::Result(_) => self.lower_result(olds, code),
+            Expr::Current(span) => {
+                let operation = UnlinkedOperation::PushCurrent;
+                push_leaf(code, *span, operation, self.context.current(), olds)
+            }
+            Expr::Result(span) => self.lower_result(olds, code, *span),
             Expr::Call(call) => self.lower_call(names, olds, code, call),
-            Expr::Unary(_, operator, operand) => {
+            Expr::Unary(span, operator, operand) => {
                 if operator.is_old() {
-                    return self.lower_old(olds, code);
+                    return self.lower_old(olds, code, *span);
                 }
                 let operand = self.lower_condition(names, olds, code, operand)?;
                 names.truncate(count);
-                close_unary(code, *operator, operand)
+                close_unary(code, *span, *operator, operand)
             }
-            Expr::Binary(_, operator, left, right) => {
+            Expr::Binary(span, operator, left, right) => {
                 let left = self.lower_condition(names, olds, code, left)?;
                 let place = code.len();
-                open_right(code, *operator)?;
+                open_right(code, *span, *operator)?;
                 let right = self.lower_condition(names, left.olds, code, right)?;
                 let operands = BinaryOperands { left, place, right };
-                close_binary(names, count, code, *operator, operands)
+                close_binary(names, count, code, *span, *operator, operands)
             }
-            Expr::ObjectTest(_, declared, tested, name) => {
+            Expr::ObjectTest(span, declared, tested, name) => {
                 let tested = self.lower_condition(names, olds, code, tested)?;
                 names.truncate(count);
-                self.close_test(names, code, declared, name, tested)
+                self.close_test(names, code, *span, declared, name, tested)
             }
         }
     }

@@ -22,6 +22,8 @@ use crate::instructions::needs::Needs;
 use crate::setting::Setting;
 use crate::sums::sum;
 use crate::unlinked::UnlinkedOperation;
+use sc_code::{SiteKind, TextSite};
+use sc_text::Span;
 use sc_tree::{Branch, Expr, Head, Instr};
 use sc_typing::Entity;
 use std::alloc::AllocError;
@@ -51,33 +53,43 @@ fn lower_instruction<'s>(
     ensures blocks { IfOk result (λ n. n.blocks ≡ instr_blocks (instr_of instruction.now)) }
 {
     match instruction {
-        Instr::Assign(_, variable, value) => lower_assignment(
-            setting, names, code, variable, value,
+        Instr::Assign(span, variable, value) => lower_assignment(
+            setting, names, code, *span, variable, value,
         ),
-        Instr::PrintText(_, text) => {
-            code.push(UnlinkedOperation::PrintText(text.as_str()))?;
+        Instr::PrintText(span, text) => {
+            let site = TextSite {
+                span: *span,
+                kind: SiteKind::Print,
+            };
+            code.push(site, UnlinkedOperation::PrintText(text.as_str()))?;
             Ok(Needs::of_operands(0))
         }
         Instr::Call(call) => lower_call_instruction(setting, names, code, call),
-        Instr::Create(_, variable, call) => lower_creation(setting, names, code, variable, call),
-        Instr::If(_, condition, body, branches, other) => {
+        Instr::Create(span, variable, call) => lower_creation(
+            setting, names, code, *span, variable, call,
+        ),
+        Instr::If(span, condition, body, branches, other) => {
             let mut jumps = Vec::new(setting.context.alloc);
-            let first = lower_branch(setting, names, code, &mut jumps, body, condition)?;
-            let further = lower_branches(setting, names, code, &mut jumps, branches)?;
+            let first = lower_branch(setting, names, code, &mut jumps, *span, body, condition)?;
+            let further = lower_branches(setting, names, code, &mut jumps, *span, branches)?;
             let last = lower_instructions(setting, names, code, other)?;
             land_jumps(code, &jumps);
             Ok(first.then(further).then(last))
         }
-        Instr::Loop(_, initial, until, body) => {
+        Instr::Loop(span, initial, until, body) => {
             let first = lower_instructions(setting, names, code, initial)?;
             let jump = code.len();
-            code.push(UnlinkedOperation::Jump(0))?;
+            let site = TextSite {
+                span: *span,
+                kind: SiteKind::Jump,
+            };
+            code.push(site, UnlinkedOperation::Jump(0))?;
             let again = lower_instructions(setting, names, code, body)?;
             let until = end_loop(setting, names, code, jump, until)?;
             Ok(first.then(again).then(until))
         }
         Instr::Check(_, clauses) => lower_checks(setting, names, code, clauses),
-        Instr::Block(_, heads, body) => lower_block(setting, names, code, heads, body),
+        Instr::Block(span, heads, body) => lower_block(setting, names, code, *span, heads, body),
     }
 }
 
@@ -109,6 +121,7 @@ fn lower_branch<'s>(
     names: &mut Vec<Entity<'s>>,
     code: &mut Code<'s>,
     jumps: &mut Vec<usize>,
+    span: Span,
     body: &'s [Instr],
     condition: &'s Expr,
 ) -> Result<Needs, AllocError>
@@ -126,12 +139,17 @@ fn lower_branch<'s>(
     let known = names.len();
     let tested = setting.lower_condition(names, 0, code, condition)?;
     let skip = code.len();
-    code.push(UnlinkedOperation::SkipIfFalse(0))?;
+    let site = TextSite {
+        span: condition.span(),
+        kind: SiteKind::Condition,
+    };
+    code.push(site, UnlinkedOperation::SkipIfFalse(0))?;
     let needs = lower_instructions(setting, names, code, body)?;
     names.truncate(known);
     let jump = code.len();
     jumps.push(jump)?;
-    code.push(UnlinkedOperation::Jump(0))?;
+    let kind = SiteKind::Jump;
+    code.push(TextSite { span, kind }, UnlinkedOperation::Jump(0))?;
     code.set(skip, UnlinkedOperation::SkipIfFalse(jump - skip));
     Ok(Needs {
         depth: tested.depth.max(needs.depth),
@@ -147,6 +165,7 @@ fn lower_branches<'s>(
     names: &mut Vec<Entity<'s>>,
     code: &mut Code<'s>,
     jumps: &mut Vec<usize>,
+    span: Span,
     branches: &'s [Branch],
 ) -> Result<Needs, AllocError>
     ensures code { OnOk result (code.new ≡ code.old ++ open_branches (setting_in setting.now) (map entity_of names.old.items) (branches_of branches.now)) }
@@ -163,6 +182,7 @@ fn lower_branches<'s>(
             names,
             code,
             jumps,
+            span,
             &branch.body,
             &branch.condition,
         )?);
@@ -176,6 +196,7 @@ fn lower_block<'s>(
     setting: &Setting<'_, 's>,
     names: &mut Vec<Entity<'s>>,
     code: &mut Code<'s>,
+    span: Span,
     heads: &'s [Head],
     body: &'s [Instr],
 ) -> Result<Needs, AllocError>
@@ -190,14 +211,19 @@ fn lower_block<'s>(
 {
     let outer = names.len();
     let opened = lower_heads(setting, names, code, heads)?;
-    code.push(UnlinkedOperation::Open {
-        first: outer,
-        count: heads.len(),
-    })?;
+    let kind = SiteKind::Block;
+    code.push(
+        TextSite { span, kind },
+        UnlinkedOperation::Open {
+            first: outer,
+            count: heads.len(),
+        },
+    )?;
     add_heads(names, heads, &opened.types)?;
     let inner = lower_instructions(setting, names, code, body)?;
     names.truncate(outer);
-    code.push(UnlinkedOperation::Leave)?;
+    let kind = SiteKind::BlockEnd;
+    code.push(TextSite { span, kind }, UnlinkedOperation::Leave)?;
     Ok(Needs {
         depth: opened.depth.max(inner.depth),
         slots: sum(outer, heads.len())?.max(inner.slots),

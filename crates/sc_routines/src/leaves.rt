@@ -24,9 +24,10 @@ use crate::own_feature::OwnFeature;
 use crate::setting::Setting;
 use crate::sums::sum;
 use crate::unlinked::UnlinkedOperation;
-use sc_code::TestedType;
+use sc_code::{SiteKind, TestedType, TextSite};
 use sc_proctype::EntityType;
 use sc_rules::Role;
+use sc_text::Span;
 use sc_tree::{DeclaredType, Name};
 use sc_typing::{Entity, Meaning};
 use std::alloc::AllocError;
@@ -43,9 +44,10 @@ pub fn leaf(value: Option<EntityType>, olds: usize) -> Lowered
     }
 }
 
-/// Adds the operation of a leaf whose value is of this type.
+/// Adds the operation of a constant or of Current, whose value is of this type.
 pub fn push_leaf<'s>(
     code: &mut Code<'s>,
+    span: Span,
     operation: UnlinkedOperation<'s>,
     value: EntityType,
     olds: usize,
@@ -53,7 +55,8 @@ pub fn push_leaf<'s>(
     ensures code { OnOk result (code.new ≡ code.old ++ unlinked operation.entry ∷ []) }
     ensures told { IfOk result (λ l. l ≡ record { value = Some value; depth = 1; olds = olds; slots = 0 }) }
 {
-    code.push(operation)?;
+    let kind = SiteKind::Constant;
+    code.push(TextSite { span, kind }, operation)?;
     Ok(leaf(Some(value), olds))
 }
 
@@ -68,21 +71,30 @@ pub fn push_type(types: &mut Vec<EntityType>, value: Option<EntityType>) -> Resu
 }
 
 /// Adds that the entity in the slot is read, if its type is known.
-pub fn push_slot(code: &mut Code, slot: usize, value: Option<EntityType>) -> Result<(), AllocError>
+pub fn push_slot(
+    code: &mut Code,
+    site: TextSite,
+    slot: usize,
+    value: Option<EntityType>,
+) -> Result<(), AllocError>
     ensures { OnOk result (code.new ≡ code.old ++ parts.slot_code slot value) }
 {
     match value {
         None => Ok(()),
-        Some(value) => code.push(UnlinkedOperation::PushSlot {
-            slot,
-            is_attached: value.attached,
-        }),
+        Some(value) => code.push(
+            site,
+            UnlinkedOperation::PushSlot {
+                slot,
+                is_attached: value.attached,
+            },
+        ),
     }
 }
 
 /// Adds that an attribute of Current is read, if its type is known.
 pub fn push_attribute<'s>(
     code: &mut Code<'s>,
+    site: TextSite,
     name: &'s str,
     value: Option<EntityType>,
 ) -> Result<(), AllocError>
@@ -90,33 +102,48 @@ pub fn push_attribute<'s>(
 {
     match value {
         None => Ok(()),
-        Some(value) => code.push(UnlinkedOperation::PushAttribute {
-            name,
-            is_attached: value.attached,
-        }),
+        Some(value) => code.push(
+            site,
+            UnlinkedOperation::PushAttribute {
+                name,
+                is_attached: value.attached,
+            },
+        ),
     }
 }
 
 impl<'t, 's> Setting<'t, 's> {
     /// Adds that Result is read.
-    pub fn lower_result(&self, olds: usize, code: &mut Code<'s>) -> Result<Lowered, AllocError>
+    pub fn lower_result(
+        &self,
+        olds: usize,
+        code: &mut Code<'s>,
+        span: Span,
+    ) -> Result<Lowered, AllocError>
         ensures code { OnOk result (code.new ≡ code.old ++ emitted.result_code self.now.result) }
         ensures told { IfOk result (λ l. l ≡ record { value = places.known_type self.now.context.result; depth = 1; olds = olds; slots = 0 }) }
     {
         if let Some(value) = self.result {
-            code.push(UnlinkedOperation::PushResult {
-                is_attached: value.attached,
-            })?;
+            let kind = SiteKind::Result;
+            let is_attached = value.attached;
+            let operation = UnlinkedOperation::PushResult { is_attached };
+            code.push(TextSite { span, kind }, operation)?;
         }
         Ok(leaf(known_type(self.context.result), olds))
     }
 
     /// Adds that the next `old` is read.
-    pub fn lower_old(&self, olds: usize, code: &mut Code<'s>) -> Result<Lowered, AllocError>
+    pub fn lower_old(
+        &self,
+        olds: usize,
+        code: &mut Code<'s>,
+        span: Span,
+    ) -> Result<Lowered, AllocError>
         ensures code { OnOk result (code.new ≡ code.old ++ plain.PushOld olds ∷ []) }
         ensures told { IfOk result (λ l. l ≡ record { value = slice_get self.now.olds.items olds; depth = 1; olds = olds + 1; slots = 0 }) }
     {
-        code.push(UnlinkedOperation::PushOld(olds))?;
+        let kind = SiteKind::Old;
+        code.push(TextSite { span, kind }, UnlinkedOperation::PushOld(olds))?;
         Ok(leaf(self.olds.get(olds).copied(), sum(olds, 1)?))
     }
 
@@ -175,6 +202,7 @@ impl<'t, 's> Setting<'t, 's> {
         &self,
         names: &mut Vec<Entity<'s>>,
         code: &mut Code<'s>,
+        span: Span,
         declared: &Option<DeclaredType>,
         name: &'s Name,
         tested: Lowered,
@@ -183,10 +211,14 @@ impl<'t, 's> Setting<'t, 's> {
         ensures names { OnOk result (map entity_of names.new.items ≡ places.with_test (name_of name.now).text (rules.test_type (places.here (setting_in self.now)) (type_if_any declared.now) tested.value) (map entity_of names.old.items)) }
         ensures told { IfOk result (λ l. l ≡ record { value = Some boolean; depth = tested.depth; olds = tested.olds; slots = length names.old.items + 1 }) }
     {
-        code.push(UnlinkedOperation::Test {
-            tested: self.tested(names, declared),
-            slot: names.len(),
-        })?;
+        let kind = SiteKind::ObjectTest;
+        code.push(
+            TextSite { span, kind },
+            UnlinkedOperation::Test {
+                tested: self.tested(names, declared),
+                slot: names.len(),
+            },
+        )?;
         names.push(Entity {
             name: name.text.as_str(),
             entity_type: self.test_type(declared, tested.value),

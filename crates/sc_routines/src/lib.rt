@@ -18,10 +18,11 @@ mod own_feature;
 mod routine;
 mod setting;
 mod sums;
+mod text_sites;
 mod unlinked;
 
 pub use calls::known_type;
-pub use code::Code;
+pub use code::{Code, SitedOperation};
 pub use routine::source::RoutineSource;
 pub use routine::{LoweredRoutine, lower_routine};
 pub use unlinked::{UnlinkedCall, UnlinkedCreation, UnlinkedOperation};

@@ -6,22 +6,33 @@ ghost use Rattle.sc_tree.specs.Plain as plain;
 ghost use Rattle.sc_model.specs.Olds.{olds_of, olds_of_each};
 ghost use Rattle.sc_routines.specs.Settings.{operands_of};
 
+use sc_text::Span;
 use sc_tree::{Call, Expr, UnaryOperator};
 use std::alloc::{AllocError, Global};
+
+/// An `old` of a postcondition.
+#[derive(Clone, Copy)]
+pub struct OldValue<'s> {
+    /// Where it stands, from the word `old` on.
+    pub span: Span,
+    /// What it is applied to.
+    pub operand: &'s Expr,
+}
 
 /// Adds the operands of `old` in the expression, in the order of the text.
 #[cycle(olds)]
 #[tactic(auto, unfolding(sc_tree::specs::View::expr_of))]
-pub fn add_olds<'s>(olds: &mut Vec<&'s Expr>, e: &'s Expr) -> Result<(), AllocError>
+pub fn add_olds<'s>(olds: &mut Vec<OldValue<'s>>, e: &'s Expr) -> Result<(), AllocError>
     ensures { OnOk result (operands_of olds.new.items ≡ operands_of olds.old.items ++ olds_of (expr_of e.now)) }
 {
     match e {
         Expr::Integer(_, _) | Expr::Boolean(_, _) => Ok(()),
         Expr::Void(_) | Expr::Current(_) | Expr::Result(_) => Ok(()),
         Expr::Call(call) => add_olds_of_call(olds, call),
-        Expr::Unary(_, operator, operand) => match operator {
+        Expr::Unary(span, operator, operand) => match operator {
             UnaryOperator::Old => {
-                olds.push(operand)?;
+                let span = *span;
+                olds.push(OldValue { span, operand })?;
                 Ok(())
             }
             UnaryOperator::Not | UnaryOperator::Plus | UnaryOperator::Minus => {
@@ -39,7 +50,7 @@ pub fn add_olds<'s>(olds: &mut Vec<&'s Expr>, e: &'s Expr) -> Result<(), AllocEr
 /// Adds those in a call's target and in its actuals.
 #[cycle(olds)]
 #[tactic(auto, unfolding(sc_tree::specs::View::expr_of))]
-fn add_olds_of_call<'s>(olds: &mut Vec<&'s Expr>, call: &'s Call) -> Result<(), AllocError>
+fn add_olds_of_call<'s>(olds: &mut Vec<OldValue<'s>>, call: &'s Call) -> Result<(), AllocError>
     ensures { OnOk result (operands_of olds.new.items ≡ operands_of olds.old.items ++ olds_of (plain.Call call.now.span (target_of call.now.target) (name_of call.now.name) (exprs_of call.now.actuals.items))) }
 {
     if let Some(target) = &call.target {
@@ -51,7 +62,7 @@ fn add_olds_of_call<'s>(olds: &mut Vec<&'s Expr>, call: &'s Call) -> Result<(), 
 /// Adds those in each of the expressions.
 #[cycle(olds)]
 #[tactic(auto, unfolding(sc_tree::specs::View::expr_of))]
-fn add_olds_of_each<'s>(olds: &mut Vec<&'s Expr>, actuals: &'s [Expr]) -> Result<(), AllocError>
+fn add_olds_of_each<'s>(olds: &mut Vec<OldValue<'s>>, actuals: &'s [Expr]) -> Result<(), AllocError>
     ensures { OnOk result (operands_of olds.new.items ≡ operands_of olds.old.items ++ olds_of_each (exprs_of actuals.now)) }
 {
     for actual in actuals {

@@ -12,7 +12,9 @@ use crate::code::Code;
 use crate::lowered::Lowered;
 use crate::sums::sum;
 use crate::unlinked::UnlinkedOperation;
+use sc_code::{SiteKind, TextSite};
 use sc_proctype::EntityType;
+use sc_text::Span;
 use sc_tree::{BinaryOperator, UnaryOperator};
 use sc_typing::Entity;
 use std::alloc::AllocError;
@@ -40,13 +42,18 @@ fn unary_type(operator: UnaryOperator) -> EntityType
 /// Adds a unary operator behind its operand.
 pub fn close_unary(
     code: &mut Code,
+    span: Span,
     operator: UnaryOperator,
     operand: Lowered,
 ) -> Result<Lowered, AllocError>
     ensures code { OnOk result (code.new ≡ code.old ++ plain.ApplyUnary operator ∷ []) }
     ensures told { IfOk result (λ l. l ≡ record { value = Some (places.unary_type operator); depth = operand.depth; olds = operand.olds; slots = 0 }) }
 {
-    code.push(UnlinkedOperation::ApplyUnary(operator))?;
+    let kind = SiteKind::Unary(operator);
+    code.push(
+        TextSite { span, kind },
+        UnlinkedOperation::ApplyUnary(operator),
+    )?;
     Ok(Lowered {
         value: Some(unary_type(operator)),
         depth: operand.depth,
@@ -81,33 +88,36 @@ pub fn operand_depth(operator: BinaryOperator, right: usize) -> Result<usize, Al
 }
 
 /// Adds what stands between the operands. How much a decision passes isn't known yet.
-pub fn open_right(code: &mut Code, operator: BinaryOperator) -> Result<(), AllocError>
+pub fn open_right(code: &mut Code, span: Span, operator: BinaryOperator) -> Result<(), AllocError>
     ensures { OnOk result (code.new ≡ code.old ++ opened operator) }
 {
     if !is_short(operator) {
         return Ok(());
     }
-    code.push(UnlinkedOperation::Decide {
-        operator,
-        passed: 0,
-    })
+    let kind = SiteKind::Binary(operator);
+    let passed = 0;
+    let operation = UnlinkedOperation::Decide { operator, passed };
+    code.push(TextSite { span, kind }, operation)
 }
 
 /// Adds what stands behind the operands, of which the right one begins at the place.
 pub fn close_right(
     code: &mut Code,
+    span: Span,
     operator: BinaryOperator,
     place: usize,
 ) -> Result<(), AllocError>
     requires { model.is_short operator ≡ true → place < length code.old }
     ensures { OnOk result ((base right : List plain.Operation) → code.old ≡ base ++ (opened operator ++ right) → place ≡ length base → code.new ≡ base ++ emitted.right_code operator right) }
 {
+    let kind = SiteKind::Binary(operator);
+    let site = TextSite { span, kind };
     if is_short(operator) {
         let passed = code.len() - place;
         code.set(place, UnlinkedOperation::Decide { operator, passed });
-        return code.push(UnlinkedOperation::Conclude);
+        return code.push(site, UnlinkedOperation::Conclude);
     }
-    code.push(UnlinkedOperation::ApplyBinary(operator))
+    code.push(site, UnlinkedOperation::ApplyBinary(operator))
 }
 
 /// Forgets the names of the operands, unless what stands behind them is met only where they hold.
@@ -136,6 +146,7 @@ pub fn close_binary(
     names: &mut Vec<Entity>,
     count: usize,
     code: &mut Code,
+    span: Span,
     operator: BinaryOperator,
     operands: BinaryOperands,
 ) -> Result<Lowered, AllocError>
@@ -147,7 +158,7 @@ pub fn close_binary(
 {
     forget_names(names, count, operator);
     let BinaryOperands { left, place, right } = operands;
-    close_right(code, operator, place)?;
+    close_right(code, span, operator, place)?;
     Ok(Lowered {
         value: Some(binary_type(operator)),
         depth: left.depth.max(operand_depth(operator, right.depth)?),

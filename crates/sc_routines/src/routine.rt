@@ -23,7 +23,9 @@ use crate::routine::source::RoutineSource;
 use crate::setting::Setting;
 use crate::unlinked::UnlinkedOperation;
 use sc_class::Tables;
+use sc_code::{SiteKind, TextSite};
 use sc_proctype::EntityType;
+use sc_text::Span;
 use sc_tree::{Clause, Routine};
 use sc_typing::{Entity, Purity, RoutineContext, add_formals, result_type};
 use std::alloc::{AllocError, Global};
@@ -83,11 +85,12 @@ fn setting_of<'t, 's>(
     }
 }
 
-/// Lowers the precondition and the `old`s of a contract. The types of the `old`s join those of the setting.
+/// Lowers the precondition and the `old`s of the contract of the routine whose name stands there. The types of the `old`s join those of the setting.
 fn lower_opening<'s>(
     setting: &mut Setting<'_, 's>,
     names: &mut Vec<Entity<'s>>,
     code: &mut Code<'s>,
+    name: Span,
     precondition: &'s [Clause],
     postcondition: &'s [Clause],
 ) -> Result<Opening, AllocError>
@@ -100,7 +103,7 @@ fn lower_opening<'s>(
         IfOk result (λ o. o.depth ≡ max (emitted.checks_depth h n (map clause_of precondition.now)) (emitted.olds_depth h n (model.olds_of_clauses (map clause_of postcondition.now)))) }
     ensures olds { IfOk result (λ o. o.olds ≡ length (model.olds_of_clauses (map clause_of postcondition.now))) }
 {
-    let required = lower_precondition(setting, names, code, precondition)?;
+    let required = lower_precondition(setting, names, code, name, precondition)?;
     let olds = olds_of_clauses(setting.context.alloc, postcondition)?;
     let kept = lower_olds(setting, names, code, &olds)?;
     Ok(Opening {
@@ -141,6 +144,7 @@ pub fn lower_routine<'s>(
         &mut contract,
         &mut names,
         &mut code,
+        source.span,
         &kept.precondition,
         &kept.postcondition,
     )?;
@@ -148,7 +152,9 @@ pub fn lower_routine<'s>(
     let inside = setting_of(alloc, tables, &purity, source, source.class, own, olds);
     let body = lower_body(&inside, &mut names, &mut code, &own.locals, &own.body)?;
     let closing = lower_postcondition(&contract, &mut names, &mut code, &kept.postcondition)?;
-    code.push(UnlinkedOperation::Exit)?;
+    let kind = SiteKind::End;
+    let span = source.span;
+    code.push(TextSite { span, kind }, UnlinkedOperation::Exit)?;
     Ok(LoweredRoutine {
         code,
         depth: opening.depth.max(body.depth.max(closing)),

@@ -99,6 +99,7 @@ pub fn source<'s>(tables: &Tables<'s>, entry: FeatureEntry<'s>) -> Option<Routin
     let contract = routine_of(&origin.feature.kind)?;
     Some(RoutineSource {
         name,
+        span: entry.feature.name.span,
         class: entry.class,
         routine,
         contract_class: origin.class,

@@ -14,6 +14,7 @@ use crate::instructions::needs::Needs;
 use crate::known_names::slot_named;
 use crate::setting::Setting;
 use crate::unlinked::UnlinkedOperation;
+use sc_code::{SiteKind, TextSite};
 use sc_text::Span;
 use sc_tree::{Expr, Name, Variable};
 use sc_typing::{Assignee, Entity};
@@ -30,6 +31,7 @@ pub fn assignee_at(setting: &Setting, names: &[Entity], variable: &Variable) -> 
 fn push_store_to_name<'s>(
     names: &[Entity<'s>],
     code: &mut Code<'s>,
+    site: TextSite,
     name: &'s Name,
     assigned: Assignee,
 ) -> Result<(), AllocError>
@@ -37,20 +39,27 @@ fn push_store_to_name<'s>(
 {
     match assigned {
         Assignee::Unknown | Assignee::NotAssignable => Ok(()),
-        Assignee::Attribute(_) => code.push(UnlinkedOperation::StoreAttribute(name.text.as_str())),
+        Assignee::Attribute(_) => {
+            code.push(site, UnlinkedOperation::StoreAttribute(name.text.as_str()))
+        }
         Assignee::Local(_) => match slot_named(&name.text, names) {
             None => Ok(()),
-            Some((slot, _)) => code.push(UnlinkedOperation::StoreSlot(slot)),
+            Some((slot, _)) => code.push(site, UnlinkedOperation::StoreSlot(slot)),
         },
     }
 }
 
 /// Adds the operation that assigns to Result.
-fn push_store_to_result(code: &mut Code, span: Span, assigned: Assignee) -> Result<(), AllocError>
+fn push_store_to_result(
+    code: &mut Code,
+    site: TextSite,
+    span: Span,
+    assigned: Assignee,
+) -> Result<(), AllocError>
     ensures { OnOk result (code.new ≡ code.old ++ store_code (ResultVariable span) (assignee_in assigned) None) }
 {
     match assigned {
-        Assignee::Local(Some(_)) => code.push(UnlinkedOperation::StoreResult),
+        Assignee::Local(Some(_)) => code.push(site, UnlinkedOperation::StoreResult),
         Assignee::Local(None) => Ok(()),
         Assignee::Unknown | Assignee::NotAssignable | Assignee::Attribute(_) => Ok(()),
     }
@@ -61,14 +70,15 @@ pub fn push_store<'s>(
     setting: &Setting<'_, 's>,
     names: &[Entity<'s>],
     code: &mut Code<'s>,
+    site: TextSite,
     variable: &'s Variable,
 ) -> Result<(), AllocError>
     ensures { OnOk result (code.new ≡ code.old ++ assign_code (setting_in setting.now) (map entity_of names.now) (variable_of variable.now)) }
 {
     let assigned = assignee_at(setting, names, variable);
     match variable {
-        Variable::Named(name) => push_store_to_name(names, code, name, assigned),
-        Variable::Result(span) => push_store_to_result(code, *span, assigned),
+        Variable::Named(name) => push_store_to_name(names, code, site, name, assigned),
+        Variable::Result(span) => push_store_to_result(code, site, *span, assigned),
     }
 }
 
@@ -77,6 +87,7 @@ pub fn lower_assignment<'s>(
     setting: &Setting<'_, 's>,
     names: &mut Vec<Entity<'s>>,
     code: &mut Code<'s>,
+    span: Span,
     variable: &'s Variable,
     value: &'s Expr,
 ) -> Result<Needs, AllocError>
@@ -88,6 +99,7 @@ pub fn lower_assignment<'s>(
     ensures blocks { IfOk result (λ n. n.blocks ≡ 0) }
 {
     let value = setting.lower_expr(names, 0, code, value)?;
-    push_store(setting, names, code, variable)?;
+    let kind = SiteKind::Assignment;
+    push_store(setting, names, code, TextSite { span, kind }, variable)?;
     Ok(Needs::of_operands(value.depth))
 }

@@ -14,7 +14,9 @@ use crate::code::Code;
 use crate::instructions::needs::Needs;
 use crate::setting::Setting;
 use crate::sums::sum;
+use crate::text_sites::call_site;
 use crate::unlinked::UnlinkedOperation;
+use sc_code::{SiteKind, TextSite};
 use sc_proctype::EntityType;
 use sc_tree::{Call, Expr, Name};
 use sc_typing::Entity;
@@ -24,6 +26,7 @@ use std::alloc::AllocError;
 fn push_own_call<'s>(
     setting: &Setting<'_, 's>,
     code: &mut Code<'s>,
+    site: TextSite,
     name: &'s Name,
     types: &[EntityType],
     count: usize,
@@ -31,9 +34,11 @@ fn push_own_call<'s>(
     ensures { OnOk result (code.new ≡ code.old ++ instruction_call (properties.is_print (name_of name.now).text) [] (routine_call (setting_in setting.now) (name_of name.now).text count types.now)) }
 {
     if name.is_print() {
-        code.push(UnlinkedOperation::Print)
+        let kind = SiteKind::Print;
+        let span = site.span;
+        code.push(TextSite { span, kind }, UnlinkedOperation::Print)
     } else {
-        setting.push_routine_call(code, name.text.as_str(), types, count)
+        setting.push_routine_call(code, site, name.text.as_str(), types, count)
     }
 }
 
@@ -42,6 +47,7 @@ fn lower_own_call<'s>(
     setting: &Setting<'_, 's>,
     names: &mut Vec<Entity<'s>>,
     code: &mut Code<'s>,
+    site: TextSite,
     name: &'s Name,
     actuals: &'s [Expr],
 ) -> Result<Needs, AllocError>
@@ -53,7 +59,7 @@ fn lower_own_call<'s>(
     ensures blocks { IfOk result (λ n. n.blocks ≡ 0) }
 {
     let lowered = setting.lower_actuals(names, 0, code, actuals)?;
-    push_own_call(setting, code, name, &lowered.types, actuals.len())?;
+    push_own_call(setting, code, site, name, &lowered.types, actuals.len())?;
     Ok(Needs::of_operands(lowered.depth))
 }
 
@@ -62,6 +68,7 @@ fn lower_qualified_call<'s>(
     setting: &Setting<'_, 's>,
     names: &mut Vec<Entity<'s>>,
     code: &mut Code<'s>,
+    site: TextSite,
     target: &'s Expr,
     name: &'s Name,
     actuals: &'s [Expr],
@@ -78,6 +85,7 @@ fn lower_qualified_call<'s>(
     let lowered = setting.lower_actuals(names, 0, code, actuals)?;
     setting.push_feature_call(
         code,
+        site,
         name.text.as_str(),
         target.value,
         &lowered.types,
@@ -101,12 +109,14 @@ pub fn lower_call_instruction<'s>(
     ensures slots { IfOk result (λ n. n.slots ≡ 0) }
     ensures blocks { IfOk result (λ n. n.blocks ≡ 0) }
 {
+    let site = call_site(call);
     match &call.target {
-        None => lower_own_call(setting, names, code, &call.name, &call.actuals),
+        None => lower_own_call(setting, names, code, site, &call.name, &call.actuals),
         Some(target) => lower_qualified_call(
             setting,
             names,
             code,
+            site,
             target,
             &call.name,
             &call.actuals,

@@ -9,7 +9,9 @@ ghost use Rattle.sc_routines.specs.Settings.{setting_in};
 use crate::code::Code;
 use crate::instructions::needs::Needs;
 use crate::setting::Setting;
+use crate::text_sites::clause_site;
 use crate::unlinked::UnlinkedOperation;
+use sc_code::Assertion;
 use sc_model::Cause;
 use sc_tree::Clause;
 use sc_typing::Entity;
@@ -32,7 +34,8 @@ pub fn lower_checks<'s>(
     let mut depth = 0;
     for clause in clauses {
         let condition = setting.lower_expr(names, 0, code, &clause.condition)?;
-        code.push(UnlinkedOperation::Expect(Cause::Check))?;
+        let site = clause_site(Assertion::Check, clause);
+        code.push(site, UnlinkedOperation::Expect(Cause::Check))?;
         depth = condition.depth.max(depth);
     }
     Ok(Needs::of_operands(depth))

@@ -21,7 +21,9 @@ use crate::instructions::needs::Needs;
 use crate::setting::Setting;
 use crate::unlinked::{UnlinkedCreation, UnlinkedOperation};
 use sc_class::{ClassId, Tables};
+use sc_code::{SiteKind, TextSite};
 use sc_proctype::{EntityType, Tag};
+use sc_text::Span;
 use sc_tree::{CreationCall, Expr, Variable};
 use sc_typing::{Assignee, Entity, Meaning};
 use std::alloc::AllocError;
@@ -88,6 +90,7 @@ fn creation_passes(
 fn push_creation_of<'s>(
     setting: &Setting<'_, 's>,
     code: &mut Code<'s>,
+    site: TextSite,
     procedure: Option<&'s str>,
     count: usize,
     types: &[EntityType],
@@ -100,18 +103,24 @@ fn push_creation_of<'s>(
     };
     match created.tag {
         Tag::With(_) | Tag::None => Ok(()),
-        Tag::Own => code.push(UnlinkedOperation::Create(UnlinkedCreation {
-            class,
-            procedure,
-            count,
-            passes: false,
-        })),
-        Tag::Any => code.push(UnlinkedOperation::CreateHandler(UnlinkedCreation {
-            class,
-            procedure,
-            count,
-            passes: creation_passes(setting, created, procedure, types),
-        })),
+        Tag::Own => code.push(
+            site,
+            UnlinkedOperation::Create(UnlinkedCreation {
+                class,
+                procedure,
+                count,
+                passes: false,
+            }),
+        ),
+        Tag::Any => code.push(
+            site,
+            UnlinkedOperation::CreateHandler(UnlinkedCreation {
+                class,
+                procedure,
+                count,
+                passes: creation_passes(setting, created, procedure, types),
+            }),
+        ),
     }
 }
 
@@ -119,6 +128,7 @@ fn push_creation_of<'s>(
 fn push_creation<'s>(
     setting: &Setting<'_, 's>,
     code: &mut Code<'s>,
+    site: TextSite,
     procedure: Option<&'s str>,
     count: usize,
     types: &[EntityType],
@@ -128,7 +138,7 @@ fn push_creation<'s>(
 {
     match created {
         None => Ok(()),
-        Some(created) => push_creation_of(setting, code, procedure, count, types, created),
+        Some(created) => { push_creation_of(setting, code, site, procedure, count, types, created) }
     }
 }
 
@@ -137,6 +147,7 @@ pub fn lower_creation<'s>(
     setting: &Setting<'_, 's>,
     names: &mut Vec<Entity<'s>>,
     code: &mut Code<'s>,
+    span: Span,
     variable: &'s Variable,
     call: &'s Option<CreationCall>,
 ) -> Result<Needs, AllocError>
@@ -151,14 +162,17 @@ pub fn lower_creation<'s>(
     let actuals = actuals_of(call);
     let lowered = setting.lower_actuals(names, 0, code, actuals)?;
     let created = created_type(assignee_at(setting, names, variable));
+    let kind = SiteKind::Creation;
     push_creation(
         setting,
         code,
+        TextSite { span, kind },
         procedure_of(call),
         actuals.len(),
         &lowered.types,
         created,
     )?;
-    push_store(setting, names, code, variable)?;
+    let kind = SiteKind::Created;
+    push_store(setting, names, code, TextSite { span, kind }, variable)?;
     Ok(Needs::of_operands(lowered.depth.max(1)))
 }

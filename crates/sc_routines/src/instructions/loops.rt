@@ -11,6 +11,7 @@ use crate::code::Code;
 use crate::instructions::needs::Needs;
 use crate::setting::Setting;
 use crate::unlinked::UnlinkedOperation;
+use sc_code::{SiteKind, TextSite};
 use sc_tree::Expr;
 use sc_typing::Entity;
 use std::alloc::AllocError;
@@ -33,9 +34,11 @@ pub fn end_loop<'s>(
     ensures blocks { IfOk result (λ n. n.blocks ≡ 0) }
 {
     let ahead = code.len() - jump - 1;
+    let span = until.span();
     let until = setting.lower_expr(names, 0, code, until)?;
     let back = code.len() - jump - 1;
-    code.push(UnlinkedOperation::EndLoop(back))?;
+    let kind = SiteKind::Until;
+    code.push(TextSite { span, kind }, UnlinkedOperation::EndLoop(back))?;
     code.set(jump, UnlinkedOperation::Jump(ahead));
     Ok(Needs::of_operands(until.depth))
 }

@@ -15,7 +15,7 @@ use crate::instructions::needs::Needs;
 use crate::setting::Setting;
 use crate::unlinked::UnlinkedOperation;
 use sc_class::Tables;
-use sc_code::DefaultValue;
+use sc_code::{DefaultValue, SiteKind, TextSite};
 use sc_rules::Role;
 use sc_tree::{Declaration, Instr};
 use sc_typing::{Entity, declared_type};
@@ -34,10 +34,15 @@ fn lower_locals<'s>(
 {
     for local in locals {
         if let Some(entity_type) = declared_type(tables, formals, &local.declared_type) {
-            code.push(UnlinkedOperation::Initialize {
-                slot: names.len(),
-                value: DefaultValue::of(entity_type.class),
-            })?;
+            let kind = SiteKind::Local;
+            let span = local.name.span;
+            code.push(
+                TextSite { span, kind },
+                UnlinkedOperation::Initialize {
+                    slot: names.len(),
+                    value: DefaultValue::of(entity_type.class),
+                },
+            )?;
             names.push(Entity {
                 name: local.name.text.as_str(),
                 entity_type: Some(entity_type),

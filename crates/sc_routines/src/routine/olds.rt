@@ -10,10 +10,11 @@ ghost use Rattle.sc_routines.specs.Settings.{operands_of, setting_in};
 
 use crate::code::Code;
 use crate::leaves::push_type;
-use crate::olds::add_olds;
+use crate::olds::{OldValue, add_olds};
 use crate::setting::Setting;
 use crate::unlinked::UnlinkedOperation;
-use sc_tree::{Clause, Expr};
+use sc_code::{SiteKind, TextSite};
+use sc_tree::Clause;
 use sc_typing::Entity;
 use std::alloc::{AllocError, Global};
 
@@ -22,7 +23,7 @@ use std::alloc::{AllocError, Global};
 pub fn olds_of_clauses<'s>(
     alloc: Global,
     clauses: &'s [Clause],
-) -> Result<Vec<&'s Expr>, AllocError>
+) -> Result<Vec<OldValue<'s>>, AllocError>
     ensures { IfOk result (λ olds. operands_of olds.items ≡ model.olds_of_clauses (map clause_of clauses.now)) }
 {
     let mut olds = Vec::new(alloc);
@@ -39,7 +40,7 @@ pub fn lower_olds<'s>(
     setting: &mut Setting<'_, 's>,
     names: &mut Vec<Entity<'s>>,
     code: &mut Code<'s>,
-    olds: &[&'s Expr],
+    olds: &[OldValue<'s>],
 ) -> Result<usize, AllocError>
     ensures code { OnOk result (code.new ≡ code.old ++ olds_code (setting_in setting.old) (map entity_of names.old.items) (operands_of olds.now)) }
     ensures names { OnOk result (map entity_of names.new.items ≡ map entity_of names.old.items) }
@@ -47,9 +48,10 @@ pub fn lower_olds<'s>(
     ensures depth { IfOk result (λ d. d ≡ olds_depth (setting_in setting.old) (map entity_of names.old.items) (operands_of olds.now)) }
 {
     let mut depth = 0;
-    for operand in olds {
-        let value = setting.lower_expr(names, 0, code, *operand)?;
-        code.push(UnlinkedOperation::KeepOld)?;
+    for kept in olds {
+        let value = setting.lower_expr(names, 0, code, kept.operand)?;
+        let (span, kind) = (kept.span, SiteKind::Keep);
+        code.push(TextSite { span, kind }, UnlinkedOperation::KeepOld)?;
         push_type(&mut setting.olds, value.value)?;
         depth = value.depth.max(depth);
     }

@@ -8,7 +8,9 @@ ghost use Rattle.sc_routines.specs.Settings.{setting_in};
 
 use crate::code::Code;
 use crate::setting::Setting;
+use crate::text_sites::clause_site;
 use crate::unlinked::UnlinkedOperation;
+use sc_code::Assertion;
 use sc_model::Cause;
 use sc_tree::Clause;
 use sc_typing::Entity;
@@ -30,7 +32,8 @@ pub fn lower_postcondition<'s>(
     let mut depth = 0;
     for clause in clauses {
         let condition = setting.lower_expr(names, olds, code, &clause.condition)?;
-        code.push(UnlinkedOperation::Expect(Cause::Postcondition))?;
+        let site = clause_site(Assertion::Postcondition, clause);
+        code.push(site, UnlinkedOperation::Expect(Cause::Postcondition))?;
         olds = condition.olds;
         depth = condition.depth.max(depth);
     }

@@ -9,17 +9,22 @@ ghost use Rattle.sc_routines.specs.Settings.{setting_in};
 use crate::code::Code;
 use crate::routine::formals::formals_in;
 use crate::setting::Setting;
+use crate::text_sites::clause_site;
 use crate::unlinked::UnlinkedOperation;
+use sc_code::{Assertion, SiteKind, TextSite};
+use sc_text::Span;
 use sc_tree::Clause;
 use sc_typing::Entity;
 use std::alloc::AllocError;
 
-/// Lowers clauses of a precondition, behind which the routine starts, and gives how many operands they need.
+/// Lowers clauses of a precondition, behind which the routine starts whose name stands there, and gives how many operands
+/// they need.
 #[tactic(auto, unfolding(sc_tree::specs::View::clause_of))]
 fn lower_demands<'s>(
     setting: &Setting<'_, 's>,
     names: &mut Vec<Entity<'s>>,
     code: &mut Code<'s>,
+    name: Span,
     clauses: &'s [Clause],
 ) -> Result<usize, AllocError>
     ensures code { OnOk result (code.new ≡ code.old ++ clauses_code (setting_in setting.now) (map entity_of names.old.items) (map clause_of clauses.now)) }
@@ -30,18 +35,21 @@ fn lower_demands<'s>(
     for clause in clauses {
         let condition = setting.lower_expr(names, 0, code, &clause.condition)?;
         let formals = formals_in(setting.context.alloc, names, clause)?;
-        code.push(UnlinkedOperation::Demand(formals))?;
+        let site = clause_site(Assertion::Precondition, clause);
+        code.push(site, UnlinkedOperation::Demand(formals))?;
         depth = condition.depth.max(depth);
     }
-    code.push(UnlinkedOperation::Start)?;
+    let kind = SiteKind::Start;
+    code.push(TextSite { span: name, kind }, UnlinkedOperation::Start)?;
     Ok(depth)
 }
 
-/// Lowers a precondition, and gives how many operands it needs.
+/// Lowers the precondition of the routine whose name stands there, and gives how many operands it needs.
 pub fn lower_precondition<'s>(
     setting: &Setting<'_, 's>,
     names: &mut Vec<Entity<'s>>,
     code: &mut Code<'s>,
+    name: Span,
     clauses: &'s [Clause],
 ) -> Result<usize, AllocError>
     ensures code { OnOk result (code.new ≡ code.old ++ require_code (setting_in setting.now) (map entity_of names.old.items) (map clause_of clauses.now)) }
@@ -50,6 +58,6 @@ pub fn lower_precondition<'s>(
 {
     match clauses {
         [] => Ok(0),
-        [_, ..] => lower_demands(setting, names, code, clauses),
+        [_, ..] => lower_demands(setting, names, code, name, clauses),
     }
 }

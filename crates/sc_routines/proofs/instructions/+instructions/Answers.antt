@@ -39,28 +39,28 @@ lower_branch-returns-clause-names t c =
 
 pub lower_instruction-returns-in-Block-clause-code : goal.lower_instruction-returns-in-Block-clause-code
 lower_instruction-returns-in-Block-clause-code t c =
-    let q = block_is c.args.instruction.now c.in-Block.field-0 c.in-Block.heads c.in-Block.body c.deref-in-Block.result.now c.deref-in-Block-2.result.now
+    let q = block_is c.args.instruction.now c.in-Block.span c.in-Block.heads c.in-Block.body c.deref-in-Block.result.now c.deref-in-Block-2.result.now
     c.in-Block.is c.deref-in-Block.ensures.value c.deref-in-Block-2.ensures.value in
     subst (λ (p : plain.Instr). OnOk c.lower_block.result (c.lower_block.new.code ≡ c.args.code.now ++ instr_code (setting_in c.args.setting.now) (map entity_of c.args.names.now.items) p)) (sym q)
     c.lower_block.ensures.code
 
 pub lower_instruction-returns-in-Block-clause-depth : goal.lower_instruction-returns-in-Block-clause-depth
 lower_instruction-returns-in-Block-clause-depth t c =
-    let q = block_is c.args.instruction.now c.in-Block.field-0 c.in-Block.heads c.in-Block.body c.deref-in-Block.result.now c.deref-in-Block-2.result.now
+    let q = block_is c.args.instruction.now c.in-Block.span c.in-Block.heads c.in-Block.body c.deref-in-Block.result.now c.deref-in-Block-2.result.now
     c.in-Block.is c.deref-in-Block.ensures.value c.deref-in-Block-2.ensures.value in
     subst (λ (p : plain.Instr). IfOk c.lower_block.result (λ n. n.depth ≡ instr_depth (setting_in c.args.setting.now) (map entity_of c.args.names.now.items) p)) (sym q)
     c.lower_block.ensures.depth
 
 pub lower_instruction-returns-in-Block-clause-slots : goal.lower_instruction-returns-in-Block-clause-slots
 lower_instruction-returns-in-Block-clause-slots t c =
-    let q = block_is c.args.instruction.now c.in-Block.field-0 c.in-Block.heads c.in-Block.body c.deref-in-Block.result.now c.deref-in-Block-2.result.now
+    let q = block_is c.args.instruction.now c.in-Block.span c.in-Block.heads c.in-Block.body c.deref-in-Block.result.now c.deref-in-Block-2.result.now
     c.in-Block.is c.deref-in-Block.ensures.value c.deref-in-Block-2.ensures.value in
     subst (λ (p : plain.Instr). IfOk c.lower_block.result (λ n. n.slots ≡ instr_slots (setting_in c.args.setting.now) (map entity_of c.args.names.now.items) p)) (sym q)
     c.lower_block.ensures.slots
 
 pub lower_instruction-returns-in-Block-clause-blocks : goal.lower_instruction-returns-in-Block-clause-blocks
 lower_instruction-returns-in-Block-clause-blocks t c =
-    let q = block_is c.args.instruction.now c.in-Block.field-0 c.in-Block.heads c.in-Block.body c.deref-in-Block.result.now c.deref-in-Block-2.result.now
+    let q = block_is c.args.instruction.now c.in-Block.span c.in-Block.heads c.in-Block.body c.deref-in-Block.result.now c.deref-in-Block-2.result.now
     c.in-Block.is c.deref-in-Block.ensures.value c.deref-in-Block-2.ensures.value in
     subst (λ (p : plain.Instr). IfOk c.lower_block.result (λ n. n.blocks ≡ instr_blocks p)) (sym q) c.lower_block.ensures.blocks
 
@@ -96,7 +96,7 @@ lower_instruction-returns-in_ok-last-in-If t c =
     let one = c.then.ensures in
     let all = c.then-in-If.ensures in
     let kept = further.names ∙ first.names in
-    let q = sym (if_is c.args.instruction.now c.in-If.field-0 c.in-If.condition c.in-If.body c.in-If.branches c.in-If.other c.deref.result.now c.deref-in-If.result.now c.deref-in-If-2.result.now
+    let q = sym (if_is c.args.instruction.now c.in-If.span c.in-If.condition c.in-If.body c.in-If.branches c.in-If.other c.deref.result.now c.deref-in-If.result.now c.deref-in-If-2.result.now
     c.in-If.is c.deref.ensures.value c.deref-in-If.ensures.value c.deref-in-If-2.ensures.value) in
     record {
       code = subst (λ (p : plain.Instr). c.land_jumps.new.code ≡ c.args.code.now ++ instr_code h n p) q
@@ -127,7 +127,7 @@ lower_instruction-returns-in_ok-until-in-Loop t c =
     let one = c.then-in-Loop.ensures in
     let all = c.then-in-Loop-2.ensures in
     let kept = again.names ∙ first.names in
-    let q = sym (loop_is c.args.instruction.now c.in-Loop.field-0 c.in-Loop.initial c.in-Loop.until c.in-Loop.body c.deref-in-Loop.result.now c.deref-in-Loop-2.result.now
+    let q = sym (loop_is c.args.instruction.now c.in-Loop.span c.in-Loop.initial c.in-Loop.until c.in-Loop.body c.deref-in-Loop.result.now c.deref-in-Loop-2.result.now
     c.in-Loop.is c.deref-in-Loop.ensures.value c.deref-in-Loop-2.ensures.value) in
     let c1 = c.lower_instructions-in-Loop.new.code in
     let c3 = c.lower_instructions-in-Loop-2.new.code in

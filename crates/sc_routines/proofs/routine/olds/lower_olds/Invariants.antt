@@ -6,14 +6,14 @@ use Rattle.sc_routines.specs.Settings.{operands_of, setting_in}
 use Rattle.sc_routines.proofs.routine.olds.lower_olds.Given as goal
 
 -- what is found so far, and of the operands that are left, is that of all; the setting has the types of those before
-abbrev pub invariant-loop-operand : goal.invariant-loop-operand
-invariant-loop-operand l = record {
+abbrev pub invariant-loop-kept : goal.invariant-loop-kept
+invariant-loop-kept l = record {
   names : map entity_of l.names.items ≡ map entity_of l.fn.names.items;
   setting : setting_in l.setting ≡ record (setting_in l.fn.setting) { olds = l.setting.olds.items };
-  code : l.code ++ olds_code (setting_in l.setting) (map entity_of l.fn.names.items) (operands_of (drop l.operand-index l.olds))
+  code : l.code ++ olds_code (setting_in l.setting) (map entity_of l.fn.names.items) (operands_of (drop l.kept-index l.olds))
       ≡ l.fn.code ++ olds_code (setting_in l.fn.setting) (map entity_of l.fn.names.items) (operands_of l.olds);
-  types : l.setting.olds.items ++ old_types (setting_in l.setting) (map entity_of l.fn.names.items) (operands_of (drop l.operand-index l.olds))
+  types : l.setting.olds.items ++ old_types (setting_in l.setting) (map entity_of l.fn.names.items) (operands_of (drop l.kept-index l.olds))
       ≡ l.fn.setting.olds.items ++ old_types (setting_in l.fn.setting) (map entity_of l.fn.names.items) (operands_of l.olds);
-  depth : max l.depth (olds_depth (setting_in l.setting) (map entity_of l.fn.names.items) (operands_of (drop l.operand-index l.olds)))
+  depth : max l.depth (olds_depth (setting_in l.setting) (map entity_of l.fn.names.items) (operands_of (drop l.kept-index l.olds)))
       ≡ olds_depth (setting_in l.fn.setting) (map entity_of l.fn.names.items) (operands_of l.olds);
 }

@@ -4,26 +4,80 @@ use Rattle.sc_tree.specs.declared.expression.Expr.{Expr}
 use Rattle.sc_tree.specs.Plain as tree
 use Rattle.sc_tree.specs.Properties.{is_old}
 use Rattle.sc_tree.specs.View.{expr_of, exprs_of, name_of, type_if_any, target_of}
-use Rattle.sc_tree.proofs.ViewLemmas.{expr_of-call, expr_of-result, expr_of-unary, expr_of-binary, expr_of-object_test}
+use Rattle.sc_tree.proofs.ViewLemmas.{expr_of-boolean, expr_of-void, expr_of-current, expr_of-call, expr_of-result, expr_of-unary, expr_of-binary, expr_of-object_test}
 use Rattle.sc_model.specs.Olds.{olds_in, olds_of_each}
 use Rattle.sc_typing.specs.Views.{entity_of}
 use Rattle.sc_routines.specs.Settings.{setting_in}
 use Rattle.sc_code.specs.Places.{expr_type, names_given, exprs_types, slot_named}
 use Rattle.sc_code.specs.Emitted.{expr_code, expr_depth, expr_slots, exprs_code, exprs_depth}
 use Rattle.sc_routines.proofs.Given.{forgotten_in}
-use Rattle.sc_routines.proofs.LoweredExpressions.{always, result_code, result_told, old_code, old_told, unary_code, unary_told, unary_names, test_code, test_names, test_told, close_code, close_told, close_names, place_within, Told, routine_code_left, routine_told, feature_code_left, feature_told, next_code, next_types, next_depth, next_olds}
+use Rattle.sc_routines.proofs.LoweredExpressions.{always, leaf_code, leaf_told, result_code, result_told, old_code, old_told, unary_code, unary_told, unary_names, test_code, test_names, test_told, close_code, close_told, close_names, place_within, Told, routine_code_left, routine_told, feature_code_left, feature_told, next_code, next_types, next_depth, next_olds}
 use Rattle.sc_typing.specs.declared.declarations.names.Entity.{Entity}
 use Rattle.sc_routines.specs.Named.{own_named, routine_given}
 use Rattle.sc_routines.specs.Parts.{call_in}
 use Rattle.std.specs.Ordering.{nat_cmp, ord_max}
 use Rattle.sc_routines.proofs.setting.Setting.+expressions.Goals as goal
 
+pub lower_condition-returns-in-Boolean : goal.lower_condition-returns-in-Boolean
+lower_condition-returns-in-Boolean t c =
+    let h = setting_in c.args.self.now in
+    let n = map entity_of c.args.names.now.items in
+    let i = c.args.olds in
+    let q = tree.Boolean c.in-Boolean.span c.in-Boolean.value in
+    let ep : expr_of c.args.e.now ≡ q = ap expr_of c.in-Boolean.is ∙ expr_of-boolean c.in-Boolean.span c.in-Boolean.value in
+    let r = c.push_leaf-in-Boolean.result in
+    let told = leaf_told h n i (expr_of c.args.e.now) q r ep c.boolean.result _ c.boolean.ensures refl refl (omega arith) refl c.push_leaf-in-Boolean.ensures.told in
+    record {
+      code = leaf_code h n i (expr_of c.args.e.now) q r ep _ c.args.code.now c.push_leaf-in-Boolean.new.code refl c.push_leaf-in-Boolean.ensures.code;
+      names = always r (sym (ap (names_given h n i) ep));
+      value = told.value;
+      depth = told.depth;
+      olds = told.olds;
+      slots = told.slots;
+    }
+
+pub lower_condition-returns-in-Void : goal.lower_condition-returns-in-Void
+lower_condition-returns-in-Void t c =
+    let h = setting_in c.args.self.now in
+    let n = map entity_of c.args.names.now.items in
+    let i = c.args.olds in
+    let q = tree.Void c.in-Void.span in
+    let ep : expr_of c.args.e.now ≡ q = ap expr_of c.in-Void.is ∙ expr_of-void c.in-Void.span in
+    let r = c.push_leaf-in-Void.result in
+    let told = leaf_told h n i (expr_of c.args.e.now) q r ep c.void.result _ c.void.ensures refl refl (omega arith) refl c.push_leaf-in-Void.ensures.told in
+    record {
+      code = leaf_code h n i (expr_of c.args.e.now) q r ep _ c.args.code.now c.push_leaf-in-Void.new.code refl c.push_leaf-in-Void.ensures.code;
+      names = always r (sym (ap (names_given h n i) ep));
+      value = told.value;
+      depth = told.depth;
+      olds = told.olds;
+      slots = told.slots;
+    }
+
+pub lower_condition-returns-in-Current : goal.lower_condition-returns-in-Current
+lower_condition-returns-in-Current t c =
+    let h = setting_in c.args.self.now in
+    let n = map entity_of c.args.names.now.items in
+    let i = c.args.olds in
+    let q = tree.Current c.in-Current.span in
+    let ep : expr_of c.args.e.now ≡ q = ap expr_of c.in-Current.is ∙ expr_of-current c.in-Current.span in
+    let r = c.push_leaf-in-Current.result in
+    let told = leaf_told h n i (expr_of c.args.e.now) q r ep c.current.result _ c.current.ensures refl refl (omega arith) refl c.push_leaf-in-Current.ensures.told in
+    record {
+      code = leaf_code h n i (expr_of c.args.e.now) q r ep _ c.args.code.now c.push_leaf-in-Current.new.code refl c.push_leaf-in-Current.ensures.code;
+      names = always r (sym (ap (names_given h n i) ep));
+      value = told.value;
+      depth = told.depth;
+      olds = told.olds;
+      slots = told.slots;
+    }
+
 pub lower_condition-returns-in-Result : goal.lower_condition-returns-in-Result
 lower_condition-returns-in-Result t c =
     let h = setting_in c.args.self.now in
     let n = map entity_of c.args.names.now.items in
     let p = expr_of c.args.e.now in
-    let q = c.in-Result.field-0 in
+    let q = c.in-Result.span in
     let ep : p ≡ tree.Result q = ap expr_of c.in-Result.is ∙ expr_of-result q in
     let r = c.lower_result.result in
     let told = result_told h n c.args.olds p q r ep c.lower_result.ensures.told in
@@ -59,7 +113,7 @@ lower_condition-returns-then-is_old t c =
     let a = expr_of c.in-Unary.operand.value in
     let p = expr_of c.args.e.now in
     let op = c.in-Unary.operator in
-    let q = c.in-Unary.field-0 in
+    let q = c.in-Unary.span in
     let ep : p ≡ tree.Unary q op a = ap expr_of c.in-Unary.is ∙ expr_of-unary q op c.in-Unary.operand in
     let e : is_old op ≡ true = sym c.is_old.ensures ∙ c.if-is_old.true in
     let r = c.lower_old.result in
@@ -82,7 +136,7 @@ lower_condition-returns-in_ok-operand-in-Unary t c =
     let a = expr_of c.deref.result.now in
     let p = expr_of c.args.e.now in
     let op = c.in-Unary.operator in
-    let q = c.in-Unary.field-0 in
+    let q = c.in-Unary.span in
     let ep : p ≡ tree.Unary q op a =
     ap expr_of c.in-Unary.is ∙ expr_of-unary q op c.in-Unary.operand ∙ ap (λ (e : Expr). tree.Unary q op (expr_of e)) (sym c.deref.ensures) in
     let e : is_old op ≡ false = sym c.is_old.ensures ∙ c.if-is_old.false in
@@ -107,7 +161,7 @@ lower_condition-returns-in_ok-tested-in-ObjectTest t c =
     let i = c.args.olds in
     let a = expr_of c.deref-in-ObjectTest.result.now in
     let p = expr_of c.args.e.now in
-    let q = c.in-ObjectTest.field-0 in
+    let q = c.in-ObjectTest.span in
     let d = type_if_any c.in-ObjectTest.declared in
     let x = name_of c.in-ObjectTest.name in
     let ep : p ≡ tree.ObjectTest q d a x =
@@ -145,7 +199,7 @@ lower_condition-returns-in_ok-right-in-Binary t c =
     let b = expr_of c.deref-in-Binary-2.result.now in
     let p = expr_of c.args.e.now in
     let op = c.in-Binary.operator in
-    let q = c.in-Binary.field-0 in
+    let q = c.in-Binary.span in
     let ep : p ≡ tree.Binary q op a b =
     ap expr_of c.in-Binary.is ∙ expr_of-binary q op c.in-Binary.left c.in-Binary.right
     ∙ ap (λ (e : Expr). tree.Binary q op (expr_of e) (expr_of c.in-Binary.right.value)) (sym c.deref-in-Binary.ensures)
