@@ -11,7 +11,7 @@ use Rattle.sc_class.specs.declared.class_tables.feature_entry.FeatureEntry.{Feat
 use Rattle.sc_class.specs.View.{entry_of}
 use Rattle.sc_model.specs.Routines.{Routine, routine_of}
 use Rattle.sc_model.specs.Values.{Value}
-use Rattle.sc_code.specs.declared.operation.Operation as coded
+use Rattle.sc_code.specs.declared.operation.Operation as linked
 use Rattle.sc_code.specs.declared.program.RoutineCode.{RoutineCode}
 use Rattle.sc_routines.specs.declared.code.SitedOperation.{SitedOperation}
 use Rattle.sc_code.specs.Emitted.{formals_of, routine_code, routine_depth, routine_slots}
@@ -55,7 +55,7 @@ all_unlinked [] = refl
 all_unlinked (o ∷ os) = ap (λ (xs : List (Option plain.Operation)). Some (operation_in o) ∷ xs) (all_unlinked os)
 
 -- there are as many sites as operations, where both are of the same list
-pub as_many_sites : {S U : Type 0} (f : U → plain.Operation) (g : U → S) (p : Pool) (us : List U) (ss : List S) (os : List coded.Operation) →
+pub as_many_sites : {S U : Type 0} (f : U → plain.Operation) (g : U → S) (p : Pool) (us : List U) (ss : List S) (os : List linked.Operation) →
     map (operation_of p) os ≡ map (λ u. Some (f u)) us → ss ≡ map g us → length ss ≡ length os
 as_many_sites {S} f g p us ss os eo es =
     ap (λ (l : List S). length l) es ∙ length-map us g ∙ sym (length-map us (λ u. Some (f u))) ∙ ap (λ (l : List (Option plain.Operation)). length l) (sym eo)
