@@ -57,11 +57,11 @@ fn lower_instruction<'s>(
             setting, names, code, *span, variable, value,
         ),
         Instr::PrintText(span, text) => {
-            let site = TextSite {
-                span: *span,
-                kind: SiteKind::Print,
-            };
-            code.push(site, UnlinkedOperation::PrintText(text.as_str()))?;
+            let (span, kind) = (*span, SiteKind::Print);
+            code.push(
+                TextSite { span, kind },
+                UnlinkedOperation::PrintText(text.as_str()),
+            )?;
             Ok(Needs::of_operands(0))
         }
         Instr::Call(call) => lower_call_instruction(setting, names, code, call),
@@ -79,11 +79,8 @@ fn lower_instruction<'s>(
         Instr::Loop(span, initial, until, body) => {
             let first = lower_instructions(setting, names, code, initial)?;
             let jump = code.len();
-            let site = TextSite {
-                span: *span,
-                kind: SiteKind::Jump,
-            };
-            code.push(site, UnlinkedOperation::Jump(0))?;
+            let (span, kind) = (*span, SiteKind::Jump);
+            code.push(TextSite { span, kind }, UnlinkedOperation::Jump(0))?;
             let again = lower_instructions(setting, names, code, body)?;
             let until = end_loop(setting, names, code, jump, until)?;
             Ok(first.then(again).then(until))

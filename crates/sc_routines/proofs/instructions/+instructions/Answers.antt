@@ -2,7 +2,9 @@ use Rattle.std.proofs.Common.{◌≡◌, ◌<◌, ◌+◌, ◌-◌, ◌++◌, �
 use Rattle.std.specs.Prelude.{slice_set}
 use Rattle.std.specs.List.{All}
 use Rattle.sc_tree.specs.Plain as plain
-use Rattle.sc_tree.specs.View.{expr_of, head_of, instrs_of, branches_of}
+use Rattle.sc_tree.specs.View.{clause_of, expr_of, head_of, instr_of, instrs_of, branches_of}
+use Rattle.sc_tree.specs.declared.instruction.Clause.{Clause}
+use Rattle.sc_tree.proofs.ViewLemmas.{instr_of-assign, instr_of-call, instr_of-check, instr_of-create}
 use Rattle.sc_rules.specs.Names.{Entities}
 use Rattle.sc_typing.specs.Views.{entity_of}
 use Rattle.sc_routines.specs.Jumps.{jump_of, landed}
@@ -146,4 +148,65 @@ lower_instruction-returns-in_ok-until-in-Loop t c =
       slots = subst (λ (p : plain.Instr). needs.slots ≡ instr_slots h n p) q
           (omega (arith, one.slots, all.slots, first.slots, again.slots ∙ ap (λ (m : Entities). instrs_slots h m body) first.names, last.slots));
       blocks = subst (λ (p : plain.Instr). needs.blocks ≡ instr_blocks p) q (omega (arith, one.blocks, all.blocks, first.blocks, again.blocks, last.blocks));
+    }
+
+pub lower_instruction-returns-in-Assign : goal.lower_instruction-returns-in-Assign
+lower_instruction-returns-in-Assign t c =
+    let h = setting_in c.args.setting.now in
+    let n = map entity_of c.args.names.now.items in
+    let r = c.lower_assignment.result in
+    let found = c.lower_assignment.ensures in
+    let q = sym (ap instr_of c.in-Assign.is ∙ instr_of-assign c.in-Assign.span c.in-Assign.variable c.in-Assign.value) in
+    record {
+      code = subst (λ (p : plain.Instr). OnOk r (c.lower_assignment.new.code ≡ c.args.code.now ++ instr_code h n p)) q found.code;
+      names = found.names;
+      depth = subst (λ (p : plain.Instr). IfOk r (λ l. l.depth ≡ instr_depth h n p)) q found.depth;
+      slots = subst (λ (p : plain.Instr). IfOk r (λ l. l.slots ≡ instr_slots h n p)) q found.slots;
+      blocks = subst (λ (p : plain.Instr). IfOk r (λ l. l.blocks ≡ instr_blocks p)) q found.blocks;
+    }
+
+pub lower_instruction-returns-in-Create : goal.lower_instruction-returns-in-Create
+lower_instruction-returns-in-Create t c =
+    let h = setting_in c.args.setting.now in
+    let n = map entity_of c.args.names.now.items in
+    let r = c.lower_creation.result in
+    let found = c.lower_creation.ensures in
+    let q = sym (ap instr_of c.in-Create.is ∙ instr_of-create c.in-Create.span c.in-Create.variable c.in-Create.call) in
+    record {
+      code = subst (λ (p : plain.Instr). OnOk r (c.lower_creation.new.code ≡ c.args.code.now ++ instr_code h n p)) q found.code;
+      names = found.names;
+      depth = subst (λ (p : plain.Instr). IfOk r (λ l. l.depth ≡ instr_depth h n p)) q found.depth;
+      slots = subst (λ (p : plain.Instr). IfOk r (λ l. l.slots ≡ instr_slots h n p)) q found.slots;
+      blocks = subst (λ (p : plain.Instr). IfOk r (λ l. l.blocks ≡ instr_blocks p)) q found.blocks;
+    }
+
+pub lower_instruction-returns-in-Check : goal.lower_instruction-returns-in-Check
+lower_instruction-returns-in-Check t c =
+    let h = setting_in c.args.setting.now in
+    let n = map entity_of c.args.names.now.items in
+    let r = c.lower_checks.result in
+    let found = c.lower_checks.ensures in
+    let q = sym (ap instr_of c.in-Check.is ∙ instr_of-check c.in-Check.field-0 c.in-Check.clauses
+    ∙ ap (λ (ks : List Clause). plain.Check c.in-Check.field-0 (map clause_of ks)) (sym c.deref-in-Check.ensures.value)) in
+    record {
+      code = subst (λ (p : plain.Instr). OnOk r (c.lower_checks.new.code ≡ c.args.code.now ++ instr_code h n p)) q found.code;
+      names = found.names;
+      depth = subst (λ (p : plain.Instr). IfOk r (λ l. l.depth ≡ instr_depth h n p)) q found.depth;
+      slots = subst (λ (p : plain.Instr). IfOk r (λ l. l.slots ≡ instr_slots h n p)) q found.slots;
+      blocks = subst (λ (p : plain.Instr). IfOk r (λ l. l.blocks ≡ instr_blocks p)) q found.blocks;
+    }
+
+pub lower_instruction-returns-in-Call : goal.lower_instruction-returns-in-Call
+lower_instruction-returns-in-Call t c =
+    let h = setting_in c.args.setting.now in
+    let n = map entity_of c.args.names.now.items in
+    let r = c.lower_call_instruction.result in
+    let found = c.lower_call_instruction.ensures in
+    let q = sym (ap instr_of c.in-Call.is ∙ instr_of-call c.in-Call.call) in
+    record {
+      code = subst (λ (p : plain.Instr). OnOk r (c.lower_call_instruction.new.code ≡ c.args.code.now ++ instr_code h n p)) (sym (ap instr_of c.in-Call.is)) found.code;
+      names = found.names;
+      depth = subst (λ (p : plain.Instr). IfOk r (λ l. l.depth ≡ instr_depth h n p)) (sym (ap instr_of c.in-Call.is)) found.depth;
+      slots = subst (λ (p : plain.Instr). IfOk r (λ l. l.slots ≡ instr_slots h n p)) q found.slots;
+      blocks = subst (λ (p : plain.Instr). IfOk r (λ l. l.blocks ≡ instr_blocks p)) q found.blocks;
     }
