@@ -24,7 +24,7 @@ impl Name {
 }
 
 /// An operator that stands before its operand.
-#[derive(Clone, Copy, Debug)]
+#[derive(Clone, Copy)]
 pub enum UnaryOperator {
     Not,
     Old,
@@ -42,7 +42,7 @@ impl UnaryOperator {
 }
 
 /// An operator between two operands.
-#[derive(Clone, Copy, Debug)]
+#[derive(Clone, Copy)]
 pub enum BinaryOperator {
     Times,
     Quotient,
