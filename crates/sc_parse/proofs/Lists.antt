@@ -76,6 +76,10 @@ locals_begin ts before found b p q r e =
     ap (λ (f : ℕ). locals_from f found ts) (turns_of ts) ∙ ap (λ (ds : List Declaration). locals_from (left ts) ds ts) e ∙ ap (λ (ts : Ahead). locals_from (left ts) [] ts) r
     ∙ sym (choose_true (sees terminal.Local before) _ _ (sym p ∙ q))
 
+pub locals_absent : (before : Ahead) (found : List Declaration) (b : Bool) → b ≡ sees terminal.Local before → b ≡ false → found ≡ [] → locals before ≡ Ok (found, before)
+unfolding locals
+locals_absent before found b p q e = choose_false (sees terminal.Local before) _ _ (sym p ∙ q) ∙ ap (λ (ds : List Declaration). Ok (ds, before)) (sym e)
+
 abbrev pub next_locals : ℕ → List Declaration → List Declaration × Ahead → Taken (List Declaration)
 next_locals f found x = locals_from f (found ++ x.0) (skip terminal.Semicolon x.1)
 
@@ -185,6 +189,9 @@ module _ (room n i : ℕ) (found : List Feature) (high : ℕ) (ts : Ahead) where
   pub sections_turn : i < n → sections_from room (n - i) found high ts ≡ (if sees terminal.Feature ts then (exports (past ts) >>= next_section room (n - (i + 1)) found high) else Ok (found, high, ts))
   unfolding sections_from
   sections_turn p = let z : n - i ≡ suc (n - (i + 1)) = omega arith in ap (λ (f : ℕ). sections_from room f found high ts) z
+
+  pub sections_none : (b : Bool) → i < n → b ≡ sees terminal.Feature ts → b ≡ false → sections_from room (n - i) found high ts ≡ Ok (found, high, ts)
+  sections_none b p q d = sections_turn p ∙ choose_false (sees terminal.Feature ts) _ _ (sym q ∙ d)
 
   sections_some : (b : Bool) (r : Ahead) → i < n → b ≡ sees terminal.Feature ts → b ≡ true → r ≡ past ts → sections_from room (n - i) found high ts ≡ (exports r >>= next_section room (n - (i + 1)) found high)
   sections_some b r p q d w =

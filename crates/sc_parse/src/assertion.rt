@@ -48,7 +48,6 @@ impl<'a> Parser<'a> {
     }
 
     /// Clauses, each with the semicolons after it. Right behind one no other begins with `(`, `+` or `-`.
-    #[tactic(auto, using(crate::proofs::Lists::clauses_begin, crate::proofs::Lists::clauses_end, crate::proofs::Lists::clauses_turn))]
     pub fn clauses(&mut self, room: u8) -> Result<Vec<Clause>, ParseFault>
         ensures { Gives clauses_in (spec.clauses room (ahead self.old)) result (ahead self.new) }
     {

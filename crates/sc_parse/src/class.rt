@@ -103,7 +103,6 @@ impl<'a> Parser<'a> {
     }
 
     /// The first parent and those that follow it, each with or without a semicolon behind it.
-    #[tactic(auto, using(crate::proofs::Lists::parents_begin, crate::proofs::Lists::parents_end, crate::proofs::Lists::parents_turn))]
     fn more_parents(&mut self, first: Parent) -> Result<Vec<Parent>, ParseFault>
         ensures { Takes parents_in (spec.parents_from (left (ahead self.old)) (parent_in first ∷ [])
             (skip Terminal.Semicolon (ahead self.old))) result (ahead self.new) }

@@ -80,7 +80,6 @@ impl<'a> Parser<'a> {
     }
 
     /// The locals after `local`, if it is there.
-    #[tactic(auto, using(crate::proofs::Lists::locals_begin, crate::proofs::Lists::locals_end, crate::proofs::Lists::locals_turn), unfolding(crate::specs::Reading::Classes::locals))]
     pub fn locals(&mut self) -> Result<Vec<Declaration>, ParseFault>
         ensures { Takes declarations_in (spec.locals (ahead self.old)) result (ahead self.new) }
     {

@@ -134,7 +134,6 @@ impl<'a> Parser<'a> {
     }
 
     /// What follows the formals and the result type of a routine.
-    #[tactic(auto, using(crate::proofs::Parts::routine_is))]
     fn routine(
         &mut self,
         exports: &Rc<Vec<Name>>,
@@ -217,7 +216,6 @@ impl<'a> Parser<'a> {
     }
 
     /// The features that stand under one `feature`, after those that were found.
-    #[tactic(auto, using(crate::proofs::Lists::features_begin, crate::proofs::Lists::features_end, crate::proofs::Lists::features_turn))]
     fn section(
         &mut self,
         exports: &Rc<Vec<Name>>,
@@ -243,7 +241,6 @@ impl<'a> Parser<'a> {
     }
 
     /// The features that stand under each `feature`.
-    #[tactic(auto, using(crate::proofs::Lists::sections_begin, crate::proofs::Lists::sections_end, crate::proofs::Lists::sections_turn))]
     pub fn sections(&mut self, room: u8) -> Result<Vec<Feature>, ParseFault>
         ensures read { Gives features_in (spec.sections room (ahead self.old)) result (ahead self.new) }
         ensures shared { IfOk result (λ found. IsTrue (share_lists found.items)) }

@@ -310,7 +310,6 @@ impl<'a> Parser<'a> {
     }
 
     /// A block's heads, with a comma between each two.
-    #[tactic(auto, using(crate::proofs::Turns::heads_is, crate::proofs::Turns::heads_begin, crate::proofs::Turns::heads_end, crate::proofs::Turns::heads_turn))]
     fn heads(&mut self, room: u8) -> Result<Vec<Head>, ParseFault>
         ensures { Gives heads_in (spec.heads room (spec.nested_instrs room) (ahead self.old)) result (ahead self.new) }
     {

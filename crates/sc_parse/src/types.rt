@@ -61,7 +61,6 @@ impl<'a> Parser<'a> {
     }
 
     /// The first name and those that follow it, with a comma before each.
-    #[tactic(auto, using(crate::proofs::Lists::more_names_begin, crate::proofs::Lists::more_names_end, crate::proofs::Lists::more_names_turn))]
     pub fn more_names(&mut self, first: Name) -> Result<Vec<Name>, ParseFault>
         ensures { Takes names_in (spec.more_names (left (ahead self.old)) (name_in first ∷ []) (ahead self.old))
             result (ahead self.new) }

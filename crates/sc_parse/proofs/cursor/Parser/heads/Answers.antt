@@ -1,11 +1,25 @@
-use Rattle.std.proofs.Common.{ap, sym, ◌∙◌, max, map}
+use Rattle.std.proofs.Common.{List, [], ◌∷◌, ◌++◌, ap, sym, ◌∙◌, max, map}
 use Rattle.sc_tree.specs.View.{head_of}
 use Rattle.sc_parse.proofs.Views.{map-push}
 use Rattle.sc_parse.specs.Reading.Reads.{ahead, heads_in}
-use Rattle.sc_parse.proofs.Turns.{heads_more, heads_none, heads_fail, heads_end}
+use Rattle.sc_parse.proofs.Turns.{then_heads, heads_is, heads_begin, heads_more, heads_none, heads_fail, heads_end}
 use Rattle.std.proofs.lemmas.Result.{err_from_is_err_and}
-use Rattle.sc_parse.proofs.Faults.{Fails-along}
+use Rattle.sc_parse.proofs.Faults.{Fails-along, Fails-bind}
 use Rattle.sc_parse.proofs.cursor.Parser.heads.Goals as goal
+
+pub returns-in_err-first : goal.returns-in_err-first
+returns-in_err-first c =
+    let p = err_from_is_err_and c.from_residual.result c.from_residual.ensures.1 in
+    rw (p.1, p.2)
+    (Fails-along _ _ c.in_err-first.field-0.0 (heads_is c.args.room (ahead c.args.self.now))
+    (Fails-bind _ (then_heads c.args.room) c.in_err-first.field-0.0 c.in_err-first.ensures))
+
+pub loop-turn-init : goal.loop-turn-init
+loop-turn-init c = (
+  c.in_ok-first.ensures.0,
+  heads_begin c.args.room (ahead c.args.self.now) _ _ _ _ c.in_ok-first.ensures.1
+      (ap (λ (xs : _). map head_of xs) (c.in_ok-push.ensures.items ∙ ap (λ (xs : List _). xs ++ c.in_ok-first.first ∷ []) c.new-found.ensures.items)),
+)
 
 pub loop-turn-preserved : goal.loop-turn-preserved
 loop-turn-preserved c =

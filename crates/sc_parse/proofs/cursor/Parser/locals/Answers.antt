@@ -2,10 +2,16 @@ use Rattle.std.proofs.Common.{ap, sym, ◌∙◌, map}
 use Rattle.std.proofs.lemmas.List.{map-append}
 use Rattle.sc_tree.specs.View.{declaration_of}
 use Rattle.sc_parse.specs.Reading.Reads.{ahead, declarations_in}
-use Rattle.sc_parse.proofs.Lists.{locals_more, locals_none, locals_fail, locals_end}
+use Rattle.sc_parse.proofs.Lists.{locals_begin, locals_absent, locals_more, locals_none, locals_fail, locals_end}
 use Rattle.std.proofs.lemmas.Result.{err_from_is_err_and}
 use Rattle.sc_parse.proofs.Faults.{Fails-along}
 use Rattle.sc_parse.proofs.cursor.Parser.locals.Goals as goal
+
+pub returns-then-not-sees : goal.returns-then-not-sees
+returns-then-not-sees c = locals_absent _ _ _ c.sees.ensures c.if-not-sees.true (ap (λ (ds : _). map declaration_of ds) c.new-found.ensures.items)
+
+pub loop-turn-init : goal.loop-turn-init
+loop-turn-init c = locals_begin _ _ _ _ c.sees.ensures c.if-not-sees.false c.take.ensures.past (ap (λ (ds : _). map declaration_of ds) c.new-found.ensures.items)
 
 pub loop-turn-preserved : goal.loop-turn-preserved
 loop-turn-preserved c =

@@ -1,11 +1,21 @@
-use Rattle.std.proofs.Common.{ap, sym, ◌∙◌, map}
+use Rattle.std.proofs.Common.{List, [], ◌∷◌, ◌++◌, ap, sym, ◌∙◌, map}
+use Rattle.sc_tree.specs.Plain as plain
 use Rattle.sc_tree.specs.View.{name_of}
 use Rattle.sc_parse.proofs.Views.{map-push}
+use Rattle.sc_parse.specs.Reading.Looks.{left}
+use Rattle.sc_parse.specs.Reading.Types as spec
 use Rattle.sc_parse.specs.Reading.Reads.{ahead, names_in}
-use Rattle.sc_parse.proofs.Lists.{more_names_more, more_names_none, more_names_fail, more_names_end}
+use Rattle.sc_parse.proofs.Lists.{more_names_begin, more_names_more, more_names_none, more_names_fail, more_names_end}
 use Rattle.std.proofs.lemmas.Result.{err_from_is_err_and}
 use Rattle.sc_parse.proofs.Faults.{Fails-along}
 use Rattle.sc_parse.proofs.cursor.Parser.more_names.Goals as goal
+
+pub loop-turn-init : goal.loop-turn-init
+loop-turn-init c =
+    let ts = ahead c.args.self.now in
+    more_names_begin ts _
+    ∙ ap (λ (ns : List plain.Name). spec.more_names (left ts) ns ts)
+    (ap (λ (ns : _). map name_of ns) (c.in_ok-push.ensures.items ∙ ap (λ (ns : List _). ns ++ c.args.first ∷ []) c.new-names.ensures.items))
 
 pub loop-turn-preserved : goal.loop-turn-preserved
 loop-turn-preserved c =

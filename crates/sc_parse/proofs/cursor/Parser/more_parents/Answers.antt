@@ -1,11 +1,16 @@
-use Rattle.std.proofs.Common.{ap, sym, ◌∙◌, map}
+use Rattle.std.proofs.Common.{List, [], ◌∷◌, ◌++◌, ap, sym, ◌∙◌, map}
 use Rattle.sc_tree.specs.View.{parent_of}
 use Rattle.sc_parse.proofs.Views.{map-push}
 use Rattle.sc_parse.specs.Reading.Reads.{ahead, parents_in}
-use Rattle.sc_parse.proofs.Lists.{parents_more, parents_none, parents_fail, parents_end}
+use Rattle.sc_parse.proofs.Lists.{parents_begin, parents_more, parents_none, parents_fail, parents_end}
 use Rattle.std.proofs.lemmas.Result.{err_from_is_err_and}
 use Rattle.sc_parse.proofs.Faults.{Fails-along}
 use Rattle.sc_parse.proofs.cursor.Parser.more_parents.Goals as goal
+
+pub loop-turn-init : goal.loop-turn-init
+loop-turn-init c =
+    parents_begin (ahead c.args.self.now) (parent_of c.args.first) _ _
+    (ap (λ (ps : _). map parent_of ps) (c.in_ok-push.ensures.items ∙ ap (λ (ps : List _). ps ++ c.args.first ∷ []) c.new-found.ensures.items)) c.skip.ensures
 
 pub loop-turn-preserved : goal.loop-turn-preserved
 loop-turn-preserved c =

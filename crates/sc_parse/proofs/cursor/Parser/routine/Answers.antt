@@ -6,7 +6,9 @@ use Rattle.sc_tree.specs.Plain as plain
 use Rattle.sc_parse.specs.Reading.Classes as spec
 use Rattle.sc_tree.specs.View.{kind_of}
 use Rattle.sc_tree.proofs.ReadingSteps.{bind_ok}
-use Rattle.sc_parse.specs.Reading.Reads.{ahead, clauses_in, declarations_in, instrs_in, type_if_any_in, feature_with, opening_ahead, closing_ahead}
+use Rattle.std.proofs.lemmas.Result.{err_from_is_err_and}
+use Rattle.sc_parse.specs.Reading.Reads.{ahead, clauses_in, declarations_in, instrs_in, name_in, names_in, type_if_any_in, feature_with, opening_ahead, closing_ahead}
+use Rattle.sc_parse.proofs.Faults.{Fails-along, Fails-bind}
 use Rattle.sc_parse.proofs.Parts.{routine_is, routine_with, after_opening}
 use Rattle.sc_parse.proofs.cursor.Parser.routine.Goals as goal
 
@@ -21,6 +23,29 @@ routine_read room es x r ts body rest g h fs o d e =
     rw e
     (routine_is room es x formals result ts ∙ bind_ok _ _ (after_opening room es x formals result) o
     ∙ bind_ok _ _ (routine_with es x formals result ((clauses_in r.precondition, declarations_in r.locals), g, body)) d)
+
+pub returns-in_err-precondition : goal.returns-in_err-precondition
+returns-in_err-precondition c =
+    let es = names_in c.args.exports.now.value in
+    let x = name_in c.args.name in
+    let formals = declarations_in c.args.formals in
+    let result = type_if_any_in c.args.result_type in
+    let p = err_from_is_err_and c.from_residual.result c.from_residual.ensures.1 in
+    rw (p.1, p.2)
+    (Fails-along _ _ c.in_err-precondition.field-0.0 (routine_is c.args.room es x formals result (ahead c.args.self.now))
+    (Fails-bind _ (after_opening c.args.room es x formals result) c.in_err-precondition.field-0.0 c.in_err-precondition.ensures))
+
+pub returns-in_err-body : goal.returns-in_err-body
+returns-in_err-body c =
+    let es = names_in c.args.exports.now.value in
+    let x = name_in c.args.name in
+    let formals = declarations_in c.args.formals in
+    let result = type_if_any_in c.args.result_type in
+    let p = err_from_is_err_and c.from_residual-in_err-body.result c.from_residual-in_err-body.ensures.1 in
+    rw (p.1, p.2)
+    (Fails-along _ _ c.in_err-body.field-0.0
+    (routine_is c.args.room es x formals result (ahead c.args.self.now) ∙ bind_ok _ _ (after_opening c.args.room es x formals result) c.in_ok-precondition.ensures.1)
+    (Fails-bind _ _ c.in_err-body.field-0.0 c.in_err-body.ensures))
 
 pub returns : goal.returns
 returns c = (

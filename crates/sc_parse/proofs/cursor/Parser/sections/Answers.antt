@@ -12,7 +12,7 @@ use Rattle.sc_parse.specs.Reading.Classes as spec
 use Rattle.sc_parse.specs.Reading.Sections.{begun_at}
 use Rattle.sc_parse.proofs.SectionLemmas.{features_begun, lists_shared}
 use Rattle.sc_parse.proofs.Faults.{Fails-along}
-use Rattle.sc_parse.proofs.Lists.{sections_begin, exports_fail, sections_fail, sections_more}
+use Rattle.sc_parse.proofs.Lists.{sections_begin, sections_none, sections_end, exports_fail, sections_fail, sections_more}
 use Rattle.sc_parse.proofs.cursor.Parser.sections.Goals as goal
 
 -- the list that was read, as it is shared
@@ -24,6 +24,13 @@ loop-turn-init c = record {
   read = (0, sections_begin _ _ _ (ap (λ (fs : _). map feature_of fs) c.new-found.ensures.items));
   shared = ap share_lists c.new-found.ensures.items;
 }
+
+pub returns-then-not-sees-clause-read : goal.returns-then-not-sees-clause-read
+returns-then-not-sees-clause-read c =
+    let q = c.loop-turn.invariant.read in (
+      q.0,
+      sym q.1 ∙ sections_none c.args.room _ c.loop-turn._turn (features_in c.loop-turn.found) q.0 (ahead c.loop-turn.self) _ c.loop-turn-test.true c.sees.ensures c.if-not-sees.true,
+    )
 
 pub returns-in_err-exports-clause-read : goal.returns-in_err-exports-clause-read
 returns-in_err-exports-clause-read c =
@@ -61,3 +68,8 @@ loop-turn-preserved c =
           ap share_lists c.begin_section.ensures ∙ ap (λ n. share_lists (begun_at n c.in_ok-found.found.items)) number
           ∙ lists_shared (names_in c.in_ok-shared.shared.value) c.loop-turn.found.items c.in_ok-found.found.items c.loop-turn.invariant.shared c.in_ok-found.ensures.added;
     }
+
+pub returns-clause-read : goal.returns-clause-read
+returns-clause-read c =
+    let q = c.loop-turn.invariant.read in
+    (q.0, sym q.1 ∙ sections_end c.args.room _ c.loop-turn._turn (features_in c.loop-turn.found) q.0 (ahead c.loop-turn.self) c.loop-turn-test.false)
