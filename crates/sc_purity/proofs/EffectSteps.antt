@@ -1,21 +1,27 @@
 -- Effects that are put behind others, part after part.
-use Rattle.std.proofs.Common.{◌≡◌, true, false, List, ◌∷◌, Option, Result, Ok, Err, ◌++◌, map, refl, ap, sym, subst, ◌∙◌, append_assoc}
+use Rattle.std.proofs.Common.{◌≡◌, Bool, true, false, List, [], ◌∷◌, Option, Result, Ok, Err, ◌++◌, map, refl, ap, sym, subst, ◌∙◌, append_assoc}
+use Rattle.std.proofs.lemmas.List.{append-nil}
 use Rattle.std.specs.Prelude.{◌||◌}
 use Rattle.std.specs.declared.vec.Vec.{Vec}
 use Rattle.std.specs.declared.alloc.Global.{Global}
+use Rattle.std.specs.declared.string.String.{String}
 use Rattle.sc_text.specs.declared.token.Span.{Span}
+use Rattle.sc_tree.specs.declared.expression.UnaryOperator.{UnaryOperator}
 use Rattle.sc_tree.specs.declared.expression.BinaryOperator.{BinaryOperator}
 use Rattle.sc_tree.specs.declared.expression.Expr.{Expr}
 use Rattle.sc_tree.specs.declared.expression.Expr.TheVariants as expr
 use Rattle.sc_tree.specs.declared.expression.Call.{Call}
+use Rattle.sc_tree.specs.declared.instruction.Clause.{Clause}
+use Rattle.sc_tree.specs.declared.instruction.CreationCall.{CreationCall}
 use Rattle.sc_tree.specs.declared.instruction.Head.{Head}
+use Rattle.sc_tree.specs.declared.instruction.Variable.{Variable}
 use Rattle.sc_tree.specs.declared.instruction.Branch.{Branch}
 use Rattle.sc_tree.specs.declared.instruction.Instr.{Instr}
 use Rattle.sc_tree.specs.declared.instruction.Instr.TheVariants as instr
 use Rattle.sc_tree.specs.Plain as plain
 use Rattle.sc_tree.specs.Plain.{DeclaredType, Name, Target, no_target, target}
-use Rattle.sc_tree.specs.View.{expr_of, exprs_of, name_of, target_of, head_of, instr_of, instrs_of, branches_of}
-use Rattle.sc_tree.proofs.ViewLemmas.{expr_of-call, instr_of-if, instr_of-loop, instr_of-block}
+use Rattle.sc_tree.specs.View.{expr_of, exprs_of, name_of, target_of, clause_of, creation_call_of, head_of, instr_of, instrs_of, branches_of, variable_of}
+use Rattle.sc_tree.proofs.ViewLemmas.{expr_of-call, instr_of-assign, instr_of-print_text, instr_of-call, instr_of-create, instr_of-if, instr_of-loop, instr_of-check, instr_of-block}
 use Rattle.sc_proctype.specs.declared.entity_type.EntityType.{EntityType}
 use Rattle.sc_rules.specs.declared.fault.Fault.{Fault}
 use Rattle.sc_rules.specs.declared.position.Context.{Context}
@@ -23,8 +29,8 @@ use Rattle.sc_rules.specs.declared.position.Context.TheVariants as context
 use Rattle.sc_rules.specs.declared.position.Position.{Position}
 use Rattle.sc_rules.specs.declared.position.Position.TheVariants.{Plain, Condition, Source}
 use Rattle.sc_rules.specs.declared.position.Use.TheVariants.{Value}
-use Rattle.sc_rules.specs.Positions.{span_of, is_condition, operand_position}
-use Rattle.sc_rules.specs.Names.{RoutineContext, Entities, Meaning, meaning_of}
+use Rattle.sc_rules.specs.Positions.{span_of, is_condition, operand_context, operand_position}
+use Rattle.sc_rules.specs.Names.{RoutineContext, Entities, Meaning, meaning_of, Assignee, assignee}
 use Rattle.sc_rules.specs.Typing as typing
 use Rattle.sc_rules.specs.Typing.{is_foreign_type}
 use Rattle.sc_rules.specs.Judging.{Judged, ◌>>=◌, JudgedActual, judged_type, judge_target, judge_actuals_and_name, judge_called, judge, judge_receiver, judged_actuals}
@@ -36,7 +42,7 @@ use Rattle.sc_typing.specs.declared.expressions.typing.Typing.{Typing}
 use Rattle.sc_typing.specs.declared.expressions.typing.JudgedActual as code
 use Rattle.sc_typing.specs.Views.{actual_in, typing_of}
 use Rattle.sc_typing.specs.Judges.{Judges, fault_kept, judge_call}
-use Rattle.sc_purity.specs.Internal.Effects.{effect_of, Adds, IsFound, target_found, received, judge_met, judge_behind_operands, judge_misplaced, effects_in_call, effects_of_branch, effects_of_heads_and_body, effects_of_if, effects_of_loop, effects_of_block}
+use Rattle.sc_purity.specs.Internal.Effects.{effect_of, Adds, IsFound, target_found, received, judge_met, judge_behind_operand, judge_behind_operands, judge_misplaced, effects_in_call, effects_of_create, effects_of_branch, effects_of_heads_and_body, effects_of_if, effects_of_loop, effects_of_block}
 use Rattle.sc_typing.proofs.CallSteps.{judge_call-is}
 
 pub added_two : (old mid new : List Effect) (a b : List judging.Effect) → map effect_of mid ≡ map effect_of old ++ a → map effect_of new ≡ map effect_of mid ++ b →
@@ -46,6 +52,12 @@ added_two old mid new a b e f = f ∙ ap (λ (ds : List judging.Effect). ds ++ b
 pub added_three : (old one two new : List Effect) (a b c : List judging.Effect) → map effect_of one ≡ map effect_of old ++ a → map effect_of two ≡ map effect_of one ++ b →
     map effect_of new ≡ map effect_of two ++ c → map effect_of new ≡ map effect_of old ++ (a ++ (b ++ c))
 added_three old one two new a b c e f g = added_two old one new a (b ++ c) e (added_two one two new b c f g)
+
+pub none_added : (old : List Effect) (ds : List judging.Effect) → ds ≡ [] → map effect_of old ≡ map effect_of old ++ ds
+none_added old ds q = sym (ap (λ (ds : List judging.Effect). map effect_of old ++ ds) q ∙ append-nil (map effect_of old))
+
+pub added_same : {A : Type 0} (old new : List Effect) (a b : List judging.Effect) (r : Result A CheckFault) → a ≡ b → Adds old new a r → Adds old new b r
+added_same old new a b r q f = subst (λ (ds : List judging.Effect). Adds old new ds r) q f
 
 -- an expression that is a call
 effects_in_call-are : (h : RoutineContext) (c : Context) (k : Position) (n : Entities) (d : Call) →
@@ -158,6 +170,43 @@ module _ (h : RoutineContext) (c : Context) (n : Entities) where
       subst (λ j. IsFound j v) (ap (λ j. judge_misplaced h s d j) jq ∙ misplaced_is k s d a x z ∙ ap (λ e. judge h c k n e) (sym q))
       (kept_found (judge_misplaced h s d j) r v vq f)
 
+  pub found_in_unary : (i : Context) (k : Position) (e : plain.Expr) (s : Span) (op : UnaryOperator) (a b : plain.Expr) (j : Judged typing.Typing) (r : Result Typing CheckFault)
+      (v : Result (Result Typing Fault) CheckFault) → e ≡ plain.Unary s op b → i ≡ operand_context op c → a ≡ b → j ≡ judge h i Plain n a →
+      v ≡ fault_kept r → Judges typing_of (judge_behind_operand c s op j) r → IsFound (judge h c k n e) v
+  unfolding judge
+  found_in_unary i k e s op a b j r v q iq aq jq vq f =
+      subst (λ j. IsFound j v)
+      (ap (judge_behind_operand c s op) (jq ∙ ap (λ (i : Context). judge h i Plain n a) iq ∙ ap (judge h (operand_context op c) Plain n) aq) ∙ sym (ap (judge h c k n) q))
+      (kept_found (judge_behind_operand c s op j) r v vq f)
+
+  -- ---- what is done in operands
+
+  pub effects_in_unary : (i : Context) (k : Position) (e : plain.Expr) (s : Span) (op : UnaryOperator) (a b : plain.Expr) → e ≡ plain.Unary s op b →
+      i ≡ operand_context op c → a ≡ b → judging.effects h i Plain n a ≡ judging.effects h c k n e
+  unfolding judging.effects
+  effects_in_unary i k e s op a b q iq aq =
+      ap (λ (i : Context). judging.effects h i Plain n a) iq ∙ ap (judging.effects h (operand_context op c) Plain n) aq ∙ sym (ap (judging.effects h c k n) q)
+
+  binary_effects : (k : Position) (s : Span) (op : BinaryOperator) (a b : plain.Expr) → is_condition k ≡ false →
+      judging.effects h c (operand_position op) n a ++ judging.effects h c (operand_position op) n b ≡ judging.effects h c k n (plain.Binary s op a b)
+  unfolding judging.effects
+  binary_effects Plain s op a b i = refl
+  binary_effects Source s op a b i = refl
+  binary_effects Condition s op a b i = cc
+
+  pub effects_in_binary : (k side : Position) (e : plain.Expr) (s : Span) (op : BinaryOperator) (a b x y : plain.Expr) → is_condition k ≡ false → e ≡ plain.Binary s op x y →
+      side ≡ operand_position op → a ≡ x → b ≡ y → judging.effects h c side n a ++ judging.effects h c side n b ≡ judging.effects h c k n e
+  effects_in_binary k side e s op a b x y z q w f g =
+      ap (λ (k : Position). judging.effects h c k n a ++ judging.effects h c k n b) w
+      ∙ ap (λ (a : plain.Expr). judging.effects h c (operand_position op) n a ++ judging.effects h c (operand_position op) n b) f
+      ∙ ap (λ (b : plain.Expr). judging.effects h c (operand_position op) n x ++ judging.effects h c (operand_position op) n b) g
+      ∙ binary_effects k s op x y z ∙ sym (ap (judging.effects h c k n) q)
+
+  pub effects_in_test : (k : Position) (e : plain.Expr) (s : Span) (d : Option DeclaredType) (a b : plain.Expr) (x : Name) → e ≡ plain.ObjectTest s d b x → a ≡ b →
+      judging.effects h c Plain n a ≡ judging.effects h c k n e
+  unfolding judging.effects
+  effects_in_test k e s d a b x q aq = ap (judging.effects h c Plain n) aq ∙ sym (ap (judging.effects h c k n) q)
+
 -- ---- instructions with parts in rows
 
 module _ (h : RoutineContext) (n : Entities) (i : Instr) where
@@ -180,6 +229,40 @@ module _ (h : RoutineContext) (n : Entities) (i : Instr) where
   unfolding judging.effects_of_instr
   block_effects s heads body q =
       sym (ap (λ (i : Instr). judging.effects_of_instr h n (instr_of i)) q ∙ ap (judging.effects_of_instr h n) (instr_of-block s heads body))
+
+  instr_effects : (p : plain.Instr) (d : Instr) → i ≡ d → instr_of d ≡ p → judging.effects_of_instr h n p ≡ judging.effects_of_instr h n (instr_of i)
+  instr_effects p d q e = sym (ap (λ (i : Instr). judging.effects_of_instr h n (instr_of i)) q ∙ ap (judging.effects_of_instr h n) e)
+
+  pub in_assign : (s : Span) (v : Variable) (e : Expr) → i ≡ instr.Assign s v e → (to : Assignee) (b : Bool) → to ≡ assignee h n (variable_of v) → b ≡ judging.is_to_attribute to →
+      (old one new : List Effect) → map effect_of one ≡ map effect_of old ++ judging.side_effect_if b →
+      map effect_of new ≡ map effect_of one ++ judging.effects h context.Body Source n (expr_of e) →
+      map effect_of new ≡ map effect_of old ++ judging.effects_of_instr h n (instr_of i)
+  unfolding judging.effects_of_instr
+  in_assign s v e q to b tq bq old one new f g =
+      added_two old one new _ _ f g
+      ∙ ap (λ (ds : List judging.Effect). map effect_of old ++ ds)
+      (ap (λ (b : Bool). judging.side_effect_if b ++ judging.effects h context.Body Source n (expr_of e)) (bq ∙ ap judging.is_to_attribute tq)
+      ∙ instr_effects _ (instr.Assign s v e) q (instr_of-assign s v e))
+
+  pub print_effects : (s : Span) (x : String Global) → i ≡ instr.PrintText s x → judging.side_effect_if true ≡ judging.effects_of_instr h n (instr_of i)
+  unfolding judging.effects_of_instr
+  print_effects s x q = instr_effects _ (instr.PrintText s x) q (instr_of-print_text s x)
+
+  pub command_effects : (d : Call) → i ≡ instr.Call d →
+      effects_in_call h context.Body n (target_of d.target) (name_of d.name) (exprs_of d.actuals.items) ≡ judging.effects_of_instr h n (instr_of i)
+  unfolding judging.effects_of_instr
+  command_effects d q = instr_effects _ (instr.Call d) q (instr_of-call d)
+
+  pub create_effects : (s : Span) (v : Variable) (k : Option CreationCall) → i ≡ instr.Create s v k →
+      effects_of_create h n (creation_call_of k) ≡ judging.effects_of_instr h n (instr_of i)
+  unfolding judging.effects_of_instr
+  create_effects s v k q = instr_effects _ (instr.Create s v k) q (instr_of-create s v k)
+
+  pub check_effects : (s : Span) (clauses : Vec Clause Global) → i ≡ instr.Check s clauses → (ks : List Clause) → ks ≡ clauses.items →
+      judging.effects_of_clauses h n (map clause_of ks) ≡ judging.effects_of_instr h n (instr_of i)
+  unfolding judging.effects_of_instr
+  check_effects s clauses q ks e =
+      ap (λ (ks : List Clause). judging.effects_of_clauses h n (map clause_of ks)) e ∙ instr_effects _ (instr.Check s clauses) q (instr_of-check s clauses)
 
   pub in_if : (s : Span) (e : Expr) (body : Vec Instr Global) (bs : Vec Branch Global) (other : Vec Instr Global) → i ≡ instr.If s e body bs other →
       (is : List Instr) → is ≡ body.items → (cs : List Branch) → cs ≡ bs.items → (os : List Instr) → os ≡ other.items → (old one two new : List Effect) →

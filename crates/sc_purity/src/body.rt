@@ -219,7 +219,6 @@ fn add_value<'s>(
 
 /// Adds what is done in an instruction.
 #[cycle(instruction_effects)]
-#[tactic(auto, unfolding(sc_rules::specs::JudgingPurity::effects_of_instr, sc_tree::specs::View::instr_of), using(crate::proofs::EffectSteps::added_two))]
 fn add_instruction<'s>(
     routine: &RoutineContext<'_, 's>,
     names: &[Entity<'s>],

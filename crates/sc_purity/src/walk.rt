@@ -170,7 +170,6 @@ fn add_call<'s>(
 
 /// Adds what is done in an expression that is no condition of an `if`, and gives what is found of it.
 #[cycle(expression_effects)]
-#[tactic(auto, unfolding(sc_rules::specs::JudgingPurity::effects, sc_rules::specs::Judging::judge, sc_tree::specs::View::expr_of), using(crate::proofs::EffectSteps::added_two))]
 pub fn add_expression<'s>(
     routine: &RoutineContext<'_, 's>,
     context: Context,

@@ -1,13 +1,16 @@
-use Rattle.std.proofs.Common.{map, ap, ◌∙◌}
+use Rattle.std.proofs.Common.{◌≡◌, List, [], ◌++◌, map, ap, inl, inr, ◌∙◌}
 use Rattle.sc_tree.specs.declared.expression.Expr.{Expr}
 use Rattle.sc_tree.specs.View.{expr_of, name_of, target_of, type_if_any}
-use Rattle.sc_tree.proofs.ViewLemmas.{expr_of-binary, expr_of-object_test}
+use Rattle.sc_tree.proofs.ViewLemmas.{expr_of-unary, expr_of-binary, expr_of-object_test}
 use Rattle.sc_rules.specs.declared.position.Position.TheVariants.{Plain}
 use Rattle.sc_rules.specs.Positions.{operand_position}
 use Rattle.sc_rules.specs.Judging.{judge}
+use Rattle.sc_rules.specs.JudgingPurity as judging
+use Rattle.sc_rules.specs.JudgingPurity.{effects}
 use Rattle.sc_typing.specs.Views.{routine_in, entity_of, judged_in, meaning_in}
 use Rattle.sc_class.specs.SystemIn.{system_in}
-use Rattle.sc_purity.proofs.EffectSteps.{in_call, in_parts, kept_adds, call_found, found_in_call, found_in_binary, found_in_test}
+use Rattle.sc_purity.specs.Internal.Effects.{effect_of}
+use Rattle.sc_purity.proofs.EffectSteps.{added_two, none_added, in_call, in_parts, kept_adds, kept_found, call_found, found_in_call, found_in_unary, found_in_binary, found_in_test, effects_in_unary, effects_in_binary, effects_in_test}
 use Rattle.sc_purity.proofs.walk.+expression_effects.Goals as goal
 
 pub add_expression-returns-in-Call-clause-effects : goal.add_expression-returns-in-Call-clause-effects
@@ -58,3 +61,75 @@ add_expression-returns-in_ok-tested-in-ObjectTest-clause-found t c =
     (ap expr_of c.in-ObjectTest.is ∙ expr_of-object_test c.in-ObjectTest.span c.in-ObjectTest.declared c.in-ObjectTest.tested c.in-ObjectTest.field-3)
     (c.in_ok-tested-in-ObjectTest.ensures.found ∙ ap (λ (e : Expr). judge h c.args.context Plain n (expr_of e)) c.deref-in-ObjectTest.ensures)
     c.keep_fault-in-ObjectTest.ensures c.judge_misplaced.ensures
+
+pub add_expression-returns-in-Integer-clause-effects : goal.add_expression-returns-in-Integer-clause-effects
+unfolding effects expr_of
+add_expression-returns-in-Integer-clause-effects t c =
+    let done = λ (e : Expr). effects (routine_in c.args.routine.now) c.args.context c.args.position (map entity_of c.args.names.now) (expr_of e) in
+    let none : done c.args.e.now ≡ [] =
+    elim c.in-Integer.is [
+      | inl w ↦ ap done w.2
+      | inr w ↦ ap done w.2
+    ] in
+    kept_adds c.args.effects.now.items c.args.effects.now.items _ c.expression-in-Integer.result c.keep_fault-in-Integer.result c.keep_fault-in-Integer.ensures
+    (none_added c.args.effects.now.items _ none)
+
+pub add_expression-returns-in-Integer-clause-found : goal.add_expression-returns-in-Integer-clause-found
+add_expression-returns-in-Integer-clause-found t c =
+    kept_found _ c.expression-in-Integer.result c.keep_fault-in-Integer.result c.keep_fault-in-Integer.ensures c.expression-in-Integer.ensures
+
+pub add_expression-returns-in-Void-clause-effects : goal.add_expression-returns-in-Void-clause-effects
+unfolding effects expr_of
+add_expression-returns-in-Void-clause-effects t c =
+    let done = λ (e : Expr). effects (routine_in c.args.routine.now) c.args.context c.args.position (map entity_of c.args.names.now) (expr_of e) in
+    let none : done c.args.e.now ≡ [] =
+    elim c.in-Void.is [
+      | inl w ↦ ap done w.1
+      | inr v ↦ elim v [
+        | inl w ↦ ap done w.1
+        | inr w ↦ ap done w.1
+      ]
+    ] in
+    kept_adds c.args.effects.now.items c.args.effects.now.items _ c.expression.result c.keep_fault-in-Void.result c.keep_fault-in-Void.ensures
+    (none_added c.args.effects.now.items _ none)
+
+pub add_expression-returns-in-Void-clause-found : goal.add_expression-returns-in-Void-clause-found
+add_expression-returns-in-Void-clause-found t c =
+    kept_found _ c.expression.result c.keep_fault-in-Void.result c.keep_fault-in-Void.ensures c.expression.ensures
+
+pub add_expression-returns-in_ok-found-in-Unary-clause-effects : goal.add_expression-returns-in_ok-found-in-Unary-clause-effects
+add_expression-returns-in_ok-found-in-Unary-clause-effects t c =
+    kept_adds c.args.effects.now.items c.add_expression.new.effects.items _ c.judge_behind_operand.result c.keep_fault.result c.keep_fault.ensures
+    (c.in_ok-found-in-Unary.ensures.effects
+    ∙ ap (λ (ds : List judging.Effect). map effect_of c.args.effects.now.items ++ ds)
+    (effects_in_unary (routine_in c.args.routine.now) c.args.context (map entity_of c.args.names.now) c.operand_context-inside.result c.args.position (expr_of c.args.e.now)
+    c.in-Unary.span c.in-Unary.operator (expr_of c.deref.result.now) (expr_of c.in-Unary.operand.value)
+    (ap expr_of c.in-Unary.is ∙ expr_of-unary c.in-Unary.span c.in-Unary.operator c.in-Unary.operand) c.operand_context-inside.ensures (ap expr_of c.deref.ensures)))
+
+pub add_expression-returns-in_ok-found-in-Unary-clause-found : goal.add_expression-returns-in_ok-found-in-Unary-clause-found
+add_expression-returns-in_ok-found-in-Unary-clause-found t c =
+    found_in_unary (routine_in c.args.routine.now) c.args.context (map entity_of c.args.names.now) c.operand_context-inside.result c.args.position (expr_of c.args.e.now)
+    c.in-Unary.span c.in-Unary.operator (expr_of c.deref.result.now) (expr_of c.in-Unary.operand.value) (judged_in c.in_ok-found-in-Unary.found) c.judge_behind_operand.result c.keep_fault.result
+    (ap expr_of c.in-Unary.is ∙ expr_of-unary c.in-Unary.span c.in-Unary.operator c.in-Unary.operand) c.operand_context-inside.ensures (ap expr_of c.deref.ensures)
+    c.in_ok-found-in-Unary.ensures.found c.keep_fault.ensures c.judge_behind_operand.ensures
+
+pub add_expression-returns-in_ok-right-in-Binary-clause-effects : goal.add_expression-returns-in_ok-right-in-Binary-clause-effects
+add_expression-returns-in_ok-right-in-Binary-clause-effects t c =
+    kept_adds c.args.effects.now.items c.add_expression-in-Binary-2.new.effects.items _ c.judge_behind_operands.result c.keep_fault-in-Binary.result c.keep_fault-in-Binary.ensures
+    (added_two c.args.effects.now.items c.add_expression-in-Binary.new.effects.items c.add_expression-in-Binary-2.new.effects.items _ _
+    c.in_ok-left-in-Binary.ensures.effects c.in_ok-right-in-Binary.ensures.effects
+    ∙ ap (λ (ds : List judging.Effect). map effect_of c.args.effects.now.items ++ ds)
+    (effects_in_binary (routine_in c.args.routine.now) c.args.context (map entity_of c.args.names.now) c.args.position c.operand_position-side.result (expr_of c.args.e.now)
+    c.in-Binary.span c.in-Binary.operator (expr_of c.deref-in-Binary.result.now) (expr_of c.deref-in-Binary-2.result.now) (expr_of c.in-Binary.left.value) (expr_of c.in-Binary.right.value)
+    c.requires (ap expr_of c.in-Binary.is ∙ expr_of-binary c.in-Binary.span c.in-Binary.operator c.in-Binary.left c.in-Binary.right)
+    c.operand_position-side.ensures (ap expr_of c.deref-in-Binary.ensures) (ap expr_of c.deref-in-Binary-2.ensures)))
+
+pub add_expression-returns-in_ok-tested-in-ObjectTest-clause-effects : goal.add_expression-returns-in_ok-tested-in-ObjectTest-clause-effects
+add_expression-returns-in_ok-tested-in-ObjectTest-clause-effects t c =
+    kept_adds c.args.effects.now.items c.add_expression-in-ObjectTest.new.effects.items _ c.judge_misplaced.result c.keep_fault-in-ObjectTest.result c.keep_fault-in-ObjectTest.ensures
+    (c.in_ok-tested-in-ObjectTest.ensures.effects
+    ∙ ap (λ (ds : List judging.Effect). map effect_of c.args.effects.now.items ++ ds)
+    (effects_in_test (routine_in c.args.routine.now) c.args.context (map entity_of c.args.names.now) c.args.position (expr_of c.args.e.now)
+    c.in-ObjectTest.span (type_if_any c.in-ObjectTest.declared) (expr_of c.deref-in-ObjectTest.result.now) (expr_of c.in-ObjectTest.tested.value) (name_of c.in-ObjectTest.field-3)
+    (ap expr_of c.in-ObjectTest.is ∙ expr_of-object_test c.in-ObjectTest.span c.in-ObjectTest.declared c.in-ObjectTest.tested c.in-ObjectTest.field-3)
+    (ap expr_of c.deref-in-ObjectTest.ensures)))
