@@ -69,6 +69,16 @@ module _ (n i : ℕ) (found : List Declaration) (ts : Ahead) where
       ap (λ (xs : List Declaration). more_declarations (n - (i + 1)) xs rest) u
       ∙ sym (declarations_turn p ∙ choose_true (sees terminal.Semicolon ts || name_ahead ts) _ _ (sym q ∙ d) ∙ ap (λ (r : Ahead). declaration r >>= next_declarations (n - (i + 1)) found) (sym w) ∙ bind_ok _ _ (next_declarations (n - (i + 1)) found) e)
 
+  pub declarations_none : (b : Bool) → i < n → b ≡ sees terminal.Semicolon ts || name_ahead ts → b ≡ false → more_declarations (n - i) found ts ≡ Ok (found, ts)
+  declarations_none b p q d = declarations_turn p ∙ choose_false (sees terminal.Semicolon ts || name_ahead ts) _ _ (sym q ∙ d)
+
+  pub declarations_fail : (b : Bool) (r : Ahead) (e : ParseFault) → i < n → b ≡ sees terminal.Semicolon ts || name_ahead ts → b ≡ true → r ≡ skip terminal.Semicolon ts →
+      Fails (declaration r) e → Fails (more_declarations (n - i) found ts) e
+  declarations_fail b r e p q d w f =
+      Fails-along _ _ e
+      (declarations_turn p ∙ choose_true (sees terminal.Semicolon ts || name_ahead ts) _ _ (sym q ∙ d) ∙ ap (λ (r : Ahead). declaration r >>= next_declarations (n - (i + 1)) found) (sym w))
+      (Fails-bind (declaration r) (next_declarations (n - (i + 1)) found) e f)
+
 pub locals_begin : (ts : Ahead) (before : Ahead) (found : List Declaration) (b : Bool) → b ≡ sees terminal.Local before → b ≡ true → ts ≡ past before → found ≡ [] →
     locals_from (length ts.rest - 0) found ts ≡ locals before
 unfolding locals

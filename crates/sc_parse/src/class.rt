@@ -187,7 +187,6 @@ impl<'a> Parser<'a> {
     }
 
     /// Classes, one after the other, up to the end of the tokens.
-    #[tactic(auto, using(crate::proofs::Lists::classes_begin, crate::proofs::Lists::classes_end, crate::proofs::Lists::classes_turn))]
     pub fn classes(&mut self, room: u8) -> Result<Vec<Class>, ParseFault>
         ensures { Gives classes_in (spec.classes_from room (left (ahead self.old)) [] 0 (ahead self.old))
             result (ahead self.new) }

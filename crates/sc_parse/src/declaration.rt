@@ -47,7 +47,6 @@ impl<'a> Parser<'a> {
     }
 
     /// The formals of the first declaration and those of each that follows.
-    #[tactic(auto, using(crate::proofs::Lists::declarations_begin, crate::proofs::Lists::declarations_end, crate::proofs::Lists::declarations_turn))]
     fn more_declarations(&mut self, first: Vec<Declaration>) -> Result<Vec<Declaration>, ParseFault>
         ensures { Takes declarations_in (spec.more_declarations (left (ahead self.old)) (declarations_in first)
             (ahead self.old)) result (ahead self.new) }

@@ -185,7 +185,6 @@ impl<'a> Parser<'a> {
 
     /// A condition and what stands under it.
     #[cycle(instructions)]
-    #[tactic(auto, using(crate::proofs::Parts::branch_is))]
     fn branch(&mut self, room: u8) -> Result<Branch, ParseFault>
         ensures { Gives branch_in (spec.branch room (spec.nested_instrs room) (ahead self.old))
             result (ahead self.new) }
@@ -300,7 +299,6 @@ impl<'a> Parser<'a> {
     }
 
     /// What a block reserves, with its name there.
-    #[tactic(auto, using(crate::proofs::Parts::head_is))]
     fn head(&mut self, room: u8) -> Result<Head, ParseFault>
         ensures { Gives head_in (spec.head room (spec.nested_instrs room) (ahead self.old)) result (ahead self.new) }
     {
@@ -329,7 +327,6 @@ impl<'a> Parser<'a> {
 
     /// What follows `separate`, up to its `end`.
     #[cycle(instructions)]
-    #[tactic(auto, using(crate::proofs::Parts::block_is))]
     fn block(&mut self, room: u8) -> Result<Instr, ParseFault>
         ensures { Gives instr_in (spec.block room (spec.nested_instrs room) (ahead self.old)) result (ahead self.new) }
     {

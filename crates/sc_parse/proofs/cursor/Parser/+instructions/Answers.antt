@@ -8,9 +8,10 @@ use Rattle.sc_text.specs.declared.token.Span.{Span}
 use Rattle.sc_tree.specs.Plain.{Loop, Block}
 use Rattle.sc_parse.specs.Reading.Reads.{ahead, expr_in, heads_in, instrs_in, branches_in}
 use Rattle.sc_parse.proofs.Turns.{instrs_begin, instrs_end, instrs_more, instrs_none, instrs_fail, branches_begin, branches_end, branches_more, branches_none, branches_fail}
-use Rattle.sc_parse.proofs.Parts.{branch_read, iteration_read, block_read}
+use Rattle.sc_tree.proofs.ReadingSteps.{bind_ok}
+use Rattle.sc_parse.proofs.Parts.{after_condition, branch_is, branch_read, after_initial, iteration_is, iteration_read, after_heads, block_is, block_read}
 use Rattle.std.proofs.lemmas.Result.{err_from_is_err_and}
-use Rattle.sc_parse.proofs.Faults.{Fails-along}
+use Rattle.sc_parse.proofs.Faults.{Fails-along, Fails-bind}
 use Rattle.sc_parse.proofs.cursor.Parser.+instructions.Goals as goal
 
 pub instructions-loop-turn-init : goal.instructions-loop-turn-init
@@ -104,3 +105,57 @@ pub branches-returns : goal.branches-returns
 branches-returns t c =
     let q = c.loop-turn.invariant in
     (q.0, sym q.1 ∙ branches_end c.args.room _ c.loop-turn._turn (branches_in c.loop-turn.found) q.0 (ahead c.loop-turn.self) c.loop-turn-test.false)
+
+pub branch-returns-in_err-condition : goal.branch-returns-in_err-condition
+branch-returns-in_err-condition t c =
+    let ts = ahead c.args.self.now in
+    let p = err_from_is_err_and c.from_residual.result c.from_residual.ensures.1 in
+    rw (p.1, p.2)
+    (Fails-along _ _ c.in_err-condition.field-0.0
+    (branch_is c.args.room ts)
+    (Fails-bind _ _ c.in_err-condition.field-0.0 c.in_err-condition.ensures.read))
+
+pub branch-returns-in_err-body : goal.branch-returns-in_err-body
+branch-returns-in_err-body t c =
+    let ts = ahead c.args.self.now in
+    let p = err_from_is_err_and c.from_residual-in_err-body.result c.from_residual-in_err-body.ensures.1 in
+    rw (p.1, p.2)
+    (Fails-along _ _ c.in_err-body.field-0.0
+    (branch_is c.args.room ts ∙ bind_ok _ _ (after_condition c.args.room ts) c.in_ok-condition.ensures.read)
+    (Fails-bind _ _ c.in_err-body.field-0.0 c.in_err-body.ensures))
+
+pub iteration-returns-in_err-initial : goal.iteration-returns-in_err-initial
+iteration-returns-in_err-initial t c =
+    let ts = ahead c.args.self.now in
+    let p = err_from_is_err_and c.from_residual.result c.from_residual.ensures.1 in
+    rw (p.1, p.2)
+    (Fails-along _ _ c.in_err-initial.field-0.0
+    (iteration_is c.args.room ts)
+    (Fails-bind _ _ c.in_err-initial.field-0.0 c.in_err-initial.ensures))
+
+pub iteration-returns-in_err-expect : goal.iteration-returns-in_err-expect
+iteration-returns-in_err-expect t c =
+    let ts = ahead c.args.self.now in
+    let p = err_from_is_err_and c.from_residual-in_err-expect.result c.from_residual-in_err-expect.ensures.1 in
+    rw (p.1, p.2)
+    (Fails-along _ _ c.in_err-expect.field-0.0
+    (iteration_is c.args.room ts ∙ bind_ok _ _ (after_initial c.args.room ts) c.in_ok-initial.ensures.1)
+    (Fails-bind _ _ c.in_err-expect.field-0.0 c.in_err-expect.ensures))
+
+pub block-returns-in_err-heads : goal.block-returns-in_err-heads
+block-returns-in_err-heads t c =
+    let ts = ahead c.args.self.now in
+    let p = err_from_is_err_and c.from_residual.result c.from_residual.ensures.1 in
+    rw (p.1, p.2)
+    (Fails-along _ _ c.in_err-heads.field-0.0
+    (block_is c.args.room ts)
+    (Fails-bind _ _ c.in_err-heads.field-0.0 c.in_err-heads.ensures))
+
+pub block-returns-in_err-body : goal.block-returns-in_err-body
+block-returns-in_err-body t c =
+    let ts = ahead c.args.self.now in
+    let p = err_from_is_err_and c.from_residual-in_err-body.result c.from_residual-in_err-body.ensures.1 in
+    rw (p.1, p.2)
+    (Fails-along _ _ c.in_err-body.field-0.0
+    (block_is c.args.room ts ∙ bind_ok _ _ (after_heads c.args.room ts) c.in_ok-heads.ensures.1)
+    (Fails-bind _ _ c.in_err-body.field-0.0 c.in_err-body.ensures))

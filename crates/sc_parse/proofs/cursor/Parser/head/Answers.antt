@@ -1,7 +1,25 @@
+use Rattle.std.proofs.Common.{◌∙◌}
+use Rattle.std.proofs.lemmas.Result.{err_from_is_err_and}
+use Rattle.sc_tree.proofs.ReadingSteps.{bind_ok}
+use Rattle.sc_parse.proofs.Faults.{Fails-along, Fails-bind}
 use Rattle.sc_parse.proofs.Views.{head_of-is}
 use Rattle.sc_parse.specs.Reading.Reads.{ahead}
-use Rattle.sc_parse.proofs.Parts.{head_read}
+use Rattle.sc_parse.proofs.Parts.{after_value, head_is, head_read}
 use Rattle.sc_parse.proofs.cursor.Parser.head.Goals as goal
+
+pub returns-in_err-value : goal.returns-in_err-value
+returns-in_err-value c =
+    let p = err_from_is_err_and c.from_residual.result c.from_residual.ensures.1 in
+    rw (p.1, p.2)
+    (Fails-along _ _ c.in_err-value.field-0.0 (head_is c.args.room (ahead c.args.self.now)) (Fails-bind _ _ c.in_err-value.field-0.0 c.in_err-value.ensures))
+
+pub returns-in_err-name : goal.returns-in_err-name
+returns-in_err-name c =
+    let ts = ahead c.args.self.now in
+    let p = err_from_is_err_and c.from_residual-in_err-name.result c.from_residual-in_err-name.ensures.1 in
+    rw (p.1, p.2)
+    (Fails-along _ _ c.in_err-name.field-0.0 (head_is c.args.room ts ∙ bind_ok _ _ (after_value c.args.room ts) c.in_ok-value.ensures)
+    (Fails-bind _ _ c.in_err-name.field-0.0 c.in_err-name.ensures))
 
 pub returns : goal.returns
 returns c = (
