@@ -1,7 +1,7 @@
 //! Clauses of preconditions.
 
 /// What becomes of an entry whose clause is false.
-#[derive(Clone, Copy, Debug, PartialEq, Eq)]
+#[derive(Clone, Copy)]
 pub enum ClauseKind {
     /// It waits: the clause speaks of a handler that this entry newly reserved, so others may make it true.
     WaitCondition,
@@ -10,7 +10,7 @@ pub enum ClauseKind {
 }
 
 /// A clause that was evaluated.
-#[derive(Clone, Copy, Debug, PartialEq, Eq)]
+#[derive(Clone, Copy)]
 pub struct ClauseResult {
     /// What becomes of the entry where the clause is false.
     pub kind: ClauseKind,
@@ -19,7 +19,7 @@ pub struct ClauseResult {
 }
 
 /// What the clauses of a precondition decide.
-#[derive(Clone, Copy, Debug, PartialEq, Eq)]
+#[derive(Clone, Copy)]
 pub enum EntryVerdict {
     /// The body starts.
     Start,

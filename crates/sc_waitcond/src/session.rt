@@ -3,7 +3,7 @@ ghost use Rattle.std.specs.Prelude.{◌≡◌};
 ghost use Rattle.sc_waitcond.specs.Reservations.{ends_session};
 
 /// Why handlers are released.
-#[derive(Clone, Copy, Debug, PartialEq, Eq)]
+#[derive(Clone, Copy)]
 pub enum Release {
     /// The routine that reserved them exits.
     Exit,
