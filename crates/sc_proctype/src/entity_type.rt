@@ -8,7 +8,7 @@ use crate::tag::Tag;
 use sc_class::ClassId;
 
 /// The type of an entity or of an expression.
-#[derive(Clone, Copy, Debug, PartialEq, Eq)]
+#[derive(Clone, Copy, PartialEq, Eq)]
 pub struct EntityType {
     /// Whether a value is never Void.
     pub attached: bool,

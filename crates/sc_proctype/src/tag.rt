@@ -5,7 +5,7 @@ ghost use Rattle.sc_proctype.specs.Tags.{tag_conforms};
 
 /// A name of a routine whose handler is reserved where the name is known. Two that are known in one place are told
 /// apart.
-#[derive(Clone, Copy, Debug, PartialEq, Eq)]
+#[derive(Clone, Copy, PartialEq, Eq)]
 pub enum Reserved {
     /// The formal at this number of the routine's list, from 0.
     Formal(usize),
@@ -15,7 +15,7 @@ pub enum Reserved {
 }
 
 /// On which handler the objects of a type lie, seen from the current handler.
-#[derive(Clone, Copy, Debug, PartialEq, Eq)]
+#[derive(Clone, Copy, PartialEq, Eq)]
 pub enum Tag {
     /// On the current handler. It is written by no tag.
     Own,
