@@ -6,7 +6,7 @@ ghost use Rattle.sc_combine.specs.Combiners.{known_of, known_tag};
 use sc_proctype::{Reserved, Tag};
 
 /// What the caller knows of the handler of an actual.
-#[derive(Clone, Copy, Debug, PartialEq, Eq)]
+#[derive(Clone, Copy, PartialEq, Eq)]
 pub enum Known {
     /// It is the current handler.
     Own,
