@@ -28,7 +28,7 @@ impl fmt::Display for ArithmeticFault {
 impl Error for ArithmeticFault {}
 
 /// An operator on two integers that makes an integer.
-#[derive(Clone, Copy, Debug, PartialEq, Eq)]
+#[derive(Clone, Copy)]
 pub enum ArithmeticOperator {
     /// `+`
     Plus,

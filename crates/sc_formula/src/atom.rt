@@ -3,7 +3,7 @@ ghost use Rattle.std.specs.Prelude.{◌≡◌};
 ghost use Rattle.sc_formula.specs.Atom.{kind_of};
 
 /// What an invariant sees of one attribute of an object.
-#[derive(Clone, Copy, Debug, PartialEq, Eq)]
+#[derive(Clone, Copy, PartialEq, Eq)]
 pub enum Atom {
     /// The value of an INTEGER attribute.
     Integer(i64),
@@ -14,7 +14,7 @@ pub enum Atom {
 }
 
 /// What an attribute is, whatever its value.
-#[derive(Clone, Copy, Debug, PartialEq, Eq)]
+#[derive(Clone, Copy)]
 pub enum AtomKind {
     /// An INTEGER attribute.
     Integer,

@@ -3,7 +3,7 @@ ghost use Rattle.std.specs.Prelude.{◌≡◌};
 ghost use Rattle.sc_formula.specs.Connective.{decision_of, truth_table};
 
 /// An operator on two truth values.
-#[derive(Clone, Copy, Debug, PartialEq, Eq)]
+#[derive(Clone, Copy)]
 pub enum Connective {
     /// `and`, which evaluates both sides.
     And,
