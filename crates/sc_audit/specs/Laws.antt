@@ -7,7 +7,8 @@ use Rattle.sc_audit.specs.Faults.{IsAtFault}
 
 -- One text has one record.
 abbrev pub OneRecord : Type 0
-OneRecord = (version other : Version) (lines others : List RecordLine) → IsRecord version lines → IsRecord other others →
+OneRecord = (version other : Version) (lines others : List RecordLine) →
+    IsRecord version lines → IsRecord other others →
     text_of version lines ≡ text_of other others → (version ≡ other) × (lines ≡ others)
 
 -- One text has one line at fault.

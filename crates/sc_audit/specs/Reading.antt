@@ -27,7 +27,8 @@ pub record ReadsFitting (known now : Option (List ℕ)) : Type 0 where
 abbrev pub IsForGood : ErrorKind → Type 0
 IsForGood why = (why ≢ kind.Interrupted) × (why ≢ kind.OutOfMemory)
 
--- What is told is true of the bytes: the line is at fault, and where the reader failed, for good, nothing before it was.
+-- What is told is true of the bytes: the line is at fault, and where the reader failed, for good, nothing before it
+-- was.
 abbrev pub IsReadFault : Option (List ℕ) → Option (List ℕ) → ReadFault → Type 0
 IsReadFault known now (fault.BadRecord line) = IfSome known (λ text. IsAtFault text line)
 IsReadFault known now (fault.Unreadable error) = IsForGood (error_kind error) × ReadsFitting known now

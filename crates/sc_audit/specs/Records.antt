@@ -18,8 +18,8 @@ most_turns = 10000000
 abbrev pub turns_of : List RecordLine → ℕ
 turns_of lines = sum_by (λ (line : RecordLine). line.turns) lines
 
--- Lines are those of a record of this version: each names a handler that there can be, with one turn at least, and there
--- are neither too many lines nor too many turns.
+-- Lines are those of a record of this version: each names a handler that there can be, with one turn at least, and
+-- there are neither too many lines nor too many turns.
 pub record IsRecord (version : Version) (lines : List RecordLine) : Type 0 where
   pub handlers : All (λ (line : RecordLine). line.handler < most_handlers version) lines
   pub some : All (λ (line : RecordLine). 0 < line.turns) lines
@@ -52,7 +52,8 @@ text_of version lines = first_line version ++ (flat_map line_text lines ++ last_
 
 -- The text is that of a record.
 abbrev pub IsRecordText : List ℕ → Type 0
-IsRecordText text = (version : Version) × (lines : List RecordLine) × (IsRecord version lines × (text ≡ text_of version lines))
+IsRecordText text =
+    (version : Version) × (lines : List RecordLine) × (IsRecord version lines × (text ≡ text_of version lines))
 
 -- The text of a record begins with these bytes.
 abbrev pub BeginsRecord : List ℕ → Type 0

@@ -24,7 +24,7 @@ pub enum ReadFault {
 }
 
 /// The turns of a run.
-#[derive(Debug, Drop)]
+#[derive(Drop)]
 pub struct Record {
     /// How many handlers there could be.
     pub version: Version,

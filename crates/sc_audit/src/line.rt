@@ -1,7 +1,7 @@
 //! A line of a record.
 
 /// A handler, and how many turns it takes.
-#[derive(Clone, Copy, Debug, PartialEq, Eq)]
+#[derive(Clone, Copy, PartialEq, Eq)]
 pub struct RecordLine {
     /// The number of the handler.
     pub handler: u16,

@@ -24,7 +24,8 @@ bytes_read version lines expected.VersionEnd = title ++ decimal (version_number 
 bytes_read version lines expected.Line = head_of version lines
 bytes_read version lines (expected.Handler number) = head_of version lines ++ decimal number
 bytes_read version lines (expected.Turns handler) = head_of version lines ++ (decimal handler ++ codes " ")
-bytes_read version lines (expected.MoreTurns handler number) = head_of version lines ++ (decimal handler ++ (codes " " ++ decimal number))
+bytes_read version lines (expected.MoreTurns handler number) =
+    head_of version lines ++ (decimal handler ++ (codes " " ++ decimal number))
 bytes_read version lines (expected.LastLine read) = head_of version lines ++ take read (last_line (length lines))
 bytes_read version lines expected.Nothing = text_of version lines
 
@@ -41,7 +42,8 @@ IsOpen version lines expected.Line = Unit {0}
 IsOpen version lines (expected.Handler number) = HasRoom lines × (number < most_handlers version)
 IsOpen version lines (expected.Turns handler) = HasRoom lines × (handler < most_handlers version)
 IsOpen version lines (expected.MoreTurns handler number) =
-    (length lines < most_lines) × (handler < most_handlers version) × (0 < number) × (turns_of lines + number ≤ most_turns)
+    (length lines < most_lines) × (handler < most_handlers version) × (0 < number)
+    × (turns_of lines + number ≤ most_turns)
 IsOpen version lines (expected.LastLine read) = (0 < read) × (read < length (last_line (length lines)))
 IsOpen version lines expected.Nothing = Unit {0}
 
@@ -99,7 +101,8 @@ IsBlockFault b bytes (fault.Unreadable error) = IsForGood (error_kind error) × 
 IsBlockFault b bytes fault.OutOfMemory = Unit {0}
 
 -- A reader gave a block.
-pub record ReadsBlock {T : Type 0} (most : ℕ) (known now : Option (List ℕ)) (old new : Beginning) (result : Result T ReadFault) : Type 0 where
+pub record ReadsBlock {T : Type 0} (most : ℕ) (known now : Option (List ℕ)) (old new : Beginning)
+    (result : Result T ReadFault) : Type 0 where
   pub bytes : List ℕ
   pub consumed : Consumes known now bytes
   pub few : length bytes ≤ most
