@@ -82,8 +82,9 @@ abbrev pub names_untyped : List (Option EntityType) → Option ℕ → Bool
 names_untyped ts None = false
 names_untyped ts (Some y) = is_untyped (slice_get ts y)
 
--- An actual with a type may be passed to the formal, where the target and all actuals have these types. Where a formal's
--- tag names another whose actual has no type, nothing is judged; where that actual is missing, the tag names no handler.
+-- An actual with a type may be passed to the formal, where the target and all actuals have these types. Where a
+-- formal's tag names another whose actual has no type, nothing is judged; where that actual is missing, the tag names
+-- no handler.
 abbrev pub takes : System → EntityType → List (Option EntityType) → FormalType → EntityType → Bool
 takes s t ts (of_type f) a =
     names_untyped ts (named_formal f.tag) || conforms s a (combined_argument t f (known_handlers ts))
