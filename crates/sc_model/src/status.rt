@@ -3,7 +3,7 @@
 use crate::cause::Cause;
 
 /// How a handler stands: the first of these that is true of it.
-#[derive(Clone, Copy, Debug, PartialEq, Eq)]
+#[derive(Clone, Copy, PartialEq, Eq)]
 pub enum Status {
     Failed(Cause),
     /// It has something to do.
