@@ -51,7 +51,6 @@ fn judge_call<'s>(
 
 /// Judges an instruction. Whatever it makes known is forgotten behind it.
 #[cycle(instructions)]
-#[tactic(auto, unfolding(sc_rules::specs::JudgingText::judge_instr, sc_tree::specs::View::instr_of))]
 fn judge_instruction<'s>(
     routine: &RoutineContext<'_, 's>,
     names: &mut Vec<Entity<'s>>,

@@ -1,6 +1,9 @@
 use Rattle.std.proofs.Common.{ap, sym, ◌∙◌, map}
 use Rattle.std.proofs.lemmas.Result.{err_from_is_err_and}
-use Rattle.sc_tree.specs.View.{expr_of, head_of}
+use Rattle.sc_tree.specs.declared.instruction.Instr.{Instr}
+use Rattle.sc_tree.specs.View.{expr_of, head_of, instr_of}
+use Rattle.sc_tree.proofs.ViewLemmas.{instr_of-print_text}
+use Rattle.sc_rules.specs.JudgingText.{judge_instr}
 use Rattle.sc_typing.specs.Views.{routine_in, entity_of}
 use Rattle.sc_check.proofs.InstructionSteps.{assign_passes, call_passes, create_fails, create_passes, check_passes, if_branch_fails, if_branches_fail, if_done, loop_initial_fails, loop_until_fails, loop_done, block_passes, part_kept, block_kept, branch_fails}
 use Rattle.sc_check.proofs.instructions.+instructions.Goals as goal
@@ -100,3 +103,10 @@ pub judge_instruction-returns-in-Check-clause-judged : goal.judge_instruction-re
 judge_instruction-returns-in-Check-clause-judged t c =
     check_passes (routine_in c.args.routine.now) (map entity_of c.args.names.now.items) c.args.instruction.now c.in-Check.field-0 c.in-Check.clauses _ _ _
     c.in-Check.is (ap (map entity_of) c.deref-in-Check.ensures.value) c.deref-in-Check-2.ensures.value c.judge_clauses.ensures
+
+pub judge_instruction-returns-in-PrintText-clause-judged : goal.judge_instruction-returns-in-PrintText-clause-judged
+unfolding judge_instr
+judge_instruction-returns-in-PrintText-clause-judged t c =
+    let h = routine_in c.args.routine.now in
+    let n = map entity_of c.args.names.now.items in
+    ap (λ (i : Instr). judge_instr h n (instr_of i)) c.in-PrintText.is ∙ ap (judge_instr h n) (instr_of-print_text c.in-PrintText.field-0 c.in-PrintText.field-1)
