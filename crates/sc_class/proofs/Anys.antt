@@ -5,7 +5,7 @@ use Rattle.std.specs.Borrow.{Bor}
 use Rattle.std.specs.Option.{option_map, option_copied}
 use Rattle.std.specs.Slice.{IsGetResult}
 use Rattle.std.proofs.lemmas.Option.{slice_get-map, slice_get_past, slice_get_read}
-use Rattle.std.proofs.lemmas.List.{drop_more, take_more, map-append}
+use Rattle.std.proofs.lemmas.List.{drop_more, take_more, map_more, map-append}
 use Rattle.std.proofs.lemmas.Grind.{common_steps}
 
 pub any_none : {A : Type 0} {P : A → Type 0} → Any P [] → ⊥
@@ -88,3 +88,10 @@ read_at f xs i o x e g = slice_get-map f xs i ∙ ap (option_map f) (sym e ∙ a
 pub got : {A : Type 0} (xs : List A) (i : ℕ) (o : Option (Bor A)) → IsGetResult xs i i o → option_copied o ≡ slice_get xs i
 got xs i None g = sym (slice_get_past xs i g.3)
 got xs i (Some x) g = sym (slice_get_read xs (length xs) i x.now refl g.3.0 g.1)
+
+-- a list that is made of the first elements of another, with the next of them
+pub one_more : {A B C : Type 0} (g : B → C) (f : A → B) (xs : List A) (i : ℕ) (x : A) (old new : List C) (y : C) → i < length xs → x ≡ get_or xs i x →
+    old ≡ map g (map f (take i xs)) → y ≡ g (f x) → new ≡ old ++ y ∷ [] → new ≡ map g (map f (take (i + 1) xs))
+one_more g f xs i x old new y l p was q e =
+    e ∙ ap (λ zs. zs ++ y ∷ []) was ∙ ap (λ y. map g (map f (take i xs)) ++ y ∷ []) (q ∙ ap (λ x. g (f x)) p)
+    ∙ sym (ap (map g) (map_more f xs i x l) ∙ map-append g (map f (take i xs)) (f (get_or xs i x) ∷ []))

@@ -5,7 +5,7 @@ ghost use Rattle.sc_class.specs.Tables.Conformance as conformance;
 
 /// A class: one of those that every system has, or the one that is declared at this number of the source
 /// text, from 0.
-#[derive(Clone, Copy, Debug, PartialEq, Eq)]
+#[derive(Clone, Copy, PartialEq, Eq)]
 pub enum ClassId {
     /// ANY, to which each class of references conforms.
     Any,

@@ -84,6 +84,5 @@ pub fn declared_names_of<'s>(
     ensures { IfOk result (λ names. names ≡ names_of_class (class_of class.now)) }
 {
     let mut names = DeclaredNames::none(alloc);
-    names.add(class)?;
-    Ok(names)
+    names.add(class).and(Ok(names))
 }

@@ -88,8 +88,7 @@ impl<'s> Outline<'s> {
             names,
             known: Vec::new(alloc),
         };
-        outline.know_features(alloc)?;
-        Ok(outline)
+        outline.know_features(alloc).and(Ok(outline))
     }
 
     /// Finds out the features of the classes.
