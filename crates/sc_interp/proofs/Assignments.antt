@@ -13,12 +13,13 @@ use Rattle.sc_region.specs.Frames.{PlainActivation, PlainFrame, activation_of, t
 use Rattle.sc_region.specs.Lending.{with_top}
 use Rattle.sc_region.specs.Objects.{object_numbered, with_attribute}
 use Rattle.sc_region.specs.Stores.{PlainStore, written_to}
-use Rattle.sc_interp.specs.declared.act.Hop as outcome
+use Rattle.sc_interp.specs.declared.hops.Hop as outcome
 use Rattle.sc_interp.specs.Objects.{objects_in}
 use Rattle.sc_interp.specs.Playing.{Plays, Remains, written_if}
 use Rattle.sc_interp.specs.Standing.{state_of, hopped, Passes, Stays}
 use Rattle.sc_interp.specs.Values.{values_of, reference_of}
-use Rattle.sc_interp.proofs.TopRoutines.{some_same, none_some, top_with, current_with, plays_at, remains_top}
+use Rattle.sc_acts.proofs.Options.{some_same, none_some}
+use Rattle.sc_interp.proofs.TopRoutines.{top_with, current_with, plays_at, remains_top}
 use Rattle.sc_interp.proofs.Operands.{values_drop}
 use Rattle.sc_interp.proofs.Shapes.{shapes_written}
 use Rattle.sc_interp.proofs.Valued.{number_in, objects_with, attribute_written}

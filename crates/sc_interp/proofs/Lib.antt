@@ -1,7 +1,6 @@
 pub mod GoingOn
 pub mod Ahead
 pub mod Operands
-pub mod Slices
 pub mod Pools
 pub mod BlockOpenings
 pub mod Tests
@@ -13,11 +12,7 @@ pub mod Targets
 pub mod SilentMoves
 pub mod Told
 pub mod SilentSteps
-pub mod FirstItems
-pub mod Creations
 pub mod Behind
-pub mod InvariantTests
-pub mod LastOperands
 pub mod Onward
 pub mod OwnCalls
 pub mod Shown

@@ -13,7 +13,8 @@ use Rattle.sc_code.specs.View.{Pool, named, call_of, creation_with, creation_of}
 use Rattle.sc_code.specs.Programs.{pool_of}
 use Rattle.sc_region.specs.Stores.{PlainStore}
 use Rattle.sc_interp.specs.Features.{IsSite}
-use Rattle.sc_interp.specs.Standing.{listed, call_in, creation_in}
+use Rattle.sc_acts.specs.Tables.{listed}
+use Rattle.sc_interp.specs.Standing.{call_in, creation_in}
 use Rattle.sc_interp.specs.Told.{HasProcedure, IsCallIn}
 use Rattle.sc_interp.proofs.GoingOn.{less_is, more_is}
 

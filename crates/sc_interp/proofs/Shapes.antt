@@ -7,7 +7,7 @@ use Rattle.sc_region.specs.Objects.{PlainObject, object_numbered, with_attribute
 use Rattle.sc_region.proofs.Numbered.{numbered_suc, with_suc}
 use Rattle.sc_region.proofs.Placed.{there_suc}
 use Rattle.sc_interp.specs.Objects.{shape_of}
-use Rattle.sc_interp.proofs.TopRoutines.{none_some, some_same}
+use Rattle.sc_acts.proofs.Options.{none_some, some_same}
 
 set_many : (vs : List Value) (k : ℕ) (v : Value) → length (slice_set vs k v) ≡ length vs
 set_many [] k v = refl

@@ -7,8 +7,8 @@ use Rattle.sc_code.specs.Machine.{Code, State, Hop}
 use Rattle.sc_region.specs.declared.value.Reference as reference
 use Rattle.sc_region.specs.Frames.{PlainActivation, top_current}
 use Rattle.sc_region.specs.Stores.{PlainStore}
-use Rattle.sc_interp.specs.declared.act.Hop as outcome
-use Rattle.sc_interp.specs.declared.act.Hop.TheVariants as told
+use Rattle.sc_interp.specs.declared.hops.Hop as outcome
+use Rattle.sc_interp.specs.declared.hops.Hop.TheVariants as told
 use Rattle.sc_interp.specs.Hopping.{IsNext, NextIs}
 use Rattle.sc_interp.specs.Hopping as hopping
 use Rattle.sc_interp.specs.Playing.{Plays, Remains}

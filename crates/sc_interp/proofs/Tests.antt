@@ -9,7 +9,7 @@ use Rattle.sc_code.specs.View.{test_of, tested_of}
 use Rattle.sc_region.specs.declared.value.Value as code
 use Rattle.sc_region.specs.declared.value.Reference as reference
 use Rattle.sc_region.specs.Frames.{PlainActivation}
-use Rattle.sc_interp.specs.declared.act.Hop as outcome
+use Rattle.sc_interp.specs.declared.hops.Hop as outcome
 use Rattle.sc_interp.specs.Serving.{TellsConformance}
 use Rattle.sc_interp.specs.Values.{value_of, values_of, reference_of}
 use Rattle.sc_interp.specs.Standing.{state_of, Passes, Tested}

@@ -5,12 +5,7 @@ pub mod Objects
 pub mod Playing
 pub mod Features
 pub mod Hopping
-pub mod Turning
-pub mod Entering
 pub mod Told
-pub mod Creating
-pub mod Exiting
-pub mod Refusing
 pub mod Laws
 pub mod Running
 pub mod Joining

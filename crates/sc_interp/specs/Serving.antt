@@ -1,6 +1,6 @@
 -- What the tables of a program say of its system.
 use Rattle.std.specs.Prelude.{◌≡◌, ℕ, Bool, true, false, ◌||◌, ◌==◌, List, Option, Some, None, slice_get}
-use Rattle.std.specs.Option.{option_map, option_map_or, option_and_then}
+use Rattle.std.specs.Option.{option_map, option_map_or}
 use Rattle.sc_tree.specs.Plain as tree
 use Rattle.sc_tree.specs.Plain.{System, FeatureKind}
 use Rattle.sc_class.specs.declared.identity.ClassId.TheVariants as class
@@ -14,18 +14,13 @@ use Rattle.sc_code.specs.declared.program.ClassCode.{ClassCode}
 use Rattle.sc_code.specs.declared.program.FeatureCode.{FeatureCode}
 use Rattle.sc_code.specs.declared.program.FeatureCode.TheVariants as version
 use Rattle.sc_code.specs.Programs.{pool_of}
+use Rattle.sc_acts.specs.Tables.{version_in}
 
 -- the first class is the second one, or its table names that
 abbrev pub conforms_in : Image → ℕ → ℕ → Bool
 conforms_in p k j =
     k == j || option_map_or (λ (c : ClassCode). option_map_or (λ b. b) (slice_get c.conforms.items j) false)
     (slice_get p.classes.items k) false
-
--- what the name of the number is in the class at the number, by its table
-abbrev pub version_in : Image → ℕ → ℕ → Option FeatureCode
-version_in p k x =
-    option_and_then (λ (c : ClassCode). option_and_then (λ (v : Option FeatureCode). v) (slice_get c.features.items x))
-    (slice_get p.classes.items k)
 
 -- the number of the attribute that it is
 abbrev pub attribute_in : Option FeatureCode → Option ℕ

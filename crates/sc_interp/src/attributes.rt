@@ -6,23 +6,17 @@ ghost use Rattle.sc_code.specs.Programs.{pool_of};
 ghost use Rattle.sc_region.specs.Frames.{PlainActivation, top_activation};
 ghost use Rattle.sc_region.specs.Objects.{PlainObject, object_numbered};
 ghost use Rattle.sc_interp.specs.Playing.{IsAttribute, IsLast, Plays, Remains, written_if};
-ghost use Rattle.sc_interp.specs.Serving.{attribute_in, version_in};
-ghost use Rattle.sc_interp.specs.Standing.{listed, stepped};
+ghost use Rattle.sc_interp.specs.Serving.{attribute_in};
+ghost use Rattle.sc_acts.specs.Tables.{version_in, listed};
+ghost use Rattle.sc_interp.specs.Standing.{stepped};
 
 use crate::calling::has_name;
 use crate::evaluation::read;
 use crate::passing::{pass_last, push_found};
-use sc_code::{FeatureCode, Program};
+use sc_acts::version_in;
+use sc_code::FeatureCode;
 use sc_model::Cause;
 use sc_region::{Reference, Store, Value};
-
-/// What the name of a number is in the class of a number.
-pub fn version_in(program: &Program, class: u8, name: usize) -> Option<FeatureCode>
-    ensures { result ≡ version_in program.now.image class name }
-{
-    let code = program.classes().get(usize::from(class))?;
-    *code.features.get(name)?
-}
 
 /// The number of the attribute of this name of the object.
 fn attribute_number(store: &Store<'_>, object: u32, name: usize) -> Option<usize>

@@ -9,7 +9,8 @@ ghost use Rattle.sc_code.specs.Programs.{pool_of};
 ghost use Rattle.sc_interp.specs.Standing.{Follows, Hops};
 ghost use Rattle.sc_interp.specs.Told.{HasBlock, Tells};
 
-use crate::act::{Act, Hop};
+use crate::hops::Hop;
+use sc_acts::Act;
 use sc_code::{Heads, Program};
 use sc_model::Cause;
 use sc_region::Activation;

@@ -5,10 +5,12 @@ ghost use Rattle.sc_region.specs.Frames.{activation_of};
 ghost use Rattle.sc_code.specs.declared.operation.Operation.TheVariants as coded;
 ghost use Rattle.sc_code.specs.Programs.{pool_of};
 ghost use Rattle.sc_code.specs.View.{call_of, creation_of, named};
-ghost use Rattle.sc_interp.specs.Standing.{Follows, Stays, listed, call_in, creation_in};
+ghost use Rattle.sc_interp.specs.Standing.{Follows, Stays, call_in, creation_in};
+ghost use Rattle.sc_acts.specs.Tables.{listed};
 ghost use Rattle.sc_interp.specs.Told.{IsCallIn, IsCreationIn, OnComes, Tells};
 
-use crate::act::{Act, Calling, Hop};
+use crate::hops::Hop;
+use sc_acts::{Act, Calling, RemoteCreation};
 use sc_code::{CallSite, ConstantPool, CreationSite, Program};
 use sc_model::Cause;
 use sc_region::{Activation, Reference};
@@ -156,10 +158,10 @@ pub fn create_handler(
     if !has_room(activation, count, true) {
         return misfit(activation, count);
     }
-    Hop::Comes(Act::CreateHandler {
+    Hop::Comes(Act::CreateHandler(RemoteCreation {
         class,
         procedure,
         count,
         passes,
-    })
+    }))
 }

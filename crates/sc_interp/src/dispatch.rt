@@ -5,9 +5,9 @@ ghost use Rattle.sc_region.specs.Frames.{activation_of};
 ghost use Rattle.sc_interp.specs.Standing.{Follows, Stays, is_simple, is_step, stepped};
 ghost use Rattle.sc_interp.specs.Told.{OnComes, Tells};
 
-use crate::act::{Act, Hop};
 use crate::blocks::open;
 use crate::calling::{call_routine, create, create_handler};
+use crate::hops::Hop;
 use crate::passing::{push, skip};
 use crate::reading::{initialize, keep_old, push_old, push_result, push_slot};
 use crate::silent::{
@@ -15,6 +15,7 @@ use crate::silent::{
 };
 use crate::testing::test;
 use crate::visible::{demand, end_loop, print, print_text};
+use sc_acts::Act;
 use sc_code::{Operation, Program};
 use sc_model::Cause;
 use sc_region::{Activation, Reference, Value};

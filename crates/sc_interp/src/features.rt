@@ -9,15 +9,17 @@ ghost use Rattle.sc_code.specs.Programs.{pool_of};
 ghost use Rattle.sc_region.specs.Frames.{PlainActivation, activation_of, top_activation};
 ghost use Rattle.sc_interp.specs.Features.{Calls, IsFeature, IsFeatureAt, IsSite, IsUnder, calls_found, calls_seen, reads};
 ghost use Rattle.sc_interp.specs.Playing.{Plays, Remains};
-ghost use Rattle.sc_interp.specs.Standing.{Stays, listed};
+ghost use Rattle.sc_interp.specs.Standing.{Stays};
+ghost use Rattle.sc_acts.specs.Tables.{listed};
 ghost use Rattle.sc_interp.specs.Values.{reference_of, value_of};
 ghost use Rattle.sc_interp.specs.Told.{IsCallIn, IsDone, IsTold, OnComes, Tells};
 
-use crate::act::{Act, Calling, Hop, stepped};
-use crate::attributes::{attribute_value, value_under, version_in};
+use crate::attributes::{attribute_value, value_under};
 use crate::calling::{call_at, has_room};
 use crate::evaluation::read;
+use crate::hops::{Hop, stepped};
 use crate::passing::replace;
+use sc_acts::{Act, Calling, RemoteCall, version_in};
 use sc_code::{CallSite, FeatureCode};
 use sc_model::Cause;
 use sc_region::{Activation, Reference, Store, Value};
@@ -152,13 +154,13 @@ fn request_on(activation: &mut Activation, object: Reference, site: CallSite) ->
     if !has_room_past(activation, site, gives) {
         return refuse(activation, site, Cause::BadCode);
     }
-    Hop::Comes(Act::Request {
+    Hop::Comes(Act::Request(RemoteCall {
         object,
         name: site.name,
         count: site.count,
         gives,
         passes: site.passes,
-    })
+    }))
 }
 
 /// The feature of the target, which is of this handler, is called.

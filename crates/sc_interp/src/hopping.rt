@@ -8,10 +8,10 @@ ghost use Rattle.sc_interp.specs.Playing.{Plays, Remains};
 ghost use Rattle.sc_interp.specs.Standing.{is_simple, is_step, is_step_in, stepped};
 ghost use Rattle.sc_interp.specs.Told.{IsTold, OnComes};
 
-use crate::act::{Hop, stepped};
 use crate::attributes::{push_attribute, store_attribute};
 use crate::dispatch::{hop_on, step_on};
 use crate::features::call_feature;
+use crate::hops::{Hop, stepped};
 use sc_code::{Operation, RoutineCode};
 use sc_model::Cause;
 use sc_region::{Reference, Store};

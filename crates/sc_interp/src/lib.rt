@@ -1,10 +1,9 @@
 //! What flat code does on the store of a handler.
 //!
 //! An operation is done in place, on the routine that has come to it. A silent one is done; a visible one is told as an
-//! [`Act`].
+//! [`Act`](sc_acts::Act).
 #![tactic(auto)]
 
-mod act;
 mod attributes;
 mod blocks;
 mod calling;
@@ -12,16 +11,16 @@ mod dispatch;
 mod evaluation;
 mod features;
 mod hopping;
+mod hops;
 pub mod laws;
 mod passing;
 mod reading;
 mod running;
 mod silent;
 mod testing;
-pub mod turning;
 mod visible;
 
-pub use act::{Act, Calling, Hop};
 pub use features::{FoundFeature, call_feature};
 pub use hopping::{hop, moves};
+pub use hops::Hop;
 pub use running::run_current;

@@ -16,7 +16,7 @@ ghost use Rattle.sc_interp.specs.Standing.{Follows, Passes, Stays, Tested};
 ghost use Rattle.sc_interp.specs.Values.{value_of, values_of};
 ghost use Rattle.sc_interp.specs.Told.{IsDone};
 
-use crate::act::{Hop, stepped};
+use crate::hops::{Hop, stepped};
 use crate::passing::{put_past, store};
 use sc_class::ClassId;
 use sc_code::{ObjectTest, Program, Residence, TestedType};

@@ -1,7 +1,7 @@
 //! Visible operations: what they name is told, and the routine stays as it is.
 ghost use Rattle.std.specs.Prelude.{◌≡◌, ℕ, IfSome};
-ghost use Rattle.sc_interp.specs.declared.act.Act.TheVariants as act;
-ghost use Rattle.sc_interp.specs.declared.act.Hop.TheVariants as outcome;
+ghost use Rattle.sc_acts.specs.declared.act.Act.TheVariants as act;
+ghost use Rattle.sc_interp.specs.declared.hops.Hop.TheVariants as outcome;
 ghost use Rattle.sc_code.specs.declared.operation.Operation.TheVariants as coded;
 ghost use Rattle.sc_code.specs.declared.program.Image.{Image};
 ghost use Rattle.sc_region.specs.declared.value.Reference as code;
@@ -10,8 +10,9 @@ ghost use Rattle.sc_code.specs.Operations as flat;
 ghost use Rattle.sc_interp.specs.Standing.{Demands, Follows, Hops, Stays};
 ghost use Rattle.sc_interp.specs.Told.{HasDemand, OnComes, Tells};
 
-use crate::act::{Act, Hop, stepped};
+use crate::hops::{Hop, stepped};
 use crate::passing::skip;
+use sc_acts::Act;
 use sc_code::Program;
 use sc_model::Cause;
 use sc_region::{Activation, Value};

@@ -8,7 +8,7 @@ use Rattle.sc_region.specs.Stores.{PlainStore}
 use Rattle.sc_interp.specs.Playing.{Remains}
 use Rattle.sc_interp.proofs.SilentMoves.{remains_after, top_of}
 use Rattle.sc_interp.proofs.Onward.{leads_on}
-use Rattle.sc_interp.proofs.TopRoutines.{none_some}
+use Rattle.sc_acts.proofs.Options.{none_some}
 use Rattle.sc_play.specs.Answering.{top_stage}
 use Rattle.sc_play.specs.Turns.{IsAhead, StopsFirst}
 

@@ -4,9 +4,9 @@ use Rattle.sc_region.specs.declared.frame.Stage.TheVariants as stage
 use Rattle.sc_region.specs.declared.job.Job.{Job}
 use Rattle.sc_region.specs.declared.job.Want.{Want}
 use Rattle.sc_region.specs.Stores.{PlainStore}
-use Rattle.sc_interp.specs.declared.act.Act.{Act}
-use Rattle.sc_interp.specs.declared.act.Hop.{Hop}
-use Rattle.sc_interp.specs.declared.act.Hop.TheVariants as hop
+use Rattle.sc_acts.specs.declared.act.Act.{Act}
+use Rattle.sc_interp.specs.declared.hops.Hop.{Hop}
+use Rattle.sc_interp.specs.declared.hops.Hop.TheVariants as hop
 use Rattle.sc_interp.specs.Hopping.{ComesTo, LeadsTo}
 use Rattle.sc_interp.specs.Playing.{Remains}
 use Rattle.sc_interp.specs.Told.{IsTold, OnComes}

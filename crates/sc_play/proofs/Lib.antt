@@ -1,13 +1,7 @@
-pub mod AddedOperands
 pub mod Ahead
-pub mod Allowed
-pub mod Asked
-pub mod Created
-pub mod Failed
 pub mod FurtherTurns
 pub mod MadeTurns
 pub mod JobTurns
 pub mod Programs
 pub mod RefusedJobs
-pub mod Slots
 pub mod OneObject

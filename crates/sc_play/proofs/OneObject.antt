@@ -7,17 +7,17 @@ use Rattle.sc_region.specs.declared.job.Want.{Want}
 use Rattle.sc_region.specs.declared.job.Want.TheVariants as want
 use Rattle.sc_region.specs.Frames.{top_activation}
 use Rattle.sc_region.specs.Stores.{PlainStore, failed}
-use Rattle.sc_interp.specs.declared.act.Act.{Act}
-use Rattle.sc_interp.specs.declared.act.Act.TheVariants as act
-use Rattle.sc_interp.specs.declared.act.Hop.TheVariants as hop
+use Rattle.sc_acts.specs.declared.act.Act.{Act}
+use Rattle.sc_acts.specs.declared.act.Act.TheVariants as act
+use Rattle.sc_interp.specs.declared.hops.Hop.TheVariants as hop
 use Rattle.sc_interp.specs.Hopping.{LeadsTo}
 use Rattle.sc_interp.specs.Playing.{Remains}
 use Rattle.sc_interp.specs.Running as here
 use Rattle.sc_interp.specs.Running.{Arrives, Does, RestsIn, Stops, Turn}
-use Rattle.sc_interp.specs.Turning.{unless_failed}
+use Rattle.sc_acts.specs.Turning.{unless_failed}
 use Rattle.sc_interp.proofs.SilentMoves.{remains_after}
 use Rattle.sc_interp.proofs.Onward.{comes_on, leads_on, still_runs}
-use Rattle.sc_play.specs.Acting.{acted, asks_acted}
+use Rattle.sc_acts.specs.Acting.{acted, asks_acted}
 use Rattle.sc_play.specs.Turns.{AreMade, GoesOn, IsAhead, TurnIn, TurnOf}
 use Rattle.sc_play.proofs.MadeTurns.{made_more}
 
@@ -30,9 +30,9 @@ does_act h act.Exit x y d = d.0
 does_act h (act.PrintInteger z) x y d = absurd d
 does_act h (act.PrintBoolean b) x y d = absurd d
 does_act h (act.PrintText k) x y d = absurd d
-does_act h (act.Request r name n gives passes) x y d = absurd d
+does_act h (act.Request c) x y d = absurd d
 does_act h (act.Create class procedure n) x y d = absurd d
-does_act h (act.CreateHandler class procedure n passes) x y d = absurd d
+does_act h (act.CreateHandler c) x y d = absurd d
 does_act h act.Start x y d = absurd d
 does_act h (act.Refuse k) x y d = absurd d
 does_act h (act.Open first n) x y d = absurd d
@@ -45,9 +45,9 @@ asks_none h act.Exit x y d = d.1
 asks_none h (act.PrintInteger z) x y d = absurd d
 asks_none h (act.PrintBoolean b) x y d = absurd d
 asks_none h (act.PrintText k) x y d = absurd d
-asks_none h (act.Request r name n gives passes) x y d = absurd d
+asks_none h (act.Request c) x y d = absurd d
 asks_none h (act.Create class procedure n) x y d = absurd d
-asks_none h (act.CreateHandler class procedure n passes) x y d = absurd d
+asks_none h (act.CreateHandler c) x y d = absurd d
 asks_none h act.Start x y d = absurd d
 asks_none h (act.Refuse k) x y d = absurd d
 asks_none h (act.Open first n) x y d = absurd d

@@ -24,27 +24,26 @@ use Rattle.sc_region.specs.Classes.{object_breaks, object_meets, routine_at}
 use Rattle.sc_region.specs.Frames.{PlainActivation, PlainFrame, top_activation, top_current}
 use Rattle.sc_region.specs.Objects.{PlainObject, object_numbered, attribute_of}
 use Rattle.sc_region.specs.Stores.{PlainStore, born, born_for, entered, entered_at, entry, failed, is_settled, left, left_to, made, made_for, max_frames, max_objects, next_reference, settled, with_new}
-use Rattle.sc_interp.specs.declared.act.Act.{Act}
-use Rattle.sc_interp.specs.declared.act.Act.TheVariants as act
-use Rattle.sc_interp.specs.declared.act.Calling.{Calling}
-use Rattle.sc_interp.specs.declared.act.Hop.{Hop}
-use Rattle.sc_interp.specs.declared.act.Hop.TheVariants as hop
-use Rattle.sc_interp.specs.Creating.{created, created_at, given, has_room, has_room_in, made_if, with_reference}
+use Rattle.sc_acts.specs.declared.act.Act.{Act}
+use Rattle.sc_acts.specs.declared.act.Act.TheVariants as act
+use Rattle.sc_acts.specs.declared.act.Calling.{Calling}
+use Rattle.sc_interp.specs.declared.hops.Hop.{Hop}
+use Rattle.sc_interp.specs.declared.hops.Hop.TheVariants as hop
+use Rattle.sc_acts.specs.Creating.{created, created_at, given, has_room, has_room_in, made_if, with_reference}
 use Rattle.sc_region.specs.Calls.{in_call, last_values, on_top, past}
-use Rattle.sc_interp.specs.Entering.{called_at, entered_if, has_operands, operands_of, origin_of, routine_in}
-use Rattle.sc_interp.specs.Exiting.{exited_at, is_unset, is_untested, is_void, returned}
-use Rattle.sc_interp.specs.Refusing.{is_waited_for, refused_as, refused_at, waiting}
-use Rattle.sc_interp.specs.Serving.{version_in}
-use Rattle.sc_interp.specs.Standing.{formals_at}
-use Rattle.sc_play.specs.declared.acts.creating_handlers.RemoteCreation.{RemoteCreation}
-use Rattle.sc_play.specs.declared.acts.requesting.RemoteCall.{RemoteCall}
-use Rattle.sc_play.specs.Acting.{acted}
+use Rattle.sc_acts.specs.Entering.{called_at, entered_if, has_operands, operands_of, origin_of, routine_in}
+use Rattle.sc_acts.specs.Exiting.{exited_at, is_unset, is_untested, is_void, returned}
+use Rattle.sc_acts.specs.Refusing.{is_waited_for, refused_as, refused_at, waiting}
+use Rattle.sc_acts.specs.Tables.{version_in, formals_at}
+use Rattle.sc_acts.specs.declared.act.RemoteCreation.{RemoteCreation}
+use Rattle.sc_acts.specs.declared.act.RemoteCall.{RemoteCall}
+use Rattle.sc_acts.specs.Acting.{acted}
 use Rattle.sc_play.specs.Answering.{granted_in, replied_in, runs, top_stage}
-use Rattle.sc_play.specs.Blocks.{heads_in, innermost_in, left_with, opened_with}
-use Rattle.sc_play.specs.CreatingHandlers as handlers
-use Rattle.sc_play.specs.CreatingObjects as objects
-use Rattle.sc_play.specs.Operands.{class_number}
-use Rattle.sc_play.specs.Requesting.{call_of, request_in, sent}
+use Rattle.sc_acts.specs.Blocks.{heads_in, innermost_in, left_with, opened_with}
+use Rattle.sc_acts.specs.CreatingHandlers as handlers
+use Rattle.sc_acts.specs.CreatingObjects as objects
+use Rattle.sc_acts.specs.Operands.{class_number}
+use Rattle.sc_acts.specs.Requesting.{request_in, sent}
 use Rattle.sc_play.specs.Taking.{answered, attribute_at, born_by, taken_call, taken_creation, taken_errand, taken_on, taken_version}
 use Rattle.sc_play.specs.Turns.{Becomes, GoesOn, TurnIn, TurnMade, TurnOf, TurnUnder, Turns, begun, done, first, more, told_unless}
 
@@ -181,9 +180,9 @@ acted_keeps h (act.PrintBoolean b) x = refl
 acted_keeps h (act.PrintText k) x = refl
 acted_keeps h (act.Until back) x = refl
 acted_keeps h (act.Enter calling me name n gives) x = called_at_keeps calling me name n gives (top_activation x.frames) x
-acted_keeps h (act.Request r name n gives passes) x = sent_keeps (request_in h (call_of r name n gives passes) (top_activation x.frames)) (call_of r name n gives passes) x
+acted_keeps h (act.Request c) x = sent_keeps (request_in h c (top_activation x.frames)) c x
 acted_keeps h (act.Create class procedure n) x = created_of_keeps (class_number class) h procedure n x
-acted_keeps h (act.CreateHandler class procedure n passes) x = handler_created_keeps h (handlers.creation_with class procedure n passes) (class_number class) x
+acted_keeps h (act.CreateHandler c) x = handler_created_keeps h c (class_number c.class) x
 acted_keeps h act.Start x = refl
 acted_keeps h (act.Refuse k) x = refused_at_keeps (formals_at x.program k) (top_current x.frames) (top_activation x.frames) x
 acted_keeps h (act.Open k n) x = opened_keeps k (heads_in k n (top_activation x.frames)) x

@@ -8,7 +8,7 @@ use Rattle.sc_region.specs.declared.value.Value.{Value}
 use Rattle.sc_region.specs.declared.value.Value.TheVariants as value
 use Rattle.sc_region.specs.Frames.{PlainActivation, top_activation}
 use Rattle.sc_region.specs.Stores.{PlainStore, failed}
-use Rattle.sc_interp.specs.Exiting.{handed_as}
+use Rattle.sc_acts.specs.Exiting.{handed_as}
 use Rattle.sc_region.specs.Calls.{on_top}
 
 -- the stage of the topmost routine, if there is one

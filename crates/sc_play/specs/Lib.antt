@@ -1,9 +1,3 @@
-pub mod Operands
-pub mod Requesting
-pub mod CreatingHandlers
-pub mod CreatingObjects
-pub mod Blocks
-pub mod Acting
 pub mod Taking
 pub mod Answering
 pub mod Turns

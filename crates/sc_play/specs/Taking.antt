@@ -18,9 +18,9 @@ use Rattle.sc_region.specs.Classes.{class_at}
 use Rattle.sc_region.specs.Frames.{top_activation}
 use Rattle.sc_region.specs.Objects.{PlainObject, object_numbered, attribute_of}
 use Rattle.sc_region.specs.Stores.{PlainStore, failed, entered, born, born_for}
-use Rattle.sc_interp.specs.Entering.{asks_beginning, routine_in}
-use Rattle.sc_interp.specs.Exiting.{is_void}
-use Rattle.sc_interp.specs.Serving.{version_in}
+use Rattle.sc_acts.specs.Entering.{asks_beginning, routine_in}
+use Rattle.sc_acts.specs.Exiting.{is_void}
+use Rattle.sc_acts.specs.Tables.{version_in}
 
 -- ---- a query of an attribute
 

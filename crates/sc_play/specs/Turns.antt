@@ -8,14 +8,14 @@ use Rattle.sc_region.specs.declared.job.Job.TheVariants as job
 use Rattle.sc_region.specs.declared.job.Want.{Want}
 use Rattle.sc_region.specs.declared.job.Want.TheVariants as want
 use Rattle.sc_region.specs.Stores.{PlainStore, failed}
-use Rattle.sc_interp.specs.declared.act.Hop.{Hop}
-use Rattle.sc_interp.specs.declared.act.Hop.TheVariants as hop
+use Rattle.sc_interp.specs.declared.hops.Hop.{Hop}
+use Rattle.sc_interp.specs.declared.hops.Hop.TheVariants as hop
 use Rattle.sc_interp.specs.Hopping.{ComesTo, LeadsTo}
 use Rattle.sc_interp.specs.Playing.{Remains}
 use Rattle.sc_interp.specs.Told.{IsTold}
 use Rattle.sc_region.specs.Calls.{on_top}
-use Rattle.sc_interp.specs.Turning.{unless_failed}
-use Rattle.sc_play.specs.Acting.{acted, asks_acting}
+use Rattle.sc_acts.specs.Turning.{unless_failed}
+use Rattle.sc_acts.specs.Acting.{acted, asks_acting}
 use Rattle.sc_play.specs.Answering.{granted, replied, runs, told, top_stage}
 use Rattle.sc_play.specs.Taking.{asks_taking, taken}
 

@@ -3,14 +3,10 @@
 //! A [`Region`] is the store of a handler, with its number. It plays the turns of a [`Job`](sc_region::Job).
 #![tactic(auto)]
 
-mod acts;
-mod beginning;
 mod hashing;
 mod jobs;
 pub mod laws;
 mod region;
-mod steps;
 mod turn;
-mod versions;
 
 pub use region::Region;

@@ -5,16 +5,15 @@
 ghost use Rattle.std.specs.Prelude.{◌≡◌, ℕ, IfOk, OnOk, OnErr, false, true};
 ghost use Rattle.sc_play.specs.Answering.{top_stage};
 ghost use Rattle.sc_region.specs.Stores.{failed};
-ghost use Rattle.sc_interp.specs.declared.act.Act.{Act};
-ghost use Rattle.sc_interp.specs.declared.act.Hop.TheVariants as hop;
+ghost use Rattle.sc_acts.specs.declared.act.Act.{Act};
+ghost use Rattle.sc_interp.specs.declared.hops.Hop.TheVariants as hop;
 ghost use Rattle.sc_interp.specs.Hopping.{LeadsTo};
 ghost use Rattle.sc_interp.specs.Playing.{Remains};
 ghost use Rattle.sc_region.specs.declared.job.Want.TheVariants as want;
 ghost use Rattle.sc_play.specs.Turns.{Becomes, Begins, FirstTurn, GoesOn, IsAhead, TurnMade, TurnOf, TurnUnder, asks_done, begun, done, is_going, rested};
 
-use crate::acts::act_on;
 use crate::jobs::{grant, reply, resume, take, tell, top_stage};
-use crate::steps::unless_failed;
+use sc_acts::{act_on, unless_failed};
 use sc_interp::{Hop, moves};
 use sc_model::Cause;
 use sc_region::{Job, Stage, Store, Want};

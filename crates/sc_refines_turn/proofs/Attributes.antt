@@ -21,7 +21,7 @@ use Rattle.sc_code.specs.Attributes.{attribute_number}
 use Rattle.sc_code.specs.Programs.{attribute_in}
 use Rattle.sc_region.specs.Classes.{class_at}
 use Rattle.sc_region_turns.specs.RegionSteps.{IsProgramFor}
-use Rattle.sc_interp.proofs.TopRoutines.{none_some, some_same}
+use Rattle.sc_acts.proofs.Options.{none_some, some_same}
 use Rattle.sc_play.specs.Taking.{attribute_at}
 use Rattle.sc_refines_turn.proofs.MetInvariants.{attributes_told, items_of}
 use Rattle.sc_refines_turn.proofs.ProgramRoutines.{mapped_get}

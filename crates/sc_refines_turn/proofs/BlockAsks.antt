@@ -18,18 +18,18 @@ use Rattle.sc_region.specs.declared.value.Value.{Value}
 use Rattle.sc_region.specs.declared.value.Value.TheVariants.{Integer, Boolean, Void, Attached}
 use Rattle.sc_region.specs.Frames.{PlainActivation, top_activation}
 use Rattle.sc_request.specs.Asked as asked
-use Rattle.sc_interp.specs.declared.act.Act.TheVariants as act
-use Rattle.sc_interp.specs.declared.act.Hop.TheVariants as hop
+use Rattle.sc_acts.specs.declared.act.Act.TheVariants as act
+use Rattle.sc_interp.specs.declared.hops.Hop.TheVariants as hop
 use Rattle.sc_region.specs.Calls.{last_values}
-use Rattle.sc_interp.specs.Entering.{handler_of}
+use Rattle.sc_acts.specs.Entering.{handler_of}
 use Rattle.sc_region_turns.specs.Laws.{ProgramsServe}
 use Rattle.sc_region_turns.specs.RegionSteps.{names_of, numbering_by}
 use Rattle.sc_interp.specs.Standing as standing
 use Rattle.sc_interp.specs.Standing.{actuals}
-use Rattle.sc_interp.specs.Turning.{unless_failed}
+use Rattle.sc_acts.specs.Turning.{unless_failed}
 use Rattle.sc_interp.specs.Values.{value_of, values_of}
-use Rattle.sc_play.specs.Blocks.{asks_opened, asks_opening, handlers_of, may_open}
-use Rattle.sc_play.specs.Operands.{has_actuals}
+use Rattle.sc_acts.specs.Blocks.{asks_opened, asks_opening, handlers_of, may_open}
+use Rattle.sc_acts.specs.Operands.{has_actuals}
 use Rattle.sc_refines_turn.specs.Reserving.{BlocksAsk, MayOpen}
 use Rattle.sc_refines_turn.proofs.TurnAsks.{asked_is, told_by}
 use Rattle.sc_refines_turn.proofs.SilentOperations.{meets}

@@ -21,18 +21,19 @@ use Rattle.sc_region.specs.declared.job.Want.TheVariants as want
 use Rattle.sc_region.specs.Frames.{top_activation}
 use Rattle.sc_region.specs.Stores.{PlainStore}
 use Rattle.sc_request.specs.Asked as asked
-use Rattle.sc_interp.specs.declared.act.Act.TheVariants as act
-use Rattle.sc_interp.specs.declared.act.Calling.TheVariants as calling
-use Rattle.sc_interp.specs.declared.act.Hop.{Hop}
-use Rattle.sc_interp.specs.declared.act.Hop.TheVariants as hop
-use Rattle.sc_interp.specs.Entering.{asks_beginning}
+use Rattle.sc_acts.specs.declared.act.Act.TheVariants as act
+use Rattle.sc_acts.specs.declared.act.Calling.TheVariants as calling
+use Rattle.sc_interp.specs.declared.hops.Hop.{Hop}
+use Rattle.sc_interp.specs.declared.hops.Hop.TheVariants as hop
+use Rattle.sc_acts.specs.Entering.{asks_beginning}
 use Rattle.sc_interp.specs.Hopping.{state_in}
 use Rattle.sc_region_turns.specs.Laws.{ProgramsServe}
 use Rattle.sc_region_turns.specs.RegionHalves.{IsRegionOf}
 use Rattle.sc_region_turns.specs.RegionSteps.{IsProgramFor, names_of, next_want, numbering_by}
 use Rattle.sc_region_turns.specs.RegionTurns.{Half, turn}
-use Rattle.sc_interp.specs.Standing.{actuals, name_at, without}
-use Rattle.sc_interp.specs.Turning.{unless_failed}
+use Rattle.sc_interp.specs.Standing.{actuals, without}
+use Rattle.sc_acts.specs.Tables.{name_at}
+use Rattle.sc_acts.specs.Turning.{unless_failed}
 use Rattle.sc_interp.specs.Values.{reference_of, values_of}
 use Rattle.sc_refines_turn.specs.Acting.{Comes, Meets}
 use Rattle.sc_refines_turn.specs.Reserving.{CallsAsk, ObjectCreationsAsk}

@@ -23,20 +23,20 @@ use Rattle.sc_region.specs.declared.value.Reference.{Reference}
 use Rattle.sc_region.specs.Frames.{PlainActivation, PlainFrame, frame_with, top_activation}
 use Rattle.sc_region.specs.Stores as store
 use Rattle.sc_region.specs.Stores.{PlainStore}
-use Rattle.sc_interp.specs.declared.act.Act.TheVariants as act
-use Rattle.sc_interp.specs.declared.act.Calling.{Calling}
-use Rattle.sc_interp.specs.declared.act.Calling.TheVariants as calling
-use Rattle.sc_interp.specs.declared.act.Hop.TheVariants as hop
+use Rattle.sc_acts.specs.declared.act.Act.TheVariants as act
+use Rattle.sc_acts.specs.declared.act.Calling.{Calling}
+use Rattle.sc_acts.specs.declared.act.Calling.TheVariants as calling
+use Rattle.sc_interp.specs.declared.hops.Hop.TheVariants as hop
 use Rattle.sc_region.specs.Calls.{in_call, last_values, on_top}
-use Rattle.sc_interp.specs.Entering.{HasCall, called, called_at, entered_if, has_operands, operands_of, routine_in}
-use Rattle.sc_interp.specs.Entering as entering
+use Rattle.sc_acts.specs.Entering.{HasCall, called, called_at, entered_if, has_operands, operands_of, routine_in}
+use Rattle.sc_acts.specs.Entering as entering
 use Rattle.sc_interp.specs.Hopping.{state_in}
 use Rattle.sc_region_turns.specs.Laws.{ProgramsServe}
 use Rattle.sc_region_turns.specs.RegionHalves.{IsRegionOf, calling_of}
 use Rattle.sc_region_turns.specs.RegionSteps.{IsProgramFor}
 use Rattle.sc_region_turns.specs.RegionTurns.{Half, enters, enters_bound, turn, with_stack}
-use Rattle.sc_interp.specs.Serving.{version_in}
-use Rattle.sc_interp.specs.Standing.{actuals, name_at, without}
+use Rattle.sc_acts.specs.Tables.{version_in, name_at}
+use Rattle.sc_interp.specs.Standing.{actuals, without}
 use Rattle.sc_interp.specs.Values.{reference_of, values_of}
 use Rattle.sc_refines_turn.specs.Acting.{CallsAreMade, Comes, Meets}
 use Rattle.sc_refines_turn.proofs.SilentOperations.{meets}

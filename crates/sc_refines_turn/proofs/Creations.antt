@@ -28,10 +28,10 @@ use Rattle.sc_region.specs.Frames.{PlainActivation, PlainFrame, frame_with, top_
 use Rattle.sc_region.specs.Objects.{PlainObject, object_numbered}
 use Rattle.sc_region.specs.Stores as store
 use Rattle.sc_region.specs.Stores.{PlainStore, born, next_reference, with_new}
-use Rattle.sc_interp.specs.declared.act.Act.TheVariants as act
-use Rattle.sc_interp.specs.declared.act.Hop.{Hop}
-use Rattle.sc_interp.specs.declared.act.Hop.TheVariants as hop
-use Rattle.sc_interp.specs.Creating.{created, given, has_room_in, with_reference}
+use Rattle.sc_acts.specs.declared.act.Act.TheVariants as act
+use Rattle.sc_interp.specs.declared.hops.Hop.{Hop}
+use Rattle.sc_interp.specs.declared.hops.Hop.TheVariants as hop
+use Rattle.sc_acts.specs.Creating.{created, given, has_room_in, with_reference}
 use Rattle.sc_region_turns.specs.Laws.{ProgramsServe}
 use Rattle.sc_interp.specs.Objects.{object_in, objects_in, valued}
 use Rattle.sc_region_turns.specs.RegionHalves.{IsRegionOf, AreFrames}
@@ -42,7 +42,7 @@ use Rattle.sc_region.specs.Calls.{on_top, past, top_frame}
 use Rattle.sc_interp.specs.Values.{reference_of, value_of, values_of}
 use Rattle.sc_interp.proofs.Behind.{passes}
 use Rattle.sc_interp.proofs.SilentMoves.{stays_after}
-use Rattle.sc_interp.proofs.TopRoutines.{some_same}
+use Rattle.sc_acts.proofs.Options.{some_same}
 use Rattle.sc_interp.proofs.Operands.{values_drop}
 use Rattle.sc_refines_turn.specs.Acting.{Comes, IsCreator, Meets, ObjectsAreCreated}
 use Rattle.sc_refines_turn.proofs.SilentOperations.{meets}

@@ -23,7 +23,7 @@ use Rattle.sc_region_turns.specs.RegionTurns.{Made, begins, takes_made, with_sta
 use Rattle.sc_interp.specs.Standing.{state_of}
 use Rattle.sc_region.specs.Calls.{on_top}
 use Rattle.sc_interp.specs.Values.{value_of, values_of}
-use Rattle.sc_interp.proofs.TopRoutines.{none_some, some_same}
+use Rattle.sc_acts.proofs.Options.{none_some, some_same}
 use Rattle.sc_play.specs.Answering.{runs, told, told_on, told_value, told_values, top_stage}
 use Rattle.sc_refines_turn.specs.Making.{CreatorsAreTold, MadeAreAnswers}
 

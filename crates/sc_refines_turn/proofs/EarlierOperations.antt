@@ -8,13 +8,13 @@ use Rattle.sc_region.specs.declared.frame.Stage.TheVariants as stage
 use Rattle.sc_region.specs.declared.job.Want.{Want}
 use Rattle.sc_region.specs.Frames.{PlainActivation, PlainFrame, top_activation, top_current}
 use Rattle.sc_region.specs.Stores.{PlainStore}
-use Rattle.sc_interp.specs.declared.act.Hop as outcome
+use Rattle.sc_interp.specs.declared.hops.Hop as outcome
 use Rattle.sc_interp.specs.Hopping.{ComesTo, LeadsTo, state_in}
 use Rattle.sc_interp.specs.Playing.{Remains}
 use Rattle.sc_interp.specs.Standing.{hopped}
 use Rattle.sc_interp.specs.Values.{reference_of}
 use Rattle.sc_interp.proofs.SilentMoves.{remains_after, runs_on, top_of}
-use Rattle.sc_interp.proofs.TopRoutines.{none_some}
+use Rattle.sc_acts.proofs.Options.{none_some}
 use Rattle.sc_play.specs.Turns.{GoesOn, TurnIn, TurnMade}
 use Rattle.sc_refines_turn.specs.Acting.{SilentOperationsJoin, TopRuns}
 use Rattle.sc_refines_turn.specs.Placed.{TurnsJoin}

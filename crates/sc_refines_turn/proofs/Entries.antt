@@ -48,7 +48,7 @@ use Rattle.sc_region.specs.Frames.{PlainActivation, frame_with}
 use Rattle.sc_region.specs.Stores as store
 use Rattle.sc_region.specs.Stores.{PlainStore, entered_at}
 use Rattle.sc_region.specs.Values.{default_value}
-use Rattle.sc_interp.specs.Entering.{entered_if, routine_in}
+use Rattle.sc_acts.specs.Entering.{entered_if, routine_in}
 use Rattle.sc_region_turns.specs.RegionHalves as halves
 use Rattle.sc_region_turns.specs.RegionHalves.{IsRegionOf, IsFrame, StandsIn}
 use Rattle.sc_region_turns.specs.RegionSteps.{IsProgramFor}
@@ -56,7 +56,7 @@ use Rattle.sc_region_turns.specs.RegionTurns as half
 use Rattle.sc_region_turns.specs.RegionTurns.{Half, enters, enters_bound, with_stack}
 use Rattle.sc_interp.specs.Standing.{state_of}
 use Rattle.sc_interp.specs.Values.{reference_of, value_of, values_of}
-use Rattle.sc_interp.proofs.TopRoutines.{none_some, some_same}
+use Rattle.sc_acts.proofs.Options.{none_some, some_same}
 use Rattle.sc_region_turns.proofs.RegionSame.{same_height, still_fails}
 use Rattle.sc_refines_turn.specs.Acting.{RoutinesAreEntered}
 use Rattle.sc_refines_turn.proofs.SilentOperations.{all_declared}

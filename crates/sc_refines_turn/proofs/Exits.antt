@@ -38,10 +38,10 @@ use Rattle.sc_region.specs.Frames.{PlainActivation, PlainFrame, frame_with}
 use Rattle.sc_region.specs.Objects as objects
 use Rattle.sc_region.specs.Stores as store
 use Rattle.sc_region.specs.Stores.{PlainStore, left, settled}
-use Rattle.sc_interp.specs.declared.act.Act.TheVariants as act
-use Rattle.sc_interp.specs.declared.act.Hop.{Hop}
-use Rattle.sc_interp.specs.declared.act.Hop.TheVariants as hop
-use Rattle.sc_interp.specs.Exiting.{exited, gives_attached, handed, handed_as, handed_at, handed_value, is_unset, is_untested, is_void, returned}
+use Rattle.sc_acts.specs.declared.act.Act.TheVariants as act
+use Rattle.sc_interp.specs.declared.hops.Hop.{Hop}
+use Rattle.sc_interp.specs.declared.hops.Hop.TheVariants as hop
+use Rattle.sc_acts.specs.Exiting.{exited, gives_attached, handed, handed_as, handed_at, handed_value, is_unset, is_untested, is_void, returned}
 use Rattle.sc_interp.specs.Hopping.{state_in}
 use Rattle.sc_region_turns.specs.Laws.{ProgramsServe}
 use Rattle.sc_interp.specs.Objects.{objects_in}
@@ -52,7 +52,7 @@ use Rattle.sc_region_turns.specs.RegionTurns.{Half, acts, hands, leaves, settles
 use Rattle.sc_region.specs.Calls.{on_top}
 use Rattle.sc_interp.specs.Values.{value_of}
 use Rattle.sc_interp.proofs.GoingOn.{less_is}
-use Rattle.sc_interp.proofs.TopRoutines.{none_some, some_same}
+use Rattle.sc_acts.proofs.Options.{none_some, some_same}
 use Rattle.sc_refines_turn.specs.Acting.{AreWhole, Comes, Meets, RoutinesEnd, TakesAs, TakesResult, is_called}
 use Rattle.sc_refines_turn.proofs.SilentOperations.{meets}
 use Rattle.sc_refines_turn.proofs.MetInvariants.{object_meets_same, still_settles}

@@ -17,7 +17,7 @@ use Rattle.sc_region.specs.declared.frame.Stage.TheVariants as stage
 use Rattle.sc_region.specs.declared.value.Value.{Value}
 use Rattle.sc_region.specs.Frames.{PlainActivation, PlainFrame}
 use Rattle.sc_region.specs.Stores.{PlainStore}
-use Rattle.sc_interp.specs.Exiting.{handed_as, handed_value}
+use Rattle.sc_acts.specs.Exiting.{handed_as, handed_value}
 use Rattle.sc_region_turns.specs.RegionHalves.{IsRegionOf, AreFrames, IsFrame, StandsIn, stage_of}
 use Rattle.sc_region_turns.specs.RegionTurns.{Half, Granted, Replied, begins, takes_grant, takes_reply, with_stack}
 use Rattle.sc_interp.specs.Values.{value_of}

@@ -37,7 +37,7 @@ use Rattle.sc_model.specs.Expressions.{gives_outcome, gives_truth, apply_unary, 
 use Rattle.sc_model.specs.Instructions.{assigns, prints, chooses_other, chooses, ends_loop, tests, required, opens, begins_routine, begins}
 use Rattle.sc_model.specs.Sizes.{size}
 use Rattle.sc_model.specs.Moves.{performs_on, performs, step_at, step, then_go, first_visible, moves}
-use Rattle.sc_interp.proofs.TopRoutines.{none_some, some_same}
+use Rattle.sc_acts.proofs.Options.{none_some, some_same}
 use Rattle.sc_refines_turn.specs.Halves.{AreComplete, IsComplete}
 use Rattle.sc_refines_turn.proofs.Slots.{set_many}
 

@@ -44,7 +44,7 @@ use Rattle.sc_region_turns.specs.RegionHalves.{IsRegionOf}
 use Rattle.sc_region_turns.specs.RegionSteps.{IsProgramFor}
 use Rattle.sc_region_turns.specs.RegionTurns.{Half, is_current, settles}
 use Rattle.sc_region_turns.specs.RegionTurns as half
-use Rattle.sc_interp.specs.Serving.{version_in}
+use Rattle.sc_acts.specs.Tables.{version_in}
 use Rattle.sc_interp.specs.Values.{value_of, values_of}
 use Rattle.sc_region_turns.proofs.RegionSame.{same_current, still_fails}
 use Rattle.sc_refines_turn.specs.Acting.{AreWhole}

@@ -23,18 +23,19 @@ use Rattle.sc_code.proofs.Hops.{within}
 use Rattle.sc_region.specs.Frames.{PlainActivation, PlainFrame, frame_with, top_activation}
 use Rattle.sc_region.specs.Stores as store
 use Rattle.sc_region.specs.Stores.{PlainStore, printed}
-use Rattle.sc_interp.specs.declared.act.Act.TheVariants as act
-use Rattle.sc_interp.specs.declared.act.Hop.{Hop}
-use Rattle.sc_interp.specs.declared.act.Hop.TheVariants as hop
+use Rattle.sc_acts.specs.declared.act.Act.TheVariants as act
+use Rattle.sc_interp.specs.declared.hops.Hop.{Hop}
+use Rattle.sc_interp.specs.declared.hops.Hop.TheVariants as hop
 use Rattle.sc_interp.specs.Hopping.{state_in}
 use Rattle.sc_region_turns.specs.Laws.{ProgramsServe}
 use Rattle.sc_interp.specs.Objects.{objects_in}
 use Rattle.sc_region_turns.specs.RegionHalves.{IsRegionOf, AreFrames, IsFrame, StandsIn}
 use Rattle.sc_region_turns.specs.RegionSteps.{IsProgramFor}
 use Rattle.sc_region_turns.specs.RegionTurns.{Half, acts, failed, goes_on, moved, turn, turn_on}
-use Rattle.sc_interp.specs.Standing.{Stays, listed, state_of, without}
+use Rattle.sc_interp.specs.Standing.{Stays, state_of, without}
+use Rattle.sc_acts.specs.Tables.{listed}
 use Rattle.sc_region.specs.Calls.{on_top, past, top_frame}
-use Rattle.sc_interp.specs.Turning.{back, round_ended}
+use Rattle.sc_acts.specs.Turning.{back, round_ended}
 use Rattle.sc_interp.proofs.Behind.{passes}
 use Rattle.sc_interp.proofs.SilentMoves.{stays_after}
 use Rattle.sc_interp.proofs.Operands.{values_drop}

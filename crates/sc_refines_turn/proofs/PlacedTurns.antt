@@ -40,12 +40,12 @@ use Rattle.sc_region.specs.declared.value.Value.{Value}
 use Rattle.sc_region.specs.Frames as frames
 use Rattle.sc_region.specs.Frames.{PlainActivation, PlainFrame, frame_with, top_activation, top_current}
 use Rattle.sc_region.specs.Stores.{PlainStore}
-use Rattle.sc_interp.specs.declared.act.Act.{Act}
-use Rattle.sc_interp.specs.declared.act.Act.TheVariants as act
-use Rattle.sc_interp.specs.declared.act.Hop.{Hop}
-use Rattle.sc_interp.specs.declared.act.Hop.TheVariants as hop
-use Rattle.sc_interp.specs.Creating.{has_room_in}
-use Rattle.sc_interp.specs.Entering.{Has, HasCall, routine_in}
+use Rattle.sc_acts.specs.declared.act.Act.{Act}
+use Rattle.sc_acts.specs.declared.act.Act.TheVariants as act
+use Rattle.sc_interp.specs.declared.hops.Hop.{Hop}
+use Rattle.sc_interp.specs.declared.hops.Hop.TheVariants as hop
+use Rattle.sc_acts.specs.Creating.{has_room_in}
+use Rattle.sc_acts.specs.Entering.{Has, HasCall, routine_in}
 use Rattle.sc_interp.specs.Hopping.{state_in}
 use Rattle.sc_region_turns.specs.Laws.{ProgramsServe}
 use Rattle.sc_interp.specs.Objects.{object_in, objects_in, valued}
@@ -53,12 +53,13 @@ use Rattle.sc_region_turns.specs.RegionHalves.{AreFrames, IsRegionOf, StandsIn, 
 use Rattle.sc_region_turns.specs.RegionSteps.{IsProgramFor, names_of}
 use Rattle.sc_region_turns.specs.RegionTurns as half
 use Rattle.sc_region_turns.specs.RegionTurns.{Half}
-use Rattle.sc_interp.specs.Serving.{is_routine_in, version_in}
-use Rattle.sc_interp.specs.Standing.{actuals, name_at, state_of, without}
+use Rattle.sc_interp.specs.Serving.{is_routine_in}
+use Rattle.sc_acts.specs.Tables.{version_in, name_at}
+use Rattle.sc_interp.specs.Standing.{actuals, state_of, without}
 use Rattle.sc_interp.specs.Told.{IsTold, NamesCreation}
 use Rattle.sc_interp.specs.Values.{reference_of, value_of, values_of}
 use Rattle.sc_interp.proofs.GoingOn.{less_is}
-use Rattle.sc_interp.proofs.TopRoutines.{none_some, some_same}
+use Rattle.sc_acts.proofs.Options.{none_some, some_same}
 use Rattle.sc_interp.proofs.Operands.{values_drop}
 use Rattle.sc_region_turns.proofs.RegionSame.{same_current}
 use Rattle.sc_play.specs.Answering.{top_stage}

@@ -31,23 +31,23 @@ use Rattle.sc_region.specs.Frames.{PlainActivation, PlainFrame, frame_with, top_
 use Rattle.sc_region.specs.Objects.{object_numbered}
 use Rattle.sc_region.specs.Stores as store
 use Rattle.sc_region.specs.Stores.{PlainStore, born_for, entered, entered_at, next_reference, settled, with_new}
-use Rattle.sc_interp.specs.declared.act.Act.TheVariants as act
-use Rattle.sc_interp.specs.declared.act.Hop.TheVariants as hop
-use Rattle.sc_interp.specs.Creating.{created_at, created_by, has_room_in, made_if, with_reference}
+use Rattle.sc_acts.specs.declared.act.Act.TheVariants as act
+use Rattle.sc_interp.specs.declared.hops.Hop.TheVariants as hop
+use Rattle.sc_acts.specs.Creating.{created_at, created_by, has_room_in, made_if, with_reference}
 use Rattle.sc_region.specs.Calls.{in_call, last_values, on_top, top_frame}
-use Rattle.sc_interp.specs.Entering.{Has, entered_if, has_operands, routine_in}
+use Rattle.sc_acts.specs.Entering.{Has, entered_if, has_operands, routine_in}
 use Rattle.sc_region_turns.specs.Laws.{ProgramsServe}
 use Rattle.sc_interp.specs.Objects.{object_in, objects_in}
 use Rattle.sc_region_turns.specs.RegionHalves.{IsRegionOf, AreFrames}
 use Rattle.sc_region_turns.specs.RegionSteps.{IsProgramFor}
 use Rattle.sc_region_turns.specs.RegionTurns.{Half, enters, turn, with_stack}
-use Rattle.sc_interp.specs.Serving.{version_in}
-use Rattle.sc_interp.specs.Standing.{actuals, name_at, state_of, without}
+use Rattle.sc_acts.specs.Tables.{version_in, name_at}
+use Rattle.sc_interp.specs.Standing.{actuals, state_of, without}
 use Rattle.sc_interp.specs.Values.{reference_of, value_of, values_of}
 use Rattle.sc_interp.proofs.Behind.{passes}
-use Rattle.sc_interp.proofs.TopRoutines.{some_same}
+use Rattle.sc_acts.proofs.Options.{some_same}
 use Rattle.sc_interp.proofs.Operands.{values_drop}
-use Rattle.sc_play.specs.CreatingObjects.{created_by_name}
+use Rattle.sc_acts.specs.CreatingObjects.{created_by_name}
 use Rattle.sc_refines_turn.specs.Acting.{Comes, Meets, ObjectsAreCreatedBy, RunsOn, TurnsInto}
 use Rattle.sc_refines_turn.proofs.Calls.{entered_anew, enters_is, name_is}
 use Rattle.sc_refines_turn.proofs.SilentOperations.{meets}

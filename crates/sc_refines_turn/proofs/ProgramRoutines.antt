@@ -25,7 +25,7 @@ use Rattle.sc_code.proofs.TypingEntries.{objects_may_change}
 use Rattle.sc_region.specs.Classes.{routine_at}
 use Rattle.sc_region.specs.Frames.{PlainFrame}
 use Rattle.sc_region_turns.specs.RegionHalves.{IsFrame, AreFrames, StandsIn}
-use Rattle.sc_interp.proofs.TopRoutines.{none_some, some_same}
+use Rattle.sc_acts.proofs.Options.{none_some, some_same}
 
 -- ---- routines
 

@@ -29,21 +29,22 @@ use Rattle.sc_region.specs.Frames.{PlainActivation, frame_with, top_activation}
 use Rattle.sc_region.specs.Objects as objects
 use Rattle.sc_region.specs.Stores as store
 use Rattle.sc_region.specs.Stores.{PlainStore, left}
-use Rattle.sc_interp.specs.declared.act.Act.TheVariants as act
-use Rattle.sc_interp.specs.declared.act.Hop.{Hop}
-use Rattle.sc_interp.specs.declared.act.Hop.TheVariants as hop
+use Rattle.sc_acts.specs.declared.act.Act.TheVariants as act
+use Rattle.sc_interp.specs.declared.hops.Hop.{Hop}
+use Rattle.sc_interp.specs.declared.hops.Hop.TheVariants as hop
 use Rattle.sc_region_turns.specs.Laws.{ProgramsServe}
 use Rattle.sc_interp.specs.Objects.{objects_in}
-use Rattle.sc_interp.specs.Refusing.{is_reserved, is_waited_for, lies_on_any, refused, refused_as, waiting}
+use Rattle.sc_acts.specs.Refusing.{is_reserved, is_waited_for, lies_on_any, refused, refused_as, waiting}
 use Rattle.sc_region_turns.specs.RegionHalves.{IsRegionOf, origin_of, requested}
 use Rattle.sc_region_turns.specs.RegionSteps.{IsProgramFor}
 use Rattle.sc_region_turns.specs.RegionTurns as half
 use Rattle.sc_region_turns.specs.RegionTurns.{Half, acts, correctness_fails, false_clause, leaves, turn}
 use Rattle.sc_interp.specs.Hopping.{state_in}
-use Rattle.sc_interp.specs.Standing.{formals_at, without}
+use Rattle.sc_acts.specs.Tables.{formals_at}
+use Rattle.sc_interp.specs.Standing.{without}
 use Rattle.sc_region.specs.Calls.{on_top}
 use Rattle.sc_interp.specs.Values.{value_of, values_of}
-use Rattle.sc_interp.proofs.TopRoutines.{none_some, some_same}
+use Rattle.sc_acts.proofs.Options.{none_some, some_same}
 use Rattle.sc_refines_turn.specs.Acting.{AreWhole, CallsAreRefused, Comes, IsNotWaitedFor, Meets}
 use Rattle.sc_refines_turn.proofs.SilentOperations.{meets}
 use Rattle.sc_refines_turn.proofs.Exits.{meets_same, origin_same, region_failed, region_left}

@@ -42,14 +42,14 @@ use Rattle.sc_region.specs.declared.value.Value.TheVariants.{Integer, Boolean, V
 use Rattle.sc_region.specs.Frames.{PlainFrame, top_activation}
 use Rattle.sc_region.specs.Stores.{PlainStore}
 use Rattle.sc_request.specs.Asked as asked
-use Rattle.sc_interp.specs.Entering.{asks_beginning, asks_reserving, asks_with, handler_of}
+use Rattle.sc_acts.specs.Entering.{asks_beginning, asks_reserving, asks_with, handler_of}
 use Rattle.sc_region_turns.specs.RegionHalves.{IsRegionOf, AreFrames, IsFrame, StandsIn}
 use Rattle.sc_region_turns.specs.RegionSteps.{IsProgramFor}
 use Rattle.sc_region_turns.specs.RegionTurns as half
 use Rattle.sc_region_turns.specs.RegionTurns.{Half, enters, enters_bound, with_stack}
-use Rattle.sc_interp.specs.Turning.{unless_failed}
+use Rattle.sc_acts.specs.Turning.{unless_failed}
 use Rattle.sc_interp.specs.Values.{value_of, values_of}
-use Rattle.sc_interp.proofs.TopRoutines.{none_some, some_same}
+use Rattle.sc_acts.proofs.Options.{none_some, some_same}
 use Rattle.sc_refines_turn.proofs.Entries.{AreFormals, bound, formals_are, formals_of_routine, no_routine}
 use Rattle.sc_refines_turn.proofs.ProgramRoutines.{code_at, mapped_get}
 

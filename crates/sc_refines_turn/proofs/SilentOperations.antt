@@ -22,7 +22,7 @@ use Rattle.sc_code.proofs.Hops.{hops_on}
 use Rattle.sc_region.specs.declared.frame.Stage.TheVariants as stage
 use Rattle.sc_region.specs.Frames.{PlainActivation, PlainFrame, frame_with, top_activation, top_current}
 use Rattle.sc_region.specs.Stores.{PlainStore}
-use Rattle.sc_interp.specs.declared.act.Hop.{Hop}
+use Rattle.sc_interp.specs.declared.hops.Hop.{Hop}
 use Rattle.sc_interp.specs.Hopping.{Runs as RunsIn, state_in}
 use Rattle.sc_region_turns.specs.Laws.{ProgramsServe}
 use Rattle.sc_region_turns.specs.RegionHalves.{IsRegionOf, AreFrames, IsFrame, StandsIn, stage_of}
@@ -30,7 +30,7 @@ use Rattle.sc_region_turns.specs.RegionSteps.{IsProgramFor}
 use Rattle.sc_region_turns.specs.RegionTurns.{Half}
 use Rattle.sc_interp.specs.Standing.{hopped, state_of}
 use Rattle.sc_interp.specs.Values.{reference_of}
-use Rattle.sc_interp.proofs.TopRoutines.{none_some, some_same}
+use Rattle.sc_acts.proofs.Options.{none_some, some_same}
 use Rattle.sc_refines_turn.specs.Acting.{Comes, Meets, SilentOperationsFollow}
 use Rattle.sc_refines_turn.proofs.ProgramRoutines.{code_at, operations_are}
 use Rattle.sc_refines_turn.proofs.Unique.{one_visible, hop_shown}

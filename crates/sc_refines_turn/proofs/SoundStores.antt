@@ -23,32 +23,31 @@ use Rattle.sc_region.specs.Classes.{object_meets, routine_at}
 use Rattle.sc_region.specs.Frames.{PlainActivation, PlainFrame, top_activation, top_current}
 use Rattle.sc_region.specs.Objects.{PlainObject, attribute_of, object_numbered}
 use Rattle.sc_region.specs.Stores.{PlainStore, beginning, born, born_for, entered, entered_at, failed, left, left_to, made, made_for, max_frames, max_objects, next_reference, stage_of, with_new}
-use Rattle.sc_interp.specs.declared.act.Act.{Act}
-use Rattle.sc_interp.specs.declared.act.Act.TheVariants as act
-use Rattle.sc_interp.specs.declared.act.Calling.{Calling}
-use Rattle.sc_interp.specs.declared.act.Hop.{Hop}
-use Rattle.sc_interp.specs.declared.act.Hop.TheVariants as hop
-use Rattle.sc_interp.specs.Creating.{created_at, given, has_room, has_room_in, made_if, with_reference, without_last}
+use Rattle.sc_acts.specs.declared.act.Act.{Act}
+use Rattle.sc_acts.specs.declared.act.Act.TheVariants as act
+use Rattle.sc_acts.specs.declared.act.Calling.{Calling}
+use Rattle.sc_interp.specs.declared.hops.Hop.{Hop}
+use Rattle.sc_interp.specs.declared.hops.Hop.TheVariants as hop
+use Rattle.sc_acts.specs.Creating.{created_at, given, has_room, has_room_in, made_if, with_reference, without_last}
 use Rattle.sc_region.specs.Calls.{in_call, last_values, on_top, past, top_frame}
-use Rattle.sc_interp.specs.Entering.{called_at, entered_if, has_operands, operands_of, origin_of, routine_in}
-use Rattle.sc_interp.specs.Exiting.{exited_at, handed, handed_as, handed_at, handed_value, is_unset, is_untested, is_void, returned}
-use Rattle.sc_interp.specs.Refusing.{is_waited_for, refused_as, refused_at, waiting}
-use Rattle.sc_interp.specs.Serving.{version_in}
-use Rattle.sc_interp.specs.Standing.{formals_at}
+use Rattle.sc_acts.specs.Entering.{called_at, entered_if, has_operands, operands_of, origin_of, routine_in}
+use Rattle.sc_acts.specs.Exiting.{exited_at, handed, handed_as, handed_at, handed_value, is_unset, is_untested, is_void, returned}
+use Rattle.sc_acts.specs.Refusing.{is_waited_for, refused_as, refused_at, waiting}
+use Rattle.sc_acts.specs.Tables.{version_in, formals_at}
 use Rattle.sc_interp.specs.Told.{IsTold}
-use Rattle.sc_interp.specs.Turning.{round_ended}
-use Rattle.sc_interp.proofs.TopRoutines.{none_some}
-use Rattle.sc_play.specs.Acting.{acted}
+use Rattle.sc_acts.specs.Turning.{round_ended}
+use Rattle.sc_acts.proofs.Options.{none_some}
+use Rattle.sc_acts.specs.Acting.{acted}
 use Rattle.sc_play.specs.Answering.{block_granted, entry_granted, granted_in, replied_in, told_on, told_values, top_stage}
 use Rattle.sc_play.specs.Answering as answering
-use Rattle.sc_play.specs.Blocks as blocks
-use Rattle.sc_play.specs.Blocks.{closing, heads_in, innermost_in, left_with, opened_with}
-use Rattle.sc_play.specs.CreatingHandlers as handlers
-use Rattle.sc_play.specs.CreatingHandlers.{created_as, creation_in, creation_with}
-use Rattle.sc_play.specs.CreatingObjects as objects
-use Rattle.sc_play.specs.Operands.{class_number}
-use Rattle.sc_play.specs.Requesting as requesting
-use Rattle.sc_play.specs.Requesting.{awaiting_if, call_of, request_in, sent}
+use Rattle.sc_acts.specs.Blocks as blocks
+use Rattle.sc_acts.specs.Blocks.{closing, heads_in, innermost_in, left_with, opened_with}
+use Rattle.sc_acts.specs.CreatingHandlers as handlers
+use Rattle.sc_acts.specs.CreatingHandlers.{created_as, creation_in, creation_with}
+use Rattle.sc_acts.specs.CreatingObjects as objects
+use Rattle.sc_acts.specs.Operands.{class_number}
+use Rattle.sc_acts.specs.Requesting as requesting
+use Rattle.sc_acts.specs.Requesting.{awaiting_if, call_of, request_in, sent}
 use Rattle.sc_play.specs.Taking as taking
 use Rattle.sc_play.specs.Taking.{answered, attribute_at, born_by, taken_on, taken_version}
 use Rattle.sc_play.specs.Turns.{Becomes, GoesOn, TurnIn, TurnMade, TurnUnder, begun, done, first, more}

@@ -26,10 +26,10 @@ use Rattle.sc_region.specs.declared.value.Value.{Value}
 use Rattle.sc_region.specs.Frames.{PlainActivation, frame_with, top_activation}
 use Rattle.sc_region.specs.Stores as store
 use Rattle.sc_region.specs.Stores.{PlainStore}
-use Rattle.sc_interp.specs.declared.act.Act.TheVariants as act
-use Rattle.sc_interp.specs.declared.act.Hop.{Hop}
-use Rattle.sc_interp.specs.declared.act.Hop.TheVariants as hop
-use Rattle.sc_interp.specs.Creating.{with_reference, without_last}
+use Rattle.sc_acts.specs.declared.act.Act.TheVariants as act
+use Rattle.sc_interp.specs.declared.hops.Hop.{Hop}
+use Rattle.sc_interp.specs.declared.hops.Hop.TheVariants as hop
+use Rattle.sc_acts.specs.Creating.{with_reference, without_last}
 use Rattle.sc_region.specs.Calls.{last_values, taken, next_place, on_top, past, top_frame}
 use Rattle.sc_interp.specs.Hopping.{state_in}
 use Rattle.sc_region_turns.specs.Laws.{ProgramsServe}
@@ -38,7 +38,8 @@ use Rattle.sc_region_turns.specs.RegionHalves.{IsRegionOf, AreFrames, IsFrame, S
 use Rattle.sc_region_turns.specs.RegionSteps.{IsProgramFor}
 use Rattle.sc_region_turns.specs.RegionTurns.{Half, creates_handler, leaves_block, with_stack}
 use Rattle.sc_interp.specs.Standing as standing
-use Rattle.sc_interp.specs.Standing.{actuals, name_at, state_of, without}
+use Rattle.sc_interp.specs.Standing.{actuals, state_of, without}
+use Rattle.sc_acts.specs.Tables.{name_at}
 use Rattle.sc_interp.specs.Values.{reference_of, value_of, values_of}
 use Rattle.sc_interp.proofs.Behind.{passes}
 use Rattle.sc_refines_turn.specs.Acting.{BlocksBegin, BlocksEnd, Comes, HandlersAreCreated, HasBlock, HasNoBlock, Meets, NoBlockEnds, RequestsAreMade, awaiting_if, closing, creating, first_object, opening, sending, written}

@@ -45,18 +45,18 @@ use Rattle.sc_region.specs.Objects.{PlainObject, attribute_of, object_numbered}
 use Rattle.sc_region.specs.Stores as store
 use Rattle.sc_region.specs.Stores.{PlainStore, born, entered, entered_at, is_settled, settled, with_new}
 use Rattle.sc_request.specs.Asked as asked
-use Rattle.sc_interp.specs.Entering.{entered_if, routine_in}
-use Rattle.sc_interp.specs.Exiting.{is_void}
+use Rattle.sc_acts.specs.Entering.{entered_if, routine_in}
+use Rattle.sc_acts.specs.Exiting.{is_void}
 use Rattle.sc_interp.specs.Objects.{object_in, objects_in}
 use Rattle.sc_region_turns.specs.RegionHalves.{IsRegionOf}
 use Rattle.sc_region_turns.specs.RegionSteps as region_steps
 use Rattle.sc_region_turns.specs.RegionSteps.{IsProgramFor, first_want, names_of, numbering_by, request_with, taking}
 use Rattle.sc_region_turns.specs.RegionTurns as half
 use Rattle.sc_region_turns.specs.RegionTurns.{Half, begins, enters, replies, settles, takes, takes_kind, takes_version}
-use Rattle.sc_interp.specs.Serving.{version_in}
-use Rattle.sc_interp.specs.Turning.{unless_failed}
+use Rattle.sc_acts.specs.Tables.{version_in}
+use Rattle.sc_acts.specs.Turning.{unless_failed}
 use Rattle.sc_interp.specs.Values.{reference_of, value_of, values_of}
-use Rattle.sc_interp.proofs.TopRoutines.{none_some, some_same}
+use Rattle.sc_acts.proofs.Options.{none_some, some_same}
 use Rattle.sc_region_turns.proofs.RegionSame.{still_fails}
 use Rattle.sc_interp.proofs.Valued.{valued_named}
 use Rattle.sc_play.specs.Taking.{answered, asks_answering, asks_call, asks_creation, asks_errand, asks_on, asks_version, born_by, taken, taken_call, taken_creation, taken_errand, taken_on, taken_version}

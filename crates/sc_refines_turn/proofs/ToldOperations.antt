@@ -11,32 +11,32 @@ use Rattle.sc_region.specs.declared.value.Reference.{Reference}
 use Rattle.sc_region.specs.declared.value.Value.{Value}
 use Rattle.sc_region.specs.Frames.{PlainActivation, PlainFrame, top_activation}
 use Rattle.sc_region.specs.Stores.{PlainStore, next_reference}
-use Rattle.sc_interp.specs.declared.act.Act.{Act}
-use Rattle.sc_interp.specs.declared.act.Act.TheVariants as act
-use Rattle.sc_interp.specs.declared.act.Calling.{Calling}
-use Rattle.sc_interp.specs.declared.act.Calling.TheVariants as calling
-use Rattle.sc_interp.specs.declared.act.Hop.TheVariants as hop
-use Rattle.sc_interp.specs.Creating.{has_room, with_reference, without_last}
+use Rattle.sc_acts.specs.declared.act.Act.{Act}
+use Rattle.sc_acts.specs.declared.act.Act.TheVariants as act
+use Rattle.sc_acts.specs.declared.act.Calling.{Calling}
+use Rattle.sc_acts.specs.declared.act.Calling.TheVariants as calling
+use Rattle.sc_interp.specs.declared.hops.Hop.TheVariants as hop
+use Rattle.sc_acts.specs.Creating.{has_room, with_reference, without_last}
 use Rattle.sc_region.specs.Calls.{last_values, taken, on_top, past, top_frame}
-use Rattle.sc_interp.specs.Entering.{Has, HasCall, has_operands, operands_of}
+use Rattle.sc_acts.specs.Entering.{Has, HasCall, has_operands, operands_of}
 use Rattle.sc_region_turns.specs.Laws.{ProgramsServe}
 use Rattle.sc_region_turns.specs.RegionHalves.{IsRegionOf}
 use Rattle.sc_region_turns.specs.RegionSteps.{names_of}
 use Rattle.sc_region_turns.specs.RegionTurns.{turn}
-use Rattle.sc_interp.specs.Standing.{name_at}
+use Rattle.sc_acts.specs.Tables.{name_at}
 use Rattle.sc_interp.specs.Told.{HasName, HasProcedure, IsReady, IsReadyAt, IsTold, NamesCall, NamesCreation}
 use Rattle.sc_interp.proofs.GoingOn.{less_is, more_is}
-use Rattle.sc_interp.proofs.TopRoutines.{none_some, some_same}
-use Rattle.sc_play.specs.Acting.{acted}
-use Rattle.sc_play.specs.Blocks as blocks
-use Rattle.sc_play.specs.Blocks.{heads_in, may_open, opened_with}
-use Rattle.sc_play.specs.CreatingHandlers as creating
-use Rattle.sc_play.specs.CreatingHandlers.{created_as, creation_by, creation_in, creation_of, creation_with, may_create}
-use Rattle.sc_play.specs.CreatingObjects.{created_with}
-use Rattle.sc_play.specs.CreatingObjects as objects
-use Rattle.sc_play.specs.Operands.{class_number, has_actuals, has_call, name_number, procedure_number}
-use Rattle.sc_play.specs.Requesting as requesting
-use Rattle.sc_play.specs.Requesting.{call_of, request_by, request_in, request_of, sent}
+use Rattle.sc_acts.proofs.Options.{none_some, some_same}
+use Rattle.sc_acts.specs.Acting.{acted}
+use Rattle.sc_acts.specs.Blocks as blocks
+use Rattle.sc_acts.specs.Blocks.{heads_in, may_open, opened_with}
+use Rattle.sc_acts.specs.CreatingHandlers as creating
+use Rattle.sc_acts.specs.CreatingHandlers.{created_as, creation_by, creation_in, creation_of, creation_with, may_create}
+use Rattle.sc_acts.specs.CreatingObjects.{created_with}
+use Rattle.sc_acts.specs.CreatingObjects as objects
+use Rattle.sc_acts.specs.Operands.{class_number, has_actuals, has_call, name_number, procedure_number}
+use Rattle.sc_acts.specs.Requesting as requesting
+use Rattle.sc_acts.specs.Requesting.{call_of, request_by, request_in, request_of, sent}
 use Rattle.sc_refines_turn.specs.Acting as acting
 use Rattle.sc_refines_turn.specs.Acting.{Comes}
 use Rattle.sc_refines_turn.specs.Told.{ComesTold, ToldBlocksBegin, ToldCallsAreMade, ToldHandlersAreCreated, ToldObjectsAreCreated, ToldObjectsAreCreatedBy, ToldRequestsAreMade, Turns}

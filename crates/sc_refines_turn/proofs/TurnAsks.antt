@@ -11,15 +11,15 @@ use Rattle.sc_region.specs.declared.job.Want.{Want}
 use Rattle.sc_region.specs.declared.job.Want.TheVariants as want
 use Rattle.sc_region.specs.Stores.{PlainStore}
 use Rattle.sc_request.specs.Asked.{Numbering, asks_acting, asks_going, asks_moving, asks_on}
-use Rattle.sc_interp.specs.declared.act.Act.TheVariants as act
-use Rattle.sc_interp.specs.declared.act.Hop.{Hop}
-use Rattle.sc_interp.specs.declared.act.Hop.TheVariants as hop
+use Rattle.sc_acts.specs.declared.act.Act.TheVariants as act
+use Rattle.sc_interp.specs.declared.hops.Hop.{Hop}
+use Rattle.sc_interp.specs.declared.hops.Hop.TheVariants as hop
 use Rattle.sc_region_turns.specs.Laws.{ProgramsServe}
 use Rattle.sc_region_turns.specs.RegionHalves.{IsRegionOf}
 use Rattle.sc_region_turns.specs.RegionSteps as region_steps
 use Rattle.sc_region_turns.specs.RegionSteps.{IsProgramFor, next_want}
 use Rattle.sc_region_turns.specs.RegionTurns.{Half, turn}
-use Rattle.sc_interp.specs.Turning.{unless_failed}
+use Rattle.sc_acts.specs.Turning.{unless_failed}
 use Rattle.sc_refines_turn.specs.Acting.{FailuresAreTold, Meets, SimpleStepsAskNothing}
 use Rattle.sc_refines_turn.proofs.SilentOperations.{meets}
 use Rattle.sc_refines_turn.proofs.PassedOperations.{act_same}

@@ -36,26 +36,27 @@ use Rattle.sc_region.specs.Stores as store
 use Rattle.sc_region.specs.Stores.{PlainStore, left}
 use Rattle.sc_request.specs.Asked as asked
 use Rattle.sc_request.specs.Asked.{Numbering}
-use Rattle.sc_interp.specs.declared.act.Act.TheVariants as act
-use Rattle.sc_interp.specs.declared.act.Hop.TheVariants as hop
+use Rattle.sc_acts.specs.declared.act.Act.TheVariants as act
+use Rattle.sc_interp.specs.declared.hops.Hop.TheVariants as hop
 use Rattle.sc_region.specs.Calls.{last_values, on_top}
-use Rattle.sc_interp.specs.Exiting as exiting
-use Rattle.sc_interp.specs.Exiting.{asks_exiting, exited, returned}
+use Rattle.sc_acts.specs.Exiting as exiting
+use Rattle.sc_acts.specs.Exiting.{asks_exiting, exited, returned}
 use Rattle.sc_region_turns.specs.Laws.{ProgramsServe}
 use Rattle.sc_interp.specs.Objects.{objects_in}
-use Rattle.sc_interp.specs.Refusing.{asks_refusing, is_waited_for, refused, refused_as, waiting}
+use Rattle.sc_acts.specs.Refusing.{asks_refusing, is_waited_for, refused, refused_as, waiting}
 use Rattle.sc_region_turns.specs.RegionHalves.{IsRegionOf, calling_of, origin_of, requested}
 use Rattle.sc_region_turns.specs.RegionSteps.{IsProgramFor, names_of, next_want, number_among, numbering_by}
 use Rattle.sc_region_turns.specs.RegionTurns.{Half, turn}
-use Rattle.sc_interp.specs.Standing.{actuals, formals_at, name_at}
-use Rattle.sc_interp.specs.Turning.{unless_failed}
+use Rattle.sc_interp.specs.Standing.{actuals}
+use Rattle.sc_acts.specs.Tables.{formals_at, name_at}
+use Rattle.sc_acts.specs.Turning.{unless_failed}
 use Rattle.sc_interp.specs.Values.{reference_of, value_of, values_of}
-use Rattle.sc_interp.proofs.TopRoutines.{some_same}
-use Rattle.sc_play.specs.Blocks.{asks_leaving, asks_left, innermost}
-use Rattle.sc_play.specs.CreatingHandlers.{asks_creating, asks_of, creation_by, creation_in, creation_with, may_create}
-use Rattle.sc_play.specs.CreatingHandlers as creating
-use Rattle.sc_play.specs.Operands.{class_number, has_call, name_number, procedure_number}
-use Rattle.sc_play.specs.Requesting.{asks_requesting, asks_sending, call_of, request_by, request_of}
+use Rattle.sc_acts.proofs.Options.{some_same}
+use Rattle.sc_acts.specs.Blocks.{asks_leaving, asks_left, innermost}
+use Rattle.sc_acts.specs.CreatingHandlers.{asks_creating, asks_of, creation_by, creation_in, creation_with, may_create}
+use Rattle.sc_acts.specs.CreatingHandlers as creating
+use Rattle.sc_acts.specs.Operands.{class_number, has_call, name_number, procedure_number}
+use Rattle.sc_acts.specs.Requesting.{asks_requesting, asks_sending, call_of, request_by, request_of}
 use Rattle.sc_refines_turn.specs.Acting.{AreWhole, Comes, Meets}
 use Rattle.sc_refines_turn.specs.Wanting.{BlockEndsAsk, CreationsAsk, DistinctNamesHaveNumbers, IsNumbered, IsProcedure, MayCreate, MayRequest, RefusalsAsk, RequestsAsk, RoutineEndsAsk}
 use Rattle.sc_refines_turn.proofs.TurnAsks.{asked_is, told_by}

@@ -17,34 +17,34 @@ use Rattle.sc_region.specs.Frames.{PlainActivation, PlainFrame, top_activation}
 use Rattle.sc_region.specs.Stores as store
 use Rattle.sc_region.specs.Stores.{PlainStore}
 use Rattle.sc_request.specs.Asked.{Numbering, asks_going, asks_on}
-use Rattle.sc_interp.specs.declared.act.Act.{Act}
-use Rattle.sc_interp.specs.declared.act.Act.TheVariants as act
-use Rattle.sc_interp.specs.declared.act.Hop.{Hop}
-use Rattle.sc_interp.specs.declared.act.Hop.TheVariants as hop
-use Rattle.sc_interp.specs.Creating.{with_reference, without_last}
+use Rattle.sc_acts.specs.declared.act.Act.{Act}
+use Rattle.sc_acts.specs.declared.act.Act.TheVariants as act
+use Rattle.sc_interp.specs.declared.hops.Hop.{Hop}
+use Rattle.sc_interp.specs.declared.hops.Hop.TheVariants as hop
+use Rattle.sc_acts.specs.Creating.{with_reference, without_last}
 use Rattle.sc_region.specs.Calls.{last_values, taken, on_top, past}
 use Rattle.sc_region_turns.specs.Laws.{ProgramsServe}
-use Rattle.sc_interp.specs.Refusing.{is_waited_for, refused}
+use Rattle.sc_acts.specs.Refusing.{is_waited_for, refused}
 use Rattle.sc_region_turns.specs.RegionHalves.{IsRegionOf, AreFrames, stage_of}
 use Rattle.sc_region_turns.specs.RegionSteps as region_steps
 use Rattle.sc_region_turns.specs.RegionSteps.{IsProgramFor, first_want, names_of, next_want, numbering_by, task_of}
 use Rattle.sc_region_turns.specs.RegionTurns as half
 use Rattle.sc_region_turns.specs.RegionTurns.{Half, goes_on, taken_turn, told_frames, turn, turn_on, with_stack}
-use Rattle.sc_interp.specs.Standing.{formals_at}
-use Rattle.sc_interp.specs.Turning.{unless_failed}
-use Rattle.sc_interp.proofs.TopRoutines.{none_some}
+use Rattle.sc_acts.specs.Tables.{formals_at}
+use Rattle.sc_acts.specs.Turning.{unless_failed}
+use Rattle.sc_acts.proofs.Options.{none_some}
 use Rattle.sc_region_turns.proofs.RegionSame.{still_fails}
-use Rattle.sc_play.specs.Acting.{acted, asks_acted}
+use Rattle.sc_acts.specs.Acting.{acted, asks_acted}
 use Rattle.sc_play.specs.Answering as answering
 use Rattle.sc_play.specs.Answering.{told, top_stage}
-use Rattle.sc_play.specs.Blocks as blocks
-use Rattle.sc_play.specs.Blocks.{block_left, heads_in, innermost, innermost_in, left_with, opened_with}
-use Rattle.sc_play.specs.CreatingHandlers as creating_handlers
-use Rattle.sc_play.specs.CreatingHandlers.{creation_by, creation_with, handler_created, may_create}
-use Rattle.sc_play.specs.CreatingObjects as creating_objects
-use Rattle.sc_play.specs.Operands.{class_number, has_call}
-use Rattle.sc_play.specs.Requesting as requesting
-use Rattle.sc_play.specs.Requesting.{call_of, request_by, requested, sent}
+use Rattle.sc_acts.specs.Blocks as blocks
+use Rattle.sc_acts.specs.Blocks.{block_left, heads_in, innermost, innermost_in, left_with, opened_with}
+use Rattle.sc_acts.specs.CreatingHandlers as creating_handlers
+use Rattle.sc_acts.specs.CreatingHandlers.{creation_by, creation_with, handler_created, may_create}
+use Rattle.sc_acts.specs.CreatingObjects as creating_objects
+use Rattle.sc_acts.specs.Operands.{class_number, has_call}
+use Rattle.sc_acts.specs.Requesting as requesting
+use Rattle.sc_acts.specs.Requesting.{call_of, request_by, requested, sent}
 use Rattle.sc_play.specs.Taking as taking
 use Rattle.sc_play.specs.Taking.{asks_taking}
 use Rattle.sc_play.specs.Turns.{Becomes, GoesOn, TurnIn, TurnMade, TurnOf, asks_done, done}

@@ -10,13 +10,14 @@ use Rattle.sc_model.specs.Values.{Reference, Value}
 use Rattle.sc_code.specs.declared.program.Image.{Image}
 use Rattle.sc_code.specs.Machine.{Code, State, Act, Hop, Goes, Does, hop, hops, then_hop, does_with, creates_object, creates_here}
 use Rattle.sc_code.specs.Operations.{CreationSite}
-use Rattle.sc_interp.specs.declared.act.Act as told
-use Rattle.sc_interp.specs.declared.act.Act.TheVariants as act
-use Rattle.sc_interp.specs.declared.act.Calling.TheVariants as calling
-use Rattle.sc_interp.specs.declared.act.Hop as outcome
-use Rattle.sc_interp.specs.declared.act.Hop.TheVariants as hop_is
+use Rattle.sc_acts.specs.declared.act.Act as told
+use Rattle.sc_acts.specs.declared.act.Act.TheVariants as act
+use Rattle.sc_acts.specs.declared.act.Calling.TheVariants as calling
+use Rattle.sc_interp.specs.declared.hops.Hop as outcome
+use Rattle.sc_interp.specs.declared.hops.Hop.TheVariants as hop_is
 use Rattle.sc_interp.specs.Hopping.{IsVisible}
-use Rattle.sc_interp.specs.Standing.{hopped, done, actuals, without, name_at}
+use Rattle.sc_interp.specs.Standing.{hopped, done, actuals, without}
+use Rattle.sc_acts.specs.Tables.{name_at}
 
 pub goes_same : (f g : State) → Goes f ≡ Goes g → f ≡ g
 goes_same f g e = cc

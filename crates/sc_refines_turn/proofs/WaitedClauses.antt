@@ -20,17 +20,18 @@ use Rattle.sc_code.specs.Stands.{Run, Stands, state_at, values_in}
 use Rattle.sc_code.proofs.TypingRoutines.{routines_stand}
 use Rattle.sc_region.specs.Frames.{PlainActivation, PlainFrame, frame_with, top_activation}
 use Rattle.sc_region.specs.Stores.{PlainStore}
-use Rattle.sc_interp.specs.declared.act.Act.TheVariants as act
-use Rattle.sc_interp.specs.declared.act.Hop.{Hop}
-use Rattle.sc_interp.specs.declared.act.Hop.TheVariants as hop
+use Rattle.sc_acts.specs.declared.act.Act.TheVariants as act
+use Rattle.sc_interp.specs.declared.hops.Hop.{Hop}
+use Rattle.sc_interp.specs.declared.hops.Hop.TheVariants as hop
 use Rattle.sc_interp.specs.Hopping.{state_in}
 use Rattle.sc_region_turns.specs.Laws.{ProgramsServe}
 use Rattle.sc_interp.specs.Objects.{objects_in}
-use Rattle.sc_interp.specs.Refusing.{is_waited_for, refused, refused_as, waiting}
+use Rattle.sc_acts.specs.Refusing.{is_waited_for, refused, refused_as, waiting}
 use Rattle.sc_region_turns.specs.RegionHalves.{IsRegionOf, AreFrames, IsFrame, StandsIn}
 use Rattle.sc_region_turns.specs.RegionSteps.{IsProgramFor}
 use Rattle.sc_region_turns.specs.RegionTurns.{Half, false_clause, turn, waits_again}
-use Rattle.sc_interp.specs.Standing.{formals_at, state_of, without}
+use Rattle.sc_acts.specs.Tables.{formals_at}
+use Rattle.sc_interp.specs.Standing.{state_of, without}
 use Rattle.sc_region.specs.Calls.{on_top, top_frame}
 use Rattle.sc_interp.specs.Values.{reference_of, values_of}
 use Rattle.sc_refines_turn.specs.Acting.{Comes, Meets}

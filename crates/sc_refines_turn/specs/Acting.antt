@@ -27,24 +27,24 @@ use Rattle.sc_region.specs.Frames.{PlainActivation, PlainFrame, frame_with, is_c
 use Rattle.sc_region.specs.Stores.{PlainStore, failed, next_reference, printed}
 use Rattle.sc_region.specs.declared.job.Want.TheVariants as want
 use Rattle.sc_request.specs.Asked.{Numbering}
-use Rattle.sc_interp.specs.declared.act.Act.{Act}
-use Rattle.sc_interp.specs.declared.act.Act.TheVariants as act
-use Rattle.sc_interp.specs.declared.act.Calling.{Calling}
-use Rattle.sc_interp.specs.declared.act.Hop.{Hop}
-use Rattle.sc_interp.specs.declared.act.Hop.TheVariants as hop
+use Rattle.sc_acts.specs.declared.act.Act.{Act}
+use Rattle.sc_acts.specs.declared.act.Act.TheVariants as act
+use Rattle.sc_acts.specs.declared.act.Calling.{Calling}
+use Rattle.sc_interp.specs.declared.hops.Hop.{Hop}
+use Rattle.sc_interp.specs.declared.hops.Hop.TheVariants as hop
 use Rattle.sc_interp.specs.Hopping.{ComesTo, LeadsTo, state_in}
 use Rattle.sc_interp.specs.Playing.{Remains}
 use Rattle.sc_region_turns.specs.RegionHalves.{IsRegionOf, AreFrames, IsFrame, origin_of}
 use Rattle.sc_region_turns.specs.RegionSteps.{IsProgramFor, next_want}
 use Rattle.sc_region_turns.specs.RegionTurns.{Half, enters, turn}
-use Rattle.sc_interp.specs.Serving.{version_in}
-use Rattle.sc_interp.specs.Standing.{formals_at, hopped, listed}
-use Rattle.sc_interp.specs.Creating.{created, created_by, has_room_in, with_reference, without_last}
+use Rattle.sc_acts.specs.Tables.{version_in, formals_at, listed}
+use Rattle.sc_interp.specs.Standing.{hopped}
+use Rattle.sc_acts.specs.Creating.{created, created_by, has_room_in, with_reference, without_last}
 use Rattle.sc_region.specs.Calls.{last_values, on_top, past}
-use Rattle.sc_interp.specs.Entering.{Has, HasCall, called, entered_if, routine_in}
-use Rattle.sc_interp.specs.Exiting.{exited}
-use Rattle.sc_interp.specs.Refusing.{is_waited_for, refused}
-use Rattle.sc_interp.specs.Turning.{round_ended, unless_failed}
+use Rattle.sc_acts.specs.Entering.{Has, HasCall, called, entered_if, routine_in}
+use Rattle.sc_acts.specs.Exiting.{exited}
+use Rattle.sc_acts.specs.Refusing.{is_waited_for, refused}
+use Rattle.sc_acts.specs.Turning.{round_ended, unless_failed}
 use Rattle.sc_interp.specs.Values.{reference_of, values_of}
 
 -- ---- silent operations

@@ -4,12 +4,12 @@ use Rattle.std.specs.Prelude.{◌≡◌, ℕ, Bool, true, Option, Some, None}
 use Rattle.sc_region.specs.declared.value.Reference.{Reference}
 use Rattle.sc_region.specs.Frames.{PlainActivation, top_activation}
 use Rattle.sc_region.specs.Stores.{PlainStore}
-use Rattle.sc_interp.specs.declared.act.Act.TheVariants as act
-use Rattle.sc_interp.specs.declared.act.Calling.{Calling}
-use Rattle.sc_interp.specs.declared.act.Hop.TheVariants as hop
-use Rattle.sc_interp.specs.Entering.{asks_beginning}
-use Rattle.sc_play.specs.Blocks.{asks_opening, may_open}
-use Rattle.sc_play.specs.CreatingObjects.{asks_created}
+use Rattle.sc_acts.specs.declared.act.Act.TheVariants as act
+use Rattle.sc_acts.specs.declared.act.Calling.{Calling}
+use Rattle.sc_interp.specs.declared.hops.Hop.TheVariants as hop
+use Rattle.sc_acts.specs.Entering.{asks_beginning}
+use Rattle.sc_acts.specs.Blocks.{asks_opening, may_open}
+use Rattle.sc_acts.specs.CreatingObjects.{asks_created}
 use Rattle.sc_refines_turn.specs.Acting.{Comes}
 use Rattle.sc_refines_turn.specs.Wanting.{TurnAsks}
 

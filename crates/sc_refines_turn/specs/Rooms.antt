@@ -5,12 +5,12 @@ use Rattle.sc_region.specs.declared.frame.Stage.TheVariants as stage
 use Rattle.sc_region.specs.declared.value.Value.{Value}
 use Rattle.sc_region.specs.Frames.{PlainActivation, PlainFrame}
 use Rattle.sc_region.specs.Stores.{PlainStore}
-use Rattle.sc_interp.specs.declared.act.Act.{Act}
-use Rattle.sc_interp.specs.declared.act.Act.TheVariants as act
-use Rattle.sc_interp.specs.declared.act.Hop.TheVariants as hop
+use Rattle.sc_acts.specs.declared.act.Act.{Act}
+use Rattle.sc_acts.specs.declared.act.Act.TheVariants as act
+use Rattle.sc_interp.specs.declared.hops.Hop.TheVariants as hop
 use Rattle.sc_interp.specs.Playing.{Remains}
 use Rattle.sc_interp.specs.Told.{IsTold}
-use Rattle.sc_play.specs.Acting.{acted}
+use Rattle.sc_acts.specs.Acting.{acted}
 use Rattle.sc_refines_turn.specs.Acting.{AreWhole, Comes, TopRuns, is_called}
 use Rattle.sc_refines_turn.specs.Jobs.{TakesAnswer}
 use Rattle.sc_refines_turn.specs.Told.{Turns}

@@ -14,7 +14,7 @@ use Rattle.sc_region.specs.Stores.{PlainStore}
 use Rattle.sc_region_turns.specs.RegionHalves.{IsRegionOf}
 use Rattle.sc_region_turns.specs.RegionSteps.{IsProgramFor, first_want, names_of, numbering_by, task_of}
 use Rattle.sc_region_turns.specs.RegionTurns.{Half, taken_turn}
-use Rattle.sc_interp.specs.Turning.{unless_failed}
+use Rattle.sc_acts.specs.Turning.{unless_failed}
 use Rattle.sc_play.specs.Taking.{asks_taking, taken}
 use Rattle.sc_refines_turn.specs.Acting.{AreWhole}
 

@@ -5,18 +5,18 @@ use Rattle.sc_code.specs.RequestRoom.{FitsRequests}
 use Rattle.sc_region.specs.declared.value.Reference.{Reference}
 use Rattle.sc_region.specs.Frames.{top_activation}
 use Rattle.sc_region.specs.Stores.{PlainStore}
-use Rattle.sc_interp.specs.declared.act.Act.{Act}
-use Rattle.sc_interp.specs.declared.act.Act.TheVariants as act
-use Rattle.sc_interp.specs.declared.act.Calling.{Calling}
-use Rattle.sc_interp.specs.declared.act.Hop.TheVariants as hop
-use Rattle.sc_interp.specs.Creating.{has_room_in}
-use Rattle.sc_interp.specs.Entering.{routine_in}
+use Rattle.sc_acts.specs.declared.act.Act.{Act}
+use Rattle.sc_acts.specs.declared.act.Act.TheVariants as act
+use Rattle.sc_acts.specs.declared.act.Calling.{Calling}
+use Rattle.sc_interp.specs.declared.hops.Hop.TheVariants as hop
+use Rattle.sc_acts.specs.Creating.{has_room_in}
+use Rattle.sc_acts.specs.Entering.{routine_in}
 use Rattle.sc_region_turns.specs.RegionHalves.{IsRegionOf}
 use Rattle.sc_region_turns.specs.RegionSteps.{IsProgramFor, names_of, next_want, numbering_by}
 use Rattle.sc_region_turns.specs.RegionTurns.{Half, turn}
-use Rattle.sc_interp.specs.Serving.{version_in}
+use Rattle.sc_acts.specs.Tables.{version_in}
 use Rattle.sc_interp.specs.Told.{IsTold}
-use Rattle.sc_play.specs.Acting.{acted, asks_acting}
+use Rattle.sc_acts.specs.Acting.{acted, asks_acting}
 use Rattle.sc_refines_turn.specs.Acting.{Comes, IsCreator, RunsOn}
 
 -- Silent operations lead from the first store to the second one, where it comes to this operation, and the topmost

@@ -9,18 +9,18 @@ use Rattle.sc_region.specs.declared.job.Job.TheVariants as job
 use Rattle.sc_region.specs.declared.job.Want.{Want}
 use Rattle.sc_region.specs.Frames.{top_activation}
 use Rattle.sc_region.specs.Stores.{PlainStore, max_objects}
-use Rattle.sc_interp.specs.declared.act.Act.{Act}
-use Rattle.sc_interp.specs.declared.act.Act.TheVariants as act
-use Rattle.sc_interp.specs.declared.act.Hop.{Hop}
-use Rattle.sc_interp.specs.declared.act.Hop.TheVariants as hop
-use Rattle.sc_interp.specs.Creating.{has_room_in}
-use Rattle.sc_interp.specs.Entering.{Has, HasCall, routine_in}
+use Rattle.sc_acts.specs.declared.act.Act.{Act}
+use Rattle.sc_acts.specs.declared.act.Act.TheVariants as act
+use Rattle.sc_interp.specs.declared.hops.Hop.{Hop}
+use Rattle.sc_interp.specs.declared.hops.Hop.TheVariants as hop
+use Rattle.sc_acts.specs.Creating.{has_room_in}
+use Rattle.sc_acts.specs.Entering.{Has, HasCall, routine_in}
 use Rattle.sc_region_turns.specs.RegionHalves.{IsRegionOf}
 use Rattle.sc_region_turns.specs.RegionSteps.{IsProgramFor, first_want, names_of, next_want, numbering_by, task_of}
 use Rattle.sc_region_turns.specs.RegionTurns.{Half, taken_turn, turn}
-use Rattle.sc_interp.specs.Serving.{version_in}
+use Rattle.sc_acts.specs.Tables.{version_in}
 use Rattle.sc_play.specs.Answering.{top_stage}
-use Rattle.sc_play.specs.Operands.{class_number}
+use Rattle.sc_acts.specs.Operands.{class_number}
 use Rattle.sc_play.specs.Turns.{FirstTurn, GoesOn, TurnIn, TurnMade, TurnOf, TurnUnder, begun}
 use Rattle.sc_refines_turn.specs.Acting.{AreWhole, IsCreator, RunsOn, TakesResult}
 use Rattle.sc_refines_turn.specs.Jobs.{TakesAnswer}

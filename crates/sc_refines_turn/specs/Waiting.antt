@@ -10,13 +10,13 @@ use Rattle.sc_model.specs.Steps.{Point, Refuses, Does}
 use Rattle.sc_code.specs.Emitted.{formals_of}
 use Rattle.sc_region.specs.Frames.{PlainActivation, top_activation}
 use Rattle.sc_region.specs.Stores.{PlainStore}
-use Rattle.sc_interp.specs.declared.act.Act.TheVariants as act
-use Rattle.sc_interp.specs.declared.act.Hop.TheVariants as hop
-use Rattle.sc_interp.specs.Refusing.{is_waited_for, refused}
+use Rattle.sc_acts.specs.declared.act.Act.TheVariants as act
+use Rattle.sc_interp.specs.declared.hops.Hop.TheVariants as hop
+use Rattle.sc_acts.specs.Refusing.{is_waited_for, refused}
 use Rattle.sc_region_turns.specs.RegionHalves.{IsRegionOf}
 use Rattle.sc_region_turns.specs.RegionSteps.{IsProgramFor}
 use Rattle.sc_region_turns.specs.RegionTurns.{Half, turn}
-use Rattle.sc_interp.specs.Standing.{formals_at}
+use Rattle.sc_acts.specs.Tables.{formals_at}
 use Rattle.sc_refines_turn.specs.Acting.{Comes}
 
 -- The routine is what a name is in a class.

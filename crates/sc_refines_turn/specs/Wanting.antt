@@ -7,19 +7,19 @@ use Rattle.sc_region.specs.declared.job.Want.{Want}
 use Rattle.sc_region.specs.declared.value.Reference.{Reference}
 use Rattle.sc_region.specs.Frames.{PlainActivation, top_activation}
 use Rattle.sc_region.specs.Stores.{PlainStore}
-use Rattle.sc_interp.specs.declared.act.Act.TheVariants as act
-use Rattle.sc_interp.specs.declared.act.Hop.TheVariants as hop
-use Rattle.sc_interp.specs.Exiting.{asks_exiting, exited}
-use Rattle.sc_interp.specs.Refusing.{asks_refusing, refused}
+use Rattle.sc_acts.specs.declared.act.Act.TheVariants as act
+use Rattle.sc_interp.specs.declared.hops.Hop.TheVariants as hop
+use Rattle.sc_acts.specs.Exiting.{asks_exiting, exited}
+use Rattle.sc_acts.specs.Refusing.{asks_refusing, refused}
 use Rattle.sc_region_turns.specs.RegionHalves.{IsRegionOf}
 use Rattle.sc_region_turns.specs.RegionSteps.{IsProgramFor, names_of, next_want, number_among, numbering_by}
 use Rattle.sc_region_turns.specs.RegionTurns.{Half, turn}
-use Rattle.sc_interp.specs.Standing.{formals_at, name_at}
-use Rattle.sc_interp.specs.Turning.{unless_failed}
-use Rattle.sc_play.specs.Blocks.{asks_leaving}
-use Rattle.sc_play.specs.CreatingHandlers.{asks_creating, creation_with, may_create}
-use Rattle.sc_play.specs.Operands.{class_number, has_call, name_number, procedure_number}
-use Rattle.sc_play.specs.Requesting.{asks_requesting, call_of}
+use Rattle.sc_acts.specs.Tables.{formals_at, name_at}
+use Rattle.sc_acts.specs.Turning.{unless_failed}
+use Rattle.sc_acts.specs.Blocks.{asks_leaving}
+use Rattle.sc_acts.specs.CreatingHandlers.{asks_creating, creation_with, may_create}
+use Rattle.sc_acts.specs.Operands.{class_number, has_call, name_number, procedure_number}
+use Rattle.sc_acts.specs.Requesting.{asks_requesting, call_of}
 use Rattle.sc_refines_turn.specs.Acting.{AreWhole, Comes}
 
 -- Whatever half the first store stands for, a turn of the handler of the number that leaves the second store asks this,

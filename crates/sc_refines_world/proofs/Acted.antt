@@ -31,37 +31,37 @@ use Rattle.sc_region.specs.Frames.{PlainActivation, PlainFrame, frame_with, top_
 use Rattle.sc_region.specs.Objects.{PlainObject, object_numbered}
 use Rattle.sc_region.specs.Stores as store
 use Rattle.sc_region.specs.Stores.{PlainStore, born, born_for, entered, entered_at, failed, is_settled, left, made, max_frames, next_reference, settled, with_new}
-use Rattle.sc_interp.specs.declared.act.Act.{Act}
-use Rattle.sc_interp.specs.declared.act.Act.TheVariants as act
-use Rattle.sc_interp.specs.declared.act.Calling.{Calling}
-use Rattle.sc_interp.specs.declared.act.Calling.TheVariants as calling
-use Rattle.sc_interp.specs.declared.act.Hop as outcome
-use Rattle.sc_interp.specs.declared.act.Hop.TheVariants as hop
-use Rattle.sc_interp.specs.Creating.{given, has_room, has_room_in, made_if, with_reference, without_last}
-use Rattle.sc_interp.specs.Entering.{entered_if, has_operands, operands_of, origin_of, routine_in}
-use Rattle.sc_interp.specs.Exiting.{handed, handed_as, handed_at, is_unset, is_untested, returned}
+use Rattle.sc_acts.specs.declared.act.Act.{Act}
+use Rattle.sc_acts.specs.declared.act.Act.TheVariants as act
+use Rattle.sc_acts.specs.declared.act.Calling.{Calling}
+use Rattle.sc_acts.specs.declared.act.Calling.TheVariants as calling
+use Rattle.sc_interp.specs.declared.hops.Hop as outcome
+use Rattle.sc_interp.specs.declared.hops.Hop.TheVariants as hop
+use Rattle.sc_acts.specs.Creating.{given, has_room, has_room_in, made_if, with_reference, without_last}
+use Rattle.sc_acts.specs.Entering.{entered_if, has_operands, operands_of, origin_of, routine_in}
+use Rattle.sc_acts.specs.Exiting.{handed, handed_as, handed_at, is_unset, is_untested, returned}
 use Rattle.sc_interp.specs.Hopping.{IsVisible}
 use Rattle.sc_interp.specs.Objects.{object_in, objects_in}
-use Rattle.sc_interp.specs.Refusing.{is_waited_for, refused_as, waiting}
-use Rattle.sc_interp.specs.Serving.{version_in}
+use Rattle.sc_acts.specs.Refusing.{is_waited_for, refused_as, waiting}
+use Rattle.sc_acts.specs.Tables.{version_in, formals_at, name_at}
 use Rattle.sc_interp.specs.Standing as standing
-use Rattle.sc_interp.specs.Standing.{actuals, formals_at, hopped, name_at, state_of, without}
+use Rattle.sc_interp.specs.Standing.{actuals, hopped, state_of, without}
 use Rattle.sc_interp.specs.Told as told
 use Rattle.sc_interp.specs.Told.{HasName, HasProcedure, IsReady, NamesCall, NamesCreation}
-use Rattle.sc_interp.specs.Turning.{back}
+use Rattle.sc_acts.specs.Turning.{back}
 use Rattle.sc_interp.specs.Values.{reference_of, value_of, values_of}
 use Rattle.sc_interp.proofs.Operands.{values_drop}
-use Rattle.sc_play.specs.Acting.{acted}
-use Rattle.sc_play.specs.Blocks as blocks
-use Rattle.sc_play.specs.Blocks.{closing, innermost, left_with, may_open, opened_with}
-use Rattle.sc_play.specs.CreatingHandlers as handlers
-use Rattle.sc_play.specs.CreatingHandlers.{created_as, creation_in, creation_with, first_object}
-use Rattle.sc_play.specs.CreatingObjects as objects
-use Rattle.sc_play.specs.CreatingObjects.{created_with}
-use Rattle.sc_play.specs.Operands.{class_number}
-use Rattle.sc_play.specs.declared.acts.creating_handlers.RemoteCreation.{RemoteCreation}
-use Rattle.sc_play.specs.declared.acts.requesting.RemoteCall.{RemoteCall}
-use Rattle.sc_play.specs.Requesting.{awaiting_if, call_of, request_in, sending, sent, is_waited}
+use Rattle.sc_acts.specs.Acting.{acted}
+use Rattle.sc_acts.specs.Blocks as blocks
+use Rattle.sc_acts.specs.Blocks.{closing, innermost, left_with, may_open, opened_with}
+use Rattle.sc_acts.specs.CreatingHandlers as handlers
+use Rattle.sc_acts.specs.CreatingHandlers.{created_as, creation_in, creation_with, first_object}
+use Rattle.sc_acts.specs.CreatingObjects as objects
+use Rattle.sc_acts.specs.CreatingObjects.{created_with}
+use Rattle.sc_acts.specs.Operands.{class_number}
+use Rattle.sc_acts.specs.declared.act.RemoteCreation.{RemoteCreation}
+use Rattle.sc_acts.specs.declared.act.RemoteCall.{RemoteCall}
+use Rattle.sc_acts.specs.Requesting.{awaiting_if, call_of, request_in, sending, sent, is_waited}
 use Rattle.sc_play.specs.Turns.{done}
 use Rattle.sc_region_turns.specs.RegionSteps.{number_among}
 use Rattle.sc_refines_turn.specs.Wanting.{DistinctNamesHaveNumbers}

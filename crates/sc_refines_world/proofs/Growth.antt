@@ -20,9 +20,9 @@ use Rattle.sc_region.specs.Classes.{object_breaks, routine_at}
 use Rattle.sc_region.specs.Objects.{PlainObject, attribute_of, object_numbered}
 use Rattle.sc_region.specs.Stores.{PlainStore, born, entered, entered_at, failed, is_settled, max_frames, settled, with_new}
 use Rattle.sc_region.specs.Stores as store
-use Rattle.sc_interp.specs.Entering.{routine_in}
-use Rattle.sc_interp.specs.Exiting.{is_void}
-use Rattle.sc_interp.specs.Serving.{version_in}
+use Rattle.sc_acts.specs.Entering.{routine_in}
+use Rattle.sc_acts.specs.Exiting.{is_void}
+use Rattle.sc_acts.specs.Tables.{version_in}
 use Rattle.sc_play.specs.Answering.{granted, granted_in, replied, replied_in, top_stage}
 use Rattle.sc_play.specs.Taking.{answered, attribute_at, born_by, taken, taken_creation, taken_errand, taken_on, taken_version}
 use Rattle.sc_refines_world.proofs.Exact.{Grown}

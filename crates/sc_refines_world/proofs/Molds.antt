@@ -11,8 +11,8 @@ use Rattle.sc_code.specs.Programs.{pool_of}
 use Rattle.sc_region.specs.Calls.{next_place}
 use Rattle.sc_region.specs.Classes.{routine_at}
 use Rattle.sc_region.specs.Frames.{PlainFrame}
-use Rattle.sc_interp.specs.Entering.{routine_in}
-use Rattle.sc_interp.specs.Serving.{version_in}
+use Rattle.sc_acts.specs.Entering.{routine_in}
+use Rattle.sc_acts.specs.Tables.{version_in}
 use Rattle.sc_interp.specs.Values.{values_of}
 use Rattle.sc_region_turns.specs.RegionSteps.{number_among}
 

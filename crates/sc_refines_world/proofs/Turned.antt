@@ -19,14 +19,14 @@ use Rattle.sc_region.specs.Calls.{on_top}
 use Rattle.sc_region.specs.Frames.{PlainActivation, PlainFrame, frame_with, top_activation, top_current}
 use Rattle.sc_region.specs.Objects.{PlainObject}
 use Rattle.sc_region.specs.Stores.{PlainStore, failed}
-use Rattle.sc_interp.specs.declared.act.Hop as outcome
-use Rattle.sc_interp.specs.declared.act.Hop.TheVariants as hop
+use Rattle.sc_interp.specs.declared.hops.Hop as outcome
+use Rattle.sc_interp.specs.declared.hops.Hop.TheVariants as hop
 use Rattle.sc_interp.specs.Hopping.{Runs as RunsIn, state_in}
 use Rattle.sc_interp.specs.Standing.{hopped}
 use Rattle.sc_interp.specs.Told as told
 use Rattle.sc_interp.specs.Told.{IsTold}
 use Rattle.sc_interp.specs.Values.{reference_of}
-use Rattle.sc_interp.proofs.TopRoutines.{none_some, some_same}
+use Rattle.sc_acts.proofs.Options.{none_some, some_same}
 use Rattle.sc_region_turns.specs.Laws.{ProgramsServe}
 use Rattle.sc_region_turns.specs.RegionHalves.{AreFrames, IsFrame, IsRegionOf}
 use Rattle.sc_region_turns.specs.RegionSteps.{IsProgramFor}

@@ -25,26 +25,25 @@ use Rattle.sc_region.specs.Classes.{routine_at}
 use Rattle.sc_region.specs.Frames.{PlainActivation, top_activation}
 use Rattle.sc_region.specs.Objects.{PlainObject, object_numbered}
 use Rattle.sc_region.specs.Stores.{PlainStore}
-use Rattle.sc_interp.specs.declared.act.Act.{Act}
-use Rattle.sc_interp.specs.declared.act.Act.TheVariants as act
-use Rattle.sc_interp.specs.declared.act.Hop.{Hop}
-use Rattle.sc_interp.specs.declared.act.Hop.TheVariants as hop
-use Rattle.sc_interp.specs.Entering.{asks_beginning, asks_reserving, asks_with}
-use Rattle.sc_interp.specs.Exiting.{asks_exiting, asks_releasing, asks_returning}
-use Rattle.sc_interp.specs.Refusing.{asks_refusing, is_waited_for}
+use Rattle.sc_acts.specs.declared.act.Act.{Act}
+use Rattle.sc_acts.specs.declared.act.Act.TheVariants as act
+use Rattle.sc_interp.specs.declared.hops.Hop.{Hop}
+use Rattle.sc_interp.specs.declared.hops.Hop.TheVariants as hop
+use Rattle.sc_acts.specs.Entering.{asks_beginning, asks_reserving, asks_with}
+use Rattle.sc_acts.specs.Exiting.{asks_exiting, asks_releasing, asks_returning}
+use Rattle.sc_acts.specs.Refusing.{asks_refusing, is_waited_for}
 use Rattle.sc_region_turns.specs.RegionSteps.{names_of}
-use Rattle.sc_interp.specs.Serving.{version_in}
-use Rattle.sc_interp.specs.Standing.{formals_at, name_at}
+use Rattle.sc_acts.specs.Tables.{version_in, formals_at, name_at}
 use Rattle.sc_interp.specs.Told.{HasName, HasProcedure, IsReadyAt, IsTold, NamesCall, NamesCreation}
-use Rattle.sc_interp.specs.Turning.{unless_failed}
-use Rattle.sc_play.specs.Acting.{asks_acted}
+use Rattle.sc_acts.specs.Turning.{unless_failed}
+use Rattle.sc_acts.specs.Acting.{asks_acted}
 use Rattle.sc_play.specs.Answering.{top_stage}
-use Rattle.sc_play.specs.Blocks.{asks_left, asks_opened, heads_in, innermost_in}
-use Rattle.sc_play.specs.CreatingHandlers.{asks_creating, asks_of, creation_by, creation_of, creation_with, may_create}
-use Rattle.sc_play.specs.CreatingHandlers as handlers
-use Rattle.sc_play.specs.CreatingObjects as objects
-use Rattle.sc_play.specs.Operands.{has_call, procedure_number}
-use Rattle.sc_play.specs.Requesting.{asks_requesting, asks_sending, call_of, request_by}
+use Rattle.sc_acts.specs.Blocks.{asks_left, asks_opened, heads_in, innermost_in}
+use Rattle.sc_acts.specs.CreatingHandlers.{asks_creating, asks_of, creation_by, creation_of, creation_with, may_create}
+use Rattle.sc_acts.specs.CreatingHandlers as handlers
+use Rattle.sc_acts.specs.CreatingObjects as objects
+use Rattle.sc_acts.specs.Operands.{has_call, procedure_number}
+use Rattle.sc_acts.specs.Requesting.{asks_requesting, asks_sending, call_of, request_by}
 use Rattle.sc_play.specs.Taking as taking
 use Rattle.sc_play.specs.Taking.{taken}
 use Rattle.sc_play.specs.Turns.{Becomes, FirstTurn, GoesOn, TurnIn, TurnMade, TurnUnder, asks_done, begun}

@@ -38,8 +38,9 @@ use Rattle.sc_code.specs.declared.program.FeatureCode.{FeatureCode}
 use Rattle.sc_code.specs.declared.program.FeatureCode.TheVariants as version
 use Rattle.sc_code.specs.Programs.{IsProgramOf, PlainClass, class_code_of, class_in, entry_of_feature, entry_of_kind, pool_of, version_entry}
 use Rattle.sc_region_turns.specs.Laws.{ProgramsServe}
-use Rattle.sc_interp.specs.Serving.{TellsConformance, attribute_in, conforms_in, is_routine, is_routine_in, version_in}
-use Rattle.sc_interp.proofs.TopRoutines.{none_some, some_same}
+use Rattle.sc_interp.specs.Serving.{TellsConformance, attribute_in, conforms_in, is_routine, is_routine_in}
+use Rattle.sc_acts.specs.Tables.{version_in}
+use Rattle.sc_acts.proofs.Options.{none_some, some_same}
 
 -- ---- lists
 

@@ -20,14 +20,14 @@ use Rattle.sc_region.specs.declared.value.Value.{Value}
 use Rattle.sc_region.specs.Frames.{top_activation}
 use Rattle.sc_region.specs.Objects.{PlainObject, attribute_of, object_numbered}
 use Rattle.sc_region.specs.Stores.{PlainStore, born, entered, failed}
-use Rattle.sc_interp.specs.declared.act.Hop.{Hop}
-use Rattle.sc_interp.specs.declared.act.Hop.TheVariants as hop
-use Rattle.sc_interp.specs.Entering.{asks_beginning, routine_in}
-use Rattle.sc_interp.specs.Exiting.{handed_as, is_void}
-use Rattle.sc_interp.specs.Serving.{version_in}
+use Rattle.sc_interp.specs.declared.hops.Hop.{Hop}
+use Rattle.sc_interp.specs.declared.hops.Hop.TheVariants as hop
+use Rattle.sc_acts.specs.Entering.{asks_beginning, routine_in}
+use Rattle.sc_acts.specs.Exiting.{handed_as, is_void}
+use Rattle.sc_acts.specs.Tables.{version_in}
 use Rattle.sc_region.specs.Calls.{on_top}
-use Rattle.sc_interp.specs.Turning.{unless_failed}
-use Rattle.sc_play.specs.Acting.{acted, asks_acted}
+use Rattle.sc_acts.specs.Turning.{unless_failed}
+use Rattle.sc_acts.specs.Acting.{acted, asks_acted}
 use Rattle.sc_play.specs.Answering.{block_granted, entry_granted, granted_in, replied_in, runs, told_on, top_stage}
 use Rattle.sc_play.specs.Regions.{EndsIn}
 use Rattle.sc_play.specs.Taking.{answered, asks_creation, asks_errand, asks_on, asks_version, attribute_at, born_by, taken_creation, taken_errand, taken_on, taken_version}

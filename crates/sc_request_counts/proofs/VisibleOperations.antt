@@ -21,25 +21,24 @@ use Rattle.sc_region.specs.Classes.{object_meets, routine_at}
 use Rattle.sc_region.specs.Frames.{PlainActivation, PlainFrame, top_activation, top_current}
 use Rattle.sc_region.specs.Objects.{object_numbered}
 use Rattle.sc_region.specs.Stores.{PlainStore, born, born_for, failed, left, made, made_for, max_objects, next_reference, printed}
-use Rattle.sc_interp.specs.declared.act.Act.{Act}
-use Rattle.sc_interp.specs.declared.act.Act.TheVariants as act
-use Rattle.sc_interp.specs.declared.act.Calling.{Calling}
-use Rattle.sc_interp.specs.declared.act.Calling.TheVariants as calling
-use Rattle.sc_interp.specs.Creating.{created_at, given, has_room, has_room_in, made_if, with_reference, without_last}
+use Rattle.sc_acts.specs.declared.act.Act.{Act}
+use Rattle.sc_acts.specs.declared.act.Act.TheVariants as act
+use Rattle.sc_acts.specs.declared.act.Calling.{Calling}
+use Rattle.sc_acts.specs.declared.act.Calling.TheVariants as calling
+use Rattle.sc_acts.specs.Creating.{created_at, given, has_room, has_room_in, made_if, with_reference, without_last}
 use Rattle.sc_region.specs.Calls.{in_call, last_values, on_top, past}
-use Rattle.sc_interp.specs.Entering.{asks_beginning, asks_reserving, asks_with, called_at, entered_if, has_operands, operands_of, origin_of, routine_in}
-use Rattle.sc_interp.specs.Exiting.{asks_exiting, asks_releasing, asks_returning, exited_at, handed, handed_as, handed_at, handed_value, is_unset, is_untested, returned}
-use Rattle.sc_interp.specs.Refusing.{asks_refusing, is_waited_for, refused_as, refused_at, waiting}
-use Rattle.sc_interp.specs.Serving.{version_in}
-use Rattle.sc_interp.specs.Standing.{formals_at, listed}
-use Rattle.sc_interp.specs.Turning.{round_ended}
-use Rattle.sc_play.specs.Acting.{acted, asks_acted}
-use Rattle.sc_play.specs.Blocks.{asks_left, asks_opened, closing, heads_in, innermost_in, left_with, opened_with, opening}
-use Rattle.sc_play.specs.CreatingHandlers as remote
-use Rattle.sc_play.specs.CreatingHandlers.{asks_of, created_as, creating, creation_by, creation_in, creation_with, first_object, may_create}
-use Rattle.sc_play.specs.CreatingObjects.{asks_created, created_of, created_with}
-use Rattle.sc_play.specs.Operands.{class_number, procedure_number}
-use Rattle.sc_play.specs.Requesting.{asks_sending, asks_sent, awaiting_if, call_of, request_in, sending, sent}
+use Rattle.sc_acts.specs.Entering.{asks_beginning, asks_reserving, asks_with, called_at, entered_if, has_operands, operands_of, origin_of, routine_in}
+use Rattle.sc_acts.specs.Exiting.{asks_exiting, asks_releasing, asks_returning, exited_at, handed, handed_as, handed_at, handed_value, is_unset, is_untested, returned}
+use Rattle.sc_acts.specs.Refusing.{asks_refusing, is_waited_for, refused_as, refused_at, waiting}
+use Rattle.sc_acts.specs.Tables.{version_in, formals_at, listed}
+use Rattle.sc_acts.specs.Turning.{round_ended}
+use Rattle.sc_acts.specs.Acting.{acted, asks_acted}
+use Rattle.sc_acts.specs.Blocks.{asks_left, asks_opened, closing, heads_in, innermost_in, left_with, opened_with, opening}
+use Rattle.sc_acts.specs.CreatingHandlers as remote
+use Rattle.sc_acts.specs.CreatingHandlers.{asks_of, created_as, creating, creation_by, creation_in, creation_with, first_object, may_create}
+use Rattle.sc_acts.specs.CreatingObjects.{asks_created, created_of, created_with}
+use Rattle.sc_acts.specs.Operands.{class_number, procedure_number}
+use Rattle.sc_acts.specs.Requesting.{asks_sending, asks_sent, awaiting_if, call_of, request_in, sending, sent}
 use Rattle.sc_request_counts.specs.Serving.{served}
 use Rattle.sc_request_counts.specs.Turns.{left_after}
 use Rattle.sc_request_counts.proofs.StoreChanges.{Serving, born_for_serves, born_serves, entered_serves, failed_serves, if_serves, left_serves, on_top_serves, so_many, some_served}

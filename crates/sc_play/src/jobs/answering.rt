@@ -1,14 +1,14 @@
 //! Answers, granted reservations, and handlers that were made.
 ghost use Rattle.std.specs.Prelude.{◌≡◌, OnOk, OnErr};
 ghost use Rattle.sc_region.specs.Frames.{activation_of};
-ghost use Rattle.sc_interp.specs.Exiting.{handed_as};
+ghost use Rattle.sc_acts.specs.Exiting.{handed_as};
 ghost use Rattle.sc_region.specs.declared.job.Want.TheVariants as want;
 ghost use Rattle.sc_region.specs.Calls.{on_top};
 ghost use Rattle.sc_play.specs.Turns.{Becomes};
 ghost use Rattle.sc_play.specs.Answering.{block_granted, entry_granted, granted, replied, runs, told, told_on, top_stage};
 
-use crate::steps::unless_failed;
 use arrayvec::ArrayVec;
+use sc_acts::{copy_handlers, unless_failed};
 use sc_model::Cause;
 use sc_region::{Activation, Reference, Stage, Store, Value, Want};
 use std::alloc::AllocError;
@@ -68,15 +68,6 @@ pub fn reply(store: &mut Store<'_>, value: Option<Value>, asked: &mut Want)
 }
 
 // ---- a reserve step
-
-/// The same handlers.
-fn copy_handlers(handlers: &ArrayVec<u16, 16>) -> ArrayVec<u16, 16>
-    ensures { result.items ≡ handlers.now.items }
-{
-    let mut copy = ArrayVec::new();
-    copy.try_extend_from_slice(handlers.as_slice()).unwrap();
-    copy
-}
 
 /// The entry of the routine has newly reserved these handlers.
 fn grant_entry_on(activation: &mut Activation, handlers: &ArrayVec<u16, 16>)

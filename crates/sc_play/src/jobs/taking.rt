@@ -5,11 +5,9 @@ ghost use Rattle.sc_region.specs.declared.job.Want.TheVariants as want;
 ghost use Rattle.sc_play.specs.Turns.{Becomes};
 ghost use Rattle.sc_play.specs.Taking.{answered, asks_answering, asks_call, asks_creation, asks_taking, asks_version, attribute_at, born_by, taken, taken_call, taken_creation, taken_version};
 
-use crate::beginning::ask_beginning;
-use crate::steps::unless_failed;
-use crate::versions::{attribute_at, routine_of, version_in};
 use arrayvec::ArrayVec;
-use sc_code::{AttributeCode, FeatureCode};
+use sc_acts::{ask_beginning, routine_of, unless_failed, version_in};
+use sc_code::{AttributeCode, FeatureCode, Program};
 use sc_model::Cause;
 use sc_region::{Errand, Origin, Reference, Request, Store, Value, Want};
 use std::alloc::AllocError;
@@ -28,6 +26,14 @@ fn ask_done(value: Option<Value>, asked: &mut Want)
         released: ArrayVec::new(),
         refused: false,
     };
+}
+
+/// The attribute at the number of the class of a number.
+fn attribute_at(program: &Program, class: u8, number: usize) -> Option<AttributeCode>
+    ensures { result ≡ attribute_at program.now.image class number }
+{
+    let code = program.classes().get(usize::from(class))?;
+    code.attributes.get(number).copied()
 }
 
 /// An attribute with this value is answered: F7 where its type is attached and it is still Void.

@@ -1,6 +1,6 @@
 use Rattle.std.proofs.Common.{ap, ◌∙◌}
 use Rattle.sc_code.specs.declared.program.ConstantPool.{ConstantPool}
-use Rattle.sc_interp.proofs.Slices.{copied_at}
+use Rattle.sc_acts.proofs.Slices.{copied_at}
 use Rattle.sc_interp.proofs.blocks.block_at.Goals as goal
 
 pub returns : goal.returns

@@ -4,7 +4,7 @@ use Rattle.sc_code.specs.declared.program.ConstantPool.{ConstantPool}
 use Rattle.sc_code.specs.Programs.{pool_of}
 use Rattle.sc_code.specs.View.{call_of}
 use Rattle.sc_interp.specs.Standing.{call_in}
-use Rattle.sc_interp.proofs.Slices.{lent_at}
+use Rattle.sc_acts.proofs.Slices.{lent_at}
 use Rattle.sc_interp.proofs.Pools.{call_by, name_told}
 use Rattle.sc_interp.proofs.calling.call_at.Goals as goal
 

@@ -6,7 +6,7 @@ use Rattle.sc_code.specs.Operations.{CallSite, CallRoutine}
 use Rattle.sc_code.specs.Programs.{pool_of}
 use Rattle.sc_code.specs.Machine.{hop_of}
 use Rattle.sc_region.specs.Frames.{activation_of}
-use Rattle.sc_interp.specs.declared.act.Calling.TheVariants as calling
+use Rattle.sc_acts.specs.declared.act.Calling.TheVariants as calling
 use Rattle.sc_interp.specs.Values.{value_of, values_of, reference_of}
 use Rattle.sc_interp.specs.Standing.{call_in, state_of}
 use Rattle.sc_interp.proofs.Operands.{calls_follow, routine_short, routine_by, room_test, misfits}

@@ -4,7 +4,7 @@ use Rattle.sc_code.specs.declared.program.ConstantPool.{ConstantPool}
 use Rattle.sc_code.specs.Programs.{pool_of}
 use Rattle.sc_code.specs.View.{creation_of}
 use Rattle.sc_interp.specs.Standing.{creation_in}
-use Rattle.sc_interp.proofs.Slices.{lent_at}
+use Rattle.sc_acts.proofs.Slices.{lent_at}
 use Rattle.sc_interp.proofs.Pools.{creation_by, procedure_there, procedure_told}
 use Rattle.sc_interp.proofs.calling.creation_at.Goals as goal
 

@@ -4,8 +4,9 @@ use Rattle.sc_model.specs.declared.cause.Cause.TheVariants as cause
 use Rattle.sc_model.specs.Steps.{Qualified}
 use Rattle.sc_code.specs.Machine.{Enters}
 use Rattle.sc_region.specs.Frames.{activation_of}
-use Rattle.sc_interp.specs.declared.act.Calling.TheVariants as calling
-use Rattle.sc_interp.specs.Standing.{actuals, enters, name_at, state_of, without}
+use Rattle.sc_acts.specs.declared.act.Calling.TheVariants as calling
+use Rattle.sc_interp.specs.Standing.{actuals, enters, state_of, without}
+use Rattle.sc_acts.specs.Tables.{name_at}
 use Rattle.sc_interp.specs.Values.{reference_of}
 use Rattle.sc_interp.proofs.Operands.{awaits_by, room_test}
 use Rattle.sc_interp.proofs.Targets.{refused}

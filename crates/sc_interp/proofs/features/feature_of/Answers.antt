@@ -1,6 +1,6 @@
 use Rattle.std.proofs.Common.{sym, ◌∙◌, ap}
 use Rattle.std.specs.Prelude.{Some}
-use Rattle.sc_interp.specs.Serving.{version_in}
+use Rattle.sc_acts.specs.Tables.{version_in}
 use Rattle.sc_interp.proofs.Targets.{feature_none, feature_attribute, feature_routine}
 use Rattle.sc_interp.proofs.features.feature_of.Goals as goal
 

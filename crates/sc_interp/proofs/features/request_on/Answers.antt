@@ -3,7 +3,8 @@ use Rattle.std.specs.Prelude.{is_some, if◌then◌else◌}
 use Rattle.sc_model.specs.declared.cause.Cause.TheVariants as cause
 use Rattle.sc_code.specs.Machine.{Requests, awaits, does, fails}
 use Rattle.sc_region.specs.Frames.{activation_of}
-use Rattle.sc_interp.specs.Standing.{actuals, name_at, state_of, without}
+use Rattle.sc_interp.specs.Standing.{actuals, state_of, without}
+use Rattle.sc_acts.specs.Tables.{name_at}
 use Rattle.sc_interp.specs.Values.{reference_of}
 use Rattle.sc_interp.proofs.Operands.{awaits_by, room_test}
 use Rattle.sc_interp.proofs.Targets.{refused}

@@ -2,7 +2,7 @@ use Rattle.std.proofs.Common.{Bor, sym, ap, ◌∙◌}
 use Rattle.std.specs.Option.{option_map}
 use Rattle.sc_model.specs.declared.cause.Cause.TheVariants as cause
 use Rattle.sc_code.specs.declared.program.RoutineCode.{RoutineCode}
-use Rattle.sc_interp.specs.declared.act.Hop.TheVariants as told
+use Rattle.sc_interp.specs.declared.hops.Hop.TheVariants as told
 use Rattle.sc_interp.proofs.SilentMoves.{next_nobody, next_uncoded}
 use Rattle.sc_interp.proofs.hopping.hop.Goals as goal
 

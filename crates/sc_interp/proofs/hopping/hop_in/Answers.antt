@@ -1,6 +1,6 @@
 use Rattle.std.proofs.Common.{refl, sym, subst}
 use Rattle.std.proofs.lemmas.Result.{IfOk-weaker}
-use Rattle.sc_interp.specs.declared.act.Hop as outcome
+use Rattle.sc_interp.specs.declared.hops.Hop as outcome
 use Rattle.sc_interp.specs.Hopping.{IsNext, NextIs}
 use Rattle.sc_interp.specs.Playing.{Plays}
 use Rattle.sc_interp.proofs.SilentMoves.{next_stuck}

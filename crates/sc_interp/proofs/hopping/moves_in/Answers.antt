@@ -1,8 +1,8 @@
 use Rattle.std.proofs.Common.{Some, refl, subst, ap, ◌≡◌, ◌+◌, ◌∙◌, arith}
 use Rattle.std.specs.Prelude.{Ok, Err}
 use Rattle.sc_model.specs.declared.cause.Cause.TheVariants as cause
-use Rattle.sc_interp.specs.declared.act.Hop as outcome
-use Rattle.sc_interp.specs.declared.act.Hop.TheVariants as told
+use Rattle.sc_interp.specs.declared.hops.Hop as outcome
+use Rattle.sc_interp.specs.declared.hops.Hop.TheVariants as told
 use Rattle.sc_interp.specs.Hopping.{IsNext, Passes}
 use Rattle.sc_interp.specs.Playing.{Plays}
 use Rattle.sc_interp.proofs.SilentMoves.{code_still, comes_after, comes_never, count_some, leads_after, next_stuck, remains_after}

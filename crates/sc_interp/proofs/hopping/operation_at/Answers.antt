@@ -1,4 +1,4 @@
-use Rattle.sc_interp.proofs.Slices.{copied_at}
+use Rattle.sc_acts.proofs.Slices.{copied_at}
 use Rattle.sc_interp.proofs.hopping.operation_at.Goals as goal
 
 pub returns : goal.returns

@@ -1,5 +1,5 @@
 use Rattle.std.proofs.Common.{refl}
-use Rattle.sc_interp.proofs.Slices.{copied_at}
+use Rattle.sc_acts.proofs.Slices.{copied_at}
 use Rattle.sc_interp.proofs.reading.value_at.Goals as goal
 
 pub returns : goal.returns

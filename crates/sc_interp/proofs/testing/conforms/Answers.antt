@@ -5,7 +5,7 @@ use Rattle.std.specs.Prelude.{slice_get}
 use Rattle.sc_code.specs.declared.program.ClassCode.{ClassCode}
 use Rattle.sc_code.specs.declared.program.Image.{Image}
 use Rattle.sc_interp.specs.Serving.{conforms_in}
-use Rattle.sc_interp.proofs.Slices.{lent_at}
+use Rattle.sc_acts.proofs.Slices.{lent_at}
 use Rattle.sc_interp.proofs.testing.conforms.Goals as goal
 
 -- what the table of a class says of another one

@@ -1,0 +1,12 @@
+pub mod Options
+pub mod Slices
+pub mod FirstItems
+pub mod LastOperands
+pub mod Creations
+pub mod InvariantTests
+pub mod AddedOperands
+pub mod Allowed
+pub mod Asked
+pub mod Created
+pub mod Failed
+pub mod Slots

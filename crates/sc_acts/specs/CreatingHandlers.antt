@@ -1,0 +1,74 @@
+-- What the creation of a handler makes of its creator's store, and what it asks.
+use Rattle.std.specs.Prelude.{ℕ, ◌&&◌, Bool, true, false, Option, Some, None, if◌then◌else◌}
+use Rattle.std.specs.Option.{option_and_then}
+use Rattle.sc_model.specs.declared.cause.Cause.TheVariants as cause
+use Rattle.sc_region.specs.declared.job.Want.{Want}
+use Rattle.sc_region.specs.declared.job.Want.TheVariants as want
+use Rattle.sc_region.specs.declared.value.Reference.{Reference}
+use Rattle.sc_region.specs.Frames.{PlainActivation, top_activation}
+use Rattle.sc_region.specs.Stores.{PlainStore, failed}
+use Rattle.sc_acts.specs.Creating.{has_room, with_reference}
+use Rattle.sc_region.specs.Calls.{last_values, on_top, past}
+use Rattle.sc_acts.specs.declared.act.RemoteCreation.{RemoteCreation}
+use Rattle.sc_acts.specs.Requesting.{awaiting_if}
+use Rattle.sc_acts.specs.Operands.{class_number, has_actuals, procedure_number}
+
+-- ---- the creation
+
+-- of an object of the class, by this procedure, with so many actuals
+abbrev pub creation_with : ℕ → Option ℕ → ℕ → Bool → RemoteCreation
+creation_with class procedure n passes = record { class = class; procedure = procedure; count = n; passes = passes }
+
+-- The routine has the operands of the creation, and room for the reference in their place.
+abbrev pub may_create : ℕ → PlainActivation → Bool
+may_create n a = has_actuals n a && has_room n a
+
+abbrev pub creation_by : RemoteCreation → ℕ → Option ℕ → PlainActivation → Want
+creation_by c class procedure a =
+    want.Create class procedure (record { items = last_values c.count a.operands.values }) c.passes
+
+-- what the creation of an object of the class asks, where its procedure has a number and its operands are there
+abbrev pub creation_of : RemoteCreation → ℕ → PlainActivation → Option Want
+creation_of c class a =
+    option_and_then (λ procedure. if may_create c.count a then Some (creation_by c class procedure a) else None)
+    (procedure_number c.procedure)
+
+-- the same of the topmost routine
+abbrev pub creation_in : RemoteCreation → ℕ → Option PlainActivation → Option Want
+creation_in c class None = None
+creation_in c class (Some a) = creation_of c class a
+
+-- ---- what it makes of the store
+
+-- the first object of the handler that is made, which has the creator's number until it is told
+abbrev pub first_object : ℕ → ℕ → Reference
+first_object h class = record { handler = h; number = 1; class = class }
+
+-- The operands are gone, and the reference comes in their place. With lock passing the creator waits.
+abbrev pub creating : Reference → RemoteCreation → PlainActivation → PlainActivation
+creating r c a = awaiting_if c.passes r.handler false true (with_reference r (past c.count a))
+
+abbrev pub created_as : Option Want → Reference → RemoteCreation → PlainStore → PlainStore
+created_as None r c x = failed cause.BadCode x
+created_as (Some w) r c x = on_top (creating r c) x
+
+abbrev pub created_of : ℕ → RemoteCreation → Option ℕ → PlainStore → PlainStore
+created_of h c None x = failed cause.BadCode x
+created_of h c (Some class) x = created_as (creation_in c class (top_activation x.frames)) (first_object h class) c x
+
+-- A handler is created by the one of this number.
+abbrev pub handler_created : ℕ → RemoteCreation → PlainStore → PlainStore
+handler_created h c x = created_of h c (class_number c.class) x
+
+-- ---- what it asks
+
+abbrev pub asks_created : Option Want → Want
+asks_created None = want.Fail cause.BadCode
+asks_created (Some w) = w
+
+abbrev pub asks_of : RemoteCreation → Option ℕ → Option PlainActivation → Want
+asks_of c None o = want.Fail cause.BadCode
+asks_of c (Some class) o = asks_created (creation_in c class o)
+
+abbrev pub asks_creating : RemoteCreation → Option PlainActivation → Want
+asks_creating c o = asks_of c (class_number c.class) o

@@ -1,0 +1,12 @@
+pub mod Tables
+pub mod Turning
+pub mod Entering
+pub mod Creating
+pub mod Exiting
+pub mod Refusing
+pub mod Operands
+pub mod Requesting
+pub mod CreatingHandlers
+pub mod CreatingObjects
+pub mod Blocks
+pub mod Acting

@@ -1,0 +1,268 @@
+//! Creations of objects of this handler.
+ghost use Rattle.std.specs.Prelude.{◌≡◌, ◌<◌, OnOk, OnErr, Some, false, true, length};
+ghost use Rattle.sc_region.specs.Frames.{PlainActivation, activation_of, top_activation};
+ghost use Rattle.sc_region.specs.Stores.{made_for, next_reference};
+ghost use Rattle.sc_region.specs.declared.job.Want.TheVariants as want;
+ghost use Rattle.sc_acts.specs.Creating.{created, created_by, given, has_room_in, with_reference, without_last};
+ghost use Rattle.sc_acts.specs.CreatingObjects.{asks_created, created_by_name, created_with, nearest_reference, object_created};
+ghost use Rattle.sc_region.specs.Calls.{in_call, on_top};
+ghost use Rattle.sc_acts.specs.Entering.{Calls, asks_beginning};
+ghost use Rattle.sc_acts.specs.Turning.{unless_failed};
+
+use crate::beginning::ask_beginning;
+use crate::caller::{Caller, look, no_caller, resume, suspend};
+use crate::numbers::class_number;
+use crate::stages::misfit;
+use crate::steps::{pass, unless_failed};
+use crate::versions::routine_of;
+use sc_model::Cause;
+use sc_region::{Activation, Reference, Store, Value, Want};
+use std::alloc::AllocError;
+
+/// How many objects a handler has at most.
+const MAX_OBJECTS: usize = 65_536;
+
+/// Whether the topmost routine, if there is one, has room for one more operand where so many are gone.
+fn has_room(store: &Store<'_>, count: usize) -> bool
+    ensures { result ≡ has_room_in count (top_activation store.now.frames) }
+{
+    match store.top() {
+        None => true,
+        Some(activation) => activation.operands.has_room_under(count),
+    }
+}
+
+/// One more operand, the reference.
+fn add_on(activation: &mut Activation, reference: Reference)
+    requires { length (activation_of activation.old).operands.values < (activation_of activation.old).operands.depth }
+    ensures { activation_of activation.new ≡ with_reference reference (activation_of activation.old) }
+{
+    activation.operands.push(Value::Attached(reference));
+}
+
+/// The same of the topmost routine.
+fn add(store: &mut Store<'_>, reference: Reference)
+    requires { (a : PlainActivation) → top_activation store.old.frames ≡ Some a → length a.operands.values < a.operands.depth }
+    ensures { store.new ≡ on_top (with_reference reference) store.old }
+{
+    match store.top_mut() {
+        Some(activation) => add_on(activation, reference),
+        None => (),
+    }
+}
+
+fn drop_on(activation: &mut Activation)
+    ensures { activation_of activation.new ≡ without_last (activation_of activation.old) }
+{
+    activation.operands.drop_last(1);
+}
+
+/// The last operand of the topmost routine goes.
+fn drop_last(store: &mut Store<'_>)
+    ensures { store.new ≡ on_top without_last store.old }
+{
+    match store.top_mut() {
+        Some(activation) => drop_on(activation),
+        None => (),
+    }
+}
+
+// ---- without a procedure
+
+/// So many operands go, and the reference comes in their place.
+fn give(store: &mut Store<'_>, count: usize, reference: Reference)
+    ensures { store.new ≡ given count reference store.old }
+{
+    if has_room(store, count) {
+        pass(store, count);
+        add(store, reference);
+    } else {
+        store.fail(Cause::BadCode);
+    }
+}
+
+/// An object of the class of the reference is created, which is to name it: F10 where there are as many objects as there
+/// may be, F1 where it breaks its invariant. Err where there is no memory; nothing has changed then.
+fn create(
+    store: &mut Store<'_>,
+    reference: Reference,
+    count: usize,
+    asked: &mut Want,
+) -> Result<(), AllocError>
+    requires { asked.old ≡ want.Continue }
+    ensures ok { OnOk result (store.new ≡ created reference count store.old) }
+    ensures want { OnOk result (asked.new ≡ unless_failed store.new.failure want.Continue) }
+    ensures err { OnErr result (store.new ≡ store.old) }
+    ensures kept { OnErr result (asked.new ≡ asked.old) }
+{
+    store.make_object(reference.class)?;
+    give(store, count, reference);
+    unless_failed(store, asked);
+    Ok(())
+}
+
+// ---- by a procedure
+
+/// The object is created by the routine of the number. Err where there is no memory; nothing has changed then.
+fn create_from(
+    store: &mut Store<'_>,
+    caller: &Caller,
+    reference: Reference,
+    routine: usize,
+    count: usize,
+) -> Result<(), AllocError>
+    requires stands { Calls count caller.now.values.items caller.now.place caller.now.stage (top_activation store.old.frames) }
+    requires room { has_room_in count (top_activation store.old.frames) ≡ true }
+    ensures ok { OnOk result (store.new ≡ made_for reference.handler reference.class routine caller.now.values.items
+        (on_top (with_reference reference) (on_top (in_call count false) store.old))) }
+    ensures err { OnErr result (store.new ≡ store.old) }
+{
+    suspend(store, count, false);
+    add(store, reference);
+    let actuals = caller.values.as_slice();
+    match store.make_object_with(reference.handler, reference.class, routine, actuals) {
+        Ok(()) => Ok(()),
+        Err(error) => {
+            drop_last(store);
+            resume(store, caller);
+            Err(error)
+        }
+    }
+}
+
+/// The object is created by the procedure of the name.
+fn make(
+    store: &mut Store<'_>,
+    reference: Reference,
+    name: usize,
+    count: usize,
+) -> Result<(), AllocError>
+    ensures ok { OnOk result (store.new ≡ created_by reference name count store.old) }
+    ensures err { OnErr result (store.new ≡ store.old) }
+{
+    let found = routine_of(store.program(), reference.class, name);
+    let has_room = has_room(store, count);
+    let mut caller = no_caller();
+    if !look(&mut caller, store, count) {
+        store.fail(Cause::BadCode);
+        return Ok(());
+    }
+    let Some(routine) = found else {
+        store.fail(Cause::BadCode);
+        return Ok(());
+    };
+    if !has_room {
+        store.fail(Cause::BadCode);
+        return Ok(());
+    }
+    create_from(store, &caller, reference, routine, count)
+}
+
+/// An object of the class of the reference is created, which is to name it, and its procedure of this name called, with
+/// the last operands, so many, as actuals: F10 where there are as many objects as there may be; F16 and F11 as in `enter`.
+/// Err where there is no memory; nothing has changed then.
+fn create_by(
+    store: &mut Store<'_>,
+    reference: Reference,
+    name: usize,
+    count: usize,
+    asked: &mut Want,
+) -> Result<(), AllocError>
+    requires { asked.old ≡ want.Continue }
+    ensures ok { OnOk result (store.new ≡ created_by reference name count store.old) }
+    ensures want { OnOk result (asked.new ≡ unless_failed store.new.failure (asks_beginning store.new.program (top_activation store.new.frames))) }
+    ensures err { OnErr result (store.new ≡ store.old) }
+    ensures kept { OnErr result (asked.new ≡ asked.old) }
+{
+    make(store, reference, name, count)?;
+    ask_beginning(store, asked);
+    unless_failed(store, asked);
+    Ok(())
+}
+
+// ---- of the class of a number
+
+/// The reference to the next object of this handler; where no number can say which it is, to the last that one can.
+fn next_reference(store: &Store<'_>, handler: u16, class: u8) -> Reference
+    ensures { result ≡ nearest_reference handler class store.now }
+{
+    let number = store.object_count().min(u32::MAX as usize - 1) as u32 + 1;
+    Reference {
+        handler,
+        number,
+        class,
+    }
+}
+
+/// An object is created by the procedure of the name. Where the handler has too many objects it fails for that, whatever
+/// the procedure is. Err where there is no memory; nothing has changed then.
+fn create_by_name(
+    store: &mut Store<'_>,
+    object: Reference,
+    name: usize,
+    count: usize,
+    asked: &mut Want,
+) -> Result<(), AllocError>
+    requires { asked.old ≡ want.Continue }
+    ensures ok { OnOk result (store.new ≡ created_by_name object name count store.old) }
+    ensures want { OnOk result (asked.new ≡ unless_failed store.new.failure (asks_beginning store.new.program (top_activation store.new.frames))) }
+    ensures err { OnErr result (store.new ≡ store.old) }
+    ensures kept { OnErr result (asked.new ≡ asked.old) }
+{
+    if store.object_count() < MAX_OBJECTS {
+        create_by(store, object, name, count, asked)
+    } else {
+        store.fail(Cause::TooManyObjects);
+        *asked = Want::Fail(Cause::TooManyObjects);
+        Ok(())
+    }
+}
+
+/// An object of the class is created, by its procedure of the name or without one. Err where there is no memory; nothing
+/// has changed then.
+fn create_by_number(
+    store: &mut Store<'_>,
+    handler: u16,
+    class: u8,
+    procedure: Option<usize>,
+    count: usize,
+    asked: &mut Want,
+) -> Result<(), AllocError>
+    requires { asked.old ≡ want.Continue }
+    ensures ok { OnOk result (store.new ≡ created_with procedure (next_reference handler class store.old) count store.old) }
+    ensures want { OnOk result (asked.new ≡ unless_failed store.new.failure (asks_created procedure store.new)) }
+    ensures err { OnErr result (store.new ≡ store.old) }
+    ensures kept { OnErr result (asked.new ≡ asked.old) }
+{
+    let object = next_reference(store, handler, class);
+    match procedure {
+        None => create(store, object, count, asked),
+        Some(name) => create_by_name(store, object, name, count, asked),
+    }
+}
+
+/// An object of the class is created, by its procedure of the name or without one, with the last operands, so many, as
+/// actuals: F16 where the class has no number, and F1, F10, F11 and F16 as in `create` and `create_by`. Err where there is
+/// no memory; nothing has changed then.
+pub fn create_object(
+    store: &mut Store<'_>,
+    handler: u16,
+    class: usize,
+    procedure: Option<usize>,
+    count: usize,
+    asked: &mut Want,
+) -> Result<(), AllocError>
+    requires { asked.old ≡ want.Continue }
+    ensures ok { OnOk result (store.new ≡ object_created handler class procedure count store.old) }
+    ensures want { OnOk result (asked.new ≡ unless_failed store.new.failure (asks_created procedure store.new)) }
+    ensures err { OnErr result (store.new ≡ store.old) }
+    ensures kept { OnErr result (asked.new ≡ asked.old) }
+{
+    match class_number(class) {
+        Some(class) => create_by_number(store, handler, class, procedure, count, asked),
+        None => {
+            misfit(store, asked);
+            Ok(())
+        }
+    }
+}

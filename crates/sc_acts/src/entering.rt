@@ -1,0 +1,99 @@
+//! Calls of routines of this handler.
+ghost use Rattle.std.specs.Prelude.{◌≡◌, ◌<◌, IsTrue, OnOk, OnErr, false};
+ghost use Rattle.sc_region.specs.Frames.{top_activation};
+ghost use Rattle.sc_region.specs.declared.job.Want.TheVariants as want;
+ghost use Rattle.sc_acts.specs.Entering.{CallsNot, HasCall, asks_beginning, called, operands_of, origin_of};
+ghost use Rattle.sc_acts.specs.Turning.{unless_failed};
+
+use crate::act::Calling;
+use crate::beginning::ask_beginning;
+use crate::caller::has_operands;
+use crate::steps::unless_failed;
+use crate::versions::routine_of;
+use sc_model::Cause;
+use sc_region::{Origin, OwnCall, Reference, Store, Want};
+use std::alloc::AllocError;
+
+fn operands_of(calling: Calling, count: usize) -> usize
+    requires { count < 17 }
+    ensures { result ≡ operands_of calling count }
+{
+    match calling {
+        Calling::Unqualified => count,
+        Calling::Qualified => count + 1,
+    }
+}
+
+fn origin_of(calling: Calling) -> Origin
+    ensures { result ≡ origin_of calling }
+{
+    match calling {
+        Calling::Unqualified => Origin::Unqualified,
+        Calling::Qualified => Origin::Qualified,
+    }
+}
+
+/// Whether the topmost routine has the operands of such a call.
+fn has_call(store: &Store<'_>, calling: Calling, count: usize) -> bool
+    ensures some { IsTrue result → HasCall calling count (top_activation store.now.frames) }
+    ensures none { result ≡ false → CallsNot calling count (top_activation store.now.frames) }
+{
+    match store.top() {
+        Some(activation) => count < 17 && has_operands(activation, operands_of(calling, count)),
+        None => false,
+    }
+}
+
+/// The routine of the name is called, where the last operands are so many actuals.
+fn call(
+    store: &mut Store<'_>,
+    calling: Calling,
+    object: Reference,
+    name: usize,
+    count: usize,
+    gives: bool,
+) -> Result<(), AllocError>
+    ensures ok { OnOk result (store.new ≡ called calling object name count gives store.old) }
+    ensures err { OnErr result (store.new ≡ store.old) }
+{
+    let found = routine_of(store.program(), object.class, name);
+    if !has_call(store, calling, count) {
+        store.fail(Cause::BadCode);
+        return Ok(());
+    }
+    let Some(routine) = found else {
+        store.fail(Cause::BadCode);
+        return Ok(());
+    };
+    let call = OwnCall {
+        origin: origin_of(calling),
+        actuals: count,
+        operands: operands_of(calling, count),
+        gives,
+    };
+    store.call(object, routine, call)
+}
+
+/// A routine of an object of this handler is called by its name, with the last operands, so many, as actuals: F16 where
+/// the class of the object has no such routine, or the routine takes another number of actuals; F11 where the stack is
+/// full. Err where there is no memory; nothing has changed then.
+pub fn enter(
+    store: &mut Store<'_>,
+    calling: Calling,
+    object: Reference,
+    name: usize,
+    count: usize,
+    gives: bool,
+    asked: &mut Want,
+) -> Result<(), AllocError>
+    requires { asked.old ≡ want.Continue }
+    ensures ok { OnOk result (store.new ≡ called calling object name count gives store.old) }
+    ensures want { OnOk result (asked.new ≡ unless_failed store.new.failure (asks_beginning store.new.program (top_activation store.new.frames))) }
+    ensures err { OnErr result (store.new ≡ store.old) }
+    ensures kept { OnErr result (asked.new ≡ asked.old) }
+{
+    call(store, calling, object, name, count, gives)?;
+    ask_beginning(store, asked);
+    unless_failed(store, asked);
+    Ok(())
+}

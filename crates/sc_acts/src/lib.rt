@@ -1,0 +1,29 @@
+//! Visible operations: what makes a turn.
+//!
+//! An [`Act`] is done on the topmost routine of a store, and what its turn asks of the core is told.
+#![tactic(auto)]
+
+mod act;
+mod acting;
+mod beginning;
+mod blocks;
+mod caller;
+mod creating;
+mod creating_handlers;
+mod entering;
+mod exiting;
+mod numbers;
+mod operands;
+mod printing;
+mod refusing;
+mod requesting;
+mod stages;
+mod steps;
+mod versions;
+
+pub use act::{Act, Calling, RemoteCall, RemoteCreation};
+pub use acting::act_on;
+pub use beginning::ask_beginning;
+pub use exiting::{copy_handlers, hand_to, is_unset};
+pub use steps::{end_round_on, unless_failed};
+pub use versions::{routine_of, version_in};

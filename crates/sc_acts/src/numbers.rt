@@ -1,0 +1,31 @@
+//! Numbers of classes and names, as what is asked has room for them.
+ghost use Rattle.std.specs.Prelude.{◌≡◌};
+ghost use Rattle.sc_acts.specs.Operands.{class_number, name_number, procedure_number};
+
+/// The number of a class, where there is room for it.
+pub fn class_number(class: usize) -> Option<u8>
+    ensures { result ≡ class_number class }
+{
+    if class < 256 { Some(class as u8) } else { None }
+}
+
+/// The number of a name, where there is room for it.
+pub fn name_number(name: usize) -> Option<u32>
+    ensures { result ≡ name_number name }
+{
+    if name < 0x1_0000_0000 {
+        Some(name as u32)
+    } else {
+        None
+    }
+}
+
+/// The same of the name of a creation procedure, if there is one.
+pub fn procedure_number(procedure: Option<usize>) -> Option<Option<u32>>
+    ensures { result ≡ procedure_number procedure }
+{
+    match procedure {
+        None => Some(None),
+        Some(name) => Some(Some(name_number(name)?)),
+    }
+}

@@ -1,9 +1,0 @@
-use Rattle.std.proofs.Common.{MutBor, sym, ap, ◌∙◌}
-use Rattle.std.specs.Option.{option_map}
-use Rattle.sc_region.specs.declared.frame.Activation.{Activation}
-use Rattle.sc_region.specs.Frames.{activation_of}
-use Rattle.sc_play.proofs.acts.creating_handlers.begin.Goals as goal
-
-pub begin_on-requires : goal.begin_on-requires
-begin_on-requires c =
-    c.requires (activation_of c.in-Some.activation.now) (sym c.top_mut.ensures.value ∙ ap (option_map (λ (m : MutBor Activation). activation_of m.now)) c.in-Some.is)
