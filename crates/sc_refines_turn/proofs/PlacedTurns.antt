@@ -424,18 +424,23 @@ module _ (serve : ProgramsServe) (h : ℕ) (y : PlainStore) (sound : IsSound y) 
         (name_at b.program k, name_there b.program k n gives q.2.named),
         subst (λ o. HasCall c n o) (sym q.1) (enter_there c n q.0 (few_actuals b.program k n gives requests q.2.named) q.2.operands),
       )
-  may_act (act.Request r k n gives passes) b comes told_so =
-      let a = act.Request r k n gives passes in
+  may_act (act.Request call) b comes told_so =
+      let a = act.Request call in
+      let k = call.name in
+      let n = call.count in
       let q = ready_in b.program a (top_activation b.frames) told_so in
       let requests = program_there (hop.Comes a) b comes in
-      let name = name_there b.program k n gives q.2.named in (
+      let name = name_there b.program k n call.gives q.2.named in (
         numbered b k requests name,
-        subst (λ o. MayRequest k n o) (sym q.1) (name_fits b.program k requests name, call_there n q.0 (few_actuals b.program k n gives requests q.2.named) q.2.operands),
+        subst (λ o. MayRequest k n o) (sym q.1) (name_fits b.program k requests name, call_there n q.0 (few_actuals b.program k n call.gives requests q.2.named) q.2.operands),
       )
   may_act (act.Create class None n) b comes told_so = may_create_alone class n b comes told_so
   may_act (act.Create class (Some k) n) b comes told_so = may_create_by class k n b comes told_so
-  may_act (act.CreateHandler class k n passes) b comes told_so =
-      let a = act.CreateHandler class k n passes in
+  may_act (act.CreateHandler creation) b comes told_so =
+      let a = act.CreateHandler creation in
+      let class = creation.class in
+      let k = creation.procedure in
+      let n = creation.count in
       let q = ready_in b.program a (top_activation b.frames) told_so in
       let requests = program_there (hop.Comes a) b comes in
       let small = small_creation b.program class k n requests q.2.named in

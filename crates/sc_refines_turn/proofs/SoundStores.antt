@@ -239,10 +239,10 @@ acted_free h (act.PrintBoolean b) z free = top_free (past 1) (λ a h. h) z.frame
 acted_free h (act.PrintText k) z free = top_free (past 0) (λ a h. h) z.frames free
 acted_free h (act.Until n) z free = round_free n z.frames free
 acted_free h (act.Enter c r k n gives) z free = called_free c r k n gives z (top_activation z.frames) free
-acted_free h (act.Request r k n gives passes) z free =
-    sent_free (request_in h (call_of r k n gives passes) (top_activation z.frames)) r k n gives passes z free
+acted_free h (act.Request q) z free =
+    sent_free (request_in h q (top_activation z.frames)) q.object q.name q.count q.gives q.passes z free
 acted_free h (act.Create class k n) z free = created_free h (class_number class) k n z free
-acted_free h (act.CreateHandler class k n passes) z free = handler_free h class k n passes (class_number class) z free
+acted_free h (act.CreateHandler q) z free = handler_free h q.class q.procedure q.count q.passes (class_number q.class) z free
 acted_free h act.Start z free = top_free (past 0) (λ a h. h) z.frames free
 acted_free h (act.Refuse k) z free = refused_free (formals_at z.program k) (top_current z.frames) (top_activation z.frames) z free
 acted_free h (act.Open k n) z free = opened_free k (heads_in k n (top_activation z.frames)) z free

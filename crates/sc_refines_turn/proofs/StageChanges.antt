@@ -47,6 +47,8 @@ use Rattle.sc_refines_turn.proofs.SilentOperations.{meets}
 use Rattle.sc_refines_turn.proofs.PassedOperations.{act_same, few, stands_within, state_same, stays, turn_is}
 use Rattle.sc_refines_turn.proofs.ShownSteps.{leaves_is}
 use Rattle.sc_refines_turn.proofs.ProgramRoutines.{frames_still}
+use Rattle.sc_acts.specs.CreatingHandlers.{creation_with}
+use Rattle.sc_acts.specs.Requesting.{call_of}
 
 -- ---- what is seen
 
@@ -289,7 +291,7 @@ stands_none g place tail (Some t) p e st = cc
 module _ (serve : ProgramsServe) where
   pub requests_are_made : RequestsAreMade
   requests_are_made r k n gives passes y z comes s h x is region =
-      let o = hop.Comes (act.Request r k n gives passes) in
+      let o = hop.Comes (act.Request (call_of r k n gives passes)) in
       let m = meets serve s x o y z is region comes in
       let f = frame_at m.frame m.point in
       let after : Half = record x { objects = m.point.objects; stack = f ∷ m.below } in
@@ -323,7 +325,7 @@ module _ (serve : ProgramsServe) where
 
   pub handlers_are_created : HandlersAreCreated
   handlers_are_created h class k n passes y z comes s x is region =
-      let o = hop.Comes (act.CreateHandler class k n passes) in
+      let o = hop.Comes (act.CreateHandler (creation_with class k n passes)) in
       let m = meets serve s x o y z is region comes in
       let f = frame_at m.frame m.point in
       let after : Half = record x { objects = m.point.objects; stack = f ∷ m.below } in

@@ -162,7 +162,7 @@ module _ (serve : ProgramsServe) where
 
   pub told_requests_are_made : ToldRequestsAreMade
   told_requests_are_made h r k n gives passes y z t =
-      let b = ready_in z.program (act.Request r k n gives passes) (top_activation z.frames) t.told in
+      let b = ready_in z.program (act.Request (call_of r k n gives passes)) (top_activation z.frames) t.told in
       let a = b.0 in
       let c = call_of r k n gives passes in
       let name = name_there z.program k n gives b.2.named in
@@ -172,18 +172,18 @@ module _ (serve : ProgramsServe) where
       ap (request_in h c) b.1
       ∙ ap (λ q. option_and_then (λ name. if has_call n a then Some (request_by h c name a) else None) q) fits
       ∙ ap (λ b. if b then Some (request_by h c k a) else None) there in
-      let made : on_top (acting.sending r n gives passes) z ≡ acted h (act.Request r k n gives passes) z =
+      let made : on_top (acting.sending r n gives passes) z ≡ acted h (act.Request (call_of r k n gives passes)) z =
       top_same (acting.sending r n gives passes) (requesting.sending c) (λ a. await_same (passes || gives) r.handler gives false (without_last (past n a))) z ∙ sym (ap (λ q. sent q c z) asked) in
-      let turns : Turns h (act.Request r k n gives passes) y z = λ s x is region. subst (λ w. IsRegionOf s (turn s h x) w) made (requests_are_made serve r k n gives passes y z t.comes s h x is region) in (
+      let turns : Turns h (act.Request (call_of r k n gives passes)) y z = λ s x is region. subst (λ w. IsRegionOf s (turn s h x) w) made (requests_are_made serve r k n gives passes y z t.comes s h x is region) in (
         turns,
         λ s x is region.
-            requests_ask serve h r k n gives passes y z (acted h (act.Request r k n gives passes) z) t.comes (numbered z k t.fits name)
+            requests_ask serve h r k n gives passes y z (acted h (act.Request (call_of r k n gives passes)) z) t.comes (numbered z k t.fits name)
             (subst (λ o. MayRequest k n o) (sym b.1) (fits, there)) s x is region (turns s x is region),
       )
 
   pub told_handlers_are_created : ToldHandlersAreCreated
   told_handlers_are_created h class k n passes y z t =
-      let o = act.CreateHandler class k n passes in
+      let o = act.CreateHandler (creation_with class k n passes) in
       let b = ready_in z.program o (top_activation z.frames) t.told in
       let a = b.0 in
       let c = creation_with class k n passes in

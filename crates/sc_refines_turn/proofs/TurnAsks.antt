@@ -82,9 +82,9 @@ module _ (serve : ProgramsServe) where
       (starts_is m.last.environment m.point.environment m.step
       (subst (λ a. Seen m.last.environment m.point.environment m.step a) (sym (act_same flat.Starts m.shown _ m.state m.does)) m.seen)))
   simple_steps_ask_nothing (act.Enter c r k i gives) y z w simple comes turns n s h x is region = cc
-  simple_steps_ask_nothing (act.Request r k i gives passes) y z w simple comes turns n s h x is region = cc
+  simple_steps_ask_nothing (act.Request q) y z w simple comes turns n s h x is region = cc
   simple_steps_ask_nothing (act.Create k p i) y z w simple comes turns n s h x is region = cc
-  simple_steps_ask_nothing (act.CreateHandler k p i passes) y z w simple comes turns n s h x is region = cc
+  simple_steps_ask_nothing (act.CreateHandler q) y z w simple comes turns n s h x is region = cc
   simple_steps_ask_nothing (act.Refuse k) y z w simple comes turns n s h x is region = cc
   simple_steps_ask_nothing (act.Open first i) y z w simple comes turns n s h x is region = cc
   simple_steps_ask_nothing act.Leave y z w simple comes turns n s h x is region = cc

@@ -260,7 +260,7 @@ module _ (serve : ProgramsServe) where
 
   pub requests_ask : RequestsAsk
   requests_ask h r k n gives passes y z w comes numbered may s x is region left_so =
-      let o = hop.Comes (act.Request r k n gives passes) in
+      let o = hop.Comes (act.Request (call_of r k n gives passes)) in
       let m = meets serve s x o y z is region comes in
       let a = m.activation in
       let operands = values_of a.operands.values in
@@ -287,7 +287,7 @@ module _ (serve : ProgramsServe) where
 
   pub creations_ask : CreationsAsk
   creations_ask h class k n passes y z w comes numbered may s x is region left_so =
-      let o = hop.Comes (act.CreateHandler class k n passes) in
+      let o = hop.Comes (act.CreateHandler (creation_with class k n passes)) in
       let m = meets serve s x o y z is region comes in
       let a = m.activation in
       let operands = values_of a.operands.values in

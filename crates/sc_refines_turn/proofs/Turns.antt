@@ -228,15 +228,17 @@ module _ (serve : ProgramsServe) (h : ℕ) (y : PlainStore) (s : System) (x : Ha
     acts (act.Enter c r k n gives) comes may program =
         let left_so = calls_are_made serve c r k n gives may.0.0 y b comes may.0.1 may.1 s h x is region in
         (left_so, sym (calls_ask serve h c r k n gives y b (acted h (act.Enter c r k n gives) b) comes program s x is region left_so))
-    acts (act.Request r k n gives passes) comes may program =
-        let a = act.Request r k n gives passes in
-        as_store a _ (requested_is h r k n gives passes b may.1) (requests_are_made serve r k n gives passes y b comes s h x is region)
-        (requests_ask serve h r k n gives passes y b (acted h a b) comes may.0 may.1 s x is region)
+    acts (act.Request q) comes may program =
+        let a = act.Request q in
+        as_store a _ (requested_is h q.object q.name q.count q.gives q.passes b may.1)
+        (requests_are_made serve q.object q.name q.count q.gives q.passes y b comes s h x is region)
+        (requests_ask serve h q.object q.name q.count q.gives q.passes y b (acted h a b) comes may.0 may.1 s x is region)
     acts (act.Create class k n) comes may program = creates class k n comes may program
-    acts (act.CreateHandler class k n passes) comes may program =
-        let a = act.CreateHandler class k n passes in
-        as_store a _ (handler_created_is h class k n passes b may.1) (handlers_are_created serve h class k n passes y b comes s x is region)
-        (creations_ask serve h class k n passes y b (acted h a b) comes may.0 may.1 s x is region)
+    acts (act.CreateHandler q) comes may program =
+        let a = act.CreateHandler q in
+        as_store a _ (handler_created_is h q.class q.procedure q.count q.passes b may.1)
+        (handlers_are_created serve h q.class q.procedure q.count q.passes y b comes s x is region)
+        (creations_ask serve h q.class q.procedure q.count q.passes y b (acted h a b) comes may.0 may.1 s x is region)
     acts (act.Refuse k) comes may program = refuses k comes may
     acts (act.Open first n) comes may program =
         let a = act.Open first n in

@@ -76,10 +76,10 @@ act_shown p s c me (act.Until None) f = does_shown _ _
 act_shown p s c me (act.Until (Some n)) f = does_shown _ _
 act_shown p s c me (act.Enter calling.Unqualified r x n gives) f = does_shown _ _
 act_shown p s c me (act.Enter calling.Qualified r x n gives) f = does_shown _ _
-act_shown p s c me (act.Request r x n gives passes) f = does_shown _ _
+act_shown p s c me (act.Request q) f = does_shown _ _
 act_shown p s c me (act.Create k x n) f =
     here_shown s c me (record { class = k; procedure = option_map (name_at p) x; count = n; passes = false }) (actuals n f.values) (without n f)
-act_shown p s c me (act.CreateHandler k x n passes) f = does_shown _ _
+act_shown p s c me (act.CreateHandler q) f = does_shown _ _
 act_shown p s c me act.Start f = does_shown _ _
 act_shown p s c me (act.Refuse k) f = does_shown _ _
 act_shown p s c me (act.Open first n) f = does_shown _ _

@@ -149,7 +149,7 @@ drop_more n vs =
     let same : suc n ≡ n + 1 = omega (arith) in
     drop_one n vs ∙ ap (λ (k : ℕ). drop k vs) same
 
-sending_room : (p : Image) (r : Reference) (k n : ℕ) (gives passes : Bool) (fs : List PlainFrame) → IsReadyAt p (act.Request r k n gives passes) (top_activation fs) → IsRunning fs →
+sending_room : (p : Image) (r : Reference) (k n : ℕ) (gives passes : Bool) (fs : List PlainFrame) → IsReadyAt p (act.Request (call_of r k n gives passes)) (top_activation fs) → IsRunning fs →
     HaveRoom fs → HaveRoom (top_frame (requesting.sending (call_of r k n gives passes)) fs)
 sending_room p r k n gives passes [] t runs room = tt
 sending_room p r k n gives passes (f ∷ below) t runs room = (by (passes || gives), room.1)
@@ -330,10 +330,11 @@ acts_room h (act.PrintBoolean b) z t kept = top_runs (past 1) (λ a. refl) z.fra
 acts_room h (act.PrintText k) z t kept = top_runs (past 0) (λ a. refl) z.frames kept.0 kept.1
 acts_room h (act.Until n) z t kept = round_room n z.frames kept.0 kept.1
 acts_room h (act.Enter c r k n gives) z t kept = called_room c r k n gives z (top_activation z.frames) (calling_room z.program c r k n gives z.frames t kept.1)
-acts_room h (act.Request r k n gives passes) z t kept =
-    sent_room (request_in h (call_of r k n gives passes) (top_activation z.frames)) r k n gives passes z (sending_room z.program r k n gives passes z.frames t kept.0 kept.1)
+acts_room h (act.Request q) z t kept =
+    sent_room (request_in h q (top_activation z.frames)) q.object q.name q.count q.gives q.passes z
+    (sending_room z.program q.object q.name q.count q.gives q.passes z.frames t kept.0 kept.1)
 acts_room h (act.Create class k n) z t kept = created_room h (class_number class) k n z kept
-acts_room h (act.CreateHandler class k n passes) z t kept = handler_room h class k n passes (class_number class) z kept
+acts_room h (act.CreateHandler q) z t kept = handler_room h q.class q.procedure q.count q.passes (class_number q.class) z kept
 acts_room h act.Start z t kept = top_runs (past 0) (λ a. refl) z.frames kept.0 kept.1
 acts_room h (act.Refuse k) z t kept = refused_room (formals_at z.program k) (top_current z.frames) (top_activation z.frames) z kept.1
 acts_room h (act.Open first n) z t kept = opened_room first (heads_in first n (top_activation z.frames)) z kept.1

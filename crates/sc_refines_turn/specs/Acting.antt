@@ -46,6 +46,8 @@ use Rattle.sc_acts.specs.Exiting.{exited}
 use Rattle.sc_acts.specs.Refusing.{is_waited_for, refused}
 use Rattle.sc_acts.specs.Turning.{round_ended, unless_failed}
 use Rattle.sc_interp.specs.Values.{reference_of, values_of}
+use Rattle.sc_acts.specs.CreatingHandlers.{creation_with}
+use Rattle.sc_acts.specs.Requesting.{call_of}
 
 -- ---- silent operations
 
@@ -193,7 +195,7 @@ sending r n gives passes a = awaiting_if (passes || gives) r.handler gives false
 -- A request goes to another handler.
 abbrev pub RequestsAreMade : Type 0
 RequestsAreMade = (r : Reference) (k n : ℕ) (gives passes : Bool) (y z : PlainStore) →
-    Comes (hop.Comes (act.Request r k n gives passes)) y z →
+    Comes (hop.Comes (act.Request (call_of r k n gives passes))) y z →
     TurnsInto y (on_top (sending r n gives passes) z)
 
 -- the first object of the handler that is made, which has the creator's number until it is told
@@ -207,7 +209,7 @@ creating h class n passes a = awaiting_if passes h false true (with_reference (f
 -- The handler of this number creates another.
 abbrev pub HandlersAreCreated : Type 0
 HandlersAreCreated = (h class : ℕ) (k : Option ℕ) (n : ℕ) (passes : Bool) (y z : PlainStore) →
-    Comes (hop.Comes (act.CreateHandler class k n passes)) y z →
+    Comes (hop.Comes (act.CreateHandler (creation_with class k n passes))) y z →
     (s : System) (x : Half) → IsProgramFor s y.program → IsRegionOf s x y →
     IsRegionOf s (turn s h x) (on_top (creating h class n passes) z)
 

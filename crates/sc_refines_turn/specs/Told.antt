@@ -18,6 +18,8 @@ use Rattle.sc_acts.specs.Tables.{version_in}
 use Rattle.sc_interp.specs.Told.{IsTold}
 use Rattle.sc_acts.specs.Acting.{acted, asks_acting}
 use Rattle.sc_refines_turn.specs.Acting.{Comes, IsCreator, RunsOn}
+use Rattle.sc_acts.specs.CreatingHandlers.{creation_with}
+use Rattle.sc_acts.specs.Requesting.{call_of}
 
 -- Silent operations lead from the first store to the second one, where it comes to this operation, and the topmost
 -- routine is ready for it.
@@ -47,14 +49,15 @@ ToldCallsAreMade = (h : ℕ) (c : Calling) (r : Reference) (k n : ℕ) (gives : 
 abbrev pub ToldRequestsAreMade : Type 0
 ToldRequestsAreMade =
     (h : ℕ) (r : Reference) (k n : ℕ) (gives passes : Bool) (y z : PlainStore) →
-    ComesTold (act.Request r k n gives passes) y z → TurnsAsking h (act.Request r k n gives passes) y z
+    ComesTold (act.Request (call_of r k n gives passes)) y z →
+    TurnsAsking h (act.Request (call_of r k n gives passes)) y z
 
 -- A handler is created.
 abbrev pub ToldHandlersAreCreated : Type 0
 ToldHandlersAreCreated =
     (h class : ℕ) (k : Option ℕ) (n : ℕ) (passes : Bool) (y z : PlainStore) →
-    ComesTold (act.CreateHandler class k n passes) y z →
-    TurnsAsking h (act.CreateHandler class k n passes) y z
+    ComesTold (act.CreateHandler (creation_with class k n passes)) y z →
+    TurnsAsking h (act.CreateHandler (creation_with class k n passes)) y z
 
 -- A separate block begins.
 abbrev pub ToldBlocksBegin : Type 0

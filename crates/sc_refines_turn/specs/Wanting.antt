@@ -73,7 +73,7 @@ MayRequest k n (Some a) = (name_number k ≡ Some k) × (has_call n a ≡ true)
 abbrev pub RequestsAsk : Type 0
 RequestsAsk =
     (h : ℕ) (r : Reference) (k n : ℕ) (gives passes : Bool) (y z w : PlainStore) →
-    Comes (hop.Comes (act.Request r k n gives passes)) y z → IsNumbered z k →
+    Comes (hop.Comes (act.Request (call_of r k n gives passes))) y z → IsNumbered z k →
     MayRequest k n (top_activation z.frames) →
     TurnAsks h y w (asks_requesting h (call_of r k n gives passes) (top_activation z.frames))
 
@@ -87,6 +87,6 @@ MayCreate class k n (Some a) =
 abbrev pub CreationsAsk : Type 0
 CreationsAsk =
     (h class : ℕ) (k : Option ℕ) (n : ℕ) (passes : Bool) (y z w : PlainStore) →
-    Comes (hop.Comes (act.CreateHandler class k n passes)) y z → IsProcedure z k →
+    Comes (hop.Comes (act.CreateHandler (creation_with class k n passes))) y z → IsProcedure z k →
     MayCreate class k n (top_activation z.frames) →
     TurnAsks h y w (asks_creating (creation_with class k n passes) (top_activation z.frames))

@@ -55,13 +55,13 @@ use Rattle.sc_acts.specs.Acting.{acted}
 use Rattle.sc_acts.specs.Blocks as blocks
 use Rattle.sc_acts.specs.Blocks.{closing, innermost, left_with, may_open, opened_with}
 use Rattle.sc_acts.specs.CreatingHandlers as handlers
-use Rattle.sc_acts.specs.CreatingHandlers.{created_as, creation_in, creation_with, first_object}
+use Rattle.sc_acts.specs.CreatingHandlers.{created_as, creation_in, first_object}
 use Rattle.sc_acts.specs.CreatingObjects as objects
 use Rattle.sc_acts.specs.CreatingObjects.{created_with}
 use Rattle.sc_acts.specs.Operands.{class_number}
 use Rattle.sc_acts.specs.declared.act.RemoteCreation.{RemoteCreation}
 use Rattle.sc_acts.specs.declared.act.RemoteCall.{RemoteCall}
-use Rattle.sc_acts.specs.Requesting.{awaiting_if, call_of, request_in, sending, sent, is_waited}
+use Rattle.sc_acts.specs.Requesting.{awaiting_if, request_in, sending, sent, is_waited}
 use Rattle.sc_play.specs.Turns.{done}
 use Rattle.sc_region_turns.specs.RegionSteps.{number_among}
 use Rattle.sc_refines_turn.specs.Wanting.{DistinctNamesHaveNumbers}
@@ -482,9 +482,9 @@ module _ (distinct : DistinctNamesHaveNumbers) (h : ℕ) (s : System) (c : Code)
   acted_tells (act.Until (Some k)) ready = record { grown = still p os (on_top (back k) here) refl refl; tells = inr refl }
   acted_tells (act.Enter calling.Unqualified q x k gives) ready = entering calling.Unqualified q x k gives (name_there x k gives ready.named)
   acted_tells (act.Enter calling.Qualified q x k gives) ready = entering calling.Qualified q x k gives (name_there x k gives ready.named)
-  acted_tells (act.Request q x k gives passes) ready = requesting (request_in h (call_of q x k gives passes) (Some t)) (call_of q x k gives passes)
+  acted_tells (act.Request call) ready = requesting (request_in h call (Some t)) call
   acted_tells (act.Create class x k) ready = creating class x k (procedure_there class x k ready.named)
-  acted_tells (act.CreateHandler class x k passes) ready = creating_of (class_number class) (creation_with class x k passes)
+  acted_tells (act.CreateHandler call) ready = creating_of (class_number call.class) call
   acted_tells act.Start ready = simple 0 here refl refl refl
   acted_tells (act.Refuse k) ready = refusing k
   acted_tells (act.Open first k) ready = opening first k

@@ -160,21 +160,21 @@ acted_named h (act.PrintBoolean b) x y told = tt
 acted_named h (act.PrintText k) x y told = tt
 acted_named h (act.Until back) x y told = tt
 acted_named h (act.Enter calling me name n gives) x y told = beginning_named (names_of x) y.program (top_activation y.frames)
-acted_named h (act.Request r k n gives passes) x y told = by (top_activation x.frames) told
+acted_named h (act.Request q) x y told = by (top_activation x.frames) told
   where
-    by : (o : Option PlainActivation) → IsReadyAt x.program (act.Request r k n gives passes) o → AsksNamed (names_of x) (asks_requesting h (call_of r k n gives passes) o)
-    by None ready = absurd ready
-    by (Some a) ready = sending_named (names_of x) h r k n gives passes a (call_named x.program k n gives ready.named)
-acted_named h (act.Create class procedure n) x y told = object_named (names_of x) procedure y
-acted_named h (act.CreateHandler class procedure n passes) x y told = by (top_activation x.frames) told
-  where
-    by : (o : Option PlainActivation) → IsReadyAt x.program (act.CreateHandler class procedure n passes) o →
-        AsksNamed (names_of x) (asks_creating (creation_with class procedure n passes) o)
+    by : (o : Option PlainActivation) → IsReadyAt x.program (act.Request q) o → AsksNamed (names_of x) (asks_requesting h q o)
     by None ready = absurd ready
     by (Some a) ready =
-        let c : NamesCreation x.program class procedure n = ready.named in
-        creating_named (names_of x) class n passes a procedure
-        (procedure_named x.program procedure (subst (HasProcedure x.program) c.procedure c.is_creation.named))
+        sending_named (names_of x) h q.object q.name q.count q.gives q.passes a (call_named x.program q.name q.count q.gives ready.named)
+acted_named h (act.Create class procedure n) x y told = object_named (names_of x) procedure y
+acted_named h (act.CreateHandler q) x y told = by (top_activation x.frames) told
+  where
+    by : (o : Option PlainActivation) → IsReadyAt x.program (act.CreateHandler q) o → AsksNamed (names_of x) (asks_creating q o)
+    by None ready = absurd ready
+    by (Some a) ready =
+        let c : NamesCreation x.program q.class q.procedure q.count = ready.named in
+        creating_named (names_of x) q.class q.count q.passes a q.procedure
+        (procedure_named x.program q.procedure (subst (HasProcedure x.program) c.procedure c.is_creation.named))
 acted_named h act.Start x y told = tt
 acted_named h (act.Refuse k) x y told = refusing_named (names_of x) (formals_at x.program k) (top_activation x.frames)
 acted_named h (act.Open first n) x y told = opened_named (names_of x) (heads_in first n (top_activation x.frames))

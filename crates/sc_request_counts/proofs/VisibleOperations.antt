@@ -282,13 +282,12 @@ acted_serves n h (act.Enter c me name k gives) x s =
     let y : PlainStore = acted h (act.Enter c me name k gives) x in
     so_many n (left_after (asks_beginning y.program (top_activation y.frames)) n) y (sym (beginning_left y.program (top_activation y.frames) n))
     (called_serves n c me name k gives (top_activation x.frames) x refl s)
-acted_serves n h (act.Request r name k gives passes) x s =
-    sent_serves n (request_in h (call_of r name k gives passes) (top_activation x.frames)) r name k gives passes x s
+acted_serves n h (act.Request q) x s =
+    sent_serves n (request_in h q (top_activation x.frames)) q.object q.name q.count q.gives q.passes x s
 acted_serves n h (act.Create class procedure k) x s =
     let y : PlainStore = acted h (act.Create class procedure k) x in
     so_many n (left_after (asks_created procedure y) n) y (sym (created_left procedure y n)) (created_of_serves n (class_number class) h procedure k x s)
-acted_serves n h (act.CreateHandler class procedure k passes) x s =
-    handler_serves class procedure k passes n h (class_number class) x s
+acted_serves n h (act.CreateHandler q) x s = handler_serves q.class q.procedure q.count q.passes n h (class_number q.class) x s
 acted_serves n h act.Start x s = on_top_serves (past 0) n x (λ a. refl) s
 acted_serves n h (act.Refuse k) x s = refused_serves n (formals_at x.program k) x.frames x refl s
 acted_serves n h (act.Open first k) x s = opened_serves n first (heads_in first k (top_activation x.frames)) x s
