@@ -7,8 +7,8 @@ ghost use Rattle.sc_interp.specs.Values.{value_of};
 ghost use Rattle.sc_interp.specs.Standing.{Hops, Stays, stepped};
 ghost use Rattle.sc_interp.specs.Told.{IsDone};
 
-use crate::hops::{Hop, stepped};
 use crate::evaluation::{found, read};
+use crate::hops::{Hop, stepped};
 use crate::passing::{push_found, skip, store};
 use sc_code::DefaultValue;
 use sc_model::Cause;
