@@ -10,11 +10,11 @@ use Rattle.sc_audit.specs.Records.{IsRecord}
 use Rattle.sc_model.specs.declared.status.Status.{Status}
 use Rattle.sc_code.specs.declared.program.Image.{Image}
 use Rattle.sc_region.specs.declared.job.Job.{Job}
-use Rattle.sc_request.specs.declared.settlement.Settlement.{Settlement}
+use Rattle.sc_handler.specs.declared.settlement.Settlement.{Settlement}
+use Rattle.sc_handler.specs.Handlers.{State}
+use Rattle.sc_handler.specs.Picking.{job_of, status_with}
 use Rattle.sc_request.specs.Cores.{center_of, log_of, state_of}
-use Rattle.sc_request.specs.Handlers.{State}
 use Rattle.sc_request.specs.Logs.{Center}
-use Rattle.sc_request.specs.Picking.{job_of, status_with}
 use Rattle.sc_request.specs.Same.{AreSameAt}
 use Rattle.sc_play.specs.Regions.{PlainRegion}
 use Rattle.sc_world.specs.Turning.{Runs}

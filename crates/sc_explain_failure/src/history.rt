@@ -1,7 +1,7 @@
 //! What the settlements of a run tell of one handler.
 
+use sc_handler::{Log, Settlement};
 use sc_region::{Errand, Job, Request, Want};
-use sc_request::{Log, Settlement};
 
 /// What a handler was asked for, and by whom.
 #[derive(Clone, Copy)]

@@ -9,9 +9,9 @@ use sc_explain_waiting::{
     RunSource, push_attributes, push_false_clause, push_name, push_operation_values, push_request,
     push_stand,
 };
+use sc_handler::{Log, Settlement};
 use sc_model::{Cause, Status};
 use sc_region::{BrokenInvariant, Job, Reference, Request, Value, Want};
-use sc_request::{Log, Settlement};
 use sc_whereabouts::invariant_clause;
 use sc_world::{Turned, World};
 use std::alloc::{AllocError, Global};

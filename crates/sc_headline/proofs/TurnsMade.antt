@@ -14,9 +14,9 @@ use Rattle.sc_model.specs.Turns.{turn}
 use Rattle.sc_model.proofs.Joins.{run_append}
 use Rattle.sc_code.specs.declared.program.Image.{Image}
 use Rattle.sc_region.specs.declared.job.Want.TheVariants as want
-use Rattle.sc_request.specs.declared.settlement.Settlement.{Settlement}
+use Rattle.sc_handler.specs.declared.settlement.Settlement.{Settlement}
+use Rattle.sc_handler.specs.Handlers.{State}
 use Rattle.sc_request.specs.Cores.{log_of, state_of}
-use Rattle.sc_request.specs.Handlers.{State}
 use Rattle.sc_request.specs.Laws.{PicksWhereTurns}
 use Rattle.sc_request.specs.Logs.{Plays, pick_for}
 use Rattle.sc_play.specs.Regions.{PlainRegion, new_region}

@@ -20,7 +20,7 @@ use Rattle.sc_region.proofs.frame.Activation.TheSendSync as activation
 use Rattle.sc_region.proofs.value.Reference.TheSendSync as reference
 use Rattle.sc_region.proofs.value.Value.TheSendSync as value
 use Rattle.sc_region.specs.contracts.store.Store as Store
-use Rattle.sc_request.proofs.logged.Log.TheSendSync as log
+use Rattle.sc_handler.proofs.logged.Log.TheSendSync as log
 use Rattle.sc_play.specs.contracts.region.Region as Region
 use Rattle.sc_worklog.specs.contracts.logged_region.LoggedRegion as Logged
 use Rattle.sc_plant.specs.declared.of_program.OfProgram.{Ghosts}

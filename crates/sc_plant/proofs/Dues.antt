@@ -11,13 +11,13 @@ use Rattle.arrayvec.specs.ArrayVec.{ArrayVec}
 use Rattle.sc_region.specs.declared.job.Job.{Job}
 use Rattle.sc_region.specs.declared.job.Job.TheVariants as job
 use Rattle.sc_region.specs.declared.job.Want.{Want}
+use Rattle.sc_handler.specs.declared.settlement.Settlement.{Settlement}
+use Rattle.sc_handler.specs.Handlers.{State}
+use Rattle.sc_handler.specs.Picking.{job_of}
 use Rattle.sc_request.specs.declared.center.Core as coded
-use Rattle.sc_request.specs.declared.settlement.Settlement.{Settlement}
 use Rattle.sc_request.specs.Candidates.{is_granting}
 use Rattle.sc_request.specs.Cores.{center_of, state_of, log_of}
-use Rattle.sc_request.specs.Handlers.{State}
 use Rattle.sc_request.specs.Logs.{Center, Plays, after, next, pick_for, picked, picked_if, picks, put_back, put_back_with, settles}
-use Rattle.sc_request.specs.Picking.{job_of}
 use Rattle.sc_request.specs.Rooms.{settlement}
 use Rattle.sc_request.specs.Settling.{settled}
 use Rattle.sc_request.specs.Tables.{out_total}

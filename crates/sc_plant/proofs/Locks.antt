@@ -1,10 +1,10 @@
 -- What one thread has goes under locks.
 use Rattle.std.proofs.Common.{◌≡◌, ◌++◌, ◌∷◌, [], ℕ, zero, suc, List, Option, None, Some, length, slice_get, slice_set, refl, sym, ap, subst, ◌∙◌, inl, inr}
 use Rattle.sc_code.specs.declared.program.Image.{Image}
-use Rattle.sc_request.specs.declared.logged.Log.{Log}
-use Rattle.sc_request.specs.declared.settlement.Settlement.{Settlement}
+use Rattle.sc_handler.specs.declared.logged.Log.{Log}
+use Rattle.sc_handler.specs.declared.settlement.Settlement.{Settlement}
+use Rattle.sc_handler.specs.Logged.{settlements_of}
 use Rattle.sc_request.specs.Cores.{log_of}
-use Rattle.sc_request.specs.Logged.{settlements_of}
 use Rattle.sc_play.specs.Regions.{PlainRegion, new_region}
 use Rattle.sc_worklog.specs.Replaying.{AreMade}
 use Rattle.sc_plant.specs.declared.left.Left.{Left}

@@ -11,11 +11,11 @@ use Rattle.sc_waitcond.specs.declared.mark.Marked.{Marked}
 use Rattle.sc_model.specs.declared.cause.Cause.{Cause}
 use Rattle.sc_region.specs.declared.job.Job.{Job}
 use Rattle.sc_region.specs.declared.job.Job.TheVariants as job
+use Rattle.sc_handler.specs.Handlers.{Answer, Awaits, Handler, HasMade, Idle, Posted, Refused, Replied, Reserves, Runs, HandlerStage, State, SupplierFailed, standing_in}
+use Rattle.sc_handler.specs.Picking.{job_answered, job_at, job_awaiting, job_idle, job_of, job_reserving, job_with, needs}
 use Rattle.sc_request.specs.declared.center.Core as coded
 use Rattle.sc_request.specs.Cores.{center_of, state_of}
-use Rattle.sc_request.specs.Handlers.{Answer, Awaits, Handler, HasMade, Idle, Posted, Refused, Replied, Reserves, Runs, HandlerStage, State, SupplierFailed, standing_in}
 use Rattle.sc_request.specs.Logs.{Center, granted, picked, put_back, put_back_with, ungranted}
-use Rattle.sc_request.specs.Picking.{job_answered, job_at, job_awaiting, job_idle, job_of, job_reserving, job_with, needs}
 use Rattle.sc_plant.proofs.Dues.{Goes, is_due}
 
 -- ---- as in sc_refines_world: who is granted was nobody's

@@ -7,8 +7,8 @@ use Rattle.sc_lockpass.specs.declared.version.Version.TheVariants.{Two}
 use Rattle.sc_audit.specs.Records.{IsRecord, most_turns}
 use Rattle.sc_audit.specs.declared.line.RecordLine.{RecordLine}
 use Rattle.sc_code.specs.declared.program.Image.{Image}
+use Rattle.sc_handler.specs.declared.settlement.Settlement.{Settlement}
 use Rattle.sc_request.specs.declared.center.Core as coded
-use Rattle.sc_request.specs.declared.settlement.Settlement.{Settlement}
 use Rattle.sc_request.specs.Cores.{center_of, log_of, state_of}
 use Rattle.sc_request.specs.Logs.{Center, next}
 use Rattle.sc_play.specs.Regions.{PlainRegion, new_region}

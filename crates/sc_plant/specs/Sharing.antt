@@ -1,9 +1,9 @@
 -- What one thread has is put under locks.
 use Rattle.std.specs.Prelude.{◌≡◌, ℕ, List, Option, Some, slice_get}
 use Rattle.sc_code.specs.declared.program.Image.{Image}
-use Rattle.sc_request.specs.declared.logged.Log.{Log}
-use Rattle.sc_request.specs.declared.settlement.Settlement.{Settlement}
-use Rattle.sc_request.specs.Logged.{settlements_of}
+use Rattle.sc_handler.specs.declared.logged.Log.{Log}
+use Rattle.sc_handler.specs.declared.settlement.Settlement.{Settlement}
+use Rattle.sc_handler.specs.Logged.{settlements_of}
 use Rattle.sc_play.specs.Regions.{PlainRegion, new_region}
 use Rattle.sc_worklog.specs.Replaying.{AreMade}
 use Rattle.sc_plant.specs.declared.left.Left.{Left}

@@ -6,8 +6,9 @@ ghost use Rattle.sc_request.specs.Cores.{center_of};
 ghost use Rattle.sc_request.specs.Rooms.{HasRoomFor};
 ghost use Rattle.sc_plant.specs.Due.{GrantsNone, IsSettled, Settled, Stays};
 
+use sc_handler::write_job;
 use sc_region::{Job, Want};
-use sc_request::{Core, write_job};
+use sc_request::Core;
 use std::alloc::AllocError;
 
 /// Why turns of a handler aren't settled.

@@ -1,7 +1,7 @@
 //! What one thread has is put under locks, for several workers.
 ghost use Rattle.std.specs.Prelude.{◌≡◌, ◌≤◌, ◌++◌, ◌∷◌, [], ℕ, List, IfErr, IfOk, OnOk, length, vec_capacity, vec_len};
-ghost use Rattle.sc_request.specs.declared.settlement.Settlement.{Settlement};
-ghost use Rattle.sc_request.specs.Logged.{settlements_of};
+ghost use Rattle.sc_handler.specs.declared.settlement.Settlement.{Settlement};
+ghost use Rattle.sc_handler.specs.Logged.{settlements_of};
 ghost use Rattle.sc_plant.specs.Sharing.{AreFit, AreLogs, IsOnWayIn};
 
 use crate::left::Left;
@@ -9,8 +9,8 @@ use crate::of_program::OfProgram;
 use crate::opening::MAX_HANDLERS;
 use crate::recorded_core::RecordedCore;
 use crate::slot::Slot;
+use sc_handler::{Log, Settlement};
 use sc_play::Region;
-use sc_request::{Log, Settlement};
 use sc_worklog::LoggedRegion;
 use std::alloc::{AllocError, Global};
 use std::marker::PhantomData;

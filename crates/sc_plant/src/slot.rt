@@ -11,9 +11,9 @@ ghost use Rattle.sc_plant.specs.Sharing.{Fits};
 use crate::of_program::OfProgram;
 use crate::task::{Played, Task};
 use crate::wants::clear_want;
+use sc_handler::Log;
 use sc_play::Region;
 use sc_region::{Job, Want};
-use sc_request::Log;
 use sc_worklog::LoggedRegion;
 use std::marker::PhantomData;
 

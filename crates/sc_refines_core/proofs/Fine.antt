@@ -28,7 +28,7 @@ use Rattle.sc_model.specs.Handlers as machine
 use Rattle.sc_model.specs.Handlers.{frame_at}
 use Rattle.sc_region.specs.declared.job.Want.{Want}
 use Rattle.sc_region.specs.declared.job.Want.TheVariants as want
-use Rattle.sc_request.specs.Handlers.{State}
+use Rattle.sc_handler.specs.Handlers.{State}
 use Rattle.sc_request.specs.Settling.{may_ask}
 use Rattle.sc_request.specs.Asked.{Numbering, handlers_of, asks_beginning, asks_bound, asks_entering, asks_done, asks_replying, asks_calling, asks_version, asks_errand, asks_releasing, asks_requesting, asks_refusing, asks_after, asks_leaving, asks_returning, asks_exiting, asks_acting}
 use Rattle.sc_request.specs.Steps.{IsLastEntry}

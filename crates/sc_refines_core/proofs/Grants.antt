@@ -18,9 +18,10 @@ use Rattle.sc_model.specs.Handlers.{point_of, frame_at}
 use Rattle.sc_region.specs.declared.job.Job.{Job}
 use Rattle.sc_region.specs.declared.job.Job.TheVariants as job
 use Rattle.sc_region.specs.declared.job.Want.{Want}
-use Rattle.sc_request.specs.Handlers.{Posted, Answer, HandlerStage, Idle, Runs, HasMade, Reserves, Awaits, State, put, with_stage, standing_in}
-use Rattle.sc_request.specs.Picking.{needs, job_reserving, job_idle, job_answered, job_awaiting, job_at, job_with, job_of}
-use Rattle.sc_request.specs.Settling.{takes, made_at, begun}
+use Rattle.sc_handler.specs.Handlers.{Posted, Answer, HandlerStage, Idle, Runs, HasMade, Reserves, Awaits, State, put, with_stage, standing_in}
+use Rattle.sc_handler.specs.Picking.{needs, job_reserving, job_idle, job_answered, job_awaiting, job_at, job_with, job_of}
+use Rattle.sc_handler.specs.Changes.{takes}
+use Rattle.sc_request.specs.Settling.{made_at, begun}
 use Rattle.sc_request.specs.Asked.{Numbering, request_of, handlers_of, taken_of, asks_taking, asks_moving, asks_going, asks_on}
 use Rattle.sc_request.specs.Halves.{posted_of, answer_of, IsStage, IsTop, IsHalfOf}
 use Rattle.sc_request.specs.Steps.{environment_after, environment_at, IsGrantedUnder}

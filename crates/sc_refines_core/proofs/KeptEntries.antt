@@ -19,9 +19,11 @@ use Rattle.sc_region.specs.declared.job.Job.TheVariants as job
 use Rattle.sc_region.specs.declared.job.Request.{Request}
 use Rattle.sc_region.specs.declared.job.Want.{Want}
 use Rattle.sc_region.specs.declared.job.Want.TheVariants as want
-use Rattle.sc_request.specs.Handlers.{Posted, posted, Answer, Replied, Refused, HandlerStage, Idle, Runs, HasMade, Reserves, Awaits, Service, service, Handler, State, new_handler, put, with_stage}
-use Rattle.sc_request.specs.Sessions.{session_ended, release, passed_if, passes, send, placed, is_callback, with_handler, answered, answer_to, return_rights, finish, is_waited_by, requests_at, told, fallen, fail}
-use Rattle.sc_request.specs.Settling.{serves, takes_next, takes_callback, takes, takes_answer, made_at, begun, awaits_if, sends, asks_of, creation, creates_with, creates, counted_refusal, ends_service, ends, done, posts_unheld, done_if, asked_in, fits_turns, may_ask}
+use Rattle.sc_handler.specs.Handlers.{Posted, posted, Answer, Replied, Refused, HandlerStage, Idle, Runs, HasMade, Reserves, Awaits, Service, service, Handler, State, new_handler, put, with_stage}
+use Rattle.sc_handler.specs.Changes.{session_ended, placed, answered, is_waited_by, requests_at, told, fallen, serves, takes_next, takes_callback, takes, takes_answer, counted_refusal}
+use Rattle.sc_handler.specs.Fits.{fits_turns}
+use Rattle.sc_request.specs.Sessions.{release, passed_if, passes, send, is_callback, with_handler, answer_to, return_rights, finish, fail}
+use Rattle.sc_request.specs.Settling.{made_at, begun, awaits_if, sends, asks_of, creation, creates_with, creates, ends_service, ends, done, posts_unheld, done_if, asked_in, may_ask}
 use Rattle.sc_refines_core.specs.Entries.{KeepsEntry, is_reserving, EntryStays, EntriesStay}
 
 -- ---- one handler

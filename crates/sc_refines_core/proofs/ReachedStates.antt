@@ -8,8 +8,8 @@ use Rattle.sc_rules.specs.Purity.{IsPurity}
 use Rattle.sc_rules.proofs.PurityStands.{purity_stands}
 use Rattle.sc_model.specs.Handlers as machine
 use Rattle.sc_model.specs.Turns.{turn}
-use Rattle.sc_request.specs.Handlers.{State}
-use Rattle.sc_request.specs.Picking.{job_of}
+use Rattle.sc_handler.specs.Handlers.{State}
+use Rattle.sc_handler.specs.Picking.{job_of}
 use Rattle.sc_request.specs.Asked.{Numbering}
 use Rattle.sc_request.specs.Halves.{IsHalfOf}
 use Rattle.sc_request.specs.Steps.{StandsOnCall, stepped}

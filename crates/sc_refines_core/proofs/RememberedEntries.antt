@@ -20,8 +20,8 @@ use Rattle.sc_model.specs.Turns.{turn}
 use Rattle.sc_model.specs.Runs as runs
 use Rattle.sc_model.specs.Runs.{IsReached, root_request, run}
 use Rattle.sc_region.specs.declared.job.Job.{Job}
-use Rattle.sc_request.specs.Handlers.{posted, Idle, Reserves, Service, Handler, State, new_handler, has_frames}
-use Rattle.sc_request.specs.Picking.{job_with, job_of}
+use Rattle.sc_handler.specs.Handlers.{posted, Idle, Reserves, Service, Handler, State, new_handler, has_frames}
+use Rattle.sc_handler.specs.Picking.{job_with, job_of}
 use Rattle.sc_request.specs.Asked.{Numbering, request_of, asked, handlers_of}
 use Rattle.sc_request.specs.Halves.{IsStage, IsTop, IsHalfOf}
 use Rattle.sc_request.specs.Steps.{stepped}

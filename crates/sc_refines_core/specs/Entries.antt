@@ -8,7 +8,7 @@ use Rattle.sc_model.specs.Tasks.{Task, Require, Required}
 use Rattle.sc_model.specs.Values.{Reference}
 use Rattle.sc_region.specs.declared.job.Job.{Job}
 use Rattle.sc_region.specs.declared.job.Want.{Want}
-use Rattle.sc_request.specs.Handlers.{HandlerStage, Idle, Runs, HasMade, Reserves, Awaits, Service, Handler, State}
+use Rattle.sc_handler.specs.Handlers.{HandlerStage, Idle, Runs, HasMade, Reserves, Awaits, Service, Handler, State}
 use Rattle.sc_request.specs.Settling.{settled}
 
 -- ---- the core

@@ -12,8 +12,8 @@ use Rattle.sc_model.specs.Runs as runs
 use Rattle.sc_model.specs.Runs.{IsReached, root_request, run}
 use Rattle.sc_model.specs.Steps.{Point, Refuses, Does}
 use Rattle.sc_model.specs.Turns.{turn}
-use Rattle.sc_request.specs.Handlers.{State}
-use Rattle.sc_request.specs.Picking.{job_of}
+use Rattle.sc_handler.specs.Handlers.{State}
+use Rattle.sc_handler.specs.Picking.{job_of}
 use Rattle.sc_request.specs.Asked.{Numbering, request_of, handlers_of}
 use Rattle.sc_request.specs.Halves.{IsHalfOf}
 use Rattle.sc_request.specs.Logs.{opening}

@@ -16,10 +16,11 @@ use Rattle.sc_region.specs.declared.job.Job.{Job}
 use Rattle.sc_region.specs.declared.job.Request.{Request}
 use Rattle.sc_region.specs.declared.job.Want.{Want}
 use Rattle.sc_region.specs.declared.job.Want.TheVariants as want
-use Rattle.sc_request.specs.Handlers.{Posted, posted, Answer, Replied, SupplierFailed, Refused, HandlerStage, Idle, Runs, HasMade, Reserves, Awaits, Service, Handler, State, put, with_stage}
-use Rattle.sc_request.specs.Sessions.{answer_to, answered, fail, fallen, finish, is_callback, passed_if, passes, placed, release, return_rights, send, session_ended, with_handler}
-use Rattle.sc_request.specs.Settling.{asked_in, asks, awaits_if, begun, counted_refusal, creates, creation, done, done_if, ends, may_ask, posts_unheld, sends, serves, takes, takes_answer, takes_callback, takes_next, made_at}
-use Rattle.sc_request.specs.Picking.{job_answered, job_at, job_awaiting, job_idle, job_reserving, job_with, needs}
+use Rattle.sc_handler.specs.Handlers.{Posted, posted, Answer, Replied, SupplierFailed, Refused, HandlerStage, Idle, Runs, HasMade, Reserves, Awaits, Service, Handler, State, put, with_stage}
+use Rattle.sc_handler.specs.Changes.{answered, fallen, placed, session_ended, counted_refusal, serves, takes, takes_answer, takes_callback, takes_next}
+use Rattle.sc_handler.specs.Picking.{job_answered, job_at, job_awaiting, job_idle, job_reserving, job_with, needs}
+use Rattle.sc_request.specs.Sessions.{answer_to, fail, finish, is_callback, passed_if, passes, release, return_rights, send, with_handler}
+use Rattle.sc_request.specs.Settling.{asked_in, asks, awaits_if, begun, creates, creation, done, done_if, ends, may_ask, posts_unheld, sends, made_at}
 use Rattle.sc_request.specs.Asked.{Numbering}
 use Rattle.sc_request.specs.Halves.{IsStage, IsTop, IsOrigin, AreServices}
 use Rattle.sc_refines_region.specs.Order.{IsAwaiting, StandsOver, AreInOrder}

@@ -13,7 +13,7 @@ use Rattle.sc_model.specs.Entries.{stage_with, entry}
 use Rattle.sc_model.specs.Failures.{fails_with}
 use Rattle.sc_model.specs.Handlers as machine
 use Rattle.sc_model.specs.Handlers.{Request, Origin, Frame, World}
-use Rattle.sc_request.specs.Handlers as core
+use Rattle.sc_handler.specs.Handlers as core
 use Rattle.sc_region_turns.specs.RegionTurns as region
 use Rattle.sc_region_turns.specs.RegionTurns.{Half, failed}
 use Rattle.sc_region_turns.specs.RegionHalves.{unpassed, IsHalfOfFrame, AreHalvesOf, IsRegionHalf}

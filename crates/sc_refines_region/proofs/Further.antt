@@ -8,10 +8,12 @@ use Rattle.sc_model.specs.declared.cause.Cause.{Cause}
 use Rattle.sc_region.specs.declared.job.Job.{Job}
 use Rattle.sc_region.specs.declared.job.Job.TheVariants as job
 use Rattle.sc_region.specs.declared.job.Want.TheVariants as want
-use Rattle.sc_request.specs.Handlers.{Posted, Answer, Replied, SupplierFailed, Refused, HandlerStage, Idle, Runs, HasMade, Reserves, Awaits, Handler, State, put}
-use Rattle.sc_request.specs.Sessions.{release, session_ended}
-use Rattle.sc_request.specs.Picking.{job_answered, job_at, job_awaiting, job_idle, job_of, job_reserving, job_with, needs}
-use Rattle.sc_request.specs.Settling.{asked_in, begun, fits_first, goes_on, made_at, settled, takes, takes_answer, takes_callback, takes_next}
+use Rattle.sc_handler.specs.Handlers.{Posted, Answer, Replied, SupplierFailed, Refused, HandlerStage, Idle, Runs, HasMade, Reserves, Awaits, Handler, State, put}
+use Rattle.sc_handler.specs.Changes.{session_ended, takes, takes_answer, takes_callback, takes_next}
+use Rattle.sc_handler.specs.Picking.{job_answered, job_at, job_awaiting, job_idle, job_of, job_reserving, job_with, needs}
+use Rattle.sc_handler.specs.Fits.{fits_first, goes_on}
+use Rattle.sc_request.specs.Sessions.{release}
+use Rattle.sc_request.specs.Settling.{asked_in, begun, made_at, settled}
 use Rattle.sc_refines_region.specs.Further.{FirstTurnsGoOn, FurtherTurnsSettle}
 use Rattle.sc_refines_region.proofs.Halves.{none_some}
 

@@ -9,7 +9,7 @@ use Rattle.sc_model.specs.Handlers.{Request, Answer, Stage, Runs, Reserves, Rese
 use Rattle.sc_model.specs.Sessions.{release}
 use Rattle.sc_model.specs.Answers.{finish}
 use Rattle.sc_model.specs.Failures.{fallen, fails_with}
-use Rattle.sc_request.specs.Handlers as core
+use Rattle.sc_handler.specs.Handlers as core
 use Rattle.sc_region_turns.specs.RegionTurns.{Half, failed}
 use Rattle.sc_region_turns.specs.RegionHalves.{unpassed, IsStageFor, IsToldOf, IsHalfOfFrame, AreHalvesOf, IsRegionHalf}
 use Rattle.sc_refines_region.proofs.Alike.{IsAlike, own, fails_alike, release_alike, finish_alike}

@@ -17,12 +17,14 @@ use Rattle.sc_region.specs.declared.job.Job.TheVariants as job
 use Rattle.sc_region.specs.declared.job.Request.{Request}
 use Rattle.sc_region.specs.declared.job.Want.{Want}
 use Rattle.sc_region.specs.declared.job.Want.TheVariants as want
-use Rattle.sc_request.specs.Handlers.{posted, Replied, Refused, HandlerStage, Idle, Runs, HasMade, Reserves, Awaits, Service, Handler, State, put, new_handler}
-use Rattle.sc_request.specs.Sessions.{fail, is_callback, passed_if, release, send, told, with_handler}
-use Rattle.sc_request.specs.Settling.{asked_in, asks, awaits_if, begun, counted_refusal, creates, creation, done, done_if, ends, fits_turns, made_at, may_ask, posts_unheld, sends, takes, takes_answer}
+use Rattle.sc_handler.specs.Handlers.{posted, Replied, Refused, HandlerStage, Idle, Runs, HasMade, Reserves, Awaits, Service, Handler, State, put, new_handler}
+use Rattle.sc_handler.specs.Changes.{told, counted_refusal, takes, takes_answer}
+use Rattle.sc_handler.specs.Fits.{fits_turns}
+use Rattle.sc_handler.specs.Picking.{job_of}
+use Rattle.sc_request.specs.Sessions.{fail, is_callback, passed_if, release, send, with_handler}
+use Rattle.sc_request.specs.Settling.{asked_in, asks, awaits_if, begun, creates, creation, done, done_if, ends, made_at, may_ask, posts_unheld, sends}
 use Rattle.sc_request.specs.Asked.{Numbering, asked}
 use Rattle.sc_request.specs.Steps.{stepped}
-use Rattle.sc_request.specs.Picking.{job_of}
 use Rattle.sc_region_turns.specs.RegionHalves.{IsRegionHalf}
 use Rattle.sc_refines_region.specs.Joined.{OthersKeepHalves}
 use Rattle.sc_refines_region.proofs.Halves.{by_test, half_alike}

@@ -8,7 +8,7 @@ use Rattle.sc_model.specs.Exits.{handed_as}
 use Rattle.sc_model.specs.Handlers as machine
 use Rattle.sc_model.specs.Handlers.{Stage, Runs, Reserves, ReservesBlock, InCall, Awaits, Frame, Handler, World}
 use Rattle.sc_model.specs.Sessions as sessions
-use Rattle.sc_request.specs.Handlers as core
+use Rattle.sc_handler.specs.Handlers as core
 use Rattle.sc_region_turns.specs.RegionTurns as region
 use Rattle.sc_region_turns.specs.RegionTurns.{Half, told}
 use Rattle.sc_region_turns.specs.RegionHalves.{IsStageFor, IsToldOf, IsHalfOfFrame, AreHalvesOf, IsRegionHalf}

@@ -20,7 +20,7 @@ use Rattle.sc_model.specs.Handlers.{Errand, Calls, Makes, Request, Answer, Reply
 use Rattle.sc_model.specs.Answers.{finish}
 use Rattle.sc_model.specs.Failures.{fails_with}
 use Rattle.sc_model.specs.Takes as takes_at
-use Rattle.sc_request.specs.Handlers as core
+use Rattle.sc_handler.specs.Handlers as core
 use Rattle.sc_request.specs.Asked as asked_at
 use Rattle.sc_request.specs.Asked.{Numbering, errand_of, request_of}
 use Rattle.sc_interp.specs.Values as interp

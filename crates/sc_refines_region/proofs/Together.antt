@@ -6,8 +6,8 @@ use Rattle.sc_tree.specs.Plain.{System}
 use Rattle.sc_model.specs.Handlers.{World}
 use Rattle.sc_model.specs.Settled.{SettledObjectsMeet}
 use Rattle.sc_model.specs.Turns.{turn}
-use Rattle.sc_request.specs.Handlers as core
-use Rattle.sc_request.specs.Picking.{job_of, job_with}
+use Rattle.sc_handler.specs.Handlers as core
+use Rattle.sc_handler.specs.Picking.{job_of, job_with}
 use Rattle.sc_request.specs.Halves.{IsHalfOf}
 use Rattle.sc_request.specs.Steps.{stepped}
 use Rattle.sc_region_turns.specs.RegionTurns.{Half, new_half}

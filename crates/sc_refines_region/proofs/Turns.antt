@@ -34,9 +34,10 @@ use Rattle.sc_region.specs.declared.job.Job.{Job}
 use Rattle.sc_region.specs.declared.job.Job.TheVariants as job
 use Rattle.sc_region.specs.declared.job.Want.{Want}
 use Rattle.sc_region.specs.declared.job.Want.TheVariants as want
-use Rattle.sc_request.specs.Handlers as core
-use Rattle.sc_request.specs.Picking.{job_of, job_answered, job_at, job_awaiting, job_for_entry, job_idle, job_reserving, job_with, needs}
-use Rattle.sc_request.specs.Settling.{asked_in, begun, fits_turns, made_at}
+use Rattle.sc_handler.specs.Handlers as core
+use Rattle.sc_handler.specs.Picking.{job_of, job_answered, job_at, job_awaiting, job_for_entry, job_idle, job_reserving, job_with, needs}
+use Rattle.sc_handler.specs.Fits.{fits_turns}
+use Rattle.sc_request.specs.Settling.{asked_in, begun, made_at}
 use Rattle.sc_request.specs.Asked.{Numbering, asked, asks_acting, asks_going, asks_moving, asks_on, handlers_of, request_of, taken_of, value_of}
 use Rattle.sc_request.specs.Halves.{posted_of, answer_of, IsStage, IsTop, IsHandlerOf, IsHalfOf}
 use Rattle.sc_request.specs.Steps.{stepped}

@@ -31,7 +31,7 @@ use Rattle.sc_model.specs.Preconditions.{verdict_on, is_creation, object_meets, 
 use Rattle.sc_model.specs.Exits as exits_at
 use Rattle.sc_model.specs.Exits.{is_unset, is_untested, handed, handed_as, handed_at}
 use Rattle.sc_model.specs.Turns.{effect}
-use Rattle.sc_request.specs.Handlers as core
+use Rattle.sc_handler.specs.Handlers as core
 use Rattle.sc_region_turns.specs.RegionTurns as region
 use Rattle.sc_region_turns.specs.RegionTurns.{Half, failed}
 use Rattle.sc_region_turns.specs.RegionHalves.{unpassed, IsStageFor, IsToldOf, IsHalfOfFrame, AreHalvesOf, IsRegionHalf}

@@ -39,8 +39,8 @@ use Rattle.sc_region.specs.declared.job.Job.{Job}
 use Rattle.sc_region.specs.declared.job.Job.TheVariants as job
 use Rattle.sc_region.specs.declared.job.Want.{Want}
 use Rattle.sc_region.specs.declared.job.Want.TheVariants as want
-use Rattle.sc_request.specs.Handlers as core
-use Rattle.sc_request.specs.Picking.{job_of, job_answered, job_at, job_awaiting, job_idle, job_reserving, job_with}
+use Rattle.sc_handler.specs.Handlers as core
+use Rattle.sc_handler.specs.Picking.{job_of, job_answered, job_at, job_awaiting, job_idle, job_reserving, job_with}
 use Rattle.sc_request.specs.Asked.{Numbering, asked, asks_acting, asks_after, asks_beginning, asks_bound, asks_calling, asks_done, asks_entering, asks_errand, asks_exiting, asks_going, asks_leaving, asks_moving, asks_on, asks_refusing, asks_replying, asks_returning, asks_taking, asks_version, request_of, taken_of, value_of}
 use Rattle.sc_request.specs.Halves.{posted_of, answer_of, IsStage, IsTop, IsHalfOf}
 use Rattle.sc_interp.specs.Values.{value_of as value_in}

@@ -4,9 +4,10 @@ use Rattle.sc_region.specs.declared.job.Job.{Job}
 use Rattle.sc_region.specs.declared.job.Job.TheVariants.{Go}
 use Rattle.sc_region.specs.declared.job.Want.{Want}
 use Rattle.sc_region.specs.declared.job.Want.TheVariants.{Continue}
-use Rattle.sc_request.specs.Handlers.{State}
-use Rattle.sc_request.specs.Picking.{job_of}
-use Rattle.sc_request.specs.Settling.{goes_on, settled}
+use Rattle.sc_handler.specs.Handlers.{State}
+use Rattle.sc_handler.specs.Picking.{job_of}
+use Rattle.sc_handler.specs.Fits.{goes_on}
+use Rattle.sc_request.specs.Settling.{settled}
 
 -- Where the first turn under a job asks nothing, its handler goes on, if a further turn may come under it.
 abbrev pub FirstTurnsGoOn : Type 0

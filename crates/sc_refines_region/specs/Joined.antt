@@ -7,8 +7,8 @@ use Rattle.sc_model.specs.Settled.{SettledObjectsMeet}
 use Rattle.sc_model.specs.Runs as runs
 use Rattle.sc_model.specs.Turns.{turn}
 use Rattle.sc_region.specs.declared.job.Job.{Job}
-use Rattle.sc_request.specs.Handlers as core
-use Rattle.sc_request.specs.Picking.{job_of}
+use Rattle.sc_handler.specs.Handlers as core
+use Rattle.sc_handler.specs.Picking.{job_of}
 use Rattle.sc_request.specs.Asked.{Numbering}
 use Rattle.sc_request.specs.Halves.{IsHalfOf}
 use Rattle.sc_request.specs.Steps.{stepped}

@@ -20,9 +20,11 @@ use Rattle.sc_region.specs.declared.job.Job.{Job}
 use Rattle.sc_region.specs.declared.job.Job.TheVariants as job
 use Rattle.sc_region.specs.declared.job.Want.{Want}
 use Rattle.sc_region.specs.declared.job.Want.TheVariants as want
-use Rattle.sc_request.specs.Handlers.{Posted, posted, Answer, Replied, Refused, HandlerStage, Idle, Runs, HasMade, Reserves, Awaits, Service, Handler, State, new_handler, put, with_stage}
-use Rattle.sc_request.specs.Sessions.{answer_to, answered, fail, fallen, finish, is_callback, is_waited_by, passed_if, passes, placed, release, requests_at, return_rights, send, session_ended, to_list, told, with_handler}
-use Rattle.sc_request.specs.Settling.{asks_of, awaits_if, begun, counted_refusal, creates, creates_with, creation, done, done_if, ends, ends_service, fits_turns, made_at, may_ask, posts_unheld, sends, settled, takes, takes_answer, takes_callback, takes_next, waits_again}
+use Rattle.sc_handler.specs.Handlers.{Posted, posted, Answer, Replied, Refused, HandlerStage, Idle, Runs, HasMade, Reserves, Awaits, Service, Handler, State, new_handler, put, with_stage}
+use Rattle.sc_handler.specs.Changes.{answered, fallen, is_waited_by, placed, requests_at, session_ended, to_list, told, counted_refusal, takes, takes_answer, takes_callback, takes_next}
+use Rattle.sc_handler.specs.Fits.{fits_turns}
+use Rattle.sc_request.specs.Sessions.{answer_to, fail, finish, is_callback, passed_if, passes, release, return_rights, send, with_handler}
+use Rattle.sc_request.specs.Settling.{asks_of, awaits_if, begun, creates, creates_with, creation, done, done_if, ends, ends_service, made_at, may_ask, posts_unheld, sends, settled, waits_again}
 use Rattle.sc_machine_values.specs.Points.{Each}
 use Rattle.sc_machine_values.proofs.Lists.{each_append}
 

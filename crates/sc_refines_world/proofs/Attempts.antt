@@ -23,11 +23,11 @@ use Rattle.sc_region.specs.declared.job.Want.{Want}
 use Rattle.sc_region.specs.Calls.{top_frame}
 use Rattle.sc_region.specs.Frames.{PlainActivation, PlainFrame, top_activation}
 use Rattle.sc_region.specs.Stores.{PlainStore}
+use Rattle.sc_handler.specs.Handlers as core
+use Rattle.sc_handler.specs.Handlers.{State}
+use Rattle.sc_handler.specs.Picking.{job_of}
 use Rattle.sc_request.specs.Halves.{IsHandlerOf, IsStage, IsTop}
-use Rattle.sc_request.specs.Handlers as core
-use Rattle.sc_request.specs.Handlers.{State}
 use Rattle.sc_request.specs.Logs.{Center, pick_for, picked, settles}
-use Rattle.sc_request.specs.Picking.{job_of}
 use Rattle.sc_request.specs.Settling.{settled}
 use Rattle.sc_region_turns.specs.RegionHalves.{AreFrames, AreHalvesOf, IsStageFor, stage_of}
 use Rattle.sc_region_turns.specs.RegionSteps.{numbering_by}

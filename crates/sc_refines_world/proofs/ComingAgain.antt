@@ -4,10 +4,12 @@ use Rattle.std.proofs.lemmas.Bool.{and_parts, cases_Bool, eqb-true}
 use Rattle.sc_region.specs.declared.job.Job.{Job}
 use Rattle.sc_region.specs.declared.job.Job.TheVariants as job
 use Rattle.sc_region.specs.declared.job.Want.TheVariants as want
-use Rattle.sc_request.specs.Candidates.{comes_again, frees_under}
-use Rattle.sc_request.specs.Handlers.{State}
+use Rattle.sc_handler.specs.Freeing.{frees_under}
+use Rattle.sc_handler.specs.Handlers.{State}
+use Rattle.sc_handler.specs.Fits.{goes_on}
+use Rattle.sc_request.specs.Candidates.{comes_again}
 use Rattle.sc_request.specs.Logs.{Center, next, pick_for, picked, settles}
-use Rattle.sc_request.specs.Settling.{goes_on, settled}
+use Rattle.sc_request.specs.Settling.{settled}
 use Rattle.sc_request.proofs.GrantedReservations.{below_there}
 use Rattle.sc_request.proofs.SettledCandidates.{had_job}
 use Rattle.sc_world.proofs.FreeHandlers.{next_picks}

@@ -17,10 +17,10 @@ use Rattle.sc_model.specs.Steps.{Does, Point, Refuses}
 use Rattle.sc_model.specs.Values.{Operand, Reference}
 use Rattle.sc_region.specs.declared.job.Job.{Job}
 use Rattle.sc_region.specs.declared.job.Job.TheVariants as job
-use Rattle.sc_request.specs.Handlers as core
-use Rattle.sc_request.specs.Handlers.{State}
+use Rattle.sc_handler.specs.Handlers as core
+use Rattle.sc_handler.specs.Handlers.{State}
+use Rattle.sc_handler.specs.Picking.{job_answered, job_at, job_awaiting, job_of, job_with}
 use Rattle.sc_request.specs.Halves.{IsStage}
-use Rattle.sc_request.specs.Picking.{job_answered, job_at, job_awaiting, job_of, job_with}
 use Rattle.sc_region_turns.specs.RegionHalves.{IsHalfOfFrame, IsStageFor, IsToldOf}
 use Rattle.sc_region_turns.specs.RegionTurns.{Half, told, told_frames}
 use Rattle.sc_refines_turn.specs.Turns.{begun_half}

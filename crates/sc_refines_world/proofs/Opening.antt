@@ -15,8 +15,8 @@ use Rattle.sc_model.specs.Runs as runs
 use Rattle.sc_model.specs.Runs.{root_request}
 use Rattle.sc_code.specs.declared.program.Image.{Image}
 use Rattle.sc_code.specs.Programs.{IsProgramOf}
-use Rattle.sc_request.specs.Handlers as core
-use Rattle.sc_request.specs.Handlers.{new_handler, posted}
+use Rattle.sc_handler.specs.Handlers as core
+use Rattle.sc_handler.specs.Handlers.{new_handler, posted}
 use Rattle.sc_request.specs.Logs as logs
 use Rattle.sc_request.specs.Logs.{root_of}
 use Rattle.sc_region_turns.specs.RegionHalves.{AreHalvesOf, IsRegionHalf}

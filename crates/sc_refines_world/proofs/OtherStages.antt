@@ -18,10 +18,12 @@ use Rattle.sc_region.specs.declared.job.Job.TheVariants as job
 use Rattle.sc_region.specs.declared.job.Request.{Request}
 use Rattle.sc_region.specs.declared.job.Want.{Want}
 use Rattle.sc_region.specs.declared.job.Want.TheVariants as want
-use Rattle.sc_request.specs.Handlers.{Posted, posted, Answer, Replied, SupplierFailed, Refused, HandlerStage, Idle, Runs, HasMade, Reserves, Awaits, Service, Handler, State, put, standing_in, with_stage}
-use Rattle.sc_request.specs.Picking.{job_at, job_awaiting, job_idle, job_of, job_reserving, job_with, needs}
-use Rattle.sc_request.specs.Sessions.{answer_to, answered, fail, finish, is_callback, is_waited_by, passed_if, passes, placed, release, requests_at, reserve, return_rights, send, session_ended, told, with_handler}
-use Rattle.sc_request.specs.Settling.{asks_of, awaits_if, begun, counted_refusal, creates, creates_with, creation, done, done_if, ends, ends_service, fits_turns, made_at, may_ask, posts_unheld, sends, settled, takes, takes_answer}
+use Rattle.sc_handler.specs.Handlers.{Posted, posted, Answer, Replied, SupplierFailed, Refused, HandlerStage, Idle, Runs, HasMade, Reserves, Awaits, Service, Handler, State, put, standing_in, with_stage}
+use Rattle.sc_handler.specs.Picking.{job_at, job_awaiting, job_idle, job_of, job_reserving, job_with, needs}
+use Rattle.sc_handler.specs.Changes.{answered, is_waited_by, placed, requests_at, session_ended, told, counted_refusal, takes, takes_answer}
+use Rattle.sc_handler.specs.Fits.{fits_turns}
+use Rattle.sc_request.specs.Sessions.{answer_to, fail, finish, is_callback, passed_if, passes, release, reserve, return_rights, send, with_handler}
+use Rattle.sc_request.specs.Settling.{asks_of, awaits_if, begun, creates, creates_with, creation, done, done_if, ends, ends_service, made_at, may_ask, posts_unheld, sends, settled}
 
 -- ---- one handler
 

@@ -3,8 +3,8 @@ use Rattle.std.proofs.Common.{◌≡◌, ◌<◌, ℕ, Bool, true, false, None, 
 use Rattle.std.proofs.lemmas.Bool.{ltb-true}
 use Rattle.std.specs.Prelude.{nat_lt, if◌then◌else◌}
 use Rattle.sc_region.specs.declared.job.Job.{Job}
-use Rattle.sc_request.specs.Handlers.{State}
-use Rattle.sc_request.specs.Picking.{job_of, job_with}
+use Rattle.sc_handler.specs.Handlers.{State}
+use Rattle.sc_handler.specs.Picking.{job_of, job_with}
 
 -- a handler that has something to do is one that there is
 pub has_job : (h : ℕ) (s : State) (j : Job) → job_of h s ≡ Some j → h < s.count

@@ -14,9 +14,9 @@ use Rattle.sc_model.specs.Handlers.{World}
 use Rattle.sc_code.specs.declared.program.Image.{Image}
 use Rattle.sc_region.specs.declared.job.Job.{Job}
 use Rattle.sc_region.specs.declared.job.Job.TheVariants as job
-use Rattle.sc_request.specs.Handlers.{Answer, Awaits, Handler, HasMade, Idle, Posted, Refused, Replied, Reserves, Runs, HandlerStage, State, SupplierFailed, standing_in}
+use Rattle.sc_handler.specs.Handlers.{Answer, Awaits, Handler, HasMade, Idle, Posted, Refused, Replied, Reserves, Runs, HandlerStage, State, SupplierFailed, standing_in}
+use Rattle.sc_handler.specs.Picking.{job_answered, job_at, job_awaiting, job_idle, job_of, job_reserving, job_with, needs}
 use Rattle.sc_request.specs.Logs.{Center, granted, picked, put_back, put_back_with, ungranted}
-use Rattle.sc_request.specs.Picking.{job_answered, job_at, job_awaiting, job_idle, job_of, job_reserving, job_with, needs}
 use Rattle.sc_request.specs.Halves.{IsHalfOf}
 use Rattle.sc_region_turns.specs.RegionSteps.{numbering_by}
 use Rattle.sc_play.specs.Regions.{PlainRegion}

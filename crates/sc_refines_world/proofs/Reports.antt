@@ -15,10 +15,10 @@ use Rattle.sc_code.specs.declared.program.Image.{Image}
 use Rattle.sc_region.specs.declared.job.Job.{Job}
 use Rattle.sc_region.specs.declared.job.Job.TheVariants as job
 use Rattle.sc_region.specs.Stores.{PlainStore}
+use Rattle.sc_handler.specs.Handlers as core
+use Rattle.sc_handler.specs.Picking.{job_of, status_idle, status_with}
 use Rattle.sc_request.specs.Halves.{IsStage, IsTop}
-use Rattle.sc_request.specs.Handlers as core
 use Rattle.sc_request.specs.Logs.{status_in}
-use Rattle.sc_request.specs.Picking.{job_of, status_idle, status_with}
 use Rattle.sc_request.specs.Laws.{PicksWhereTurns}
 use Rattle.sc_region_turns.specs.RegionSteps.{numbering_by}
 use Rattle.sc_play.specs.Regions.{PlainRegion}

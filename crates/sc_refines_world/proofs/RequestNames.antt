@@ -5,10 +5,10 @@ use Rattle.std.specs.Option.{option_map}
 use Rattle.std.specs.Prelude.{bytes_eq, map, if◌then◌else◌}
 use Rattle.sc_model.specs.Failures.{to_list}
 use Rattle.sc_model.specs.Handlers as machine
+use Rattle.sc_handler.specs.Handlers.{Posted, State}
+use Rattle.sc_handler.specs.Changes as changes
 use Rattle.sc_request.specs.Asked.{errand_of}
 use Rattle.sc_request.specs.Halves.{IsHalfOf, posted_of}
-use Rattle.sc_request.specs.Handlers.{Posted, State}
-use Rattle.sc_request.specs.Sessions as sessions
 use Rattle.sc_region_turns.specs.RegionSteps.{AreNamed, IsNamed, number_among, numbering_by}
 use Rattle.sc_refines_turn.specs.Taking as coded
 use Rattle.sc_machine_values.specs.Points.{Each}
@@ -47,7 +47,7 @@ module _ (names : List (List ℕ)) where
   queue_named [] is = tt
   queue_named (r ∷ rs) is = (errand_named names r.target.class r.errand is.0, queue_named rs is.1)
 
-  callback_named : (o : Option machine.Request) → Each IsNamedIn (sessions.to_list (option_map (posted_of (numbering_by names)) o)) → Each Named (to_list o)
+  callback_named : (o : Option machine.Request) → Each IsNamedIn (changes.to_list (option_map (posted_of (numbering_by names)) o)) → Each Named (to_list o)
   callback_named None is = tt
   callback_named (Some r) is = (errand_named names r.target.class r.errand is.0, tt)
 
@@ -57,5 +57,5 @@ module _ (names : List (List ℕ)) where
       let x = w.handlers k in
       let q : Each Named x.queue = queue_named x.queue (subst (Each IsNamedIn) (half.handlers k).queue (all k).0) in
       let c : Each Named (to_list x.callback) =
-      callback_named x.callback (subst (λ (o : Option Posted). Each IsNamedIn (sessions.to_list o)) (half.handlers k).callback (all k).1) in
+      callback_named x.callback (subst (λ (o : Option Posted). Each IsNamedIn (changes.to_list o)) (half.handlers k).callback (all k).1) in
       each_all Named (x.queue ++ to_list x.callback) (each_append Named x.queue (to_list x.callback) q c)

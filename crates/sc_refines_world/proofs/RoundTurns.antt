@@ -19,10 +19,10 @@ use Rattle.sc_region.specs.declared.job.Job.TheVariants as job
 use Rattle.sc_region.specs.declared.job.Want.{Want}
 use Rattle.sc_region.specs.declared.job.Want.TheVariants as want
 use Rattle.sc_region.specs.Stores.{PlainStore}
+use Rattle.sc_handler.specs.Fits.{goes_on}
 use Rattle.sc_request.specs.Candidates.{comes_again}
 use Rattle.sc_request.specs.Laws.{PicksWhereTurns}
 use Rattle.sc_request.specs.Logs.{Center, first_from, first_with_job, next, pick_for, picked, round}
-use Rattle.sc_request.specs.Settling.{goes_on}
 use Rattle.sc_region_turns.specs.RegionSteps.{numbering_by}
 use Rattle.sc_play.specs.Regions.{PlainRegion}
 use Rattle.sc_play.specs.Turns.{Becomes, FirstTurn, Turns, first, more}

@@ -4,9 +4,9 @@ use Rattle.std.proofs.lemmas.List.{length-append, length-replicate}
 use Rattle.std.specs.Prelude.{if◌then◌else◌, is_some}
 use Rattle.sc_region.specs.declared.job.Job.{Job}
 use Rattle.sc_region.specs.declared.job.Job.TheVariants as job
+use Rattle.sc_handler.specs.Picking.{job_of}
 use Rattle.sc_request.specs.Candidates.{comes_again}
 use Rattle.sc_request.specs.Logs.{Center, next, pick_for, picked}
-use Rattle.sc_request.specs.Picking.{job_of}
 use Rattle.sc_play.specs.Regions.{EndsIn, PlainRegion}
 use Rattle.sc_world.specs.Rounds.{IsRefusedNext, StopsNext, more as one_more, none, turns_of_picked}
 use Rattle.sc_world.specs.Turning.{Makes, Runs as RunsBy}

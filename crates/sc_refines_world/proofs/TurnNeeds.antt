@@ -28,13 +28,13 @@ use Rattle.sc_region.specs.declared.job.Job.{Job}
 use Rattle.sc_region.specs.declared.job.Job.TheVariants as job
 use Rattle.sc_region.specs.declared.job.Request.{Request}
 use Rattle.sc_region.specs.declared.value.Value as coded
+use Rattle.sc_handler.specs.Handlers as core
+use Rattle.sc_handler.specs.Handlers.{Posted, State}
+use Rattle.sc_handler.specs.Picking.{job_answered, job_at, job_awaiting, job_idle, job_of, job_reserving}
+use Rattle.sc_handler.specs.Changes as changes
 use Rattle.sc_request.specs.Asked as asked
 use Rattle.sc_request.specs.Asked.{value_of}
 use Rattle.sc_request.specs.Halves.{IsHalfOf, IsTop, answer_of, posted_of}
-use Rattle.sc_request.specs.Handlers as core
-use Rattle.sc_request.specs.Handlers.{Posted, State}
-use Rattle.sc_request.specs.Picking.{job_answered, job_at, job_awaiting, job_idle, job_of, job_reserving}
-use Rattle.sc_request.specs.Sessions as sessions
 use Rattle.sc_region_turns.specs.RegionHalves.{AreHalvesOf, IsHalfOfFrame, IsRegionHalf, IsStageFor, unpassed}
 use Rattle.sc_region_turns.specs.RegionSteps.{numbering_by}
 use Rattle.sc_region_turns.specs.RegionTurns.{Half}
@@ -309,7 +309,7 @@ module _ (s : System) (w : World) (h : ℕ) (names : List (List ℕ)) (r : Reque
   answered_takes k false core.Refused e = cc
 
   callback_asked : (k : ℕ) (b : Bool) (o : Option machine.Request) (a : Option core.Answer) → Each (values.RequestFits s w h) (to_list o) →
-      Each NamedPost (sessions.to_list (option_map (posted_of (numbering_by names)) o)) →
+      Each NamedPost (changes.to_list (option_map (posted_of (numbering_by names)) o)) →
       job_awaiting k b (option_map (posted_of (numbering_by names)) o) a ≡ Some (job.Take r) → IsAsked s w h names r
   callback_asked k b (Some q) a fits named is =
       let same = taken_same (asked.request_of (numbering_by names) q) is in
@@ -324,7 +324,7 @@ module _ (s : System) (w : World) (h : ℕ) (names : List (List ℕ)) (r : Reque
 
   at_asked : (y : core.Handler) (c : State) (stage : core.HandlerStage) → y.queue ≡ map (posted_of (numbering_by names)) (w.handlers h).queue →
       y.callback ≡ option_map (posted_of (numbering_by names)) (w.handlers h).callback → Each (values.RequestFits s w h) (requests_at (w.handlers h)) →
-      Each NamedPost y.queue → Each NamedPost (sessions.to_list y.callback) → job_at h stage y c ≡ Some (job.Take r) → IsAsked s w h names r
+      Each NamedPost y.queue → Each NamedPost (changes.to_list y.callback) → job_at h stage y c ≡ Some (job.Take r) → IsAsked s w h names r
   at_asked y c core.Idle queue callback fits posts posted is =
       next_asked (w.handlers h).queue (each_before (values.RequestFits s w h) (w.handlers h).queue (to_list (w.handlers h).callback)
       (each_before (values.RequestFits s w h) ((w.handlers h).queue ++ to_list (w.handlers h).callback) (flat_map (λ (f : Frame). request_of f.origin) (w.handlers h).stack) fits))
@@ -332,7 +332,7 @@ module _ (s : System) (w : World) (h : ℕ) (names : List (List ℕ)) (r : Reque
   at_asked y c (core.Awaits k b) queue callback fits posts posted is =
       callback_asked k b (w.handlers h).callback y.answer (each_behind (values.RequestFits s w h) (w.handlers h).queue (to_list (w.handlers h).callback)
       (each_before (values.RequestFits s w h) ((w.handlers h).queue ++ to_list (w.handlers h).callback) (flat_map (λ (f : Frame). request_of f.origin) (w.handlers h).stack) fits))
-      (subst (λ (o : Option Posted). Each NamedPost (sessions.to_list o)) callback posted)
+      (subst (λ (o : Option Posted). Each NamedPost (changes.to_list o)) callback posted)
       (subst (λ (o : Option Posted). job_awaiting k b o y.answer ≡ Some (job.Take r)) callback is)
   at_asked y c core.Runs queue callback fits posts posted is = cc
   at_asked y c (core.HasMade k) queue callback fits posts posted is = cc

@@ -17,12 +17,12 @@ use Rattle.sc_region.specs.declared.job.Job.{Job}
 use Rattle.sc_region.specs.declared.job.Outcome.{Outcome}
 use Rattle.sc_region.specs.declared.job.Want.{Want}
 use Rattle.sc_region.specs.Stores.{PlainStore, new_store}
+use Rattle.sc_handler.specs.Handlers as core
+use Rattle.sc_handler.specs.Handlers.{State}
+use Rattle.sc_handler.specs.Picking.{job_of}
 use Rattle.sc_request.specs.Asked.{Numbering, asked}
 use Rattle.sc_request.specs.Halves.{IsHalfOf}
-use Rattle.sc_request.specs.Handlers as core
-use Rattle.sc_request.specs.Handlers.{State}
 use Rattle.sc_request.specs.Logs.{Center}
-use Rattle.sc_request.specs.Picking.{job_of}
 use Rattle.sc_request.specs.Settling.{settled}
 use Rattle.sc_request.specs.Steps.{stepped}
 use Rattle.sc_request.specs.Laws.{PicksWhereTurns}

@@ -14,10 +14,10 @@ use Rattle.sc_region.specs.declared.job.Job.{Job}
 use Rattle.sc_region.specs.declared.job.Job.TheVariants as job
 use Rattle.sc_region.specs.declared.job.Want.{Want}
 use Rattle.sc_region.specs.Stores.{PlainStore, new_store}
+use Rattle.sc_handler.specs.Picking.{job_of}
 use Rattle.sc_request.specs.Asked.{Numbering}
 use Rattle.sc_request.specs.Halves.{IsHalfOf}
 use Rattle.sc_request.specs.Logs.{Center, picked, settles}
-use Rattle.sc_request.specs.Picking.{job_of}
 use Rattle.sc_request.specs.Laws.{PicksWhereTurns}
 use Rattle.sc_region_turns.specs.RegionHalves.{IsRegionOf}
 use Rattle.sc_region_turns.specs.RegionSteps.{IsProgramFor, first_want, numbering_by, task_of}

@@ -23,9 +23,9 @@ use Rattle.sc_code.specs.RequestRoom.{FitsRequests}
 use Rattle.sc_region.specs.declared.job.Job.{Job}
 use Rattle.sc_region.specs.declared.job.Job.TheVariants as job
 use Rattle.sc_region.specs.declared.job.Want.TheVariants as want
+use Rattle.sc_handler.specs.Fits.{goes_on}
 use Rattle.sc_request.specs.Candidates.{comes_again}
 use Rattle.sc_request.specs.Logs.{Center, next, pick_for, picked, round, settles}
-use Rattle.sc_request.specs.Settling.{goes_on}
 use Rattle.sc_machine_rights.specs.Formals.{FormalsAreHeld, NamesAreHeld}
 use Rattle.sc_machine_rights.specs.Headline.{CallbacksComeFirst, ChainsHold, OnlyWaitersAreTold, RepliesMeetNone, ReservedAreHeld, TargetsAreKept, WaitersAreTold}
 use Rattle.sc_machine_requests.specs.Laws.{AnswerComes, IsUnused}

@@ -5,9 +5,9 @@ use Rattle.sc_model.specs.Handlers as machine
 use Rattle.sc_code.specs.declared.program.Image.{Image}
 use Rattle.sc_code.specs.Programs.{pool_of}
 use Rattle.sc_region.specs.declared.job.Job.{Job}
-use Rattle.sc_request.specs.Handlers as core
+use Rattle.sc_handler.specs.Handlers as core
+use Rattle.sc_handler.specs.Picking.{job_of}
 use Rattle.sc_request.specs.Halves.{IsHalfOf}
-use Rattle.sc_request.specs.Picking.{job_of}
 use Rattle.sc_region_turns.specs.RegionHalves.{IsRegionOf, IsRegionHalf}
 use Rattle.sc_region_turns.specs.RegionSteps.{numbering_by}
 use Rattle.sc_region_turns.specs.RegionTurns.{Half}

@@ -4,7 +4,7 @@ use Rattle.sc_tree.specs.Plain.{System}
 use Rattle.sc_code.specs.declared.program.Image.{Image}
 use Rattle.sc_model.specs.Handlers.{new_handler}
 use Rattle.sc_region.specs.Stores.{new_store}
-use Rattle.sc_request.specs.Handlers.{Idle}
+use Rattle.sc_handler.specs.Handlers.{Idle}
 use Rattle.sc_region_turns.specs.RegionTurns.{new_half}
 use Rattle.sc_region_turns.specs.RegionHalves.{IsRegionOf, IsRegionHalf}
 use Rattle.sc_region_turns.specs.RegionSteps.{ReplaysTo}

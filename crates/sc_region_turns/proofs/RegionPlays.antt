@@ -10,9 +10,9 @@ use Rattle.sc_model.specs.declared.status.Status.{Status}
 use Rattle.sc_model.specs.Runs.{root_request}
 use Rattle.sc_model.proofs.Texts.{root}
 use Rattle.sc_region.specs.declared.job.Job.{Job}
-use Rattle.sc_request.specs.Handlers.{State}
+use Rattle.sc_handler.specs.Handlers.{State}
+use Rattle.sc_handler.specs.Picking.{job_of, status_of}
 use Rattle.sc_request.specs.Logs.{opening}
-use Rattle.sc_request.specs.Picking.{job_of, status_of}
 use Rattle.sc_request.specs.Settling.{settled}
 use Rattle.sc_request.specs.Asked.{request_of}
 use Rattle.sc_region_turns.specs.RegionTurns.{Half, new_half, taken_turn}

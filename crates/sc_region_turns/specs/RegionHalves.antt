@@ -20,7 +20,7 @@ use Rattle.sc_region.specs.declared.frame.Stage as code_stage
 use Rattle.sc_region.specs.declared.frame.Stage.TheVariants as stage
 use Rattle.sc_region.specs.Frames.{PlainFrame}
 use Rattle.sc_region.specs.Stores.{PlainStore}
-use Rattle.sc_request.specs.Handlers as core
+use Rattle.sc_handler.specs.Handlers as core
 use Rattle.sc_interp.specs.Values.{reference_of}
 use Rattle.sc_interp.specs.Objects.{objects_in}
 use Rattle.sc_interp.specs.Standing.{state_of}

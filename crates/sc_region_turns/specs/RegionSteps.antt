@@ -21,8 +21,8 @@ use Rattle.sc_region.specs.declared.job.Job.{Job}
 use Rattle.sc_region.specs.declared.job.Job.TheVariants as job
 use Rattle.sc_region.specs.declared.job.Want.{Want}
 use Rattle.sc_region.specs.declared.job.Want.TheVariants as want
-use Rattle.sc_request.specs.Handlers as core
-use Rattle.sc_request.specs.Picking.{job_of}
+use Rattle.sc_handler.specs.Handlers as core
+use Rattle.sc_handler.specs.Picking.{job_of}
 use Rattle.sc_request.specs.Halves.{IsHalfOf}
 use Rattle.sc_request.specs.Asked.{Numbering, asked, asks_errand, asks_on}
 use Rattle.sc_interp.specs.Values.{reference_of, value_of, values_of}

@@ -6,14 +6,14 @@ use Rattle.std.specs.Prelude.{slice_get, slice_index, if◌then◌else◌}
 use Rattle.std.specs.Option.{option_and_then}
 use Rattle.sc_lockpass.specs.Tables.{Table}
 use Rattle.sc_region.specs.declared.job.Job.{Job}
-use Rattle.sc_request.specs.declared.handler.Handler as coded
+use Rattle.sc_handler.specs.declared.handler.Handler as coded
+use Rattle.sc_handler.specs.declared.handler.HandlerStage as coded_stage
+use Rattle.sc_handler.specs.declared.handler.HandlerStage.TheVariants as stage
+use Rattle.sc_handler.specs.InMemory.{reserves_at, handler_with, stage_of}
+use Rattle.sc_handler.specs.Handlers.{Handler, put, Reserves}
+use Rattle.sc_request.specs.Tables.{handler_in, handler_at, state_of, out_at}
 use Rattle.arrayvec.specs.ArrayVec.{ArrayVec}
 use Rattle.sc_waitcond.specs.declared.mark.Marked.{Marked}
-use Rattle.sc_request.specs.declared.handler.HandlerStage as coded_stage
-use Rattle.sc_request.specs.declared.handler.HandlerStage.TheVariants as stage
-use Rattle.sc_request.specs.Candidates.{reserves_at}
-use Rattle.sc_request.specs.Handlers.{Handler, put, Reserves}
-use Rattle.sc_request.specs.Tables.{handler_in, handler_at, handler_with, stage_of, state_of, out_at}
 use Rattle.sc_request.proofs.Outs.{get_same, get_other, kept_at}
 
 -- the handler of the number, where it is this one

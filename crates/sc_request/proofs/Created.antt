@@ -10,12 +10,14 @@ use Rattle.sc_lockpass.specs.Passing.{Passed}
 use Rattle.sc_lockpass.specs.Tables.{Table, rights_of}
 use Rattle.sc_waitcond.specs.declared.session.Release.TheVariants as release_at
 use Rattle.sc_region.specs.declared.job.Request.{Request}
-use Rattle.sc_request.specs.declared.handler.Handler as coded
-use Rattle.sc_request.specs.Handlers.{Posted, posted, HandlerStage, Idle, Runs, HasMade, Reserves, Awaits, State, new_handler, put, with_stage}
+use Rattle.sc_handler.specs.declared.handler.Handler as coded
+use Rattle.sc_handler.specs.Handlers.{Posted, posted, HandlerStage, Idle, Runs, HasMade, Reserves, Awaits, State, new_handler, put, with_stage}
+use Rattle.sc_handler.specs.Changes.{takes_answer}
+use Rattle.sc_handler.specs.InMemory.{handler_with}
 use Rattle.sc_request.specs.Places.{awaited}
 use Rattle.sc_request.specs.Sessions.{given_to, is_callback, passed_if, passes, release, send, with_handler}
-use Rattle.sc_request.specs.Settling.{awaits_if, creates, creates_with, creation, made_at, sends, takes_answer}
-use Rattle.sc_request.specs.Tables.{handler_in, handler_at, handler_with, state_of}
+use Rattle.sc_request.specs.Settling.{awaits_if, creates, creates_with, creation, made_at, sends}
+use Rattle.sc_request.specs.Tables.{handler_in, handler_at, state_of}
 use Rattle.sc_request.proofs.Outs.{get_same, get_other}
 use Rattle.sc_request.proofs.ChangedTables.{handler_is}
 

@@ -3,9 +3,9 @@ use Rattle.std.proofs.Common.{◌≡◌, ℕ, Bool, false, Option, Some, None, r
 use Rattle.std.specs.Prelude.{nat_lt, if◌then◌else◌}
 use Rattle.sc_model.specs.declared.cause.Cause.{Cause}
 use Rattle.sc_region.specs.declared.job.Job.{Job}
-use Rattle.sc_request.specs.Handlers.{HandlerStage, Idle, Runs, HasMade, Reserves, Awaits, Handler, State}
-use Rattle.sc_request.specs.Picking.{job_at, job_with, job_of}
-use Rattle.sc_request.specs.Candidates.{is_reserving, uncounted}
+use Rattle.sc_handler.specs.Handlers.{HandlerStage, Idle, Runs, HasMade, Reserves, Awaits, Handler, State, is_reserving}
+use Rattle.sc_handler.specs.Picking.{job_at, job_with, job_of}
+use Rattle.sc_request.specs.Candidates.{uncounted}
 
 job_uncounted : (k : ℕ) (st : HandlerStage) (x : Handler) (s t : State) → is_reserving st ≡ false → job_at k st x t ≡ job_at k st (uncounted x) s
 job_uncounted k Idle x s t e = refl

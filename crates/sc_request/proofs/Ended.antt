@@ -7,16 +7,15 @@ use Rattle.std.specs.Prelude.{IfSome, map, slice_get, if◌then◌else◌}
 use Rattle.sc_model.specs.declared.cause.Cause.TheVariants as cause
 use Rattle.sc_waitcond.specs.declared.session.Release.TheVariants as release_at
 use Rattle.sc_region.specs.declared.value.Value.{Value}
-use Rattle.sc_request.specs.declared.handler.Posting.{Posting}
-use Rattle.sc_request.specs.declared.handler.HandlerStage as coded_stage
-use Rattle.sc_request.specs.declared.handler.HandlerStage.TheVariants as stage
-use Rattle.sc_request.specs.Candidates.{reserves_at}
-use Rattle.sc_request.specs.Handlers.{Answer, Replied, Refused, Service, State, put}
-use Rattle.sc_request.specs.Places.{first_of, without_first}
+use Rattle.sc_handler.specs.declared.handler.Posting.{Posting}
+use Rattle.sc_handler.specs.declared.handler.HandlerStage as coded_stage
+use Rattle.sc_handler.specs.declared.handler.HandlerStage.TheVariants as stage
+use Rattle.sc_handler.specs.InMemory.{reserves_at, service_of, stage_of}
+use Rattle.sc_handler.specs.Handlers.{Answer, Replied, Refused, Service, State, put}
+use Rattle.sc_handler.specs.Changes.{first_of, without_first}
 use Rattle.sc_request.specs.Sessions.{fail, finish, release}
 use Rattle.sc_request.specs.Settling.{ends}
 use Rattle.sc_request.specs.Sound.{AreServed, IsPlaced, IsServed, may_take_over}
-use Rattle.sc_request.specs.Tables.{service_of, stage_of}
 
 over_not : (st : coded_stage.HandlerStage) → may_take_over (stage_of [] [] st) ≡ true → reserves_at st ≡ false
 over_not stage.Idle e = refl

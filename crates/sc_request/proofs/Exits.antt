@@ -23,9 +23,10 @@ use Rattle.sc_model.specs.Answers as machine_answers
 use Rattle.sc_model.specs.Sessions as machine_sessions
 use Rattle.sc_model.specs.Handlers as machine
 use Rattle.sc_region.specs.declared.job.Want.TheVariants as want
-use Rattle.sc_request.specs.Handlers.{Posted, Replied, Refused, HandlerStage, Runs, HasMade, Reserves, Service, Handler, State, put}
+use Rattle.sc_handler.specs.Handlers.{Posted, Replied, Refused, HandlerStage, Runs, HasMade, Reserves, Service, Handler, State, put}
+use Rattle.sc_handler.specs.Changes.{counted_refusal}
 use Rattle.sc_request.specs.Sessions.{release, finish}
-use Rattle.sc_request.specs.Settling.{counted_refusal, ends, may_ask, asked_in}
+use Rattle.sc_request.specs.Settling.{ends, may_ask, asked_in}
 use Rattle.sc_request.specs.Asked.{Numbering, value_of, handlers_of, asks_releasing, asks_returning, asks_exiting, asks_refusing, asks_after}
 use Rattle.sc_request.specs.Halves.{posted_of, IsTop, IsOrigin, IsService, AreServices, IsHandlerOf, IsHalfOf}
 use Rattle.sc_request.specs.Steps.{IsLastEntry, IsInCall, IsCalledFrom}

@@ -8,13 +8,15 @@ use Rattle.std.specs.List.{list_any}
 use Rattle.sc_lockpass.specs.Rights.{is_handler, release_all}
 use Rattle.sc_lockpass.specs.Tables.{Table, rights_of}
 use Rattle.sc_model.specs.declared.cause.Cause.{Cause}
-use Rattle.sc_request.specs.declared.handler.Posting.{Posting}
-use Rattle.sc_request.specs.declared.handler.Handler as coded
-use Rattle.sc_request.specs.Handlers.{Answer, SupplierFailed, Posted, Service, Handler, State, put}
+use Rattle.sc_handler.specs.declared.handler.Posting.{Posting}
+use Rattle.sc_handler.specs.declared.handler.Handler as coded
+use Rattle.sc_handler.specs.Handlers.{Answer, SupplierFailed, Posted, Service, Handler, State, put}
+use Rattle.sc_handler.specs.Changes.{fallen, heard, is_waited_by, session_ended, to_list, told}
+use Rattle.sc_handler.specs.InMemory.{posting_of, service_of}
 use Rattle.sc_request.specs.Places.{lets_go, tells}
-use Rattle.sc_request.specs.Sessions.{answer_to, fail, fallen, heard, is_waited_by, session_ended, to_list, told}
+use Rattle.sc_request.specs.Sessions.{answer_to, fail}
+use Rattle.sc_request.specs.Tables.{handler_in, state_of}
 use Rattle.sc_request.specs.Sound.{AreServed, ArePlaced, IsPlaced, IsServed}
-use Rattle.sc_request.specs.Tables.{handler_in, posting_of, service_of, state_of}
 
 pub postings_served : (ps : List Posting) → map posting_of ps ≡ map (λ (v : Service). v.posted) (map service_of ps)
 postings_served [] = refl

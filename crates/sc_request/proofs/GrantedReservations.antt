@@ -9,13 +9,14 @@ use Rattle.sc_lockpass.specs.Rights.{Rights, is_among}
 use Rattle.sc_lockpass.specs.Tables.{Table, rights_of, is_member}
 use Rattle.sc_region.specs.declared.job.Job.{Job}
 use Rattle.sc_region.specs.declared.job.Job.TheVariants as job
-use Rattle.sc_request.specs.declared.handler.Handler as coded
-use Rattle.sc_request.specs.Handlers.{State}
-use Rattle.sc_request.specs.Picking.{job_of}
+use Rattle.sc_handler.specs.declared.handler.Handler as coded
+use Rattle.sc_handler.specs.Handlers.{State, is_reserving}
+use Rattle.sc_handler.specs.Picking.{job_of}
+use Rattle.sc_handler.specs.InMemory.{fresh}
+use Rattle.sc_request.specs.Tables.{center, handler_at, handler_in, out_at, state_of}
+use Rattle.sc_request.specs.Candidates.{AreCandidates, AreReserving, HasGrantsBelow, HasOutsBelow, entry_below, granted_items, is_granted, is_granting}
 use Rattle.sc_request.specs.Logs.{Center, pick_for, granted, ungranted}
 use Rattle.sc_request.specs.Sound.{IsHeldBelow, IsSound}
-use Rattle.sc_request.specs.Tables.{center, fresh, handler_at, handler_in, out_at, state_of}
-use Rattle.sc_request.specs.Candidates.{AreCandidates, AreReserving, HasGrantsBelow, HasOutsBelow, entry_below, granted_items, is_granted, is_granting, is_reserving}
 use Rattle.sc_request.proofs.Outs.{IsGrant, all_among_below, back_with, grant_is, out_is, out_set, picked_center, with_job}
 use Rattle.sc_request.proofs.Sounds.{release_below, reserve_below}
 use Rattle.sc_request.proofs.Elsewhere.{same_job}

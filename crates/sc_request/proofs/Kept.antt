@@ -13,8 +13,9 @@ use Rattle.sc_model.specs.Handlers as machine
 use Rattle.sc_model.specs.Sessions as machine_sessions
 use Rattle.sc_model.specs.Answers as machine_answers
 use Rattle.sc_model.specs.Failures as machine_failures
-use Rattle.sc_request.specs.Handlers.{Posted, Answer, Service, Handler, State, put}
-use Rattle.sc_request.specs.Sessions.{session_ended, release, heard, answered, answer_to, return_rights, finish, to_list, requests_at, is_waited_by, told, fallen, fail}
+use Rattle.sc_handler.specs.Handlers.{Posted, Answer, Service, Handler, State, put}
+use Rattle.sc_handler.specs.Changes.{session_ended, heard, answered, to_list, requests_at, is_waited_by, told, fallen}
+use Rattle.sc_request.specs.Sessions.{release, answer_to, return_rights, finish, fail}
 use Rattle.sc_request.specs.Asked.{Numbering}
 use Rattle.sc_request.specs.Halves.{posted_of, answer_of, IsOrigin, AreServices, IsHandlerOf, IsHalfOf}
 

@@ -6,12 +6,12 @@ use Rattle.std.proofs.lemmas.List.{get_or-take}
 use Rattle.std.proofs.lemmas.Option.{slice_get_past}
 use Rattle.std.specs.Prelude.{slice_get, slice_index}
 use Rattle.sc_lockpass.specs.Rights.{Rights}
-use Rattle.sc_request.specs.declared.handler.Handler as coded
-use Rattle.sc_request.specs.declared.kept_core.Holders.{Holders}
-use Rattle.sc_request.specs.Handlers.{Handler, State, new_handler}
-use Rattle.sc_request.specs.Keeping.{AreNewFrom, holders_in, nobody, rights_in}
+use Rattle.sc_handler.specs.declared.handler.Handler as coded
+use Rattle.sc_handler.specs.Handlers.{Handler, State, new_handler}
 use Rattle.sc_request.specs.Tables.{handler_at, handler_in}
 use Rattle.sc_request.proofs.Sames.{nothing_kept}
+use Rattle.sc_request.specs.declared.kept_core.Holders.{Holders}
+use Rattle.sc_request.specs.Keeping.{AreNewFrom, holders_in, nobody, rights_in}
 
 -- Where the whole could only be the same if this were, and this isn't, it is another one.
 pub differs : {P Q : Type 0} (r : Bool) → r ≡ false → (r ≡ true → P) × (P → r ≡ true) → (Q → P) → (false ≡ true → Q) × (Q → false ≡ true)

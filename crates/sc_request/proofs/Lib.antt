@@ -1,7 +1,6 @@
 mod Plays
 mod Rows
 mod Turns
-mod SameValues
 pub mod Opening
 mod OpeningTables
 mod Kept
@@ -22,7 +21,7 @@ mod Counted
 pub mod Sounds
 mod Releases
 mod Settles
-mod Shapes
+mod Kinds
 mod Created
 mod Ended
 mod Fallen
@@ -32,8 +31,6 @@ mod Elsewhere
 mod Posters
 mod Quiet
 pub mod SettledCandidates
-mod Entries
-mod SameLists
 mod Sames
 mod SameStates
 pub mod KeptCores

@@ -2,7 +2,7 @@
 use Rattle.std.proofs.Common.{Bool, true, false, [], ◌∷◌, refl}
 use Rattle.std.specs.Prelude.{nat_lt, if◌then◌else◌}
 use Rattle.sc_model.specs.Handlers as machine
-use Rattle.sc_request.specs.Handlers.{new_handler}
+use Rattle.sc_handler.specs.Handlers.{new_handler}
 use Rattle.sc_request.specs.Asked.{Numbering}
 use Rattle.sc_request.specs.Halves.{posted_of, IsHandlerOf}
 use Rattle.sc_request.specs.Laws.{OpensAsHalf}

@@ -8,12 +8,13 @@ use Rattle.sc_lockpass.specs.Rights.{unreserved}
 use Rattle.sc_lockpass.specs.Tables.{Table, rights_of, is_member}
 use Rattle.sc_region.specs.declared.job.Job.{Job}
 use Rattle.sc_region.specs.declared.job.Request.{Request}
-use Rattle.sc_request.specs.declared.handler.Handler as coded
-use Rattle.sc_request.specs.Handlers.{Handler, posted, new_handler}
-use Rattle.sc_request.specs.Tables.{fresh, asked, handler_in, handler_at, state_of, center, out_at, out_total}
-use Rattle.sc_request.specs.Picking.{job_with}
+use Rattle.sc_handler.specs.declared.handler.Handler as coded
+use Rattle.sc_handler.specs.Handlers.{Handler, posted, new_handler, is_reserving}
+use Rattle.sc_handler.specs.InMemory.{fresh, asked}
+use Rattle.sc_handler.specs.Picking.{job_with}
+use Rattle.sc_request.specs.Tables.{handler_in, handler_at, state_of, center, out_at, out_total}
+use Rattle.sc_request.specs.Candidates.{AreCandidates, AreReserving, HasGrantsBelow, HasOutsBelow, is_granted}
 use Rattle.sc_request.specs.Logs.{opening, opened}
-use Rattle.sc_request.specs.Candidates.{AreCandidates, AreReserving, HasGrantsBelow, HasOutsBelow, is_granted, is_reserving}
 use Rattle.sc_request.specs.Sound.{IsPlaced, IsServed, IsSound, IsSoundHandler, placed_poster}
 use Rattle.sc_request.proofs.Sounds.{all_more, if_is, new_is, none_passed}
 

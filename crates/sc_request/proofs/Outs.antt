@@ -16,14 +16,15 @@ use Rattle.sc_model.specs.declared.cause.Cause.{Cause}
 use Rattle.arrayvec.specs.ArrayVec.{ArrayVec}
 use Rattle.sc_region.specs.declared.job.Job.{Job}
 use Rattle.sc_region.specs.declared.job.Job.TheVariants as job
-use Rattle.sc_request.specs.declared.handler.HandlerStage as coded_stage
-use Rattle.sc_request.specs.declared.handler.HandlerStage.TheVariants as stage
-use Rattle.sc_request.specs.declared.handler.Handler as coded
-use Rattle.sc_request.specs.Handlers.{Posted, Answer, Replied, SupplierFailed, Refused, Handler, State, standing_in}
-use Rattle.sc_request.specs.Picking.{needs, job_for_entry, job_reserving, job_idle, job_awaiting, job_at, job_with, job_of}
+use Rattle.sc_handler.specs.declared.handler.HandlerStage as coded_stage
+use Rattle.sc_handler.specs.declared.handler.HandlerStage.TheVariants as stage
+use Rattle.sc_handler.specs.declared.handler.Handler as coded
+use Rattle.sc_handler.specs.Handlers.{Posted, Answer, Replied, SupplierFailed, Refused, Handler, State, standing_in, is_reserving}
+use Rattle.sc_handler.specs.Picking.{needs, job_for_entry, job_reserving, job_idle, job_awaiting, job_at, job_with, job_of}
+use Rattle.sc_handler.specs.InMemory.{handler_with, stage_of}
+use Rattle.sc_request.specs.Tables.{handler_in, handler_at, state_of, center, out_at, out_total}
+use Rattle.sc_request.specs.Candidates.{entry_below, granted_items}
 use Rattle.sc_request.specs.Logs.{Center, pick_for, granted, ungranted, picked, put_back_with, put_back}
-use Rattle.sc_request.specs.Tables.{handler_in, handler_at, handler_with, state_of, stage_of, center, out_at, out_total}
-use Rattle.sc_request.specs.Candidates.{entry_below, granted_items, is_reserving}
 
 -- ---- one element of a list is changed
 

@@ -1,11 +1,12 @@
 -- Those who may hear from a handler, in its place in memory.
 use Rattle.std.proofs.Common.{◌≡◌, ◌||◌, ℕ, Bool, true, false, List, [], ◌∷◌, Some, refl, sym, ap, ◌∙◌}
 use Rattle.std.specs.Prelude.{map, slice_get}
-use Rattle.sc_request.specs.declared.handler.Posting.{Posting}
-use Rattle.sc_request.specs.declared.handler.Handler as coded
-use Rattle.sc_request.specs.Handlers.{Service, Handler}
-use Rattle.sc_request.specs.Sessions.{to_list}
-use Rattle.sc_request.specs.Tables.{first_posted, handler_at, posting_of, service_of}
+use Rattle.sc_handler.specs.declared.handler.Posting.{Posting}
+use Rattle.sc_handler.specs.declared.handler.Handler as coded
+use Rattle.sc_handler.specs.Handlers.{Service, Handler}
+use Rattle.sc_handler.specs.Changes.{to_list}
+use Rattle.sc_handler.specs.InMemory.{first_posted, posting_of, service_of}
+use Rattle.sc_request.specs.Tables.{handler_at}
 use Rattle.sc_request.specs.Candidates.{may_hear_from, posted_first}
 use Rattle.sc_request.proofs.ChangedTables.{handler_is}
 

@@ -14,11 +14,14 @@ use Rattle.sc_region.specs.declared.job.Job.{Job}
 use Rattle.sc_region.specs.declared.job.Job.TheVariants as job
 use Rattle.sc_region.specs.declared.job.Want.{Want}
 use Rattle.sc_region.specs.declared.job.Want.TheVariants as want
-use Rattle.sc_request.specs.Handlers.{Posted, posted, HandlerStage, Idle, Runs, HasMade, Reserves, Awaits, Handler, State, put, has_requests, standing_of, standing_in}
-use Rattle.sc_request.specs.Picking.{job_at, job_for_entry, job_reserving, job_with, needs}
-use Rattle.sc_request.specs.Sessions.{fail, is_callback, passed_if, placed, send}
-use Rattle.sc_request.specs.Settling.{asks, awaits_if, begun, done, done_if, fits_turns, may_ask, posts_unheld, sends, settled, takes, takes_answer, takes_callback, takes_next}
-use Rattle.sc_request.specs.Candidates.{frees, frees_by, frees_under, is_reserving, uncounted}
+use Rattle.sc_handler.specs.Handlers.{Posted, posted, HandlerStage, Idle, Runs, HasMade, Reserves, Awaits, Handler, State, put, has_requests, standing_of, standing_in, is_reserving}
+use Rattle.sc_handler.specs.Picking.{job_at, job_for_entry, job_reserving, job_with, needs}
+use Rattle.sc_handler.specs.Changes.{placed, takes, takes_answer, takes_callback, takes_next}
+use Rattle.sc_handler.specs.Fits.{fits_turns}
+use Rattle.sc_handler.specs.Freeing.{frees, frees_by, frees_under}
+use Rattle.sc_request.specs.Sessions.{fail, is_callback, passed_if, send}
+use Rattle.sc_request.specs.Settling.{asks, awaits_if, begun, done, done_if, may_ask, posts_unheld, sends, settled}
+use Rattle.sc_request.specs.Candidates.{uncounted}
 use Rattle.sc_request.proofs.Untouched.{asks_so, fail_none}
 
 -- ---- handlers and states

@@ -18,7 +18,7 @@ use Rattle.sc_model.specs.Failures as machine_failures
 use Rattle.sc_model.specs.Handlers as machine
 use Rattle.sc_region.specs.declared.job.Want.{Want}
 use Rattle.sc_region.specs.declared.job.Want.TheVariants as want
-use Rattle.sc_request.specs.Handlers.{Posted, posted, HasMade, Awaits, State, with_stage}
+use Rattle.sc_handler.specs.Handlers.{Posted, posted, HasMade, Awaits, State, with_stage}
 use Rattle.sc_request.specs.Sessions.{passed_if, passes, send, is_callback, with_handler}
 use Rattle.sc_request.specs.Settling.{awaits_if, sends, asks, creation, creates_with, creates, may_ask, asked_in, done_if, done, posts_unheld}
 use Rattle.sc_request.specs.Asked.{Numbering, value_of, request_by, asks_requesting}

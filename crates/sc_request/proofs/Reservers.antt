@@ -16,12 +16,14 @@ use Rattle.sc_region.specs.declared.job.Request.{Request}
 use Rattle.sc_region.specs.declared.job.Job.{Job}
 use Rattle.sc_region.specs.declared.job.Want.{Want}
 use Rattle.sc_region.specs.declared.job.Want.TheVariants as want
-use Rattle.sc_request.specs.declared.handler.Handler as coded
-use Rattle.sc_request.specs.Handlers.{Posted, posted, Answer, Replied, Refused, HasMade, Awaits, Service, Handler, State, put, with_stage}
-use Rattle.sc_request.specs.Sessions.{session_ended, release, passed_if, placed, send, is_callback, with_handler, answered, answer_to, return_rights, finish, requests_at, is_waited_by, told, fail}
-use Rattle.sc_request.specs.Settling.{begun, awaits_if, sends, asks, creation, creates_with, creates, counted_refusal, ends, done, posts_unheld, may_ask, done_if, fits_turns, settled}
+use Rattle.sc_handler.specs.declared.handler.Handler as coded
+use Rattle.sc_handler.specs.Handlers.{Posted, posted, Answer, Replied, Refused, HasMade, Awaits, Service, Handler, State, put, with_stage, is_reserving}
+use Rattle.sc_handler.specs.Changes.{session_ended, placed, answered, requests_at, is_waited_by, told, counted_refusal}
+use Rattle.sc_handler.specs.Fits.{fits_turns}
+use Rattle.sc_request.specs.Sessions.{release, passed_if, send, is_callback, with_handler, answer_to, return_rights, finish, fail}
+use Rattle.sc_request.specs.Settling.{begun, awaits_if, sends, asks, creation, creates_with, creates, ends, done, posts_unheld, may_ask, done_if, settled}
 use Rattle.sc_request.specs.Tables.{handler_at}
-use Rattle.sc_request.specs.Candidates.{AreReserving, is_reserving}
+use Rattle.sc_request.specs.Candidates.{AreReserving}
 use Rattle.sc_request.proofs.Outs.{same_handler, with_job}
 use Rattle.sc_request.proofs.Untouched.{asks_so, awaited_other, begun_other, either, passed_on, put_other, returned_rights}
 

@@ -5,8 +5,8 @@ use Rattle.std.specs.Option.{option_map}
 use Rattle.std.specs.Prelude.{is_some, not, nat_lt, ◌==◌, ◌&&◌, if◌then◌else◌}
 use Rattle.sc_lockpass.specs.Tables.{is_member}
 use Rattle.sc_region.specs.declared.job.Job.{Job}
-use Rattle.sc_request.specs.Logs.{Center, pick_for, picked_if, picks, numbers_from, first_from, first_with_job, next}
 use Rattle.sc_request.specs.Candidates.{HasNoneIn, IsFirstIn, AreCandidates}
+use Rattle.sc_request.specs.Logs.{Center, pick_for, picked_if, picks, numbers_from, first_from, first_with_job, next}
 
 none_is : (o : Option Job) → is_some o ≡ false → o ≡ None
 none_is None e = refl

@@ -4,8 +4,8 @@ use Rattle.std.proofs.Math.Path.{fun_ext}
 use Rattle.std.proofs.lemmas.Bool.{cases_lt, le-ltb, ltb-false}
 use Rattle.std.specs.Prelude.{is_some, nat_lt, if◌then◌else◌}
 use Rattle.sc_model.specs.declared.status.Status.{Status}
-use Rattle.sc_request.specs.Logs.{Center, status_for, status_in}
 use Rattle.sc_request.specs.Same.{AreSameAt}
+use Rattle.sc_request.specs.Logs.{Center, status_for, status_in}
 
 if_some : (b : Bool) (x : Status) → is_some (if b then Some x else None) ≡ b
 if_some true x = refl

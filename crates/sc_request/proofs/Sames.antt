@@ -4,32 +4,11 @@ use Rattle.std.proofs.lemmas.List.{get_or_past}
 use Rattle.std.proofs.lemmas.Grind.{get_or_default_zero}
 use Rattle.std.proofs.lemmas.Option.{slice_get_past}
 use Rattle.std.specs.Prelude.{slice_get, slice_index}
-use Rattle.sc_request.specs.declared.handler.Handler as coded
-use Rattle.sc_request.specs.Handlers.{Handler, new_handler}
-use Rattle.sc_request.specs.Same.{AreAskedAlike, StandAlike}
-use Rattle.sc_request.specs.Tables.{handler_of, handler_in, handler_at}
+use Rattle.sc_handler.specs.declared.handler.Handler as coded
+use Rattle.sc_handler.specs.Handlers.{Handler, new_handler}
+use Rattle.sc_handler.specs.InMemory.{handler_of}
+use Rattle.sc_request.specs.Tables.{handler_in, handler_at}
 use Rattle.sc_request.proofs.ChangedTables.{handler_is}
-
--- handlers that stand the same, are asked for the same, and have as many sessions, are the same
-pub same_alike : (x y : Handler) → StandAlike x y → AreAskedAlike x y → x.sessions ≡ y.sessions → x ≡ y
-same_alike x y standing asked sessions = λ i. record {
-  stage = standing.stage i;
-  services = asked.services i;
-  entry = standing.entry i;
-  queue = asked.queue i;
-  callback = asked.callback i;
-  answer = standing.answer i;
-  failure = standing.failure i;
-  sessions = sessions i;
-  refused = standing.refused i;
-}
-
-pub asked_same : (x y : Handler) → x ≡ y → AreAskedAlike x y
-asked_same x y e = record {
-  services = ap (λ (z : Handler). z.services) e;
-  queue = ap (λ (z : Handler). z.queue) e;
-  callback = ap (λ (z : Handler). z.callback) e;
-}
 
 -- past all places nothing is kept
 pub nothing_kept : (xs : List coded.Handler) (sessions : List ℕ) (h : ℕ) → length xs ≤ h → length sessions ≤ h → handler_at xs sessions h ≡ new_handler

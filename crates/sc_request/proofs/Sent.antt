@@ -6,8 +6,9 @@ use Rattle.sc_lockpass.specs.Rights.{Rights}
 use Rattle.sc_lockpass.specs.Passing.{pass}
 use Rattle.sc_model.specs.Handlers as machine
 use Rattle.sc_model.specs.Asking as asking
-use Rattle.sc_request.specs.Handlers.{Posted, HandlerStage, Handler, State, with_stage}
-use Rattle.sc_request.specs.Sessions.{given_to, passes, placed, send, with_handler}
+use Rattle.sc_handler.specs.Handlers.{Posted, HandlerStage, Handler, State, with_stage}
+use Rattle.sc_handler.specs.Changes.{placed}
+use Rattle.sc_request.specs.Sessions.{given_to, passes, send, with_handler}
 use Rattle.sc_request.specs.Asked.{Numbering}
 use Rattle.sc_request.specs.Halves.{posted_of, IsTop, AreServices, IsHandlerOf, IsHalfOf}
 use Rattle.sc_request.proofs.Kept.{put_alike, rights_alike, map_append, chosen}

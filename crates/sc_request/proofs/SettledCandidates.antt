@@ -6,10 +6,12 @@ use Rattle.sc_lockpass.specs.Tables.{is_member}
 use Rattle.sc_model.specs.declared.cause.Cause.{Cause}
 use Rattle.sc_region.specs.declared.job.Job.{Job}
 use Rattle.sc_region.specs.declared.job.Want.{Want}
-use Rattle.sc_request.specs.Picking.{job_of}
+use Rattle.sc_handler.specs.Picking.{job_of}
+use Rattle.sc_handler.specs.Freeing.{frees}
+use Rattle.sc_handler.specs.Handlers.{is_reserving}
 use Rattle.sc_request.specs.Settling.{settled}
+use Rattle.sc_request.specs.Candidates.{AreCandidates, AreReserving, touches}
 use Rattle.sc_request.specs.Logs.{Center, pick_for, settles}
-use Rattle.sc_request.specs.Candidates.{AreCandidates, AreReserving, frees, is_reserving, touches}
 use Rattle.sc_request.proofs.Elsewhere.{same_job}
 use Rattle.sc_request.proofs.GrantedReservations.{below_there}
 use Rattle.sc_request.proofs.Quiet.{waiting_before}

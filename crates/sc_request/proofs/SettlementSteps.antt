@@ -16,9 +16,10 @@ use Rattle.sc_model.specs.Handlers.{point_of, frame_at}
 use Rattle.sc_region.specs.declared.job.Job.{Job}
 use Rattle.sc_region.specs.declared.job.Job.TheVariants as job
 use Rattle.sc_region.specs.declared.job.Want.{Want}
-use Rattle.sc_request.specs.Handlers.{HandlerStage, Runs, HasMade, Handler, State, put, with_stage}
-use Rattle.sc_request.specs.Picking.{job_at}
-use Rattle.sc_request.specs.Settling.{made_at, fits_turns, may_ask, asked_in}
+use Rattle.sc_handler.specs.Handlers.{HandlerStage, Runs, HasMade, Handler, State, put, with_stage}
+use Rattle.sc_handler.specs.Picking.{job_at}
+use Rattle.sc_handler.specs.Fits.{fits_turns}
+use Rattle.sc_request.specs.Settling.{made_at, may_ask, asked_in}
 use Rattle.sc_request.specs.Asked.{Numbering, asks_acting, asks_moving, asks_going, asks_on}
 use Rattle.sc_request.specs.Halves.{IsStage, IsTop, IsHandlerOf, IsHalfOf}
 use Rattle.sc_request.specs.Steps.{environment_after, environment_at, IsLastEntry, IsCalledFrom, IsGranted, IsGrantedUnder, stepped}

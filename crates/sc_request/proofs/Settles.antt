@@ -7,13 +7,13 @@ use Rattle.std.specs.List.{All}
 use Rattle.sc_lockpass.specs.Tables.{Table}
 use Rattle.sc_region.specs.declared.job.Job.{Job}
 use Rattle.sc_region.specs.declared.job.Want.{Want}
-use Rattle.sc_request.specs.declared.handler.Handler as coded
-use Rattle.sc_request.specs.Handlers.{State}
+use Rattle.sc_handler.specs.declared.handler.Handler as coded
+use Rattle.sc_handler.specs.Handlers.{State}
 use Rattle.sc_request.specs.Settling.{settled}
-use Rattle.sc_request.specs.Logs.{with_out}
-use Rattle.sc_request.specs.Sound.{IsSound}
 use Rattle.sc_request.specs.Tables.{center, out_at, out_total, state_of}
 use Rattle.sc_request.specs.Candidates.{HasGrantsBelow, HasOutsBelow, granted_items, is_granted}
+use Rattle.sc_request.specs.Logs.{with_out}
+use Rattle.sc_request.specs.Sound.{IsSound}
 use Rattle.sc_request.proofs.Outs.{fewer_out, out_is, out_set, same_handler, with_job}
 use Rattle.sc_request.proofs.GrantedReservations.{grants_back, outs_back}
 use Rattle.sc_request.proofs.Counted.{counted}

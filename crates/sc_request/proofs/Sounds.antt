@@ -21,10 +21,12 @@ use Rattle.sc_region.specs.declared.job.Job.{Job}
 use Rattle.sc_region.specs.declared.job.Job.TheVariants as job
 use Rattle.sc_region.specs.declared.job.Want.{Want}
 use Rattle.sc_region.specs.declared.job.Want.TheVariants as want
+use Rattle.sc_handler.specs.Handlers.{Posted, posted, Answer, Replied, SupplierFailed, Refused, HandlerStage, Idle, Runs, HasMade, Reserves, Awaits, Service, service, Handler, State, new_handler, put, with_stage}
+use Rattle.sc_handler.specs.Changes.{session_ended, placed, answered, to_list, requests_at, is_waited_by, told, fallen, takes_next, takes_callback, takes, takes_answer, counted_refusal}
+use Rattle.sc_handler.specs.Fits.{is_request_of, is_call, fits_turns}
 use Rattle.sc_request.specs.Candidates.{granted_items}
-use Rattle.sc_request.specs.Handlers.{Posted, posted, Answer, Replied, SupplierFailed, Refused, HandlerStage, Idle, Runs, HasMade, Reserves, Awaits, Service, service, Handler, State, new_handler, put, with_stage}
-use Rattle.sc_request.specs.Sessions.{session_ended, release, passed_if, passes, placed, send, is_callback, given_to, with_handler, answered, answer_to, return_rights, finish, to_list, requests_at, is_waited_by, told, fallen, fail}
-use Rattle.sc_request.specs.Settling.{takes_next, takes_callback, takes, takes_answer, made_at, begun, reserves, awaits_if, sends, asks_of, creation, creates_with, creates, counted_refusal, ends_service, ends, done, posts_unheld, is_request_of, is_call, may_ask, done_if, asked_in, fits_turns, settled}
+use Rattle.sc_request.specs.Sessions.{release, passed_if, passes, send, is_callback, given_to, with_handler, answer_to, return_rights, finish, fail}
+use Rattle.sc_request.specs.Settling.{made_at, begun, reserves, awaits_if, sends, asks_of, creation, creates_with, creates, ends_service, ends, done, posts_unheld, may_ask, done_if, asked_in, settled}
 use Rattle.sc_request.specs.Sound.{IsHeldBelow, IsListedBelow, PassesBelow, placed_poster, IsPlaced, ArePlaced, AreServed, IsServed, awaits_placed, may_take_over, IsSoundHandler, IsSound}
 
 -- ---- rights

@@ -23,9 +23,11 @@ use Rattle.sc_model.specs.Handlers as machine
 use Rattle.sc_region.specs.declared.job.Job.{Job}
 use Rattle.sc_region.specs.declared.job.Job.TheVariants as job
 use Rattle.sc_region.specs.declared.job.Want.{Want}
-use Rattle.sc_request.specs.Handlers.{Posted, Answer, HandlerStage, Idle, Runs, Reserves, Awaits, State, put}
-use Rattle.sc_request.specs.Picking.{needs, job_reserving, job_for_entry, job_idle, job_answered, job_awaiting, job_at, job_with}
-use Rattle.sc_request.specs.Settling.{takes, made_at, fits_turns, may_take, may_ask, asked_in}
+use Rattle.sc_handler.specs.Handlers.{Posted, Answer, HandlerStage, Idle, Runs, Reserves, Awaits, State, put}
+use Rattle.sc_handler.specs.Picking.{needs, job_reserving, job_for_entry, job_idle, job_answered, job_awaiting, job_at, job_with}
+use Rattle.sc_handler.specs.Changes.{takes}
+use Rattle.sc_handler.specs.Fits.{fits_turns, may_take}
+use Rattle.sc_request.specs.Settling.{made_at, may_ask, asked_in}
 use Rattle.sc_request.specs.Asked.{Numbering, request_of, handlers_of, taken_of, asks_errand, asks_taking, asks_on}
 use Rattle.sc_request.specs.Halves.{posted_of, answer_of, IsStage, IsTop, IsHalfOf}
 use Rattle.sc_request.specs.Steps.{IsCalledFrom, StandsOnCall, HalvesStep}

@@ -27,9 +27,11 @@ use Rattle.sc_model.specs.Handlers as machine
 use Rattle.sc_model.specs.Answers as machine_answers
 use Rattle.sc_model.specs.Failures as machine_failures
 use Rattle.sc_region.specs.declared.job.Want.{Want}
-use Rattle.sc_request.specs.Handlers.{Posted, HandlerStage, Idle, Runs, Reserves, Awaits, Service, service, Handler, State, put}
-use Rattle.sc_request.specs.Sessions.{release, finish, to_list, requests_at, is_waited_by, told, fallen, fail}
-use Rattle.sc_request.specs.Settling.{serves, takes, takes_next, takes_callback, reserves, ends, may_take, may_ask, asked_in}
+use Rattle.sc_handler.specs.Handlers.{Posted, HandlerStage, Idle, Runs, Reserves, Awaits, Service, service, Handler, State, put}
+use Rattle.sc_handler.specs.Changes.{to_list, requests_at, is_waited_by, told, fallen, serves, takes, takes_next, takes_callback}
+use Rattle.sc_handler.specs.Fits.{may_take}
+use Rattle.sc_request.specs.Sessions.{release, finish, fail}
+use Rattle.sc_request.specs.Settling.{reserves, ends, may_ask, asked_in}
 use Rattle.sc_request.specs.Asked.{Numbering, value_of, handlers_of, asks_beginning, asks_bound, asks_entering, asks_done, asks_replying, asks_calling, asks_version, asks_errand}
 use Rattle.sc_request.specs.Halves.{posted_of, answer_of, IsStage, IsOrigin, AreServices, IsHandlerOf, IsHalfOf}
 use Rattle.sc_request.proofs.Kept.{ended, standing, waited, told_alike, fallen_alike, finish_alike}

@@ -7,9 +7,9 @@ use Rattle.sc_model.specs.Values.{Value}
 use Rattle.sc_model.specs.Exits.{handed_as}
 use Rattle.sc_model.specs.Handlers as machine
 use Rattle.sc_model.specs.Sessions as machine_sessions
-use Rattle.sc_request.specs.Handlers.{Runs, Service, Handler, State, put, with_stage}
+use Rattle.sc_handler.specs.Handlers.{Runs, Service, Handler, State, put, with_stage}
+use Rattle.sc_handler.specs.Changes.{takes_answer}
 use Rattle.sc_request.specs.Sessions.{reserve, release}
-use Rattle.sc_request.specs.Settling.{takes_answer}
 use Rattle.sc_request.specs.Asked.{Numbering}
 use Rattle.sc_request.specs.Halves.{IsStage, IsOrigin, AreServices, IsHandlerOf, IsHalfOf}
 use Rattle.sc_request.proofs.Kept.{put_alike, rights_alike, release_alike}

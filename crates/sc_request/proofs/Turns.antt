@@ -17,8 +17,8 @@ use Rattle.sc_model.specs.Entries.{opened_in}
 use Rattle.sc_model.specs.Handlers as machine
 use Rattle.sc_model.specs.Sessions as sessions
 use Rattle.sc_model.specs.Runs.{has_turn_with, goes}
-use Rattle.sc_request.specs.Handlers.{Posted, Answer, HandlerStage, Handler, State, has_frames, has_requests, standing_of, standing_in}
-use Rattle.sc_request.specs.Picking.{needs, job_reserving, job_for_entry, job_idle, job_awaiting, job_at, job_with}
+use Rattle.sc_handler.specs.Handlers.{Posted, Answer, HandlerStage, Handler, State, has_frames, has_requests, standing_of, standing_in}
+use Rattle.sc_handler.specs.Picking.{needs, job_reserving, job_for_entry, job_idle, job_awaiting, job_at, job_with}
 use Rattle.sc_request.specs.Asked.{Numbering, handlers_of}
 use Rattle.sc_request.specs.Halves.{posted_of, answer_of, IsStage, IsTop, IsHandlerOf, IsHalfOf}
 use Rattle.sc_request.specs.Laws.{PicksWhereTurns}

@@ -16,7 +16,7 @@ use Rattle.sc_model.specs.Entries.{stage_with, entry, opened_in}
 use Rattle.sc_model.specs.Exits as exits
 use Rattle.sc_model.specs.Handlers as machine
 use Rattle.sc_region.specs.declared.job.Want.TheVariants as want
-use Rattle.sc_request.specs.Handlers.{Runs, HasMade, Reserves, Handler, State}
+use Rattle.sc_handler.specs.Handlers.{Runs, HasMade, Reserves, Handler, State}
 use Rattle.sc_request.specs.Settling.{may_ask, asked_in}
 use Rattle.sc_request.specs.Asked.{Numbering, handlers_of, asks_beginning, asks_bound, asks_entering, asks_leaving}
 use Rattle.sc_request.specs.Halves.{IsStage, IsTop, IsOrigin, AreServices, IsHandlerOf, IsHalfOf}

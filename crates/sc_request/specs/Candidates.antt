@@ -6,12 +6,11 @@ use Rattle.sc_lockpass.specs.Tables.{is_member}
 use Rattle.sc_region.specs.declared.job.Job.{Job}
 use Rattle.sc_region.specs.declared.job.Job.TheVariants as job
 use Rattle.sc_region.specs.declared.job.Want.{Want}
-use Rattle.sc_region.specs.declared.job.Want.TheVariants.{Continue, Reserve, Post, Ask, Create, Release, Wait, Done, Fail}
-use Rattle.sc_request.specs.declared.handler.HandlerStage as coded_stage
-use Rattle.sc_request.specs.declared.handler.HandlerStage.TheVariants as stage
-use Rattle.sc_request.specs.declared.handler.Handler as coded
-use Rattle.sc_request.specs.Handlers.{Posted, HandlerStage, Idle, Runs, HasMade, Reserves, Awaits, Service, Handler, State}
-use Rattle.sc_request.specs.Sessions.{to_list}
+use Rattle.sc_region.specs.declared.job.Want.TheVariants.{Post, Ask, Create, Done}
+use Rattle.sc_handler.specs.declared.handler.Handler as coded
+use Rattle.sc_handler.specs.Handlers.{Posted, Service, Handler, State, is_reserving}
+use Rattle.sc_handler.specs.Changes.{to_list}
+use Rattle.sc_handler.specs.Freeing.{frees_under}
 use Rattle.sc_request.specs.Settling.{settled}
 use Rattle.sc_request.specs.Tables.{out_at}
 use Rattle.sc_request.specs.Logs.{Center, next, pick_for}
@@ -35,24 +34,9 @@ pub record IsFirstIn (words : List ℕ) (from to k : ℕ) : Type 0 where
 abbrev pub AreCandidates : List ℕ → Center → Type 0
 AreCandidates words c = (k : ℕ) → is_some (pick_for k c) ≡ true → is_member words k ≡ true
 
--- its next step is a reserve step
-abbrev pub is_reserving : HandlerStage → Bool
-is_reserving Idle = false
-is_reserving Runs = false
-is_reserving (HasMade k) = false
-is_reserving (Reserves ks mark) = true
-is_reserving (Awaits k is_creation) = false
-
 -- Each handler whose next step is a reserve step is in the set.
 abbrev pub AreReserving : List ℕ → (ℕ → Handler) → Type 0
 AreReserving words xs = (k : ℕ) → is_reserving (xs k).stage ≡ true → is_member words k ≡ true
-
-abbrev pub reserves_at : coded_stage.HandlerStage → Bool
-reserves_at stage.Idle = false
-reserves_at stage.Runs = false
-reserves_at (stage.HasMade k) = false
-reserves_at stage.Reserves = true
-reserves_at (stage.Awaits k is_creation) = false
 
 abbrev pub entry_below : ℕ → coded.Handler → Bool
 entry_below count x = list_all (λ k. nat_lt k count) x.entry.items
@@ -108,32 +92,6 @@ touches h (Ask r passing) s k = k == r.target.handler
 touches h (Create class procedure actuals passing) s k = k == s.count
 touches h (Done v ks refused) s k = may_hear_from (s.handlers h) k
 touches h w s k = false
-
--- under this job rights may change, or sessions end
-abbrev pub frees_under : Job → Bool
-frees_under (job.Take r) = false
-frees_under (job.Reply v) = false
-frees_under job.Failed = false
-frees_under job.Refused = false
-frees_under (job.Granted ks) = true
-frees_under (job.Made k) = true
-frees_under job.Go = false
-
--- by what this asks rights may change, or sessions end, or a handler becomes idle
-abbrev pub frees_by : Want → Bool
-frees_by Continue = false
-frees_by (Reserve ks) = false
-frees_by (Post r) = false
-frees_by (Ask r passing) = passing
-frees_by (Create class procedure actuals passing) = true
-frees_by (Release ks) = true
-frees_by (Wait ks) = true
-frees_by (Done v ks refused) = true
-frees_by (Fail why) = false
-
--- The settlement may free what another handler waits to reserve, unless the settled handler fails.
-abbrev pub frees : Job → Want → Bool
-frees j w = frees_under j || frees_by w
 
 -- Beside the handler that is out with the job no other one has anything to do, and the job frees nothing. So as long as
 -- its turns ask nothing, it is the next one again.

@@ -1,12 +1,12 @@
 -- What a core in memory stands for.
 use Rattle.std.specs.Prelude.{List}
+use Rattle.sc_handler.specs.declared.settlement.Settlement.{Settlement}
+use Rattle.sc_handler.specs.Handlers.{State}
+use Rattle.sc_handler.specs.Logged.{settlements_of}
+use Rattle.sc_request.specs.Tables.{center}
 use Rattle.sc_request.specs.declared.center.Core as coded
-use Rattle.sc_request.specs.declared.settlement.Settlement.{Settlement}
-use Rattle.sc_request.specs.Handlers.{State}
-use Rattle.sc_request.specs.Logged.{settlements_of}
 use Rattle.sc_request.specs.Logs.{Center}
 use Rattle.sc_request.specs.Tables as tables
-use Rattle.sc_request.specs.Tables.{center}
 
 abbrev pub state_of : coded.Core → State
 state_of c = tables.state_of c.state.count c.state.handlers.items c.state.sessions.items c.state.rights

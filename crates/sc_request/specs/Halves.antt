@@ -5,7 +5,7 @@ use Rattle.std.specs.Option.{option_map}
 use Rattle.sc_model.specs.Environments.{separate_formals}
 use Rattle.sc_model.specs.Handlers as machine
 use Rattle.sc_model.specs.Entries.{opened_in}
-use Rattle.sc_request.specs.Handlers.{Posted, posted, Answer, Replied, SupplierFailed, Refused, HandlerStage, Idle, Runs, HasMade, Reserves, Awaits, Service, Handler, State}
+use Rattle.sc_handler.specs.Handlers.{Posted, posted, Answer, Replied, SupplierFailed, Refused, HandlerStage, Idle, Runs, HasMade, Reserves, Awaits, Service, Handler, State}
 use Rattle.sc_request.specs.Asked.{Numbering, value_of, request_of, handlers_of}
 
 abbrev pub posted_of : Numbering → machine.Request → Posted

@@ -1,10 +1,10 @@
 -- What is kept of handlers, and of who holds them.
 use Rattle.std.specs.Prelude.{◌≡◌, ◌≤◌, ℕ, List, Option, Some, None, slice_get}
 use Rattle.sc_lockpass.specs.Rights.{Rights}
-use Rattle.sc_request.specs.declared.handler.Handler as coded
-use Rattle.sc_request.specs.declared.kept_core.Holders.{Holders}
-use Rattle.sc_request.specs.Handlers.{new_handler}
+use Rattle.sc_handler.specs.declared.handler.Handler as coded
+use Rattle.sc_handler.specs.Handlers.{new_handler}
 use Rattle.sc_request.specs.Tables.{handler_at}
+use Rattle.sc_request.specs.declared.kept_core.Holders.{Holders}
 
 abbrev pub nobody : Holders
 nobody = record { queue = None; top = None }

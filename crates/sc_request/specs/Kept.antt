@@ -1,8 +1,8 @@
 -- What is kept of a core.
-use Rattle.sc_request.specs.declared.kept_core.KeptCore as coded
-use Rattle.sc_request.specs.Handlers.{State}
-use Rattle.sc_request.specs.Keeping.{rights_in}
+use Rattle.sc_handler.specs.Handlers.{State}
 use Rattle.sc_request.specs.Tables.{handler_at}
+use Rattle.sc_request.specs.declared.kept_core.KeptCore as coded
+use Rattle.sc_request.specs.Keeping.{rights_in}
 
 -- the state of a core that is kept, in which all handlers past those that are kept are new
 abbrev pub kept_of : coded.KeptCore → State

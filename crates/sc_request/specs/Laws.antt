@@ -6,8 +6,8 @@ use Rattle.sc_class.specs.ClassNames.{Root, number_of}
 use Rattle.sc_model.specs.Handlers as machine
 use Rattle.sc_model.specs.Runs as runs
 use Rattle.sc_model.specs.Runs.{has_turn, root_request}
-use Rattle.sc_request.specs.Handlers.{State}
-use Rattle.sc_request.specs.Picking.{job_of}
+use Rattle.sc_handler.specs.Handlers.{State}
+use Rattle.sc_handler.specs.Picking.{job_of}
 use Rattle.sc_request.specs.Asked.{Numbering, request_of}
 use Rattle.sc_request.specs.Halves.{IsHalfOf}
 use Rattle.sc_request.specs.Logs.{opening}

@@ -1,5 +1,3 @@
-pub mod Handlers
-pub mod Picking
 pub mod Sessions
 pub mod Settling
 pub mod Asked
@@ -7,16 +5,12 @@ pub mod Halves
 pub mod Logs
 pub mod Laws
 pub mod Tables
-pub mod Shapes
 pub mod Sound
 pub mod Places
 pub mod Cores
 pub mod Steps
 pub mod Candidates
 pub mod Rooms
-pub mod Packed
-pub mod Entries
-pub mod Logged
 pub mod Same
 pub mod Keeping
 pub mod Kept

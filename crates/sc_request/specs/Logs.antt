@@ -7,9 +7,9 @@ use Rattle.sc_region.specs.declared.job.Errand.TheVariants.{Makes}
 use Rattle.sc_region.specs.declared.job.Job.{Job}
 use Rattle.sc_region.specs.declared.job.Job.TheVariants as job
 use Rattle.sc_region.specs.declared.job.Want.{Want}
-use Rattle.sc_request.specs.declared.settlement.Settlement.{Settlement}
-use Rattle.sc_request.specs.Handlers.{posted, State, new_handler}
-use Rattle.sc_request.specs.Picking.{job_of, status_with}
+use Rattle.sc_handler.specs.declared.settlement.Settlement.{Settlement}
+use Rattle.sc_handler.specs.Handlers.{posted, State, new_handler}
+use Rattle.sc_handler.specs.Picking.{job_of, status_with}
 use Rattle.sc_request.specs.Settling.{settled}
 
 -- ---- settlements

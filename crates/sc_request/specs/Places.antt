@@ -1,14 +1,13 @@
 -- What the tables that settlements change stand for.
-use Rattle.std.specs.Prelude.{ℕ, Bool, true, false, List, [], ◌∷◌, Option, Some, None}
+use Rattle.std.specs.Prelude.{ℕ, List, Option, Some, None}
 use Rattle.std.specs.List.{list_any}
 use Rattle.sc_lockpass.specs.Rights.{is_handler, release_all}
 use Rattle.sc_region.specs.declared.job.Job.{Job}
-use Rattle.sc_request.specs.declared.state.State as coded
-use Rattle.sc_request.specs.Handlers.{Posted, HandlerStage, Idle, Runs, HasMade, Reserves, Awaits, Service, Handler, State}
-use Rattle.sc_request.specs.Sessions.{is_waited_by, session_ended, told}
-use Rattle.sc_request.specs.Settling.{counted_refusal}
-use Rattle.sc_request.specs.Logs.{Center}
+use Rattle.sc_handler.specs.Handlers.{Posted, HandlerStage, Idle, Runs, HasMade, Reserves, Awaits, State}
+use Rattle.sc_handler.specs.Changes.{is_waited_by, session_ended, told}
 use Rattle.sc_request.specs.Tables.{center, state_of, out_at}
+use Rattle.sc_request.specs.declared.state.State as coded
+use Rattle.sc_request.specs.Logs.{Center}
 
 abbrev pub plain : coded.State → State
 plain s = state_of s.count s.handlers.items s.sessions.items s.rights
@@ -42,17 +41,3 @@ lets_go h s =
 -- those that wait for the answer to one of these hear that their supplier has failed
 abbrev pub tells : List Posted → State → State
 tells ps s = record s { handlers = λ k. told (list_any (is_waited_by k) ps) (s.handlers k) }
-
-abbrev pub first_of : List Service → Option Service
-first_of [] = None
-first_of (e ∷ es) = Some e
-
-abbrev pub counted_if : Bool → Bool → Handler → Handler
-counted_if false is_waited x = x
-counted_if true is_waited x = counted_refusal is_waited x
-
--- the handler after the request that it served last
-abbrev pub without_first : Bool → List Service → Handler → Handler
-without_first refused [] x = x
-without_first refused (e ∷ es) x =
-    counted_if refused e.posted.request.is_waited (record x { stage = e.over; services = es })

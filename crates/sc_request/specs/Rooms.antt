@@ -2,8 +2,8 @@
 use Rattle.std.specs.Prelude.{◌≡◌, ◌≤◌, ◌+◌, ◌*◌, ℕ, Bool, true, false, Result, Ok, Err, length, vec_len, vec_capacity}
 use Rattle.sc_region.specs.declared.job.Job.{Job}
 use Rattle.sc_region.specs.declared.job.Want.{Want}
+use Rattle.sc_handler.specs.declared.settlement.Settlement.{Settlement}
 use Rattle.sc_request.specs.declared.center.Core as coded
-use Rattle.sc_request.specs.declared.settlement.Settlement.{Settlement}
 use Rattle.sc_request.specs.declared.settlement.SettleFault.{SettleFault}
 use Rattle.sc_request.specs.declared.settlement.SettleFault.TheVariants.{NotOut, OutOfMemory}
 

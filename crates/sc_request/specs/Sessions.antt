@@ -1,5 +1,5 @@
 -- What a settlement does to other handlers: sessions end, answers come, requests are sent, and a failure is told.
-use Rattle.std.specs.Prelude.{ℕ, ◌+◌, Bool, true, false, ◌&&◌, List, [], ◌∷◌, ◌++◌, Option, Some, None, map, ◌==◌, if◌then◌else◌}
+use Rattle.std.specs.Prelude.{ℕ, ◌+◌, Bool, true, false, ◌&&◌, List, Option, Some, None, ◌==◌, if◌then◌else◌}
 use Rattle.std.specs.List.{list_any}
 use Rattle.sc_lockpass.specs.Rights as rights
 use Rattle.sc_lockpass.specs.Rights.{Rights, is_among, is_handler, release_all}
@@ -8,17 +8,14 @@ use Rattle.sc_waitcond.specs.Reservations.{ends_session}
 use Rattle.sc_waitcond.specs.declared.session.Release.{Release}
 use Rattle.sc_waitcond.specs.declared.session.Release.TheVariants as release_at
 use Rattle.sc_model.specs.declared.cause.Cause.{Cause}
-use Rattle.sc_request.specs.Handlers.{Posted, Answer, Replied, SupplierFailed, Refused, Idle, Service, Handler, State, new_handler, put}
+use Rattle.sc_handler.specs.Handlers.{Posted, Answer, State, new_handler, put}
+use Rattle.sc_handler.specs.Changes.{session_ended, placed, answered, requests_at, is_waited_by, told, fallen}
 
 -- ---- reserving and releasing
 
 -- the handler may post to all of these
 abbrev pub reserve : ℕ → List ℕ → State → State
 reserve h ks s = record s { rights = rights.reserve h ks s.rights }
-
-abbrev pub session_ended : Bool → Handler → Handler
-session_ended false x = x
-session_ended true x = record x { sessions = x.sessions + 1 }
 
 -- these are released so, which ends a session of each, or none
 abbrev pub release : Release → List ℕ → State → State
@@ -36,11 +33,6 @@ passed_if true h r = Some (passed_by h r)
 abbrev pub passes : Bool → ℕ → ℕ → State → State
 passes false h k s = s
 passes true h k s = record s { rights = pass h k s.rights }
-
--- the request stands as the callback, or at the queue's end
-abbrev pub placed : Bool → Posted → Handler → Handler
-placed true p x = record x { callback = Some p }
-placed false p x = record x { queue = x.queue ++ p ∷ [] }
 
 abbrev pub send : Bool → ℕ → Posted → State → State
 send is_callback k p s = put k (placed is_callback p (s.handlers k)) s
@@ -62,19 +54,6 @@ with_handler k h s = record s {
 
 -- ---- answers
 
--- A handler that has failed takes no answer, and one that has an answer keeps it; but that a supplier has failed it
--- always hears.
-abbrev pub heard : Answer → Option Cause → Option Answer → Option Answer
-heard a (Some why) old = old
-heard SupplierFailed None old = Some SupplierFailed
-heard (Replied v) None None = Some (Replied v)
-heard (Replied v) None (Some old) = Some old
-heard Refused None None = Some Refused
-heard Refused None (Some old) = Some old
-
-abbrev pub answered : Answer → Handler → Handler
-answered a x = record x { answer = heard a x.failure x.answer }
-
 abbrev pub answer_to : Bool → Option ℕ → Answer → State → State
 answer_to true (Some p) a s = put p (answered a (s.handlers p)) s
 answer_to is_waited poster a s = s
@@ -88,26 +67,6 @@ abbrev pub finish : Posted → Answer → State → State
 finish p a s = answer_to p.request.is_waited p.request.poster a (return_rights p.passed s)
 
 -- ---- failures
-
-abbrev pub to_list : Option Posted → List Posted
-to_list None = []
-to_list (Some p) = p ∷ []
-
--- those that the handler has in its queue, as its callback, or serves
-abbrev pub requests_at : Handler → List Posted
-requests_at x = x.queue ++ to_list x.callback ++ map (λ (v : Service). v.posted) x.services
-
--- the handler waits for the answer to the request
-abbrev pub is_waited_by : ℕ → Posted → Bool
-is_waited_by h p = p.request.is_waited && is_handler h p.request.poster
-
-abbrev pub told : Bool → Handler → Handler
-told false x = x
-told true x = answered SupplierFailed x
-
-abbrev pub fallen : Cause → Handler → Handler
-fallen why x =
-    record x { stage = Idle; services = []; entry = []; queue = []; callback = None; answer = None; failure = Some why }
 
 -- The handler fails. It releases every right that it holds, and each handler that waits for it is told.
 abbrev pub fail : ℕ → Cause → State → State

@@ -1,5 +1,5 @@
 -- What a settlement comes to: the core's half of what a turn does.
-use Rattle.std.specs.Prelude.{ℕ, zero, suc, ◌+◌, Bool, true, false, not, ◌&&◌, ◌||◌, List, [], ◌∷◌, Option, Some, None, is_some, length, nat_lt, ◌==◌, if◌then◌else◌}
+use Rattle.std.specs.Prelude.{ℕ, ◌+◌, Bool, true, false, not, ◌&&◌, ◌||◌, List, [], ◌∷◌, Option, Some, None, is_some, length, nat_lt, ◌==◌, if◌then◌else◌}
 use Rattle.std.specs.List.{list_all}
 use Rattle.arrayvec.specs.ArrayVec.{ArrayVec}
 use Rattle.sc_lockpass.specs.Rights.{is_handler, held}
@@ -8,38 +8,18 @@ use Rattle.sc_waitcond.specs.declared.session.Release.TheVariants as release_at
 use Rattle.sc_model.specs.declared.cause.Cause.TheVariants as cause
 use Rattle.sc_model.specs.Limits.{max_queue}
 use Rattle.sc_region.specs.declared.value.Value.{Value}
-use Rattle.sc_region.specs.declared.job.Errand.{Errand}
-use Rattle.sc_region.specs.declared.job.Errand.TheVariants.{Calls, Makes}
+use Rattle.sc_region.specs.declared.job.Errand.TheVariants.{Makes}
 use Rattle.sc_region.specs.declared.job.Request.{Request}
 use Rattle.sc_region.specs.declared.job.Job.{Job}
 use Rattle.sc_region.specs.declared.job.Job.TheVariants as job
 use Rattle.sc_region.specs.declared.job.Want.{Want}
 use Rattle.sc_region.specs.declared.job.Want.TheVariants.{Continue, Reserve, Post, Ask, Create, Release, Wait, Done, Fail}
-use Rattle.sc_request.specs.Handlers.{Posted, posted, Replied, Refused, HandlerStage, Idle, Runs, HasMade, Reserves, Awaits, Service, service, Handler, State, put, with_stage}
+use Rattle.sc_handler.specs.Handlers.{posted, Replied, Refused, HandlerStage, Runs, HasMade, Reserves, Awaits, Service, Handler, State, put, with_stage}
+use Rattle.sc_handler.specs.Changes.{takes, takes_answer, counted_refusal}
+use Rattle.sc_handler.specs.Fits.{is_request_of, fits_turns}
 use Rattle.sc_request.specs.Sessions.{reserve, release, passed_if, passes, send, is_callback, with_handler, finish, fail}
 
 -- ---- the job begins
-
--- the request is served from now on
-abbrev pub serves : Posted → Handler → Handler
-serves p x = record x { services = service p x.stage ∷ x.services; stage = Runs }
-
-abbrev pub takes_next : List Posted → Handler → Handler
-takes_next [] x = x
-takes_next (p ∷ ps) x = serves p (record x { queue = ps })
-
-abbrev pub takes_callback : Option Posted → Handler → Handler
-takes_callback None x = x
-takes_callback (Some p) x = serves p (record x { callback = None })
-
--- the next of its queue, or its callback
-abbrev pub takes : HandlerStage → Handler → Handler
-takes Idle x = takes_next x.queue x
-takes (Awaits k is_creation) x = takes_callback x.callback x
-takes stage x = x
-
-abbrev pub takes_answer : Handler → Handler
-takes_answer x = record x { stage = Runs; answer = None }
 
 -- With the answer to a creation its creator releases the new handler. Else it goes on with that.
 abbrev pub made_at : ℕ → HandlerStage → State → State
@@ -112,10 +92,6 @@ creates most h class procedure actuals passing s =
     then creates_with passing h s.count (creation h s.count class procedure actuals passing) (with_handler s.count h s)
     else fail h cause.TooManyHandlers s
 
-abbrev pub counted_refusal : Bool → Handler → Handler
-counted_refusal true x = x
-counted_refusal false x = record x { refused = x.refused + 1 }
-
 -- The request ends, with a value or none, or refused; what its entry newly reserved is released.
 abbrev pub ends_service : Bool → ℕ → Option Value → List ℕ → Service → Handler → State → State
 ends_service false h v ks e x s = finish e.posted (Replied v) (release release_at.Exit ks (put h x s))
@@ -139,21 +115,13 @@ done most h (Wait ks) s = waits_again h ks.items s
 done most h (Done v ks refused) s = ends h v ks.items refused (s.handlers h).services s
 done most h (Fail why) s = fail h why s
 
--- ---- what fits
+-- ---- what a turn may ask
 
 -- It sends a request to a handler that it doesn't hold.
 abbrev pub posts_unheld : ℕ → Want → State → Bool
 posts_unheld h (Post r) s = not (held s.rights h r.target.handler)
 posts_unheld h (Ask r passing) s = not (held s.rights h r.target.handler)
 posts_unheld h w s = false
-
-abbrev pub is_call : Errand → Bool
-is_call (Calls x) = true
-is_call (Makes k) = false
-
--- a call on an object of another handler, in the handler's own name
-abbrev pub is_request_of : ℕ → Request → Bool
-is_request_of h r = is_handler h r.poster && is_call r.errand && not (r.target.handler == h)
 
 -- all of these are the handler's
 abbrev pub may_post_to_all : ℕ → List ℕ → State → Bool
@@ -171,59 +139,6 @@ may_ask h (Release ks) s = may_post_to_all h ks.items s
 may_ask h (Wait ks) s = may_post_to_all h ks.items s
 may_ask h (Done v ks refused) s = may_post_to_all h ks.items s
 may_ask h w s = true
-
-abbrev pub is_none_of : List ℕ → Bool
-is_none_of [] = true
-is_none_of (k ∷ ks) = false
-
--- the turn that takes a request may begin a routine, or be done with the request
-abbrev pub may_take : Want → Bool
-may_take Continue = true
-may_take (Reserve ks) = true
-may_take (Done v ks refused) = not refused && is_none_of ks.items
-may_take (Fail why) = true
-may_take w = false
-
--- the turn that takes an answer or reserves does no more
-abbrev pub may_take_answer : Want → Bool
-may_take_answer Continue = true
-may_take_answer (Fail why) = true
-may_take_answer w = false
-
-abbrev pub fails_by_supplier : Want → Bool
-fails_by_supplier (Fail cause.SupplierFailed) = true
-fails_by_supplier w = false
-
-abbrev pub fails_by_precondition : Want → Bool
-fails_by_precondition (Fail cause.Precondition) = true
-fails_by_precondition w = false
-
--- The handler's first turn under the job may ask this, where it stood so.
-abbrev pub fits_first : HandlerStage → Job → Want → Bool
-fits_first stage (job.Take r) w = may_take w
-fits_first stage (job.Reply v) w = may_take_answer w
-fits_first stage job.Failed w = fails_by_supplier w
-fits_first stage job.Refused w = fails_by_precondition w
-fits_first stage (job.Granted ks) w = may_take_answer w
-fits_first (Awaits k is_creation) (job.Made j) w = may_take_answer w
-fits_first stage (job.Made j) w = true
-fits_first stage job.Go w = true
-
--- A further turn may come under it.
-abbrev pub goes_on : Job → Bool
-goes_on (job.Take r) = true
-goes_on (job.Reply v) = true
-goes_on job.Failed = false
-goes_on job.Refused = false
-goes_on (job.Granted ks) = true
-goes_on (job.Made k) = true
-goes_on job.Go = true
-
--- the last of so many turns
-abbrev pub fits_turns : ℕ → HandlerStage → Job → Want → Bool
-fits_turns zero stage j w = false
-fits_turns (suc zero) stage j w = fits_first stage j w
-fits_turns (suc (suc n)) stage j w = goes_on j
 
 -- ---- settlements
 

@@ -10,8 +10,8 @@ use Rattle.sc_model.specs.Turns.{turn}
 use Rattle.sc_region.specs.declared.job.Job.{Job}
 use Rattle.sc_region.specs.declared.job.Want.{Want}
 use Rattle.sc_region.specs.declared.job.Want.TheVariants.{Wait}
-use Rattle.sc_request.specs.Handlers.{State}
-use Rattle.sc_request.specs.Picking.{job_of}
+use Rattle.sc_handler.specs.Handlers.{State}
+use Rattle.sc_handler.specs.Picking.{job_of}
 use Rattle.sc_request.specs.Settling.{begun, may_ask, settled}
 use Rattle.sc_request.specs.Asked.{Numbering, asked, handlers_of}
 use Rattle.sc_request.specs.Halves.{IsHalfOf}

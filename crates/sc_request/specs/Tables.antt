@@ -1,113 +1,12 @@
 -- How the state of the core lies in memory.
-use Rattle.std.specs.Prelude.{ℕ, ◌+◌, Bool, List, [], ◌∷◌, Option, Some, None, is_some, map, slice_get, slice_index, if◌then◌else◌}
-use Rattle.std.specs.Option.{option_map, option_and_then}
-use Rattle.sc_lockpass.specs.Tables.{Listing, Table, rights_of, passed_of}
-use Rattle.sc_waitcond.specs.declared.mark.Marked.{Marked}
+use Rattle.std.specs.Prelude.{ℕ, ◌+◌, List, [], ◌∷◌, Option, Some, None, is_some, slice_get, slice_index, if◌then◌else◌}
+use Rattle.std.specs.Option.{option_and_then}
+use Rattle.sc_lockpass.specs.Tables.{Table, rights_of}
 use Rattle.sc_region.specs.declared.job.Job.{Job}
-use Rattle.sc_region.specs.declared.job.Request.{Request}
-use Rattle.sc_request.specs.declared.handler.Answer as coded_answer
-use Rattle.sc_request.specs.declared.handler.Answer.TheVariants as answer
-use Rattle.sc_request.specs.declared.handler.HandlerStage as coded_stage
-use Rattle.sc_request.specs.declared.handler.HandlerStage.TheVariants as stage
-use Rattle.sc_request.specs.declared.handler.Posting.{Posting}
-use Rattle.sc_request.specs.declared.handler.Handler as coded
-use Rattle.sc_request.specs.Handlers.{Posted, posted, Answer, Replied, SupplierFailed, Refused, HandlerStage, Idle, Runs, HasMade, Reserves, Awaits, Service, service, Handler, State, new_handler}
+use Rattle.sc_handler.specs.declared.handler.Handler as coded
+use Rattle.sc_handler.specs.Handlers.{Handler, State, new_handler}
+use Rattle.sc_handler.specs.InMemory.{handler_of}
 use Rattle.sc_request.specs.Logs.{Center}
-
--- ---- a handler
-
-abbrev pub answer_of : coded_answer.Answer → Answer
-answer_of (answer.Replied v) = Replied v
-answer_of answer.SupplierFailed = SupplierFailed
-answer_of answer.Refused = Refused
-
-abbrev pub answers_of : Option coded_answer.Answer → Option Answer
-answers_of a = option_map answer_of a
-
--- the stage, of a handler with this entry and this mark
-abbrev pub stage_of : List ℕ → List Marked → coded_stage.HandlerStage → HandlerStage
-stage_of entry mark stage.Idle = Idle
-stage_of entry mark stage.Runs = Runs
-stage_of entry mark (stage.HasMade k) = HasMade k
-stage_of entry mark stage.Reserves = Reserves entry mark
-stage_of entry mark (stage.Awaits k is_creation) = Awaits k is_creation
-
--- the request as it is sent, which is waited for or not
-abbrev pub sent : Request → Bool → Option Listing → Posting
-sent r is_waited passed = record { request = record r { is_waited = is_waited }; passed = passed; over = stage.Idle }
-
-abbrev pub posting_of : Posting → Posted
-posting_of p = posted p.request (option_map passed_of p.passed)
-
-abbrev pub service_of : Posting → Service
-service_of p = service (posting_of p) (stage_of [] [] p.over)
-
--- the only one of a list, if there is one
-abbrev pub first_posted : List Posting → Option Posted
-first_posted [] = None
-first_posted (p ∷ ps) = Some (posting_of p)
-
--- the handler, no session of which has ended
-abbrev pub handler_of : coded.Handler → Handler
-handler_of x = record {
-  stage = stage_of x.entry.items x.mark x.stage;
-  services = map service_of x.services;
-  entry = x.entry.items;
-  queue = map posting_of x.queue;
-  callback = first_posted x.callback;
-  answer = answers_of x.answer;
-  failure = x.failure;
-  sessions = 0;
-  refused = x.refused;
-}
-
--- the handler, so many sessions of which have ended
-abbrev pub handler_with : ℕ → coded.Handler → Handler
-handler_with n x = record (handler_of x) { sessions = n }
-
--- the first one was taken over this stage
-abbrev pub over_first : coded_stage.HandlerStage → List Posting → List Posting
-over_first over [] = []
-over_first over (p ∷ ps) = record p { over = over } ∷ ps
-
--- the requests are served from now on, over the present stage
-abbrev pub served : List Posting → coded.Handler → coded.Handler
-served [] x = x
-served (p ∷ ps) x = record x { services = record p { over = x.stage } ∷ x.services; stage = stage.Runs }
-
--- the handler with no frames, and nothing that it is asked for
-abbrev pub cleared : coded.Handler → coded.Handler
-cleared x =
-    record x {
-      stage = stage.Idle;
-      entry = record { items = [] };
-      mark = [];
-      services = [];
-      queue = [];
-      callback = [];
-      answer = None;
-    }
-
--- a handler that nobody has asked for anything
-abbrev pub fresh : coded.Handler
-fresh = record {
-  stage = stage.Idle;
-  entry = record { items = [] };
-  mark = [];
-  services = [];
-  queue = [];
-  callback = [];
-  answer = None;
-  failure = None;
-  refused = 0;
-  out = None;
-}
-
--- one that is asked for this alone
-abbrev pub asked : Request → coded.Handler
-asked r = record fresh { queue = record { request = r; passed = None; over = stage.Idle } ∷ [] }
-
--- ---- all of them
 
 abbrev pub handler_in : Option coded.Handler → Handler
 handler_in None = new_handler

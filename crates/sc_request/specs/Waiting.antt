@@ -3,8 +3,8 @@ use Rattle.std.specs.Prelude.{ℕ, Bool, false, not, List, [], ◌∷◌, Option
 use Rattle.sc_lockpass.specs.Rights.{Rights}
 use Rattle.sc_waitcond.specs.Reservations.{mark_allows}
 use Rattle.sc_region.specs.declared.job.Request.{Request}
-use Rattle.sc_request.specs.Handlers.{Posted, HandlerStage, Idle, Runs, HasMade, Reserves, Awaits}
-use Rattle.sc_request.specs.Picking.{needs}
+use Rattle.sc_handler.specs.Handlers.{Posted, HandlerStage, Idle, Runs, HasMade, Reserves, Awaits}
+use Rattle.sc_handler.specs.Picking.{needs}
 
 -- of the handlers that its next step reserves, those that it doesn't hold
 abbrev pub needed_at : ℕ → Rights → HandlerStage → List ℕ

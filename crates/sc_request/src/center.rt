@@ -1,17 +1,17 @@
 //! The core.
 ghost use Rattle.std.specs.Prelude.{◌≡◌, ◌≤◌, ◌*◌, ◌∷◌, ℕ, IfOk, Some, replicate, vec_len};
 ghost use Rattle.sc_lockpass.specs.Versions.{most_handlers};
+ghost use Rattle.sc_handler.specs.InMemory.{asked, fresh};
 ghost use Rattle.sc_request.specs.Candidates.{AreCandidates, AreReserving, HasGrantsBelow, HasOutsBelow};
-ghost use Rattle.sc_request.specs.Logs.{root_of};
 ghost use Rattle.sc_request.specs.Places.{plain};
+ghost use Rattle.sc_request.specs.Tables.{out_total, center, handler_at};
+ghost use Rattle.sc_request.specs.Logs.{root_of};
 ghost use Rattle.sc_request.specs.Sound.{IsSound};
-ghost use Rattle.sc_request.specs.Tables.{out_total, asked, center, fresh, handler_at};
 
-use crate::handler::{Handler, HandlerStage, Posting};
 use crate::handler_set::HandlerSet;
-use crate::logged::Log;
 use crate::state::State;
 use arrayvec::ArrayVec;
+use sc_handler::{Handler, HandlerStage, Log, Posting};
 use sc_lockpass::{Rights, Version};
 use sc_model::Status;
 use sc_region::{Errand, Job, Reference, Request};
@@ -49,13 +49,12 @@ pub struct Core {
 }
 
 impl Core {
-    ghost use Rattle.std.specs.Prelude.{[]};
+    ghost use Rattle.std.specs.Prelude.{[], is_some, nat_lt, None, if◌then◌else◌};
     ghost use Rattle.sc_lockpass.specs.Rights as maps;
+    ghost use Rattle.sc_handler.specs.Logged.{settlements_of};
     ghost use Rattle.sc_request.specs.Logs.{opened};
     ghost use Rattle.sc_request.specs.Logs as logs;
-    ghost use Rattle.std.specs.Prelude.{is_some, nat_lt, None, if◌then◌else◌};
     ghost use Rattle.sc_request.specs.Cores.{state_of, center_of, log_of};
-    ghost use Rattle.sc_request.specs.Logged.{settlements_of};
 
     /// One handler, with the request for the creation of the root object: of this class, by the creation procedure of
     /// this number. There may be as many handlers as the version says.

@@ -2,16 +2,16 @@
 ghost use Rattle.std.specs.Prelude.{◌≡◌, ◌≤◌, ◌<◌, ◌-◌, ◌^◌, true, length, map, if◌then◌else◌};
 ghost use Rattle.std.specs.Option.{option_map};
 ghost use Rattle.sc_lockpass.specs.Tables.{passed_of};
-ghost use Rattle.sc_request.specs.Handlers.{Refused, Replied, put};
-ghost use Rattle.sc_request.specs.Places.{first_of, outs_of, plain, without_first};
+ghost use Rattle.sc_handler.specs.Handlers.{Refused, Replied, put};
+ghost use Rattle.sc_handler.specs.Changes.{first_of, without_first};
+ghost use Rattle.sc_handler.specs.InMemory.{answer_of, posting_of, service_of};
+ghost use Rattle.sc_request.specs.Places.{outs_of, plain};
 ghost use Rattle.sc_request.specs.Sessions.{finish, return_rights};
 ghost use Rattle.sc_request.specs.Settling.{ends, may_post_to_all};
 ghost use Rattle.sc_request.specs.Sound.{IsSound, placed_poster};
-ghost use Rattle.sc_request.specs.Tables.{answer_of, posting_of, service_of};
 
-use crate::handler::{Answer, Posting};
-use crate::postings::recycle;
 use crate::state::State;
+use sc_handler::{Answer, Posting, recycle};
 use sc_lockpass::Passed;
 use sc_model::Cause;
 use sc_region::Value;

@@ -2,14 +2,13 @@
 ghost use Rattle.std.specs.Prelude.{◌≡◌, ◌<◌, ◌+◌, ◌-◌, ◌^◌, ℕ, true, map, slice_index, vec_len, if◌then◌else◌};
 ghost use Rattle.sc_lockpass.specs.Rights.{is_handler};
 ghost use Rattle.sc_lockpass.specs.Tables.{rights_of};
+ghost use Rattle.sc_handler.specs.InMemory.{answer_of, posting_of};
 ghost use Rattle.sc_request.specs.Places.{lets_go, outs_of, plain, tells};
 ghost use Rattle.sc_request.specs.Sessions.{answer_to, fail};
 ghost use Rattle.sc_request.specs.Sound.{ArePlaced, IsHeldBelow, IsSound, placed_poster};
-ghost use Rattle.sc_request.specs.Tables.{answer_of, posting_of};
 
-use crate::changes::Dropped;
-use crate::handler::{Answer, Posting};
 use crate::state::State;
+use sc_handler::{Answer, Dropped, Posting};
 use sc_lockpass::Rights;
 use sc_model::Cause;
 use sc_region::Request;

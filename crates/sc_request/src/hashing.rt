@@ -1,8 +1,7 @@
 //! Numbers by which states of cores are told apart at a glance.
 
 use crate::center::Core;
-use crate::handler::{Answer, Handler, HandlerStage, Posting};
-use sc_region::{Errand, Reference, Request, Value};
+use sc_handler::{word_of, write_handler};
 use std::hash::{FoldHasher, Hasher};
 
 impl Core {
@@ -19,86 +18,4 @@ impl Core {
         }
         hasher.finish()
     }
-}
-
-fn write_handler(hasher: &mut FoldHasher, handler: &Handler) {
-    hasher.write_u64(stage_word(handler.stage));
-    for reserved in handler.entry.as_slice() {
-        hasher.write_u16(*reserved);
-    }
-    hasher.write_u64(answer_word(handler.answer));
-    hasher.write_u64(handler.refused);
-    hasher.write_u8(handler.failure.is_some() as u8);
-    for posting in handler.services.iter() {
-        write_posting(hasher, posting);
-    }
-    for posting in handler.queue.iter() {
-        write_posting(hasher, posting);
-    }
-    for posting in handler.callback.iter() {
-        write_posting(hasher, posting);
-    }
-}
-
-fn write_posting(hasher: &mut FoldHasher, posting: &Posting) {
-    hasher.write_u64(stage_word(posting.over));
-    write_request(hasher, &posting.request);
-}
-
-fn write_request(hasher: &mut FoldHasher, request: &Request) {
-    let errand = match request.errand {
-        Errand::Calls(feature) => feature as u64,
-        Errand::Makes(procedure) => 1 << 63 | procedure.unwrap_or(u32::MAX) as u64,
-    };
-    hasher.write_u64(errand);
-    hasher.write_u64(word_of(request.poster) | (request.is_waited as u64) << 32);
-    hasher.write_u64(reference_word(request.target));
-    for actual in request.actuals.as_slice() {
-        hasher.write_u64(value_word(*actual));
-    }
-}
-
-// ---- words
-
-fn word_of(handler: Option<u16>) -> u64 {
-    match handler {
-        Some(handler) => 1 << 16 | handler as u64,
-        None => 0,
-    }
-}
-
-fn stage_word(stage: HandlerStage) -> u64 {
-    match stage {
-        HandlerStage::Idle => 0,
-        HandlerStage::Runs => 1,
-        HandlerStage::HasMade(made) => 2 | (made as u64) << 8,
-        HandlerStage::Reserves => 3,
-        HandlerStage::Awaits {
-            supplier,
-            is_creation,
-        } => 4 | is_creation as u64 | (supplier as u64) << 8,
-    }
-}
-
-fn answer_word(answer: Option<Answer>) -> u64 {
-    match answer {
-        None => 0,
-        Some(Answer::Replied(None)) => 1,
-        Some(Answer::Replied(Some(value))) => value_word(value).rotate_left(8),
-        Some(Answer::SupplierFailed) => 2,
-        Some(Answer::Refused) => 3,
-    }
-}
-
-fn value_word(value: Value) -> u64 {
-    match value {
-        Value::Integer(integer) => integer.cast_unsigned(),
-        Value::Boolean(boolean) => 1 << 62 | boolean as u64,
-        Value::Void => 3 << 62,
-        Value::Attached(reference) => 1 << 63 | reference_word(reference),
-    }
-}
-
-fn reference_word(reference: Reference) -> u64 {
-    reference.number as u64 | (reference.handler as u64) << 32 | (reference.class as u64) << 48
 }

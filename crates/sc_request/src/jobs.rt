@@ -4,16 +4,16 @@ ghost use Rattle.std.specs.List.{list_all};
 ghost use Rattle.std.specs.Option.{option_map};
 ghost use Rattle.sc_lockpass.specs.Tables.{rights_of};
 ghost use Rattle.sc_waitcond.specs.Reservations.{is_lost, may_be_reserved, reserve_fails};
-ghost use Rattle.sc_request.specs.Candidates.{AreCandidates, is_reserving};
-ghost use Rattle.sc_request.specs.Handlers.{standing_in};
-ghost use Rattle.sc_request.specs.Logs.{first_with_job, next, numbers_from, pick_for};
-ghost use Rattle.sc_request.specs.Picking.{job_at, job_for_entry, needs};
+ghost use Rattle.sc_handler.specs.Handlers.{is_reserving, standing_in};
+ghost use Rattle.sc_handler.specs.Picking.{job_at, job_for_entry, needs};
+ghost use Rattle.sc_request.specs.Candidates.{AreCandidates};
 ghost use Rattle.sc_request.specs.Places.{center_at, plain};
+ghost use Rattle.sc_request.specs.Logs.{first_with_job, next, numbers_from, pick_for};
 
-use crate::handler::{Handler, HandlerStage};
 use crate::handler_set::HandlerSet;
 use crate::state::State;
 use arrayvec::ArrayVec;
+use sc_handler::{Handler, HandlerStage};
 use sc_region::Job;
 use sc_waitcond::Entry;
 

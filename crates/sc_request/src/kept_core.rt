@@ -1,14 +1,13 @@
 //! Cores that are kept, to be compared with others.
 ghost use Rattle.std.specs.Prelude.{◌≡◌, ◌≤◌, ◌↔◌, IfOk, IsTrue, slice_get, slice_index, vec_len};
 ghost use Rattle.sc_lockpass.specs.Tables.{rights_of};
+ghost use Rattle.sc_handler.specs.Handlers.{new_handler};
+ghost use Rattle.sc_request.specs.Tables.{handler_at, handler_in};
 ghost use Rattle.sc_request.specs.Cores.{state_of};
-ghost use Rattle.sc_request.specs.Handlers.{new_handler};
 ghost use Rattle.sc_request.specs.Keeping.{AreNewFrom, holders_in, rights_in};
-ghost use Rattle.sc_request.specs.Tables.{handler_at, handler_in, handler_of};
 
 use crate::center::Core;
-use crate::handler::{Handler, HandlerStage};
-use crate::same::same_handler;
+use sc_handler::{Handler, same_handler};
 use sc_lockpass::Rights;
 use std::alloc::{AllocError, Global};
 
@@ -128,20 +127,6 @@ fn is_new_at(handlers: &[Handler], sessions: &[u64], place: usize) -> bool
     same_at(handlers, sessions, &[], &[], place)
 }
 
-/// Whether nobody has asked the handler for anything yet.
-fn is_fresh(handler: &Handler) -> bool
-    ensures { IsTrue result ↔ handler_of handler.now ≡ new_handler }
-{
-    handler.stage == HandlerStage::Idle
-        && handler.entry.is_empty()
-        && handler.services.is_empty()
-        && handler.queue.is_empty()
-        && handler.callback.is_empty()
-        && handler.answer.is_none()
-        && handler.failure.is_none()
-        && handler.refused == 0
-}
-
 /// How many sessions of the handler at a place have ended.
 fn sessions_at(sessions: &[u64], place: usize) -> u64
     ensures { result ≡ slice_index sessions.now place }
@@ -189,8 +174,8 @@ fn same_or_new(handlers: &[Handler], others: &[Handler], place: usize) -> bool
 {
     match (handlers.get(place), others.get(place)) {
         (Some(handler), Some(other)) => same_handler(handler, other),
-        (Some(handler), None) => is_fresh(handler),
-        (None, Some(other)) => is_fresh(other),
+        (Some(handler), None) => handler.is_fresh(),
+        (None, Some(other)) => other.is_fresh(),
         (None, None) => true,
     }
 }

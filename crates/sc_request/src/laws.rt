@@ -1,9 +1,9 @@
 //! Laws of the core, each the contract of a function that does nothing.
 ghost use Rattle.std.specs.Prelude.{◌≡◌, ◌<◌, ℕ};
 ghost use Rattle.sc_request.specs.Candidates.{LeavesUntouched};
+ghost use Rattle.sc_request.specs.Same.{AreSameAt};
 ghost use Rattle.sc_request.specs.Cores.{center_of, state_of};
 ghost use Rattle.sc_request.specs.Laws.{OpensAsHalf, PicksWhereTurns};
-ghost use Rattle.sc_request.specs.Same.{AreSameAt};
 ghost use Rattle.sc_request.specs.Steps.{HalvesStep};
 
 use crate::center::Core;

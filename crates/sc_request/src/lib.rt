@@ -5,28 +5,20 @@
 //! the half of.
 #![tactic(auto)]
 
-mod agreement;
 mod begun;
 mod center;
-mod changes;
-mod copy;
 mod ending;
 mod failing;
 mod fits;
 mod grants;
-mod handler;
 mod handler_set;
 mod hashing;
-mod job_slot;
 mod jobs;
 mod kept_core;
 pub mod laws;
-mod logged;
 mod making;
-mod packed;
 mod picking;
 mod places;
-mod postings;
 mod rooms;
 mod same;
 mod sending;
@@ -39,7 +31,5 @@ mod touching;
 mod waiting;
 
 pub use center::Core;
-pub use job_slot::write_job;
 pub use kept_core::KeptCore;
-pub use logged::Log;
-pub use settlement::{SettleFault, Settlement};
+pub use settlement::SettleFault;

@@ -6,11 +6,10 @@ ghost use Rattle.sc_request.specs.Sessions.{with_handler};
 ghost use Rattle.sc_request.specs.Settling.{creates, creates_with, creation};
 ghost use Rattle.sc_request.specs.Sound.{IsSound};
 
-use crate::copy::copy_values;
-use crate::handler::{HandlerStage, Posting};
 use crate::sessions::give_new;
 use crate::state::State;
 use arrayvec::ArrayVec;
+use sc_handler::{HandlerStage, Posting, copy_values};
 use sc_model::Cause;
 use sc_region::{Errand, Reference, Request, Value};
 use std::collections::LinkedList;

@@ -1,13 +1,14 @@
 //! Who goes on: handlers are picked with their jobs, and put back.
 ghost use Rattle.std.specs.Prelude.{◌≡◌, ◌+◌, ◌<◌, ℕ, IfSome, IsTrue, false, is_some, not, true};
 ghost use Rattle.std.specs.Option.{option_map};
-ghost use Rattle.sc_request.specs.Candidates.{comes_again, frees_under};
+ghost use Rattle.sc_handler.specs.Freeing.{frees_under};
+ghost use Rattle.sc_request.specs.Candidates.{comes_again};
 ghost use Rattle.sc_request.specs.Logs.{next, picked_if, picks};
 ghost use Rattle.sc_request.specs.Logs as logs;
 
 use crate::center::Core;
 use crate::grants::{release_granted, reserve_granted};
-use crate::touching::frees_under;
+use sc_handler::frees_under;
 use sc_region::Job;
 
 impl Core {

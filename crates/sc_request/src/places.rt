@@ -1,17 +1,14 @@
 //! What settlements change of one handler, in its place.
 ghost use Rattle.std.specs.Prelude.{◌≡◌, ◌≤◌, ◌<◌, ◌+◌, ◌^◌, ◌∷◌, ℕ, [], length, map, false};
-ghost use Rattle.sc_request.specs.Candidates.{reserves_at};
-ghost use Rattle.sc_request.specs.Handlers.{Reserves, new_handler, put, with_stage};
+ghost use Rattle.sc_handler.specs.InMemory.{reserves_at, answer_of, posting_of, sent, stage_of};
+ghost use Rattle.sc_handler.specs.Handlers.{Reserves, new_handler, put, with_stage};
+ghost use Rattle.sc_handler.specs.Changes.{answered, fallen, placed, to_list, takes, takes_answer};
 ghost use Rattle.sc_request.specs.Places.{outs_of, plain};
-ghost use Rattle.sc_request.specs.Sessions.{answered, fallen, placed, to_list};
-ghost use Rattle.sc_request.specs.Settling.{reserves, takes, takes_answer};
-ghost use Rattle.sc_request.specs.Tables.{answer_of, posting_of, sent, stage_of};
+ghost use Rattle.sc_request.specs.Settling.{reserves};
 
-use crate::changes::Dropped;
-use crate::copy::copy_handlers;
-use crate::handler::{Answer, HandlerStage, Posting};
 use crate::state::State;
 use arrayvec::ArrayVec;
+use sc_handler::{Answer, Dropped, HandlerStage, Posting, copy_handlers};
 use sc_lockpass::Passed;
 use sc_model::Cause;
 use sc_region::Request;

@@ -1,12 +1,11 @@
 //! Room for settlements, so that one that was made room for takes no memory.
-ghost use Rattle.std.specs.Prelude.{◌≡◌, ◌≤◌, ◌<◌, ◌+◌, ℕ, OnErr, OnOk, length};
-ghost use Rattle.sc_request.specs.Logged.{HasPlaces};
+ghost use Rattle.std.specs.Prelude.{◌≡◌, ◌≤◌, ◌+◌, ℕ, OnErr, OnOk, length};
+ghost use Rattle.sc_handler.specs.Logged.{HasPlaces};
 ghost use Rattle.sc_request.specs.Rooms.{HasRoomFor};
 
 use crate::center::Core;
-use crate::handler::Posting;
+use sc_handler::add_places;
 use std::alloc::AllocError;
-use std::collections::LinkedList;
 
 impl Core {
     ghost use Rattle.sc_request.specs.Cores.{center_of, log_of};
@@ -40,29 +39,4 @@ impl Core {
         self.log.reserve(1)?;
         add_places(&mut self.spare, 1)
     }
-}
-
-/// Adds what is missing of so many places.
-fn add_places(spare: &mut LinkedList<Posting>, wanted: usize) -> Result<(), AllocError>
-    ensures ok { OnOk result (wanted ≤ length spare.new) }
-    ensures kept { length spare.old ≤ length spare.new }
-    ensures err { OnErr result (length spare.old < wanted) }
-{
-    if wanted <= spare.len() {
-        return Ok(());
-    }
-    push_places(spare, wanted)
-}
-
-/// Adds places up to so many.
-#[inline(never)]
-fn push_places(spare: &mut LinkedList<Posting>, wanted: usize) -> Result<(), AllocError>
-    ensures ok { OnOk result (wanted ≤ length spare.new) }
-    ensures kept { length spare.old ≤ length spare.new }
-    ensures err { OnErr result (length spare.old < wanted) }
-{
-    for _place in spare.len()..wanted {
-        spare.push_back(Posting::blank())?;
-    }
-    Ok(())
 }

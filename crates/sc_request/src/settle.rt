@@ -3,22 +3,19 @@ ghost use Rattle.std.specs.Prelude.{◌≡◌, ◌++◌, ◌∷◌, ◌+◌, ◌
 ghost use Rattle.std.specs.List.{All};
 ghost use Rattle.std.specs.Option.{option_map};
 ghost use Rattle.sc_lockpass.specs.Versions.{most_handlers};
+ghost use Rattle.sc_handler.specs.Logged.{HasPlaces};
+ghost use Rattle.sc_handler.specs.Kinds.{of_kind};
 ghost use Rattle.sc_request.specs.Candidates.{granted_items};
-ghost use Rattle.sc_request.specs.Logged.{HasPlaces};
-ghost use Rattle.sc_request.specs.Logs.{settles};
 ghost use Rattle.sc_request.specs.Places.{outs_of, plain};
-ghost use Rattle.sc_request.specs.Rooms.{HasRoomFor, IsNamed, is_not_out, is_short, settlement};
 ghost use Rattle.sc_request.specs.Settling.{asked_in, settled};
+ghost use Rattle.sc_request.specs.Logs.{settles};
+ghost use Rattle.sc_request.specs.Rooms.{HasRoomFor, IsNamed, is_not_out, is_short, settlement};
 ghost use Rattle.sc_request.specs.Sound.{IsSound};
-ghost use Rattle.sc_request.specs.Shapes.{of_shape};
 
-use crate::begun::{Shape, shape_of};
 use crate::center::Core;
-use crate::fits::fits_turns;
-use crate::handler::Posting;
 use crate::settlement::SettleFault;
 use crate::state::State;
-use crate::touching::frees;
+use sc_handler::{JobKind, Posting, fits_turns, frees, kind_of};
 use sc_model::Cause;
 use sc_region::{Job, Want};
 use std::collections::LinkedList;
@@ -74,12 +71,12 @@ impl Core {
         let Some(job) = self.state.job_out(handler) else {
             unreachable!();
         };
-        let shape = shape_of(job);
+        let kind = kind_of(job);
         let is_freeing = frees(job, want);
         self.log.push(handler, job, turns, want);
         self.state.touch(handler, want, &mut self.candidates);
         self.state
-            .settle(handler, &shape, turns, want, &mut self.spare);
+            .settle(handler, &kind, turns, want, &mut self.spare);
         self.state.wake(
             handler,
             is_freeing,
@@ -99,28 +96,28 @@ impl State {
         self.handlers.get(handler as usize)?.out.get()
     }
 
-    /// So many turns of a handler under a job of this shape, the last of which asks this. A request that is sent takes
+    /// So many turns of a handler under a job of this kind, the last of which asks this. A request that is sent takes
     /// one of these places.
     fn settle(
         &mut self,
         handler: u16,
-        shape: &Shape,
+        kind: &JobKind,
         turns: u32,
         want: &Want,
         spare: &mut LinkedList<Posting>,
     )
         requires there { handler < most_handlers self.old.rights.version }
         requires place { 1 ≤ length spare.old }
-        requires granted { All (λ k. k < most_handlers self.old.rights.version) (granted_items (of_shape shape.now)) }
+        requires granted { All (λ k. k < most_handlers self.old.rights.version) (granted_items (of_kind kind.now)) }
         requires sound { IsSound (2 ^ 64 - 4) (2 ^ 63 - 2) (plain self.old) }
-        ensures plain { plain self.new ≡ settled (most_handlers self.old.rights.version) handler (of_shape shape.now) turns want.now (plain self.old) }
+        ensures plain { plain self.new ≡ settled (most_handlers self.old.rights.version) handler (of_kind kind.now) turns want.now (plain self.old) }
         ensures outs { outs_of self.new ≡ outs_of self.old }
         ensures version { self.new.rights.version ≡ self.old.rights.version }
         ensures places { length spare.old ≤ length spare.new + 1 }
     {
         let stage = self.handlers[handler as usize].stage;
-        let fits = fits_turns(turns, stage, shape, want);
-        self.begin(handler, shape);
+        let fits = fits_turns(turns, stage, kind, want);
+        self.begin(handler, kind);
         self.ask_in(handler, fits, want, spare);
     }
 

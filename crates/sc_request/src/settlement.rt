@@ -1,21 +1,7 @@
-//! Settlements.
-
-use sc_region::{Job, Want};
-
-/// What a handler's turns under a job came to. It takes 640 bytes, and no memory beside.
-#[derive(Drop)]
-pub struct Settlement {
-    pub handler: u16,
-    /// What it had to do.
-    pub job: Job,
-    /// How many turns were made.
-    pub turns: u32,
-    /// What the last of them asked.
-    pub want: Want,
-}
+//! What keeps turns from being settled.
 
 /// Why turns aren't settled.
-#[derive(Clone, Copy, Debug, PartialEq, Eq)]
+#[derive(Clone, Copy)]
 pub enum SettleFault {
     /// S1: the handler of this number isn't out.
     NotOut { handler: u16 },

@@ -2,7 +2,7 @@
 ghost use Rattle.std.specs.Prelude.{◌≡◌, ◌≤◌, ◌<◌, vec_len};
 ghost use Rattle.sc_lockpass.specs.Versions.{most_handlers};
 
-use crate::handler::Handler;
+use sc_handler::Handler;
 use sc_lockpass::Rights;
 
 /// What settlements change: the handlers, the counts of their sessions, and the rights over them.

@@ -5,8 +5,8 @@ ghost use Rattle.sc_request.specs.Places.{outs_of, plain};
 ghost use Rattle.sc_request.specs.Settling.{done, may_ask, posts_unheld};
 ghost use Rattle.sc_request.specs.Sound.{IsSound};
 
-use crate::handler::Posting;
 use crate::state::State;
+use sc_handler::Posting;
 use sc_region::Want;
 use std::collections::LinkedList;
 

@@ -2,14 +2,15 @@
 ghost use Rattle.std.specs.Prelude.{◌≡◌, ◌==◌, ◌<◌, ◌&&◌, ◌||◌, ℕ, if◌then◌else◌, is_some, map};
 ghost use Rattle.sc_lockpass.specs.Rights.{is_handler};
 ghost use Rattle.sc_lockpass.specs.Tables.{is_member};
-ghost use Rattle.sc_request.specs.Candidates.{frees, frees_by, frees_under, is_reserving, may_hear_from, posted_first, touches};
+ghost use Rattle.sc_handler.specs.Handlers.{is_reserving};
+ghost use Rattle.sc_handler.specs.InMemory.{posting_of};
+ghost use Rattle.sc_request.specs.Candidates.{may_hear_from, posted_first, touches};
 ghost use Rattle.sc_request.specs.Places.{plain};
-ghost use Rattle.sc_request.specs.Tables.{posting_of};
 
-use crate::handler::{HandlerStage, Posting};
 use crate::handler_set::HandlerSet;
 use crate::state::State;
-use sc_region::{Job, Want};
+use sc_handler::{HandlerStage, Posting};
+use sc_region::Want;
 use std::collections::LinkedList;
 
 impl State {
@@ -88,34 +89,6 @@ impl State {
                 is_creation: _,
             } => false,
         }
-    }
-}
-
-/// Whether the settlement under this job, of a turn that asks this, may free what another handler waits to reserve,
-/// unless it fails its handler.
-pub(crate) fn frees(job: &Job, want: &Want) -> bool
-    ensures { result ≡ frees job.now want.now }
-{
-    frees_under(job) || frees_by(want)
-}
-
-/// Whether the job itself may free that.
-pub(crate) fn frees_under(job: &Job) -> bool
-    ensures { result ≡ frees_under job.now }
-{
-    match job {
-        Job::Granted(_) | Job::Made(_) => true,
-        Job::Take(_) | Job::Reply(_) | Job::Failed | Job::Refused | Job::Go => false,
-    }
-}
-
-fn frees_by(want: &Want) -> bool
-    ensures { result ≡ frees_by want.now }
-{
-    match want {
-        Want::Continue | Want::Reserve(_) | Want::Post(_) | Want::Fail(_) => false,
-        Want::Ask { request: _, passes } => *passes,
-        _ => true,
     }
 }
 

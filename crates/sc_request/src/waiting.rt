@@ -1,14 +1,14 @@
 //! What keeps handlers from their next step, and who holds whom, to be told to people.
 ghost use Rattle.std.specs.Prelude.{◌≡◌, length, map};
 ghost use Rattle.std.specs.Option.{option_map};
+ghost use Rattle.sc_handler.specs.InMemory.{posting_of};
 ghost use Rattle.sc_request.specs.Places.{awaited};
-ghost use Rattle.sc_request.specs.Tables.{posting_of};
 ghost use Rattle.sc_request.specs.Waiting as waiting;
 ghost use Rattle.sc_request.specs.Waiting.{is_put_off, needed_at};
 
 use crate::center::Core;
-use crate::handler::{Handler, HandlerStage};
 use arrayvec::ArrayVec;
+use sc_handler::{Handler, HandlerStage};
 use sc_region::Request;
 
 impl Core {

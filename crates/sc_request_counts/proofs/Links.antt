@@ -10,9 +10,9 @@ use Rattle.sc_region.specs.declared.job.Outcome.{Outcome}
 use Rattle.sc_region.specs.Frames.{PlainFrame, is_current}
 use Rattle.sc_code.specs.declared.program.Image.{Image}
 use Rattle.sc_region.specs.Stores.{PlainStore, is_settled, new_store}
-use Rattle.sc_request.specs.Handlers.{HandlerStage, Idle, Runs, HasMade, Reserves, Awaits, Service, Handler, Posted, State, has_frames, new_handler, posted}
+use Rattle.sc_handler.specs.Handlers.{HandlerStage, Idle, Runs, HasMade, Reserves, Awaits, Service, Handler, Posted, State, has_frames, new_handler, posted}
+use Rattle.sc_handler.specs.Picking.{job_of, status_idle, status_with}
 use Rattle.sc_request.specs.Logs.{Center, opening, pick_for, picked, put_back, put_back_with, root_of, settles, status_in}
-use Rattle.sc_request.specs.Picking.{job_of, status_idle, status_with}
 use Rattle.sc_request.specs.Settling.{settled}
 use Rattle.sc_play.specs.Regions.{PlainRegion, Plays}
 use Rattle.sc_request_counts.specs.Free.{AreLinked, FreeRegionsRest, LinkedObjectsMeet, OpeningsAreLinked, RefusedTurnsStayLinked, TurnsStayLinked}

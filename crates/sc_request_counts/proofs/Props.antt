@@ -4,7 +4,7 @@ use Rattle.std.specs.Coded.{Unit-prop, le_prop, Π_prop, →_prop, ×_prop}
 use Rattle.std.proofs.Props.{props}
 use Rattle.sc_region.specs.Frames.{PlainFrame}
 use Rattle.sc_region.specs.Stores.{PlainStore}
-use Rattle.sc_request.specs.Handlers.{Handler, Service, HandlerStage}
+use Rattle.sc_handler.specs.Handlers.{Handler, Service, HandlerStage}
 use Rattle.sc_request.specs.Logs.{Center}
 use Rattle.sc_play.specs.Regions.{PlainRegion}
 use Rattle.sc_request_counts.specs.Free.{AreLinked}

@@ -18,11 +18,13 @@ use Rattle.sc_region.specs.declared.job.Job.TheVariants as job
 use Rattle.sc_region.specs.declared.job.Request.{Request}
 use Rattle.sc_region.specs.declared.job.Want.{Want}
 use Rattle.sc_region.specs.declared.job.Want.TheVariants as want
-use Rattle.sc_request.specs.Handlers.{Posted, posted, Answer, Replied, SupplierFailed, Refused, HandlerStage, Idle, Runs, HasMade, Reserves, Awaits, Service, Handler, State, has_frames, new_handler, put, with_stage}
+use Rattle.sc_handler.specs.Handlers.{Posted, posted, Answer, Replied, SupplierFailed, Refused, HandlerStage, Idle, Runs, HasMade, Reserves, Awaits, Service, Handler, State, has_frames, new_handler, put, with_stage}
+use Rattle.sc_handler.specs.Picking.{job_answered, job_at, job_awaiting, job_idle, job_of, job_reserving, job_with}
+use Rattle.sc_handler.specs.Changes.{answered, fallen, is_waited_by, placed, requests_at, session_ended, told, counted_refusal, serves, takes, takes_answer, takes_callback, takes_next}
+use Rattle.sc_handler.specs.Fits.{fits_turns}
 use Rattle.sc_request.specs.Logs.{Center, pick_for, picked}
-use Rattle.sc_request.specs.Picking.{job_answered, job_at, job_awaiting, job_idle, job_of, job_reserving, job_with}
-use Rattle.sc_request.specs.Sessions.{answer_to, answered, fail, fallen, finish, is_callback, is_waited_by, passed_if, passes, placed, release, requests_at, reserve, return_rights, send, session_ended, told, with_handler}
-use Rattle.sc_request.specs.Settling.{asks_of, awaits_if, begun, counted_refusal, creates, creates_with, creation, done, done_if, ends, ends_service, fits_turns, made_at, may_ask, posts_unheld, sends, serves, settled, takes, takes_answer, takes_callback, takes_next}
+use Rattle.sc_request.specs.Sessions.{answer_to, fail, finish, is_callback, passed_if, passes, release, reserve, return_rights, send, with_handler}
+use Rattle.sc_request.specs.Settling.{asks_of, awaits_if, begun, creates, creates_with, creation, done, done_if, ends, ends_service, made_at, may_ask, posts_unheld, sends, settled}
 use Rattle.sc_request_counts.specs.Serving.{HasFrames, HasServices}
 use Rattle.sc_request_counts.specs.Settlements.{KeepsServices, OthersServe, SettlementsServe, known}
 use Rattle.sc_request_counts.specs.Turns.{is_failure, left_after, served_under}

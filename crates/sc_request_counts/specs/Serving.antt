@@ -4,7 +4,7 @@ use Rattle.sc_region.specs.declared.frame.Origin.{Origin}
 use Rattle.sc_region.specs.declared.frame.Origin.TheVariants as origin
 use Rattle.sc_region.specs.Frames.{PlainFrame}
 use Rattle.sc_region.specs.Stores.{PlainStore}
-use Rattle.sc_request.specs.Handlers.{HandlerStage, Service, Handler, has_frames}
+use Rattle.sc_handler.specs.Handlers.{HandlerStage, Service, Handler, has_frames}
 
 -- ---- stores
 

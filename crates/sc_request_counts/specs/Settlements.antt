@@ -2,7 +2,7 @@
 use Rattle.std.specs.Prelude.{◌≡◌, ℕ, false, Some, None, length, nat_lt, if◌then◌else◌}
 use Rattle.sc_region.specs.declared.job.Job.{Job}
 use Rattle.sc_region.specs.declared.job.Want.{Want}
-use Rattle.sc_request.specs.Handlers.{Handler, State, new_handler}
+use Rattle.sc_handler.specs.Handlers.{Handler, State, new_handler}
 use Rattle.sc_request.specs.Logs.{Center, pick_for, picked, settles}
 use Rattle.sc_request.specs.Settling.{settled}
 use Rattle.sc_request_counts.specs.Serving.{HasFrames, HasServices}

@@ -3,8 +3,8 @@
 use crate::programs::program_of;
 use arrayvec::ArrayVec;
 use sc_code::Program;
+use sc_handler::Settlement;
 use sc_region::{Errand, Job, Reference, Request, Want};
-use sc_request::Settlement;
 use sc_worklog::LoggedRegion;
 use std::alloc::{AllocError, Global};
 use std::process::Abort;

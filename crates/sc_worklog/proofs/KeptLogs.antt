@@ -4,7 +4,7 @@ use Rattle.std.proofs.Math.Logic.{∥∥₁_map}
 use Rattle.sc_code.specs.declared.program.Image.{Image}
 use Rattle.sc_region.specs.declared.job.Job.{Job}
 use Rattle.sc_region.specs.declared.job.Outcome.{Outcome}
-use Rattle.sc_request.specs.declared.settlement.Settlement.{Settlement}
+use Rattle.sc_handler.specs.declared.settlement.Settlement.{Settlement}
 use Rattle.sc_play.specs.Regions.{IsRefused, PlainRegion, Plays, new_region}
 use Rattle.sc_worklog.specs.Replaying.{Replays, entry_of, opened, played, refused}
 

@@ -6,7 +6,7 @@ use Rattle.sc_region.specs.declared.job.Job.{Job}
 use Rattle.sc_region.specs.declared.job.Outcome.{Outcome}
 use Rattle.sc_region.specs.declared.job.Want.{Want}
 use Rattle.sc_region.specs.Stores.{PlainStore}
-use Rattle.sc_request.specs.declared.settlement.Settlement.{Settlement}
+use Rattle.sc_handler.specs.declared.settlement.Settlement.{Settlement}
 use Rattle.sc_play.specs.Regions.{PlainRegion, Plays, new_region}
 use Rattle.sc_play.specs.Turns.{Turns, first, more}
 use Rattle.sc_play.proofs.Programs.{turns_keep}

@@ -2,7 +2,7 @@
 use Rattle.std.specs.Prelude.{◌≡◌, ◌<◌, ℕ, List}
 use Rattle.std.specs.List.{All}
 use Rattle.sc_code.specs.declared.program.Image.{Image}
-use Rattle.sc_request.specs.declared.settlement.Settlement.{Settlement}
+use Rattle.sc_handler.specs.declared.settlement.Settlement.{Settlement}
 use Rattle.sc_play.specs.Regions.{PlainRegion, new_region}
 use Rattle.sc_worklog.specs.Replaying.{AreMade, IsUnrefused, Replays}
 

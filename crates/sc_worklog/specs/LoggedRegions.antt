@@ -1,7 +1,7 @@
 -- What a region with its log stands for.
 use Rattle.std.specs.Prelude.{List}
-use Rattle.sc_request.specs.declared.settlement.Settlement.{Settlement}
-use Rattle.sc_request.specs.Logged.{settlements_of}
+use Rattle.sc_handler.specs.declared.settlement.Settlement.{Settlement}
+use Rattle.sc_handler.specs.Logged.{settlements_of}
 use Rattle.sc_play.specs.Regions.{PlainRegion}
 use Rattle.sc_worklog.specs.declared.logged_region.LoggedRegion as coded
 

@@ -3,7 +3,7 @@ use Rattle.std.specs.Prelude.{◌≡◌, ℕ, List, [], ◌∷◌, ◌++◌, fal
 use Rattle.sc_code.specs.declared.program.Image.{Image}
 use Rattle.sc_region.specs.declared.job.Job.{Job}
 use Rattle.sc_region.specs.declared.job.Outcome.{Outcome}
-use Rattle.sc_request.specs.declared.settlement.Settlement.{Settlement}
+use Rattle.sc_handler.specs.declared.settlement.Settlement.{Settlement}
 use Rattle.sc_play.specs.Regions.{IsRefused, PlainRegion, Plays, new_region}
 use Rattle.sc_play.specs.Turns.{Turns}
 

@@ -1,13 +1,13 @@
 //! A region with its log.
 ghost use Rattle.std.specs.Prelude.{◌≡◌, ◌++◌, ◌∷◌, []};
 ghost use Rattle.sc_play.specs.Regions.{outcome};
-ghost use Rattle.sc_request.specs.Logged.{HasPlaces, settlements_of};
+ghost use Rattle.sc_handler.specs.Logged.{HasPlaces, settlements_of};
 ghost use Rattle.sc_worklog.specs.Replaying.{Replays, entry_of};
 
 use sc_code::Program;
+use sc_handler::Log;
 use sc_play::Region;
 use sc_region::{Job, Outcome, Want};
-use sc_request::Log;
 use std::alloc::{AllocError, Global};
 
 /// A region, and the log of the jobs that it played, the first one first.

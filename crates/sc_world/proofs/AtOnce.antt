@@ -15,11 +15,12 @@ use Rattle.sc_region.specs.declared.job.Request.{Request}
 use Rattle.sc_region.specs.declared.job.Want.{Want}
 use Rattle.sc_region.specs.declared.job.Want.TheVariants as want
 use Rattle.sc_region.specs.Stores.{PlainStore}
-use Rattle.sc_request.specs.Handlers.{Answer, Awaits, Handler, HasMade, Idle, Posted, Refused, Replied, Reserves, Runs, HandlerStage, State, SupplierFailed, put, with_stage}
+use Rattle.sc_handler.specs.Handlers.{Answer, Awaits, Handler, HasMade, Idle, Posted, Refused, Replied, Reserves, Runs, HandlerStage, State, SupplierFailed, put, with_stage}
+use Rattle.sc_handler.specs.Picking.{job_answered, job_at, job_awaiting, job_idle, job_of, job_reserving, job_with}
+use Rattle.sc_handler.specs.Changes.{session_ended, takes, takes_answer, takes_callback, takes_next}
+use Rattle.sc_handler.specs.Fits.{fits_turns, goes_on}
 use Rattle.sc_request.specs.Logs.{Center, granted, pick_for, picked, put_back, put_back_with, settles}
-use Rattle.sc_request.specs.Picking.{job_answered, job_at, job_awaiting, job_idle, job_of, job_reserving, job_with}
-use Rattle.sc_request.specs.Sessions.{session_ended}
-use Rattle.sc_request.specs.Settling.{asked_in, begun, fits_turns, goes_on, made_at, settled, takes, takes_answer, takes_callback, takes_next}
+use Rattle.sc_request.specs.Settling.{asked_in, begun, made_at, settled}
 use Rattle.sc_play.specs.Regions.{EndsIn, PlainRegion}
 use Rattle.sc_play.specs.Turns.{Becomes, FirstTurn, IsAhead, TurnOf, Turns, first, more}
 use Rattle.sc_play.proofs.Programs.{turns_keep}

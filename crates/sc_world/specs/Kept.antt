@@ -3,7 +3,7 @@ use Rattle.std.specs.Prelude.{◌≡◌, ℕ, List, Some, None, length, slice_ge
 use Rattle.sc_lockpass.specs.declared.version.Version.{Version}
 use Rattle.sc_lockpass.specs.Versions.{most_handlers}
 use Rattle.sc_code.specs.declared.program.Image.{Image}
-use Rattle.sc_request.specs.Handlers.{State}
+use Rattle.sc_handler.specs.Handlers.{State}
 use Rattle.sc_request.specs.Kept as core
 use Rattle.sc_play.specs.Contents.{Contents, contents_at}
 use Rattle.sc_play.specs.Regions.{PlainRegion}

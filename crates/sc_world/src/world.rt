@@ -4,8 +4,8 @@ ghost use Rattle.std.specs.Option.{option_map};
 ghost use Rattle.sc_request_counts.proofs.Props.{linked_prop};
 ghost use Rattle.sc_request_counts.specs.Free.{AreLinked};
 ghost use Rattle.sc_lockpass.specs.Versions.{most_handlers};
+ghost use Rattle.sc_handler.specs.Logged.{settlements_of};
 ghost use Rattle.sc_request.specs.Cores.{center_of, log_of};
-ghost use Rattle.sc_request.specs.Logged.{settlements_of};
 ghost use Rattle.sc_request.specs.Rooms.{HasRoomFor};
 ghost use Rattle.sc_request.specs.Logs as core;
 ghost use Rattle.sc_world.specs.Free.{FreeObjectMeets};
@@ -16,11 +16,12 @@ ghost use Rattle.sc_world.specs.Worlds.{max_handlers, new_regions, opened, world
 
 use crate::report::{self, push_end, push_handler};
 use sc_code::Program;
+use sc_handler::Log;
 use sc_lockpass::Version;
 use sc_model::Status;
 use sc_play::Region;
 use sc_region::{Breakdown, Job, Want};
-use sc_request::{Core, Log};
+use sc_request::Core;
 use std::alloc::{AllocError, Global};
 
 /// What a step of the world did.

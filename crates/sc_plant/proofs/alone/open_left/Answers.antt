@@ -1,6 +1,6 @@
 use Rattle.std.proofs.Common.{◌<◌, List, Some, refl, sym, ap, subst, ◌∙◌, arith}
 use Rattle.std.proofs.lemmas.List.Elements.{All-nil}
-use Rattle.sc_request.specs.declared.settlement.Settlement.{Settlement}
+use Rattle.sc_handler.specs.declared.settlement.Settlement.{Settlement}
 use Rattle.sc_request.specs.Cores.{log_of}
 use Rattle.sc_request.specs.Logs.{Center}
 use Rattle.sc_world.specs.Worlds.{max_handlers}

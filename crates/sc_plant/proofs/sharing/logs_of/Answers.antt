@@ -1,6 +1,6 @@
 use Rattle.std.proofs.Common.{◌∙◌, List, take, sym, subst, arith}
-use Rattle.sc_request.specs.declared.settlement.Settlement.{Settlement}
-use Rattle.sc_request.specs.Logged.{settlements_of}
+use Rattle.sc_handler.specs.declared.settlement.Settlement.{Settlement}
+use Rattle.sc_handler.specs.Logged.{settlements_of}
 use Rattle.sc_plant.specs.Sharing.{AreLogs}
 use Rattle.sc_plant.proofs.Comparisons.{take_every, take_more, take_past}
 use Rattle.sc_plant.proofs.sharing.logs_of.Goals as goal

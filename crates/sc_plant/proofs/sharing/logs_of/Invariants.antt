@@ -1,5 +1,5 @@
 use Rattle.std.proofs.Common.{◌≡◌, take, vec_len}
-use Rattle.sc_request.specs.Logged.{settlements_of}
+use Rattle.sc_handler.specs.Logged.{settlements_of}
 use Rattle.sc_plant.specs.Sharing.{AreLogs}
 use Rattle.sc_plant.proofs.sharing.logs_of.Given as goal
 

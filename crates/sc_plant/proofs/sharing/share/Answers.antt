@@ -1,5 +1,5 @@
 use Rattle.std.proofs.Common.{List, subst}
-use Rattle.sc_request.specs.declared.settlement.Settlement.{Settlement}
+use Rattle.sc_handler.specs.declared.settlement.Settlement.{Settlement}
 use Rattle.sc_plant.specs.Sharing.{AreLogs}
 use Rattle.sc_plant.proofs.Locks.{are_fit}
 use Rattle.sc_plant.proofs.sharing.share.Goals as goal

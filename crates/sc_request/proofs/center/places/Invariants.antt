@@ -1,6 +1,6 @@
 use Rattle.std.proofs.Common.{◌≡◌, ◌∷◌}
 use Rattle.std.specs.Prelude.{replicate}
-use Rattle.sc_request.specs.Tables.{fresh, asked}
+use Rattle.sc_handler.specs.InMemory.{fresh, asked}
 use Rattle.sc_request.proofs.center.places.Given as goal
 
 abbrev pub invariant-loop-k : goal.invariant-loop-k

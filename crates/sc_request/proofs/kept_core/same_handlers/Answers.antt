@@ -1,5 +1,5 @@
 use Rattle.std.proofs.Common.{ℕ, refl, ap, arith}
-use Rattle.sc_request.specs.Handlers.{Handler}
+use Rattle.sc_handler.specs.Handlers.{Handler}
 use Rattle.sc_request.proofs.KeptCores.{differs, same_everywhere}
 use Rattle.sc_request.proofs.kept_core.same_handlers.Goals as goal
 

@@ -1,7 +1,7 @@
 use Rattle.std.proofs.Common.{◌≤◌, ◌∙◌, length, sym, arith}
 use Rattle.sc_lockpass.proofs.Listings.{most_handlers-le}
-use Rattle.sc_request.specs.Cores.{center_of}
 use Rattle.sc_request.proofs.Sames.{nothing_kept}
+use Rattle.sc_request.specs.Cores.{center_of}
 use Rattle.sc_request.proofs.SameStates.{same_state}
 use Rattle.sc_request.proofs.laws.same_at_each_is_same_state.Goals as goal
 

@@ -1,6 +1,6 @@
 use Rattle.std.proofs.Math.Logic.{∥∥₁_map}
 use Rattle.sc_play.specs.Regions.{new_region}
-use Rattle.sc_request.specs.Logged.{settlements_of}
+use Rattle.sc_handler.specs.Logged.{settlements_of}
 use Rattle.sc_worklog.specs.Replaying.{AreMade}
 use Rattle.sc_worklog.proofs.ReplayedTurns.{turns_replay}
 use Rattle.sc_plant.proofs.slot.Slot.new.Goals as goal

@@ -2,10 +2,10 @@ use Rattle.std.proofs.Common.{List, ◌∙◌, ap, subst, sym}
 use Rattle.std.specs.Prelude.{◌-◌, vec_len}
 use Rattle.sc_lockpass.specs.Versions.{most_handlers}
 use Rattle.sc_region.specs.declared.job.Request.{Request}
+use Rattle.sc_handler.specs.declared.handler.Handler as coded
 use Rattle.sc_request.specs.Candidates.{AreReserving, HasGrantsBelow, HasOutsBelow}
-use Rattle.sc_request.specs.Logs.{opened}
 use Rattle.sc_request.specs.Tables.{handler_at, out_total}
-use Rattle.sc_request.specs.declared.handler.Handler as coded
+use Rattle.sc_request.specs.Logs.{opened}
 use Rattle.sc_request.proofs.OpeningTables.{none_out_yet, opens_center, opening_grants, opening_outs, opening_reserving, opening_sound, opening_tried}
 use Rattle.sc_request.proofs.center.Core.opening.Goals as goal
 

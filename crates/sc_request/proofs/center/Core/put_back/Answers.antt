@@ -5,12 +5,12 @@ use Rattle.std.specs.Prelude.{vec_len}
 use Rattle.sc_lockpass.specs.Versions.{most_handlers}
 use Rattle.sc_region.specs.declared.job.Job.{Job}
 use Rattle.sc_request.specs.Candidates.{AreCandidates, AreReserving, HasGrantsBelow, HasOutsBelow}
-use Rattle.sc_request.specs.Sound.{IsSound}
 use Rattle.sc_request.specs.Tables.{center, handler_at, out_total, state_of}
+use Rattle.sc_request.specs.Sound.{IsSound}
 use Rattle.sc_request.proofs.Outs.{back_center, fewer_out, is_counted, none_is_out, out_is, stays, with_job}
 use Rattle.sc_request.proofs.GrantedReservations.{candidates_back, grants_back, outs_back, sound_back}
 use Rattle.sc_request.proofs.Reservers.{same_reserving}
-use Rattle.sc_request.proofs.Shapes.{job_is}
+use Rattle.sc_request.proofs.Kinds.{job_is}
 use Rattle.sc_request.proofs.center.Core.put_back.Goals as goal
 
 pub returns-in_default-clause-center : goal.returns-in_default-clause-center

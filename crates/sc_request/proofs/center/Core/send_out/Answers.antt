@@ -6,15 +6,16 @@ use Rattle.std.specs.Prelude.{vec_len}
 use Rattle.sc_lockpass.specs.Tables.{Table, rights_of}
 use Rattle.sc_lockpass.specs.Versions.{most_handlers}
 use Rattle.sc_region.specs.declared.job.Job.{Job}
-use Rattle.sc_request.specs.declared.handler.Handler as coded
+use Rattle.sc_handler.specs.declared.handler.Handler as coded
+use Rattle.sc_handler.specs.InMemory.{fresh}
 use Rattle.sc_request.specs.Candidates.{granted_items}
+use Rattle.sc_request.specs.Tables.{center, out_total}
 use Rattle.sc_request.specs.Cores.{center_of}
 use Rattle.sc_request.specs.Logs.{granted, pick_for, picked_if}
-use Rattle.sc_request.specs.Tables.{center, fresh, out_total}
 use Rattle.sc_request.proofs.Outs.{below_most, job_stands, more_out, out_now, outs_within, picked_center, with_job}
 use Rattle.sc_request.proofs.GrantedReservations.{Adds, below_count, candidates_picked, grants_picked, grants_there, not_out, outs_picked, sound_picked}
 use Rattle.sc_request.proofs.Reservers.{same_reserving}
-use Rattle.sc_request.proofs.Shapes.{job_is, one_job, some_of}
+use Rattle.sc_request.proofs.Kinds.{job_is, one_job, some_of}
 use Rattle.sc_request.proofs.center.Core.send_out.Goals as goal
 
 pub set_out-requires : goal.set_out-requires

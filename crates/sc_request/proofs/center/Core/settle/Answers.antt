@@ -3,12 +3,12 @@ use Rattle.std.specs.Prelude.{Result, Ok, Err, OnErr, is_some}
 use Rattle.std.specs.Result.{is_err}
 use Rattle.sc_lockpass.specs.Versions.{most_handlers}
 use Rattle.sc_lockpass.specs.declared.version.Version.{Version}
+use Rattle.sc_handler.specs.declared.settlement.Settlement.{Settlement}
 use Rattle.sc_request.specs.Cores.{center_of}
 use Rattle.sc_request.specs.Logs.{Center, settles}
 use Rattle.sc_request.specs.Rooms.{settlement}
-use Rattle.sc_request.specs.declared.settlement.Settlement.{Settlement}
 use Rattle.sc_request.proofs.Settles.{out_counted}
-use Rattle.sc_request.proofs.Shapes.{some_of}
+use Rattle.sc_request.proofs.Kinds.{some_of}
 use Rattle.sc_request.proofs.center.Core.settle.Goals as goal
 
 on_err : {A B : Type 0} (r : Result A B) (P : Type 0) → is_err r ≡ true → OnErr r P → P

@@ -4,17 +4,18 @@ use Rattle.std.specs.Prelude.{if◌then◌else◌, is_some, vec_len}
 use Rattle.sc_lockpass.specs.Tables.{is_member}
 use Rattle.sc_lockpass.proofs.Listings.{most_handlers-le}
 use Rattle.sc_lockpass.specs.Versions.{most_handlers}
+use Rattle.sc_handler.specs.Freeing.{frees}
+use Rattle.sc_handler.specs.Handlers.{is_reserving, State}
 use Rattle.sc_request.specs.Places.{outs_of, plain}
 use Rattle.sc_request.specs.Settling.{settled}
 use Rattle.sc_request.specs.Tables.{center, handler_at, out_at, out_total, state_of}
+use Rattle.sc_request.specs.Candidates.{AreCandidates, AreReserving, HasGrantsBelow, HasOutsBelow}
 use Rattle.std.specs.List.{All}
 use Rattle.sc_region.specs.declared.job.Job.{Job}
 use Rattle.sc_request.specs.Logs.{settles}
 use Rattle.sc_request.specs.Rooms.{settlement}
-use Rattle.sc_request.proofs.Shapes.{granted_shape, job_is, one_job, settled_shape}
-use Rattle.sc_request.specs.Candidates.{AreCandidates, AreReserving, HasGrantsBelow, HasOutsBelow, frees, is_reserving}
+use Rattle.sc_request.proofs.Kinds.{granted_kind, job_is, one_job, settled_kind}
 use Rattle.sc_request.specs.Cores.{center_of, log_of}
-use Rattle.sc_request.specs.Handlers.{State}
 use Rattle.sc_request.specs.Sound.{IsSound}
 use Rattle.sc_request.proofs.GrantedReservations.{granted_below}
 use Rattle.sc_request.proofs.Reservers.{same_reserving, settled_reserving}
@@ -29,7 +30,7 @@ settle-requires-clause-granted c =
     let h = c.args.handler in
     let j = c.in-Some.job.now in
     let out = job_is (outs_of s.state h) c.job_out.result c.in-Some.job c.job_out.ensures c.in-Some.is in
-    subst (All (λ k. k < most_handlers s.state.rights.version)) (sym (granted_shape j c.shape_of-shape.result c.shape_of-shape.ensures))
+    subst (All (λ k. k < most_handlers s.state.rights.version)) (sym (granted_kind j c.kind_of-kind.result c.kind_of-kind.ensures))
     (granted_below (most_handlers s.state.rights.version) s.state.handlers.items h j out s.grants)
 
 pub overflow_sub-self : goal.overflow_sub-self
@@ -42,7 +43,7 @@ overflow_sub-self c =
     let j = c.in-Some.job.now in
     let out = job_is (outs_of s.state h) c.job_out.result c.in-Some.job c.job_out.ensures c.in-Some.is in
     let x = c.index_mut.result.now in
-    let plain_is = c.settle.ensures.plain ∙ settled_shape (most_handlers s.state.rights.version) h j c.shape_of-shape.result c.args.turns c.args.want.now (plain s.state) c.shape_of-shape.ensures in
+    let plain_is = c.settle.ensures.plain ∙ settled_kind (most_handlers s.state.rights.version) h j c.kind_of-kind.result c.args.turns c.args.want.now (plain s.state) c.kind_of-kind.ensures in
     let below = s.there h j out in
     let most = most_handlers-le s.state.rights.version in
     let own = t.handlers.ok.0 in
@@ -64,7 +65,7 @@ invariant_of-self-2 c =
     let j = c.in-Some.job.now in
     let out = job_is (outs_of s.state h) c.job_out.result c.in-Some.job c.job_out.ensures c.in-Some.is in
     let x = c.index_mut.result.now in
-    let plain_is = c.settle.ensures.plain ∙ settled_shape (most_handlers s.state.rights.version) h j c.shape_of-shape.result c.args.turns c.args.want.now (plain s.state) c.shape_of-shape.ensures in
+    let plain_is = c.settle.ensures.plain ∙ settled_kind (most_handlers s.state.rights.version) h j c.kind_of-kind.result c.args.turns c.args.want.now (plain s.state) c.kind_of-kind.ensures in
     let below = s.there h j out in
     let most = most_handlers-le s.state.rights.version in
     let own = t.handlers.ok.0 in
@@ -115,7 +116,7 @@ returns-clause-center c = λ i is.
     let j = c.in-Some.job.now in
     let out = job_is (outs_of s.state h) c.job_out.result c.in-Some.job c.job_out.ensures c.in-Some.is in
     let x = c.index_mut.result.now in
-    let plain_is = c.settle.ensures.plain ∙ settled_shape (most_handlers s.state.rights.version) h j c.shape_of-shape.result c.args.turns c.args.want.now (plain s.state) c.shape_of-shape.ensures in
+    let plain_is = c.settle.ensures.plain ∙ settled_kind (most_handlers s.state.rights.version) h j c.kind_of-kind.result c.args.turns c.args.want.now (plain s.state) c.kind_of-kind.ensures in
     let below = s.there h j out in
     let most = most_handlers-le s.state.rights.version in
     let own = t.handlers.ok.0 in
@@ -149,7 +150,7 @@ returns-clause-room c = λ n r.
     let j = c.in-Some.job.now in
     let out = job_is (outs_of s.state h) c.job_out.result c.in-Some.job c.job_out.ensures c.in-Some.is in
     let x = c.index_mut.result.now in
-    let plain_is = c.settle.ensures.plain ∙ settled_shape (most_handlers s.state.rights.version) h j c.shape_of-shape.result c.args.turns c.args.want.now (plain s.state) c.shape_of-shape.ensures in
+    let plain_is = c.settle.ensures.plain ∙ settled_kind (most_handlers s.state.rights.version) h j c.kind_of-kind.result c.args.turns c.args.want.now (plain s.state) c.kind_of-kind.ensures in
     let below = s.there h j out in
     let most = most_handlers-le s.state.rights.version in
     let own = t.handlers.ok.0 in

@@ -1,7 +1,7 @@
 use Rattle.std.proofs.Common.{Bool, ◌<◌, ◌^◌, ◌-◌, arith, ◌∙◌, ap, sym}
 use Rattle.sc_lockpass.specs.Versions.{most_handlers}
 use Rattle.sc_lockpass.specs.declared.version.Version.{Version}
-use Rattle.sc_request.specs.Handlers.{State}
+use Rattle.sc_handler.specs.Handlers.{State}
 use Rattle.sc_request.specs.Places.{plain}
 use Rattle.sc_request.specs.Settling.{creates_with}
 use Rattle.sc_request.proofs.Created.{creates_so, new_queue, sessions_with}

@@ -1,5 +1,5 @@
 use Rattle.std.proofs.Common.{List, arith, ◌∙◌, ap, true, false, length, refl}
-use Rattle.sc_request.specs.Handlers.{Awaits, Posted, State, with_stage}
+use Rattle.sc_handler.specs.Handlers.{Awaits, Posted, State, with_stage}
 use Rattle.sc_request.specs.Places.{plain}
 use Rattle.sc_request.proofs.Created.{pass_queue, sent_all, stage_queue}
 use Rattle.sc_request.proofs.state.State.create_passing.Goals as goal

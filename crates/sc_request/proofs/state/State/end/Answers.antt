@@ -1,8 +1,8 @@
 use Rattle.std.proofs.Common.{◌<◌, ◌^◌, ◌-◌, ◌∙◌, refl, subst, sym, length}
-use Rattle.sc_request.specs.Handlers.{State}
+use Rattle.sc_handler.specs.Handlers.{State}
+use Rattle.sc_handler.specs.InMemory.{answer_of, service_of}
 use Rattle.sc_request.specs.Places.{plain}
 use Rattle.sc_request.specs.Sound.{IsSound}
-use Rattle.sc_request.specs.Tables.{answer_of, service_of}
 use Rattle.sc_request.proofs.Ended.{ended_is, ended_none, first_placed, none_first, not_popped, one_first}
 use Rattle.sc_request.proofs.state.State.end.Goals as goal
 

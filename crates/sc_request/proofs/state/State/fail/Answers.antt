@@ -1,8 +1,8 @@
 use Rattle.std.proofs.Common.{arith, map, subst, sym, List}
-use Rattle.sc_request.specs.Handlers.{Posted}
+use Rattle.sc_handler.specs.Handlers.{Posted}
+use Rattle.sc_handler.specs.InMemory.{posting_of}
 use Rattle.sc_request.specs.Places.{plain}
 use Rattle.sc_request.specs.Sound.{ArePlaced}
-use Rattle.sc_request.specs.Tables.{posting_of}
 use Rattle.sc_request.proofs.Fallen.{failed_so, same_callback, same_queue, same_services, served_placed}
 use Rattle.sc_request.proofs.state.State.fail.Goals as goal
 

@@ -1,13 +1,13 @@
 use Rattle.std.specs.Prelude.{List, Option, map}
-use Rattle.sc_request.specs.declared.handler.Handler as coded
-use Rattle.sc_request.specs.declared.handler.Posting.{Posting}
-use Rattle.sc_request.specs.Handlers.{Service}
-use Rattle.sc_request.specs.Tables.{handler_in, posting_of}
+use Rattle.sc_handler.specs.declared.handler.Handler as coded
+use Rattle.sc_handler.specs.declared.handler.Posting.{Posting}
+use Rattle.sc_handler.specs.Handlers.{Service, Handler}
+use Rattle.sc_handler.specs.InMemory.{posting_of}
+use Rattle.sc_handler.specs.Changes.{fallen}
+use Rattle.sc_request.specs.Tables.{handler_in}
 use Rattle.sc_request.proofs.Fallen.{postings_served}
 use Rattle.std.proofs.Common.{length, refl, arith, ◌∙◌, ap, sym}
 use Rattle.std.proofs.lemmas.Option.{slice_get_read}
-use Rattle.sc_request.specs.Handlers.{Handler}
-use Rattle.sc_request.specs.Sessions.{fallen}
 use Rattle.sc_request.proofs.ChangedTables.{changed, outs_kept}
 use Rattle.sc_request.proofs.state.State.fall_at.Goals as goal
 

@@ -1,7 +1,7 @@
 use Rattle.std.proofs.Common.{◌+◌, ◌∙◌, sym, ap}
 use Rattle.std.specs.Prelude.{◌-◌}
-use Rattle.sc_request.specs.Logs.{first_with_job, numbers_from}
 use Rattle.sc_request.specs.Places.{center_at}
+use Rattle.sc_request.specs.Logs.{first_with_job, numbers_from}
 use Rattle.sc_request.proofs.Rounds.{any_last, number_of, number_found, number_rest}
 use Rattle.sc_request.proofs.state.State.first_round.Goals as goal
 

@@ -1,8 +1,8 @@
 use Rattle.std.proofs.Common.{length, refl, arith}
 use Rattle.std.proofs.lemmas.Option.{slice_get_read}
-use Rattle.sc_request.specs.Handlers.{Handler}
-use Rattle.sc_request.specs.Sessions.{answered}
-use Rattle.sc_request.specs.Tables.{answer_of}
+use Rattle.sc_handler.specs.Handlers.{Handler}
+use Rattle.sc_handler.specs.Changes.{answered}
+use Rattle.sc_handler.specs.InMemory.{answer_of}
 use Rattle.sc_request.proofs.ChangedTables.{changed, outs_kept}
 use Rattle.sc_request.proofs.state.State.hear_at.Goals as goal
 

@@ -1,12 +1,13 @@
 use Rattle.std.proofs.Common.{List, Option, length, refl, arith, ◌∙◌, ap, subst, sym}
 use Rattle.std.proofs.lemmas.Option.{slice_get_read}
 use Rattle.std.specs.Prelude.{map}
-use Rattle.sc_request.specs.declared.handler.Handler as coded
-use Rattle.sc_request.specs.declared.handler.Posting.{Posting}
-use Rattle.sc_request.specs.Handlers.{Handler}
-use Rattle.sc_request.specs.Places.{first_of, without_first}
+use Rattle.sc_handler.specs.declared.handler.Handler as coded
+use Rattle.sc_handler.specs.declared.handler.Posting.{Posting}
+use Rattle.sc_handler.specs.Handlers.{Handler}
+use Rattle.sc_handler.specs.Changes.{first_of, without_first}
+use Rattle.sc_handler.specs.InMemory.{service_of}
+use Rattle.sc_request.specs.Tables.{handler_in}
 use Rattle.sc_request.specs.Sound.{AreServed}
-use Rattle.sc_request.specs.Tables.{handler_in, service_of}
 use Rattle.sc_request.proofs.Ended.{first_taken, stands_over}
 use Rattle.sc_request.proofs.ChangedTables.{changed, outs_kept}
 use Rattle.sc_request.proofs.state.State.pop_service.Goals as goal

@@ -1,8 +1,7 @@
-use Rattle.std.proofs.Common.{length, refl, arith}
+use Rattle.std.proofs.Common.{length, refl, arith, []}
 use Rattle.std.proofs.lemmas.Option.{slice_get_read}
-use Rattle.sc_request.specs.Handlers.{Handler, Reserves}
-use Rattle.std.proofs.Common.{[]}
-use Rattle.sc_request.specs.declared.handler.HandlerStage.TheVariants as stage
+use Rattle.sc_handler.specs.Handlers.{Handler, Reserves}
+use Rattle.sc_handler.specs.declared.handler.HandlerStage.TheVariants as stage
 use Rattle.sc_request.proofs.ChangedTables.{changed, outs_kept, reserves_next}
 use Rattle.sc_request.proofs.state.State.reserve_next.Goals as goal
 

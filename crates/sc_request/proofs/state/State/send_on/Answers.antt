@@ -1,5 +1,5 @@
 use Rattle.std.proofs.Common.{List, ◌∙◌, ap, sym, length, refl, arith}
-use Rattle.sc_request.specs.Handlers.{Posted, State}
+use Rattle.sc_handler.specs.Handlers.{Posted, State}
 use Rattle.sc_request.specs.Places.{plain}
 use Rattle.sc_request.proofs.Created.{await_queue, pass_queue, sent_by}
 use Rattle.sc_request.proofs.state.State.send_on.Goals as goal

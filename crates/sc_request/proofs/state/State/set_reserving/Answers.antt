@@ -2,10 +2,10 @@ use Rattle.std.proofs.Common.{◌∙◌, Option, ap, sym, refl, length, arith}
 use Rattle.std.proofs.lemmas.Option.{slice_get_read}
 use Rattle.std.specs.Prelude.{slice_index}
 use Rattle.sc_region.specs.declared.job.Job.{Job}
-use Rattle.sc_request.specs.declared.handler.Handler as coded
-use Rattle.sc_request.specs.Picking.{job_at}
+use Rattle.sc_handler.specs.declared.handler.Handler as coded
+use Rattle.sc_handler.specs.Picking.{job_at}
+use Rattle.sc_handler.specs.InMemory.{handler_with}
 use Rattle.sc_request.specs.Places.{plain}
-use Rattle.sc_request.specs.Tables.{handler_with}
 use Rattle.sc_request.proofs.Outs.{some_is, stands_out, stands_reserving, with_job}
 use Rattle.sc_request.proofs.state.State.set_reserving.Goals as goal
 

@@ -1,8 +1,7 @@
-use Rattle.std.proofs.Common.{length, refl, arith}
+use Rattle.std.proofs.Common.{length, refl, arith, []}
 use Rattle.std.proofs.lemmas.Option.{slice_get_read}
-use Rattle.sc_request.specs.Handlers.{Handler}
-use Rattle.std.proofs.Common.{[]}
-use Rattle.sc_request.specs.Tables.{stage_of}
+use Rattle.sc_handler.specs.Handlers.{Handler}
+use Rattle.sc_handler.specs.InMemory.{stage_of}
 use Rattle.sc_request.proofs.ChangedTables.{changed, outs_kept, stands}
 use Rattle.sc_request.proofs.state.State.stand.Goals as goal
 

@@ -1,7 +1,7 @@
 use Rattle.std.proofs.Common.{length, refl, arith}
 use Rattle.std.proofs.lemmas.Option.{slice_get_read}
-use Rattle.sc_request.specs.Handlers.{Handler}
-use Rattle.sc_request.specs.Settling.{takes}
+use Rattle.sc_handler.specs.Handlers.{Handler}
+use Rattle.sc_handler.specs.Changes.{takes}
 use Rattle.sc_request.proofs.ChangedTables.{changed, outs_kept}
 use Rattle.sc_request.proofs.state.State.take_at.Goals as goal
 

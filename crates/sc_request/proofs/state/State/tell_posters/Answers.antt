@@ -1,9 +1,9 @@
 use Rattle.std.proofs.Common.{List, ◌∙◌, ap, subst, sym, map}
 use Rattle.std.proofs.lemmas.List.Elements.{All-head, All-tail}
-use Rattle.sc_request.specs.declared.handler.Posting.{Posting}
+use Rattle.sc_handler.specs.declared.handler.Posting.{Posting}
+use Rattle.sc_handler.specs.InMemory.{posting_of}
 use Rattle.sc_request.specs.Places.{plain, tells}
 use Rattle.sc_request.specs.Sound.{ArePlaced, IsPlaced}
-use Rattle.sc_request.specs.Tables.{posting_of}
 use Rattle.sc_request.proofs.Fallen.{tells_next}
 use Rattle.sc_request.proofs.state.State.tell_posters.Goals as goal
 

@@ -1,7 +1,7 @@
 use Rattle.std.proofs.Common.{◌≡◌, length, map}
+use Rattle.sc_handler.specs.InMemory.{posting_of}
 use Rattle.sc_request.specs.Places.{outs_of, plain, tells}
 use Rattle.sc_request.specs.Sound.{ArePlaced}
-use Rattle.sc_request.specs.Tables.{posting_of}
 use Rattle.sc_request.proofs.state.State.tell_posters.Given as goal
 
 abbrev pub invariant-loop-posting : goal.invariant-loop-posting

@@ -1,6 +1,6 @@
 use Rattle.std.proofs.Common.{ap}
 use Rattle.sc_play.specs.Regions.{PlainRegion}
-use Rattle.sc_request.specs.Logged.{settlements_of}
+use Rattle.sc_handler.specs.Logged.{settlements_of}
 use Rattle.sc_worklog.proofs.KeptLogs.{opened_kept}
 use Rattle.sc_worklog.proofs.logged_region.LoggedRegion.new.Goals as goal
 

@@ -1,6 +1,6 @@
 use Rattle.std.proofs.Common.{◌++◌, ◌∷◌, [], ap, sym, ◌∙◌}
 use Rattle.sc_play.specs.Regions.{PlainRegion, outcome}
-use Rattle.sc_request.specs.Logged.{settlements_of}
+use Rattle.sc_handler.specs.Logged.{settlements_of}
 use Rattle.sc_worklog.specs.Replaying.{entry_of}
 use Rattle.sc_worklog.proofs.KeptLogs.{played_kept, refused_kept}
 use Rattle.sc_worklog.proofs.logged_region.LoggedRegion.play_asking.Goals as goal

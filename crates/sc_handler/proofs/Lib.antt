@@ -1,0 +1,4 @@
+mod SameValues
+mod SameLists
+mod Sames
+mod Entries

@@ -1,0 +1,10 @@
+use Rattle.sc_handler.specs.InMemory.{service_of}
+use Rattle.sc_handler.proofs.SameLists.{AreAsAlike}
+use Rattle.sc_handler.proofs.same.same_services.Given as goal
+
+abbrev pub invariant-loop-posting : goal.invariant-loop-posting
+invariant-loop-posting l = record {
+  can_next : goal.iterator-loop-posting.can_next l.left;
+  is_finite : goal.iterator-loop-posting.is_finite l.left;
+  alike : AreAsAlike service_of l.left l.right l.a l.b;
+}

@@ -1,0 +1,11 @@
+pub mod Handlers
+pub mod Picking
+pub mod Changes
+pub mod Fits
+pub mod Freeing
+pub mod InMemory
+pub mod Same
+pub mod Kinds
+pub mod Packed
+pub mod Entries
+pub mod Logged

@@ -1,0 +1,14 @@
+-- The settlements that a log has, and the room in it.
+use Rattle.std.specs.Prelude.{ℕ, ◌+◌, ◌*◌, ◌≤◌, List, map, vec_len, vec_capacity}
+use Rattle.sc_handler.specs.declared.logged.Log as coded
+use Rattle.sc_handler.specs.declared.settlement.Settlement.{Settlement}
+use Rattle.sc_handler.specs.Entries.{settlement_in}
+
+abbrev pub settlements_of : coded.Log → List Settlement
+settlements_of l = map (settlement_in l.actuals.items l.handlers.items) l.entries.items
+
+-- There is room for so many settlements, whatever they are.
+pub record HasPlaces (n : ℕ) (l : coded.Log) : Type 0 where
+  pub entries : vec_len l.entries + n ≤ vec_capacity l.entries
+  pub actuals : vec_len l.actuals + 32 * n ≤ vec_capacity l.actuals
+  pub handlers : vec_len l.handlers + 32 * n ≤ vec_capacity l.handlers

@@ -1,0 +1,54 @@
+//! Copies of what takes no memory of its own.
+ghost use Rattle.std.specs.Prelude.{◌≡◌};
+
+use arrayvec::ArrayVec;
+use sc_region::{Request, Value};
+
+/// The same request once more.
+pub(crate) fn copy_request(request: &Request) -> Request
+    ensures { result ≡ request.now }
+{
+    Request {
+        poster: request.poster,
+        target: request.target,
+        errand: request.errand,
+        actuals: copy_values(&request.actuals),
+        is_waited: request.is_waited,
+    }
+}
+
+/// Makes a request the same as another one, but that it is waited for or not.
+pub(crate) fn write_request(place: &mut Request, request: &Request, is_waited: bool)
+    ensures { place.new ≡ record request.now { is_waited = is_waited } }
+{
+    place.poster = request.poster;
+    place.target = request.target;
+    place.errand = request.errand;
+    write_values(&mut place.actuals, &request.actuals);
+    place.is_waited = is_waited;
+}
+
+fn write_values(place: &mut ArrayVec<Value, 16>, values: &ArrayVec<Value, 16>)
+    ensures { place.new ≡ values.now }
+{
+    place.clear();
+    let _ = place.try_extend_from_slice(values.as_slice());
+}
+
+/// The same values once more.
+pub fn copy_values(values: &ArrayVec<Value, 16>) -> ArrayVec<Value, 16>
+    ensures { result ≡ values.now }
+{
+    let mut copy = ArrayVec::new();
+    let _ = copy.try_extend_from_slice(values.as_slice());
+    copy
+}
+
+/// The same handlers once more.
+pub fn copy_handlers(handlers: &ArrayVec<u16, 16>) -> ArrayVec<u16, 16>
+    ensures { result ≡ handlers.now }
+{
+    let mut copy = ArrayVec::new();
+    let _ = copy.try_extend_from_slice(handlers.as_slice());
+    copy
+}

@@ -1,0 +1,34 @@
+//! What the core keeps of one handler: how it stands, what it serves and is asked for, and the job that it is out with;
+//! and what it keeps of each settlement, in a log.
+//!
+//! Nothing here knows of other handlers, or of who holds whom. `specs/Handlers` says what is kept, `specs/InMemory` how it
+//! lies in memory, `specs/Picking` what the handler has to do by it, and `specs/Changes` what a settlement changes of it.
+#![tactic(auto)]
+
+mod agreement;
+mod changes;
+mod copy;
+mod fits;
+mod freeing;
+mod handler;
+mod hashing;
+mod job_kind;
+mod job_slot;
+mod logged;
+mod packed;
+mod postings;
+mod same;
+mod settlement;
+
+pub use changes::Dropped;
+pub use copy::{copy_handlers, copy_values};
+pub use fits::{fits_turns, is_request_of};
+pub use freeing::{frees, frees_under};
+pub use handler::{Answer, Handler, HandlerStage, Posting};
+pub use hashing::{word_of, write_handler};
+pub use job_kind::{JobKind, kind_of};
+pub use job_slot::{JobSlot, write_job};
+pub use logged::Log;
+pub use postings::{add_places, recycle, take_first};
+pub use same::same_handler;
+pub use settlement::Settlement;

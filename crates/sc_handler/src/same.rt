@@ -1,0 +1,140 @@
+//! Whether the same is kept of two handlers.
+ghost use Rattle.std.specs.Prelude.{◌≡◌, ◌↔◌, IsTrue, map};
+ghost use Rattle.std.specs.Option.{option_map};
+ghost use Rattle.sc_lockpass.specs.Tables.{passed_of};
+ghost use Rattle.sc_handler.specs.InMemory.{first_posted, handler_of, posting_of, service_of, stage_of};
+ghost use Rattle.sc_handler.specs.Same.{AreAskedAlike, StandAlike};
+
+use crate::agreement::same_errand;
+use crate::handler::{Handler, HandlerStage, Posting};
+use arrayvec::ArrayVec;
+use sc_lockpass::Passed;
+use sc_region::{Request, Value};
+use std::collections::LinkedList;
+
+/// Whether the same is kept of two handlers, but for the counts of their sessions and the jobs that they are out with.
+pub fn same_handler(a: &Handler, b: &Handler) -> bool
+    ensures { IsTrue result ↔ handler_of a.now ≡ handler_of b.now }
+{
+    same_standing(a, b) && same_requests(a, b)
+}
+
+/// Whether two handlers stand the same, whatever they serve and are asked for.
+fn same_standing(a: &Handler, b: &Handler) -> bool
+    ensures { IsTrue result ↔ StandAlike (handler_of a.now) (handler_of b.now) }
+{
+    same_stage(a, b)
+        && same_handlers(&a.entry, &b.entry)
+        && a.answer == b.answer
+        && a.failure == b.failure
+        && a.refused == b.refused
+}
+
+/// Whether two handlers serve the same requests, and are asked for the same.
+fn same_requests(a: &Handler, b: &Handler) -> bool
+    ensures { IsTrue result ↔ AreAskedAlike (handler_of a.now) (handler_of b.now) }
+{
+    same_services(&a.services, &b.services)
+        && same_postings(&a.queue, &b.queue)
+        && same_callback(&a.callback, &b.callback)
+}
+
+/// Whether two handlers have the same stage. An entry and its mark count only where they are to be reserved.
+fn same_stage(a: &Handler, b: &Handler) -> bool
+    ensures { IsTrue result ↔ stage_of a.now.entry.items a.now.mark a.now.stage ≡ stage_of b.now.entry.items b.now.mark b.now.stage }
+{
+    match (a.stage, b.stage) {
+        (HandlerStage::Reserves, HandlerStage::Reserves) => {
+            same_handlers(&a.entry, &b.entry) && a.mark.is_same(&b.mark)
+        }
+        (stage, its_stage) => stage == its_stage,
+    }
+}
+
+fn same_handlers(a: &ArrayVec<u16, 16>, b: &ArrayVec<u16, 16>) -> bool
+    ensures { IsTrue result ↔ a.now.items ≡ b.now.items }
+{
+    a.as_slice() == b.as_slice()
+}
+
+/// Whether the same requests are served, one after another, each over the same stage.
+fn same_services(a: &LinkedList<Posting>, b: &LinkedList<Posting>) -> bool
+    ensures { IsTrue result ↔ map service_of a.now ≡ map service_of b.now }
+{
+    let (mut left, mut right) = (a.iter(), b.iter());
+    while let Some(posting) = left.next() {
+        let Some(its) = right.next() else {
+            return false;
+        };
+        if !same_service(posting, its) {
+            return false;
+        }
+    }
+    right.next().is_none()
+}
+
+fn same_service(a: &Posting, b: &Posting) -> bool
+    ensures { IsTrue result ↔ service_of a.now ≡ service_of b.now }
+{
+    a.over == b.over && same_posting(a, b)
+}
+
+/// Whether the same is asked, one request after another.
+fn same_postings(a: &LinkedList<Posting>, b: &LinkedList<Posting>) -> bool
+    ensures { IsTrue result ↔ map posting_of a.now ≡ map posting_of b.now }
+{
+    let (mut left, mut right) = (a.iter(), b.iter());
+    while let Some(posting) = left.next() {
+        let Some(its) = right.next() else {
+            return false;
+        };
+        if !same_posting(posting, its) {
+            return false;
+        }
+    }
+    right.next().is_none()
+}
+
+/// Whether the first request is the same, or there is none.
+fn same_callback(a: &LinkedList<Posting>, b: &LinkedList<Posting>) -> bool
+    ensures { IsTrue result ↔ first_posted a.now ≡ first_posted b.now }
+{
+    match (a.front(), b.front()) {
+        (Some(posting), Some(its)) => same_posting(posting, its),
+        (None, None) => true,
+        _ => false,
+    }
+}
+
+/// Whether two requests are the same, with the rights that went with them.
+fn same_posting(a: &Posting, b: &Posting) -> bool
+    ensures { IsTrue result ↔ posting_of a.now ≡ posting_of b.now }
+{
+    same_request(&a.request, &b.request) && same_passed(&a.passed, &b.passed)
+}
+
+fn same_passed(a: &Option<Passed>, b: &Option<Passed>) -> bool
+    ensures { IsTrue result ↔ option_map passed_of a.now ≡ option_map passed_of b.now }
+{
+    match (a, b) {
+        (Some(passed), Some(its)) => passed.is_same(its),
+        (None, None) => true,
+        _ => false,
+    }
+}
+
+fn same_request(a: &Request, b: &Request) -> bool
+    ensures { IsTrue result ↔ a.now ≡ b.now }
+{
+    a.poster == b.poster
+        && a.target == b.target
+        && same_errand(a.errand, b.errand)
+        && same_values(&a.actuals, &b.actuals)
+        && a.is_waited == b.is_waited
+}
+
+fn same_values(a: &ArrayVec<Value, 16>, b: &ArrayVec<Value, 16>) -> bool
+    ensures { IsTrue result ↔ a.now ≡ b.now }
+{
+    a.as_slice() == b.as_slice()
+}
