@@ -1,4 +1,4 @@
-//! Places for jobs.
+//! The place of the job that a handler is out with.
 ghost use Rattle.std.specs.Prelude.{◌≡◌, None, Some, is_some};
 ghost use Rattle.std.specs.Option.{option_map};
 ghost use Rattle.sc_region.specs.declared.job.Job.TheVariants as job;
@@ -7,8 +7,10 @@ use crate::copy::{copy_handlers, copy_request, write_request};
 use sc_region::{Job, Request, Value};
 use std::marker::Model;
 
-/// A place for a job, which may be empty. A job that goes leaves its memory as it is, so that the next one is written over
-/// it where it is of the same kind, and no large value is moved.
+/// The place of the job that a handler is out with. It is empty where the handler isn't out.
+///
+/// A job that goes leaves its memory as it is, so that the next one is written over it where it is of the same kind, and no
+/// large value is moved.
 #[derive(Drop)]
 pub struct JobSlot {
     job: Job,

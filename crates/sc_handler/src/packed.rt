@@ -1,4 +1,5 @@
-//! Jobs and wants as the log has them: without their actuals and handlers, which lie in lists of their own.
+//! Jobs and wants as an entry of the log has them: without their actuals and handlers, which lie in lists of their own, so
+//! that an entry is small.
 ghost use Rattle.std.specs.Prelude.{◌≡◌, ◌≤◌, length};
 ghost use Rattle.sc_handler.specs.Packed.{actuals_in_job, actuals_in_want, first_of_all, handlers_in_job, handlers_in_want, job_actuals, job_handlers, packed_job, packed_request, packed_want, unpacked_job, unpacked_request, unpacked_want, want_actuals, want_handlers};
 
@@ -6,7 +7,7 @@ use arrayvec::ArrayVec;
 use sc_model::Cause;
 use sc_region::{Errand, Job, Reference, Request, Value, Want};
 
-/// A request without its actuals, of which there are so many.
+/// A request as an entry has it: with how many actuals there are in place of them.
 #[derive(Clone, Copy)]
 pub(crate) struct PackedRequest {
     pub(crate) poster: Option<u16>,
@@ -16,7 +17,7 @@ pub(crate) struct PackedRequest {
     pub(crate) is_waited: bool,
 }
 
-/// A job without its actuals, or its handlers, of which there are so many.
+/// A job as an entry has it: with how many actuals or handlers there are in place of them.
 #[derive(Clone, Copy)]
 pub(crate) enum PackedJob {
     Take(PackedRequest),
@@ -28,7 +29,7 @@ pub(crate) enum PackedJob {
     Go,
 }
 
-/// A want without its actuals, or its handlers, of which there are so many.
+/// A want as an entry has it: with how many actuals or handlers there are in place of them.
 #[derive(Clone, Copy)]
 pub(crate) enum PackedWant {
     Continue,
