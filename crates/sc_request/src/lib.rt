@@ -1,8 +1,8 @@
 //! The core: what moves requests and rights between handlers.
 //!
-//! A handler's next job is picked, its turns are played elsewhere, and what they came to is settled. `specs/Picking` and
-//! `specs/Settling` are the two halves of that; `specs/Halves` says which state of the machine a state of the core is
-//! the half of.
+//! A handler's next job is picked, its turns are played elsewhere, and what they came to is settled. What is kept of one
+//! handler, and what it has to do by that, is said in `sc_handler`. `specs/Settling` says what a settlement comes to, and
+//! `specs/Halves` which state of the machine a state of the core is the half of.
 #![tactic(auto)]
 
 mod begun;
