@@ -21,7 +21,7 @@ mod Counted
 pub mod Sounds
 mod Releases
 mod Settles
-mod Kinds
+mod JobKinds
 mod Created
 mod Ended
 mod Fallen

@@ -10,7 +10,7 @@ use Rattle.sc_request.specs.Sound.{IsSound}
 use Rattle.sc_request.proofs.Outs.{back_center, fewer_out, is_counted, none_is_out, out_is, stays, with_job}
 use Rattle.sc_request.proofs.GrantedReservations.{candidates_back, grants_back, outs_back, sound_back}
 use Rattle.sc_request.proofs.Reservers.{same_reserving}
-use Rattle.sc_request.proofs.Kinds.{job_is}
+use Rattle.sc_request.proofs.JobKinds.{job_is}
 use Rattle.sc_request.proofs.center.Core.put_back.Goals as goal
 
 pub returns-in_default-clause-center : goal.returns-in_default-clause-center

@@ -15,7 +15,7 @@ use Rattle.sc_request.specs.Logs.{granted, pick_for, picked_if}
 use Rattle.sc_request.proofs.Outs.{below_most, job_stands, more_out, out_now, outs_within, picked_center, with_job}
 use Rattle.sc_request.proofs.GrantedReservations.{Adds, below_count, candidates_picked, grants_picked, grants_there, not_out, outs_picked, sound_picked}
 use Rattle.sc_request.proofs.Reservers.{same_reserving}
-use Rattle.sc_request.proofs.Kinds.{job_is, one_job, some_of}
+use Rattle.sc_request.proofs.JobKinds.{job_is, one_job, some_of}
 use Rattle.sc_request.proofs.center.Core.send_out.Goals as goal
 
 pub set_out-requires : goal.set_out-requires

@@ -8,7 +8,7 @@ use Rattle.sc_request.specs.Cores.{center_of}
 use Rattle.sc_request.specs.Logs.{Center, settles}
 use Rattle.sc_request.specs.Rooms.{settlement}
 use Rattle.sc_request.proofs.Settles.{out_counted}
-use Rattle.sc_request.proofs.Kinds.{some_of}
+use Rattle.sc_request.proofs.JobKinds.{some_of}
 use Rattle.sc_request.proofs.center.Core.settle.Goals as goal
 
 on_err : {A B : Type 0} (r : Result A B) (P : Type 0) → is_err r ≡ true → OnErr r P → P
