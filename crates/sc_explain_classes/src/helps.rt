@@ -1,31 +1,12 @@
 //! What helps where the classes of a system are at fault.
 
 use crate::declared::class_around;
-use crate::redefinition::{push_redefine, push_unfit};
 use sc_explain_text::{Lines, is_slip, push_instead_of, push_meant, push_near_built_in, word_at};
 use sc_text::Span;
 use sc_tree::{Class, ClassMark, System};
 
-/// Adds what helps with a fault of this code at a part of the text of a system, where something does: a `redefine` that is
-/// missing, what a redefinition lacks, or what is written in place of what is left out. Whether something was added.
-pub fn explain_class_fault(
-    lines: &mut Lines,
-    text: &str,
-    system: &System,
-    code: &str,
-    span: Span,
-) -> bool {
-    match code {
-        "C2" => push_near_class(lines, text, system, word_at(text, span)),
-        "C4" => push_redefine(lines, text, system, span),
-        "C5" => push_unfit(lines, system, span),
-        "C8" => push_left_out(lines, text, system, span),
-        _ => false,
-    }
-}
-
-/// Adds what is written in place of a part of Eiffel that is left out.
-fn push_left_out(lines: &mut Lines, text: &str, system: &System, span: Span) -> bool {
+/// Adds what is written in place of a part of Eiffel that is left out, and whether there is something.
+pub fn push_left_out(lines: &mut Lines, text: &str, system: &System, span: Span) -> bool {
     let Some((_, class)) = class_around(&system.classes, span) else {
         return false;
     };

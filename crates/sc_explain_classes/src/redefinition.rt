@@ -64,7 +64,7 @@ fn push_for_heir(
     true
 }
 
-/// Adds what a redefinition at fault lacks.
+/// Adds what a redefinition at fault lacks, and whether it is known.
 pub fn push_unfit(lines: &mut Lines, system: &System, span: Span) -> bool {
     let said = match class_around(&system.classes, span) {
         None => return false,
