@@ -8,7 +8,8 @@ use Rattle.sc_parse.specs.declared.fault.ParseFault.TheVariants as parsing
 use Rattle.sc_class.specs.declared.fault.ClassFault.{ClassFault}
 use Rattle.sc_class.specs.declared.fault.ClassFault.TheVariants as classes
 use Rattle.sc_rules.specs.declared.fault.Fault.{Fault}
-use Rattle.sc_rules.specs.RuleText.{code_of, name_of}
+use Rattle.sc_rules.specs.RuleText as rules
+use Rattle.sc_refusals.specs.RefusalText.{code_of, name_of}
 use Rattle.sc_serve.specs.declared.refusal.Refusal.{Refusal}
 use Rattle.sc_driver.specs.declared.rejection.Rejection.{Rejection}
 use Rattle.sc_driver.specs.declared.rejection.Rejection.TheVariants as rejection
@@ -30,7 +31,7 @@ pub record Told : Type 0 where
   pub span : Option Span
 
 abbrev pub seen : Refusal → Told
-seen r = record { code = r.code.now; name = r.name.now; span = r.span }
+seen r = record { code = code_of r.code; name = name_of r.code; span = r.span }
 
 -- of a part of the text
 abbrev pub told_at : List ℕ → List ℕ → Span → Option Told
@@ -69,7 +70,7 @@ told_of_classes classes.OutOfMemory = None
 
 -- which rule fails in a system
 abbrev pub told_of_system : Fault → Told
-told_of_system fault = record { code = code_of fault.rule; name = name_of fault.rule; span = Some fault.span }
+told_of_system fault = record { code = rules.code_of fault.rule; name = rules.name_of fault.rule; span = Some fault.span }
 
 -- That a program would be too long has no code, and that memory ran out is no refusal.
 abbrev pub told : Rejection → Option Told

@@ -2,22 +2,23 @@
 
 ghost use Rattle.std.specs.Prelude.{◌≡◌, IfOk, Some, string_bytes};
 ghost use Rattle.std.specs.Option.{option_map};
+ghost use Rattle.sc_refusals.specs.RefusalText.{code_of, name_of};
 ghost use Rattle.sc_source.specs.Source.{place_at};
 ghost use Rattle.sc_serve.specs.Refusal as spec;
 
 use sc_class::ClassFault;
 use sc_driver::Rejection;
 use sc_parse::ParseFault;
+use sc_refusals::RefusalCode;
 use sc_rules::Fault;
 use sc_source::source::{Place, Source};
 use sc_text::{LexFault, Span};
 use std::alloc::{AllocError, Global};
 
-/// How a refusal is told: its code, its name, and the part of the source text that is at fault, if there is one.
+/// How a refusal is told: its code, which has a name, and the part of the source text that is at fault, if there is one.
 #[derive(Clone, Copy)]
 pub struct Refusal {
-    pub code: &'static str,
-    pub name: &'static str,
+    pub code: RefusalCode,
     pub span: Option<Span>,
 }
 
@@ -25,11 +26,11 @@ impl Refusal {
     /// The line that tells the refusal, `refused CODE Name FILE:LINE:COLUMN`, with the place where its part of the text
     /// begins, or without a place.
     pub fn line(&self, alloc: Global, source: &Source) -> Result<String, AllocError>
-        ensures { IfOk result (λ line. string_bytes line ≡ spec.refusal_line self.now.code.now
-            self.now.name.now (place_at source.now self.now.span)) }
+        ensures { IfOk result (λ line. string_bytes line ≡ spec.refusal_line (code_of self.now.code)
+            (name_of self.now.code) (place_at source.now self.now.span)) }
     {
-        let code = self.code;
-        let name = self.name;
+        let code = self.code.code();
+        let name = self.code.name();
         match self.span.and_then(|span| source.place_of(span.start)) {
             Some(Place { file, line, column }) => {
                 format!(in alloc; "refused {code} {name} {file}:{line}:{column}\n")
@@ -56,11 +57,11 @@ fn text_refusal(fault: &LexFault) -> Option<Refusal>
     ensures { option_map spec.seen result ≡ spec.told_of_text fault.now }
 {
     match fault {
-        LexFault::BadCharacter { span } => refusal_at("L1", "BadCharacter", *span),
-        LexFault::UnclosedString { span } => refusal_at("L2", "UnclosedString", *span),
-        LexFault::BadEscape { span } => refusal_at("L3", "BadEscape", *span),
-        LexFault::IntegerTooLarge { span } => refusal_at("L4", "IntegerTooLarge", *span),
-        LexFault::SourceTooLong => refusal_of_all("L5", "SourceTooLong"),
+        LexFault::BadCharacter { span } => refusal_at(RefusalCode::BadCharacter, *span),
+        LexFault::UnclosedString { span } => refusal_at(RefusalCode::UnclosedString, *span),
+        LexFault::BadEscape { span } => refusal_at(RefusalCode::BadEscape, *span),
+        LexFault::IntegerTooLarge { span } => refusal_at(RefusalCode::IntegerTooLarge, *span),
+        LexFault::SourceTooLong => refusal_of_all(RefusalCode::SourceTooLong),
         LexFault::OutOfMemory => None,
     }
 }
@@ -69,8 +70,8 @@ fn grammar_refusal(fault: ParseFault) -> Option<Refusal>
     ensures { option_map spec.seen result ≡ spec.told_of_tokens fault }
 {
     match fault {
-        ParseFault::NotInGrammar { span } => refusal_at("P1", "NotInGrammar", span),
-        ParseFault::TooDeep { span } => refusal_at("P2", "TooDeep", span),
+        ParseFault::NotInGrammar { span } => refusal_at(RefusalCode::NotInGrammar, span),
+        ParseFault::TooDeep { span } => refusal_at(RefusalCode::TooDeep, span),
         ParseFault::OutOfMemory => None,
     }
 }
@@ -79,14 +80,14 @@ fn class_refusal(fault: ClassFault) -> Option<Refusal>
     ensures { option_map spec.seen result ≡ spec.told_of_classes fault }
 {
     match fault {
-        ClassFault::DuplicateClass { span } => refusal_at("C1", "DuplicateClass", span),
-        ClassFault::UnknownParent { span } => refusal_at("C2", "UnknownParent", span),
-        ClassFault::Cycle { span } => refusal_at("C3", "Cycle", span),
-        ClassFault::DuplicateFeature { span } => refusal_at("C4", "DuplicateFeature", span),
-        ClassFault::BadRedefinition { span } => refusal_at("C5", "BadRedefinition", span),
-        ClassFault::NoRoot => refusal_of_all("C6", "NoRoot"),
-        ClassFault::Limit => refusal_of_all("C7", "Limit"),
-        ClassFault::LeftOut { what: _, span } => refusal_at("C8", "LeftOut", span),
+        ClassFault::DuplicateClass { span } => refusal_at(RefusalCode::DuplicateClass, span),
+        ClassFault::UnknownParent { span } => refusal_at(RefusalCode::UnknownParent, span),
+        ClassFault::Cycle { span } => refusal_at(RefusalCode::Cycle, span),
+        ClassFault::DuplicateFeature { span } => refusal_at(RefusalCode::DuplicateFeature, span),
+        ClassFault::BadRedefinition { span } => refusal_at(RefusalCode::BadRedefinition, span),
+        ClassFault::NoRoot => refusal_of_all(RefusalCode::NoRoot),
+        ClassFault::Limit => refusal_of_all(RefusalCode::Limit),
+        ClassFault::LeftOut { what: _, span } => refusal_at(RefusalCode::LeftOut, span),
         ClassFault::OutOfMemory => None,
     }
 }
@@ -94,27 +95,22 @@ fn class_refusal(fault: ClassFault) -> Option<Refusal>
 fn rules_refusal(fault: Fault) -> Option<Refusal>
     ensures { option_map spec.seen result ≡ Some (spec.told_of_system fault) }
 {
-    refusal_at(fault.rule.code(), fault.rule.name(), fault.span)
+    refusal_at(RefusalCode::Rule(fault.rule), fault.span)
 }
 
 /// The refusal of a part of the text.
-fn refusal_at(code: &'static str, name: &'static str, span: Span) -> Option<Refusal>
-    ensures { option_map spec.seen result ≡ spec.told_at code.entry.now name.entry.now span }
+fn refusal_at(code: RefusalCode, span: Span) -> Option<Refusal>
+    ensures { option_map spec.seen result ≡ spec.told_at (code_of code) (name_of code) span }
 {
     Some(Refusal {
         code,
-        name,
         span: Some(span),
     })
 }
 
 /// The refusal of the whole text.
-fn refusal_of_all(code: &'static str, name: &'static str) -> Option<Refusal>
-    ensures { option_map spec.seen result ≡ spec.told_of_all code.entry.now name.entry.now }
+fn refusal_of_all(code: RefusalCode) -> Option<Refusal>
+    ensures { option_map spec.seen result ≡ spec.told_of_all (code_of code) (name_of code) }
 {
-    Some(Refusal {
-        code,
-        name,
-        span: None,
-    })
+    Some(Refusal { code, span: None })
 }

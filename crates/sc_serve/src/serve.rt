@@ -399,12 +399,12 @@ fn explanation(
         Some(span) => excerpt(alloc, source.text().as_bytes(), span)?,
         None => Vec::new(alloc),
     };
-    let code = refusal.code;
-    let diagnosis = diagnose(alloc, source.text(), root, code, refusal.span)?;
+    let diagnosis = diagnose(alloc, source.text(), root, refusal.code, refusal.span)?;
     lines.extend_from_slice(diagnosis.lines.as_slice())?;
     if let Some(related) = diagnosis.related {
         push_related(alloc, &mut lines, source, related)?;
     }
+    let code = refusal.code.code();
     let more = format!(in alloc; "`scoop explain {code}` says more\n")?;
     lines.extend_from_slice(more.as_bytes())?;
     Ok(lines)
