@@ -10,7 +10,7 @@ use Rattle.sc_proctype.specs.Conformance.{integer, boolean}
 use Rattle.sc_combine.specs.declared.known.Known.{Known}
 use Rattle.sc_combine.specs.declared.known.Known.TheVariants as known
 use Rattle.sc_combine.specs.Combiners.{combined_result, combined_argument, known_of}
-use Rattle.sc_test_calls.proofs.Conformances.{attached, detachable, first, x, y}
+use Rattle.sc_tests.proofs.Conformances.{attached, detachable, first, x, y}
 
 abbrev z : Tag
 z = tag.With (Formal 2)

@@ -1,6 +1,6 @@
 use Rattle.std.proofs.Common.{◌≡◌, drop, map}
-use Rattle.sc_test_program.specs.Held.{held_in}
-use Rattle.sc_test_program.proofs.program.fake.FakeFilesFiles.reader.Given as goal
+use Rattle.sc_tests.specs.Held.{held_in}
+use Rattle.sc_tests.proofs.program.fake.FakeFilesFiles.reader.Given as goal
 
 -- no file before has that name
 abbrev pub invariant-loop-file : goal.invariant-loop-file

@@ -1,7 +1,7 @@
 //! Files and writers for tests, which stand in the test itself.
 
 ghost use Rattle.std.specs.Prelude.{◌≡◌, Some, map};
-ghost use Rattle.sc_test_program.specs.Held.{held_in};
+ghost use Rattle.sc_tests.specs.Held.{held_in};
 
 use sc_source::files::Files;
 use sc_source::writing::Remains;
