@@ -98,7 +98,8 @@ pub record TellsTooLong (held : List (Option (List ℕ))) (output : List ℕ) (e
 -- What is answered on files of these names, which are read in order and hold this: their source text may be too long.
 abbrev pub IsAnswerOn : Command → List (List ℕ) → List (Option (List ℕ)) → List ℕ → Exit → Type 0
 IsAnswerOn command names held output exit =
-    ((source : List File) × IsSourceOf names held source × IsAnswerOf command source output exit) ⊎ TellsTooLong held output exit
+    ((source : List File) × IsSourceOf names held source × IsAnswerOf command source output exit)
+    ⊎ TellsTooLong held output exit
 
 -- ---- no answer
 
@@ -119,8 +120,8 @@ IsOfFile (of_file.NotUtf8 offset) = Unit {0}
 IsOfFile of_file.TooLong = ⊥
 IsOfFile of_file.OutOfMemory = ⊥
 
--- The file of this number among those of these names is told with what is wrong with it; or memory ran out, perhaps as it was
--- to be told that the files are too long.
+-- The file of this number among those of these names is told with what is wrong with it; or memory ran out, perhaps as
+-- it was to be told that the files are too long.
 abbrev pub IsUnread : List (List ℕ) → JoinFault → Fault → Type 0
 IsUnread names why (fault.CannotRead name reading) =
     (reading ≡ why.fault) × IsOfFile reading × (name.now ≡ get_or names why.file [])
@@ -133,9 +134,10 @@ IsUnread names why fault.NoThread = ⊥
 IsUnread names why fault.LogsDiffer = ⊥
 IsUnread names why fault.NotText = ⊥
 
--- This keeps files of these names, which hold this, from being read: one of them is told with what is wrong with it. If its reader
--- failed, it did so for good, and what is told is true where it is known what each of them holds.
-pub record IsFileAtFault (names : List (List ℕ)) (held : List (Option (List ℕ))) (name : List ℕ) (reading : FileFault) : Type 0 where
+-- This keeps files of these names, which hold this, from being read: one of them is told with what is wrong with it. If
+-- its reader failed, it did so for good, and what is told is true where it is known what each of them holds.
+pub record IsFileAtFault (names : List (List ℕ)) (held : List (Option (List ℕ))) (name : List ℕ) (reading : FileFault)
+    : Type 0 where
   pub why : JoinFault
   pub there : why.file < length names
   pub named : name ≡ get_or names why.file []
@@ -178,7 +180,8 @@ IsAuditedAs program left report hows output exit =
     (IsAudited program left × (output ≡ report ++ codes "audit yes\n") × (exit ≡ exit_of hows))
     ⊎ ((fault : AuditFault) × TellsWhy program left fault × (output ≡ report ++ audit_line fault) × (exit ≡ Broken))
 
--- What is told of what a run left: the report alone, with the status that goes with how the handlers stand; or an audit too.
+-- What is told of what a run left: the report alone, with the status that goes with how the handlers stand; or an audit
+-- too.
 abbrev pub IsJudged : Image → Bool → Left → List ℕ → List Status → List ℕ → Exit → Type 0
 IsJudged program false left report hows output exit = (output ≡ report) × (exit ≡ exit_of hows)
 IsJudged program true left report hows output exit = IsAuditedAs program left report hows output exit
@@ -186,12 +189,13 @@ IsJudged program true left report hows output exit = IsAuditedAs program left re
 -- The same of a run whose record has these lines.
 abbrev pub IsTold : Image → ℕ → Bool → List RecordLine → List ℕ → List Status → List ℕ → Exit → Type 0
 IsTold program limit is_audited lines report hows output exit =
-    (left : Left) × IsRun program limit left × (left.lines.items ≡ lines) × IsJudged program is_audited left report hows output exit
+    (left : Left) × IsRun program limit left × (left.lines.items ≡ lines)
+    × IsJudged program is_audited left report hows output exit
 
--- The answer to a run of the program: the report, the audit of it where one is asked for, the status that goes with that, and
--- the lines of the record for the file, where one was named.
-pub record IsRanOf (program : Image) (options : RunOptions) (output : List ℕ) (exit : Exit) (recording : Option Recording) :
-    Type 0 where
+-- The answer to a run of the program: the report, the audit of it where one is asked for, the status that goes with that,
+-- and the lines of the record for the file, where one was named.
+pub record IsRanOf (program : Image) (options : RunOptions) (output : List ℕ) (exit : Exit)
+    (recording : Option Recording) : Type 0 where
   pub lines : List RecordLine
   pub hows : List Status
   pub report : List ℕ
@@ -200,7 +204,8 @@ pub record IsRanOf (program : Image) (options : RunOptions) (output : List ℕ) 
   pub kept : kept_of recording ≡ asked_of (option_map (λ n. n.now) options.record) lines
 
 -- The same, of the text's program.
-pub record IsRanFrom (options : RunOptions) (text output : List ℕ) (exit : Exit) (recording : Option Recording) : Type 0 where
+pub record IsRanFrom (options : RunOptions) (text output : List ℕ) (exit : Exit) (recording : Option Recording)
+    : Type 0 where
   pub lines : List RecordLine
   pub hows : List Status
   pub report : List ℕ
@@ -209,8 +214,8 @@ pub record IsRanFrom (options : RunOptions) (text output : List ℕ) (exit : Exi
   pub kept : kept_of recording ≡ asked_of (option_map (λ n. n.now) options.record) lines
 
 -- Where the text is refused nothing is to be written.
-pub record IsNotRan (options : RunOptions) (source : List File) (output : List ℕ) (exit : Exit) (recording : Option Recording) :
-    Type 0 where
+pub record IsNotRan (options : RunOptions) (source : List File) (output : List ℕ) (exit : Exit)
+    (recording : Option Recording) : Type 0 where
   pub why : Rejection
   pub true_of : IsNotRunFor (joined source) (root_of options.root) why
   pub refused : IsRefusalOf source why output exit
@@ -259,8 +264,8 @@ pub record TellsBadRecord (output : List ℕ) (exit : Exit) : Type 0 where
 abbrev pub IsNoRecord : Option (List ℕ) → List ℕ → Exit → Type 0
 IsNoRecord held output exit = IfSome held (λ bytes. ¬ IsRecordText bytes) × TellsBadRecord output exit
 
--- The program is played by the lines of a record, which is what the file holds, as far as that is known: the report of the
--- replay, and the status that goes with how the handlers stand.
+-- The program is played by the lines of a record, which is what the file holds, as far as that is known: the report of
+-- the replay, and the status that goes with how the handlers stand.
 pub record IsPlayed (program : Image) (held : Option (List ℕ)) (output : List ℕ) (exit : Exit) : Type 0 where
   pub version : Version
   pub lines : List RecordLine
@@ -274,22 +279,25 @@ pub record IsPlayed (program : Image) (held : Option (List ℕ)) (output : List 
 abbrev pub IsReplayTo : Image → Option (List ℕ) → List ℕ → Exit → Type 0
 IsReplayTo program held output exit = IsNoRecord held output exit ⊎ IsPlayed program held output exit
 
--- What is answered on the source text of these files, which is run from this root: a record is played with its program, or
--- something is at fault in it.
+-- What is answered on the source text of these files, which is run from this root: a record is played with its program,
+-- or something is at fault in it.
 abbrev pub IsReplayOf : Root → Option (List ℕ) → List File → List ℕ → Exit → Type 0
 IsReplayOf root held source output exit =
     ((program : Image) × IsLoaded (joined source) root program × IsReplayTo program held output exit)
     ⊎ ((why : Rejection) × IsNotRunFor (joined source) root why × IsRefusalOf source why output exit)
 
--- What is answered on files of these names, which hold this, where the file of the record holds that, as far as it is known.
+-- What is answered on files of these names, which hold this, where the file of the record holds that, as far as it is
+-- known.
 abbrev pub IsReplayOn : Root → Option (List ℕ) → List (List ℕ) → List (Option (List ℕ)) → List ℕ → Exit → Type 0
 IsReplayOn root recorded names held output exit =
-    ((source : List File) × IsSourceOf names held source × IsReplayOf root recorded source output exit) ⊎ TellsTooLong held output exit
+    ((source : List File) × IsSourceOf names held source × IsReplayOf root recorded source output exit)
+    ⊎ TellsTooLong held output exit
 
--- Why the file of this name holds nothing that is played: its reader failed, with the error that is told; or memory ran out,
--- perhaps as it was to be told that it holds no record.
+-- Why the file of this name holds nothing that is played: its reader failed, with the error that is told; or memory ran
+-- out, perhaps as it was to be told that it holds no record.
 abbrev pub IsRecordUnread : List ℕ → ReadFault → Fault → Type 0
-IsRecordUnread name why (fault.CannotRead named (of_file.Unreadable error)) = (named.now ≡ name) × (why ≡ reading.Unreadable error)
+IsRecordUnread name why (fault.CannotRead named (of_file.Unreadable error)) =
+    (named.now ≡ name) × (why ≡ reading.Unreadable error)
 IsRecordUnread name why fault.OutOfMemory = (why ≡ reading.OutOfMemory) ⊎ IsBadRecord why
 IsRecordUnread name why (fault.CannotRead named (of_file.NotUtf8 offset)) = ⊥
 IsRecordUnread name why (fault.CannotRead named of_file.TooLong) = ⊥

@@ -22,7 +22,8 @@ place_text (Some p) = codes " " ++ (p.file ++ (codes ":" ++ (decimal p.line ++ (
 
 -- `refused CODE Name FILE:LINE:COLUMN`, as a line
 abbrev pub refusal_line : List ℕ → List ℕ → Option Place → List ℕ
-refusal_line code name place = codes "refused " ++ (code ++ (codes " " ++ (name ++ (place_text place ++ (line_feed ∷ [])))))
+refusal_line code name place =
+    codes "refused " ++ (code ++ (codes " " ++ (name ++ (place_text place ++ (line_feed ∷ [])))))
 
 -- what is told: a code, a name, and the part of the source text that is at fault, if there is one
 pub record Told : Type 0 where
@@ -70,7 +71,8 @@ told_of_classes classes.OutOfMemory = None
 
 -- which rule fails in a system
 abbrev pub told_of_system : Fault → Told
-told_of_system fault = record { code = rules.code_of fault.rule; name = rules.name_of fault.rule; span = Some fault.span }
+told_of_system fault =
+    record { code = rules.code_of fault.rule; name = rules.name_of fault.rule; span = Some fault.span }
 
 -- That a program would be too long has no code, and that memory ran out is no refusal.
 abbrev pub told : Rejection → Option Told

@@ -87,7 +87,8 @@ states_line count = codes "states " ++ (decimal count ++ codes "\n")
 abbrev pub verdict_lines : Sought → Verdict → List ℕ
 verdict_lines what verdict =
     finding_line what verdict.is_whole verdict.finding
-    ++ (length_line verdict.length ++ (outcomes_line verdict.finding (length verdict.ends.items) ++ states_line verdict.states))
+    ++ (length_line verdict.length
+        ++ (outcomes_line verdict.finding (length verdict.ends.items) ++ states_line verdict.states))
 
 -- The lines of the verdict, and behind them the outcomes where they are to be listed.
 abbrev pub IsTold : Sought → Bool → Verdict → List ℕ → Type 0
@@ -103,11 +104,11 @@ found_for name (finding.Fails order) = asked_of name order.lines.items
 found_for name finding.Nothing = None
 found_for name finding.Undecided = None
 
--- The answer to a search of the program: a verdict on its orders of turns, of which the order that was found leads to what is
--- said, and there is none where it is whole; the status that goes with it; and the order that was found for the file of the
--- record, where one was named.
-pub record IsSearchOf (program : Image) (options : SearchOptions) (output : List ℕ) (exit : Exit) (recording : Option Recording) :
-    Type 0 where
+-- The answer to a search of the program: a verdict on its orders of turns, of which the order that was found leads to
+-- what is said, and there is none where it is whole; the status that goes with it; and the order that was found for the
+-- file of the record, where one was named.
+pub record IsSearchOf (program : Image) (options : SearchOptions) (output : List ℕ) (exit : Exit)
+    (recording : Option Recording) : Type 0 where
   pub verdict : Verdict
   pub found : IsFound program Two verdict.finding
   pub whole : IsShown program Two (aim_of options.sought) verdict
@@ -116,22 +117,25 @@ pub record IsSearchOf (program : Image) (options : SearchOptions) (output : List
   pub kept : kept_of recording ≡ found_for (option_map (λ n. n.now) options.record) verdict.finding
 
 -- The same, of the text's program.
-pub record IsSearchFrom (options : SearchOptions) (text output : List ℕ) (exit : Exit) (recording : Option Recording) : Type 0 where
+pub record IsSearchFrom (options : SearchOptions) (text output : List ℕ) (exit : Exit) (recording : Option Recording)
+    : Type 0 where
   pub program : Image
   pub loaded : IsLoaded text (root_of options.root) program
   pub searched : IsSearchOf program options output exit recording
 
 -- Where the text is refused nothing is to be written.
-pub record IsNotSearched (root : Root) (source : List File) (output : List ℕ) (exit : Exit) (recording : Option Recording) :
-    Type 0 where
+pub record IsNotSearched (root : Root) (source : List File) (output : List ℕ) (exit : Exit)
+    (recording : Option Recording) : Type 0 where
   pub why : Rejection
   pub true_of : IsNotRunFor (joined source) root why
   pub refused : IsRefusalOf source why output exit
   pub unkept : recording ≡ None
 
 -- What is answered to a search of files of these names, which hold this.
-abbrev pub IsSearchOn : SearchOptions → List (List ℕ) → List (Option (List ℕ)) → List ℕ → Exit → Option Recording → Type 0
+abbrev pub IsSearchOn :
+    SearchOptions → List (List ℕ) → List (Option (List ℕ)) → List ℕ → Exit → Option Recording → Type 0
 IsSearchOn options names held output exit recording =
     ((source : List File) × IsSourceOf names held source
-    × (IsSearchFrom options (joined source) output exit recording ⊎ IsNotSearched (root_of options.root) source output exit recording))
+    × (IsSearchFrom options (joined source) output exit recording
+        ⊎ IsNotSearched (root_of options.root) source output exit recording))
     ⊎ (TellsTooLong held output exit × (recording ≡ None))

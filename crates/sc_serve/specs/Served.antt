@@ -100,12 +100,13 @@ number_of Unfinished = 4
 number_of Broken = 5
 number_of Undecided = 6
 
--- An argument, a file or the output is at fault; or memory or a thread is refused, or what the threads did doesn't agree.
+-- An argument, a file or the output is at fault; or memory or a thread is refused, or what the threads did doesn't
+-- agree.
 abbrev pub IsGivenUp : ℕ → Type 0
 IsGivenUp status = (status ≡ number_of Usage) ⊎ (status ≡ number_of Broken)
 
--- All of the answer is written behind what was written before, and the program ends with its status; or that is given up, and
--- only a beginning of it may be written.
+-- All of the answer is written behind what was written before, and the program ends with its status; or that is given
+-- up, and only a beginning of it may be written.
 abbrev pub IsDelivered : Answer → Option (List ℕ) → Option (List ℕ) → ℕ → Type 0
 IsDelivered answer old new status =
     (Appends old new (written_of answer) × (status ≡ number_of answer.exit))
