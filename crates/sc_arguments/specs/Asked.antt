@@ -27,8 +27,8 @@ is_option [] = false
 is_option (c ∷ []) = false
 is_option (c ∷ d ∷ cs) = c == 45
 
--- What is given to a command by the words behind it: all but options and their values; behind `--`, all. Of the first it
--- is said whether it is the value of the option before it.
+-- What is given to a command by the words behind it: all but options and their values; behind `--`, all. Of the first
+-- it is said whether it is the value of the option before it.
 abbrev pub given_in : Bool → List (List ℕ) → List (List ℕ)
 given_in is_value [] = []
 given_in true (word ∷ words) = given_in false words

@@ -5,7 +5,7 @@ ghost use Rattle.sc_refusals.specs.RefusalText as spec;
 
 use sc_rules::Rule;
 
-/// A reason for which a source text is refused: the first that its characters, its tokens, its classes or the rules give.
+/// A reason for which a source text is refused: of its characters, its tokens or its classes, or a rule that fails.
 #[derive(Clone, Copy)]
 pub enum RefusalCode {
     /// A character begins no token.

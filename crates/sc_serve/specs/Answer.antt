@@ -192,8 +192,8 @@ IsTold program limit is_audited lines report hows output exit =
     (left : Left) × IsRun program limit left × (left.lines.items ≡ lines)
     × IsJudged program is_audited left report hows output exit
 
--- The answer to a run of the program: the report, the audit of it where one is asked for, the status that goes with that,
--- and the lines of the record for the file, where one was named.
+-- The answer to a run of the program: the report, the audit of it where one is asked for, the status that goes with
+-- that, and the lines of the record for the file, where one was named.
 pub record IsRanOf (program : Image) (options : RunOptions) (output : List ℕ) (exit : Exit)
     (recording : Option Recording) : Type 0 where
   pub lines : List RecordLine

@@ -1,10 +1,10 @@
 //! Tests alone, of what the program doesn't show and no clause says.
 //!
-//! Tables of rows, each a text or some steps and what comes of it: tokens of a text ([`tokens`]), a formula of 3,000 levels
-//! ([`formulas`]), how long code may be ([`lowered`]), a handler's store ([`stores`]) and its log ([`worklogs`]), records
-//! whose reader or writer fails ([`records`]), and how files are joined ([`joining`]). Calls of the program whose files or output
-//! fail ([`program`]). Runs by several workers ([`together`]), audits with records that aren't a run's own ([`audits`],
-//! [`altered`]), and worlds that one thread plays ([`worlds`]).
+//! Tables of rows, each a text or some steps and what comes of it: tokens of a text ([`tokens`]), a formula of 3,000
+//! levels ([`formulas`]), how long code may be ([`lowered`]), a handler's store ([`stores`]) and its log ([`worklogs`]),
+//! records whose reader or writer fails ([`records`]), and how files are joined ([`joining`]). Calls of the program whose
+//! files or output fail ([`program`]). Runs by several workers ([`together`]), audits with records that aren't a run's
+//! own ([`audits`], [`altered`]), and worlds that one thread plays ([`worlds`]).
 //!
 //! `proofs/` has rows of definitions: of rights, entries, conformance and of what is seen through a call.
 #![tactic(auto)]
