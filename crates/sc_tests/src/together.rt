@@ -17,8 +17,8 @@ const LOOKS: u32 = 3_000;
 /// A handler that waits, as a worker begins to play it, until others were played.
 #[derive(Clone, Copy)]
 enum Waits {
-    /// Handler 1, until the handlers 2 to this one have begun.
-    UntilBegun(u16),
+    /// Handler 1, until these handlers have begun: a bit for each, by its number.
+    UntilBegun(u64),
     /// Handler 4, until handler 3 has ended twice.
     UntilEndedTwice,
 }
@@ -27,8 +27,8 @@ enum Waits {
 #[derive(Drop)]
 struct Seen {
     waits: Waits,
-    /// 1 for each handler that has begun, by its number.
-    begun: [AtomicU64; 9],
+    /// A bit for each handler that has begun, by its number.
+    begun: AtomicU64,
     /// How often handler 3 has ended.
     ended: AtomicU64,
     /// 1 where a wait ran out.
@@ -39,17 +39,7 @@ impl Seen {
     fn new(waits: Waits) -> Seen {
         Seen {
             waits,
-            begun: [
-                AtomicU64::new(0),
-                AtomicU64::new(0),
-                AtomicU64::new(0),
-                AtomicU64::new(0),
-                AtomicU64::new(0),
-                AtomicU64::new(0),
-                AtomicU64::new(0),
-                AtomicU64::new(0),
-                AtomicU64::new(0),
-            ],
+            begun: AtomicU64::new(0),
             ended: AtomicU64::new(0),
             late: AtomicU64::new(0),
         }
@@ -57,29 +47,18 @@ impl Seen {
 
     /// A handler begins: whether it waits.
     fn begins(&self, handler: u16) -> bool {
-        if let Some(begun) = self.begun.get(handler as usize) {
-            begun.store(1, Ordering::SeqCst);
-        }
+        let bit = 1_u64.checked_shl(handler as u32).unwrap_or(0);
+        self.begun.fetch_or(bit, Ordering::SeqCst);
         match self.waits {
             Waits::UntilBegun(_) => handler == 1,
             Waits::UntilEndedTwice => handler == 4,
         }
     }
 
-    fn have_begun(&self, last: u16) -> bool {
-        for (handler, begun) in self.begun.iter().enumerate() {
-            let is_wanted = handler >= 2 && handler <= last as usize;
-            if is_wanted && begun.load(Ordering::SeqCst) == 0 {
-                return false;
-            }
-        }
-        true
-    }
-
     /// Whether the handler that waits may go on.
     fn may_go_on(&self) -> bool {
         match self.waits {
-            Waits::UntilBegun(last) => self.have_begun(last),
+            Waits::UntilBegun(others) => self.begun.load(Ordering::SeqCst) & others == others,
             Waits::UntilEndedTwice => self.ended.load(Ordering::SeqCst) >= 2,
         }
     }
@@ -157,7 +136,7 @@ stopped idle
 
 #[test]
 fn two_at_once(rt: HostRuntime) -> Result<(), Fail> {
-    expect(&rt, TWO, 2, Waits::UntilBegun(2), TWO_REPORT)
+    expect(&rt, TWO, 2, Waits::UntilBegun(0b100), TWO_REPORT)
 }
 
 /// Eight handlers that a ninth one makes.
@@ -200,7 +179,7 @@ stopped idle
 
 #[test]
 fn eight_at_once(rt: HostRuntime) -> Result<(), Fail> {
-    expect(&rt, EIGHT, 8, Waits::UntilBegun(8), EIGHT_REPORT)
+    expect(&rt, EIGHT, 8, Waits::UntilBegun(0b1_1111_1100), EIGHT_REPORT)
 }
 
 /// Locks that are passed twice, then a failure; and a handler that comes late.
