@@ -88,7 +88,7 @@ abbrev pub verdict_lines : Sought → Verdict → List ℕ
 verdict_lines what verdict =
     finding_line what verdict.is_whole verdict.finding
     ++ (length_line verdict.length
-        ++ (outcomes_line verdict.finding (length verdict.ends.items) ++ states_line verdict.states))
+    ++ (outcomes_line verdict.finding (length verdict.ends.items) ++ states_line verdict.states))
 
 -- The lines of the verdict, and behind them the outcomes where they are to be listed.
 abbrev pub IsTold : Sought → Bool → Verdict → List ℕ → Type 0
@@ -137,5 +137,5 @@ abbrev pub IsSearchOn :
 IsSearchOn options names held output exit recording =
     ((source : List File) × IsSourceOf names held source
     × (IsSearchFrom options (joined source) output exit recording
-        ⊎ IsNotSearched (root_of options.root) source output exit recording))
+    ⊎ IsNotSearched (root_of options.root) source output exit recording))
     ⊎ (TellsTooLong held output exit × (recording ≡ None))

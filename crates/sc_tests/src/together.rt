@@ -136,7 +136,7 @@ stopped idle
 
 #[test]
 fn two_at_once(rt: HostRuntime) -> Result<(), Fail> {
-    expect(&rt, TWO, 2, Waits::UntilBegun(0b100), TWO_REPORT)
+    expect(&rt, TWO, 2, Waits::UntilBegun(0x4), TWO_REPORT)
 }
 
 /// Eight handlers that a ninth one makes.
@@ -179,7 +179,7 @@ stopped idle
 
 #[test]
 fn eight_at_once(rt: HostRuntime) -> Result<(), Fail> {
-    expect(&rt, EIGHT, 8, Waits::UntilBegun(0b1_1111_1100), EIGHT_REPORT)
+    expect(&rt, EIGHT, 8, Waits::UntilBegun(0x1fc), EIGHT_REPORT)
 }
 
 /// Locks that are passed twice, then a failure; and a handler that comes late.
