@@ -6,10 +6,10 @@ ghost use Rattle.sc_tree.specs.View.{name_of};
 ghost use Rattle.sc_class.specs.Names.{number_among, is_listed};
 ghost use Rattle.sc_class.specs.Internal.NameIndex.{names_in, place_among, known_then, IsIndex};
 
-use indexmap::IndexMap;
 use sc_text::Span;
 use sc_tree::Name;
 use std::alloc::{AllocError, Global};
+use std::collections::HashMap;
 use std::marker::Model;
 
 /// Whether two names are the same.
@@ -52,7 +52,7 @@ fn known_with(before: Option<Known>, number: usize, place: Span) -> Known
 #[derive(Drop)]
 pub struct NameIndex<'s> {
     names: Vec<Added<'s>>,
-    known: IndexMap<&'s str, Known>,
+    known: HashMap<&'s str, Known>,
 }
 
 impl<'s> Model for NameIndex<'s> {
@@ -70,7 +70,7 @@ impl<'s> NameIndex<'s> {
     {
         NameIndex {
             names: Vec::new(alloc),
-            known: IndexMap::new(alloc),
+            known: HashMap::new(alloc),
         }
     }
 
@@ -126,7 +126,7 @@ impl<'s> NameIndex<'s> {
             let text = last.name.text.as_str();
             match last.before {
                 None => {
-                    self.known.swap_remove(text);
+                    self.known.remove(text);
                 }
                 // The text is there, so that this takes no memory.
                 Some(before) => {

@@ -8,9 +8,9 @@ use Rattle.sc_class.proofs.names.NameIndex.pop.Goals as goal
 
 pub invariant_of-self : goal.invariant_of-self
 invariant_of-self c =
-    index_shrunk c.self.inside.known c.swap_remove.new.self c.pop.new.self.items c.in-Some.last c.as_str-text.result.now c.as_str-text.ensures.value
+    index_shrunk c.self.inside.known c.remove.new.self c.pop.new.self.items c.in-Some.last c.as_str-text.result.now c.as_str-text.ensures.value
     (subst (IsIndex c.self.inside.known) c.in-Some.ensures.items c.self.invariant)
-    (subst (λ (o : Option Known). UpdatesBy (λ a b. bytes_eq a.now b.now) (λ k. bytes_eq c.as_str-text.result.now k.now) c.self.inside.known c.swap_remove.new.self o) (sym c.in-None.is) c.swap_remove.ensures.updates)
+    (subst (λ (o : Option Known). UpdatesBy (λ a b. bytes_eq a.now b.now) (λ k. bytes_eq c.as_str-text.result.now k.now) c.self.inside.known c.remove.new.self o) (sym c.in-None.is) c.remove.ensures.updates)
 
 pub invariant_of-self-in-Some-before : goal.invariant_of-self-in-Some-before
 invariant_of-self-in-Some-before c =
