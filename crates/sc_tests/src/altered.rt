@@ -4,6 +4,7 @@
 //! numbers of turns make other records; in the first line the other version does; elsewhere no byte may be another.
 
 use crate::audits::{FIVE_TURNS, told};
+use crate::rows::{expect_text, halves_of};
 use crate::runs::{left_by_one, load};
 use crate::together::RELAY;
 use sc_audit::{ReadFault, Record, read_record};
@@ -145,7 +146,7 @@ fn expect_altered<R: Abort>(
 ) -> Result<(), Fail> {
     let answers = answers(alloc, program, left, text.as_bytes())?;
     let told = answers.told(alloc)?;
-    assert_eq!(rt; told.as_str(), wanted, "of {text}");
+    expect_text(rt, &told, wanted, text);
     Ok(())
 }
 
@@ -158,7 +159,7 @@ fn expect_answer<R: Abort>(
     (text, wanted): (&str, &str),
 ) -> Result<(), Fail> {
     let told = told(alloc, answer_to(alloc, program, left, text.as_bytes())?)?;
-    assert_eq!(rt; told.as_str(), wanted, "of {text}");
+    expect_text(rt, &told, wanted, text);
     Ok(())
 }
 
@@ -214,7 +215,7 @@ fn expect_texts<R: Abort>(
     left: &mut Left<'_>,
 ) -> Result<(), Fail> {
     for row in TEXTS.split("\n#\n") {
-        let row = row.split_once('|').ok_or("a row without a bar")?;
+        let row = halves_of(row)?;
         expect_answer(rt, alloc, program, left, row)?;
     }
     Ok(())

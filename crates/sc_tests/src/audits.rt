@@ -1,5 +1,6 @@
 //! Audits of a run with records that aren't its own.
 
+use crate::rows::{expect_text, halves_of};
 use crate::runs::{left_by_one, load};
 use sc_audit::RecordLine;
 use sc_auditing::{AuditFault, audit};
@@ -79,11 +80,11 @@ fn expect_row<R: Abort>(
     left: &mut Left<'_>,
     row: &str,
 ) -> Result<(), Fail> {
-    let (words, wanted) = row.split_once('|').ok_or("a row without a bar")?;
+    let (words, wanted) = halves_of(row)?;
     left.lines.clear();
     add_lines(&mut left.lines, words)?;
     let answer = told(alloc, audit(alloc, program, left))?;
-    assert_eq!(rt; answer.as_str(), wanted, "of {words}");
+    expect_text(rt, &answer, wanted, words);
     Ok(())
 }
 

@@ -1,5 +1,6 @@
 //! The source text of files, one after the other.
 
+use crate::rows::{expect_text, halves_of};
 use sc_source::{SourceFault, join_sources};
 use sc_text::MAX_SOURCE_BYTES;
 use std::alloc::{AllocError, Global};
@@ -127,8 +128,7 @@ fn expect<R: Abort + AllocGlobal>(
 ) -> Result<(), Fail> {
     let files = files_of(rt.alloc(), words)?;
     let found = joined(rt.alloc(), &files, reading)?;
-    let piece = reading.piece;
-    assert_eq!(rt; found.as_str(), wanted, "of {words}, {piece} bytes a call");
+    expect_text(rt, &found, wanted, words);
     Ok(())
 }
 
@@ -152,7 +152,7 @@ efbbbfeda080|NotUtf8 { file: 0 }";
 #[test]
 fn joins_the_texts_of_files(rt: HostRuntime) -> Result<(), Fail> {
     for row in JOINED.lines() {
-        let (words, wanted) = row.split_once('|').ok_or("a row without a bar")?;
+        let (words, wanted) = halves_of(row)?;
         for piece in 0..5 {
             let mut reading = WHOLE;
             if piece > 0 {
@@ -190,7 +190,7 @@ fn expect_too_long<R: Abort + AllocGlobal>(
     let mut reading = WHOLE;
     reading.broken = Some(broken);
     let found = joined(rt.alloc(), &files, reading)?;
-    assert_eq!(rt; found.as_str(), "SourceTooLong");
+    expect_text(rt, &found, "SourceTooLong", "blanks");
     Ok(())
 }
 
@@ -202,8 +202,8 @@ const BROKEN: &str = "61 62|1|Unreadable { file: 1 }
 #[test]
 fn finds_the_first_file_at_fault(rt: HostRuntime) -> Result<(), Fail> {
     for row in BROKEN.lines() {
-        let (words, rest) = row.split_once('|').ok_or("a row without a bar")?;
-        let (broken, wanted) = rest.split_once('|').ok_or("a row without a bar")?;
+        let (words, rest) = halves_of(row)?;
+        let (broken, wanted) = halves_of(rest)?;
         let mut reading = WHOLE;
         reading.broken = Some(broken.parse()?);
         expect(&rt, words, reading, wanted)?;

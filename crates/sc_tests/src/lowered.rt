@@ -1,6 +1,7 @@
 //! Source texts, and what their code is.
 
 use crate::programs::program_within;
+use crate::rows::{expect_text, halves_of};
 use sc_code::Program;
 use std::alloc::{AllocError, Global};
 use std::process::Abort;
@@ -48,7 +49,7 @@ const REDEFINED: &str = "8|too long, 9: 0 1 1 1 0 0 0 0
 fn expect_rows<R: Abort + AllocGlobal>(rt: &R, source: &str, rows: &str) -> Result<(), Fail> {
     let alloc = rt.alloc();
     for row in rows.lines() {
-        let (most, wanted) = row.split_once('|').ok_or("a row without a bar")?;
+        let (most, wanted) = halves_of(row)?;
         let (program, is_too_long) = program_within(
             alloc,
             source,
@@ -58,7 +59,7 @@ fn expect_rows<R: Abort + AllocGlobal>(rt: &R, source: &str, rows: &str) -> Resu
         )?;
         let before = if is_too_long { "too long, " } else { "" };
         let got = told(alloc, before, &program)?;
-        assert_eq!(rt; got.as_str(), wanted, "of {source} within {most}");
+        expect_text(rt, &got, wanted, source);
     }
     Ok(())
 }

@@ -6,6 +6,7 @@ mod output;
 mod records;
 
 use crate::program::fake::{ENDLESS, FakeFiles, FakeWriter, Patience};
+use crate::rows::expect_text;
 use sc_serve::serve::{Exit, serve};
 use std::alloc::AllocError;
 use std::process::Abort;
@@ -80,11 +81,6 @@ fn expect<R: Abort + Threads + Wait + Sync + AllocGlobal>(
     );
     let answer = format!(in alloc; "{ended}\n{wrote}\n{told}")?;
     let wanted = format!(in alloc; "{status}\n{out}\n{err}")?;
-    let (words, calls) = (call.words, call.out.calls_left);
-    assert_eq!(rt;
-        answer.as_str(),
-        wanted.as_str(),
-        "of {words}, after {calls} calls"
-    );
+    expect_text(rt, &answer, &wanted, call.words);
     Ok(())
 }

@@ -1,5 +1,6 @@
 //! Records whose readers and writers fail.
 
+use crate::rows::{expect_text, halves_of};
 use sc_audit::{ReadFault, RecordLine, read_record, write_record};
 use std::alloc::{AllocError, Global};
 use std::io::{self, ErrorKind, Read, Write};
@@ -54,8 +55,8 @@ fn expect_clear<R: Abort + AllocGlobal>(
     failed: Option<&str>,
 ) -> Result<(), Fail> {
     let alloc = rt.alloc();
-    let (text, rest) = row.split_once('|').ok_or("a row without a bar")?;
-    let (clear, wanted) = rest.split_once('|').ok_or("a row without a bar")?;
+    let (text, rest) = halves_of(row)?;
+    let (clear, wanted) = halves_of(rest)?;
     let clear: usize = clear.parse()?;
     let bytes = with_line_feeds(alloc, text)?;
     for calls_left in 0..40 {
@@ -70,7 +71,7 @@ fn expect_clear<R: Abort + AllocGlobal>(
         } else {
             wanted
         };
-        assert_eq!(rt; outcome.as_str(), wanted, "of {text} after {calls_left}");
+        expect_text(rt, &outcome, wanted, text);
     }
     Ok(())
 }

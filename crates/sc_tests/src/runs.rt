@@ -1,5 +1,6 @@
 //! A run by several workers, beside the replay of its record.
 
+use crate::rows::expect_text;
 use sc_audit::Record;
 use sc_auditing::{AuditFault, audit};
 use sc_class::Root;
@@ -31,7 +32,7 @@ pub fn load<R: Abort>(rt: &R, alloc: Global, text: &str) -> Result<Program, Fail
     match load_text(alloc, text, &root) {
         Ok(program) => Ok(program),
         Err(why) => {
-            assert_eq!(rt; format!(in alloc; "{why:?}")?.as_str(), "a program");
+            expect_text(rt, &format!(in alloc; "{why:?}")?, "a program", text);
             Err(Fail::from(AllocError))
         }
     }
@@ -122,7 +123,7 @@ fn replayed<R: Abort>(
     let record = Record { version, lines };
     let RunReport { report: told, .. } = replay(alloc, program, &record)?;
     let told = text_of(told)?;
-    assert_eq!(rt; report.as_str(), told.as_str());
+    expect_text(rt, &report, &told, "a replay");
     Ok(report)
 }
 

@@ -1,6 +1,7 @@
 //! Stores of a handler: what calls leave of one, step by step.
 
 use crate::programs::program_of;
+use crate::rows::{expect_text, halves_of};
 use sc_code::Program;
 use sc_model::Cause;
 use sc_region::{Activation, Origin, Reference, Store, Value};
@@ -281,11 +282,7 @@ fn expect_call<R: Abort + AllocGlobal>(
     let before = told(rt.alloc(), store)?;
     if call(store, step).is_err() {
         let after = told(rt.alloc(), store)?;
-        assert_eq!(rt;
-            after.as_str(),
-            before.as_str(),
-            "of {words}, refused memory"
-        );
+        expect_text(rt, &after, &before, words);
         call(store, step)?;
     }
     Ok(())
@@ -308,10 +305,10 @@ fn play<'p>(
 }
 
 fn expect_store<R: Abort + AllocGlobal>(rt: &R, program: &Program, row: &str) -> Result<(), Fail> {
-    let (steps, wanted) = row.split_once('|').ok_or("a row without a bar")?;
+    let (steps, wanted) = halves_of(row)?;
     let store = play(rt, program, steps)?;
     let told = told(rt.alloc(), &store)?;
-    assert_eq!(rt; told.as_str(), wanted, "of {steps}");
+    expect_text(rt, &told, wanted, steps);
     Ok(())
 }
 
@@ -325,10 +322,10 @@ fn calls_leave_stores(rt: HostRuntime) -> Result<(), Fail> {
 }
 
 fn expect_frame<R: Abort + AllocGlobal>(rt: &R, program: &Program, row: &str) -> Result<(), Fail> {
-    let (steps, wanted) = row.split_once('|').ok_or("a row without a bar")?;
+    let (steps, wanted) = halves_of(row)?;
     let store = play(rt, program, steps)?;
     let told = told_frame(rt.alloc(), &store)?;
-    assert_eq!(rt; told.as_str(), wanted, "of {steps}");
+    expect_text(rt, &told, wanted, steps);
     Ok(())
 }
 

@@ -1,5 +1,6 @@
 //! Workers that play at the same time, and one that waits for another.
 
+use crate::rows::expect_text;
 use crate::runs::{leave, load};
 use sc_plant::Gate;
 use std::process::Abort;
@@ -108,7 +109,7 @@ fn expect<R: Abort + AllocGlobal + Threads + Wait + Clock + Sync>(
     let program = load(rt, alloc, text)?;
     let left = leave(rt, alloc, &program, workers, 1_000_000, &gate)?;
     assert_eq!(rt; gate.seen.late.load(Ordering::SeqCst), 0);
-    assert_eq!(rt; left.as_str(), report);
+    expect_text(rt, &left, report, text);
     Ok(())
 }
 

@@ -1,5 +1,6 @@
 //! Tokens of source texts, each with its place.
 
+use crate::rows::{expect_text, halves_of};
 use sc_text::{Span, TokenKind, lex};
 use std::alloc::{AllocError, Global};
 use std::process::Abort;
@@ -64,14 +65,14 @@ fn told(alloc: Global, text: &str) -> Result<String, Fail> {
 
 fn expect_told<R: Abort + AllocGlobal>(rt: &R, text: &str, wanted: &str) -> Result<(), Fail> {
     let got = told(rt.alloc(), text)?;
-    assert_eq!(rt; got.as_str(), wanted, "at {text}");
+    expect_text(rt, &got, wanted, text);
     Ok(())
 }
 
 #[test]
 fn tells_tokens(rt: HostRuntime) -> Result<(), Fail> {
     for row in TOKENS.split("\n#\n") {
-        let (text, wanted) = row.split_once('|').ok_or("a row without a bar")?;
+        let (text, wanted) = halves_of(row)?;
         expect_told(&rt, text, wanted)?;
     }
     Ok(())

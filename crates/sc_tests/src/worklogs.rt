@@ -1,6 +1,7 @@
 //! A handler with its log: what jobs leave of it, and what is noted of them.
 
 use crate::programs::program_of;
+use crate::rows::{expect_text, halves_of};
 use arrayvec::ArrayVec;
 use sc_code::Program;
 use sc_handler::Settlement;
@@ -192,11 +193,11 @@ fn play_jobs<R: Abort>(
 }
 
 fn expect_log<R: Abort + AllocGlobal>(rt: &R, program: &Program, row: &str) -> Result<(), Fail> {
-    let (steps, wanted) = row.split_once('|').ok_or("a row without a bar")?;
+    let (steps, wanted) = halves_of(row)?;
     let mut region = LoggedRegion::new(rt.alloc(), program, 0);
     play_jobs(rt, program, &mut region, steps)?;
     let told = told(rt.alloc(), &region)?;
-    assert_eq!(rt; told.as_str(), wanted, "of {steps}");
+    expect_text(rt, &told, wanted, steps);
     Ok(())
 }
 

@@ -1,5 +1,6 @@
 //! Worlds that one thread plays, number by number, also where memory is refused to a turn.
 
+use crate::rows::expect_text;
 use crate::runs::{load, text_of};
 use crate::together::{RELAY, RELAY_REPORT};
 use sc_lockpass::Version;
@@ -71,7 +72,7 @@ fn says_whether_a_turn_moves(rt: HostRuntime) -> Result<(), Fail> {
     }
     expect_turns(&rt, &mut world, &[0, 1], Turned::Nothing)?;
     let report = text_of(world.report()?)?;
-    assert_eq!(rt; report.as_str(), CALLBACK_REPORT);
+    expect_text(&rt, &report, CALLBACK_REPORT, CALLBACK);
     Ok(())
 }
 
@@ -150,7 +151,7 @@ fn expect_report<R: Abort + AllocGlobal>(
         world.turns(handlers.get(made..).unwrap_or(&[]))?;
     }
     let told = text_of(world.report()?)?;
-    assert_eq!(rt; told.as_str(), report);
+    expect_text(rt, &told, report, text);
     Ok(())
 }
 

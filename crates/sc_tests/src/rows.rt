@@ -1,0 +1,17 @@
+//! Rows of text: what stands on both sides of a bar, and whether what is found is what a row wants.
+
+use std::process::Abort;
+use std::test::Fail;
+
+/// What stands before the first bar of a row, and behind it.
+pub fn halves_of(row: &str) -> Result<(&str, &str), Fail> {
+    match row.split_once('|') {
+        Some(halves) => Ok(halves),
+        None => Err(Fail::new("a row without a bar")),
+    }
+}
+
+/// Compares what is found with what is wanted, of this.
+pub fn expect_text<R: Abort>(rt: &R, found: &str, wanted: &str, of: &str) {
+    assert_eq!(rt; found, wanted, "of {of}");
+}
