@@ -1,13 +1,17 @@
 //! What is said of one refusal.
 
 use crate::scope::part_of;
-use crate::sentences::{Sentence, sentence_of};
-use crate::told::Refused;
+use crate::sentences::{help_of, text_of};
+use crate::told::{RuleFault, aim_of};
 use sc_class::Root;
-use sc_explain_classes::{explain_class_fault, explain_root, other_declaration, push_near_class};
+use sc_explain_classes::{
+    explain_root, other_declaration, push_left_out, push_near_class, push_redefine, push_unfit,
+};
 use sc_explain_text::{
     Lines, Related, explain_character, explain_grammar, let_go, system_of, word_at,
 };
+use sc_refusals::RefusalCode;
+use sc_rules::Rule;
 use sc_text::Span;
 use sc_tree::System;
 use std::alloc::{AllocError, Global};
@@ -19,8 +23,8 @@ pub struct Diagnosis {
     pub related: Option<Related>,
 }
 
-/// What is said of the refusal of this code, of this part of a text that is run from this root: a sentence, and a line that
-/// begins with `help: ` where something helps. Of a code that isn't known nothing is said.
+/// What is said of the refusal for this reason, of this part of a text that is run from this root: a sentence, and a line that
+/// begins with `help: ` where something helps.
 ///
 /// # Errors
 ///
@@ -29,159 +33,171 @@ pub fn diagnose(
     alloc: Global,
     text: &str,
     root: &Root,
-    code: &str,
+    code: RefusalCode,
     span: Option<Span>,
 ) -> Result<Diagnosis, AllocError> {
     let mut lines = Lines::new(alloc);
-    let related = match (sentence_of(code), span) {
-        (None, _) => None,
-        (Some(sentence), None) => {
-            tell_of_all(alloc, &mut lines, &sentence, text, root);
-            None
-        }
-        (Some(sentence), Some(span)) => {
-            let refused = Refused {
-                text,
-                root,
-                code,
-                span,
-            };
-            tell(alloc, &mut lines, &sentence, &refused)?
-        }
+    let refusal = Refusal {
+        text,
+        root,
+        code,
+        span: span.unwrap_or(NOWHERE),
     };
+    let related = refusal.tell(alloc, &mut lines);
     Ok(Diagnosis {
         lines: lines.finish()?,
         related,
     })
 }
 
-/// Adds what is said of a fault of the whole text: why it isn't run from the root, or its sentence.
-fn tell_of_all(alloc: Global, lines: &mut Lines, sentence: &Sentence, text: &str, root: &Root) {
-    if sentence.code != "C6" {
-        return push_told(lines, sentence, "");
-    }
-    match system_of(alloc, text) {
-        Ok(None) => push_told(lines, sentence, ""),
-        Ok(Some(system)) => {
-            explain_root(lines, text, &system, root);
-            let_go(system)
-        }
-        Err(_) => lines.lack(),
-    }
+/// The part that is at fault where none is.
+const NOWHERE: Span = Span { start: 0, end: 0 };
+
+/// The refusal of a text that is run from this root, and the part that is at fault.
+#[derive(Clone, Copy)]
+struct Refusal<'s> {
+    text: &'s str,
+    root: &'s Root,
+    code: RefusalCode,
+    span: Span,
 }
 
-/// Adds what is said of the part of the text that is at fault: what the classes tell of it, or else its sentence. Another place,
-/// if one goes with the fault.
-fn tell(
-    alloc: Global,
-    lines: &mut Lines,
-    sentence: &Sentence,
-    refused: &Refused<'_>,
-) -> Result<Option<Related>, AllocError> {
-    if is_told(alloc, lines, refused)? {
-        return Ok(None);
-    }
-    match refused.code {
-        "L1" => {
-            explain_character(lines, refused.text, refused.span);
-            Ok(None)
-        }
-        "P1" => explain_grammar(alloc, lines, refused.text, refused.span),
-        "C1" | "C2" | "C4" | "C5" | "C8" | "V1" => {
-            Ok(push_declared(alloc, lines, sentence, refused))
-        }
-        _ => {
-            push_told(lines, sentence, part_of(refused.text, refused.span));
-            Ok(None)
+impl<'s> Refusal<'s> {
+    /// Adds what is said of it. Another place, if one goes with the fault.
+    fn tell(&self, alloc: Global, lines: &mut Lines) -> Option<Related> {
+        match self.code {
+            RefusalCode::BadCharacter => {
+                explain_character(lines, self.text, self.span);
+                None
+            }
+            RefusalCode::NotInGrammar => {
+                match explain_grammar(alloc, lines, self.text, self.span) {
+                    Ok(related) => related,
+                    Err(_) => {
+                        lines.lack();
+                        None
+                    }
+                }
+            }
+            _ => self.tell_of_text(alloc, lines),
         }
     }
-}
 
-/// Adds what the classes tell of the refusal by a rule, and whether there is something.
-fn is_told(alloc: Global, lines: &mut Lines, refused: &Refused<'_>) -> Result<bool, AllocError> {
-    let Some(aim) = refused.aim() else {
-        return Ok(false);
-    };
-    match system_of(alloc, refused.text) {
-        Ok(None) => Ok(false),
-        Ok(Some(system)) => {
-            let is_told = refused.push_told(alloc, lines, &system, aim);
-            let_go(system);
-            is_told
-        }
-        Err(error) => Err(error),
-    }
-}
-
-/// Adds the sentence, and what helps in these classes. The other declaration of the name at fault.
-fn push_declared(
-    alloc: Global,
-    lines: &mut Lines,
-    sentence: &Sentence,
-    refused: &Refused<'_>,
-) -> Option<Related> {
-    push_sentence(lines, sentence.text, part_of(refused.text, refused.span));
-    match system_of(alloc, refused.text) {
-        Ok(None) => None,
-        Ok(Some(system)) => {
-            let related = push_class_helps(lines, refused, &system);
-            let_go(system);
-            related
-        }
-        Err(_) => {
-            lines.lack();
-            None
+    /// The same, where the text may spell a system.
+    fn tell_of_text(&self, alloc: Global, lines: &mut Lines) -> Option<Related> {
+        match system_of(alloc, self.text) {
+            Ok(None) => {
+                self.push_sentence(lines);
+                None
+            }
+            Ok(Some(system)) => {
+                let related = self.tell_of_system(alloc, lines, &system);
+                let_go(system);
+                related
+            }
+            Err(_) => {
+                lines.lack();
+                None
+            }
         }
     }
-}
 
-/// Adds what helps in the classes of a text that spells this system. The other declaration of the name at fault.
-fn push_class_helps(lines: &mut Lines, refused: &Refused<'_>, system: &System) -> Option<Related> {
-    let (text, code, span) = (refused.text, refused.code, refused.span);
-    let name = word_at(text, span);
-    if code == "V1" {
-        push_near_class(lines, text, system, name);
-        return None;
+    /// The same, where the text spells this system.
+    fn tell_of_system(
+        &self,
+        alloc: Global,
+        lines: &mut Lines,
+        system: &System,
+    ) -> Option<Related> {
+        match self.code {
+            RefusalCode::NoRoot => {
+                explain_root(lines, self.text, system, self.root);
+                None
+            }
+            RefusalCode::Rule(rule) => {
+                self.tell_of_rule(alloc, lines, system, rule);
+                None
+            }
+            code => {
+                self.push_sentence(lines);
+                self.push_class_helps(lines, system, code)
+            }
+        }
     }
-    explain_class_fault(lines, text, system, code, span);
-    if code == "C2" || code == "C8" {
-        return None;
-    }
-    other_declaration(system, code == "C1", name, span)
-}
 
-/// Adds the sentence on a part of the text, and what helps where something does.
-fn push_told(lines: &mut Lines, sentence: &Sentence, part: &str) {
-    push_sentence(lines, said_of(sentence, part), part);
-    if !sentence.help.is_empty() {
-        push_help(lines, sentence.help, part)
+    /// Adds what the classes tell of the part at which a rule fails, or else the sentence.
+    fn tell_of_rule(&self, alloc: Global, lines: &mut Lines, system: &System, rule: Rule) {
+        if let Some(aim) = aim_of(self.text, rule, self.span) {
+            let fault = RuleFault {
+                text: self.text,
+                rule,
+                aim,
+            };
+            if fault.push_told(alloc, lines, system, self.root) {
+                return;
+            }
+        }
+        self.push_sentence(lines);
+        if let Rule::UnknownName = rule {
+            push_near_class(lines, self.text, system, word_at(self.text, self.span));
+        }
     }
-}
 
-/// What is said of a part of the text.
-fn said_of(sentence: &Sentence, part: &str) -> &'static str {
-    if sentence.code == "V7" && part.eq_ignore_ascii_case("result") {
-        return "# stands in a function alone";
+    /// Adds what helps in these classes. The other declaration of the name at fault.
+    fn push_class_helps(
+        &self,
+        lines: &mut Lines,
+        system: &System,
+        code: RefusalCode,
+    ) -> Option<Related> {
+        let (text, span) = (self.text, self.span);
+        let name = word_at(text, span);
+        match code {
+            RefusalCode::DuplicateClass => other_declaration(system, true, name, span),
+            RefusalCode::UnknownParent => {
+                push_near_class(lines, text, system, name);
+                None
+            }
+            RefusalCode::DuplicateFeature => {
+                push_redefine(lines, text, system, span);
+                other_declaration(system, false, name, span)
+            }
+            RefusalCode::BadRedefinition => {
+                push_unfit(lines, system, span);
+                other_declaration(system, false, name, span)
+            }
+            RefusalCode::LeftOut => {
+                push_left_out(lines, text, system, span);
+                None
+            }
+            _ => None,
+        }
     }
-    sentence.text
-}
 
-/// Adds a sentence with the part of the text in quotes at its `#`.
-fn push_sentence(lines: &mut Lines, text: &str, part: &str) {
-    if part.is_empty() {
-        push_with(lines, text, "", "this")
-    } else {
-        push_with(lines, text, "`", part)
+    /// Adds the sentence, and what helps where something does in general.
+    fn push_sentence(&self, lines: &mut Lines) {
+        let part = part_of(self.text, self.span);
+        let text = if self.is_of_result(part) {
+            "# stands in a function alone"
+        } else {
+            text_of(self.code)
+        };
+        let help = help_of(self.code);
+        if part.is_empty() {
+            push_with(lines, text, "", "this")
+        } else {
+            push_with(lines, text, "`", part)
+        }
+        if !help.is_empty() {
+            lines.push("help: ");
+            push_with(lines, help, "", if part.is_empty() { ".." } else { part })
+        }
     }
-}
 
-/// Adds what helps, with the part of the text at its `#`.
-fn push_help(lines: &mut Lines, text: &str, part: &str) {
-    lines.push("help: ");
-    if part.is_empty() {
-        push_with(lines, text, "", "..")
-    } else {
-        push_with(lines, text, "", part)
+    /// Whether `Result` stands where no function is.
+    fn is_of_result(&self, part: &str) -> bool {
+        matches!(self.code, RefusalCode::Rule(Rule::ResultType))
+            && part.eq_ignore_ascii_case("result")
     }
 }
 

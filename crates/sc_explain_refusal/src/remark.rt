@@ -6,7 +6,7 @@ use crate::types::{Compared, Passed, type_found, type_of_actual};
 use crate::untold::Untold;
 use sc_class::ClassId;
 use sc_proctype::EntityType;
-use sc_rules::{Context, Position, Role};
+use sc_rules::{Context, Position, Role, Rule};
 use sc_text::Span;
 use sc_tree::{BinaryOperator, Call, CreationCall, Expr, UnaryOperator, Variable};
 use sc_typing::{
@@ -100,7 +100,9 @@ impl<'s> Scope<'s> {
             Part::Assigned(variable, value) => self.of_assigned(variable, value),
             Part::Head(value) => self.of_head(value),
             Part::Condition(e) => of_untrue(self.type_of_condition(site.context, e)?),
-            Part::Operation(_) if self.code == "V19" => Ok(Remark::Old(site.context)),
+            Part::Operation(_) if matches!(self.rule, Rule::OldPlace) => {
+                Ok(Remark::Old(site.context))
+            }
             Part::Operation(e) => self.of_operation(site.context, e),
             Part::Target(target) => {
                 let given = self.type_of(site.context, Position::Plain, target)?;
@@ -128,25 +130,25 @@ impl<'s> Scope<'s> {
                 self.of_creation_actual(created, call, number)
             }
             Part::CallName(call) => self.of_call(context, call),
-            Part::CreationName(created, _) if self.code == "V11" => {
+            Part::CreationName(created, _) if matches!(self.rule, Rule::NotCreation) => {
                 let created = self.type_of_variable(created)?;
                 Ok(Remark::Made(Making::By(created.class)))
             }
             Part::CreationName(created, call) => self.of_creation(created, call),
             Part::Assignee(variable) => self.of_assignee(variable),
-            _ => of_unknown(self.code, None),
+            _ => of_unknown(self.rule, None),
         }
     }
 
-    /// Of what is assigned or created, by the code of the fault.
+    /// Of what is assigned or created, by the rule that fails.
     fn of_assignee(&self, variable: &Variable) -> Result<Remark, Untold> {
-        match self.code {
-            "V10" => Ok(Remark::Name(Misfit::Fixed(self.role_of(variable)))),
-            "V11" => {
+        match self.rule {
+            Rule::NotAssignable => Ok(Remark::Name(Misfit::Fixed(self.role_of(variable)))),
+            Rule::NotCreation => {
                 let created = self.type_of_variable(variable)?;
                 Ok(Remark::Made(Making::Plain(created.class)))
             }
-            _ => of_unknown(self.code, None),
+            _ => of_unknown(self.rule, None),
         }
     }
 
@@ -180,12 +182,12 @@ impl<'s> Scope<'s> {
 
     fn of_call(&self, context: Context, call: &Call) -> Result<Remark, Untold> {
         let called = self.called(context, call)?;
-        of_called(self.code, called, call.actuals.len())
+        of_called(self.rule, called, call.actuals.len())
     }
 
     fn of_creation(&self, created: &Variable, call: &CreationCall) -> Result<Remark, Untold> {
         let called = self.creator(created, call)?;
-        of_creator(self.code, called, call.actuals.len())
+        of_creator(self.rule, called, call.actuals.len())
     }
 
     /// The type of a condition, if it has one; the names that it gives are known behind it.
@@ -300,9 +302,9 @@ fn called_by<'s>(meaning: &Meaning<'s>, class: Option<ClassId>) -> Result<Called
     }
 }
 
-/// By the code of the fault, of a name that isn't known, or that the class hasn't.
-fn of_unknown(code: &str, class: Option<ClassId>) -> Result<Remark, Untold> {
-    if code != "V1" {
+/// By the rule that fails, of a name that isn't known, or that the class hasn't.
+fn of_unknown(rule: Rule, class: Option<ClassId>) -> Result<Remark, Untold> {
+    if !matches!(rule, Rule::UnknownName) {
         return Err(Untold::Nothing);
     }
     match class {
@@ -311,25 +313,25 @@ fn of_unknown(code: &str, class: Option<ClassId>) -> Result<Remark, Untold> {
     }
 }
 
-/// By the code of the fault, of the name of a call with so many actuals.
-fn of_called(code: &str, called: Called<'_>, actuals: usize) -> Result<Remark, Untold> {
+/// By the rule that fails, of the name of a call with so many actuals.
+fn of_called(rule: Rule, called: Called<'_>, actuals: usize) -> Result<Remark, Untold> {
     match called.callee {
-        None => of_unknown(code, called.class),
-        Some(callee) => of_callee(code, callee, actuals),
+        None => of_unknown(rule, called.class),
+        Some(callee) => of_callee(rule, callee, actuals),
     }
 }
 
-/// By the code of the fault, of the name of a creation with so many actuals.
-fn of_creator(code: &str, called: Called<'_>, actuals: usize) -> Result<Remark, Untold> {
-    Ok(as_creation(of_called(code, called, actuals)?))
+/// By the rule that fails, of the name of a creation with so many actuals.
+fn of_creator(rule: Rule, called: Called<'_>, actuals: usize) -> Result<Remark, Untold> {
+    Ok(as_creation(of_called(rule, called, actuals)?))
 }
 
-/// By the code of the fault, of a name with so many actuals that is called by this.
-fn of_callee(code: &str, callee: Callee<'_>, actuals: usize) -> Result<Remark, Untold> {
-    match code {
-        "V2" => of_arity(taken_by(callee.formals), actuals),
-        "V7" if callee.is_query => Ok(Remark::Name(Misfit::Query)),
-        "V7" => Ok(Remark::Name(Misfit::Procedure)),
+/// By the rule that fails, of a name with so many actuals that is called by this.
+fn of_callee(rule: Rule, callee: Callee<'_>, actuals: usize) -> Result<Remark, Untold> {
+    match rule {
+        Rule::WrongArity => of_arity(taken_by(callee.formals), actuals),
+        Rule::ResultType if callee.is_query => Ok(Remark::Name(Misfit::Query)),
+        Rule::ResultType => Ok(Remark::Name(Misfit::Procedure)),
         _ => Err(Untold::Nothing),
     }
 }

@@ -4,12 +4,11 @@ use crate::remark::{Making, Misfit, Remark, Wanted};
 use crate::scope::{Scope, part_of, push_quoted};
 use crate::types::Compared;
 use sc_class::ClassId;
-use sc_explain_text::Lines;
+use sc_explain_text::{Lines, binary_spelling};
 use sc_proctype::EntityType;
 use sc_rules::{Context, Role};
 use sc_text::Span;
 use sc_tree::{BinaryOperator, UnaryOperator};
-use sc_whereabouts::binary_spelling;
 
 impl<'s> Scope<'s> {
     /// Adds what is said of the part of the text that is at fault, without a line feed.

@@ -4,17 +4,17 @@ use crate::site::Place;
 use sc_class::ClassId;
 use sc_explain_text::Lines;
 use sc_proctype::{EntityType, Reserved, Tag};
-use sc_rules::{Context, Role};
+use sc_rules::{Context, Role, Rule};
 use sc_text::Span;
 use sc_tree::Declaration;
 use sc_typing::{Entity, RoutineContext};
 
-/// A part of a routine at which the rule of this code fails: the text of the system, the routine, and the names that are
+/// A part of a routine at which a rule fails: the text of the system, the routine, and the names that are
 /// known there.
 #[derive(Drop)]
 pub struct Scope<'s> {
     pub text: &'s str,
-    pub code: &'s str,
+    pub rule: Rule,
     pub span: Span,
     pub routine: &'s RoutineContext<'s, 's>,
     pub names: Vec<Entity<'s>>,

@@ -1,66 +1,84 @@
-//! A sentence for each code, and what helps.
+//! A sentence for each reason of a refusal, and what helps. A `#` stands for the part of the text that is at fault.
 
-/// What is said of a refusal. A `#` stands for the part of the text that is at fault.
-#[derive(Clone, Copy)]
-pub struct Sentence {
-    pub code: &'static str,
-    pub text: &'static str,
-    /// What helps, or nothing.
-    pub help: &'static str,
-}
+use sc_refusals::RefusalCode;
+use sc_rules::Rule;
 
-/// The sentence of this code, if there is one.
-pub fn sentence_of(code: &str) -> Option<Sentence> {
-    for row in SENTENCES.lines() {
-        if let Some((known, rest)) = row.split_once('\t')
-            && known == code
-        {
-            let (text, help) = rest.split_once('\t').unwrap_or((rest, ""));
-            return Some(Sentence {
-                code: known,
-                text,
-                help,
-            });
+/// What is said of a refusal for this reason.
+pub fn text_of(code: RefusalCode) -> &'static str {
+    match code {
+        RefusalCode::BadCharacter => "# begins no token",
+        RefusalCode::UnclosedString => {
+            "the string that begins here has no closing quote on its line"
         }
+        RefusalCode::BadEscape => "no mark of a string begins so",
+        RefusalCode::IntegerTooLarge => "# is above 9223372036854775807",
+        RefusalCode::SourceTooLong => "the files have more than 1,048,576 bytes together",
+        RefusalCode::NotInGrammar => "no system begins with the text up to #",
+        RefusalCode::TooDeep => "# has more than 64 constructs around it",
+        RefusalCode::DuplicateClass => "the name # is a class's already",
+        RefusalCode::UnknownParent => "the parent # is no class that has heirs",
+        RefusalCode::Cycle => "by its parent # the class inherits from itself",
+        RefusalCode::DuplicateFeature => "the name # stands for something else here already",
+        RefusalCode::BadRedefinition => "# doesn't redefine what is inherited as it has to",
+        RefusalCode::NoRoot => {
+            "no class of the root's name creates by its procedure, without formals"
+        }
+        RefusalCode::Limit => {
+            "a limit is passed: 256 classes, 256 features of a class, 16 formals, 256 locals, 16 names of a block"
+        }
+        RefusalCode::LeftOut => "at # stands a part of Eiffel that is left out",
+        RefusalCode::Rule(rule) => text_of_rule(rule),
     }
-    None
 }
 
-/// Those on a text and its tokens, on what classes declare, on names and types in a class, and on what else may not stand there:
-/// a line each, with tabs between a code, its sentence and what helps.
-const SENTENCES: &str = "\
-L1\t# begins no token\t
-L2\tthe string that begins here has no closing quote on its line\t
-L3\tno mark of a string begins so\tthe marks are `%N`, `%T`, `%%`, `%\"` and `%'`
-L4\t# is above 9223372036854775807\t
-L5\tthe files have more than 1,048,576 bytes together\t
-P1\tno system begins with the text up to #\t
-P2\t# has more than 64 constructs around it\tgive a part a name: a local, or a routine of its own
-C1\tthe name # is a class's already\t
-C2\tthe parent # is no class that has heirs\t
-C3\tby its parent # the class inherits from itself\t
-C4\tthe name # stands for something else here already\t
-C5\t# doesn't redefine what is inherited as it has to\t
-C6\tno class of the root's name creates by its procedure, without formals\t`--root CLASS.PROCEDURE` names another root
-C7\ta limit is passed: 256 classes, 256 features of a class, 16 formals, 256 locals, 16 names of a block\t
-C8\tat # stands a part of Eiffel that is left out\t
-V1\tnothing that may stand here has the name #\t
-V2\t# takes another number of actuals\t
-V3\t# isn't of a type that is taken here\t
-V4\t# isn't of a type that the left side takes\t
-V5\t# may be Void\task first: `if attached # as .. then .. end`
-V6\t# may lie on a handler that isn't reserved\treserve it: `separate # as .. do .. end`
-V7\t# gives a value where none is wanted, or none where one is\t
-V8\t# isn't BOOLEAN\t
-V9\t# has operands that its operator doesn't take\t
-V10\tnothing is assigned to #\t
-V11\t# creates no object of this class\tthe create list of the class says what does
-V12\t# is a formal's handler's, on which no object is made from here\t
-V13\t# has a mark or a tag that it can't have here\t
-V14\t# is no formula over attributes of the object\t
-V15\t# may change something, and a contract only looks\t
-V16\t# is a reference that a precondition passes to another handler\t
-V17\t# is exported to no class\tit is called without a target
-V18\tno text follows in which # is sure to have an object\tit stands as the condition of an if, or among its and thens
-V19\t# stands where no value of before the body is kept\tit stands in ensure, over calls on the own handler
-V20\tVoid is no value here\t";
+/// What is said where a rule fails.
+fn text_of_rule(rule: Rule) -> &'static str {
+    match rule {
+        Rule::UnknownName => "nothing that may stand here has the name #",
+        Rule::WrongArity => "# takes another number of actuals",
+        Rule::ArgumentType => "# isn't of a type that is taken here",
+        Rule::AssignType => "# isn't of a type that the left side takes",
+        Rule::TargetDetachable => "# may be Void",
+        Rule::TargetUncontrolled => "# may lie on a handler that isn't reserved",
+        Rule::ResultType => "# gives a value where none is wanted, or none where one is",
+        Rule::NotBoolean => "# isn't BOOLEAN",
+        Rule::OperatorType => "# has operands that its operator doesn't take",
+        Rule::NotAssignable => "nothing is assigned to #",
+        Rule::NotCreation => "# creates no object of this class",
+        Rule::CreationTag => "# is a formal's handler's, on which no object is made from here",
+        Rule::TagName => "# has a mark or a tag that it can't have here",
+        Rule::InvariantForm => "# is no formula over attributes of the object",
+        Rule::ImpureContract => "# may change something, and a contract only looks",
+        Rule::PreconditionArgument => {
+            "# is a reference that a precondition passes to another handler"
+        }
+        Rule::NotExported => "# is exported to no class",
+        Rule::ObjectTestPlace => "no text follows in which # is sure to have an object",
+        Rule::OldPlace => "# stands where no value of before the body is kept",
+        Rule::VoidUse => "Void is no value here",
+    }
+}
+
+/// What helps where a text is refused for this reason; nothing where nothing does in general.
+pub fn help_of(code: RefusalCode) -> &'static str {
+    match code {
+        RefusalCode::BadEscape => "the marks are `%N`, `%T`, `%%`, `%\"` and `%'`",
+        RefusalCode::TooDeep => "give a part a name: a local, or a routine of its own",
+        RefusalCode::NoRoot => "`--root CLASS.PROCEDURE` names another root",
+        RefusalCode::Rule(rule) => help_of_rule(rule),
+        _ => "",
+    }
+}
+
+/// What helps where a rule fails.
+fn help_of_rule(rule: Rule) -> &'static str {
+    match rule {
+        Rule::TargetDetachable => "ask first: `if attached # as .. then .. end`",
+        Rule::TargetUncontrolled => "reserve it: `separate # as .. do .. end`",
+        Rule::NotCreation => "the create list of the class says what does",
+        Rule::NotExported => "it is called without a target",
+        Rule::ObjectTestPlace => "it stands as the condition of an if, or among its and thens",
+        Rule::OldPlace => "it stands in ensure, over calls on the own handler",
+        _ => "",
+    }
+}

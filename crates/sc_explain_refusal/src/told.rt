@@ -8,88 +8,78 @@ use crate::walk::Walk;
 use sc_class::{ClassId, Root, Tables};
 use sc_explain_classes::{class_around, feature_around, let_tables_go, tables_of};
 use sc_explain_text::Lines;
-use sc_rules::Context;
+use sc_rules::{Context, Rule};
 use sc_text::Span;
 use sc_tree::{Class, Feature, FeatureKind, Name, Routine, System};
 use sc_typing::{Purity, RoutineContext, result_type};
-use std::alloc::{AllocError, Global};
+use std::alloc::Global;
 
-/// A text that spells a system, and what is told of its refusal by a rule.
+/// A part of a text at which a rule fails, by what is looked for there.
 #[derive(Clone, Copy)]
-pub struct Refused<'s> {
+pub struct RuleFault<'s> {
     pub text: &'s str,
-    pub root: &'s Root,
-    pub code: &'s str,
-    pub span: Span,
+    pub rule: Rule,
+    pub aim: Aim,
 }
 
-/// The codes of which more can be said, each with the kind of the parts that the rule fails at.
-const AIMS: [(&str, Kind); 12] = [
-    ("V1", Kind::Name),
-    ("V2", Kind::Name),
-    ("V3", Kind::Actual),
-    ("V4", Kind::Assigned),
-    ("V5", Kind::Target),
-    ("V6", Kind::Target),
-    ("V7", Kind::Name),
-    ("V8", Kind::Condition),
-    ("V9", Kind::Operation),
-    ("V10", Kind::Name),
-    ("V11", Kind::Name),
-    ("V19", Kind::Operation),
-];
-
-impl<'s> Refused<'s> {
-    /// What is looked for, where more can be said of the rule.
-    pub fn aim(self) -> Option<Aim> {
-        if self.is_print() {
-            return None;
-        }
-        Some(Aim {
-            kind: kind_at(&AIMS, self.code)?,
-            span: self.span,
-        })
+/// What is looked for where a rule fails at a part of a text, where more can be said of it. (Every class has `print`, so where
+/// that isn't known it stands in a place that no class gives it.)
+pub fn aim_of(text: &str, rule: Rule, span: Span) -> Option<Aim> {
+    let is_name = matches!(rule, Rule::UnknownName);
+    if is_name && part_of(text, span).eq_ignore_ascii_case("print") {
+        return None;
     }
-
-    /// Whether `print` isn't known. Every class has it, so it stands in a place that no class gives it.
-    fn is_print(self) -> bool {
-        self.code == "V1" && part_of(self.text, self.span).eq_ignore_ascii_case("print")
+    match kind_of(rule) {
+        None => None,
+        Some(kind) => Some(Aim { kind, span }),
     }
+}
 
-    /// Adds a sentence on this very fault, which is at a part that is aimed at, and what helps, and whether there is
-    /// one.
+/// The kind of the parts that a rule fails at, where more can be said of it.
+fn kind_of(rule: Rule) -> Option<Kind> {
+    match rule {
+        Rule::UnknownName | Rule::WrongArity | Rule::ResultType => Some(Kind::Name),
+        Rule::NotAssignable | Rule::NotCreation => Some(Kind::Name),
+        Rule::ArgumentType => Some(Kind::Actual),
+        Rule::AssignType => Some(Kind::Assigned),
+        Rule::TargetDetachable | Rule::TargetUncontrolled => Some(Kind::Target),
+        Rule::NotBoolean => Some(Kind::Condition),
+        Rule::OperatorType | Rule::OldPlace => Some(Kind::Operation),
+        _ => None,
+    }
+}
+
+impl<'s> RuleFault<'s> {
+    /// Adds a sentence on this very fault, in a system that is run from this root, and what helps, and whether there is one.
     pub fn push_told(
         self,
         alloc: Global,
         lines: &mut Lines,
         system: &System,
-        aim: Aim,
-    ) -> Result<bool, AllocError> {
-        match tables_of(alloc, system, self.root) {
-            Ok(None) => Ok(false),
+        root: &Root,
+    ) -> bool {
+        match tables_of(alloc, system, root) {
+            Ok(None) => false,
             Ok(Some(tables)) => {
-                let is_told = self.push_found(alloc, lines, &tables, aim);
+                let is_told = self.push_found(alloc, lines, &tables);
                 let_tables_go(tables);
                 is_told
             }
-            Err(error) => Err(error),
+            Err(_) => {
+                lines.lack();
+                true
+            }
         }
     }
 
     /// Adds what is told of the part that is aimed at, where it is found.
-    fn push_found(
-        self,
-        alloc: Global,
-        lines: &mut Lines,
-        tables: &Tables<'_>,
-        aim: Aim,
-    ) -> Result<bool, AllocError> {
-        match class_around(tables.classes(), self.span) {
-            None => Ok(false),
+    fn push_found(self, alloc: Global, lines: &mut Lines, tables: &Tables<'_>) -> bool {
+        match class_around(tables.classes(), self.aim.span) {
+            None => false,
             Some((number, class)) => {
                 let purity = Purity::NotAsked;
                 let around = around_class(alloc, tables, number, &purity);
-                self.push_in_class(lines, &around, aim, class)
+                self.push_in_class(lines, &around, class)
             }
         }
     }
@@ -99,15 +89,11 @@ impl<'s> Refused<'s> {
         self,
         lines: &mut Lines,
         around: &'s RoutineContext<'s, 's>,
-        aim: Aim,
         class: &'s Class,
-    ) -> Result<bool, AllocError> {
-        let Some(text) = routine_around(class, self.span) else {
-            return self.push_beside_routines(lines, around, aim, class);
-        };
-        match self.push_in_routine(lines, around, aim, text)? {
-            Some(is_told) => Ok(is_told),
-            None => self.push_beside_routines(lines, around, aim, class),
+    ) -> bool {
+        match routine_around(class, self.aim.span) {
+            Some(text) if self.push_in_routine(lines, around, text) => true,
+            _ => self.push_beside_routines(lines, around, class),
         }
     }
 
@@ -116,11 +102,10 @@ impl<'s> Refused<'s> {
         self,
         lines: &mut Lines,
         class: &'s RoutineContext<'s, 's>,
-        aim: Aim,
         text: &'s Routine,
-    ) -> Result<Option<bool>, AllocError> {
+    ) -> bool {
         let routine = routine_in(class, text);
-        self.push_passed(lines, &routine, aim, text)
+        self.push_passed(lines, &routine, text)
     }
 
     /// Adds what is told of the part that is aimed at, where a walk through this text of a routine comes to it.
@@ -128,10 +113,9 @@ impl<'s> Refused<'s> {
         self,
         lines: &mut Lines,
         routine: &'s RoutineContext<'s, 's>,
-        aim: Aim,
         text: &'s Routine,
-    ) -> Result<Option<bool>, AllocError> {
-        let mut walk = self.walk(routine, aim);
+    ) -> bool {
+        let mut walk = self.walk(routine);
         walk.pass_routine(text);
         walk.push_found(lines)
     }
@@ -142,29 +126,25 @@ impl<'s> Refused<'s> {
         self,
         lines: &mut Lines,
         around: &'s RoutineContext<'s, 's>,
-        aim: Aim,
         class: &'s Class,
-    ) -> Result<bool, AllocError> {
-        let mut walk = self.walk(around, aim);
+    ) -> bool {
+        let mut walk = self.walk(around);
         pass_clauses(&mut walk.search, Context::Invariant, &class.invariant);
-        match walk.push_found(lines)? {
-            Some(is_told) => Ok(is_told),
-            None => Ok(walk.scope.push_creator(lines, &class.creators)),
-        }
+        walk.push_found(lines) || walk.scope.push_creator(lines, &class.creators)
     }
 
     /// A walk through a text of this routine, in which no names are known as yet.
-    fn walk(self, routine: &'s RoutineContext<'s, 's>, aim: Aim) -> Walk<'s> {
+    fn walk(self, routine: &'s RoutineContext<'s, 's>) -> Walk<'s> {
         Walk {
             search: Search {
-                aim,
+                aim: self.aim,
                 found: Found::Nothing,
                 place: Place::Instruction,
             },
             scope: Scope {
                 text: self.text,
-                code: self.code,
-                span: self.span,
+                rule: self.rule,
+                span: self.aim.span,
                 routine,
                 names: Vec::new(routine.alloc),
                 context: Context::Body,
@@ -175,32 +155,34 @@ impl<'s> Refused<'s> {
 }
 
 impl<'s> Walk<'s> {
-    /// Adds what is told of what was looked for, and whether there is something; nothing where it wasn't found.
-    fn push_found(&mut self, lines: &mut Lines) -> Result<Option<bool>, AllocError> {
+    /// Adds what is told of what was looked for, where it was found, and whether there is something.
+    fn push_found(&mut self, lines: &mut Lines) -> bool {
         match self.search.found {
-            Found::Nothing => Ok(None),
-            Found::At(site) => {
-                let is_told = self.scope.push_at(lines, site)?;
-                Ok(Some(is_told))
+            Found::Nothing | Found::Faulty => false,
+            Found::At(site) => self.scope.push_at(lines, site),
+            Found::OutOfMemory => {
+                lines.lack();
+                true
             }
-            Found::Faulty => Ok(Some(false)),
-            Found::OutOfMemory => Err(AllocError),
         }
     }
 }
 
 impl<'s> Scope<'s> {
     /// Adds what is told of what stands there, and whether there is something.
-    fn push_at(&mut self, lines: &mut Lines, site: Site<'s>) -> Result<bool, AllocError> {
+    fn push_at(&mut self, lines: &mut Lines, site: Site<'s>) -> bool {
         self.context = site.context;
         self.place = site.place;
         match self.remark(site) {
             Ok(remark) => {
                 self.push_lines(lines, remark);
-                Ok(true)
+                true
             }
-            Err(Untold::Nothing) => Ok(false),
-            Err(Untold::OutOfMemory) => Err(AllocError),
+            Err(Untold::Nothing) => false,
+            Err(Untold::OutOfMemory) => {
+                lines.lack();
+                true
+            }
         }
     }
 
@@ -208,8 +190,8 @@ impl<'s> Scope<'s> {
     fn push_creator(&self, lines: &mut Lines, creators: &[Name]) -> bool {
         let is_creator = is_among(self.span, creators);
         if is_creator {
-            let misfit = match self.code {
-                "V1" => Misfit::Lacking(ClassId::Declared(self.routine.class)),
+            let misfit = match self.rule {
+                Rule::UnknownName => Misfit::Lacking(ClassId::Declared(self.routine.class)),
                 _ => Misfit::Creator,
             };
             self.push_lines(lines, Remark::Name(misfit));
@@ -252,16 +234,6 @@ fn routine_in<'s>(class: &RoutineContext<'s, 's>, text: &'s Routine) -> RoutineC
         result: result_type(class.tables, &text.result_type),
         purity: class.purity,
     }
-}
-
-/// The kind of the parts that the rule of this code fails at, if it is among these.
-fn kind_at(aims: &[(&str, Kind)], code: &str) -> Option<Kind> {
-    for (aimed, kind) in aims {
-        if *aimed == code {
-            return Some(*kind);
-        }
-    }
-    None
 }
 
 /// The routine that is the feature around a part of the text, if it is one.

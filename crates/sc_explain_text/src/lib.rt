@@ -17,6 +17,7 @@ mod nearest;
 mod omitted;
 mod reading;
 mod related;
+mod spelling;
 
 pub use characters::explain_character;
 pub use foreign::{push_instead_at, push_instead_of};
@@ -26,3 +27,4 @@ pub use nearest::{is_slip, push_meant, push_near_built_in, push_near_word};
 pub use omitted::left_out;
 pub use reading::{let_go, system_of, word_at};
 pub use related::Related;
+pub use spelling::binary_spelling;
