@@ -1,63 +1,81 @@
 //! Where a handler failed, and for whom it ran, in words.
 
-use crate::failing::Failing;
-use crate::history::Asked;
+use crate::history::{Turn, last_before, served_before, turn_at};
 use crate::moments::Moment;
-use crate::words::{push_clause, push_false, push_routine, push_site, written};
-use sc_class::{ClassId, Tables};
+use crate::supplier::supplier_of;
+use crate::words::{class_name, push_clause, push_false, push_routine, push_site};
+use sc_code::{RoutineText, SiteKind, TextSite};
 use sc_excerpt::excerpt;
 use sc_explain_text::Lines;
-use sc_explain_waiting::{RunSource, push_place};
-use sc_model::Cause;
-use sc_region::{BrokenInvariant, Errand, Point};
+use sc_explain_waiting::{Asked, RunSource, asked_feature, push_feature, push_place};
+use sc_model::{Cause, Status};
+use sc_region::{Breakdown, BrokenInvariant, Errand, Point};
 use sc_text::Span;
-use sc_whereabouts::{Kind, Whereabouts, invariant_clause, locate};
+use sc_world::World;
 
-/// A feature in the text: where its name stands, and the number of the class that declares it.
-#[derive(Clone, Copy)]
-struct Declared {
-    name: Span,
-    class: usize,
-}
-
-/// Adds where a handler stood as it failed, as far as that is known, and for whom it ran.
+/// Adds where a handler stood as it failed by this cause, as far as that is known, and for whom it ran, with what there was in front
+/// of that.
 pub fn push_failing(
     origin: &RunSource<'_>,
     lines: &mut Lines,
-    failing: &Failing,
+    ended: &World<'_>,
+    handler: u16,
+    cause: Cause,
     moment: Option<&Moment>,
 ) {
-    push_stood(origin, lines, failing);
-    if let Some(broken) = &failing.breakdown.invariant {
-        push_invariant(origin, lines, broken);
-    }
-    if let Some(moment) = moment {
-        lines.push_lines(&moment.values);
-    }
-    push_needed(lines, failing);
-    if let Some(served) = &failing.served {
-        push_served(origin, lines, served);
-    }
-    if let Some(moment) = moment {
-        lines.push_lines(&moment.callers);
-        lines.push_lines(&moment.requests);
+    if let Some(breakdown) = ended.breakdown(handler)
+        && let Some(place) = last_before(ended.log(), handler, ended.log().len())
+        && let Some(turn) = turn_at(ended.log(), place)
+        && has_failed_by(ended.status(handler), cause)
+    {
+        let asked = asked_of(ended, handler);
+        push_stood(origin, lines, &breakdown, &turn, asked.as_ref(), cause);
+        if let Some(moment) = moment {
+            lines.push_lines(&moment.values);
+        }
+        if turn.is_behind() {
+            push_needed(lines, ended, handler, cause)
+        }
+        if let Some(asked) = &asked {
+            push_served(origin, lines, asked)
+        }
+        if let Some(moment) = moment {
+            lines.push_lines(&moment.behind);
+        }
     }
 }
 
-/// Adds where a routine stood, or what was asked for where none ran.
-fn push_stood(origin: &RunSource<'_>, lines: &mut Lines, failing: &Failing) {
-    if failing.ending.is_at_once {
-        if let Some(served) = &failing.served {
-            push_at_once(origin, lines, served, failing.cause)
+fn has_failed_by(status: Option<Status>, cause: Cause) -> bool {
+    match status {
+        Some(Status::Failed(why)) => why == cause,
+        _ => false,
+    }
+}
+
+/// What the handler was asked for that it serves in the end.
+fn asked_of(ended: &World<'_>, handler: u16) -> Option<Asked> {
+    let log = ended.log();
+    Some(served_before(log, handler, log.len())?.asked)
+}
+
+/// Adds where a routine stood, or what was asked for where none ran, and which invariant was broken.
+fn push_stood(
+    origin: &RunSource<'_>,
+    lines: &mut Lines,
+    breakdown: &Breakdown,
+    turn: &Turn,
+    asked: Option<&Asked>,
+    cause: Cause,
+) {
+    if turn.fails_at_once() {
+        if let Some(asked) = asked {
+            push_at_once(origin, lines, asked, cause)
         }
-    } else if let Some(point) = failing.breakdown.point {
-        push_point(
-            origin,
-            lines,
-            point,
-            failing.cause,
-            failing.ending.is_behind,
-        )
+    } else if let Some(point) = &breakdown.point {
+        push_point(origin, lines, point, cause, turn.is_behind())
+    }
+    if let Some(broken) = &breakdown.invariant {
+        push_invariant(origin, lines, broken);
     }
 }
 
@@ -65,64 +83,87 @@ fn push_stood(origin: &RunSource<'_>, lines: &mut Lines, failing: &Failing) {
 fn push_point(
     origin: &RunSource<'_>,
     lines: &mut Lines,
-    point: Point,
+    point: &Point,
     cause: Cause,
     is_behind: bool,
 ) {
-    let Some(there) = whereabouts(origin.tables, point, cause, is_behind) else {
-        return;
+    if let Some(code) = origin.program.routine(point.routine)
+        && let Some(site) = site_of(&code.text, point.place, cause, is_behind)
+    {
+        if cause == Cause::SupplierFailed && point.place == 0 {
+            push_entry(origin, lines, &code.text)
+        } else {
+            push_operation(origin, lines, &code.text, &site, cause)
+        }
+    }
+}
+
+/// What the operation was made of at which a handler failed, or behind which: a routine that waits or calls stands behind it.
+fn site_of(text: &RoutineText, place: usize, cause: Cause, is_behind: bool) -> Option<TextSite> {
+    let site = text.sites.get(place).copied()?;
+    let is_behind = match cause {
+        Cause::StackFull => true,
+        Cause::TooManyObjects => !matches!(site.kind, SiteKind::Creation),
+        _ => is_behind,
     };
-    if cause == Cause::SupplierFailed && point.place == 0 {
-        push_entry(origin, lines, &there)
+    if is_behind && place > 0 {
+        text.sites.get(place - 1).copied()
     } else {
-        push_operation(origin, lines, &there, cause)
+        Some(site)
     }
 }
 
 /// Adds that a handler stood where it reserves the handlers of a routine's formals.
-fn push_entry(origin: &RunSource<'_>, lines: &mut Lines, there: &Whereabouts) {
-    if begin_place(origin, lines, there.routine) {
-        push_routine(lines, origin.source.text(), there);
+fn push_entry(origin: &RunSource<'_>, lines: &mut Lines, text: &RoutineText) {
+    if begin_place(origin, lines, text.name) {
+        push_routine(origin, lines, text);
         lines.push("which reserves the handlers of its formals");
-        end_place(origin, lines, there.routine)
+        end_place(origin, lines, text.name)
     }
 }
 
 /// Adds at which operation of a routine a handler stood.
-fn push_operation(origin: &RunSource<'_>, lines: &mut Lines, there: &Whereabouts, cause: Cause) {
-    if begin_place(origin, lines, there.site.span) {
-        push_routine(lines, origin.source.text(), there);
-        push_site(lines, origin.source.text(), there, cause);
-        end_place(origin, lines, there.site.span)
+fn push_operation(
+    origin: &RunSource<'_>,
+    lines: &mut Lines,
+    text: &RoutineText,
+    site: &TextSite,
+    cause: Cause,
+) {
+    if begin_place(origin, lines, site.span) {
+        push_routine(origin, lines, text);
+        push_site(origin, lines, text, site, cause);
+        end_place(origin, lines, site.span)
     }
 }
 
 /// Adds which clause of a class invariant is false.
 fn push_invariant(origin: &RunSource<'_>, lines: &mut Lines, broken: &BrokenInvariant) {
-    let number = broken.class as usize;
-    if let Some(clause) = invariant_clause(origin.tables, number, broken.clause)
-        && let Some(class) = name_of_class(origin.tables, number)
+    let class = broken.class as usize;
+    if let Some(clause) = origin.invariant_clause(class, broken.clause)
+        && let Some(around) = origin.class_around(clause.span)
         && begin_place(origin, lines, clause.span)
     {
-        let text = origin.source.text();
-        push_clause(lines, text, clause.tag);
-        lines.push_all(&[" of the invariant of ", written(text, class)]);
-        push_false(lines, text, clause.class, class == clause.class);
+        match clause.tag {
+            None => lines.push("a clause"),
+            Some(tag) => push_clause(lines, origin.written(tag)),
+        }
+        lines.push_all(&[" of the invariant of ", class_name(origin, class)]);
+        push_false(origin, lines, around, class == around);
         end_place(origin, lines, clause.span)
     }
 }
 
 /// Adds where the attribute is declared that was asked for while it was Void: no routine ran for that.
 fn push_at_once(origin: &RunSource<'_>, lines: &mut Lines, asked: &Asked, cause: Cause) {
-    if let (Cause::UnsetEntity, Errand::Calls(name)) = (cause, asked.errand)
-        && let Some(declared) = feature_asked(origin, asked, name)
-        && let Some(class) = name_of_class(origin.tables, declared.class)
-        && begin_place(origin, lines, declared.name)
+    if let (Cause::UnsetEntity, Errand::Calls(_)) = (cause, asked.errand)
+        && let Some(name) = asked_feature(origin, asked)
+        && let Some(class) = origin.class_around(name)
+        && begin_place(origin, lines, name)
     {
-        let text = origin.source.text();
-        lines.push_all(&["`", written(text, declared.name), "` of "]);
-        lines.push_all(&[written(text, class), " is read"]);
-        end_place(origin, lines, declared.name)
+        lines.push_all(&["`", origin.written(name), "` of "]);
+        lines.push_all(&[class_name(origin, class), " is read"]);
+        end_place(origin, lines, name)
     }
 }
 
@@ -134,7 +175,14 @@ fn push_served(origin: &RunSource<'_>, lines: &mut Lines, asked: &Asked) {
     lines.push("it served handler ");
     lines.push_number(u64::from(poster));
     lines.push(", which asked for ");
-    push_errand(origin, lines, asked);
+    match asked.errand {
+        Errand::Calls(_) => push_feature(origin, lines, asked),
+        Errand::Makes(None) => lines.push("its creation"),
+        Errand::Makes(Some(_)) => {
+            lines.push("its creation by ");
+            push_feature(origin, lines, asked)
+        }
+    }
     lines.push("\n")
 }
 
@@ -157,74 +205,14 @@ fn end_place(origin: &RunSource<'_>, lines: &mut Lines, span: Span) {
     }
 }
 
-/// Adds what is asked for.
-fn push_errand(origin: &RunSource<'_>, lines: &mut Lines, asked: &Asked) {
-    match asked.errand {
-        Errand::Calls(name) => push_feature(origin, lines, asked, name),
-        Errand::Makes(None) => lines.push("its creation"),
-        Errand::Makes(Some(name)) => {
-            lines.push("its creation by ");
-            push_feature(origin, lines, asked, name)
-        }
-    }
-}
-
-/// Adds the feature of the number that is asked for, as the text has it.
-fn push_feature(origin: &RunSource<'_>, lines: &mut Lines, asked: &Asked, name: u32) {
-    match feature_asked(origin, asked, name) {
-        None => lines.push("a feature"),
-        Some(declared) => {
-            lines.push_all(&["`", written(origin.source.text(), declared.name), "`"])
-        }
-    }
-}
-
-/// The feature of the number that is asked for.
-fn feature_asked(origin: &RunSource<'_>, asked: &Asked, name: u32) -> Option<Declared> {
-    let name = origin.names.get(name as usize)?;
-    let class = ClassId::Declared(asked.class);
-    let entry = origin.tables.feature(class, name.as_str())?;
-    Some(Declared {
-        name: entry.feature.name.span,
-        class: entry.class,
-    })
-}
-
-/// Where the name of the class at a number stands.
-fn name_of_class(tables: &Tables<'_>, number: usize) -> Option<Span> {
-    Some(tables.class(number)?.name.span)
-}
-
-/// What the operation was made of at which a handler failed, or behind which: a routine that waits or calls stands behind it.
-fn whereabouts(
-    tables: &Tables<'_>,
-    point: Point,
-    cause: Cause,
-    is_behind: bool,
-) -> Option<Whereabouts> {
-    let there = locate(tables, point.routine, point.place)?;
-    let is_behind = match cause {
-        Cause::StackFull => true,
-        Cause::TooManyObjects => !matches!(there.site.kind, Kind::Creation),
-        _ => is_behind,
-    };
-    if is_behind && point.place > 0 {
-        locate(tables, point.routine, point.place - 1)
-    } else {
-        Some(there)
-    }
-}
-
-/// Adds which handler the failed one needed, where it failed by what came of that.
-fn push_needed(lines: &mut Lines, failing: &Failing) {
-    let what = match failing.cause {
+/// Adds which handler one needed that failed by this cause behind an operation.
+fn push_needed(lines: &mut Lines, ended: &World<'_>, handler: u16, cause: Cause) {
+    let what = match cause {
         Cause::SupplierFailed => ", which has failed\n",
         Cause::Precondition => ", which refused\n",
         _ => return,
     };
-    if let Some(supplier) = failing.supplier
-        && failing.ending.is_behind
-    {
+    if let Some(supplier) = supplier_of(ended, handler) {
         lines.push("it needed handler ");
         lines.push_number(u64::from(supplier));
         lines.push(what)

@@ -1,95 +1,126 @@
-//! What the settlements of a run tell of one handler.
+//! What the turns of a run tell of one handler.
 
-use sc_handler::{Log, Settlement};
-use sc_region::{Errand, Job, Request, Want};
+use sc_explain_waiting::{Asked, asked_by};
+use sc_model::Cause;
+use sc_region::{Errand, Job, Value, Want};
+use sc_request::Log;
 
-/// What a handler was asked for, and by whom.
+/// A turn of a handler: what it had to do, and what that came to.
 #[derive(Clone, Copy)]
-pub struct Asked {
-    pub poster: Option<u16>,
-    /// The number of the class whose object it is asked of.
-    pub class: usize,
-    pub errand: Errand,
+pub struct Turn {
+    pub begun: Begun,
+    pub ended: Ended,
 }
 
-/// How the last turns of a handler ended.
+/// What a handler had to do.
 #[derive(Clone, Copy)]
-pub struct Ending {
-    /// It failed as it took a request, before any routine ran for that.
-    pub is_at_once: bool,
-    /// It failed behind an operation: by what came of it in another handler.
-    pub is_behind: bool,
+pub enum Begun {
+    /// It took a request.
+    Takes(Served),
+    /// It went on, with an answer if one had come.
+    GoesOn(Option<Value>),
+    /// It went on with the handler that was created for it.
+    HasCreated,
+    /// What it had asked for has failed or was refused.
+    Fails,
 }
 
-/// Whom a handler asks.
+/// A request that a handler serves.
 #[derive(Clone, Copy)]
-pub enum Supplier {
-    Nobody,
-    /// This handler.
-    Known(u16),
-    /// A handler that is to be created.
-    New,
-    /// Handlers that are to be reserved.
-    Reserved,
+pub struct Served {
+    pub asked: Asked,
+    /// Whether its poster waits for the answer.
+    pub is_waited: bool,
 }
 
-/// What a settlement tells of the request that its handler serves.
+/// What a turn came to.
 #[derive(Clone, Copy)]
-struct Service {
-    taken: Option<Asked>,
-    has_ended: bool,
+pub enum Ended {
+    /// It asked this handler for something.
+    Asks(u16),
+    /// A handler was to be created.
+    Creates,
+    /// Handlers were to be reserved.
+    Reserves,
+    /// The request ended, or was refused.
+    Done {
+        is_refused: bool,
+    },
+    Fails(Cause),
+    /// Nothing of these.
+    GoesOn,
 }
 
-/// How the last turns of the handler ended.
-pub fn ending_of(log: &Log, handler: u16) -> Option<Ending> {
-    for place in (0..log.len()).rev() {
+impl Turn {
+    /// Whether it failed as it took a request, before any routine ran for that.
+    pub fn fails_at_once(&self) -> bool {
+        matches!(self.begun, Begun::Takes(_)) && matches!(self.ended, Ended::Fails(_))
+    }
+
+    /// Whether the handler stood behind an operation, and failed by what came of that in another handler.
+    pub fn is_behind(&self) -> bool {
+        matches!(self.begun, Begun::Fails) || !matches!(self.ended, Ended::Fails(_))
+    }
+}
+
+/// The turn at a place of a log in which each is settled by itself.
+pub fn turn_at(log: &Log, place: usize) -> Option<Turn> {
+    let settlement = log.get(place)?;
+    Some(Turn {
+        begun: begun_by(&settlement.job),
+        ended: ended_by(&settlement.want),
+    })
+}
+
+fn begun_by(job: &Job) -> Begun {
+    match job {
+        Job::Take(request) => Begun::Takes(Served {
+            asked: asked_by(request),
+            is_waited: request.is_waited,
+        }),
+        Job::Reply(answer) => Begun::GoesOn(*answer),
+        Job::Go | Job::Granted(_) => Begun::GoesOn(None),
+        Job::Made(_) => Begun::HasCreated,
+        Job::Failed | Job::Refused => Begun::Fails,
+    }
+}
+
+fn ended_by(want: &Want) -> Ended {
+    match want {
+        Want::Post(request) => Ended::Asks(request.target.handler),
+        Want::Ask { request, .. } => Ended::Asks(request.target.handler),
+        Want::Create { .. } => Ended::Creates,
+        Want::Reserve(handlers) if !handlers.is_empty() => Ended::Reserves,
+        Want::Done { refused, .. } => Ended::Done {
+            is_refused: *refused,
+        },
+        Want::Fail(cause) => Ended::Fails(*cause),
+        _ => Ended::GoesOn,
+    }
+}
+
+/// The place of the last turn of a handler in front of a place.
+pub fn last_before(log: &Log, handler: u16, end: usize) -> Option<usize> {
+    for place in (0..end).rev() {
         if log.handler_at(place) == Some(handler) {
-            return ending_at(log, place);
+            return Some(place);
         }
     }
     None
 }
 
-fn ending_at(log: &Log, place: usize) -> Option<Ending> {
-    let settlement = log.get(place)?;
-    Some(Ending {
-        is_at_once: has_failed_at_once(&settlement),
-        is_behind: has_failed_behind(&settlement),
-    })
-}
-
-fn has_failed_at_once(settlement: &Settlement) -> bool {
-    matches!(&settlement.job, Job::Take(_))
-        && matches!(&settlement.want, Want::Fail(_))
-        && settlement.turns == 1
-}
-
-fn has_failed_behind(settlement: &Settlement) -> bool {
-    match &settlement.want {
-        Want::Fail(_) => matches!(&settlement.job, Job::Failed | Job::Refused),
-        _ => true,
-    }
-}
-
-/// The request that the handler has taken last among those that haven't ended.
-pub fn request_of(log: &Log, handler: u16) -> Option<Asked> {
-    let place = taken_before(log, handler, log.len())?;
-    service_at(log, place)?.taken
-}
-
-/// The place of the settlement by which the handler took the last request among those that haven't ended before the settlement
-/// at a place.
-pub fn taken_before(log: &Log, handler: u16, end: usize) -> Option<usize> {
+/// The request that the handler has taken last in front of a place among those that haven't ended.
+pub fn served_before(log: &Log, handler: u16, end: usize) -> Option<Served> {
     let mut ended = 0_usize;
     for place in (0..end).rev() {
         if log.handler_at(place) == Some(handler) {
-            let service = service_at(log, place)?;
-            if service.has_ended {
+            let turn = turn_at(log, place)?;
+            if let Ended::Done { .. } = turn.ended {
                 ended = ended.saturating_add(1);
             }
-            if service.taken.is_some() {
+            if let Begun::Takes(served) = turn.begun {
                 if ended == 0 {
-                    return Some(place);
+                    return Some(served);
                 }
                 ended -= 1;
             }
@@ -98,72 +129,15 @@ pub fn taken_before(log: &Log, handler: u16, end: usize) -> Option<usize> {
     None
 }
 
-fn service_at(log: &Log, place: usize) -> Option<Service> {
-    let settlement = log.get(place)?;
-    Some(Service {
-        taken: taken_by(&settlement.job),
-        has_ended: matches!(&settlement.want, Want::Done { .. }),
-    })
-}
-
-/// The request that is taken, if one is.
-fn taken_by(job: &Job) -> Option<Asked> {
-    match job {
-        Job::Take(request) => Some(asked_by(request)),
-        _ => None,
-    }
-}
-
-fn asked_by(request: &Request) -> Asked {
-    Asked {
-        poster: request.poster,
-        class: request.target.class as usize,
-        errand: request.errand,
-    }
-}
-
 /// The handler that was last created for this one, and has begun.
 pub fn created_last(log: &Log, creator: u16) -> Option<u16> {
     for place in (0..log.len()).rev() {
-        let service = service_at(log, place)?;
-        if is_creation(service.taken, creator) {
+        if let Begun::Takes(served) = turn_at(log, place)?.begun
+            && served.asked.poster == Some(creator)
+            && matches!(served.asked.errand, Errand::Makes(_))
+        {
             return log.handler_at(place);
         }
     }
     None
-}
-
-fn is_creation(taken: Option<Asked>, creator: u16) -> bool {
-    match taken {
-        Some(
-            Asked {
-                poster,
-                class: _,
-                errand: Errand::Makes(_),
-            },
-        ) => poster == Some(creator),
-        _ => false,
-    }
-}
-
-/// Whom the handler of the settlement at a place asks by it.
-pub fn supplier_at(log: &Log, place: usize) -> Option<Supplier> {
-    let settlement = log.get(place)?;
-    Some(supplier_by(&settlement.want))
-}
-
-fn supplier_by(want: &Want) -> Supplier {
-    match want {
-        Want::Post(request) => Supplier::Known(request.target.handler),
-        Want::Ask { request, .. } => Supplier::Known(request.target.handler),
-        Want::Create { .. } => Supplier::New,
-        Want::Reserve(handlers) => {
-            if handlers.is_empty() {
-                Supplier::Nobody
-            } else {
-                Supplier::Reserved
-            }
-        }
-        _ => Supplier::Nobody,
-    }
 }

@@ -6,11 +6,12 @@
 #![tactic(auto)]
 
 mod breakdown;
-mod failing;
 mod failure;
 mod history;
 mod limit;
 mod moments;
+mod replay;
+mod supplier;
 mod words;
 
 pub use failure::{Played, run_note};

@@ -1,63 +1,63 @@
 //! What stands at a place of a routine, in words.
 
-use sc_explain_text::Lines;
+use sc_code::{Assertion, RoutineText, SiteKind, TextSite};
+use sc_explain_text::{Lines, binary_spelling};
+use sc_explain_waiting::RunSource;
 use sc_model::Cause;
-use sc_text::Span;
 use sc_tree::UnaryOperator;
-use sc_whereabouts::{Assertion, Kind, Whereabouts, binary_spelling};
-
-/// The part of a text, with the letters that stand there.
-pub fn written(text: &str, span: Span) -> &str {
-    text.get(span.start..span.end).unwrap_or("..")
-}
 
 /// Adds the name of a routine and that of the class in which it stands.
-pub fn push_routine(lines: &mut Lines, text: &str, there: &Whereabouts) {
-    lines.push_all(&["in `", written(text, there.routine), "` of "]);
-    lines.push_all(&[written(text, there.class), ", "])
+pub fn push_routine(origin: &RunSource<'_>, lines: &mut Lines, text: &RoutineText) {
+    lines.push_all(&["in `", origin.written(text.name), "` of "]);
+    lines.push_all(&[class_name(origin, text.class), ", "])
 }
 
-/// Adds what stands at a place where a handler failed by this cause.
-pub fn push_site(lines: &mut Lines, text: &str, there: &Whereabouts, cause: Cause) {
-    match there.site.kind {
-        Kind::Clause(assertion, tag) => {
-            let is_own = matches!(assertion, Assertion::Check)
-                || there.contract_class == there.class;
-            push_clause(lines, text, tag);
+/// Adds what stands at a place of a routine where a handler failed by this cause.
+pub fn push_site(
+    origin: &RunSource<'_>,
+    lines: &mut Lines,
+    text: &RoutineText,
+    site: &TextSite,
+    cause: Cause,
+) {
+    match site.kind {
+        SiteKind::Clause(assertion, tag) => {
+            let is_own = matches!(assertion, Assertion::Check) || text.contract_class == text.class;
+            match tag {
+                None => lines.push("a clause"),
+                Some(tag) => push_clause(lines, origin.written(tag.span())),
+            }
             lines.push(of_assertion(assertion));
-            push_false(lines, text, there.contract_class, is_own)
+            push_false(origin, lines, text.contract_class, is_own)
         }
-        kind => push_operation(lines, text, kind, cause),
-    }
-}
-
-/// Adds the operation of this kind, with what it is made of.
-fn push_operation(lines: &mut Lines, text: &str, kind: Kind, cause: Cause) {
-    match kind {
-        Kind::Name(name) | Kind::Call(name) => push_use(lines, written(text, name), cause),
-        Kind::Unary(operator) => push_operator(lines, unary_spelling(operator)),
-        Kind::Binary(operator) => push_operator(lines, binary_spelling(operator)),
-        Kind::End => lines.push(of_end(cause)),
+        SiteKind::Name(name) | SiteKind::Call(name) => {
+            push_use(lines, origin.written(name.span()), cause)
+        }
+        SiteKind::Unary(operator) => push_operator(lines, unary_spelling(operator)),
+        SiteKind::Binary(operator) => push_operator(lines, binary_spelling(operator)),
+        SiteKind::End => lines.push(of_end(cause)),
         kind => lines.push(of_kind(kind)),
     }
+}
+
+/// The name of the class at a number.
+pub fn class_name<'r>(origin: &RunSource<'r>, class: usize) -> &'r str {
+    origin.class_name(class).unwrap_or("..")
 }
 
 fn push_operator(lines: &mut Lines, spelling: &str) {
     lines.push_all(&["the operator `", spelling, "`"])
 }
 
-/// Adds which clause it is, by its tag if it has one.
-pub fn push_clause(lines: &mut Lines, text: &str, tag: Option<Span>) {
-    match tag {
-        None => lines.push("a clause"),
-        Some(tag) => lines.push_all(&["the clause `", written(text, tag), "`"]),
-    }
+/// Adds the clause of this tag.
+pub fn push_clause(lines: &mut Lines, tag: &str) {
+    lines.push_all(&["the clause `", tag, "`"])
 }
 
 /// Adds that a clause is false, and from which class it is, unless that is told anyway.
-pub fn push_false(lines: &mut Lines, text: &str, class: Span, is_told: bool) {
+pub fn push_false(origin: &RunSource<'_>, lines: &mut Lines, class: usize, is_told: bool) {
     if !is_told {
-        lines.push_all(&[" from ", written(text, class)]);
+        lines.push_all(&[" from ", class_name(origin, class)]);
     }
     lines.push(" is false")
 }
@@ -86,20 +86,20 @@ fn of_end(cause: Cause) -> &'static str {
     }
 }
 
-fn of_kind(kind: Kind) -> &'static str {
+fn of_kind(kind: SiteKind) -> &'static str {
     match kind {
-        Kind::Result => "Result is read",
-        Kind::ObjectTest => "the object test",
-        Kind::Old | Kind::Keep => "the value of before",
-        Kind::Local => "the local",
-        Kind::Assignment => "the assignment",
-        Kind::Creation | Kind::Created => "the creation",
-        Kind::Print => "`print`",
-        Kind::Condition | Kind::Jump => "the condition",
-        Kind::Until => "the `until`",
-        Kind::Block => "the separate block",
-        Kind::BlockEnd => "the end of the separate block",
-        Kind::Start => "the beginning",
+        SiteKind::Result => "Result is read",
+        SiteKind::ObjectTest => "the object test",
+        SiteKind::Old | SiteKind::Keep => "the value of before",
+        SiteKind::Local => "the local",
+        SiteKind::Assignment => "the assignment",
+        SiteKind::Creation | SiteKind::Created => "the creation",
+        SiteKind::Print => "`print`",
+        SiteKind::Condition | SiteKind::Jump => "the condition",
+        SiteKind::Until => "the `until`",
+        SiteKind::Block => "the separate block",
+        SiteKind::BlockEnd => "the end of the separate block",
+        SiteKind::Start => "the beginning",
         _ => "this value",
     }
 }

@@ -4,11 +4,10 @@ use crate::evaluation::{Reached, Seen, Start, Until, reach};
 use crate::naming::push_place;
 use crate::origin::RunSource;
 use crate::waits::standing_of;
-use sc_code::FeatureCode;
+use sc_code::{FeatureCode, SiteKind};
 use sc_explain_text::Lines;
 use sc_region::{Reference, Value};
 use sc_text::Span;
-use sc_whereabouts::{Kind, locate};
 use sc_world::World;
 
 /// How many values are told at most.
@@ -43,12 +42,12 @@ pub fn push_operation_values(
     let Some(standing) = standing_of(world, handler) else {
         return;
     };
-    let Some(there) = locate(origin.tables, standing.routine, place) else {
+    let Some(site) = origin.site_at(standing.routine, place) else {
         return;
     };
-    let whole = there.site.span;
+    let whole = site.span;
     let first = origin.first_place(standing.routine, place, whole);
-    let is_clause = matches!(there.site.kind, Kind::Clause(_, _));
+    let is_clause = matches!(site.kind, SiteKind::Clause(_, _));
     let start = if is_clause && first < standing.place {
         Start::Place(first)
     } else {
@@ -128,7 +127,7 @@ impl<'r> RunSource<'r> {
 
     /// The number of a name of the program.
     fn number_of(&self, name: &str) -> Option<usize> {
-        for (number, other) in self.names.iter().enumerate() {
+        for (number, other) in self.program.pool().names.iter().enumerate() {
             if other.as_str().eq_ignore_ascii_case(name) {
                 return Some(number);
             }
@@ -163,7 +162,7 @@ impl<'r> RunSource<'r> {
 
     /// The part of the text of which the operation at a place of a routine was made.
     fn span_at(&self, routine: usize, place: usize) -> Option<Span> {
-        Some(locate(self.tables, routine, place)?.site.span)
+        Some(self.site_at(routine, place)?.span)
     }
 
     /// Adds what was read and called in a part of the text, each once, as far as it is no object: whether there is such a thing.

@@ -1,13 +1,11 @@
 //! How handlers, requests and places of the text are named.
 
 use crate::origin::RunSource;
-use crate::waits::{Standing, standing_of};
-use sc_class::ClassId;
+use crate::waits::standing_of;
 use sc_explain_text::Lines;
 use sc_region::{Errand, Request};
 use sc_source::source::Place;
 use sc_text::Span;
-use sc_whereabouts::locate;
 use sc_world::World;
 
 /// Where a handler stands: the part of the text, and the name of the routine.
@@ -26,33 +24,44 @@ fn root_class<'r>(origin: &RunSource<'r>, world: &World<'_>, handler: u16) -> Op
 /// Where a handler stands, if it has frames.
 pub fn stand_of<'r>(origin: &RunSource<'r>, world: &World<'_>, handler: u16) -> Option<Stand<'r>> {
     let standing = standing_of(world, handler)?;
-    stand_at(origin, standing)
-}
-
-fn stand_at<'r>(origin: &RunSource<'r>, standing: Standing) -> Option<Stand<'r>> {
-    let there = locate(origin.tables, standing.routine, standing.place)?;
+    let text = &origin.program.routine(standing.routine)?.text;
+    let site = text.sites.get(standing.place)?;
     let span = if standing.is_entry {
-        there.routine
+        text.name
     } else {
-        there.site.span
+        site.span
     };
     Some(Stand {
         span,
-        routine: origin.written(there.routine),
+        routine: origin.written(text.name),
     })
 }
 
-/// What a request asks for: the name of the feature, as it is declared, or of the creation procedure; None for a creation
-/// without one.
-fn asked_feature<'r>(origin: &RunSource<'r>, request: &Request) -> Option<&'r str> {
-    let number = match request.errand {
+/// What is asked for, and by whom.
+#[derive(Clone, Copy)]
+pub struct Asked {
+    pub poster: Option<u16>,
+    /// The number of the class whose object it is asked of.
+    pub class: usize,
+    pub errand: Errand,
+}
+
+/// What a request asks for.
+pub fn asked_by(request: &Request) -> Asked {
+    Asked {
+        poster: request.poster,
+        class: request.target.class as usize,
+        errand: request.errand,
+    }
+}
+
+/// What is asked for, as it is declared: the name of the feature, or of the creation procedure; None for a creation without one.
+pub fn asked_feature(origin: &RunSource<'_>, asked: &Asked) -> Option<Span> {
+    let name = match asked.errand {
         Errand::Calls(name) => name,
         Errand::Makes(name) => name?,
     };
-    let name = origin.names.get(number as usize)?;
-    let class = ClassId::Declared(request.target.class as usize);
-    let entry = origin.tables.feature(class, name.as_str())?;
-    Some(origin.written(entry.feature.name.span))
+    origin.feature_name(asked.class, name)
 }
 
 /// Adds the number of a handler, and the class of its root object.
@@ -63,21 +72,27 @@ pub fn push_name(origin: &RunSource<'_>, lines: &mut Lines, world: &World<'_>, h
     }
 }
 
-/// Adds what a request asks for, and for whom.
+/// Adds the feature that is asked for, as the text has it.
+pub fn push_feature(origin: &RunSource<'_>, lines: &mut Lines, asked: &Asked) {
+    match asked_feature(origin, asked) {
+        None => lines.push("a feature"),
+        Some(name) => lines.push_all(&["`", origin.written(name), "`"]),
+    }
+}
+
+/// Adds what is asked for, and for whom.
 pub fn push_request(
     origin: &RunSource<'_>,
     lines: &mut Lines,
     world: &World<'_>,
-    request: &Request,
+    asked: &Asked,
 ) {
-    if matches!(request.errand, Errand::Makes(_)) {
+    if matches!(asked.errand, Errand::Makes(_)) {
         lines.push("its creation");
-    } else if let Some(feature) = asked_feature(origin, request) {
-        lines.push_all(&["`", feature, "`"]);
     } else {
-        lines.push("a feature");
+        push_feature(origin, lines, asked)
     }
-    if let Some(poster) = request.poster {
+    if let Some(poster) = asked.poster {
         lines.push(" for ");
         push_name(origin, lines, world, poster);
     }

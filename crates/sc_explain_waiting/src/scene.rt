@@ -2,7 +2,7 @@
 
 use crate::chains::{Chains, number_of};
 use crate::clause::push_false_clause;
-use crate::naming::{push_name, push_request, push_stand, stand_of};
+use crate::naming::{asked_by, push_name, push_request, push_stand, stand_of};
 use crate::origin::RunSource;
 use crate::waits::{Wait, keeper_of};
 use sc_explain_text::Lines;
@@ -183,7 +183,7 @@ impl<'o, 'r> Scene<'o, 'r> {
             && stand_of(self.origin, self.world, handler).is_none()
         {
             lines.push(": it is to take ");
-            push_request(self.origin, lines, self.world, request)
+            push_request(self.origin, lines, self.world, &asked_by(request))
         }
     }
 
@@ -202,7 +202,7 @@ impl<'o, 'r> Scene<'o, 'r> {
         self.push_name(lines, handler);
         lines.push(", which can't take any: ");
         lines.push(if count == 1 { "" } else { "first " });
-        push_request(self.origin, lines, self.world, request);
+        push_request(self.origin, lines, self.world, &asked_by(request));
         lines.push("\n");
         true
     }

@@ -85,6 +85,7 @@ fn run_loaded<'a, R: Threads + Wait + Sync>(
     let Left { lines, .. } = left;
     let note = note_of(
         alloc,
+        program,
         options,
         source,
         lines.as_slice(),
@@ -159,6 +160,7 @@ fn has_refused(left: &Left<'_>) -> bool {
 /// What is said of a run beside its report, where it is asked for.
 fn note_of(
     alloc: Global,
+    program: &Program,
     options: &RunOptions<'_>,
     source: &Source,
     lines: &[RecordLine],
@@ -170,7 +172,7 @@ fn note_of(
     }
     let played = Played {
         source,
-        root: &options.root,
+        program,
         version: Version::Two,
         lines,
         limit: Limit::Turns(options.turns),

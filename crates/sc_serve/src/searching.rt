@@ -152,7 +152,7 @@ fn note_of(
             Ok(told.into_bytes())
         }
         (Some(lines), _) if options.is_explained => {
-            explain_order(alloc, program, options, source, lines)
+            explain_order(alloc, program, source, lines)
         }
         _ => Ok(Vec::new(alloc)),
     }
@@ -162,7 +162,6 @@ fn note_of(
 fn explain_order(
     alloc: Global,
     program: &Program,
-    options: &SearchOptions<'_>,
     source: &Source,
     lines: &[RecordLine],
 ) -> Result<Vec<u8>, AllocError> {
@@ -173,7 +172,7 @@ fn explain_order(
     let statuses = world.statuses()?;
     let played = Played {
         source,
-        root: &options.root,
+        program,
         version: Version::Two,
         lines,
         limit: Limit::Record,

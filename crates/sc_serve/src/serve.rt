@@ -551,7 +551,14 @@ fn play_record<'a, F: Files>(
     };
     let outcome = replay(alloc, program, &record)?;
     let exit = exit_of(outcome.statuses.as_slice());
-    let note = note_of_replay(alloc, options, source, &record, outcome.statuses.as_slice())?;
+    let note = note_of_replay(
+        alloc,
+        program,
+        options,
+        source,
+        &record,
+        outcome.statuses.as_slice(),
+    )?;
     Ok(Answer {
         text: outcome.report,
         object: None,
@@ -564,6 +571,7 @@ fn play_record<'a, F: Files>(
 /// What is said of a replay beside its report, where it is asked for.
 fn note_of_replay(
     alloc: Global,
+    program: &Program,
     options: &ReplayOptions<'_>,
     source: &Source,
     record: &Record,
@@ -574,7 +582,7 @@ fn note_of_replay(
     }
     let played = Played {
         source,
-        root: &options.root,
+        program,
         version: record.version,
         lines: record.lines.as_slice(),
         limit: Limit::Record,
