@@ -125,7 +125,14 @@ fn push_failures(
         if let Status::Failed(cause) = status {
             let number = handler.min(u16::MAX as usize) as u16;
             push_cause(lines, handler, *cause);
-            push_failing(origin, lines, ended, number, *cause, failure_of(moments, number));
+            push_failing(
+                origin,
+                lines,
+                ended,
+                number,
+                *cause,
+                failure_of(moments, number),
+            );
             lines.push_all(&["`scoop explain ", code_of(*cause), "` says more\n"])
         }
     }

@@ -43,9 +43,7 @@ pub enum Ended {
     /// Handlers were to be reserved.
     Reserves,
     /// The request ended, or was refused.
-    Done {
-        is_refused: bool,
-    },
+    Done { is_refused: bool },
     Fails(Cause),
     /// Nothing of these.
     GoesOn,

@@ -103,12 +103,7 @@ impl<'s> Refusal<'s> {
     }
 
     /// The same, where the text spells this system.
-    fn tell_of_system(
-        &self,
-        alloc: Global,
-        lines: &mut Lines,
-        system: &System,
-    ) -> Option<Related> {
+    fn tell_of_system(&self, alloc: Global, lines: &mut Lines, system: &System) -> Option<Related> {
         match self.code {
             RefusalCode::NoRoot => {
                 explain_root(lines, self.text, system, self.root);

@@ -51,13 +51,7 @@ fn kind_of(rule: Rule) -> Option<Kind> {
 
 impl<'s> RuleFault<'s> {
     /// Adds a sentence on this very fault, in a system that is run from this root, and what helps, and whether there is one.
-    pub fn push_told(
-        self,
-        alloc: Global,
-        lines: &mut Lines,
-        system: &System,
-        root: &Root,
-    ) -> bool {
+    pub fn push_told(self, alloc: Global, lines: &mut Lines, system: &System, root: &Root) -> bool {
         match tables_of(alloc, system, root) {
             Ok(None) => false,
             Ok(Some(tables)) => {

@@ -81,12 +81,7 @@ pub fn push_feature(origin: &RunSource<'_>, lines: &mut Lines, asked: &Asked) {
 }
 
 /// Adds what is asked for, and for whom.
-pub fn push_request(
-    origin: &RunSource<'_>,
-    lines: &mut Lines,
-    world: &World<'_>,
-    asked: &Asked,
-) {
+pub fn push_request(origin: &RunSource<'_>, lines: &mut Lines, world: &World<'_>, asked: &Asked) {
     if matches!(asked.errand, Errand::Makes(_)) {
         lines.push("its creation");
     } else {
