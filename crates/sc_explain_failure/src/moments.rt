@@ -111,7 +111,8 @@ fn add(
         is_told: false,
         values: Lines::new(alloc),
         behind: Lines::new(alloc),
-    })
+    })?;
+    Ok(())
 }
 
 /// Whether a handler refuses a request by the turn at a place for which nobody waits.
