@@ -87,13 +87,13 @@ fn push_point(
     cause: Cause,
     is_behind: bool,
 ) {
-    if let Some(code) = origin.program.routine(point.routine)
-        && let Some(site) = site_of(&code.text, point.place, cause, is_behind)
+    if let Some(text) = origin.text_of(point.routine)
+        && let Some(site) = site_of(text, point.place, cause, is_behind)
     {
         if cause == Cause::SupplierFailed && point.place == 0 {
-            push_entry(origin, lines, &code.text)
+            push_entry(origin, lines, text)
         } else {
-            push_operation(origin, lines, &code.text, &site, cause)
+            push_operation(origin, lines, text, &site, cause)
         }
     }
 }

@@ -24,7 +24,7 @@ fn root_class<'r>(origin: &RunSource<'r>, world: &World<'_>, handler: u16) -> Op
 /// Where a handler stands, if it has frames.
 pub fn stand_of<'r>(origin: &RunSource<'r>, world: &World<'_>, handler: u16) -> Option<Stand<'r>> {
     let standing = standing_of(world, handler)?;
-    let text = &origin.program.routine(standing.routine)?.text;
+    let text = origin.text_of(standing.routine)?;
     let site = text.sites.get(standing.place)?;
     let span = if standing.is_entry {
         text.name

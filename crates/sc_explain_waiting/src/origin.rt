@@ -1,6 +1,6 @@
 //! What a run is of, and where that stands in its text.
 
-use sc_code::{Program, TextSite};
+use sc_code::{Program, RoutineText, TextSite};
 use sc_source::source::Source;
 use sc_text::Span;
 use sc_tree::{Class, Clause};
@@ -45,10 +45,14 @@ impl<'r> RunSource<'r> {
         found
     }
 
+    /// Where a routine stands in the text, and what its operations were made of.
+    pub fn text_of(&self, routine: usize) -> Option<&'r RoutineText> {
+        Some(&self.program.routine(routine)?.text)
+    }
+
     /// What the operation at a place of a routine was made of, if there is such an operation.
     pub fn site_at(&self, routine: usize, place: usize) -> Option<TextSite> {
-        let code = self.program.routine(routine)?;
-        code.text.sites.get(place).copied()
+        self.text_of(routine)?.sites.get(place).copied()
     }
 
     /// Where the name of the feature stands that the name of this number is in a class.
