@@ -1,6 +1,6 @@
 //! What is said of a clause that is false, and which values the parts of a text had.
 
-use crate::evaluation::{Reached, Seen, Start, Until, reach};
+use crate::evaluation::{Evaluation, Seen, Start, Until};
 use crate::naming::push_place;
 use crate::origin::RunSource;
 use crate::waits::standing_of;
@@ -21,11 +21,13 @@ pub fn push_false_clause(
     world: &World<'_>,
     handler: u16,
 ) {
-    let start = Start::Place(0);
-    match reach(origin.alloc, world, handler, start, Until::FalseClause) {
-        Ok(Some(reached)) => origin.push_false(lines, &reached),
-        Ok(None) => {}
-        Err(_) => lines.lack(),
+    if let Some(mut evaluation) = Evaluation::standing(origin.alloc, world, handler) {
+        if evaluation.reaches(Start::Place(0), Until::FalseClause) {
+            origin.push_false(lines, &evaluation)
+        }
+        if evaluation.is_lacking() {
+            lines.lack()
+        }
     }
 }
 
@@ -53,13 +55,14 @@ pub fn push_operation_values(
     } else {
         Start::Here(answer)
     };
-    match reach(origin.alloc, world, handler, start, Until::Place(place)) {
-        Ok(Some(reached)) => {
-            let is_told = origin.push_values(lines, "where ", whole, &reached);
+    if let Some(mut evaluation) = Evaluation::standing(origin.alloc, world, handler) {
+        if evaluation.reaches(start, Until::Place(place)) {
+            let is_told = origin.push_values(lines, "where ", whole, &evaluation);
             lines.push(if is_told { "\n" } else { "" })
         }
-        Ok(None) => {}
-        Err(_) => lines.lack(),
+        if evaluation.is_lacking() {
+            lines.lack()
+        }
     }
 }
 
@@ -135,8 +138,9 @@ impl<'r> RunSource<'r> {
         None
     }
 
-    fn push_false(&self, lines: &mut Lines, reached: &Reached) {
-        if let Some(span) = self.span_at(reached.routine, reached.place)
+    /// Adds the clause that a routine has come to, and that it is false.
+    fn push_false(&self, lines: &mut Lines, reached: &Evaluation<'_>) {
+        if let Some(span) = self.span_at(reached.frame.routine, reached.frame.place)
             && let Some(place) = self.source.place_of(span.start)
         {
             push_place(lines, place);
@@ -166,11 +170,18 @@ impl<'r> RunSource<'r> {
     }
 
     /// Adds what was read and called in a part of the text, each once, as far as it is no object: whether there is such a thing.
-    fn push_values(&self, lines: &mut Lines, before: &str, whole: Span, reached: &Reached) -> bool {
-        let first = self.first_place(reached.routine, reached.place, whole);
+    fn push_values(
+        &self,
+        lines: &mut Lines,
+        before: &str,
+        whole: Span,
+        reached: &Evaluation<'_>,
+    ) -> bool {
+        let routine = reached.frame.routine;
+        let first = self.first_place(routine, reached.frame.place, whole);
         let mut told = Vec::new(self.alloc);
         for seen in &reached.seen {
-            if let Some(part) = self.part_at(reached.routine, whole, *seen)
+            if let Some(part) = self.part_at(routine, whole, *seen)
                 && first <= seen.place
                 && told.len() < MOST_VALUES
                 && !is_listed(told.as_slice(), part)

@@ -4,7 +4,7 @@ use crate::frame::{Frame, Values};
 use sc_code::{CallSite, FeatureCode, Operation, Program};
 use sc_region::{Reference, Value};
 use sc_world::World;
-use std::alloc::{AllocError, Global};
+use std::alloc::Global;
 
 /// How many operations are gone through at most.
 const MOST_OPERATIONS: usize = 100_000;
@@ -17,14 +17,6 @@ const MOST_FRAMES: usize = 64;
 pub struct Seen {
     pub place: usize,
     pub value: Value,
-}
-
-/// Where a routine came to, and what it read and called on the way.
-#[derive(Drop)]
-pub struct Reached {
-    pub routine: usize,
-    pub place: usize,
-    pub seen: Vec<Seen>,
 }
 
 /// From where a routine is gone through.
@@ -63,57 +55,52 @@ pub struct Evaluation<'r> {
     /// Those that wait for it to end, the outermost first.
     callers: Vec<Frame>,
     pub values: Values,
-    seen: Vec<Seen>,
+    /// What the outermost routine has read and called.
+    pub seen: Vec<Seen>,
     writes: Vec<Write>,
     /// Whether memory was refused on the way.
     is_lacking: bool,
 }
 
-/// What the topmost routine of a handler reads and calls from a place of it to another one, if it comes to there without asking
-/// anything of others.
-pub fn reach(
-    alloc: Global,
-    world: &World<'_>,
-    handler: u16,
-    start: Start,
-    until: Until,
-) -> Result<Option<Reached>, AllocError> {
-    let Some(mut evaluation) = standing(alloc, world, handler) else {
-        return Ok(None);
-    };
-    evaluation.begin(start);
-    let is_there = evaluation.run(until);
-    evaluation.end(is_there)
-}
-
-/// The topmost routine of a handler, as it stands.
-fn standing<'r>(alloc: Global, world: &'r World<'r>, handler: u16) -> Option<Evaluation<'r>> {
-    let store = world.region(handler)?.store();
-    let top = store.top()?;
-    let current = store.current()?;
-    let values = Values::of(alloc, top);
-    Some(Evaluation {
-        world,
-        program: store.program(),
-        frame: Frame {
-            routine: top.routine,
-            current,
-            place: top.place,
-            floor: 0,
-            slots: 0,
-            operands: top.slots.len(),
-            olds: 0,
-            result: top.result,
-        },
-        callers: Vec::new(alloc),
-        values,
-        seen: Vec::new(alloc),
-        writes: Vec::new(alloc),
-        is_lacking: false,
-    })
-}
-
 impl<'r> Evaluation<'r> {
+    /// The topmost routine of a handler, as it stands.
+    pub fn standing(alloc: Global, world: &'r World<'r>, handler: u16) -> Option<Evaluation<'r>> {
+        let store = world.region(handler)?.store();
+        let top = store.top()?;
+        let current = store.current()?;
+        let values = Values::of(alloc, top);
+        Some(Evaluation {
+            world,
+            program: store.program(),
+            frame: Frame {
+                routine: top.routine,
+                current,
+                place: top.place,
+                floor: 0,
+                slots: 0,
+                operands: top.slots.len(),
+                olds: 0,
+                result: top.result,
+            },
+            callers: Vec::new(alloc),
+            values,
+            seen: Vec::new(alloc),
+            writes: Vec::new(alloc),
+            is_lacking: false,
+        })
+    }
+
+    /// Whether the routine comes from a place of it to another one without asking anything of others.
+    pub fn reaches(&mut self, start: Start, until: Until) -> bool {
+        self.begin(start);
+        self.run(until)
+    }
+
+    /// Whether memory was refused on the way.
+    pub fn is_lacking(&self) -> bool {
+        self.is_lacking || self.values.is_lacking
+    }
+
     /// The outermost routine stands where it starts. Where it stands behind a call, the last operand is what that has given.
     fn begin(&mut self, start: Start) {
         match start {
@@ -164,21 +151,6 @@ impl<'r> Evaluation<'r> {
                 ) && matches!(self.values.last(&self.frame), Some(Value::Boolean(false)))
             }
         }
-    }
-
-    /// What was seen, where the routine is there.
-    fn end(self, is_there: bool) -> Result<Option<Reached>, AllocError> {
-        if self.is_lacking || self.values.is_lacking {
-            return Err(AllocError);
-        }
-        if !is_there {
-            return Ok(None);
-        }
-        Ok(Some(Reached {
-            routine: self.frame.routine,
-            place: self.frame.place,
-            seen: self.seen,
-        }))
     }
 
     /// The routine does its next operation: whether it can be gone on.
