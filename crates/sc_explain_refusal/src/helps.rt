@@ -13,18 +13,18 @@ use sc_text::Span;
 
 impl<'s> Scope<'s> {
     /// Adds what helps, where something does.
-    pub fn push_helps(&self, lines: &mut Lines, remark: Remark) {
+    pub fn push_helps(&self, lines: &mut Lines, remark: &Remark) {
         match remark {
-            Remark::Name(misfit) => self.push_name_help(lines, misfit),
-            Remark::Assigned(types, taker) => self.push_fitting(lines, types, taker),
+            Remark::Name(misfit) => self.push_name_help(lines, *misfit),
+            Remark::Assigned(types, taker) => self.push_fitting(lines, types, *taker),
             Remark::Passed(passed) => self.push_passing(lines, passed),
             Remark::Given(given, Wanted::Reserved) if !given.attached => {
-                self.push_question(lines, given, Asked::Value)
+                self.push_question(lines, *given, Asked::Value)
             }
-            Remark::Target(given) if given.attached => self.push_reservation(lines, given),
-            Remark::Target(given) => self.push_question(lines, given, Asked::Target),
-            Remark::Made(making) => self.push_making(lines, making),
-            Remark::Old(context) => lines.push(help_of_old(context)),
+            Remark::Target(given) if given.attached => self.push_reservation(lines, *given),
+            Remark::Target(given) => self.push_question(lines, *given, Asked::Target),
+            Remark::Made(making) => self.push_making(lines, *making),
+            Remark::Old(context) => lines.push(help_of_old(*context)),
             _ => {}
         }
     }
@@ -103,8 +103,8 @@ impl<'s> Scope<'s> {
     }
 
     /// Adds what helps where a value of one type doesn't fit the other, by what alone is between them.
-    fn push_fitting(&self, lines: &mut Lines, types: Compared, taker: Span) {
-        let Compared { given, taken } = types;
+    fn push_fitting(&self, lines: &mut Lines, types: &Compared, taker: Span) {
+        let Compared { given, taken } = *types;
         let taker = part_of(self.text, taker);
         match self.between(given, taken) {
             Between::More => {}
@@ -119,11 +119,11 @@ impl<'s> Scope<'s> {
 
     /// Adds what helps where an actual doesn't fit its formal. Where the handler alone is between them, that may be the one of
     /// an actual that is missing.
-    fn push_passing(&self, lines: &mut Lines, passed: Passed) {
+    fn push_passing(&self, lines: &mut Lines, passed: &Passed) {
         let Compared { given, taken } = passed.compared;
         match (passed.missing, self.between(given, taken)) {
             (Some(missing), Between::Tag) => self.push_missing(lines, passed.formal, missing),
-            _ => self.push_fitting(lines, passed.compared, passed.formal),
+            _ => self.push_fitting(lines, &passed.compared, passed.formal),
         }
     }
 

@@ -12,32 +12,32 @@ use sc_tree::{BinaryOperator, UnaryOperator};
 
 impl<'s> Scope<'s> {
     /// Adds what is said of the part of the text that is at fault, without a line feed.
-    pub fn push_remark(&self, lines: &mut Lines, remark: Remark) {
+    pub fn push_remark(&self, lines: &mut Lines, remark: &Remark) {
         let part = part_of(self.text, self.span);
         match remark {
             Remark::Assigned(types, taker) => {
-                self.push_compared(lines, part, types, ", and ", taker)
+                self.push_compared(lines, part, types, ", and ", *taker)
             }
             Remark::Passed(passed) => {
                 let taker = ", and here the formal ";
-                self.push_compared(lines, part, passed.compared, taker, passed.formal)
+                self.push_compared(lines, part, &passed.compared, taker, passed.formal)
             }
             Remark::Given(given, wanted) => {
-                self.push_given(lines, part, given, said_of_wanted(wanted))
+                self.push_given(lines, part, *given, said_of_wanted(*wanted))
             }
-            Remark::Operand(operator, given) => { self.push_operand(lines, operator, given) }
+            Remark::Operand(operator, given) => { self.push_operand(lines, *operator, *given) }
             Remark::Operands(operator, left, right) => {
-                push_operator(lines, operator);
-                self.push_type(lines, left, " and of type ");
-                self.push_type(lines, right, "")
+                push_operator(lines, *operator);
+                self.push_type(lines, *left, " and of type ");
+                self.push_type(lines, *right, "")
             }
             Remark::Name(Misfit::Lacking(class)) => {
-                push_lacking(lines, self.class_name(class), part)
+                push_lacking(lines, self.class_name(*class), part)
             }
-            Remark::Name(misfit) => push_misfit(lines, part, misfit),
+            Remark::Name(misfit) => push_misfit(lines, part, *misfit),
             Remark::Target(given) => push_quoted(lines, "", part, said_of_target(given.attached)),
-            Remark::Made(making) => self.push_made(lines, part, making),
-            Remark::Old(context) => push_quoted(lines, "", part, said_of_old(context)),
+            Remark::Made(making) => self.push_made(lines, part, *making),
+            Remark::Old(context) => push_quoted(lines, "", part, said_of_old(*context)),
         }
     }
 
@@ -65,7 +65,7 @@ impl<'s> Scope<'s> {
         &self,
         lines: &mut Lines,
         part: &str,
-        types: Compared,
+        types: &Compared,
         and: &'static str,
         taker: Span,
     ) {

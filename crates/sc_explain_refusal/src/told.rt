@@ -169,7 +169,7 @@ impl<'s> Scope<'s> {
         self.place = site.place;
         match self.remark(site) {
             Ok(remark) => {
-                self.push_lines(lines, remark);
+                self.push_lines(lines, &remark);
                 true
             }
             Err(Untold::Nothing) => false,
@@ -188,13 +188,13 @@ impl<'s> Scope<'s> {
                 Rule::UnknownName => Misfit::Lacking(ClassId::Declared(self.routine.class)),
                 _ => Misfit::Creator,
             };
-            self.push_lines(lines, Remark::Name(misfit));
+            self.push_lines(lines, &Remark::Name(misfit));
         }
         is_creator
     }
 
     /// Adds a remark, and what helps.
-    fn push_lines(&self, lines: &mut Lines, remark: Remark) {
+    fn push_lines(&self, lines: &mut Lines, remark: &Remark) {
         self.push_remark(lines, remark);
         lines.push("\n");
         self.push_helps(lines, remark)
