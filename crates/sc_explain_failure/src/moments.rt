@@ -5,7 +5,7 @@ use crate::history::{Begun, Ended, Turn, last_before, served_before, turn_at};
 use crate::replay::Replay;
 use sc_explain_text::Lines;
 use sc_explain_waiting::{
-    Asked, RunSource, asked_by, push_attributes, push_false_clause, push_name,
+    Asked, RunSource, asked_by, push_attributes, push_callers, push_false_clause, push_name,
     push_operation_values, push_request, push_stand,
 };
 use sc_handler::{Log, Settlement};
@@ -19,7 +19,7 @@ use std::alloc::{AllocError, Global};
 const MOST_MOMENTS: usize = 32;
 
 /// How many handlers are told at most that waited.
-const MOST_CALLERS: usize = 16;
+const MOST_CLIENTS: usize = 16;
 
 /// What a turn comes to.
 #[derive(Clone, Copy, PartialEq, Eq)]
@@ -38,7 +38,7 @@ pub struct Moment {
     /// Its place in the log.
     place: usize,
     is_told: bool,
-    /// The values of what failed.
+    /// The values of what failed, and the routines that had called the one that failed, the innermost first.
     pub values: Lines,
     /// The handlers that waited for it, the innermost first, and the requests that were lost.
     pub behind: Lines,
@@ -186,7 +186,10 @@ impl<'o> Before<'o> {
             Kind::Failure => {
                 if let Some(turn) = turn_at(self.ended.log(), moment.place) {
                     self.tell_values(&turn, moment);
-                    self.tell_callers(moment);
+                    if !matches!(turn.begun, Begun::Takes(_)) {
+                        push_callers(self.origin, &mut moment.values, self.world, moment.handler)
+                    }
+                    self.tell_clients(moment);
                     self.tell_dropped(&turn, moment)
                 }
             }
@@ -238,11 +241,11 @@ impl<'o> Before<'o> {
     }
 
     /// Who waited for the handler, and who for that one, and so on: where each asked for what, and for whom.
-    fn tell_callers(&self, moment: &mut Moment) {
+    fn tell_clients(&self, moment: &mut Moment) {
         let mut handler = moment.handler;
         let lines = &mut moment.behind;
         let end = moment.place.saturating_add(1);
-        for _caller in 0..MOST_CALLERS {
+        for _client in 0..MOST_CLIENTS {
             let Some(client) = client_of(self.ended.log(), handler, end) else {
                 return;
             };
@@ -251,6 +254,7 @@ impl<'o> Before<'o> {
             lines.push(" waited for it");
             push_stand(self.origin, lines, self.world, client);
             lines.push("\n");
+            push_callers(self.origin, lines, self.world, client);
             handler = client;
         }
     }

@@ -3,10 +3,13 @@
 use crate::origin::RunSource;
 use crate::waits::standing_of;
 use sc_explain_text::Lines;
-use sc_region::{Errand, Request};
+use sc_region::{Activation, Errand, Request, Stage};
 use sc_source::source::Place;
 use sc_text::Span;
 use sc_world::World;
+
+/// How many callers of a routine are told at most.
+const MOST_CALLERS: usize = 16;
 
 /// Where a handler stands: the part of the text, and the name of the routine.
 #[derive(Clone, Copy)]
@@ -101,6 +104,46 @@ pub fn push_stand(origin: &RunSource<'_>, lines: &mut Lines, world: &World<'_>, 
         lines.push(", at ");
         push_place(lines, place);
         lines.push_all(&[" in ", stand.routine]);
+    }
+}
+
+/// Adds where the routine stands that has called the one that a handler has come to, and where that is which has called that one,
+/// and so on, the innermost first, each on a line: as far as they serve the same request.
+pub fn push_callers(origin: &RunSource<'_>, lines: &mut Lines, world: &World<'_>, handler: u16) {
+    for count in 0..MOST_CALLERS {
+        match caller_in(world, handler, count) {
+            Some(caller) => push_caller(origin, lines, caller),
+            None => return,
+        }
+    }
+    if caller_in(world, handler, MOST_CALLERS).is_some() {
+        lines.push("and so on\n")
+    }
+}
+
+/// The caller of a handler's topmost routine from which so many others lead to that one, as far as they serve the same request.
+fn caller_in<'w>(world: &'w World<'_>, handler: u16, count: usize) -> Option<&'w Activation> {
+    let caller = world
+        .region(handler)?
+        .store()
+        .under(count.saturating_add(1))?;
+    if matches!(caller.stage, Stage::InCall { .. }) {
+        Some(caller)
+    } else {
+        None
+    }
+}
+
+/// Adds where a routine stands that has called another one.
+fn push_caller(origin: &RunSource<'_>, lines: &mut Lines, caller: &Activation) {
+    let place = caller.place.saturating_sub(1);
+    if let Some(text) = origin.text_of(caller.routine)
+        && let Some(site) = text.sites.get(place)
+        && let Some(place) = origin.source.place_of(site.span.start)
+    {
+        lines.push("called at ");
+        push_place(lines, place);
+        lines.push_all(&[" in ", origin.written(text.name), "\n"])
     }
 }
 

@@ -153,7 +153,14 @@ impl Stack {
         self.activations.get(self.currents.len().wrapping_sub(1))
     }
 
-    /// The same, to be changed.
+    /// Where the routine stands of the frame that so many stand above, if there is one, to be told to people. Nothing is promised
+    /// of it: no turn depends on it.
+    pub fn under(&self, count: usize) -> Option<&Activation> {
+        let place = self.currents.len().checked_sub(count)?;
+        self.activations.get(place.checked_sub(1)?)
+    }
+
+    /// The same of the topmost frame, to be changed.
     #[inline(always)]
     pub fn top_mut(&mut self) -> Option<&mut Activation>
         ensures* writes_back { sem 𝓛 (LendsTopOfStack self.entry result) }

@@ -251,7 +251,13 @@ impl<'p> Store<'p> {
         self.state.stack.top()
     }
 
-    /// The same, to be changed.
+    /// Where the routine stands that has so many routines above it, if there is one, to be told to people. Nothing is promised of it:
+    /// no turn depends on it.
+    pub fn under(&self, count: usize) -> Option<&Activation> {
+        self.state.stack.under(count)
+    }
+
+    /// The same of the topmost routine, to be changed.
     pub fn top_mut(&mut self) -> Option<&mut Activation>
         ensures* writes_back { sem 𝓛 (LendsTop self.entry result) }
         ensures value { option_map (λ activation. activation_of activation.now) result ≡ top_activation self.old.frames }
