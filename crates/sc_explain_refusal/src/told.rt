@@ -85,10 +85,12 @@ impl<'s> RuleFault<'s> {
         around: &'s RoutineContext<'s, 's>,
         class: &'s Class,
     ) -> bool {
-        match routine_around(class, self.aim.span) {
-            Some(text) if self.push_in_routine(lines, around, text) => true,
-            _ => self.push_beside_routines(lines, around, class),
+        if let Some(text) = routine_around(class, self.aim.span)
+            && self.push_in_routine(lines, around, text)
+        {
+            return true;
         }
+        self.push_beside_routines(lines, around, class)
     }
 
     /// Adds what is told of the part that is aimed at, where it stands in this routine of the class.
