@@ -129,9 +129,9 @@ fn is_refusal(log: &Log, handler: u16, place: usize) -> bool {
 }
 
 /// Tells of each moment, the earliest first, where the run is played once more.
-fn tell_of(
-    origin: &RunSource<'_>,
-    ended: &World<'_>,
+fn tell_of<'o>(
+    origin: &'o RunSource<'o>,
+    ended: &'o World<'o>,
     played: &Played<'_>,
     moments: &mut Vec<Moment>,
 ) -> Result<(), AllocError> {
