@@ -31,6 +31,8 @@ pub struct Served {
     pub asked: Asked,
     /// Whether its poster waits for the answer.
     pub is_waited: bool,
+    /// The place of the turn by which it was taken.
+    pub place: usize,
 }
 
 /// What a turn came to.
@@ -65,16 +67,17 @@ impl Turn {
 pub fn turn_at(log: &Log, place: usize) -> Option<Turn> {
     let settlement = log.get(place)?;
     Some(Turn {
-        begun: begun_by(&settlement.job),
+        begun: begun_by(&settlement.job, place),
         ended: ended_by(&settlement.want),
     })
 }
 
-fn begun_by(job: &Job) -> Begun {
+fn begun_by(job: &Job, place: usize) -> Begun {
     match job {
         Job::Take(request) => Begun::Takes(Served {
             asked: asked_by(request),
             is_waited: request.is_waited,
+            place,
         }),
         Job::Reply(answer) => Begun::GoesOn(*answer),
         Job::Go | Job::Granted(_) => Begun::GoesOn(None),

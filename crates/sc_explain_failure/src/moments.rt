@@ -1,7 +1,7 @@
 //! What there was in front of a turn of a run: what is lost behind it.
 
 use crate::failure::Played;
-use crate::history::{Begun, Ended, Turn, last_before, served_before, turn_at};
+use crate::history::{Begun, Ended, Served, Turn, last_before, served_before, turn_at};
 use crate::replay::Replay;
 use sc_explain_text::Lines;
 use sc_explain_waiting::{
@@ -240,22 +240,31 @@ impl<'o> Before<'o> {
         }
     }
 
-    /// Who waited for the handler, and who for that one, and so on: where each asked for what, and for whom.
+    /// Who waited for the handler, and who for that one, and so on: where each asked for what, and for whom. One that waited with a
+    /// routine and serves a callback now is told without its place.
     fn tell_clients(&self, moment: &mut Moment) {
         let mut handler = moment.handler;
+        let mut end = moment.place.saturating_add(1);
         let lines = &mut moment.behind;
-        let end = moment.place.saturating_add(1);
         for _client in 0..MOST_CLIENTS {
-            let Some(client) = client_of(self.ended.log(), handler, end) else {
+            let Some(served) = served_before(self.ended.log(), handler, end) else {
+                return;
+            };
+            let Some(client) = client_of(&served) else {
                 return;
             };
             lines.push("handler ");
             push_name(self.origin, lines, self.world, client);
             lines.push(" waited for it");
-            push_stand(self.origin, lines, self.world, client);
-            lines.push("\n");
-            push_callers(self.origin, lines, self.world, client);
+            if self.world.core().awaits(client) == Some(handler) {
+                push_stand(self.origin, lines, self.world, client);
+                lines.push("\n");
+                push_callers(self.origin, lines, self.world, client)
+            } else {
+                lines.push("\n")
+            }
             handler = client;
+            end = served.place;
         }
     }
 
@@ -289,9 +298,8 @@ impl<'o> Before<'o> {
     }
 }
 
-/// Who waits for the end of the request that a handler serves in front of a place.
-fn client_of(log: &Log, handler: u16, place: usize) -> Option<u16> {
-    let served = served_before(log, handler, place)?;
+/// Who waits for the end of a request.
+fn client_of(served: &Served) -> Option<u16> {
     if served.is_waited {
         served.asked.poster
     } else {
