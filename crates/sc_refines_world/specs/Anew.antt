@@ -16,8 +16,8 @@ use Rattle.sc_refines_world.specs.Standing.{StandsFor}
 abbrev pub IsPlayed : Image → Version → PlainWorld → Type 0
 IsPlayed p v w = (hs : List ℕ) × Runs hs (opened p v) w
 
--- The handlers make their turns one after the other, each in a world that was played anew and is kept alike with the one that
--- the turn before left. So is the last world.
+-- The handlers make their turns one after the other, each in a world that was played anew and is kept alike with the
+-- one that the turn before left. So is the last world.
 abbrev pub RunsAnew : Image → Version → List ℕ → PlainWorld → PlainWorld → Type 0
 RunsAnew p v [] x y = IsPlayed p v y × (kept y ≡ kept x)
 RunsAnew p v (h ∷ hs) x y =

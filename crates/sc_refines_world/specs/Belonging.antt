@@ -1,4 +1,5 @@
--- Whose is what stands in a state: on which handler objects, frames and requests lie, and that all have what their class says.
+-- Whose is what stands in a state: on which handler objects, frames and requests lie, and that all have what their
+-- class says.
 use Rattle.std.specs.Prelude.{◌≡◌, ◌⊎◌, ◌<◌, ℕ, Bool, false, true, List, Option, Some, Contains, is_some, length, map}
 use Rattle.sc_tree.specs.Plain.{System}
 use Rattle.sc_proctype.specs.declared.entity_type.EntityType.{EntityType}
@@ -18,8 +19,8 @@ use Rattle.sc_machine_values.specs.Steps.{is_excluded}
 
 -- ---- objects
 
--- The object's class is one of the system's. It has the attributes of that class, in order, each of the name and the type that
--- the text gives it.
+-- The object's class is one of the system's. It has the attributes of that class, in order, each of the name and the
+-- type that the text gives it.
 pub record IsOfClass (s : System) (o : Object) : Type 0 where
   pub is_class : o.class < length s.classes
   pub has_attributes : map known_of o.attributes ≡ map known_of (fresh_object s o.class).attributes
@@ -27,16 +28,16 @@ pub record IsOfClass (s : System) (o : Object) : Type 0 where
 abbrev pub ObjectsAreOfClasses : System → World → Type 0
 ObjectsAreOfClasses s w = (h : ℕ) (o : Object) → h < w.count → Contains (w.handlers h).objects o → IsOfClass s o
 
--- A reference that stands somewhere leads to an object that is there, of the class that it says, or to the first one of a
--- handler whose creation waits to be taken.
+-- A reference that stands somewhere leads to an object that is there, of the class that it says, or to the first one of
+-- a handler whose creation waits to be taken.
 abbrev pub ReferencesLead : System → World → Type 0
 ReferencesLead s w = (h : ℕ) (of : Reserved → Option ℕ) (r : Reference) (t : EntityType) (may_be_unset : Bool) →
     StandsAs s w h of (Attached r) t may_be_unset → IsThere w r
 
 -- ---- frames
 
--- A frame of the handler runs on one of that handler's objects, in the version of its routine that the object's class has. Its
--- Result is of the type that the routine's text gives it.
+-- A frame of the handler runs on one of that handler's objects, in the version of its routine that the object's class
+-- has. Its Result is of the type that the routine's text gives it.
 pub record RunsOnOwn (s : System) (w : World) (h : ℕ) (f : Frame) : Type 0 where
   pub current_is_own : f.current.handler ≡ h
   pub current_is_there : IsAmong (w.handlers h).objects f.current
@@ -56,7 +57,8 @@ pub record StandsAtTarget (s : System) (w : World) (h : ℕ) (r : Request) : Typ
   pub is_known : (x : List ℕ) → called_name r.errand ≡ Some x → is_some (version_of s r.target.class x) ≡ true
 
 abbrev pub RequestsStandAtTargets : System → World → Type 0
-RequestsStandAtTargets s w = (h : ℕ) (r : Request) → h < w.count → Contains (requests_at (w.handlers h)) r → StandsAtTarget s w h r
+RequestsStandAtTargets s w =
+    (h : ℕ) (r : Request) → h < w.count → Contains (requests_at (w.handlers h)) r → StandsAtTarget s w h r
 
 -- ---- failures
 

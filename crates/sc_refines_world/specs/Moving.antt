@@ -57,17 +57,17 @@ pub record IsCall (s : System) (w : World) (h : ℕ) (f : Frame) (c : Calling) (
   pub begins : Begins (Called c) called
   pub is_entered : IsEntered s object name (values_of actuals) called
 
--- What is left to do in a frame that goes on, and its names: what its move comes to; what it was, where it reserved or was
--- answered; or, where a wait condition was false, all of its routine again.
+-- What is left to do in a frame that goes on, and its names: what its move comes to; what it was, where it reserved or
+-- was answered; or, where a wait condition was false, all of its routine again.
 pub data GoesOn (s : System) (w : World) (h : ℕ) (f g : Frame) : Type 0 where
   stood : g.text ≡ f.text → g.environment ≡ f.environment → g.tasks ≡ f.tasks → GoesOn s w h f g
-  moved : {a : Act} {p : Point} → Acts s w h f a p → is_plain a ≡ true → g.text ≡ p.text → g.environment ≡ p.environment →
-      g.tasks ≡ p.tasks → GoesOn s w h f g
-  again : {k : Clause} {p : Point} → Acts s w h f (Refuses k) p → verdict_on (frame_at f p) k ≡ verdict.Wait → g.text ≡ p.text →
-      g.environment ≡ p.environment → g.tasks ≡ tasks_of f.routine → GoesOn s w h f g
+  moved : {a : Act} {p : Point} → Acts s w h f a p → is_plain a ≡ true →
+      g.text ≡ p.text → g.environment ≡ p.environment → g.tasks ≡ p.tasks → GoesOn s w h f g
+  again : {k : Clause} {p : Point} → Acts s w h f (Refuses k) p → verdict_on (frame_at f p) k ≡ verdict.Wait →
+      g.text ≡ p.text → g.environment ≡ p.environment → g.tasks ≡ tasks_of f.routine → GoesOn s w h f g
 
--- In a turn of the handler its topmost frame, which stands on these, comes to this one: the same call of the same routine on
--- the same object. Where it has a precondition its body starts by the verdict on that, and in no other way.
+-- In a turn of the handler its topmost frame, which stands on these, comes to this one: the same call of the same
+-- routine on the same object. Where it has a precondition its body starts by the verdict on that, and in no other way.
 pub record ComesTo (s : System) (w : World) (h : ℕ) (f : Frame) (below : List Frame) (g : Frame) : Type 0 where
   pub current_stays : g.current ≡ f.current
   pub routine_stays : g.routine ≡ f.routine
@@ -84,8 +84,8 @@ pub data AsksForNone (s : System) (r : Request) : Type 0 where
   attribute : {x : List ℕ} {f : DeclaredFeature} {d : DeclaredType} → r.errand ≡ Calls x →
       version_of s r.target.class x ≡ Some f → f.feature.kind ≡ Attribute d → AsksForNone s r
 
--- The request that is taken is done at once, where it asks for no routine; or it begins a frame on these, of which it is the
--- origin, of what it calls on its target with its actuals.
+-- The request that is taken is done at once, where it asks for no routine; or it begins a frame on these, of which it
+-- is the origin, of what it calls on its target with its actuals.
 pub data IsTaken (s : System) (r : Request) (below stack : List Frame) : Type 0 where
   done : AsksForNone s r → stack ≡ below → IsTaken s r below stack
   begun : {f : Frame} {x : List ℕ} → stack ≡ f ∷ below → Begins (Requested r) f → called_name r.errand ≡ Some x →
@@ -111,10 +111,10 @@ pub record Falls (x y : Handler) : Type 0 where
 abbrev pub given_at : Point → Option Value
 given_at p = option_map (λ (u : Operand). u.value) p.result
 
--- How the frames and the requests of a handler change in its turn. The frames stay; the topmost goes on, or calls; it ends, and
--- what a call gave comes to the frame below, or the precondition of what was requested is refused. Or the handler takes the first
--- request of its queue where it has no frames, or its callback, which then no longer stands there. Or it fails. Nothing else
--- drops a request.
+-- How the frames and the requests of a handler change in its turn. The frames stay; the topmost goes on, or calls; it
+-- ends, and what a call gave comes to the frame below, or the precondition of what was requested is refused. Or the
+-- handler takes the first request of its queue where it has no frames, or its callback, which then no longer stands
+-- there. Or it fails. Nothing else drops a request.
 pub data FramesMove (s : System) (w : World) (h : ℕ) (x y : Handler) : Type 0 where
   stay : y.stack ≡ x.stack → RequestsStay x y → FramesMove s w h x y
   go_on : {f g : Frame} {below : List Frame} → x.stack ≡ f ∷ below → y.stack ≡ g ∷ below → ComesTo s w h f below g →
@@ -126,16 +126,16 @@ pub data FramesMove (s : System) (w : World) (h : ℕ) (x y : Handler) : Type 0 
   end : {f : Frame} {below : List Frame} {r : Request} {p : Point} → x.stack ≡ f ∷ below → f.origin ≡ Requested r →
       Acts s w h f Exits p → y.stack ≡ below → RequestsStay x y → FramesMove s w h x y
   refuse : {f : Frame} {below : List Frame} {r : Request} {k : Clause} {p : Point} → x.stack ≡ f ∷ below →
-      f.origin ≡ Requested r → Acts s w h f (Refuses k) p → verdict_on (frame_at f p) k ≡ verdict.Refuse → y.stack ≡ below →
-      RequestsStay x y → FramesMove s w h x y
+      f.origin ≡ Requested r → Acts s w h f (Refuses k) p → verdict_on (frame_at f p) k ≡ verdict.Refuse →
+      y.stack ≡ below → RequestsStay x y → FramesMove s w h x y
   take_next : {r : Request} → x.stack ≡ [] → x.queue ≡ r ∷ y.queue → y.callback ≡ x.callback → y.failure ≡ x.failure →
       IsTaken s r [] y.stack → FramesMove s w h x y
   take_callback : {r : Request} → x.callback ≡ Some r → y.callback ≡ None → y.queue ≡ x.queue → y.failure ≡ x.failure →
       IsTaken s r x.stack y.stack → FramesMove s w h x y
   fall : Falls x y → FramesMove s w h x y
 
--- In each turn the frames and the queue of its handler change so. Each other handler keeps what it has, but that the handler of
--- the turn may have posted to it.
+-- In each turn the frames and the queue of its handler change so. Each other handler keeps what it has, but that the
+-- handler of the turn may have posted to it.
 abbrev pub TurnsMoveRequests : ℕ → System → World → Type 0
 TurnsMoveRequests most s w = (h : ℕ) → h < w.count →
     FramesMove s w h (w.handlers h) ((turn most s h w).handlers h)
@@ -144,7 +144,8 @@ TurnsMoveRequests most s w = (h : ℕ) → h < w.count →
 
 -- ---- handlers that are created
 
--- Where h creates the handler k in its turn, k has nothing but the request for its first object, of what its creator asks for.
+-- Where h creates the handler k in its turn, k has nothing but the request for its first object, of what its creator
+-- asks for.
 pub record BeginsWithOne (s : System) (w : World) (h k : ℕ) (y : Handler) : Type 0 where
   pub creator : Frame
   pub below : List Frame

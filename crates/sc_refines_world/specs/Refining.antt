@@ -44,8 +44,8 @@ use Rattle.sc_refines_world.specs.Texts.{FramesAreTyped, FramesKnowTheirTexts}
 
 -- ---- the state that a world stands for
 
--- From the first state to the second one in a turn of h: a request that comes to stand at a handler was posted by h, which held
--- that one then, or created it in this turn.
+-- From the first state to the second one in a turn of h: a request that comes to stand at a handler was posted by h,
+-- which held that one then, or created it in this turn.
 abbrev pub ComeUnderRight : ℕ → World → World → Type 0
 ComeUnderRight h w v = (k : ℕ) (r : Request) → Contains (requests_at (v.handlers k)) r →
     Contains (requests_at (w.handlers k)) r ⊎ ((r.poster ≡ Some h) × ((held w.rights h k ≡ true) ⊎ (k ≡ w.count)))
@@ -58,10 +58,11 @@ PostsUnderRight most s w = (h : ℕ) → ComeUnderRight h w (turn most s h w)
 abbrev pub TurnsAnswer : ℕ → System → World → Type 0
 TurnsAnswer most s w = (g k : ℕ) → k < w.count → k ≢ g → AnswerComes s w g k (turn most s g w)
 
--- What the headline claims of a state, where there may be so many handlers: what is posted under which right, how frames,
--- requests and answers come and go, how handlers begin, who holds and waits for whom, whose is what stands there, that names and
--- operands are of the types of the text, which values stand where, that settled objects meet their class invariants, that in the
--- next turn a body starts only where the clauses of its precondition hold, and that none of the failures that are excluded comes.
+-- What the headline claims of a state, where there may be so many handlers: what is posted under which right, how
+-- frames, requests and answers come and go, how handlers begin, who holds and waits for whom, whose is what stands
+-- there, that names and operands are of the types of the text, which values stand where, that settled objects meet
+-- their class invariants, that in the next turn a body starts only where the clauses of its precondition hold, and that
+-- none of the failures that are excluded comes.
 pub record HasHeadline (most : ℕ) (s : System) (w : World) : Type 0 where
   pub posts_under_right : PostsUnderRight most s w
   pub turns_move_requests : TurnsMoveRequests most s w
@@ -124,8 +125,8 @@ RefusedTurnStaysNear =
     (s : System) (p : Image) (h : ℕ) (w : World) (x y : PlainWorld) → StandsFor s p w x → IsRefusedTurn h x y →
     StandsNear s p w y
 
--- Where memory was refused to the turn behind so many, a program's world is near the state to which these turns lead the
--- machine.
+-- Where memory was refused to the turn behind so many, a program's world is near the state to which these turns lead
+-- the machine.
 abbrev pub StoppedWorldStaysNear : Type 0
 StoppedWorldStaysNear = WhereAccepted λ s root.
     (p : Image) (v : Version) (n : ℕ) (hs : List ℕ) (y : PlainWorld) → IsProgramOf s root p → FitsRequests p →
@@ -139,8 +140,8 @@ WorldReportsAsMachine =
 
 -- ---- turns that were made or refused
 
--- Any turns of which some were made, and memory was refused to the others, lead a program's world near the state to which those
--- that were made lead the machine.
+-- Any turns of which some were made, and memory was refused to the others, lead a program's world near the state to
+-- which those that were made lead the machine.
 abbrev pub AttemptsRunAsMachine : Type 0
 AttemptsRunAsMachine = WhereAccepted λ s root.
     (p : Image) (v : Version) (ts : List Attempt) (y : PlainWorld) → IsProgramOf s root p → FitsRequests p →
@@ -162,8 +163,8 @@ TurnsStandExactly = WhereAccepted λ s root.
     × IsRegionFor s p h ((run (most_handlers v) s (made_by ts ++ h ∷ []) (opening s root)).handlers h)
     (y.center.state.handlers h).stage r
 
--- Where memory was refused behind so many turns of a list, and the rest of the list follows then, the world is near the state to
--- which the whole list leads the machine.
+-- Where memory was refused behind so many turns of a list, and the rest of the list follows then, the world is near the
+-- state to which the whole list leads the machine.
 abbrev pub RestRunsAsMachine : Type 0
 RestRunsAsMachine = WhereAccepted λ s root.
     (p : Image) (v : Version) (ts : List Attempt) (n : ℕ) (hs : List ℕ) (x y z : PlainWorld) → IsProgramOf s root p →
@@ -178,11 +179,12 @@ RoundsAreTurns =
     (limit : ℕ) (x : PlainWorld) (left : ℕ) (y : PlainWorld) → Rounds limit x left y →
     (hs : List ℕ) × (length hs + left ≡ limit) × Runs hs x y
 
--- A handler that makes several turns at once is the next one again after each that asks nothing, as it would be if each turn
--- were made for itself.
+-- A handler that makes several turns at once is the next one again after each that asks nothing, as it would be if each
+-- turn were made for itself.
 abbrev pub HandlersComeAgain : Type 0
 HandlersComeAgain =
-    (most h n : ℕ) (j : Job) (c : Center) → pick_for h c ≡ Some j → goes_on j ≡ true → comes_again j (picked h j c) ≡ true →
+    (most h n : ℕ) (j : Job) (c : Center) → pick_for h c ≡ Some j →
+    goes_on j ≡ true → comes_again j (picked h j c) ≡ true →
     next (settles most h j (suc n) want.Continue (picked h j c)) ≡ Some (h, job.Go)
 
 -- Where no handler of the world has anything to do, none has a turn in the machine.
@@ -196,15 +198,15 @@ abbrev pub first_with_turn : List ℕ → World → Option ℕ
 first_with_turn [] w = None
 first_with_turn (h ∷ hs) w = if has_turn h w then Some h else first_with_turn hs w
 
--- From the state on each of these handlers has a turn when it comes to it: it is the first that has one behind the handler of the
--- turn before, round the numbers.
+-- From the state on each of these handlers has a turn when it comes to it: it is the first that has one behind the
+-- handler of the turn before, round the numbers.
 abbrev pub GoRound : ℕ → System → ℕ → List ℕ → World → Type 0
 GoRound most s before [] w = Unit {0}
 GoRound most s before (h ∷ hs) w =
     (first_with_turn (round w.count before) w ≡ Some h) × GoRound most s h hs (turn most s h w)
 
--- From the opening on each of these handlers has a turn in the machine, in the order of rounds. They are so many at most, and
--- fewer only where no handler has a turn any more.
+-- From the opening on each of these handlers has a turn in the machine, in the order of rounds. They are so many at
+-- most, and fewer only where no handler has a turn any more.
 pub record IsRunWithin (most : ℕ) (s : System) (root : Root) (limit : ℕ) (hs : List ℕ) : Type 0 where
   pub few : length hs ≤ limit
   pub go_round : GoRound most s (most - 1) hs (opening s root)

@@ -18,10 +18,10 @@ use Rattle.sc_world.specs.Worlds.{PlainWorld}
 abbrev pub names_in : Image → List (List ℕ)
 names_in p = (pool_of p.pool).names
 
--- The region is that of the handler of the number: its store stands for the region's half of what the machine has of the
--- handler, where that stands so in the core.
-pub record IsRegionFor (s : System) (p : Image) (h : ℕ) (x : machine.Handler) (stage : core.HandlerStage) (r : PlainRegion) :
-    Type 0 where
+-- The region is that of the handler of the number: its store stands for the region's half of what the machine has of
+-- the handler, where that stands so in the core.
+pub record IsRegionFor (s : System) (p : Image) (h : ℕ) (x : machine.Handler) (stage : core.HandlerStage)
+    (r : PlainRegion) : Type 0 where
   pub handler : r.handler ≡ h
   pub program : r.store.program ≡ p
   pub untold : r.is_told ≡ false
@@ -29,8 +29,8 @@ pub record IsRegionFor (s : System) (p : Image) (h : ℕ) (x : machine.Handler) 
   pub stands : IsRegionOf s half r.store
   pub is_half : IsRegionHalf h x stage half
 
--- The world, which runs the program of the system, stands for this state of the machine: the core is its half, no handler
--- is out with a job, each handler has its region, and all other regions are new.
+-- The world, which runs the program of the system, stands for this state of the machine: the core is its half, no
+-- handler is out with a job, each handler has its region, and all other regions are new.
 pub record StandsFor (s : System) (p : Image) (w : machine.World) (x : PlainWorld) : Type 0 where
   pub core : IsHalfOf (numbering_by (names_in p)) w x.center.state
   pub none_out : (h : ℕ) → x.center.out h ≡ None

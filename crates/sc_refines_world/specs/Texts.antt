@@ -28,8 +28,8 @@ FramesKnowTheirTexts s w = (h : ℕ) (f : Frame) → h < w.count → Contains (w
 
 -- ---- operands
 
--- What is left to do in the frame is typed by the rules, where the names, the operands, the values that were kept for `old` and
--- the value that it waits for are of these types.
+-- What is left to do in the frame is typed by the rules, where the names, the operands, the values that were kept for
+-- `old` and the value that it waits for are of these types.
 pub record IsTypedByRules (s : System) (w : World) (h : ℕ) (f : Frame) : Type 0 where
   pub pure : RoutineName → Bool
   pub is_purity : IsPurity s pure
