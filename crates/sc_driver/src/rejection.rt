@@ -12,7 +12,7 @@ use sc_text::LexFault;
 use std::alloc::AllocError;
 
 /// Why nothing is made of a source text.
-#[derive(Debug, Drop)]
+#[derive(Drop)]
 pub enum Rejection {
     /// It spells no tokens.
     Text(LexFault),

@@ -15,7 +15,7 @@ pub const MOST_TURNS: u32 = 256;
 pub const MOST_LINES: usize = 1_000_000;
 
 /// Why the workers end before there is nothing to do.
-#[derive(Clone, Copy, PartialEq, Eq)]
+#[derive(Clone, Copy)]
 pub enum Stop {
     /// There was no memory. What was played is settled, and who was refused is put back.
     OutOfMemory,

@@ -1,7 +1,7 @@
 //! What is looked for.
 
 /// What ends a search.
-#[derive(Clone, Copy, Debug, PartialEq, Eq)]
+#[derive(Clone, Copy)]
 pub enum Aim {
     /// Handlers are stuck: none has anything to do, and some handler waits.
     Stuck,

@@ -6,7 +6,7 @@ use crate::aims::Aim;
 use sc_model::Status;
 
 /// How a handler may stand.
-#[derive(Clone, Copy, Debug, PartialEq, Eq)]
+#[derive(Clone, Copy)]
 pub(crate) enum Kind {
     HasFailed,
     IsBusy,

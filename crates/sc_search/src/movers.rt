@@ -22,7 +22,7 @@ const MAX_HANDLERS: usize = 512;
 const MOST_MOVERS: u32 = 1_000_000;
 
 /// What is known of the next turn of a handler.
-#[derive(Clone, Copy, Debug, PartialEq, Eq)]
+#[derive(Clone, Copy)]
 enum Peek {
     /// Nothing, or that it may be a mover.
     Unknown,
@@ -97,7 +97,7 @@ fn move_on(
         if let Some(place) = peeks.get_mut(handler as usize) {
             *place = peek;
         }
-        if peek != Peek::Unknown {
+        if !matches!(peek, Peek::Unknown) {
             return Ok(Moved::Chose);
         }
         turns.push(handler)?;

@@ -32,7 +32,7 @@ pub struct End {
 }
 
 /// How long orders are.
-#[derive(Clone, Copy, Debug, PartialEq, Eq)]
+#[derive(Clone, Copy)]
 pub enum Length {
     /// Each ends, after so many turns at most.
     AtMost(u32),

@@ -31,10 +31,7 @@ pub fn load<R: Abort>(rt: &R, alloc: Global, text: &str) -> Result<Program, Fail
     };
     match load_text(alloc, text, &root) {
         Ok(program) => Ok(program),
-        Err(why) => {
-            expect_text(rt, &format!(in alloc; "{why:?}")?, "a program", text);
-            Err(Fail::from(AllocError))
-        }
+        Err(_) => panic!(rt; "the text is no program's"),
     }
 }
 

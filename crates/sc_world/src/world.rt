@@ -25,7 +25,7 @@ use sc_request::Core;
 use std::alloc::{AllocError, Global};
 
 /// What a step of the world did.
-#[derive(Clone, Copy, Debug, PartialEq, Eq)]
+#[derive(Clone, Copy, PartialEq, Eq)]
 pub enum Turned {
     /// The handler made a turn.
     Moved,
