@@ -17,8 +17,9 @@ use Rattle.sc_request.specs.Cores.{center_of, log_of, state_of}
 use Rattle.sc_request.specs.Logs.{Center}
 use Rattle.sc_request.specs.Same.{AreSameAt}
 use Rattle.sc_play.specs.Regions.{PlainRegion}
-use Rattle.sc_world.specs.Turning.{Runs}
+use Rattle.sc_world.specs.Turning.{MakeTurns, Runs}
 use Rattle.sc_world.specs.Worlds.{PlainWorld, opened}
+use Rattle.sc_world.proofs.Runs.{made-run}
 use Rattle.sc_plant.specs.declared.left.Left.{Left}
 use Rattle.sc_plant.specs.Left.{IsRun, LinesAreARecord, RunsAreOneThreads, world_of}
 use Rattle.sc_plant.specs.OneThread.{EndsIn}
@@ -79,12 +80,13 @@ same-turns [] = refl
 same-turns (e ∷ es) = ap (λ (hs : List ℕ). replicate e.turns e.handler ++ hs) (same-turns es)
 
 module _ (p : Image) (limit : ℕ) (left : Left) (run : IsRun p limit left) (is_record : IsRecord left.version left.lines.items) (y : PlainWorld)
-    (runs : Runs (recorded.turns_of (log_of left.core)) (opened p Two) y) (ends : EndsIn y (state_of left.core) left.regions.items) where
+    (makes : MakeTurns (recorded.turns_of (log_of left.core)) (opened p Two) y) (ends : EndsIn y (state_of left.core) left.regions.items) where
   leads : LeadsTo p left y
   leads =
       subst (λ (v : Version). Runs (turns_of left.lines.items) (opened p v) y) (sym run.left_is.version)
       (subst (λ (ls : List RecordLine). Runs (turns_of ls) (opened p Two) y) (sym run.left_is.lines)
-      (subst (λ (hs : List ℕ). Runs hs (opened p Two) y) (same-turns (log_of left.core)) runs))
+      (subst (λ (hs : List ℕ). Runs hs (opened p Two) y) (same-turns (log_of left.core))
+      (made-run (recorded.turns_of (log_of left.core)) (opened p Two) y makes)))
 
   same-at : (h : ℕ) → IsSameAt h y (world_of left)
   same-at h = record {

@@ -1,3 +1,4 @@
 pub mod ExecutionLemmas
 pub mod ReplayLemmas
 pub mod Threads
+mod Rows

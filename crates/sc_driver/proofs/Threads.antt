@@ -17,7 +17,7 @@ use Rattle.sc_request.specs.Cores.{center_of, log_of, state_of}
 use Rattle.sc_request.specs.Logs.{Center, first_from, first_with_job, next, numbers_from, pick_for, round, status_in}
 use Rattle.sc_play.specs.Regions.{PlainRegion}
 use Rattle.sc_world.specs.Reports.{handler_report, handlers_report, is_busy, output_in, report, report_of, some_is_busy, statuses}
-use Rattle.sc_world.specs.Turning.{Runs}
+use Rattle.sc_world.specs.Turning.{MakeTurns}
 use Rattle.sc_world.specs.Worlds.{PlainWorld, opened}
 use Rattle.sc_plant.specs.declared.left.Left.{Left}
 use Rattle.sc_plant.specs.Left.{IsRun, RunsAreOneThreads, world_of}
@@ -147,10 +147,10 @@ thread_run one_thread p limit left run =
     let lines = left.lines.items in
     let turns : turns_of es ≡ flat_map line_turns lines = sym (ap (λ ls. flat_map line_turns ls) run.left_is.lines ∙ turns_of_lines es) in
     ∥∥₁_map (one_thread p limit left run)
-    (λ (w : (y : PlainWorld) × Runs (turns_of es) (opened p Two) y × EndsIn y s rs).
+    (λ (w : (y : PlainWorld) × MakeTurns (turns_of es) (opened p Two) y × EndsIn y s rs).
     record {
       world = w.0;
-      runs = subst (λ (hs : List ℕ). Runs hs (opened p Two) w.0) turns w.1;
+      makes = subst (λ (hs : List ℕ). MakeTurns hs (opened p Two) w.0) turns w.1;
       leaves = record {
         report_is = report_home (world_of left) run.over.home ∙ told_as report w.0 s rs (report_home w.0 w.2.none_out) w.2;
         statuses_are = statuses_home (world_of left) run.over.home ∙ told_as statuses w.0 s rs (statuses_home w.0 w.2.none_out) w.2;

@@ -26,7 +26,7 @@ use Rattle.sc_audit.specs.declared.line.RecordLine.{RecordLine}
 use Rattle.sc_audit.specs.Records.{most_lines, turns_of}
 use Rattle.sc_request.specs.Logs.{next}
 use Rattle.sc_world.specs.Worlds.{PlainWorld, opened}
-use Rattle.sc_world.specs.Turning.{Runs}
+use Rattle.sc_world.specs.Turning.{MakeTurns, Runs}
 use Rattle.sc_world.specs.Reports as told
 use Rattle.sc_driver.specs.declared.rejection.Rejection.{Rejection}
 use Rattle.sc_driver.specs.declared.rejection.Rejection.TheVariants as rejection
@@ -158,13 +158,13 @@ line_turns line = replicate line.turns line.handler
 
 -- A run on threads whose record has these lines. From the opening of the program, with 512 handlers at most, one thread
 -- that makes the lines' turns, one after the other, comes to a world that leaves the report and the handlers standing
--- so. The turns are so many at most, and the lines 1,000,000. Both are fewer only where no handler of that world has
--- anything to do any more.
+-- so. Each of these turns is one of a handler that has something to do then. They are so many at most, and the lines
+-- 1,000,000. Both are fewer only where no handler of that world has anything to do any more.
 pub record IsThreadRun (program : Image) (limit : ℕ) (lines : List RecordLine) (text : List ℕ)
     (statuses : List Status) :
     Type 0 where
   pub world : PlainWorld
-  pub runs : Runs (flat_map line_turns lines) (opened program Two) world
+  pub makes : MakeTurns (flat_map line_turns lines) (opened program Two) world
   pub leaves : Leaves world text statuses
   pub few : turns_of lines ≤ limit
   pub short : length lines ≤ most_lines

@@ -1,9 +1,9 @@
 //! Runs of a program by several workers.
 
-ghost use Rattle.std.specs.Prelude.{◌≡◌, IfErr, IfOk};
+ghost use Rattle.std.specs.Prelude.{◌≡◌, ◌≤◌, IfErr, IfOk};
 ghost use Rattle.sc_lower.specs.Lowerings.{image_of};
 ghost use Rattle.sc_world.specs.Reports as told;
-ghost use Rattle.sc_plant.specs.Left.{IsRun, SaysWhy, world_of};
+ghost use Rattle.sc_plant.specs.Left.{IsOutOfMemory, IsRun, SaysWhy, world_of};
 ghost use Rattle.sc_driver.specs.Execution.{IsThreadRun};
 
 use crate::execution::RunReport;
@@ -34,7 +34,8 @@ impl Gate for Ungated {
 /// Runs a program by so many threads, the calling one among them, for so many turns at most, where there may be 512 handlers.
 ///
 /// # Errors
-/// U1 where memory is refused, U2 where a thread is, and U3 where the logs of the threads differ, which never comes.
+/// U1 where memory is refused, U2 where a thread is, and U3 where the logs of the threads differ, which never comes. With one
+/// worker it is always U1.
 pub fn run_program<'p, R: Threads + Wait + Sync>(
     rt: &R,
     alloc: Global,
@@ -46,6 +47,7 @@ pub fn run_program<'p, R: Threads + Wait + Sync>(
     ensures ran { IfOk result (λ ended. let outcome = ended.outcome in
         ∥ IsThreadRun (image_of program.now) turns ended.left.lines.items outcome.report.items outcome.statuses.items ∥₁) }
     ensures err { IfErr result (SaysWhy (image_of program.now)) }
+    ensures alone { workers ≤ 1 → IfErr result IsOutOfMemory }
 {
     runs_are_one_threads();
     let left = run(rt, alloc, program, workers, turns, &Ungated)?;

@@ -1,5 +1,5 @@
 -- From the bytes of a source text to the state of the machine.
-use Rattle.std.proofs.Common.{ℕ, List, ◌∙◌, inl, inr}
+use Rattle.std.proofs.Common.{ℕ, List, [], ◌∙◌, inl, inr, refl}
 use Rattle.std.specs.List.{flat_map}
 use Rattle.std.proofs.Math.Logic.{∥∥₁_map}
 use Rattle.sc_tree.specs.Plain.{System}
@@ -7,11 +7,15 @@ use Rattle.sc_model.specs.declared.status.Status.{Status}
 use Rattle.sc_model.specs.Handlers.{World}
 use Rattle.sc_lockpass.specs.declared.version.Version.TheVariants.{Two}
 use Rattle.sc_code.specs.declared.program.Image.{Image}
-use Rattle.sc_world.specs.Worlds.{PlainWorld}
+use Rattle.sc_request.specs.Laws.{PicksWhereTurns}
+use Rattle.sc_world.specs.Worlds.{PlainWorld, opened}
+use Rattle.sc_world.proofs.Runs.{made-run}
 use Rattle.sc_refines_world.specs.Refining.{IdleWorldIsIdle, MachineHasHeadline, StandingWorldIsNear, WorldHasHeadline, WorldReportsAsMachine, WorldRunsAsMachine}
 use Rattle.sc_refines_world.specs.Standing.{StandsFor}
+use Rattle.sc_refines_world.proofs.RoundTurns.{WorldsStand}
 use Rattle.sc_driver.specs.Execution.{IsThreadRun, Leaves, line_turns}
 use Rattle.sc_headline.specs.Headline.{Headline, IsReportOf, MachineHeadline, ReplaysAreTheMachines, RunsAreTheMachines, machine_after}
+use Rattle.sc_headline.proofs.TurnsMade.{made_are_had}
 
 pub machine_headed : MachineHasHeadline → MachineHeadline
 machine_headed law text root system most state read sound reached = law system root sound.faultless sound.well_formed most state reached
@@ -47,15 +51,16 @@ replayed law near tells text root program version lines report statuses loaded r
       told = reported near tells loaded.system program (machine_after loaded.system root version turns) replay.world report statuses stands replay.leaves;
     }
 
-pub ran : WorldRunsAsMachine → IdleWorldIsIdle → StandingWorldIsNear → WorldReportsAsMachine → RunsAreTheMachines
-ran law idle near tells text root limit lines report statuses of_text =
+pub ran : WorldRunsAsMachine → PicksWhereTurns → IdleWorldIsIdle → StandingWorldIsNear → WorldReportsAsMachine → RunsAreTheMachines
+ran law picks idle near tells text root limit lines report statuses of_text =
     let loaded = of_text.loaded in
     let s = loaded.system in
     let p = of_text.program in
     let turns = flat_map line_turns lines in
     let w = machine_after s root Two turns in
+    let stand : WorldsStand s root p Two = λ hs x runs. law s root loaded.sound.faultless loaded.sound.well_formed p Two hs x loaded.is_program loaded.fits runs in
     ∥∥₁_map of_text.is_run (λ (run : IsThreadRun p limit lines report statuses).
-    let stands = law s root loaded.sound.faultless loaded.sound.well_formed p Two turns run.world loaded.is_program loaded.fits run.runs in
+    let stands = stand turns run.world (made-run turns (opened p Two) run.world run.makes) in
     record {
       is_run = record {
         system = s;
@@ -63,6 +68,7 @@ ran law idle near tells text root limit lines report statuses of_text =
         sound = loaded.sound;
         told = reported near tells s p w run.world report statuses stands run.leaves;
       };
+      have_turns = made_are_had picks s root p Two stand turns [] (opened p Two) run.world refl run.makes;
       few = run.few;
       short = run.short;
       ends = elim run.ends [

@@ -1,6 +1,7 @@
 mod Headed
 mod Threaded
 mod TurnsMade
+mod Rows
 mod Exactness
 mod SearchLaws
 mod Stuck

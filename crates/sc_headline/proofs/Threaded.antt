@@ -5,6 +5,8 @@ use Rattle.std.proofs.Math.Logic.{∥∥₁_map}
 use Rattle.sc_lockpass.specs.declared.version.Version.TheVariants.{Two}
 use Rattle.sc_model.specs.declared.status.Status.{Status}
 use Rattle.sc_request.specs.Cores.{log_of}
+use Rattle.sc_world.specs.Worlds.{opened}
+use Rattle.sc_world.proofs.Runs.{made-run}
 use Rattle.sc_world.specs.Reports.{report, statuses}
 use Rattle.sc_plant.specs.Left.{RunsAreOneThreads, world_of}
 use Rattle.sc_plant.specs.Recorded.{turns_of}
@@ -23,4 +25,8 @@ threads_reported replays one_thread text root p limit left loaded run =
     ∥∥₁_map (thread_run one_thread p limit left run)
     (λ (ran : IsThreadRun p limit lines told stand).
     subst (λ (hs : List ℕ). IsMachineRun text root Two hs told stand) turns
-    (replays text root p Two lines told stand loaded (record { world = ran.world; runs = ran.runs; leaves = ran.leaves })))
+    (replays text root p Two lines told stand loaded (record {
+      world = ran.world;
+      runs = made-run (flat_map line_turns lines) (opened p Two) ran.world ran.makes;
+      leaves = ran.leaves;
+    })))

@@ -11,8 +11,8 @@ use Rattle.sc_refines_world.specs.Refining.{HasHeadline}
 use Rattle.sc_refines_world.specs.Standing.{StandsNear}
 use Rattle.sc_driver.specs.Execution.{IsLoaded, IsRead, IsSound}
 
--- The text spells a system that is sound. The world is near a state that the machine on this system reaches, and of that state the
--- headline holds.
+-- The text spells a system that is sound. The world is near a state that the machine on this system reaches, and of
+-- that state the headline holds.
 pub record StandsNearReached (text : List ℕ) (root : Root) (program : Image) (world : PlainWorld) : Type 0 where
   pub system : System
   pub read : IsRead text system

@@ -19,7 +19,8 @@ use Rattle.sc_driver.specs.Execution.{IsLoaded}
 abbrev pub OneWorld : Type 0
 OneWorld =
     (text : List ℕ) (root : Root) (program : Image) (version : Version) (handlers : List ℕ) (x y : PlainWorld) →
-    IsLoaded text root program → Runs handlers (opened program version) x → Runs handlers (opened program version) y → x ≡ y
+    IsLoaded text root program → Runs handlers (opened program version) x → Runs handlers (opened program version) y →
+    x ≡ y
 
 -- The record is one, there is a run of it, and each run of it ends in a world of which this holds.
 pub record EachEnds (p : Image) (left : Left) (Ends : PlainWorld → Type 0) : Type 0 where
@@ -40,8 +41,8 @@ EndsApart p left h = EachEnds p left (λ w. FirstDiffers h w (world_of left))
 abbrev pub IsAnswer : Image → Left → Result Unit AuditFault → Type 0
 IsAnswer p left answer = OnOk answer (IsAudited p left) × IfErr answer (TellsWhy p left)
 
--- It says yes exactly where each run ends in what is left, A2 exactly where each differs of the handler first, and A1 exactly
--- where the line is the first that doesn't fit.
+-- It says yes exactly where each run ends in what is left, A2 exactly where each differs of the handler first, and A1
+-- exactly where the line is the first that doesn't fit.
 pub record IsExact (p : Image) (left : Left) (answer : Result Unit AuditFault) : Type 0 where
   pub yes : (answer ≡ Ok tt) ↔ EndsInLeft p left
   pub differs : (h : ℕ) → (answer ≡ Err (Differs h)) ↔ EndsApart p left h

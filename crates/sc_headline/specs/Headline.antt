@@ -1,5 +1,5 @@
 -- What is claimed of each world that turns lead to, from the bytes of a source text on.
-use Rattle.std.specs.Prelude.{◌≡◌, ◌≤◌, ◌⊎◌, ℕ, List, false, length, map}
+use Rattle.std.specs.Prelude.{◌≡◌, ◌≤◌, ◌⊎◌, ℕ, List, [], ◌∷◌, false, length, map, true}
 use Rattle.std.specs.List.{flat_map, range_with_len}
 use Rattle.sc_tree.specs.Plain.{System}
 use Rattle.sc_class.specs.ClassNames.{Root}
@@ -11,7 +11,8 @@ use Rattle.sc_audit.specs.Records.{most_lines, turns_of}
 use Rattle.sc_model.specs.declared.status.Status.{Status}
 use Rattle.sc_model.specs.Handlers.{World}
 use Rattle.sc_model.specs.Reports as machine
-use Rattle.sc_model.specs.Runs.{IsReached, opening, run}
+use Rattle.sc_model.specs.Runs.{IsReached, has_turn, opening, run}
+use Rattle.sc_model.specs.Turns.{turn}
 use Rattle.sc_code.specs.declared.program.Image.{Image}
 use Rattle.sc_world.specs.Turning.{Runs}
 use Rattle.sc_world.specs.Worlds.{PlainWorld, opened}
@@ -24,14 +25,15 @@ use Rattle.sc_driver.specs.Execution.{IsLoaded, IsRead, IsReplay, IsRunOf, IsSou
 -- Of each state that the machine on a text's system reaches, where there may be so many handlers, the headline holds.
 abbrev pub MachineHeadline : Type 0
 MachineHeadline =
-    (text : List ℕ) (root : Root) (system : System) (most : ℕ) (state : World) → IsRead text system → IsSound system root →
-    IsReached most system root state → HasHeadline most system state
+    (text : List ℕ) (root : Root) (system : System) (most : ℕ) (state : World) →
+    IsRead text system → IsSound system root → IsReached most system root state → HasHeadline most system state
 
 -- ---- worlds
 
--- The text spells a system that is sound. The world stands for a state that the machine on this system reaches, and of that
--- state the headline holds.
-pub record StandsForReached (text : List ℕ) (root : Root) (program : Image) (version : Version) (world : PlainWorld) : Type 0 where
+-- The text spells a system that is sound. The world stands for a state that the machine on this system reaches, and of
+-- that state the headline holds.
+pub record StandsForReached (text : List ℕ) (root : Root) (program : Image) (version : Version)
+    (world : PlainWorld) : Type 0 where
   pub system : System
   pub read : IsRead text system
   pub sound : IsSound system root
@@ -59,7 +61,8 @@ pub record IsReportOf (state : World) (report : List ℕ) (statuses : List Statu
   pub statuses_are : statuses ≡ map (λ h. machine.status_of h state) (range_with_len 0 state.count)
 
 -- The text spells a system that is sound, and the report is that of the machine on it after these turns.
-pub record IsMachineRun (text : List ℕ) (root : Root) (version : Version) (handlers : List ℕ) (report : List ℕ) (statuses : List Status) : Type 0 where
+pub record IsMachineRun (text : List ℕ) (root : Root) (version : Version) (handlers : List ℕ) (report : List ℕ)
+    (statuses : List Status) : Type 0 where
   pub system : System
   pub read : IsRead text system
   pub sound : IsSound system root
@@ -72,15 +75,23 @@ HasNoTurn w = machine.some_has_turn w.count w ≡ false
 -- What a replay leaves is what the machine reports after the turns of the record's lines, one after the other.
 abbrev pub ReplaysAreTheMachines : Type 0
 ReplaysAreTheMachines =
-    (text : List ℕ) (root : Root) (program : Image) (version : Version) (lines : List RecordLine) (report : List ℕ) (statuses : List Status) →
+    (text : List ℕ) (root : Root) (program : Image) (version : Version) (lines : List RecordLine) (report : List ℕ)
+    (statuses : List Status) →
     IsLoaded text root program → IsReplay program version lines report statuses →
     IsMachineRun text root version (flat_map line_turns lines) report statuses
 
--- The same of the turns of a run's record, where there may be 512 handlers. They are so many at most, and the lines
--- 1,000,000. Both are fewer only where no handler has a turn any more.
+-- From the state on each of these handlers has a turn when it comes to it, behind the turns of those before it.
+abbrev pub HaveTurns : ℕ → System → List ℕ → World → Type 0
+HaveTurns most s [] w = Unit {0}
+HaveTurns most s (h ∷ hs) w = (has_turn h w ≡ true) × HaveTurns most s hs (turn most s h w)
+
+-- The same of the turns of a run's record, where there may be 512 handlers. From the opening of the system on each of
+-- them is one that its handler has. They are so many at most, and the lines 1,000,000. Both are fewer only where no
+-- handler has a turn any more.
 pub record IsMachineRunOf (text : List ℕ) (root : Root) (limit : ℕ) (lines : List RecordLine) (report : List ℕ)
     (statuses : List Status) : Type 0 where
   pub is_run : IsMachineRun text root Two (flat_map line_turns lines) report statuses
+  pub have_turns : HaveTurns (most_handlers Two) is_run.system (flat_map line_turns lines) (opening is_run.system root)
   pub few : turns_of lines ≤ limit
   pub short : length lines ≤ most_lines
   pub ends : HasNoTurn (machine_after is_run.system root Two (flat_map line_turns lines))

@@ -28,16 +28,17 @@ StuckHaveNoTurn = (w : World) → AreStuck (statuses_in w) → HasNoTurn w
 
 -- ---- an order that was found
 
--- The text spells a system that is sound. After the turns of these lines, from its opening on, the handlers of the machine
--- stand so.
-pub record LeadsMachineTo (text : List ℕ) (root : Root) (version : Version) (lines : List RecordLine) (aim : Aim) : Type 0 where
+-- The text spells a system that is sound. After the turns of these lines, from its opening on, the handlers of the
+-- machine stand so.
+pub record LeadsMachineTo (text : List ℕ) (root : Root) (version : Version) (lines : List RecordLine)
+    (aim : Aim) : Type 0 where
   pub system : System
   pub read : IsRead text system
   pub sound : IsSound system root
   pub met : IsMet aim (statuses_in (machine_after system root version (turns_of lines)))
 
--- An order that is found for a text's program, which leaves its handlers stuck or one of them failed, leaves those of the
--- machine so.
+-- An order that is found for a text's program, which leaves its handlers stuck or one of them failed, leaves those of
+-- the machine so.
 abbrev pub FoundOrdersAreTheMachines : Type 0
 FoundOrdersAreTheMachines =
     (text : List ℕ) (root : Root) (program : Image) (version : Version) (lines : List RecordLine) (aim : Aim) →
@@ -45,8 +46,8 @@ FoundOrdersAreTheMachines =
 
 -- ---- where nothing was found
 
--- The text spells a system that is sound, and no list of handler numbers, of any length, leads the machine from its opening to
--- a state in which the handlers stand as is looked for.
+-- The text spells a system that is sound, and no list of handler numbers, of any length, leads the machine from its
+-- opening to a state in which the handlers stand as is looked for.
 pub record NoOrderMeets (text : List ℕ) (root : Root) (version : Version) (aim : Aim) : Type 0 where
   pub system : System
   pub read : IsRead text system
@@ -61,8 +62,8 @@ WholeSearchesFindAll =
 
 -- ---- where a search gives up
 
--- A search of a text's program gives up only where it has met as many states as it may keep, or has played as many turns as go
--- with them.
+-- A search of a text's program gives up only where it has met as many states as it may keep, or has played as many
+-- turns as go with them.
 abbrev pub SearchesGiveUpAtLimits : Type 0
 SearchesGiveUpAtLimits =
     (text : List ℕ) (root : Root) (program : Image) (version : Version) (aim : Aim) (limit : ℕ) →

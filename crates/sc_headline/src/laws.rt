@@ -57,12 +57,14 @@ pub fn replays_are_the_machines()
     world_reports_as_machine();
 }
 
-/// What a run leaves is what the machine on trees reports after the turns of its record's lines: at most so many, and fewer
-/// only where no handler has a turn any more or the lines are 1,000,000.
+/// What a run leaves is what the machine on trees reports after the turns of its record's lines, each of which is one that its
+/// handler has in the machine, in the state to which those before it lead: at most so many, and fewer only where no handler has a
+/// turn any more or the lines are 1,000,000.
 pub fn runs_are_the_machines()
     ensures { RunsAreTheMachines }
 {
     world_runs_as_machine();
+    core_picks_where_the_machine_turns();
     idle_world_is_idle();
     standing_world_is_near();
     world_reports_as_machine();
@@ -92,6 +94,7 @@ pub fn threads_make_turns()
 {
     world_runs_as_machine();
     core_picks_where_the_machine_turns();
+    runs_are_one_threads();
 }
 
 /// For every source text that is accepted, where an audit says yes to what a run of its program left: the turns of the record

@@ -14,7 +14,7 @@ use Rattle.sc_request.specs.Logs.{Center, next}
 use Rattle.sc_play.specs.Regions.{PlainRegion, new_region}
 use Rattle.sc_worklog.specs.LoggedRegions.{region_of}
 use Rattle.sc_worklog.specs.Replaying.{AreMade, Replays}
-use Rattle.sc_world.specs.Turning.{Runs}
+use Rattle.sc_world.specs.Turning.{MakeTurns}
 use Rattle.sc_world.specs.Worlds.{PlainWorld, max_handlers, opened}
 use Rattle.sc_plant.specs.declared.left.Left.{Left}
 use Rattle.sc_plant.specs.declared.left.LoggedLeft.{LoggedLeft}
@@ -91,6 +91,12 @@ SaysWhy p (OutOfMemory (Some left)) = IsStopped p left
 SaysWhy p ThreadRefused = Unit {0}
 SaysWhy p (LogsDiffer h left) = IsLeftLogged p left × (AgreesAt left h → ⊥) × ((k : ℕ) → k < h → AgreesAt left k)
 
+-- It is that memory was refused.
+abbrev pub IsOutOfMemory : RunFault → Type 0
+IsOutOfMemory (OutOfMemory left) = Unit {0}
+IsOutOfMemory ThreadRefused = ⊥
+IsOutOfMemory (LogsDiffer h left) = ⊥
+
 -- Where memory was refused, it tells what is left.
 abbrev pub TellsLeft : RunFault → Type 0
 TellsLeft (OutOfMemory None) = ⊥
@@ -100,10 +106,11 @@ TellsLeft (LogsDiffer h left) = Unit {0}
 
 -- ---- the laws
 
--- One thread that makes the turns of the record's lines ends in just what a run left.
+-- One thread that makes the turns of the record's lines, each of a handler that has something to do, ends in just what
+-- a run left.
 abbrev pub RunsAreOneThreads : Type 0
 RunsAreOneThreads = (p : Image) (limit : ℕ) (left : Left) → IsRun p limit left →
-    ∥ ((y : PlainWorld) × Runs (turns_of (log_of left.core)) (opened p Two) y
+    ∥ ((y : PlainWorld) × MakeTurns (turns_of (log_of left.core)) (opened p Two) y
     × EndsIn y (state_of left.core) left.regions.items) ∥₁
 
 -- What a run of no more turns than a record may have leaves is a record: its lines name handlers that there can be,

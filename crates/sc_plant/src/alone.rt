@@ -11,7 +11,7 @@ ghost use Rattle.sc_request.specs.Cores.{center_of};
 ghost use Rattle.sc_request.specs.Rooms.{HasRoomFor};
 ghost use Rattle.sc_plant.specs.declared.alone.Until.TheVariants.{Over};
 ghost use Rattle.sc_plant.specs.Alone.{AreNew, IsBack, IsOnWay, IsPlayed};
-ghost use Rattle.sc_plant.specs.Left.{IsOver, IsRun, IsStopped, SaysWhy, TellsLeft};
+ghost use Rattle.sc_plant.specs.Left.{IsOutOfMemory, IsOver, IsRun, IsStopped, SaysWhy, TellsLeft};
 
 use crate::due::settle_out;
 use crate::ending::{is_idle_or_full, turns_left};
@@ -43,6 +43,7 @@ pub fn run_alone<'p, R: Wait, G: Gate>(
 ) -> Result<Left<'p>, RunFault<'p>>
     ensures ok { IfOk result (IsRun program.now.image limit) }
     ensures err { IfErr result (SaysWhy program.now.image) }
+    ensures memory { IfErr result IsOutOfMemory }
 {
     let Ok(left) = open_left(alloc, program) else {
         return Err(RunFault::OutOfMemory(None));
@@ -62,6 +63,7 @@ fn play_opened<'p, R: Wait, G: Gate>(
     ensures ok { (p : Image) → IsOnWay p left.entry → IfOk result (IsRun p limit) }
     ensures err { (p : Image) → IsOnWay p left.entry → IfErr result (SaysWhy p) }
     ensures left { IfErr result TellsLeft }
+    ensures memory { IfErr result IsOutOfMemory }
 {
     if play_all(rt, &mut left, Until::Over, limit, gate).is_err() {
         return Err(RunFault::OutOfMemory(Some(left)));

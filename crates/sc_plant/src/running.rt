@@ -1,8 +1,8 @@
 //! Runs of a program on several threads.
-ghost use Rattle.std.specs.Prelude.{◌≡◌, ℕ, IfErr, IfOk, IsTrue, None, Some, true};
+ghost use Rattle.std.specs.Prelude.{◌≡◌, ◌≤◌, ℕ, IfErr, IfOk, IsTrue, None, Some, true};
 ghost use Rattle.sc_code.specs.declared.program.Image.{Image};
 ghost use Rattle.sc_request.specs.Cores.{center_of};
-ghost use Rattle.sc_plant.specs.Left.{IsOver, IsRun, SaysWhy, TellsLeft};
+ghost use Rattle.sc_plant.specs.Left.{IsOutOfMemory, IsOver, IsRun, SaysWhy, TellsLeft};
 ghost use Rattle.sc_plant.specs.Sharing.{IsOnWayIn};
 
 use crate::alone::{Until, open_left, play_all, run_alone};
@@ -29,8 +29,9 @@ use std::thread::Threads;
 /// is what one thread makes of the turns of the record's lines, one after the other.
 ///
 /// # Errors
-/// U1 where memory is refused, with what is left then, unless the run hadn't begun; U2 where a thread is, and U3 where a region played other jobs than were settled, which the
-/// workers never cause. All threads have ended then, too.
+/// U1 where memory is refused, with what is left then, unless the run hadn't begun; U2 where a thread is, and U3 where a region
+/// played other jobs than were settled, which the workers never cause. With one worker it is always U1. All threads have ended
+/// then, too.
 pub fn run<'p, R: Threads + Wait + Sync, G: Gate>(
     rt: &R,
     alloc: Global,
@@ -41,6 +42,7 @@ pub fn run<'p, R: Threads + Wait + Sync, G: Gate>(
 ) -> Result<Left<'p>, RunFault<'p>>
     ensures ok { IfOk result (IsRun program.now.image limit) }
     ensures err { IfErr result (SaysWhy program.now.image) }
+    ensures alone { workers ≤ 1 → IfErr result IsOutOfMemory }
 {
     if workers <= 1 {
         return run_alone(rt, alloc, program, limit, gate);

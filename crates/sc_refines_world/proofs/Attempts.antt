@@ -37,7 +37,8 @@ use Rattle.sc_play.specs.Turns.{begun}
 use Rattle.sc_play.proofs.RefusedJobs.{refused_jobs_go_on, refused_twice_is_refused}
 use Rattle.sc_world.specs.Turning.{Attempt, Attempts, HeldUpUnder, IsHeldUp, IsRefusedTurn, IsTurn, Made, Makes, Refused, Runs as RunsBy, StopsBehind, TurnsUnder, made_by}
 use Rattle.sc_world.specs.Worlds.{PlainWorld, opened}
-use Rattle.sc_world.proofs.AtOnce.{picks_job, runs_join, set_other, set_same, settled_out, settled_state}
+use Rattle.sc_world.proofs.AtOnce.{picks_job, set_other, set_same, settled_out, settled_state}
+use Rattle.sc_world.proofs.Runs.{runs-join}
 use Rattle.sc_refines_world.specs.Refining.{AttemptsHaveHeadline, AttemptsRunAsMachine, MachineHasHeadline, RestRunsAsMachine, TurnsStandExactly, WorldRunsAsMachine}
 use Rattle.sc_refines_world.specs.Standing.{IsNear, IsRegionFor, StandsFor, StandsNear, names_in}
 use Rattle.sc_refines_world.proofs.PuttingBack.{AreNearAt, IsNearTo, back_out, back_state, near_at, near_before, near_still, near_world}
@@ -293,7 +294,7 @@ module _ (runs_as : WorldRunsAsMachine) (s : System) (root : Root) (faultless : 
   behind : (hs : List ℕ) (h : ℕ) (y z : PlainWorld) → IsBeside hs (opened p v) y → IsTurn h y z → IsBeside (hs ++ h ∷ []) (opened p v) z
   behind hs h y z b turn =
       let f = one_turn hs h y z b turn in
-      record { world = f.world; runs = runs_join hs (h ∷ []) (opened p v) b.world f.world b.runs (f.world, f.turns, refl); near = f.near }
+      record { world = f.world; runs = runs-join hs (h ∷ []) (opened p v) b.world f.world b.runs (f.world, f.turns, refl); near = f.near }
 
   along : (ts : List Attempt) (hs : List ℕ) (y z : PlainWorld) → IsBeside hs (opened p v) y → Attempts ts y z → IsBeside (hs ++ made_by ts) (opened p v) z
   along [] hs y z b same =
@@ -318,7 +319,7 @@ module _ (runs_as : WorldRunsAsMachine) (s : System) (root : Root) (faultless : 
   exactly hs h j y z b due turn =
       let before = stands_there hs b.world b.runs in
       let f = one_turn hs h y z b turn in
-      let runs = runs_join hs (h ∷ []) (opened p v) b.world f.world b.runs (f.world, f.turns, refl) in
+      let runs = runs-join hs (h ∷ []) (opened p v) b.world f.world b.runs (f.world, f.turns, refl) in
       let stands = stands_there (hs ++ h ∷ []) f.world runs in
       let there : job_of h b.world.center.state ≡ Some j =
       ap (λ (t : State). job_of h t) (sym b.near.state) ∙ sym (picks_job h y.center (b.near.none_out h)) ∙ due in

@@ -29,8 +29,9 @@ use Rattle.sc_play.specs.Turns.{Becomes, FirstTurn, Turns, first, more}
 use Rattle.sc_world.specs.Rounds.{MakesAll, Rounds, more as one_more, none, turns_of_picked}
 use Rattle.sc_world.specs.Turning.{Runs as RunsBy}
 use Rattle.sc_world.specs.Worlds.{PlainWorld, opened}
-use Rattle.sc_world.proofs.AtOnce.{after, all_run, all_turns, picks_job, runs_join}
+use Rattle.sc_world.proofs.AtOnce.{after, all_run, all_turns, picks_job}
 use Rattle.sc_world.proofs.FreeHandlers.{next_picks}
+use Rattle.sc_world.proofs.Runs.{runs-join}
 use Rattle.sc_refines_world.specs.Refining.{GoRound, first_with_turn}
 use Rattle.sc_refines_world.specs.Standing.{StandsFor, names_in}
 use Rattle.sc_refines_world.proofs.ComingAgain.{handlers_come_again}
@@ -193,7 +194,7 @@ module _ (picks : PicksWhereTurns) (s : System) (root : Root) (p : Image) (v : V
       let w : machine.World = run most s ks (run most s hs (opening s root)) in first_with_turn (round w.count (last_of x.center.last ks)) w ≡ Some h
   behind_goes hs ks h x runs behind =
       let w : machine.World = run most s (hs ++ ks) (opening s root) in
-      let stands = stand (hs ++ ks) behind.0 (runs_join hs ks (opened p v) x behind.0 runs behind.1) in
+      let stands = stand (hs ++ ks) behind.0 (runs-join hs ks (opened p v) x behind.0 runs behind.1) in
       let here : first_with_turn (round w.count behind.0.center.last) w ≡ Some h = next_turn picks s p w behind.0 stands h behind.2.0 behind.2.1 in
       let there : first_with_turn (round w.count (last_of x.center.last ks)) w ≡ Some h =
       subst (λ (l : ℕ). first_with_turn (round w.count l) w ≡ Some h) behind.3 here in
@@ -214,7 +215,7 @@ module _ (picks : PicksWhereTurns) (s : System) (root : Root) (p : Image) (v : V
         hs ++ replicate n h,
         (
           omega (arith, length-append hs (replicate n h), before.1.0, length-replicate n h, few),
-          runs_join hs (replicate n h) (opened p v) y z before.1.1 (all_run (turns_of_picked l h j y) h j n y z (next_picks h j y.center is) all),
+          runs-join hs (replicate n h) (opened p v) y z before.1.1 (all_run (turns_of_picked l h j y) h j n y z (next_picks h j y.center is) all),
           go_on most s hs (replicate n h) (most - 1) (opening s root) before.1.2
               (subst (λ (b : ℕ). GoRound most s b (replicate n h) w) before.1.3 row),
           last_is l h j n y z is all ∙ sym (last_again (last_of (most - 1) hs) h n (some_made l h j n y z is all))

@@ -11,8 +11,9 @@ use Rattle.sc_play.specs.Regions.{EndsIn, PlainRegion}
 use Rattle.sc_world.specs.Rounds.{IsRefusedNext, StopsNext, more as one_more, none, turns_of_picked}
 use Rattle.sc_world.specs.Turning.{Makes, Runs as RunsBy}
 use Rattle.sc_world.specs.Worlds.{PlainWorld}
-use Rattle.sc_world.proofs.AtOnce.{all_run, center_there, goes_there, picks_job, runs_join, same_region, set_same, stopped, there, turns_there}
+use Rattle.sc_world.proofs.AtOnce.{all_run, center_there, goes_there, picks_job, same_region, set_same, stopped, there, turns_there}
 use Rattle.sc_world.proofs.FreeHandlers.{next_picks}
+use Rattle.sc_world.proofs.Runs.{runs-join}
 use Rattle.sc_refines_world.specs.Refining.{RoundsAreTurns}
 use Rattle.sc_refines_world.specs.Standing.{IsNear}
 use Rattle.sc_refines_world.proofs.PuttingBack.{IsFurther, held_further}
@@ -75,7 +76,7 @@ rounds_are_turns limit x _ _ (one_more {left = l} {turns = n} {y = y} {z = z} h 
     let few : n ≤ l = omega (arith, all.makes.settles.count, all.makes.settles.plays.few, at_most_left l h j y some) in (
       before.0 ++ replicate n h,
       omega (arith, length-append before.0 (replicate n h), before.1, length-replicate n h, few),
-      runs_join before.0 (replicate n h) x y z before.2 last,
+      runs-join before.0 (replicate n h) x y z before.2 last,
     )
 
 -- Behind turns of some handlers the world stands there, or memory was refused to the turn of one.
@@ -100,4 +101,4 @@ refused_next_stops left x y none_out (inr stops) = stops_next (next x.center) le
 
 -- behind others
 pub stops_join : (hs : List ℕ) (x y z : PlainWorld) → RunsBy hs x y → StopsBehindSome y z → StopsBehindSome x z
-stops_join hs x y z runs stops = (hs ++ stops.0, stops.1, runs_join hs stops.0 x y stops.1 runs stops.2, stops.3)
+stops_join hs x y z runs stops = (hs ++ stops.0, stops.1, runs-join hs stops.0 x y stops.1 runs stops.2, stops.3)

@@ -1,9 +1,8 @@
 -- States that are kept.
-use Rattle.std.proofs.Common.{◌≡◌, ◌⊎◌, ◌++◌, ◌∙◌, inl, inr, ℕ, zero, suc, Bool, true, false, IsTrue, ◌↔◌, List, [], ◌∷◌, Option, Some, None, is_some, Result, Ok, Err, length, slice_get, refl, ap, subst}
+use Rattle.std.proofs.Common.{◌≡◌, ◌⊎◌, ◌++◌, ◌∙◌, inl, inr, ℕ, zero, suc, Bool, true, false, IsTrue, ◌↔◌, List, [], ◌∷◌, Option, Some, None, is_some, Result, Ok, Err, length, slice_get, refl, ap}
 use Rattle.std.specs.Prelude.{IfNone, IfOk}
 use Rattle.sc_world.specs.Kept.{PlainKept, kept}
 use Rattle.sc_world.specs.Reports.{statuses}
-use Rattle.sc_world.specs.Turning.{IsTurn, Runs}
 use Rattle.sc_world.specs.Worlds.{PlainWorld}
 use Rattle.sc_search.specs.declared.aims.Aim.{Aim}
 use Rattle.sc_search.specs.Aims.{IsMet}
@@ -31,11 +30,6 @@ pub same_some : {X : Type 0} (x y : X) → Some x ≡ Some y → x ≡ y
 same_some x y e = cc
 
 -- ---- worlds
-
--- one more turn
-pub runs_more : (hs : List ℕ) (h : ℕ) (x y z : PlainWorld) → Runs hs x y → IsTurn h y z → Runs (hs ++ h ∷ []) x z
-runs_more [] h x y z same turn = (z, subst (λ (w : PlainWorld). IsTurn h w z) same turn, refl)
-runs_more (k ∷ hs) h x y z runs turn = (runs.0, runs.1, runs_more hs h runs.0 y z runs.2 turn)
 
 pub unmet_not : (b : Bool) (P : Type 0) → b ≡ false → (IsTrue b ↔ P) → P → ⊥
 unmet_not true P e is p = let no : true ≡ false = e in cc

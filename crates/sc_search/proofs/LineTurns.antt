@@ -5,9 +5,9 @@ use Rattle.std.proofs.lemmas.List.Concat.{flat_map-append}
 use Rattle.sc_audit.specs.declared.line.RecordLine.{RecordLine}
 use Rattle.sc_world.specs.Turning.{IsTurn, Runs}
 use Rattle.sc_world.specs.Worlds.{PlainWorld}
+use Rattle.sc_world.proofs.Runs.{runs-join, runs-more}
 use Rattle.sc_search.specs.Found.{line_turns, turns_of}
 use Rattle.sc_search.specs.Stops.{Moves}
-use Rattle.sc_search.proofs.KeptStates.{runs_more}
 
 pub pushed : (xs : List RecordLine) (x : RecordLine) → turns_of (xs ++ x ∷ []) ≡ turns_of xs ++ line_turns x
 pushed xs x = flat_map-append line_turns xs (x ∷ []) ∙ ap (λ (ts : List ℕ). turns_of xs ++ ts) (append-nil (line_turns x))
@@ -22,11 +22,6 @@ goes_on before line last h e = ap (λ (ts : List ℕ). before ++ ts) e ∙ sym (
 
 -- ---- turns of lines, one line after the other
 
--- turns, and others behind them
-pub runs_join : (hs ks : List ℕ) (x y z : PlainWorld) → Runs hs x y → Runs ks y z → Runs (hs ++ ks) x z
-runs_join [] ks x y z same runs = subst (λ (w : PlainWorld). Runs ks w z) same runs
-runs_join (h ∷ hs) ks x y z first runs = (first.0, first.1, runs_join hs ks first.0 y z first.2 runs)
-
 -- the turns of the line at a place, behind those of the lines before it
 pub lines_more : (lines : List RecordLine) (i : ℕ) (d : RecordLine) (x y z : PlainWorld) → i < length lines → Runs (turns_of (take i lines)) x y →
     Runs (replicate (get_or lines i d).turns (get_or lines i d).handler) y z → Runs (turns_of (take (i + 1) lines)) x z
@@ -34,7 +29,7 @@ lines_more lines i d x y z below runs turns =
     let line = get_or lines i d in
     let all : turns_of (take i lines) ++ replicate line.turns line.handler ≡ turns_of (take (i + 1) lines) =
     flat_map_more line_turns [] (take i lines) line ∙ ap turns_of (sym (take_more lines i d below)) in
-    subst (λ (hs : List ℕ). Runs hs x z) all (runs_join (turns_of (take i lines)) (replicate line.turns line.handler) x y z runs turns)
+    subst (λ (hs : List ℕ). Runs hs x z) all (runs-join (turns_of (take i lines)) (replicate line.turns line.handler) x y z runs turns)
 
 -- ---- movers
 
@@ -45,12 +40,12 @@ pub moves_more : (bs hs ms : List ℕ) (h : ℕ) (x y z : PlainWorld) → Moves 
 moves_more bs hs ms h x y z m turn same = record {
   more = m.more ++ h ∷ [];
   all = same ∙ ap (λ (ts : List ℕ). ts ++ h ∷ []) m.all ∙ append_assoc bs m.more (h ∷ []);
-  runs = runs_more m.more h x y z m.runs turn;
+  runs = runs-more m.more h x y z m.runs turn;
 }
 
 pub moves_on : (bs hs : List ℕ) (x y z : PlainWorld) → Runs bs x y → Moves bs hs y z → Runs hs x z
-moves_on bs hs x y z runs m = subst (λ (ts : List ℕ). Runs ts x z) (sym m.all) (runs_join bs m.more x y z runs m.runs)
+moves_on bs hs x y z runs m = subst (λ (ts : List ℕ). Runs ts x z) (sym m.all) (runs-join bs m.more x y z runs m.runs)
 
 -- one more turn
 pub leads_more : (hs ms : List ℕ) (h : ℕ) (x y z : PlainWorld) → ms ≡ hs ++ h ∷ [] → Runs hs x y → IsTurn h y z → Runs ms x z
-leads_more hs ms h x y z same runs turn = subst (λ (ts : List ℕ). Runs ts x z) (sym same) (runs_more hs h x y z runs turn)
+leads_more hs ms h x y z same runs turn = subst (λ (ts : List ℕ). Runs ts x z) (sym same) (runs-more hs h x y z runs turn)

@@ -10,10 +10,11 @@ use Rattle.sc_request.specs.Logs.{Center, pick_for}
 use Rattle.sc_world.specs.Kept.{PlainKept, kept}
 use Rattle.sc_world.specs.Turning.{IsTurn, Runs, TurnsUnder}
 use Rattle.sc_world.specs.Worlds.{PlainWorld, opened}
+use Rattle.sc_world.proofs.Runs.{runs-more}
 use Rattle.sc_search.specs.declared.aims.Aim.{Aim}
 use Rattle.sc_search.specs.Closed.{IsAmong, IsClosed, IsTried, IsUnmet}
 use Rattle.sc_search.specs.Steps.{AreUnmet, Extends, IsTriedAt, Keeps, Opens, Stands, Tries, TriesAll}
-use Rattle.sc_search.proofs.KeptStates.{get_before, get_either, runs_more, same_some}
+use Rattle.sc_search.proofs.KeptStates.{get_before, get_either, same_some}
 
 module _ (p : Image) (v : Version) (a : Aim) where
   -- ---- states behind others
@@ -52,7 +53,7 @@ module _ (p : Image) (v : Version) (a : Aim) where
   pub tries : (hs : List ℕ) (number h : ℕ) (x y : PlainWorld) (ks ls : List PlainKept) → Runs hs (opened p v) x → slice_get ks number ≡ Some (kept x) → IsTurn h x y →
       Keeps a y ks ls → Tries p v a ks ls number h
   tries hs number h x y ks ls runs at turn keeps = record {
-    extends = extends_kept (hs ++ h ∷ []) y ks ls (runs_more hs h (opened p v) x y runs turn) keeps;
+    extends = extends_kept (hs ++ h ∷ []) y ks ls (runs-more hs h (opened p v) x y runs turn) keeps;
     tried = λ k here. record {
       before = x;
       after = y;

@@ -25,9 +25,9 @@ use Rattle.sc_play.specs.Regions.{EndsIn, PlainRegion}
 use Rattle.sc_play.specs.Turns.{Becomes, FirstTurn, IsAhead, TurnOf, Turns, first, more}
 use Rattle.sc_play.proofs.Programs.{turns_keep}
 use Rattle.sc_world.specs.Rounds.{AreCutShort, MakesAll, MakesSome}
-use Rattle.sc_world.specs.Turning.{HeldUpUnder, IsHeldUp, IsRefusedTurn, IsTurn, Makes, Runs as RunsBy, StopsBehind, StopsShort, TurnsUnder, TurnsUnderJob}
+use Rattle.sc_world.specs.Turning.{HeldUpUnder, IsHeldUp, IsRefusedTurn, IsTurn, MakeTurns, Makes, Runs as RunsBy, StopsBehind, StopsShort, TurnsUnder, TurnsUnderJob}
 use Rattle.sc_world.specs.Worlds.{PlainWorld}
-use Rattle.sc_world.proofs.Runs.{runs-idle, stops-again}
+use Rattle.sc_world.proofs.Runs.{made-more, made-run, runs-idle, runs-join, stops-again}
 
 -- ---- a handler that is picked and settled
 
@@ -309,14 +309,6 @@ asks_on h b j x _ _ _ (more {n} {y} {z} {w} ts t) e = asks_on h b j x n y want.C
 
 -- ---- worlds
 
-join_runs : (hs : List ℕ) (h : ℕ) (x y z : PlainWorld) → RunsBy hs x y → IsTurn h y z → RunsBy (hs ++ h ∷ []) x z
-join_runs [] h x y z same turn = (z, subst (λ (w : PlainWorld). IsTurn h w z) same turn, refl)
-join_runs (k ∷ hs) h x y z runs turn = (runs.0, runs.1, join_runs hs h runs.0 y z runs.2 turn)
-
-pub runs_join : (hs ks : List ℕ) (x y z : PlainWorld) → RunsBy hs x y → RunsBy ks y z → RunsBy (hs ++ ks) x z
-runs_join [] ks x y z same runs = subst (λ (w : PlainWorld). RunsBy ks w z) same runs
-runs_join (h ∷ hs) ks x y z before runs = (before.0, before.1, runs_join hs ks before.0 y z before.2 runs)
-
 set_again : (rs : List PlainRegion) (h : ℕ) (x y : PlainRegion) → slice_set (slice_set rs h x) h y ≡ slice_set rs h y
 set_again [] h x y = refl
 set_again (r ∷ rs) zero x y = refl
@@ -397,11 +389,23 @@ module _ (h : ℕ) (j : Job) (x : PlainWorld) (r : PlainRegion) (stands : slice_
   replicate_one : (n : ℕ) → replicate n h ++ h ∷ [] ≡ replicate (n + 1) h
   replicate_one n = let e : suc n ≡ n + 1 = omega arith in replicate_more n ∙ ap (λ (k : ℕ). replicate k h) e
 
+  -- behind turns that ask nothing it has something to do again
+  has_more : (n : ℕ) (y : PlainStore) → Turns r.handler r.is_told j r.store n y want.Continue → is_some (pick_for h (after n y want.Continue).center) ≡ true
+  has_more n y ts =
+      let more_comes = asks_on r.handler r.is_told j r.store n y want.Continue ts refl in
+      let k = turns_some r.handler r.is_told j r.store n y want.Continue ts in
+      subst (λ (m : ℕ). is_some (pick_for h (after m y want.Continue).center) ≡ true) (sym k.1)
+      (ap (λ (o : Option Job). is_some o) (picks_again x.most h j x.center picks more_comes k.0))
+
+  -- so it makes each of its turns
+  pub makes_turns : (n : ℕ) (y : PlainStore) (w : Want) → Turns r.handler r.is_told j r.store n y w → MakeTurns (replicate n h) x (after n y w)
+  makes_turns _ _ _ (first {y} {w} t) = (ap (λ (o : Option Job). is_some o) picks, after 1 y w, first_turn y w t, refl)
+  makes_turns _ _ _ (more {n} {y} {z} {w} ts t) =
+      subst (λ (hs : List ℕ). MakeTurns hs x (after (n + 1) z w)) (replicate_one n)
+      (made-more (replicate n h) h x (after n y want.Continue) (after (n + 1) z w) (makes_turns n y want.Continue ts) (has_more n y ts) (further_turn n y z w ts t))
+
   pub all_turns : (n : ℕ) (y : PlainStore) (w : Want) → Turns r.handler r.is_told j r.store n y w → RunsBy (replicate n h) x (after n y w)
-  all_turns _ _ _ (first {y} {w} t) = (after 1 y w, first_turn y w t, refl)
-  all_turns _ _ _ (more {n} {y} {z} {w} ts t) =
-      subst (λ (hs : List ℕ). RunsBy hs x (after (n + 1) z w)) (replicate_one n)
-      (join_runs (replicate n h) h x (after n y want.Continue) (after (n + 1) z w) (all_turns n y want.Continue ts) (further_turn n y z w ts t))
+  all_turns n y w ts = made-run (replicate n h) x (after n y w) (makes_turns n y w ts)
 
 -- ---- what a handler makes under its job
 
@@ -540,7 +544,7 @@ replicate_behind (suc m) n h =
 pub runs_on : (m n all h : ℕ) (x y z : PlainWorld) → m + n ≡ all → RunsBy (replicate m h) x y → RunsBy (replicate n h) y z → RunsBy (replicate all h) x z
 runs_on m n all h x y z e before then_runs =
     subst (λ (hs : List ℕ). RunsBy hs x z) (replicate_behind m n h ∙ ap (λ (k : ℕ). replicate k h) e)
-    (runs_join (replicate m h) (replicate n h) x y z before then_runs)
+    (runs-join (replicate m h) (replicate n h) x y z before then_runs)
 
 -- where it has nothing to do any more, further ones change nothing
 pub runs_out : (m n all h : ℕ) (x y : PlainWorld) → m + n ≡ all → RunsBy (replicate m h) x y → None ≡ pick_for h y.center → RunsBy (replicate all h) x y

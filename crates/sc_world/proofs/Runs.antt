@@ -1,14 +1,11 @@
 -- Turns one after the other.
-use Rattle.std.proofs.Common.{◌≡◌, ◌<◌, ◌≤◌, ◌+◌, ◌-◌, ℕ, zero, suc, List, [], ◌∷◌, ◌++◌, Bool, true, false, Option, Some, None, Result, Ok, Err, OnErr, OnOk, length, take, drop, replicate, get_or, is_err, refl, sym, ap, subst, ◌∙◌, take-append-drop, arith}
+use Rattle.std.proofs.Common.{◌≡◌, ◌<◌, ◌≤◌, ◌+◌, ◌-◌, ℕ, zero, suc, List, [], ◌∷◌, ◌++◌, true, false, Option, Some, None, Result, Ok, Err, OnErr, OnOk, is_some, length, take, drop, replicate, get_or, is_err, refl, sym, subst, take-append-drop, arith}
 use Rattle.std.proofs.lemmas.List.{take_all, take_more, drop-replicate, get_or-replicate, length-replicate}
 use Rattle.std.proofs.lemmas.Option.{slice_get-get_or}
-use denote.Enum.Bare.{sameb}
 use Rattle.sc_region.specs.declared.job.Job.{Job}
 use Rattle.sc_request.specs.Logs.{pick_for}
-use Rattle.sc_world.specs.contracts.world.Turned.{the_type}
-use Rattle.sc_world.specs.declared.world.Turned.{Turned}
-use Rattle.sc_world.specs.declared.world.Turned.TheVariants.{Moved, Nothing}
-use Rattle.sc_world.specs.Turning.{IsTurn, TurnsUnder, IsRefusedTurn, Runs, StopsBehind, turned_by}
+use Rattle.sc_world.specs.declared.world.Turned.TheVariants.{Nothing}
+use Rattle.sc_world.specs.Turning.{IsTurn, TurnsUnder, IsRefusedTurn, MakeTurns, Runs, StopsBehind, turned_by}
 use Rattle.sc_world.specs.Worlds.{PlainWorld}
 use Rattle.sc_world.proofs.Outs.{turn-none}
 
@@ -22,10 +19,6 @@ pub ok-holds : {T E : Type 0} (r : Result T E) (P : Type 0) → is_err r ≡ fal
 ok-holds (Ok t) P e p = p
 ok-holds (Err d) P e p = absurd (cc)
 
-pub nothing-is : (t : Turned) → sameb the_type t Nothing ≡ true → Nothing ≡ t
-nothing-is Moved e = absurd (cc)
-nothing-is Nothing e = refl
-
 -- ---- runs
 
 -- one turn more
@@ -33,7 +26,7 @@ runs-more : (hs : List ℕ) (h : ℕ) (x y z : PlainWorld) → Runs hs x y → I
 runs-more [] h x y z same turn = (z, subst (λ (w : PlainWorld). IsTurn h w z) same turn, refl)
 runs-more (k ∷ hs) h x y z runs turn = (runs.0, runs.1, runs-more hs h runs.0 y z runs.2 turn)
 
-runs-join : (hs ks : List ℕ) (x y z : PlainWorld) → Runs hs x y → Runs ks y z → Runs (hs ++ ks) x z
+pub runs-join : (hs ks : List ℕ) (x y z : PlainWorld) → Runs hs x y → Runs ks y z → Runs (hs ++ ks) x z
 runs-join [] ks x y z same runs = subst (λ (w : PlainWorld). Runs ks w z) same runs
 runs-join (h ∷ hs) ks x y z first runs = (first.0, first.1, runs-join hs ks first.0 y z first.2 runs)
 
@@ -51,6 +44,26 @@ stops-behind hs i d x y z below runs refused =
 -- all of them
 pub runs-all : (hs : List ℕ) (i : ℕ) (x y : PlainWorld) → length hs ≤ i → Runs (take i hs) x y → Runs hs x y
 runs-all hs i x y past runs = subst (λ (ks : List ℕ). Runs ks x y) (take_all i hs past) runs
+
+-- ---- turns that are made
+
+pub made-run : (hs : List ℕ) (x y : PlainWorld) → MakeTurns hs x y → Runs hs x y
+made-run [] x y same = same
+made-run (h ∷ hs) x y made = (made.1, made.2, made-run hs made.1 y made.3)
+
+-- one turn more
+pub made-more : (hs : List ℕ) (h : ℕ) (x y z : PlainWorld) → MakeTurns hs x y → is_some (pick_for h y.center) ≡ true → IsTurn h y z → MakeTurns (hs ++ h ∷ []) x z
+made-more [] h x y z same has turn = (
+  subst (λ (w : PlainWorld). is_some (pick_for h w.center) ≡ true) same has,
+  z,
+  subst (λ (w : PlainWorld). IsTurn h w z) same turn,
+  refl,
+)
+made-more (k ∷ hs) h x y z made has turn = (made.0, made.1, made.2, made-more hs h made.1 y z made.3 has turn)
+
+pub made-join : (hs ks : List ℕ) (x y z : PlainWorld) → MakeTurns hs x y → MakeTurns ks y z → MakeTurns (hs ++ ks) x z
+made-join [] ks x y z same made = subst (λ (w : PlainWorld). MakeTurns ks w z) same made
+made-join (h ∷ hs) ks x y z first made = (first.0, first.1, first.2, made-join hs ks first.1 y z first.3 made)
 
 -- ---- a handler that has nothing to do
 

@@ -1,5 +1,5 @@
 -- Turns of a world.
-use Rattle.std.specs.Prelude.{◌≡◌, ◌<◌, ◌≤◌, ◌⊎◌, ℕ, List, [], ◌∷◌, Option, Some, None, replicate, slice_get, slice_set, take}
+use Rattle.std.specs.Prelude.{◌≡◌, ◌<◌, ◌≤◌, ◌⊎◌, ℕ, true, List, [], ◌∷◌, Option, Some, None, is_some, replicate, slice_get, slice_set, take}
 use Rattle.sc_lockpass.specs.declared.version.Version.{Version}
 use Rattle.sc_code.specs.declared.program.Image.{Image}
 use Rattle.sc_region.specs.declared.job.Job.{Job}
@@ -70,6 +70,13 @@ IsRefusedTurn h x y = (y ≡ x) ⊎ HeldUpUnder h (pick_for h x.center) x y
 abbrev pub Runs : List ℕ → PlainWorld → PlainWorld → Type 0
 Runs [] x y = y ≡ x
 Runs (h ∷ hs) x y = (z : PlainWorld) × IsTurn h x z × Runs hs z y
+
+-- Each of these handlers, one after the other, has something to do and makes its turn, and they lead from the first
+-- world to the second.
+abbrev pub MakeTurns : List ℕ → PlainWorld → PlainWorld → Type 0
+MakeTurns [] x y = y ≡ x
+MakeTurns (h ∷ hs) x y =
+    (is_some (pick_for h x.center) ≡ true) × (z : PlainWorld) × IsTurn h x z × MakeTurns hs z y
 
 -- So many of the handlers had their turns, one after the other, and memory was refused to that of the next.
 pub record StopsBehind (n : ℕ) (hs : List ℕ) (x y : PlainWorld) : Type 0 where
