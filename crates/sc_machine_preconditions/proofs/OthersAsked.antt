@@ -22,7 +22,8 @@ use Rattle.sc_model.specs.Takes.{takes, takes_next}
 use Rattle.sc_model.specs.Turns.{goes_on, turn, turn_with, waits}
 use Rattle.sc_model.specs.Values.{Reference, Operand, Value}
 use Rattle.sc_machine_rights.specs.Headline.{has_reply, topmost}
-use Rattle.sc_machine_rights.proofs.Machine.{contains_first, machine_waiters_are_told}
+use Rattle.sc_machine_rights.proofs.MachineFrames.{contains_first}
+use Rattle.sc_machine_rights.proofs.MachineHolders.{machine_waiters_are_told}
 use Rattle.sc_machine_rights.proofs.links.Reached.{reached_stands}
 use Rattle.sc_machine_values.specs.Fitting.{FrameFits, MayEnd, WorldFits}
 use Rattle.sc_machine_values.specs.Fitting as fitting

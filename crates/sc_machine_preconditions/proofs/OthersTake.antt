@@ -27,7 +27,7 @@ use Rattle.sc_machine_values.specs.Places.{is_routine}
 use Rattle.sc_machine_values.proofs.Attributes.{Attribute, attribute_found}
 use Rattle.sc_machine_values.proofs.Calls.{numbered_fits}
 use Rattle.sc_machine_values.proofs.Lists.{each_in}
-use Rattle.sc_machine_rights.proofs.Machine.{contains_first}
+use Rattle.sc_machine_rights.proofs.MachineFrames.{contains_first}
 use Rattle.sc_refines_core.specs.Calm.{name_of}
 use Rattle.sc_refines_core.specs.Clauses.{RunsPureIfRoutine}
 use Rattle.sc_machine_clauses.specs.Evaluating.{Answers}

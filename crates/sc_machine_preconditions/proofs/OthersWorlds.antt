@@ -13,7 +13,7 @@ use Rattle.sc_model.specs.Answers.{heard}
 use Rattle.sc_model.specs.Failures.{fails_with, fallen, is_waited_by, request_of, requests_at, to_list, told}
 use Rattle.sc_model.specs.Handlers.{Request, Failed, Requested, Frame, Handler, World, put}
 use Rattle.sc_model.specs.Sessions.{release, session_ended}
-use Rattle.sc_machine_rights.proofs.Machine.{contains_cases, contains_first, contains_none}
+use Rattle.sc_machine_rights.proofs.MachineFrames.{contains_cases, contains_first, contains_none}
 use Rattle.sc_machine_requests.proofs.StandingRequests.{begun_on}
 
 -- ---- requests at a handler

@@ -30,9 +30,9 @@ use Rattle.sc_model.specs.Preconditions.{verdict_on, waits_again, correctness_fa
 use Rattle.sc_model.specs.Turns.{effect, settles, waits, goes_on}
 use Rattle.sc_model.specs.Runs.{IsReached}
 use Rattle.sc_machine_rights.specs.Headline.{is_awaiting}
-use Rattle.sc_machine_rights.proofs.Machine.{contains_cases, contains_first, contains_later}
+use Rattle.sc_machine_rights.proofs.MachineFrames.{contains_cases, contains_first, contains_later}
 use Rattle.sc_machine_rights.proofs.links.Reached.{reached_linked}
-use Rattle.sc_machine_rights.proofs.links.SoundTurns.{stack_fits}
+use Rattle.sc_machine_rights.proofs.links.FittingActs.{stack_fits}
 use Rattle.sc_machine_rights.proofs.links.Looks.{m_put-own}
 use Rattle.sc_machine_rights.proofs.links.Turns.{StackFits, StepFits}
 use Rattle.sc_machine_rights.proofs.links.Turns as turning

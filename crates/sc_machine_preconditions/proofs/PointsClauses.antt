@@ -20,7 +20,7 @@ use Rattle.sc_model.specs.Sizes.{size}
 use Rattle.sc_model.specs.Steps.{Act, Prints, Until, Creates, CreatesHandler, Enters, Requests, Starts, Refuses, Opens, Leaves, Exits, Fails, Point, Step, Goes, Does}
 use Rattle.sc_model.specs.Tasks.{Task, Required}
 use Rattle.sc_model.specs.Values.{Reference, Value, Integer, Boolean, Void, Attached, Operand, operand}
-use Rattle.sc_machine_rights.proofs.Machine.{contains_first}
+use Rattle.sc_machine_rights.proofs.MachineFrames.{contains_first}
 use Rattle.sc_machine_values.specs.Points.{Each, IsAmong}
 use Rattle.sc_machine_values.specs.Steps.{IsThereIfOwn, StandsSo, StepFits, ValuesDo}
 use Rattle.sc_machine_values.proofs.Lists.{each_append, each_behind}

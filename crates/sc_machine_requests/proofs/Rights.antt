@@ -39,7 +39,7 @@ use Rattle.sc_model.specs.Turns.{effect, settles, waits, goes_on, turn_with, tur
 use Rattle.sc_model.specs.Runs.{IsReached}
 use Rattle.sc_machine_rights.proofs.Rights.{not_some}
 use Rattle.sc_machine_rights.proofs.Waits.{true_false}
-use Rattle.sc_machine_rights.proofs.Machine.{contains_first, contains_later}
+use Rattle.sc_machine_rights.proofs.MachineFrames.{contains_first, contains_later}
 use Rattle.sc_machine_rights.proofs.links.Reached.{reached_stands}
 use Rattle.sc_machine_values.proofs.Lists.{same_some}
 use Rattle.sc_machine_values.specs.Fitting.{MayEnd, runs, next, called_back}

@@ -10,7 +10,7 @@ use Rattle.sc_machine_rights.specs.World.{Request, Frame, Handler, and_this, and
 use Rattle.sc_machine_rights.specs.Steps.{waits_for}
 use Rattle.sc_machine_rights.specs.Consistent.{HasWait, IsBegun, IsOrdered, IsOne, HasNumber, AreNumbered}
 use Rattle.sc_machine_rights.specs.Stands.{NeedsOf, NamesOf, IsRequest, AreRequests, IsCallback, IsOrigin, IsRoutine, AreBlocks, Place, place_of, IsStaged, IsStack, IsHandler}
-use Rattle.sc_machine_rights.proofs.Machine.{contains_none, contains_cases}
+use Rattle.sc_machine_rights.proofs.MachineFrames.{contains_none, contains_cases}
 use Rattle.sc_machine_rights.proofs.Waits.{no_wait}
 
 -- ---- one of a list

@@ -24,7 +24,7 @@ use Rattle.sc_model.specs.Turns.{effect, settles, waits, goes_on, turn_with, tur
 use Rattle.sc_machine_rights.proofs.Waits.{true_false}
 use Rattle.sc_machine_rights.proofs.links.Looks.{m_put-own, m_put-off}
 use Rattle.sc_machine_rights.proofs.links.Turns.{ActFits, StepFits, FrameFits, StackFits}
-use Rattle.sc_machine_rights.proofs.links.SoundTurns.{stack_fits}
+use Rattle.sc_machine_rights.proofs.links.FittingActs.{stack_fits}
 use Rattle.sc_machine_rights.proofs.links.Reached.{reached_linked}
 use Rattle.sc_machine_values.specs.Fitting.{MayEnd, next, runs, called_back}
 use Rattle.sc_machine_requests.specs.Laws as laws

@@ -14,7 +14,7 @@ use Rattle.sc_machine_rights.specs.Headline.{has_reply}
 use Rattle.sc_machine_rights.proofs.Rights.{not_some}
 use Rattle.sc_machine_rights.proofs.Waits.{true_false, some_wait, waits_stack, stack_has, lower_older, lower_passes, same_wait}
 use Rattle.sc_machine_rights.proofs.AwaitedEnds.{lifo, first_newest}
-use Rattle.sc_machine_rights.proofs.Replies.{top_or_below}
+use Rattle.sc_machine_rights.proofs.HeardClients.{top_or_below}
 use Rattle.sc_machine_rights.proofs.links.Reached.{reached_stands}
 use Rattle.sc_machine_values.specs.Fitting.{MayEnd, runs, next, called_back}
 use Rattle.sc_machine_requests.specs.Laws.{TopAwaits, IsUnlent, NoCallback, EndsTheOne, StandsOnce}

@@ -4,7 +4,7 @@ use Rattle.sc_machine_rights.specs.World.{Request, World, arrive, land, requests
 use Rattle.sc_machine_rights.specs.Consistent.{IsAway, Asks, IsFirst, HasWait, IsOne, HasNumber, AreNumbered, IsConsistent}
 use Rattle.sc_machine_rights.proofs.Rights.{not_some}
 use Rattle.sc_machine_rights.proofs.Simple.{Simple, IsPosted, simple_keeps}
-use Rattle.sc_machine_rights.proofs.Turns.{requests_end, one_end, numbered_end}
+use Rattle.sc_machine_rights.proofs.PostedRequests.{requests_end, one_end, numbered_end}
 
 pub record Lands (k : ℕ) (r : Request) (u : World) : Type 0 where
   pub lives : (u.handlers k).failed ≡ false

@@ -9,7 +9,7 @@ use Rattle.sc_machine_rights.specs.Consistent.{IsAway, Asks, IsFirst, HasWait, H
 use Rattle.sc_machine_rights.proofs.Rights.{differs}
 use Rattle.sc_machine_rights.proofs.Waits.{true_false, waits_stack}
 use Rattle.sc_machine_rights.proofs.Simple.{trail_move, based_move, asks_later}
-use Rattle.sc_machine_rights.proofs.Turns.{idle_asks, idle_away, not_numbered}
+use Rattle.sc_machine_rights.proofs.PostedRequests.{idle_asks, idle_away, not_numbered}
 use Rattle.sc_machine_rights.proofs.Arrivals.{Lands, CallsBack, landing_keeps}
 use Rattle.sc_machine_rights.proofs.Posters.{new_wait, began, Moves, began_off, began_failed, began_requests, more_has, at_new, has_new, began_asks, began_on, beginning_keeps}
 

@@ -14,8 +14,12 @@ use Rattle.sc_machine_rights.proofs.Forms.{reply_heard, exit_plain, exit_passing
 use Rattle.sc_machine_rights.proofs.Rights.{put-same, put-other}
 use Rattle.sc_machine_rights.proofs.Waits.{true_false}
 use Rattle.sc_machine_rights.proofs.FailureSteps.{failing_keeps}
-use Rattle.sc_machine_rights.proofs.Turns.{posting_keeps, taking_keeps, calling_back_keeps, entering_keeps, popping_keeps, answering_keeps}
-use Rattle.sc_machine_rights.proofs.Replies.{exit_plain_keeps, exit_passing_keeps, exit_unheard_keeps}
+use Rattle.sc_machine_rights.proofs.PostedRequests.{posting_keeps}
+use Rattle.sc_machine_rights.proofs.PushedFrames.{taking_keeps, calling_back_keeps, entering_keeps}
+use Rattle.sc_machine_rights.proofs.PoppedFrames.{popping_keeps, answering_keeps}
+use Rattle.sc_machine_rights.proofs.PlainReplies.{exit_plain_keeps}
+use Rattle.sc_machine_rights.proofs.UnheardReplies.{exit_unheard_keeps}
+use Rattle.sc_machine_rights.proofs.PassingReplies.{exit_passing_keeps}
 use Rattle.sc_machine_rights.proofs.Asks.{asking_keeps, asking_passing_keeps}
 use Rattle.sc_machine_rights.proofs.Reservations.{reserving_keeps, relisting_keeps}
 use Rattle.sc_machine_rights.proofs.ProvidedTurns.{posting_provided, taking_provided, calling_back_provided, entering_provided, popping_provided, answering_provided}

@@ -14,9 +14,11 @@ use Rattle.sc_machine_rights.proofs.Forms.{fail_by_waits}
 use Rattle.sc_machine_rights.proofs.Rights.{put-same, put-other, not_some}
 use Rattle.sc_machine_rights.proofs.Waits.{true_false, no_wait, lower_passes, same_wait}
 use Rattle.sc_machine_rights.proofs.Shrinks.{at_each}
-use Rattle.sc_machine_rights.proofs.Turns.{taking_same, popping_less, popping_keeps, resumed_requests, requests_end, one_end}
+use Rattle.sc_machine_rights.proofs.PostedRequests.{requests_end, one_end}
+use Rattle.sc_machine_rights.proofs.PushedFrames.{taking_same}
+use Rattle.sc_machine_rights.proofs.PoppedFrames.{popping_less, popping_keeps, resumed_requests}
 use Rattle.sc_machine_rights.proofs.AwaitedEnds.{Ended, is_ended, ended_asks, passed_top_is_here}
-use Rattle.sc_machine_rights.proofs.Replies.{Client, the_client}
+use Rattle.sc_machine_rights.proofs.HeardClients.{Client, the_client}
 use Rattle.sc_machine_rights.proofs.Arrivals as landing
 use Rattle.sc_machine_rights.proofs.Posters.{began, began_requests}
 use Rattle.sc_machine_rights.proofs.Asks.{plain_calls, passing_queue, passing_top, passing_calls}

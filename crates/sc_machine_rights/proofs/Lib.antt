@@ -13,7 +13,10 @@ pub mod ProvidedFails
 pub mod ProvidedReserves
 pub mod ProvidedTurns
 pub mod ProvidedFrames
-pub mod Replies
+pub mod HeardClients
+pub mod PlainReplies
+pub mod UnheardReplies
+pub mod PassingReplies
 pub mod Reservations
 pub mod Rights
 pub mod Served
@@ -21,7 +24,9 @@ pub mod ServingSteps
 pub mod ServingEnds
 pub mod Shrinks
 pub mod Simple
-pub mod Turns
+pub mod PostedRequests
+pub mod PushedFrames
+pub mod PoppedFrames
 pub mod Waits
 pub mod EveryStep
 pub mod ReturningSteps
@@ -30,8 +35,13 @@ pub mod ReturningAsks
 pub mod Returned
 pub mod LawProofs
 pub mod links
-pub mod Machine
+pub mod MachineFrames
+pub mod MachineChains
+pub mod MachineHolders
+pub mod StandingRequests
+pub mod PostingSteps
 pub mod Posts
+pub mod KeptQueues
 pub mod Queues
 pub mod Named
 pub mod TopWaits

@@ -6,7 +6,7 @@ use Rattle.sc_machine_rights.specs.Consistent.{HasWait, StackWaits, IsOne, AreNu
 use Rattle.sc_machine_rights.proofs.Rights.{put-same, put-other}
 use Rattle.sc_machine_rights.proofs.Waits.{true_false}
 use Rattle.sc_machine_rights.proofs.Shrinks.{at_each}
-use Rattle.sc_machine_rights.proofs.Turns.{no_request}
+use Rattle.sc_machine_rights.proofs.PostedRequests.{no_request}
 use Rattle.sc_machine_rights.specs.Lawful.{resting, root, opening}
 
 pub each : (P : Handler → Type 0) (k : ℕ) → P (resting (root ∷ [])) → P (resting []) → P (opening.handlers k)

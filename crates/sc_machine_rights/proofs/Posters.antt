@@ -6,7 +6,7 @@ use Rattle.sc_machine_rights.specs.Consistent.{Asks, TopsAreAway, HasWait, Stack
 use Rattle.sc_machine_rights.proofs.Rights.{not_some, put-same, put-other}
 use Rattle.sc_machine_rights.proofs.Waits.{true_false, some_wait, waits_has, stack_has, wait_of}
 use Rattle.sc_machine_rights.proofs.Shrinks.{CallbackAt, at_each, numbered_later}
-use Rattle.sc_machine_rights.proofs.Turns.{no_request, not_numbered}
+use Rattle.sc_machine_rights.proofs.PostedRequests.{no_request, not_numbered}
 use Rattle.sc_machine_rights.proofs.AwaitedEnds.{number_of}
 
 abbrev pub new_wait : ℕ → Bool → World → Wait

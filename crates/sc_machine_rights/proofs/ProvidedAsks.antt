@@ -8,7 +8,7 @@ use Rattle.sc_machine_rights.specs.Provided.{lowest, Each, HadAlone, IsAssured, 
 use Rattle.sc_machine_rights.proofs.Rights.{not_some, differs}
 use Rattle.sc_machine_rights.proofs.Waits.{true_false}
 use Rattle.sc_machine_rights.proofs.Shrinks.{at_each}
-use Rattle.sc_machine_rights.proofs.Turns.{idle_away}
+use Rattle.sc_machine_rights.proofs.PostedRequests.{idle_away}
 use Rattle.sc_machine_rights.proofs.Posters.{new_wait, began, Moves, began_on, began_off, more_has, more_stuck}
 use Rattle.sc_machine_rights.proofs.Asks.{lands, plain_moves, passing_moves, by_top, passing_queue, passing_top, plain_calls, plain_began, passing_calls, passing_began}
 use Rattle.sc_machine_rights.proofs.ProvidedFrames.{Maps, frames_same, frames_rise, had_later, last_later, not_stuck_from, falling_later}

@@ -9,9 +9,12 @@ use Rattle.sc_machine_rights.specs.Provided.{HadAlone, IsAssured, KeepsReserved,
 use Rattle.sc_machine_rights.proofs.Forms.{exit_plain, exit_passing, exit_unheard}
 use Rattle.sc_machine_rights.proofs.Waits.{waits_has}
 use Rattle.sc_machine_rights.proofs.Shrinks.{Shrinks, grown_stuck_from}
-use Rattle.sc_machine_rights.proofs.Turns.{popping_keeps}
+use Rattle.sc_machine_rights.proofs.PoppedFrames.{popping_keeps}
 use Rattle.sc_machine_rights.proofs.AwaitedEnds.{Ended, is_ended, back_had}
-use Rattle.sc_machine_rights.proofs.Replies.{heard_by, same_stack, hearing_shrinks, unheard_shrinks, heard_plain, plain_wait, plain_rest, heard_passing, passing_wait, passing_rest, to_h}
+use Rattle.sc_machine_rights.proofs.HeardClients.{heard_by, same_stack, hearing_shrinks}
+use Rattle.sc_machine_rights.proofs.PlainReplies.{heard_plain, plain_wait, plain_rest}
+use Rattle.sc_machine_rights.proofs.UnheardReplies.{unheard_shrinks, to_h}
+use Rattle.sc_machine_rights.proofs.PassingReplies.{heard_passing, passing_wait, passing_rest}
 use Rattle.sc_machine_rights.proofs.ProvidedTurns.{popping_provided}
 use Rattle.sc_machine_rights.proofs.ProvidedFails.{frames_bounded}
 

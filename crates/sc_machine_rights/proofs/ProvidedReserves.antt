@@ -7,7 +7,7 @@ use Rattle.sc_machine_rights.specs.Provided.{lowest, Each, HadAlone, IsAssured, 
 use Rattle.sc_machine_rights.proofs.Rights.{put-same, put-other}
 use Rattle.sc_machine_rights.proofs.Shrinks.{at_each}
 use Rattle.sc_machine_rights.proofs.Simple.{changed}
-use Rattle.sc_machine_rights.proofs.Turns.{idle_asks}
+use Rattle.sc_machine_rights.proofs.PostedRequests.{idle_asks}
 use Rattle.sc_machine_rights.proofs.Asks.{first_had, first_grant, holder_first}
 use Rattle.sc_machine_rights.proofs.Reservations.{relisting_simple, stuck_same, releasing_keeps}
 use Rattle.sc_machine_rights.proofs.ProvidedFrames.{Maps, each_map, frames_same, frames_rise, not_stuck_from, falling_later, simple_frames, simple_provided, simple_move, simple_next, simple_stuck_from, reserved_is_own}

@@ -6,7 +6,9 @@ use Rattle.sc_machine_rights.specs.Consistent.{HasWait, HasGrant, Lends, Nobody,
 use Rattle.sc_machine_rights.specs.Provided.{lowest, Each, HadAlone, IsAssured, KeepsReserved, IsBetween, under, AreHeld, all_reserved, Falling, IsProvided}
 use Rattle.sc_machine_rights.proofs.Waits.{true_false, waits_has, wait_of, top_newest}
 use Rattle.sc_machine_rights.proofs.Simple.{changed}
-use Rattle.sc_machine_rights.proofs.Turns.{posting_simple, taking_simple, calling_back_simple, entering_simple, popping_simple, answering_simple, not_stuck}
+use Rattle.sc_machine_rights.proofs.PostedRequests.{posting_simple}
+use Rattle.sc_machine_rights.proofs.PushedFrames.{taking_simple, calling_back_simple, entering_simple}
+use Rattle.sc_machine_rights.proofs.PoppedFrames.{popping_simple, answering_simple, not_stuck}
 use Rattle.sc_machine_rights.proofs.Arrivals.{Lands, CallsBack, landing_queue_simple, landing_callback_simple}
 use Rattle.sc_machine_rights.proofs.ProvidedFrames.{Maps, frames_rise, falling_later, simple_frames, simple_provided}
 

@@ -7,7 +7,7 @@ use Rattle.sc_machine_rights.proofs.Rights.{put-same, put-other}
 use Rattle.sc_machine_rights.proofs.Waits.{waits_stack, stack_has}
 use Rattle.sc_machine_rights.proofs.Shrinks.{at_each, shrinking_keeps, numbered_later}
 use Rattle.sc_machine_rights.proofs.Simple.{Simple, simple_keeps}
-use Rattle.sc_machine_rights.proofs.Turns.{no_request, idle_asks, idle_away, not_numbered}
+use Rattle.sc_machine_rights.proofs.PostedRequests.{no_request, idle_asks, idle_away, not_numbered}
 use Rattle.sc_machine_rights.proofs.AwaitedEnds.{number_of}
 
 -- the top frame's lists stand for nothing else

@@ -10,9 +10,9 @@ use Rattle.sc_machine_rights.specs.Consistent.{HasWait, HasGrant, Lends, Nobody,
 use Rattle.sc_machine_rights.specs.Returns.{IsGranted, ReturnsTo, IsListed}
 use Rattle.sc_machine_rights.specs.Laws.{ListedReturns}
 use Rattle.sc_machine_rights.proofs.Rights.{put-same}
-use Rattle.sc_machine_rights.proofs.Turns.{popping_keeps, has_lower}
+use Rattle.sc_machine_rights.proofs.PoppedFrames.{popping_keeps, has_lower}
 use Rattle.sc_machine_rights.proofs.AwaitedEnds.{is_ended, passed_is_here, passed_top_is_here, lower_grants, first_came}
-use Rattle.sc_machine_rights.proofs.Replies.{to_h}
+use Rattle.sc_machine_rights.proofs.UnheardReplies.{to_h}
 use Rattle.sc_machine_rights.proofs.ReturningSteps.{grant_of, returns_granted}
 
 -- the request that a handler ends stands at it

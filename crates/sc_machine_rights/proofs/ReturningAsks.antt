@@ -12,7 +12,7 @@ use Rattle.sc_machine_rights.proofs.Rights.{put-same, put-other}
 use Rattle.sc_machine_rights.proofs.Waits.{true_false}
 use Rattle.sc_machine_rights.proofs.Shrinks.{at_each, grown_stuck_from}
 use Rattle.sc_machine_rights.proofs.Simple.{Simple, simple_shrinks}
-use Rattle.sc_machine_rights.proofs.Turns.{one_end, requests_end, not_numbered}
+use Rattle.sc_machine_rights.proofs.PostedRequests.{one_end, requests_end, not_numbered}
 use Rattle.sc_machine_rights.proofs.AwaitedEnds.{number_of}
 use Rattle.sc_machine_rights.proofs.Arrivals.{Lands, CallsBack, landing_queue_simple, landing_callback_simple}
 use Rattle.sc_machine_rights.proofs.Posters.{began, began_failed, began_requests, more_has, more_stuck}

@@ -8,9 +8,14 @@ use Rattle.sc_machine_rights.specs.Returns.{IsListed, IsReturnable}
 use Rattle.sc_machine_rights.proofs.Forms.{exit_plain, exit_passing, exit_unheard, IsDeaf}
 use Rattle.sc_machine_rights.proofs.Rights.{put-same, put-other}
 use Rattle.sc_machine_rights.proofs.Shrinks.{at_each}
-use Rattle.sc_machine_rights.proofs.Turns.{posting_simple, taking_simple, taking_same, calling_back_simple, entering_simple, popping_simple, popping_less, popping_keeps, answering_simple, resumed_requests, requests_end, one_end, not_numbered}
+use Rattle.sc_machine_rights.proofs.PostedRequests.{posting_simple, requests_end, one_end, not_numbered}
+use Rattle.sc_machine_rights.proofs.PushedFrames.{taking_simple, taking_same, calling_back_simple, entering_simple}
+use Rattle.sc_machine_rights.proofs.PoppedFrames.{popping_simple, popping_less, popping_keeps, answering_simple, resumed_requests}
 use Rattle.sc_machine_rights.proofs.AwaitedEnds.{Ended, is_ended, number_of}
-use Rattle.sc_machine_rights.proofs.Replies.{heard_by, hearing_shrinks, unheard_shrinks, heard_plain, plain_wait, plain_rest, heard_passing, passing_wait, passing_rest}
+use Rattle.sc_machine_rights.proofs.HeardClients.{heard_by, hearing_shrinks}
+use Rattle.sc_machine_rights.proofs.PlainReplies.{heard_plain, plain_wait, plain_rest}
+use Rattle.sc_machine_rights.proofs.UnheardReplies.{unheard_shrinks}
+use Rattle.sc_machine_rights.proofs.PassingReplies.{heard_passing, passing_wait, passing_rest}
 use Rattle.sc_machine_rights.proofs.Reservations.{relisting_simple, relisted_asked, stuck_same}
 use Rattle.sc_machine_rights.proofs.ProvidedFrames.{reserved_is_own}
 use Rattle.sc_machine_rights.proofs.ServingEnds.{heard_requests}

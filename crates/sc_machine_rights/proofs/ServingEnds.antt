@@ -9,9 +9,12 @@ use Rattle.sc_machine_rights.proofs.Forms.{IsDeaf, EndsFree, given_answer, exit_
 use Rattle.sc_machine_rights.proofs.Rights.{put-same, put-other}
 use Rattle.sc_machine_rights.proofs.Waits.{true_false, lower_older, lower_passes, same_wait}
 use Rattle.sc_machine_rights.proofs.Shrinks.{Shrinks, at_each, grown_failed, grown_told, less_open}
-use Rattle.sc_machine_rights.proofs.Turns.{popping_simple, popping_keeps}
+use Rattle.sc_machine_rights.proofs.PoppedFrames.{popping_simple, popping_keeps}
 use Rattle.sc_machine_rights.proofs.AwaitedEnds.{Ended, is_ended, ended_asks, passed_top_is_here}
-use Rattle.sc_machine_rights.proofs.Replies.{Heard, the_client, heard_by, hearing_shrinks, unheard_shrinks, heard_plain, plain_wait, plain_rest, heard_passing, passing_wait, passing_rest}
+use Rattle.sc_machine_rights.proofs.HeardClients.{Heard, the_client, heard_by, hearing_shrinks}
+use Rattle.sc_machine_rights.proofs.PlainReplies.{heard_plain, plain_wait, plain_rest}
+use Rattle.sc_machine_rights.proofs.UnheardReplies.{unheard_shrinks}
+use Rattle.sc_machine_rights.proofs.PassingReplies.{heard_passing, passing_wait, passing_rest}
 use Rattle.sc_machine_rights.proofs.FailureSteps.{lives_there}
 use Rattle.sc_machine_rights.proofs.Served.{moved_served, simple_served}
 

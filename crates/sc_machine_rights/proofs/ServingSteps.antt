@@ -6,7 +6,9 @@ use Rattle.sc_machine_rights.specs.Consistent.{IsOpen, IsOne, IsConsistent}
 use Rattle.sc_machine_rights.specs.Served.{Serves, IsServed}
 use Rattle.sc_machine_rights.proofs.Rights.{put-same, put-other}
 use Rattle.sc_machine_rights.proofs.Shrinks.{at_each}
-use Rattle.sc_machine_rights.proofs.Turns.{requests_end, posting_simple, taking_simple, calling_back_simple, entering_simple, answering_simple, resumed_requests}
+use Rattle.sc_machine_rights.proofs.PostedRequests.{requests_end, posting_simple}
+use Rattle.sc_machine_rights.proofs.PushedFrames.{taking_simple, calling_back_simple, entering_simple}
+use Rattle.sc_machine_rights.proofs.PoppedFrames.{answering_simple, resumed_requests}
 use Rattle.sc_machine_rights.proofs.Arrivals.{CallsBack}
 use Rattle.sc_machine_rights.proofs.Posters.{began, began_failed, began_requests, less_open, more_told}
 use Rattle.sc_machine_rights.proofs.Asks.{plain_calls, passing_calls, passing_queue, passing_top}

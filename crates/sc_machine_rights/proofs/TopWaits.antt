@@ -6,7 +6,7 @@ use Rattle.sc_machine_rights.specs.Consistent.{Asks, HasWait, StackWaits, IsOpen
 use Rattle.sc_machine_rights.proofs.Rights.{not_some}
 use Rattle.sc_machine_rights.proofs.Waits.{true_false, waits_stack, stack_has, lower_older, lower_passes, same_wait}
 use Rattle.sc_machine_rights.proofs.AwaitedEnds.{lifo, first_newest}
-use Rattle.sc_machine_rights.proofs.Replies.{top_or_below}
+use Rattle.sc_machine_rights.proofs.HeardClients.{top_or_below}
 
 -- The request stands at the handler, which waits for nothing newer, and for nothing without passing its rights.
 pub record MayEnd (w : World) (h : ℕ) (r : Request) : Type 0 where

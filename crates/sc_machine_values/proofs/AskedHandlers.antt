@@ -7,7 +7,7 @@ use Rattle.sc_lockpass.specs.Rights.{held}
 use Rattle.sc_rules.specs.Names.{is_block}
 use Rattle.sc_machine_rights.specs.Formals.{FormalsAreHeld, NamesAreHeld, before_reserve, goes_on}
 use Rattle.sc_machine_rights.specs.Stands.{names_in}
-use Rattle.sc_machine_rights.proofs.Machine.{contains_cases, contains_first, contains_later, contains_none}
+use Rattle.sc_machine_rights.proofs.MachineFrames.{contains_cases, contains_first, contains_later, contains_none}
 use Rattle.sc_machine_rights.proofs.links.BlockNames.{IsTidy}
 use Rattle.sc_machine_rights.proofs.links.Points.{Every, IsWell, StepsWell, leaves}
 use Rattle.sc_machine_rights.proofs.links.Sound.{IsFrameSound, IsSound, formals_of}

@@ -22,7 +22,7 @@ use Rattle.sc_model.specs.Turns.{turn, turn_with}
 use Rattle.sc_model.specs.Values.{Reference}
 use Rattle.sc_machine_rights.specs.World.{Asked}
 use Rattle.sc_machine_rights.specs.Headline.{has_reply}
-use Rattle.sc_machine_rights.proofs.Machine.{machine_callbacks_come_first}
+use Rattle.sc_machine_rights.proofs.MachineHolders.{machine_callbacks_come_first}
 use Rattle.sc_machine_rights.proofs.AwaitedResults.{Ends, Met, begun_ends, callback_ends, meets, next_ends}
 use Rattle.sc_machine_rights.proofs.links.Reached.{Paired, opening_paired, turn_paired}
 use Rattle.sc_machine_rights.proofs.links.Turns.{asked_at, asked_in, asked_on}

@@ -18,7 +18,7 @@ use Rattle.sc_waitcond.specs.declared.condition.ClauseKind.TheVariants.{Correctn
 use Rattle.sc_waitcond.specs.declared.session.Release.TheVariants as release_at
 use Rattle.sc_machine_rights.specs.Formals.{FormalsAreHeld, NamesAreHeld}
 use Rattle.sc_machine_rights.proofs.links.Held.{reached_formals_are_held, reached_names_are_held}
-use Rattle.sc_machine_rights.proofs.links.SoundTurns.{stack_fits}
+use Rattle.sc_machine_rights.proofs.links.FittingActs.{stack_fits}
 use Rattle.sc_machine_rights.proofs.links.Turns as sound
 use Rattle.sc_model.specs.Entries.{block_needs, enters, entry_needs, may_reserve}
 use Rattle.sc_model.specs.Exits.{exits, handed, handed_as, handed_at, leaves_block, leaves_to}

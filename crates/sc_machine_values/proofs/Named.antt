@@ -12,7 +12,7 @@ use Rattle.sc_proctype.specs.declared.tag.Reserved.TheVariants.{BlockName, Forma
 use Rattle.sc_proctype.specs.declared.tag.Tag.TheVariants as tag
 use Rattle.sc_rules.specs.Names.{Entity}
 use Rattle.sc_rules.specs.Types.{is_foreign}
-use Rattle.sc_machine_rights.proofs.Machine.{contains_first, contains_later}
+use Rattle.sc_machine_rights.proofs.MachineFrames.{contains_first, contains_later}
 use Rattle.sc_model.specs.Environments.{Binding, block_values, formal_handler, handler_named, is_formal, is_separate_formal, known_of, scope_of, separate_formals}
 use Rattle.sc_model.specs.Fits.{BindingFits}
 use Rattle.sc_model.specs.Values.{Attached, Boolean, Integer, Value, Void, handler_of}

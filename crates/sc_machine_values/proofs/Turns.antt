@@ -22,7 +22,7 @@ use Rattle.sc_machine_values.specs.Fitting.{CallbacksStandAlone, EndsAreAwaited,
 use Rattle.sc_machine_values.specs.Points.{Each}
 use Rattle.sc_machine_values.specs.Values.{EachStandsAlone, TurnsFromEnds, TurnsKeepWhereAwaited}
 use Rattle.sc_machine_rights.specs.Headline.{has_reply}
-use Rattle.sc_machine_rights.proofs.Machine.{machine_callbacks_come_first}
+use Rattle.sc_machine_rights.proofs.MachineHolders.{machine_callbacks_come_first}
 use Rattle.sc_machine_rights.proofs.links.Reached.{reached_stands}
 use Rattle.sc_machine_values.proofs.OwnTurns.{own_acts_keep_it}
 use Rattle.sc_machine_values.proofs.CallTurns.{entries_keep_it}

@@ -81,7 +81,7 @@ use Rattle.sc_machine_values.proofs.Locals.{locals_fit}
 use Rattle.sc_machine_values.proofs.Names.{FeatureMeant, all_typed, feature_meant, same_meaning, named_alike, some_there, unary_there, binary_there}
 use Rattle.sc_machine_values.proofs.RoutinePoints.{BaseOf, IsRun, in_text}
 use Rattle.sc_machine_values.proofs.Tests.{scope_append}
-use Rattle.sc_machine_rights.proofs.Machine.{contains_first, contains_later}
+use Rattle.sc_machine_rights.proofs.MachineFrames.{contains_first, contains_later}
 use Rattle.sc_refines_core.specs.Calm.{InBody, IsCalm, in_body, in_contract, Ahead, at, after, InPure, StandsAt, Came, StandsAfter, StandsPure, PureAct, PureStep}
 use Rattle.sc_refines_core.specs.Calm as calm
 use Rattle.sc_refines_core.specs.Clauses.{IsPureIfRoutine}

@@ -79,7 +79,7 @@ use Rattle.sc_machine_values.proofs.References.{Stays, StepStays, step_stays}
 use Rattle.sc_machine_values.proofs.Routines.{is_run}
 use Rattle.sc_machine_values.proofs.RoutinePoints.{IsRun}
 use Rattle.sc_machine_values.proofs.Steps.{step_fits}
-use Rattle.sc_machine_rights.proofs.Machine.{contains_first, contains_later}
+use Rattle.sc_machine_rights.proofs.MachineFrames.{contains_first, contains_later}
 use Rattle.sc_refines_core.specs.Calm.{InBody, IsCalm, in_body, in_contract, InPure, PureBeginPure, PureCallPure, PureStep, StandsPure, name_of}
 use Rattle.sc_refines_core.specs.Calm as calm
 use Rattle.sc_refines_core.proofs.Bodies.{PureRun, has_type, part_calm, pure_step}

@@ -51,7 +51,7 @@ use Rattle.sc_machine_values.specs.Places.{is_routine}
 use Rattle.sc_machine_values.specs.Points.{Each}
 use Rattle.sc_machine_values.specs.Typed.{context_in, stacked}
 use Rattle.sc_machine_values.proofs.Names.{FeatureMeant, feature_meant, same_meaning, named_alike, unary_there, binary_there}
-use Rattle.sc_machine_rights.proofs.Machine.{contains_first, contains_later}
+use Rattle.sc_machine_rights.proofs.MachineFrames.{contains_first, contains_later}
 use Rattle.sc_refines_core.specs.Entries.{HasStarted}
 use Rattle.sc_refines_core.specs.Clauses.{IsOfType, AreOfTypes, IsPureIfRoutine, InClauses, StandsInClauses, RunsPure, RunsPureIfRoutine, ClauseAct, ClauseStep}
 use Rattle.sc_refines_core.specs.Clauses as clauses

@@ -32,7 +32,8 @@ use Rattle.sc_handler.specs.Handlers.{State}
 use Rattle.sc_request.specs.Settling.{may_ask}
 use Rattle.sc_request.specs.Asked.{Numbering, handlers_of, asks_beginning, asks_bound, asks_entering, asks_done, asks_replying, asks_calling, asks_version, asks_errand, asks_releasing, asks_requesting, asks_refusing, asks_after, asks_leaving, asks_returning, asks_exiting, asks_acting}
 use Rattle.sc_request.specs.Steps.{IsLastEntry}
-use Rattle.sc_machine_rights.proofs.links.Points.{Known, Every, BindingKnown, IfSome, formals_known, values_known, DoesWell}
+use Rattle.sc_machine_rights.proofs.links.Points.{Known, Every, BindingKnown, IfSome, DoesWell}
+use Rattle.sc_machine_rights.proofs.links.KnownValues.{formals_known, values_known}
 use Rattle.sc_machine_rights.proofs.links.Sound.{formals_of}
 
 -- a turn may ask this, and if it waits, of the entry reserved for last

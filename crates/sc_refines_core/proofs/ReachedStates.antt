@@ -14,7 +14,7 @@ use Rattle.sc_request.specs.Asked.{Numbering}
 use Rattle.sc_request.specs.Halves.{IsHalfOf}
 use Rattle.sc_request.specs.Steps.{StandsOnCall, stepped}
 use Rattle.sc_request.proofs.StageHalves.{halves}
-use Rattle.sc_machine_rights.proofs.Machine.{machine_reserved_are_held}
+use Rattle.sc_machine_rights.proofs.MachineHolders.{machine_reserved_are_held}
 use Rattle.sc_machine_rights.proofs.links.Reached.{reached_linked}
 use Rattle.sc_refines_core.specs.Reached.{HalvesWhereReached}
 use Rattle.sc_refines_core.proofs.Grants.{granted}

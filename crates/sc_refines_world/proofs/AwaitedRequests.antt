@@ -16,7 +16,7 @@ use Rattle.sc_machine_rights.specs.Lawful.{IsLawful}
 use Rattle.sc_machine_rights.specs.Served.{Serves}
 use Rattle.sc_machine_rights.specs.Stands.{AreBlocks, AreRequests, Awaited, IsCreation, IsPoster, IsRequest, IsRoutine, IsStack, IsStaged, NamesOf, NeedsOf, Place, Stands, answer_of, place_of}
 use Rattle.sc_machine_rights.specs.Steps.{IsTold, answered, waits_for}
-use Rattle.sc_machine_rights.proofs.Machine.{contains_cases, contains_first, contains_later, contains_none}
+use Rattle.sc_machine_rights.proofs.MachineFrames.{contains_cases, contains_first, contains_later, contains_none}
 use Rattle.sc_machine_rights.proofs.Waits.{true_false}
 use Rattle.sc_machine_rights.proofs.links.Reached.{reached_stands}
 use Rattle.sc_machine_requests.proofs.StandingRequests.{begun_in, standing, standing_is, this_if}

@@ -18,7 +18,7 @@ use Rattle.sc_model.specs.Steps.{Act, Creates, CreatesHandler, Does, Enters, Exi
 use Rattle.sc_model.specs.Tasks.{Task}
 use Rattle.sc_model.specs.Turns.{turn_with}
 use Rattle.sc_machine_rights.proofs.links.Reached.{reached_linked}
-use Rattle.sc_machine_rights.proofs.links.SoundTurns.{stack_fits}
+use Rattle.sc_machine_rights.proofs.links.FittingActs.{stack_fits}
 use Rattle.sc_machine_rights.proofs.links.Turns as rights
 use Rattle.sc_machine_values.specs.Fitting.{FrameFits, WorldFits, coming_to}
 use Rattle.sc_machine_values.specs.Points.{Each, PointFits}

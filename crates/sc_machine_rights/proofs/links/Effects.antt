@@ -33,7 +33,10 @@ use Rattle.sc_model.specs.Preconditions.{object_meets}
 use Rattle.sc_model.specs.Asking.{placed, send}
 use Rattle.sc_model.specs.Takes.{replies, takes_kind, takes_version, takes_creation, with_new_object, takes_errand, released_if, takes_answer}
 use Rattle.sc_machine_rights.proofs.links.Looks.{m_put-own}
-use Rattle.sc_machine_rights.proofs.links.Points.{AreKept, IsNoFormal, formals_kept, drop_all, Known, Every, OperandKnown, BindingKnown, ObjectKnown, IfSome, leaves, IsPhased, every_append, every_find, formals_known, fresh_known, object_known, AreLight, light_leaves, light_phased}
+use Rattle.sc_machine_rights.proofs.links.Points.{AreKept, IsNoFormal, Known, Every, OperandKnown, BindingKnown, ObjectKnown, IfSome, leaves, IsPhased}
+use Rattle.sc_machine_rights.proofs.links.KnownValues.{every_append, every_find, formals_known, fresh_known, object_known}
+use Rattle.sc_machine_rights.proofs.links.LightTasks.{AreLight, light_leaves, light_phased}
+use Rattle.sc_machine_rights.proofs.links.KeptFormals.{formals_kept, drop_all}
 use Rattle.sc_machine_rights.proofs.links.Sound.{formals_of, tasks_deep, IsStageSound, IsFrameSound, IsRequestSound, IsAnswerSound, IsHandlerSound, IsSound, put_sound, IsSoundBut, sound_but, stack_sound, answered_sound, release_sound, fails_sound, fail_sound, AreFresh, fresh_rest}
 
 pub if_sound : (b : Bool) (x y : World) → (b ≡ true → IsSound x) → (b ≡ false → IsSound y) → IsSound (if b then x else y)

@@ -11,7 +11,7 @@ use Rattle.sc_machine_rights.specs.Laws.{RunsIn}
 use Rattle.sc_machine_rights.specs.Stands.{IsCovered, AreCovered, names_in, NeedsOf, NamesOf, IsRoutine, AreBlocks, Place, place_of, IsStaged, IsStack}
 use Rattle.sc_machine_rights.specs.Formals.{goes_on, before_reserve, FormalsAreHeld, NamesAreHeld}
 use Rattle.sc_machine_rights.proofs.LawProofs.{held_while_it_runs}
-use Rattle.sc_machine_rights.proofs.Machine.{contains_none, contains_first, contains_later, contains_cases}
+use Rattle.sc_machine_rights.proofs.MachineFrames.{contains_none, contains_first, contains_later, contains_cases}
 use Rattle.sc_machine_rights.proofs.links.BlockNames.{IsTidy}
 use Rattle.sc_machine_rights.proofs.links.Points.{Every, IsOpened, leaves}
 use Rattle.sc_machine_rights.proofs.links.Sound.{IsStageSound, IsFrameSound}

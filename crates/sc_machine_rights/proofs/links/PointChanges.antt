@@ -8,7 +8,10 @@ use Rattle.sc_model.specs.Tasks.{Task, Open}
 use Rattle.sc_model.specs.Steps.{Point, forgets}
 use Rattle.sc_machine_rights.specs.Stands.{names_in}
 use Rattle.sc_machine_rights.proofs.links.BlockNames.{IsTidy}
-use Rattle.sc_machine_rights.proofs.links.Points.{Formals, plain_names, plain_tidy, light_names, light_tidy, AreKept, IsDeep, light_deep, kept_take, Every, OperandKnown, BindingKnown, ObjectKnown, leaves, IsCalm, IsPhased, IsWell, every_append, every_take, AreLight, AreQuiet, not_leave, light_leaves, light_phased, quiet_leaves, quiet_phased}
+use Rattle.sc_machine_rights.proofs.links.Points.{Formals, AreKept, IsDeep, Every, OperandKnown, BindingKnown, ObjectKnown, leaves, IsCalm, IsPhased, IsWell}
+use Rattle.sc_machine_rights.proofs.links.KnownValues.{every_append, every_take}
+use Rattle.sc_machine_rights.proofs.links.LightTasks.{plain_names, plain_tidy, light_names, light_tidy, AreLight, AreQuiet, not_leave, light_leaves, light_phased, quiet_leaves, quiet_phased}
+use Rattle.sc_machine_rights.proofs.links.KeptFormals.{light_deep, kept_take}
 
 pub with_value : (K : ℕ → Type 0) (fm : Formals) (n : ℕ) (p : Point) (u : Operand) → IsWell K fm n p → OperandKnown K u
     → IsWell K fm n (record p { values = u ∷ p.values })

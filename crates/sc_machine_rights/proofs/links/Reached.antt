@@ -17,7 +17,8 @@ use Rattle.sc_machine_rights.proofs.links.FrameSteps.{Keeps}
 use Rattle.sc_machine_rights.proofs.links.Failures.{Leads}
 use Rattle.sc_machine_rights.proofs.links.Turns.{asked_of, turn_leads}
 use Rattle.sc_machine_rights.proofs.links.Sound.{IsHandlerSound, IsSound, new_sound}
-use Rattle.sc_machine_rights.proofs.links.SoundTurns.{turn_sound, stack_fits}
+use Rattle.sc_machine_rights.proofs.links.SoundTurns.{turn_sound}
+use Rattle.sc_machine_rights.proofs.links.FittingActs.{stack_fits}
 use Rattle.sc_model.specs.Handlers as machine
 use Rattle.sc_model.specs.Handlers.{new_handler}
 use Rattle.sc_model.specs.Turns.{turn}

@@ -21,7 +21,10 @@ use Rattle.sc_model.specs.Sessions.{session_ended}
 use Rattle.sc_model.specs.Answers.{heard, answered}
 use Rattle.sc_model.specs.Failures.{told, fallen, is_waited_by, requests_at, fails_with, fail}
 use Rattle.sc_machine_rights.specs.Stands.{names_in}
-use Rattle.sc_machine_rights.proofs.links.Points.{IsOpened, every_append, Formals, AreKept, IsDeep, light_deep, Known, Every, OperandKnown, BindingKnown, ObjectKnown, IfSome, leaves, IsCalm, IsPhased, AreLight, light_leaves, light_phased}
+use Rattle.sc_machine_rights.proofs.links.Points.{IsOpened, Formals, AreKept, IsDeep, Known, Every, OperandKnown, BindingKnown, ObjectKnown, IfSome, leaves, IsCalm, IsPhased}
+use Rattle.sc_machine_rights.proofs.links.KnownValues.{every_append}
+use Rattle.sc_machine_rights.proofs.links.LightTasks.{AreLight, light_leaves, light_phased}
+use Rattle.sc_machine_rights.proofs.links.KeptFormals.{light_deep}
 
 -- the blocks that are open are to be left, and a block that is about to reserve too
 abbrev pub IsStageSound : Stage → Frame → Type 0

@@ -1,4 +1,4 @@
-use Rattle.sc_machine_rights.proofs.Machine.{machine_callbacks_come_first}
+use Rattle.sc_machine_rights.proofs.MachineHolders.{machine_callbacks_come_first}
 use Rattle.sc_machine_rights.proofs.links.Reached.{reached_stands}
 use Rattle.sc_machine_rights.proofs.headline.callbacks_come_first.Goals as goal
 

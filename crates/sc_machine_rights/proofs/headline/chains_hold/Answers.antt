@@ -1,4 +1,4 @@
-use Rattle.sc_machine_rights.proofs.Machine.{machine_chains_hold}
+use Rattle.sc_machine_rights.proofs.MachineChains.{machine_chains_hold}
 use Rattle.sc_machine_rights.proofs.links.Reached.{reached_stands}
 use Rattle.sc_machine_rights.proofs.headline.chains_hold.Goals as goal
 

@@ -1,4 +1,4 @@
-use Rattle.sc_machine_rights.proofs.Machine.{machine_only_waiters_are_told}
+use Rattle.sc_machine_rights.proofs.MachineHolders.{machine_only_waiters_are_told}
 use Rattle.sc_machine_rights.proofs.links.Reached.{reached_stands}
 use Rattle.sc_machine_rights.proofs.headline.only_waiters_are_told.Goals as goal
 

@@ -1,4 +1,4 @@
-use Rattle.sc_machine_rights.proofs.Machine.{machine_replies_meet_none}
+use Rattle.sc_machine_rights.proofs.MachineHolders.{machine_replies_meet_none}
 use Rattle.sc_machine_rights.proofs.links.Reached.{reached_stands}
 use Rattle.sc_machine_rights.proofs.headline.replies_meet_none.Goals as goal
 

@@ -1,4 +1,4 @@
-use Rattle.sc_machine_rights.proofs.Machine.{machine_reserved_are_held}
+use Rattle.sc_machine_rights.proofs.MachineHolders.{machine_reserved_are_held}
 use Rattle.sc_machine_rights.proofs.links.Reached.{reached_stands}
 use Rattle.sc_machine_rights.proofs.headline.reserved_are_held.Goals as goal
 

@@ -1,4 +1,4 @@
-use Rattle.sc_machine_rights.proofs.Machine.{machine_targets_are_kept}
+use Rattle.sc_machine_rights.proofs.MachineChains.{machine_targets_are_kept}
 use Rattle.sc_machine_rights.proofs.links.Reached.{reached_stands}
 use Rattle.sc_machine_rights.proofs.headline.targets_are_kept.Goals as goal
 
