@@ -20,7 +20,8 @@ use Rattle.sc_model.specs.Tasks.{Task, Declare, Do}
 use Rattle.sc_model.specs.Values.{Reference, Operand}
 use Rattle.sc_machine_values.specs.Points.{Each, IsAmong}
 use Rattle.sc_machine_values.specs.Steps.{IsThereIfOwn, StandsSo, StepFits, ValuesDo}
-use Rattle.sc_machine_values.proofs.References.{Stays, StepStays, step_stays}
+use Rattle.sc_machine_values.proofs.OperatorReferences.{Stays, StepStays}
+use Rattle.sc_machine_values.proofs.References.{step_stays}
 use Rattle.sc_machine_values.proofs.Routines.{is_run}
 use Rattle.sc_machine_values.proofs.Steps.{step_fits}
 use Rattle.sc_machine_invariants.proofs.Modes.{RunsPure as IsLeftPure}

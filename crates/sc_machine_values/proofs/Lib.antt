@@ -27,6 +27,8 @@ pub mod Free
 pub mod Fresh
 pub mod Arrivals
 pub mod AskedHandlers
+pub mod BlockBeginnings
+pub mod CallBeginnings
 pub mod Instructions
 pub mod MovedValues
 pub mod Lists
@@ -43,6 +45,8 @@ pub mod PassedValues
 pub mod PassingLaws
 pub mod Posts
 pub mod Reached
+pub mod OperatorReferences
+pub mod NameReferences
 pub mod References
 pub mod Refusals
 pub mod TakeTurns

@@ -19,7 +19,7 @@ use Rattle.sc_machine_values.proofs.Remains.{failed_fits}
 use Rattle.sc_machine_values.proofs.Changes.{among_put, at_objects, beside_fits, frames_led, put_at, requests_led, some_among, there_put}
 use Rattle.sc_machine_values.proofs.MovedValues.{moves_stay, stays_after}
 use Rattle.sc_machine_values.proofs.Lists.{each_append, each_before, each_behind, each_more}
-use Rattle.sc_machine_values.proofs.References.{ActStays, HoldsOfOwn, Stays, StepStays}
+use Rattle.sc_machine_values.proofs.OperatorReferences.{ActStays, HoldsOfOwn, Stays, StepStays}
 use Rattle.sc_machine_values.proofs.Settled.{Settled, TopFits, no_reply_to, relinked, requests_as}
 
 every : {A : Type 0} (P : A → Type 0) → ((x : A) → P x) → (xs : List A) → Each P xs

@@ -7,7 +7,8 @@ use Rattle.sc_model.specs.Sizes.{size}
 use Rattle.sc_model.specs.Steps as act
 use Rattle.sc_model.specs.Steps.{Act, Does, Goes, Point, Step}
 use Rattle.sc_model.specs.Values.{Reference, Value}
-use Rattle.sc_machine_values.proofs.References.{ActStays, HoldsOfOwn, Stays, StepStays, step_stays}
+use Rattle.sc_machine_values.proofs.OperatorReferences.{ActStays, HoldsOfOwn, Stays, StepStays}
+use Rattle.sc_machine_values.proofs.References.{step_stays}
 
 module _ (P : Value → Type 0) (me : Reference) (own : HoldsOfOwn P me) (objects : List Object) where
   first_stays : (s : System) (n : ℕ) (p : Point) → Stays P objects p → StepStays P me own objects (first_visible n s me p)

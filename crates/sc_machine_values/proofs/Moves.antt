@@ -12,7 +12,8 @@ use Rattle.sc_machine_values.specs.Points.{IsAmong}
 use Rattle.sc_machine_values.specs.Steps.{IsThereIfOwn, OperandsDo, StandsSo, StepFits}
 use Rattle.sc_machine_values.specs.Values.{MovesFit, StepsFit}
 use Rattle.sc_machine_values.proofs.Lists.{each_more}
-use Rattle.sc_machine_values.proofs.References.{HoldsOfOwn, Stays, StepStays, step_stays}
+use Rattle.sc_machine_values.proofs.OperatorReferences.{HoldsOfOwn, Stays, StepStays}
+use Rattle.sc_machine_values.proofs.References.{step_stays}
 use Rattle.sc_machine_values.proofs.Routines.{is_run}
 use Rattle.sc_machine_values.proofs.RoutinePoints.{IsRun}
 use Rattle.sc_machine_values.proofs.Steps.{step_fits}

@@ -75,7 +75,8 @@ use Rattle.sc_machine_values.proofs.Free.{freely}
 use Rattle.sc_machine_values.proofs.Lists.{both, each_append, each_more, same_some}
 use Rattle.sc_machine_values.proofs.Operators.{boolean_value}
 use Rattle.sc_machine_values.proofs.Origins.{origin_is}
-use Rattle.sc_machine_values.proofs.References.{Stays, StepStays, step_stays}
+use Rattle.sc_machine_values.proofs.OperatorReferences.{Stays, StepStays}
+use Rattle.sc_machine_values.proofs.References.{step_stays}
 use Rattle.sc_machine_values.proofs.Routines.{is_run}
 use Rattle.sc_machine_values.proofs.RoutinePoints.{IsRun}
 use Rattle.sc_machine_values.proofs.Steps.{step_fits}

@@ -55,7 +55,8 @@ use Rattle.sc_machine_values.proofs.Environments.{Entered, entry_fits}
 use Rattle.sc_machine_values.proofs.Lists.{each_more, same_some}
 use Rattle.sc_machine_values.proofs.Names.{all_typed, some_there}
 use Rattle.sc_machine_values.proofs.Origins.{origin_is}
-use Rattle.sc_machine_values.proofs.References.{HoldsOfOwn, Stays, StepStays, step_stays}
+use Rattle.sc_machine_values.proofs.OperatorReferences.{HoldsOfOwn, Stays, StepStays}
+use Rattle.sc_machine_values.proofs.References.{step_stays}
 use Rattle.sc_machine_values.proofs.Routines.{is_run}
 use Rattle.sc_machine_values.proofs.RoutinePoints.{IsRun}
 use Rattle.sc_machine_values.proofs.Steps.{step_fits}
