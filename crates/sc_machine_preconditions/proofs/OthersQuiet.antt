@@ -19,7 +19,7 @@ use Rattle.sc_model.specs.Turns.{turn, turn_with, goes_on, waits}
 use Rattle.sc_machine_rights.specs.Headline.{has_reply}
 use Rattle.sc_machine_rights.proofs.Rights.{not_some}
 use Rattle.sc_machine_requests.specs.Laws.{BeyondIsUnused, CalledBackWaits, IsAway, OthersStay, QueueComes, RightsStay, Stays, TopAwaits, IsUnused}
-use Rattle.sc_machine_requests.proofs.Others.{ended_rests}
+use Rattle.sc_machine_requests.proofs.RestingHandlers.{ended_rests}
 use Rattle.sc_machine_preconditions.specs.Following.{IsQuiet}
 use Rattle.sc_machine_preconditions.specs.Following as following
 use Rattle.sc_machine_preconditions.proofs.Lists.{nothing_is_list, false_is_true, first_of}

@@ -21,7 +21,7 @@ use Rattle.sc_machine_values.proofs.Lists.{no_both}
 use Rattle.sc_refines_core.specs.Calm.{name_of}
 use Rattle.sc_refines_core.specs.Clauses.{RunsPureIfRoutine}
 use Rattle.sc_refines_core.specs.Entries.{HasStarted}
-use Rattle.sc_machine_requests.proofs.Turned.{is_holder, not_true}
+use Rattle.sc_machine_requests.proofs.TurnedHandlers.{is_holder, not_true}
 use Rattle.sc_machine_preconditions.specs.Following.{objects_of, MayAsk, bound_in, ClauseDone, IsQuiet, clause_request, RequestStands, IsPending, AwaitsOf, IsLost, AboveIsPure, InPrecondition, FrameFollows, StackFollows}
 use Rattle.sc_machine_preconditions.specs.Following as following
 use Rattle.sc_machine_preconditions.specs.Points.{InContract}

@@ -42,7 +42,7 @@ use Rattle.sc_refines_core.specs.Calm.{name_of}
 use Rattle.sc_refines_core.specs.Entries.{HasStarted}
 use Rattle.sc_machine_clauses.specs.Evaluating.{Answers}
 use Rattle.sc_machine_clauses.specs.Laws.{AnswersMore, EndsTrueMore, ReachesMore, TextsAreWithoutTests}
-use Rattle.sc_machine_requests.proofs.Others.{ended_rests, ended_answer}
+use Rattle.sc_machine_requests.proofs.RestingHandlers.{ended_rests, ended_answer}
 use Rattle.sc_machine_preconditions.specs.Following.{objects_of, MayAsk, Own, bound_in, between_point, behind_clause, ClausesAt, ClauseDone, IsQuiet, clause_request, RequestStands, IsPending, AwaitsOf, IsLost, AboveIsPure, StandsByStage, InPrecondition, FrameFollows, StackFollows}
 use Rattle.sc_machine_preconditions.specs.Following as following
 use Rattle.sc_machine_preconditions.specs.Points.{InContract, ClauseActs, ClauseSteps, ClauseMoves, GoesOn}

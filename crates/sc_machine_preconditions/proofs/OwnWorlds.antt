@@ -17,7 +17,7 @@ use Rattle.sc_model.specs.Answers.{heard, answered, answer_to, return_rights, fi
 use Rattle.sc_model.specs.Failures.{requests_at, is_waited_by, told, fallen, fails_with}
 use Rattle.sc_model.specs.Asking.{passes, placed, send, with_handler}
 use Rattle.sc_machine_rights.proofs.links.Looks.{m_put-own, m_put-off}
-use Rattle.sc_machine_requests.proofs.Others.{ended_rests}
+use Rattle.sc_machine_requests.proofs.RestingHandlers.{ended_rests}
 use Rattle.sc_machine_preconditions.specs.Following.{IsQuiet, objects_of}
 use Rattle.sc_machine_preconditions.specs.Following as following
 

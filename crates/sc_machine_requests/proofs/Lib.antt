@@ -1,8 +1,12 @@
 pub mod Held
+pub mod RestingHandlers
 pub mod Others
+pub mod KeptRights
+pub mod RightChanges
 pub mod Rights
 pub mod StandingRequests
 pub mod Tops
+pub mod TurnedHandlers
 pub mod Turned
 pub mod Unlent
 pub mod Unused

@@ -21,8 +21,9 @@ use Rattle.sc_model.specs.Takes.{takes_errand, takes_next}
 use Rattle.sc_model.specs.Turns.{effect, settles, waits, goes_on, turn_with, turn}
 use Rattle.sc_machine_rights.proofs.links.Looks.{m_put-off}
 use Rattle.sc_machine_requests.specs.Laws.{NewIsIdle}
-use Rattle.sc_machine_requests.proofs.Others.{put_at, ended_rests, Comes, fail_comes, enters_comes, reserves_comes, clause_comes, exits_comes, block_comes, errand_comes, takes_answer_comes}
-use Rattle.sc_machine_requests.proofs.Turned.{request_turned}
+use Rattle.sc_machine_requests.proofs.RestingHandlers.{put_at, ended_rests}
+use Rattle.sc_machine_requests.proofs.Others.{Comes, fail_comes, enters_comes, reserves_comes, clause_comes, exits_comes, block_comes, errand_comes, takes_answer_comes}
+use Rattle.sc_machine_requests.proofs.TurnedHandlers.{request_turned}
 use Rattle.sc_machine_requests.proofs.Tops.{beyond_is_unused}
 
 -- whatever is answered
