@@ -1,11 +1,16 @@
 pub mod Bodies
 pub mod Contracts
+pub mod CallExtensions
 pub mod Extensions
 pub mod FormulaAttributes
+pub mod LeadingSteps
+pub mod OperandTruths
+pub mod AttributeFormulas
 pub mod FormulaSteps
 pub mod TrueClauses
 pub mod InvariantSteps
 pub mod Locally
+pub mod CallsWithoutOld
 pub mod WithoutOld
 pub mod Stems
 pub mod WithoutTests
