@@ -2,11 +2,15 @@ pub mod InvariantTests
 pub mod Modes
 pub mod Moves
 pub mod Numbered
+pub mod FreeNames
+pub mod PureCalls
 pub mod Purely
 pub mod ReachedStates
 pub mod SystemTurns
 pub mod Stacks
 pub mod Tasks
 pub mod Texts
+pub mod GoodHandlers
 pub mod Turns
+pub mod CallSteps
 pub mod Steps

@@ -20,7 +20,8 @@ use Rattle.sc_model.specs.Olds.{olds_in, olds_of, olds_of_each, olds_of_clauses}
 use Rattle.sc_model.specs.Routines.{Routine, origin_of, routine_from, routine_named, routine_of, routine_with, version_of}
 use Rattle.sc_model.specs.Tasks.{Task, Do, In, Declare, Forget, Require, keeps_olds, requires, ensures, tasks_of}
 use Rattle.sc_machine_values.proofs.Origins.{origin_is}
-use Rattle.sc_machine_invariants.proofs.Purely.{AssignsNone, CallsPure, is_routine, body_pure, precondition_pure, postcondition_pure}
+use Rattle.sc_machine_invariants.proofs.FreeNames.{AssignsNone, CallsPure, is_routine}
+use Rattle.sc_machine_invariants.proofs.Purely.{body_pure, precondition_pure, postcondition_pure}
 use Rattle.sc_machine_invariants.proofs.Tasks.{OfTasks, class_behind}
 use Rattle.sc_machine_invariants.proofs.Texts.{OfExpr, OfExprs, OfCall, OfClauses, OfHeads, OfVariable, OfInstr, OfInstrs, OfBranches}
 

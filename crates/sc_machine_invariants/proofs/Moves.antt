@@ -15,9 +15,10 @@ use Rattle.sc_model.specs.Tasks.{Task}
 use Rattle.sc_model.specs.Values.{Reference, Operand}
 use Rattle.sc_machine_invariants.proofs.Modes.{AfterStart, Started, RunsPure, Unstarted, IsWildAs, StandsAs, name_of, not_both}
 use Rattle.sc_machine_invariants.proofs.Numbered.{numbered_other}
-use Rattle.sc_machine_invariants.proofs.Purely.{AssignsNone, CallsPure}
+use Rattle.sc_machine_invariants.proofs.FreeNames.{AssignsNone, CallsPure}
 use Rattle.sc_machine_invariants.proofs.Tasks.{OfTasks}
-use Rattle.sc_machine_invariants.proofs.Steps.{HasMade, MayAssign, SteppedSo, moves_so}
+use Rattle.sc_machine_invariants.proofs.CallSteps.{HasMade, MayAssign, SteppedSo}
+use Rattle.sc_machine_invariants.proofs.Steps.{moves_so}
 
 -- If there is an object of the number, it meets its class invariant.
 abbrev pub Meets : System → List Object → ℕ → Type 0

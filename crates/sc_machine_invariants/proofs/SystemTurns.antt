@@ -43,9 +43,10 @@ use Rattle.sc_machine_values.proofs.Routines.{is_run}
 use Rattle.sc_machine_values.proofs.RoutinePoints.{in_text}
 use Rattle.sc_machine_invariants.proofs.Modes.{IsVersionOf, IsWildAs, StandsAs, name_of, routine_begins, routine_found, version_found}
 use Rattle.sc_machine_invariants.proofs.Moves.{CallsSo, StepMoves, turn_moves}
-use Rattle.sc_machine_invariants.proofs.Purely.{CallsPure, is_routine}
+use Rattle.sc_machine_invariants.proofs.FreeNames.{CallsPure, is_routine}
 use Rattle.sc_machine_invariants.proofs.Stacks.{AllCalls, CallsIfAny, Good, GoodAt, MakesFirst, Stands, add_new, calls_alone, handed_as_good, push, push_new, requested_linked, retop}
-use Rattle.sc_machine_invariants.proofs.Turns.{AllGood, Others, acts_now, either, enters_all, fails_all, finish_all, others_put, put_all, release_all, stack_all, with_own}
+use Rattle.sc_machine_invariants.proofs.GoodHandlers.{AllGood, Others, either, enters_all, fails_all, finish_all, others_put, put_all, release_all, stack_all, with_own}
+use Rattle.sc_machine_invariants.proofs.Turns.{acts_now}
 
 same_some : {A : Type 0} {x y : A} → Some x ≡ Some y → x ≡ y
 same_some e = cc

@@ -18,7 +18,7 @@ use Rattle.sc_model.specs.Steps.{Calling, Point, Enters, Requests}
 use Rattle.sc_model.specs.Tasks.{Task, requires, keeps_olds}
 use Rattle.sc_model.specs.Values.{Reference, Value, Operand}
 use Rattle.sc_machine_invariants.proofs.Modes.{IsVersionOf, routine_found}
-use Rattle.sc_machine_invariants.proofs.Purely.{is_routine}
+use Rattle.sc_machine_invariants.proofs.FreeNames.{is_routine}
 use Rattle.sc_machine_clauses.specs.Evaluating.{Answers, routine, enters, requests}
 use Rattle.sc_machine_clauses.specs.Laws.{TextsAreWithoutTests}
 use Rattle.sc_machine_clauses.proofs.TrueClauses.{given}

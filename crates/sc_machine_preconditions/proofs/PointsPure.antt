@@ -25,8 +25,9 @@ use Rattle.sc_machine_values.proofs.References.{step_stays}
 use Rattle.sc_machine_values.proofs.Routines.{is_run}
 use Rattle.sc_machine_values.proofs.Steps.{step_fits}
 use Rattle.sc_machine_invariants.proofs.Modes.{RunsPure as IsLeftPure}
-use Rattle.sc_machine_invariants.proofs.Purely.{AssignsNone, CallsPure}
-use Rattle.sc_machine_invariants.proofs.Steps.{MayAssign, SteppedSo, moves_so}
+use Rattle.sc_machine_invariants.proofs.FreeNames.{AssignsNone, CallsPure}
+use Rattle.sc_machine_invariants.proofs.CallSteps.{MayAssign, SteppedSo}
+use Rattle.sc_machine_invariants.proofs.Steps.{moves_so}
 use Rattle.sc_refines_core.specs.Calm.{CalmStep, name_of}
 use Rattle.sc_refines_core.proofs.Clausal.{own_values, still_there}
 use Rattle.sc_machine_clauses.specs.Evaluating.{Reaches, begins}
