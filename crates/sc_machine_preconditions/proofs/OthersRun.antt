@@ -25,7 +25,7 @@ use Rattle.sc_model.specs.Steps.{Calling, Act, Prints, Until, Creates, CreatesHa
 use Rattle.sc_model.specs.Turns.{effect, settles}
 use Rattle.sc_model.specs.Values.{Reference, Value, Operand, values_of}
 use Rattle.sc_refines_core.specs.Calm.{name_of}
-use Rattle.sc_refines_core.proofs.Guards.{pure_waits_not}
+use Rattle.sc_refines_core.proofs.GuardedSteps.{pure_waits_not}
 use Rattle.sc_machine_clauses.specs.Evaluating.{Answers}
 use Rattle.sc_machine_requests.proofs.StandingRequests.{begun_on}
 use Rattle.sc_machine_preconditions.specs.Following.{Own, bound_in, clause_request, objects_of}

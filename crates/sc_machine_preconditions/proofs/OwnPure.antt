@@ -34,7 +34,7 @@ use Rattle.sc_machine_values.specs.Fitting as fitting
 use Rattle.sc_machine_values.specs.Points.{Each}
 use Rattle.sc_refines_core.specs.Calm.{name_of}
 use Rattle.sc_refines_core.specs.Entries.{HasStarted}
-use Rattle.sc_refines_core.proofs.Guards.{pure_waits_not}
+use Rattle.sc_refines_core.proofs.GuardedSteps.{pure_waits_not}
 use Rattle.sc_machine_clauses.specs.Evaluating.{Answers}
 use Rattle.sc_machine_clauses.specs.Laws.{AnswersMore, TextsAreWithoutTests}
 use Rattle.sc_machine_preconditions.specs.Following.{objects_of, MayAsk, Own, AreBound, bound_in, PureAt, PureCalls, ClausesAt, IsFor, AboveIsFor, FollowsPure, is_called, IsCalledPure, IsLost, AboveIsPure, StandsByStage, InPrecondition, FrameFollows, StackFollows}

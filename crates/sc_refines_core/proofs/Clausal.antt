@@ -63,7 +63,8 @@ use Rattle.sc_machine_values.proofs.Steps.{step_fits}
 use Rattle.sc_refines_core.specs.Entries.{HasStarted}
 use Rattle.sc_refines_core.specs.Clauses.{InClauses, StandsInClauses, ClauseStep, ClausesCallPure, ClausesComeFirst}
 use Rattle.sc_refines_core.specs.Clauses as clauses
-use Rattle.sc_refines_core.proofs.Clauses.{HasClass, clause_step}
+use Rattle.sc_refines_core.proofs.ExpandedValues.{HasClass}
+use Rattle.sc_refines_core.proofs.Clauses.{clause_step}
 
 no : {A : Type 0} → false ≡ true → A
 no e = cc

@@ -1,17 +1,15 @@
 -- In a turn each frame keeps what it recalls of the entry that its handler reserved for last.
-use Rattle.std.proofs.Common.{ℕ, ◌≡◌, ◌⊎◌, ◌<◌, ◌==◌, ◌&&◌, ◌||◌, not, Bool, true, false, List, [], ◌∷◌, ◌++◌, Option, Some, None, refl, sym, ap, subst, ◌∙◌, inl, inr}
-use Rattle.std.proofs.lemmas.Bool.{eq-eqb, eqb-true, ltb-true}
+use Rattle.std.proofs.Common.{ℕ, ◌≡◌, ◌<◌, ◌==◌, ◌&&◌, ◌||◌, not, Bool, true, false, List, [], ◌∷◌, Option, Some, None, refl, sym, ap, subst, ◌∙◌, inl, inr}
+use Rattle.std.proofs.lemmas.Bool.{eq-eqb, ltb-true}
 use Rattle.std.specs.Prelude.{if◌then◌else◌, is_some, length, nat_lt}
 use Rattle.std.specs.Option.{option_map}
-use Rattle.std.specs.List.{list_any}
 use Rattle.sc_tree.specs.Plain as tree
-use Rattle.sc_tree.specs.Plain.{System, Clause, FeatureKind}
+use Rattle.sc_tree.specs.Plain.{System, FeatureKind}
 use Rattle.sc_class.specs.Tables.Features.{DeclaredFeature}
 use Rattle.sc_proctype.specs.declared.entity_type.EntityType.{EntityType}
 use Rattle.sc_rules.specs.Types.{declared_type}
-use Rattle.sc_lockpass.specs.Rights.{is_among, is_handler, held}
-use Rattle.sc_lockpass.specs.Passing.{Passed}
-use Rattle.sc_waitcond.specs.Reservations.{ends_session, mark_of, reserve_fails}
+use Rattle.sc_lockpass.specs.Rights.{held}
+use Rattle.sc_waitcond.specs.Reservations.{mark_of, reserve_fails}
 use Rattle.sc_waitcond.specs.declared.condition.EntryVerdict.{EntryVerdict}
 use Rattle.sc_waitcond.specs.declared.condition.EntryVerdict.TheVariants as verdict
 use Rattle.sc_waitcond.specs.declared.session.Release.{Release}
@@ -27,12 +25,12 @@ use Rattle.sc_model.specs.Routines.{Routine, version_of, routine_named, routine_
 use Rattle.sc_model.specs.Tasks.{tasks_of}
 use Rattle.sc_model.specs.Steps.{Act, Prints, Until, Creates, CreatesHandler, Enters, Requests, Starts, Refuses, Opens, Leaves, Exits, Fails, Step, Goes, Does, Point}
 use Rattle.sc_model.specs.Moves.{moves}
-use Rattle.sc_model.specs.Handlers.{Errand, Calls, Makes, Request, Answer, Reply, Failed, Refused, Origin, Called, Requested, Stage, Runs, Reserves, ReservesBlock, InCall, Awaits, Frame, Handler, World, new_handler, point_of, frame_at, put, with_stack}
-use Rattle.sc_model.specs.Sessions.{standing_in, session_ended, release}
-use Rattle.sc_model.specs.Answers.{answered, answer_to, return_rights, finish}
-use Rattle.sc_model.specs.Failures.{requests_at, is_waited_by, told, fallen, fails_with}
+use Rattle.sc_model.specs.Handlers.{Errand, Calls, Makes, Request, Answer, Reply, Failed, Refused, Origin, Called, Requested, Stage, Runs, Reserves, ReservesBlock, InCall, Awaits, Frame, Handler, World, point_of, frame_at, put, with_stack}
+use Rattle.sc_model.specs.Sessions.{standing_in, release}
+use Rattle.sc_model.specs.Answers.{finish}
+use Rattle.sc_model.specs.Failures.{fails_with}
 use Rattle.sc_model.specs.Entries.{entry, enters_bound, enters, entry_needs, block_needs, may_reserve, reserves_if}
-use Rattle.sc_model.specs.Asking.{passes, placed, send, awaits_if, request_by, is_callback, asks, request, with_handler, posts_creation, passes_or_releases, created, creates_handler}
+use Rattle.sc_model.specs.Asking.{passes, send, awaits_if, request_by, is_callback, asks, request, with_handler, posts_creation, passes_or_releases, created, creates_handler}
 use Rattle.sc_model.specs.Preconditions.{verdict_on, is_creation, object_meets, counted_refusal, refuses, correctness_fails, false_clause}
 use Rattle.sc_model.specs.Exits.{is_unset_value, is_unset, is_untested, handed_as, handed_at, handed, leaves_to, exits, leaves_block}
 use Rattle.sc_model.specs.Takes.{replies, takes_kind, takes_version, takes_creation, with_new_object, takes_errand, takes, takes_next, released_if, takes_answer}
@@ -43,111 +41,7 @@ use Rattle.sc_machine_rights.proofs.links.Sound.{IsFrameSound, IsSound, formals_
 use Rattle.sc_refines_core.specs.Entries.{HasStarted, RefusesNone}
 use Rattle.sc_refines_core.proofs.CalmSteps.{moves_calm}
 use Rattle.sc_refines_core.proofs.Grants.{moves_so}
-
--- The routine has started, or newly reserved nothing, or its entry is this one.
-abbrev pub Recalls : List ℕ → Frame → Type 0
-Recalls e f = HasStarted f.tasks ⊎ ((f.reserved ≡ []) ⊎ (e ≡ handlers_of (separate_formals f.environment)))
-
-abbrev pub AllRecall : List ℕ → List Frame → Type 0
-AllRecall e [] = Unit {0}
-AllRecall e (f ∷ below) = Recalls e f × AllRecall e below
-
--- ---- stacks that stay
-
--- a stack stays, or nothing is left of it
-abbrev pub IsLeft : List Frame → List Frame → Type 0
-IsLeft xs ys = (ys ≡ xs) ⊎ (ys ≡ [])
-
-abbrev pub Others : ℕ → World → World → Type 0
-Others h w v = (k : ℕ) → (k == h) ≡ false → IsLeft (w.handlers k).stack (v.handlers k).stack
-
--- all of them stay
-abbrev pub AreAlike : World → World → Type 0
-AreAlike v u = (k : ℕ) → (u.handlers k).stack ≡ (v.handlers k).stack
-
-no : {A : Type 0} → true ≡ false → A
-no e = cc
-
-pub then_left : (xs ys zs : List Frame) → IsLeft xs ys → zs ≡ ys → IsLeft xs zs
-then_left xs ys zs (inl e) i = inl (i ∙ e)
-then_left xs ys zs (inr e) i = inr (i ∙ e)
-
-pub put_alike : (j : ℕ) (x : Handler) (v : World) → x.stack ≡ (v.handlers j).stack → AreAlike v (put j x v)
-put_alike j x v e k = by (k == j) refl
-  where
-    by : (b : Bool) → (k == j) ≡ b → (if b then x else v.handlers k).stack ≡ (v.handlers k).stack
-    by true i = e ∙ sym (ap (λ (m : ℕ). (v.handlers m).stack) (eqb-true k j i))
-    by false i = refl
-
-ended_stack : (b : Bool) (x : Handler) → (session_ended b x).stack ≡ x.stack
-ended_stack true x = refl
-ended_stack false x = refl
-
-pub release_alike : (how : Release) (ks : List ℕ) (v : World) → AreAlike v (release how ks v)
-release_alike how ks v k = ended_stack (ends_session how && is_among k ks) (v.handlers k)
-
-rights_alike : (p : Option Passed) (v : World) → AreAlike v (return_rights p v)
-rights_alike None v k = refl
-rights_alike (Some p) v k = refl
-
-answer_alike : (b : Bool) (p : Option ℕ) (a : Answer) (v : World) → AreAlike v (answer_to b p a v)
-answer_alike true (Some p) a v k = put_alike p (answered a (v.handlers p)) v refl k
-answer_alike true None a v k = refl
-answer_alike false p a v k = refl
-
-pub finish_alike : (r : Request) (a : Answer) (v : World) → AreAlike v (finish r a v)
-finish_alike r a v k = answer_alike r.is_waited r.poster a (return_rights r.passed v) k ∙ rights_alike r.passed v k
-
-pub passes_alike : (b : Bool) (h j : ℕ) (v : World) → AreAlike v (passes b h j v)
-passes_alike true h j v k = refl
-passes_alike false h j v k = refl
-
-placed_stack : (b : Bool) (r : Request) (x : Handler) → (placed b r x).stack ≡ x.stack
-placed_stack true r x = refl
-placed_stack false r x = refl
-
-pub send_alike : (b : Bool) (j : ℕ) (r : Request) (v : World) → AreAlike v (send b j r v)
-send_alike b j r v k = put_alike j (placed b r (v.handlers j)) v (placed_stack b r (v.handlers j)) k
-
-told_stack : (b : Bool) (x : Handler) → (told b x).stack ≡ x.stack
-told_stack true x = refl
-told_stack false x = refl
-
-abbrev pub dropped_if : Bool → List Frame → List Frame
-dropped_if true st = []
-dropped_if false st = st
-
-pub fallen_stack : (h : ℕ) (why : Cause) (taken : List Request) (v : World) (k : ℕ) →
-    ((fails_with h why taken v).handlers k).stack ≡ dropped_if (k == h) (v.handlers k).stack
-fallen_stack h why taken v k =
-    let hears : Bool = list_any (is_waited_by k) (taken ++ requests_at (v.handlers h)) in
-    ended_stack (ends_session release_at.Failure && is_handler h (v.rights.queue k)) (if k == h then fallen why (v.handlers k) else told hears (v.handlers k))
-    ∙ by hears (k == h)
-  where
-    by : (hears b : Bool) → (if b then fallen why (v.handlers k) else told hears (v.handlers k)).stack ≡ dropped_if b (v.handlers k).stack
-    by hears true = refl
-    by hears false = told_stack hears (v.handlers k)
-
-pub others_alike : (h : ℕ) (w v u : World) → Others h w v → AreAlike v u → Others h w u
-others_alike h w v u o a k n = then_left (w.handlers k).stack (v.handlers k).stack (u.handlers k).stack (o k n) (a k)
-
-pub others_put : (h : ℕ) (w v : World) (x : Handler) → Others h w v → Others h w (put h x v)
-others_put h w v x o k n = by (k == h) n
-  where
-    by : (b : Bool) → b ≡ false → IsLeft (w.handlers k).stack (if b then x else v.handlers k).stack
-    by true e = no e
-    by false e = o k n
-
--- a handler that is new has no frames
-pub others_new : (h j : ℕ) (w v : World) → Others h w v → Others h w (with_handler j h v)
-others_new h j w v o k n = by (k == j)
-  where
-    by : (b : Bool) → IsLeft (w.handlers k).stack (if b then new_handler else v.handlers k).stack
-    by true = inr refl
-    by false = o k n
-
-pub others_stay : (h : ℕ) (w : World) → Others h w w
-others_stay h w k n = inl refl
+use Rattle.sc_refines_core.proofs.UnchangedStacks.{AllRecall, AreAlike, Others, Recalls, dropped_if, fallen_stack, finish_alike, others_alike, others_new, others_put, others_stay, passes_alike, put_alike, release_alike, send_alike, then_left}
 
 -- ---- a turn of the handler
 
@@ -180,7 +74,7 @@ counted_stack true x = refl
 counted_stack false x = refl
 
 module _ (h : ℕ) (e : List ℕ) (w : World) where
-  abbrev T : World → Type 0
+  abbrev pub T : World → Type 0
   T v = Turned h e w v
 
   either : (b : Bool) (x y : World) → T x → T y → T (if b then x else y)

@@ -36,9 +36,10 @@ use Rattle.sc_refines_core.proofs.CalmSteps.{moves_calm}
 use Rattle.sc_refines_core.proofs.KeptEntries.{entries_stay}
 use Rattle.sc_refines_core.proofs.Guards.{reservers_on_started}
 use Rattle.sc_refines_core.proofs.FrameLinks.{one_further}
-use Rattle.sc_refines_core.proofs.Guards.{no_wait}
+use Rattle.sc_refines_core.proofs.GuardedSteps.{no_wait}
 use Rattle.sc_refines_core.proofs.ReachedStates.{reached_halves}
-use Rattle.sc_refines_core.proofs.RecalledEntries.{Recalls, AllRecall, IsLeft, Turned, turn_turned}
+use Rattle.sc_refines_core.proofs.UnchangedStacks.{Recalls, AllRecall, IsLeft}
+use Rattle.sc_refines_core.proofs.RecalledEntries.{Turned, turn_turned}
 
 no : {A : Type 0} → false ≡ true → A
 no e = cc
