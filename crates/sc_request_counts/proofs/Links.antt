@@ -18,7 +18,8 @@ use Rattle.sc_play.specs.Regions.{PlainRegion, Plays}
 use Rattle.sc_request_counts.specs.Free.{AreLinked, FreeRegionsRest, LinkedObjectsMeet, OpeningsAreLinked, RefusedTurnsStayLinked, TurnsStayLinked}
 use Rattle.sc_request_counts.specs.Serving.{Agrees, HasFrames, Serve, Serves}
 use Rattle.sc_request_counts.specs.Settlements.{KeepsServices, known}
-use Rattle.sc_request_counts.proofs.SettledCounts.{has_pick, known_there, others_serve, settlements_serve}
+use Rattle.sc_request_counts.proofs.PassingCounts.{known_there}
+use Rattle.sc_request_counts.proofs.SettledCounts.{has_pick, others_serve, settlements_serve}
 use Rattle.sc_request_counts.proofs.StoreChanges.{none_some}
 use Rattle.sc_request_counts.proofs.TurnCounts.{refused_regions_serve, regions_serve}
 
