@@ -26,7 +26,7 @@ use Rattle.sc_world.proofs.FreeHandlers.{next_picks}
 use Rattle.sc_world.proofs.Outs.{next-of, none-job, none-of, one-job, picked-out, some-of}
 use Rattle.sc_plant.specs.Due.{AreBelow, GrantsNone, IsSettled, PlaysTo, Settled, Stays}
 use Rattle.sc_plant.specs.Recorded.{line_of, lines_of}
-use Rattle.sc_world.proofs.AtOnce.{settled_state}
+use Rattle.sc_world.proofs.SettledPicks.{settled_state}
 
 -- ---- who is out
 

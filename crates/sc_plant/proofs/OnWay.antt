@@ -17,7 +17,7 @@ use Rattle.sc_play.specs.Regions.{IsRefused, PlainRegion, Plays, new_region, out
 use Rattle.sc_worklog.specs.Replaying.{AreMade, Replays, entry_of, played, refused}
 use Rattle.sc_worklog.proofs.ReplayedTurns.{turns_replay}
 use Rattle.sc_world.specs.Worlds.{max_handlers}
-use Rattle.sc_world.proofs.AtOnce.{settled_out}
+use Rattle.sc_world.proofs.SettledPicks.{settled_out}
 use Rattle.sc_plant.specs.declared.left.Left.{Left}
 use Rattle.sc_plant.specs.Alone.{AreNew, AreOwn, IsOnWay, IsOwn, IsPlayed}
 use Rattle.sc_plant.specs.Due.{Settled, Stays}

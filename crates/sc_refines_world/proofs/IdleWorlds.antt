@@ -14,7 +14,7 @@ use Rattle.sc_region_turns.specs.RegionSteps.{numbering_by}
 use Rattle.sc_world.specs.Worlds.{PlainWorld}
 use Rattle.sc_refines_world.specs.Refining.{IdleWorldIsIdle}
 use Rattle.sc_refines_world.specs.Standing.{StandsFor, names_in}
-use Rattle.sc_world.proofs.AtOnce.{picks_job}
+use Rattle.sc_world.proofs.SettledPicks.{picks_job}
 
 -- ---- where none is next, each has nothing to do
 

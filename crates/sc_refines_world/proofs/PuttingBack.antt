@@ -25,7 +25,7 @@ use Rattle.sc_world.specs.Worlds.{PlainWorld}
 use Rattle.sc_refines_world.specs.Refining.{RefusedTurnStaysNear, StandingWorldIsNear}
 use Rattle.sc_refines_world.specs.Standing.{IsNear, IsRegionFor, StandsFor, StandsNear, names_in}
 use Rattle.sc_refines_world.proofs.Picks.{has_job}
-use Rattle.sc_world.proofs.AtOnce.{picks_job, set_other, set_same}
+use Rattle.sc_world.proofs.SettledPicks.{picks_job, set_other, set_same}
 
 -- ---- who is granted was nobody's
 

@@ -43,7 +43,7 @@ use Rattle.sc_refines_world.specs.Standing.{IsRegionFor, StandsFor, names_in}
 use Rattle.sc_refines_world.proofs.Asked.{AllAsk, WantAsks, settled_asks, settled_counts}
 use Rattle.sc_refines_world.proofs.RequestNames.{are_named}
 use Rattle.sc_refines_world.proofs.ReachedStates.{one_further}
-use Rattle.sc_world.proofs.AtOnce.{picks_job, settled_out, settled_state}
+use Rattle.sc_world.proofs.SettledPicks.{picks_job, settled_out, settled_state}
 use Rattle.sc_refines_world.proofs.Picks.{has_job}
 use Rattle.sc_refines_world.proofs.Wants.{asks_named}
 

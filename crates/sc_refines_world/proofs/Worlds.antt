@@ -31,7 +31,7 @@ use Rattle.sc_refines_core.specs.Reached.{HalvesWhereReached, RemembersAlong}
 use Rattle.sc_world.specs.Turning.{IsTurn, Makes, Runs, TurnsUnder}
 use Rattle.sc_world.specs.Worlds.{PlainWorld}
 use Rattle.sc_refines_world.specs.Standing.{IsRegionFor, names_in}
-use Rattle.sc_world.proofs.AtOnce.{picks_job}
+use Rattle.sc_world.proofs.SettledPicks.{picks_job}
 use Rattle.sc_refines_world.proofs.Picks.{has_job}
 use Rattle.sc_refines_world.proofs.ReachedStates.{one_further}
 use Rattle.sc_refines_world.proofs.WorldTurns.{Beside, CreatedAreNew, HalvesMeet, OthersKeep, RegionsAskSo, RegionsFollow, SettledMeet, StoresTurn, TurnsEndThere, turn_steps}

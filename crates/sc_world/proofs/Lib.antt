@@ -1,3 +1,5 @@
+pub mod SettledPicks
+pub mod MoreTurns
 pub mod AtOnce
 pub mod FreeHandlers
 pub mod Opening
