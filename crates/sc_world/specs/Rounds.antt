@@ -30,6 +30,15 @@ pub record Played (limit h : ℕ) (j : Job) (turns most : ℕ) (c d : Center) (x
   pub settles : Settles limit h j turns most c d x y
   pub tells : IsTrue told ↔ AreCutShort limit turns settles.outcome.want
 
+-- The same under the job with which the handler is out, whatever that is.
+abbrev pub PlaysOut : ℕ → ℕ → ℕ → ℕ → Center → Center → PlainRegion → PlainRegion → Bool → Type 0
+PlaysOut limit h turns most c d x y told = (j : Job) → c.out h ≡ Some j → Played limit h j turns most c d x y told
+
+-- The same where the limit is what it may make at once, of so many turns that are left.
+abbrev pub PlaysAtOnce : ℕ → ℕ → ℕ → ℕ → Center → Center → PlainRegion → PlainRegion → Bool → Type 0
+PlaysAtOnce left h turns most c d x y told =
+    (j : Job) → c.out h ≡ Some j → Played (turns_at_once left j c) h j turns most c d x y told
+
 -- The handler makes so many turns under its job, and memory is refused to none of them: where the last asks nothing,
 -- they are all that it might make.
 pub record MakesAll (limit h : ℕ) (j : Job) (turns : ℕ) (x y : PlainWorld) : Type 0 where

@@ -23,6 +23,10 @@ pub record PutsBack (h : ℕ) (j : Job) (c d : Center) (x y : PlainRegion) : Typ
   pub refused : IsRefused j x y
   pub center : d ≡ put_back h c
 
+-- The same under the job with which the handler is out, whatever that is.
+abbrev pub PutsOutBack : ℕ → Center → Center → PlainRegion → PlainRegion → Type 0
+PutsOutBack h c d x y = (j : Job) → c.out h ≡ Some j → PutsBack h j c d x y
+
 -- The handler is picked with the job, plays so many turns under it, and is settled. All other regions stay as they are.
 pub record Makes (limit h : ℕ) (j : Job) (turns : ℕ) (x y : PlainWorld) : Type 0 where
   pub before : PlainRegion

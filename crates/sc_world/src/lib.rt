@@ -1,8 +1,8 @@
 //! The world of many handlers: their turns, one after the other, and what they leave.
 //!
-//! [`World`] has the core and a region for each handler. A turn is picked from the core, played by the handler's region and
-//! settled in the core. [`KeptWorld`] is what a world held, to be compared with others. In each world that turns lead to, the objects of a handler that is free meet their class
-//! invariants.
+//! [`World`] has the core and a region for each handler. A turn is picked from the core, played by the handler's region
+//! and settled in the core. [`KeptWorld`] is what a world held, to be compared with others. In each world that turns lead
+//! to, the objects of a handler that is free meet their class invariants.
 #![tactic(auto)]
 
 mod kept_world;

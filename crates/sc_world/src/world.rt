@@ -10,8 +10,8 @@ ghost use Rattle.sc_request.specs.Rooms.{HasRoomFor};
 ghost use Rattle.sc_request.specs.Logs as core;
 ghost use Rattle.sc_world.specs.Free.{FreeObjectMeets};
 ghost use Rattle.sc_world.specs.Reports as told;
-ghost use Rattle.sc_world.specs.Rounds.{AreCutShort, EndsRounds, IsRefusedNext, Played, StopsRounds, TurnsOfNext, turns_at_once};
-ghost use Rattle.sc_world.specs.Turning.{IsRefusedTurn, IsTried, IsTurn, PutsBack, Runs, StopsBehind, StopsShort, TurnsUnderJob, turned_by};
+ghost use Rattle.sc_world.specs.Rounds.{AreCutShort, EndsRounds, IsRefusedNext, PlaysAtOnce, PlaysOut, StopsRounds, TurnsOfNext, turns_at_once};
+ghost use Rattle.sc_world.specs.Turning.{IsRefusedTurn, IsTried, IsTurn, PutsOutBack, Runs, StopsBehind, StopsShort, TurnsUnderJob, turned_by};
 ghost use Rattle.sc_world.specs.Worlds.{max_handlers, new_regions, opened, world_with};
 
 use crate::report::{self, push_end, push_handler};
@@ -360,9 +360,9 @@ fn play(
     requires some { 1 ≤ limit }
     requires out { is_some ((center_of core.old).out handler) ≡ true }
     requires room { HasRoomFor 0 core.old }
-    ensures ok { IfOk result (λ played. (job : Job) → (center_of core.old).out handler ≡ Some job →
-        Played limit handler job played.0 (most_handlers core.old.state.rights.version) (center_of core.old) (center_of core.new) region.old region.new played.1) }
-    ensures err { OnErr result ((job : Job) → (center_of core.old).out handler ≡ Some job → PutsBack handler job (center_of core.old) (center_of core.new) region.old region.new) }
+    ensures ok { IfOk result (λ played. PlaysOut limit handler played.0 (most_handlers core.old.state.rights.version)
+        (center_of core.old) (center_of core.new) region.old region.new played.1) }
+    ensures err { OnErr result (PutsOutBack handler (center_of core.old) (center_of core.new) region.old region.new) }
     ensures version { core.new.state.rights.version ≡ core.old.state.rights.version }
 {
     let Some(job) = core.job_out(handler) else {
@@ -390,9 +390,9 @@ fn play_on(
     requires some { 1 ≤ left }
     requires out { is_some ((center_of core.old).out handler) ≡ true }
     requires room { HasRoomFor 0 core.old }
-    ensures ok { IfOk result (λ played. (job : Job) → (center_of core.old).out handler ≡ Some job →
-        Played (turns_at_once left job (center_of core.old)) handler job played.0 (most_handlers core.old.state.rights.version) (center_of core.old) (center_of core.new) region.old region.new played.1) }
-    ensures err { OnErr result ((job : Job) → (center_of core.old).out handler ≡ Some job → PutsBack handler job (center_of core.old) (center_of core.new) region.old region.new) }
+    ensures ok { IfOk result (λ played. PlaysAtOnce left handler played.0 (most_handlers core.old.state.rights.version)
+        (center_of core.old) (center_of core.new) region.old region.new played.1) }
+    ensures err { OnErr result (PutsOutBack handler (center_of core.old) (center_of core.new) region.old region.new) }
     ensures version { core.new.state.rights.version ≡ core.old.state.rights.version }
 {
     let limit = turns_at_once(core, handler, left);
